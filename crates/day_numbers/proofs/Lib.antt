@@ -1,0 +1,3 @@
+pub mod SignedArithmetic
+pub mod RulesLemmas
+pub mod DateLemmas

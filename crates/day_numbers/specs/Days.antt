@@ -1,0 +1,41 @@
+-- Fixed day numbers and weekdays (Reingold and Dershowitz, Calendrical Calculations, "Calendar Basics").
+-- A fixed day number, R.D., counts days; day 1 is Monday, 1 January of the Gregorian year 1.
+use Rattle.std.specs.Prelude.{ℕ, ℤ, pos, neg_ℤ, ◌≤ℤ◌, unsigned_abs, Option, Some, None, List, codes}
+use Rattle.std.specs.Int.{int_rem_euclid}
+use Rattle.day_numbers.specs.declared.day.Weekday.{Weekday}
+use Rattle.day_numbers.specs.declared.day.Weekday.TheVariants.{Sunday, Monday, Tuesday, Wednesday, Thursday, Friday, Saturday}
+
+-- z lies from low to high, both included
+abbrev pub IsBetween : ℤ → ℤ → ℤ → Type 0
+IsBetween low high z = (low ≤ℤ z) × (z ≤ℤ high)
+
+-- a day from 1 January -9999 to 31 December 9999, Gregorian
+abbrev pub IsDayNumber : ℤ → Type 0
+IsDayNumber n = IsBetween (neg_ℤ (pos 3_652_424)) (pos 3_652_059) n
+
+-- a day of a calendar that has a first day, or any day where it has none
+abbrev pub IsSinceFirstDay : Option ℤ → ℤ → Type 0
+IsSinceFirstDay (Some first) n = first ≤ℤ n
+IsSinceFirstDay None n = Unit {0}
+
+-- the weekday of day n is n mod 7, rounded down: 0 for Sunday to 6 for Saturday
+abbrev pub weekday_number : ℤ → ℕ
+weekday_number n = unsigned_abs (int_rem_euclid n (pos 7))
+
+abbrev pub weekday_place : Weekday → ℕ
+weekday_place Sunday = 0
+weekday_place Monday = 1
+weekday_place Tuesday = 2
+weekday_place Wednesday = 3
+weekday_place Thursday = 4
+weekday_place Friday = 5
+weekday_place Saturday = 6
+
+abbrev pub weekday_name : Weekday → List ℕ
+weekday_name Sunday = codes "Sunday"
+weekday_name Monday = codes "Monday"
+weekday_name Tuesday = codes "Tuesday"
+weekday_name Wednesday = codes "Wednesday"
+weekday_name Thursday = codes "Thursday"
+weekday_name Friday = codes "Friday"
+weekday_name Saturday = codes "Saturday"

@@ -1,0 +1,71 @@
+//! Calendars whose years begin with year 1, in whole numbers from the epoch on.
+
+ghost use Rattle.std.specs.Prelude.{◌≡◌, ◌↔◌, ◌≤◌, ◌<◌, ◌+◌, ℕ, List, ℤ, pos, neg_ℤ, IsTrue, length};
+ghost use Rattle.day_numbers.specs.Days.{IsBetween};
+ghost use Rattle.day_numbers.specs.Rules.{Rules, from_one, days_of_years as days_of, total_days, are_months};
+ghost use Rattle.day_numbers.specs.declared.rules.Month.{Month};
+
+use crate::rules::{Month, RuledCalendar};
+
+/// A calendar whose years begin with year 1, with the formulas by which its dates and days are found.
+pub trait FromYearOne {
+    /// The fixed day number of the first day of year 1.
+    ghost epoch_day: { ℤ };
+
+    /// The months of each year, in the order in which they run.
+    ghost months_of: { ℤ → List Month };
+
+    /// The fixed day number of the first day of year 1.
+    fn epoch(&self) -> i64
+        ensures value { result ≡ epoch_day }
+        ensures near { IsBetween (neg_ℤ (pos 2_000_000)) (pos 2_000_000) result };
+
+    /// The days of the years 1 to `years`, which is at most 99999.
+    fn days_of_years(&self, years: u32) -> u32
+        requires { years ≤ 99_999 }
+        ensures value { result ≡ days_of (λ y. total_days (months_of y)) years }
+        ensures near { result ≤ 50_000_000 };
+
+    /// How many whole years the first `days` days from the epoch on fill; `days` is at most 6000000.
+    fn years_in(&self, days: u32) -> u32
+        requires { days ≤ 6_000_000 }
+        ensures near { result ≤ 99_998 }
+        ensures after { days_of (λ y. total_days (months_of y)) result ≤ days }
+        ensures before { days < days_of (λ y. total_days (months_of y)) (result + 1) };
+
+    /// The months of a year from 1 to 99999, in the order in which they run.
+    fn months(&self, year: u32) -> &'static [Month]
+        requires low { 1 ≤ year }
+        requires high { year ≤ 99_999 }
+        ensures value { result.now ≡ months_of (pos year) }
+        ensures few { length result.now ≤ 13 }
+        ensures numbered { IsTrue (are_months result.now) };
+}
+
+/// Such a calendar as one that is given by rules.
+#[derive(Drop)]
+pub struct YearsFromOne<'a, C>(pub &'a C);
+
+impl<'a, C: FromYearOne> RuledCalendar for YearsFromOne<'a, C> {
+    ghost rules = { record { epoch = C.epoch_day; years = from_one; months = C.months_of } };
+
+    fn has_year(&self, year: i32) -> bool {
+        year >= 1
+    }
+
+    fn has_day(&self, day: i64) -> bool {
+        day >= self.0.epoch()
+    }
+
+    fn year_start(&self, year: i32) -> i64 {
+        self.0.epoch() + self.0.days_of_years((year - 1) as u32) as i64
+    }
+
+    fn months(&self, year: i32) -> &'static [Month] {
+        self.0.months(year as u32)
+    }
+
+    fn year_on(&self, day: i64) -> i32 {
+        self.0.years_in((day - self.0.epoch()) as u32) as i32 + 1
+    }
+}

@@ -1,0 +1,164 @@
+//! Calendars that are given by rules: an epoch, which years there are, and the months of each year.
+//!
+//! The definitions sum these lists, and no closed formula stands in them. A calendar says in
+//! [`RuledCalendar`] by which formulas it finds the start of a year and the year of a day, and
+//! [`day_by_rules`] and [`date_by_rules`] are then `day_of` and `date_on` of its `ArithmeticCalendar`.
+
+ghost use Rattle.std.specs.Prelude.{◌≡◌, ◌↔◌, ◌≤◌, ◌<◌, ◌+◌, ℕ, ℤ, pos, neg_ℤ, ◌+ℤ◌, ◌≤ℤ◌, ◌<ℤ◌, IsTrue, IsOk, IsSome, IfOk, IfSome, Err, Some, length};
+ghost use Rattle.day_numbers.specs.declared.ymd.Ymd.{Ymd};
+ghost use Rattle.day_numbers.specs.Days.{IsBetween, IsDayNumber};
+ghost use Rattle.day_numbers.specs.Dates.{IsYear};
+ghost use Rattle.day_numbers.specs.Rules.{Rules, HasYear, HasDayOf, IsDateOf, day_number_of, year_start as start, year_length, total_days, days_of_month, days_before_month, are_months};
+
+use crate::calendar::DateFault;
+use crate::day::Day;
+use crate::ymd::Ymd;
+
+/// A month of a year: its number, from 0 to 99, and how many days it has.
+#[derive(Clone, Copy, PartialEq, Eq, Debug)]
+pub struct Month {
+    pub number: u8,
+    pub days: u8,
+}
+
+/// A calendar that is given by rules, with the formulas by which its dates and days are found.
+///
+/// A year is from -99999 to 99999 wherever one is taken or given.
+pub trait RuledCalendar {
+    /// The epoch, which years there are, and the months of each.
+    ghost rules: { Rules };
+
+    /// Whether the calendar has the year.
+    fn has_year(&self, year: i32) -> bool
+        ensures { IsTrue result ↔ HasYear rules.years year };
+
+    /// Whether the calendar has a date on the day with this fixed day number.
+    fn has_day(&self, day: i64) -> bool
+        ensures { IsTrue result ↔ HasDayOf rules day };
+
+    /// The fixed day number of the year's first day.
+    fn year_start(&self, year: i32) -> i64
+        requires has { HasYear rules.years year }
+        requires near { IsYear year }
+        ensures value { result ≡ start rules year }
+        ensures near { IsBetween (neg_ℤ (pos 100_000_000)) (pos 100_000_000) result };
+
+    /// The months of the year, in the order in which they run.
+    fn months(&self, year: i32) -> &'static [Month]
+        requires has { HasYear rules.years year }
+        requires near { IsYear year }
+        ensures value { result.now ≡ rules.months year }
+        ensures few { length result.now ≤ 13 }
+        ensures numbered { IsTrue (are_months result.now) };
+
+    /// The year that the day with this fixed day number lies in.
+    fn year_on(&self, day: i64) -> i32
+        requires in_range { IsDayNumber day }
+        requires has { HasDayOf rules day }
+        ensures has { HasYear rules.years result }
+        ensures near { IsYear result }
+        ensures after { start rules result ≤ℤ day }
+        ensures before { day <ℤ (start rules result +ℤ pos (year_length rules result)) };
+}
+
+/// The days of the months before the month of this number, and that month's days; all the days and 0
+/// where no month has the number.
+fn month_by_number(months: &[Month], number: u8) -> (u16, u8)
+    requires { length months.now ≤ 13 }
+    ensures before { result.0 ≡ days_before_month months.now number }
+    ensures days { result.1 ≡ days_of_month months.now number }
+{
+    let mut before = 0;
+    for month in months {
+        if month.number == number {
+            return (before, month.days);
+        }
+        before += month.days as u16;
+    }
+    (before, 0)
+}
+
+/// The number of the month that a place in the year lies in, counted from 0, and its day of that month.
+fn month_at_place(months: &[Month], place: u16) -> (u8, u8)
+    requires inside { place < total_days months.now }
+    requires numbered { IsTrue (are_months months.now) }
+    ensures first { 1 ≤ result.1 }
+    ensures last { result.1 ≤ days_of_month months.now result.0 }
+    ensures sum { days_before_month months.now result.0 + result.1 ≡ place + 1 }
+    ensures small { (result.0 ≤ 99) × (result.1 ≤ 99) }
+{
+    let mut left = place;
+    for month in months {
+        let days = month.days as u16;
+        if left < days {
+            return (month.number, left as u8 + 1);
+        }
+        left -= days;
+    }
+    unreachable!()
+}
+
+/// The fixed day number of a date, where the calendar has it.
+fn day_number_by_rules<C: RuledCalendar>(calendar: &C, date: Ymd) -> Option<i64>
+    ensures valid { IsSome result ↔ IsDateOf C.rules date.year date.month date.day }
+    ensures value { IfSome result (λ n. n ≡ day_number_of C.rules date.year date.month date.day) }
+{
+    let year = date.year();
+    if !calendar.has_year(year) {
+        return None;
+    }
+    let (before, days) = month_by_number(calendar.months(year), date.month());
+    let day = date.day();
+    if day < 1 || day > days {
+        return None;
+    }
+    Some(calendar.year_start(year) + before as i64 + day as i64 - 1)
+}
+
+/// `day_of` of a calendar that is given by rules: the day of a date.
+///
+/// # Errors
+///
+/// `NoSuchDate` exactly where the rules have no such date; `OutOfRange` exactly where they have it and
+/// its fixed day number is not from -3652424 to 3652059.
+pub fn day_by_rules<C: RuledCalendar>(calendar: &C, date: Ymd) -> Result<Day, DateFault>
+    ensures succeeds { IsOk result ↔ (IsDateOf C.rules date.year date.month date.day
+        × IsDayNumber (day_number_of C.rules date.year date.month date.day)) }
+    ensures value { IfOk result (λ day. day.number ≡ day_number_of C.rules date.year date.month date.day) }
+    ensures no_such_date { (result ≡ Err DateFault.NoSuchDate) ↔ ¬ (IsDateOf C.rules date.year date.month date.day) }
+    ensures out_of_range { (result ≡ Err DateFault.OutOfRange) ↔ (IsDateOf C.rules date.year date.month date.day
+        × ¬ (IsDayNumber (day_number_of C.rules date.year date.month date.day))) }
+{
+    match day_number_by_rules(calendar, date) {
+        Some(number) => Day::new(number).ok_or(DateFault::OutOfRange),
+        None => Err(DateFault::NoSuchDate),
+    }
+}
+
+/// A date on a day, where the calendar has one.
+fn some_date_by_rules<C: RuledCalendar>(calendar: &C, day: Day) -> Option<Ymd>
+    ensures dated { IsSome result ↔ HasDayOf C.rules day.number }
+    ensures value { IfSome result (λ date. IsDateOf C.rules date.year date.month date.day
+        × (day_number_of C.rules date.year date.month date.day ≡ day.number)) }
+{
+    let number = day.number();
+    if !calendar.has_day(number) {
+        return None;
+    }
+    let year = calendar.year_on(number);
+    let place = number - calendar.year_start(year);
+    let (month, day) = month_at_place(calendar.months(year), place as u16);
+    Ymd::new(year, month, day)
+}
+
+/// `date_on` of a calendar that is given by rules: the one date whose day this is, or `None` exactly
+/// before the calendar's first day.
+pub fn date_by_rules<C: RuledCalendar>(calendar: &C, day: Day) -> Option<Ymd>
+    ensures dated { IsSome result ↔ HasDayOf C.rules day.number }
+    ensures value { IfSome result (λ date. IsDateOf C.rules date.year date.month date.day
+        × (day_number_of C.rules date.year date.month date.day ≡ day.number)) }
+    ensures only { (date : Ymd) → IsDateOf C.rules date.year date.month date.day
+        → day_number_of C.rules date.year date.month date.day ≡ day.number → result ≡ Some date }
+{
+    some_date_by_rules(calendar, day)
+}

@@ -1,0 +1,3 @@
+pub mod ThirteenMonthsLemmas
+pub mod GregorianLemmas
+pub mod JulianLemmas

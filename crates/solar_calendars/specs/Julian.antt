@@ -1,0 +1,19 @@
+-- The Julian calendar.
+use Rattle.std.specs.Prelude.{ℕ, Bool, ◌==◌, ◌%◌, ℤ, pos, negsuc, neg_ℤ, ◌-ℤ◌, unsigned_abs}
+use Rattle.std.specs.Int.{int_rem_euclid}
+use Rattle.day_numbers.specs.Rules.{Rules, without_zero}
+use Rattle.solar_calendars.specs.TwelveMonths.{twelve_months}
+
+-- every fourth year: 4, 8, .., and before year 1 the years -1, -5, ..
+abbrev pub is_julian_leap : ℤ → Bool
+is_julian_leap (pos n) = n % 4 == 0
+is_julian_leap (negsuc n) = unsigned_abs (int_rem_euclid (negsuc n) (pos 4)) == 3
+
+-- 1 January of year 1 is two days before the Gregorian one, and year 1 follows year -1
+abbrev pub julian_rules : Rules
+julian_rules = record { epoch = neg_ℤ (pos 1); years = without_zero; months = λ y. twelve_months (is_julian_leap y) }
+
+-- how many years there are from year 1 to the year before this one; less than 0 where the year is before year 1
+abbrev pub years_before : ℤ → ℤ
+years_before (pos n) = pos n -ℤ pos 1
+years_before (negsuc n) = negsuc n

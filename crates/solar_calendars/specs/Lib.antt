@@ -1,0 +1,4 @@
+pub mod TwelveMonths
+pub mod ThirteenMonths
+pub mod Gregorian
+pub mod Julian

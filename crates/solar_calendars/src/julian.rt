@@ -1,0 +1,94 @@
+ghost use Rattle.std.specs.Prelude.{◌≡◌, ℤ, pos, neg_ℤ, ◌↔◌, IsTrue, IsSome, IsOk, IfOk, IfSome, Err};
+ghost use Rattle.day_numbers.specs.Days.{IsDayNumber, IsBetween};
+ghost use Rattle.day_numbers.specs.Rules.{Rules, HasYear, without_zero, IsDateOf, day_number_of, first_day_of};
+ghost use Rattle.solar_calendars.specs.Julian.{julian_rules, is_julian_leap, years_before as count_before};
+
+use crate::twelve_months::twelve_months;
+use day_numbers::rules::{Month, RuledCalendar, date_by_rules, day_by_rules};
+use day_numbers::{ArithmeticCalendar, DateFault, Day, Ymd};
+
+/// The Julian calendar, in which year 1 follows year -1.
+#[derive(Clone, Copy, Debug)]
+pub struct Julian;
+
+fn is_leap(year: i32) -> bool
+    ensures { result ≡ is_julian_leap year }
+{
+    if year < 0 {
+        year.rem_euclid(4) == 3
+    } else {
+        year % 4 == 0
+    }
+}
+
+/// How many years there are from year 1 to the year before this one.
+fn years_before(year: i32) -> i64
+    ensures { result ≡ count_before year }
+{
+    if year < 0 {
+        year as i64
+    } else {
+        year as i64 - 1
+    }
+}
+
+/// The year with that many years before it.
+fn year_after(before: i64) -> i32
+    requires { IsBetween (neg_ℤ (pos 99_999)) (pos 99_998) before }
+    ensures has { HasYear without_zero result }
+    ensures near { IsBetween (neg_ℤ (pos 99_999)) (pos 99_999) result }
+    ensures value { count_before result ≡ before }
+{
+    if before < 0 {
+        before as i32
+    } else {
+        before as i32 + 1
+    }
+}
+
+impl RuledCalendar for Julian {
+    ghost rules = { julian_rules };
+
+    fn has_year(&self, year: i32) -> bool {
+        year != 0
+    }
+
+    fn has_day(&self, _day: i64) -> bool {
+        true
+    }
+
+    fn year_start(&self, year: i32) -> i64 {
+        let before = years_before(year);
+        365 * before + before.div_euclid(4) - 1
+    }
+
+    fn months(&self, year: i32) -> &'static [Month] {
+        twelve_months(is_leap(year))
+    }
+
+    fn year_on(&self, day: i64) -> i32 {
+        year_after((4 * day + 7).div_euclid(1461))
+    }
+}
+
+impl ArithmeticCalendar for Julian {
+    ghost use Rattle.day_numbers.proofs.DateLemmas.{rules_one_date, rules_have_days};
+
+    ghost IsDate = { λ d. IsDateOf julian_rules d.year d.month d.day };
+
+    ghost day_number = { λ d. day_number_of julian_rules d.year d.month d.day };
+
+    ghost first_day = { first_day_of julian_rules };
+
+    ghost one_date = { rules_one_date julian_rules };
+
+    ghost dates_have_days = { rules_have_days julian_rules };
+
+    fn day_of(&self, date: Ymd) -> Result<Day, DateFault> {
+        day_by_rules(self, date)
+    }
+
+    fn date_on(&self, day: Day) -> Option<Ymd> {
+        date_by_rules(self, day)
+    }
+}

@@ -1,0 +1,64 @@
+-- What becomes of an entry: its day and its cells, or the first refusal that applies.
+use Rattle.std.specs.Prelude.{◌≡◌, ℕ, ℤ, List, [], ◌∷◌, Result, Ok, Err}
+use Rattle.day_numbers.specs.Days.{IsDayNumber}
+use Rattle.register_app.specs.Calendars.{calendar_name}
+use Rattle.register_app.specs.Cells.{IsCell}
+use Rattle.register_app.specs.Dates.{IsDateOfCalendar, day_number_of_date}
+use Rattle.register_app.specs.DateText.{IsDateText}
+use Rattle.register_app.specs.Entries.{Numbered, Texts}
+use Rattle.register_app.specs.Names.{IsNamed}
+use Rattle.register_app.specs.declared.date_texts.calendar.Calendar.{Calendar}
+use Rattle.register_app.specs.declared.date_texts.calendar.Target.{Target}
+use Rattle.register_app.specs.declared.date_texts.date.Date.{Date}
+use Rattle.register_app.specs.declared.date_texts.refusal.Refusal.{Refusal}
+use Rattle.register_app.specs.declared.date_texts.refusal.Refusal.TheVariants as refusal
+
+-- a calendar has this name, and the text says this date in it
+pub record Says (name text : List ℕ) (calendar : Calendar) (date : Date) : Type 0 where
+  pub named : IsNamed name (calendar_name calendar)
+  pub dated : IsDateText calendar text date
+
+-- the outcome of a body: the first refusal that applies, or the number of the day
+pub data IsOutcome : Result Texts Refusal → Result ℤ Refusal → Type 0 where
+  refused : {r : Refusal} → IsOutcome (Err r) (Err r)
+  unknown_calendar : {t : Texts} → ((calendar : Calendar) → ¬ (IsNamed t.calendar (calendar_name calendar)))
+      → IsOutcome (Ok t) (Err refusal.UnknownCalendar)
+  no_date_text : {t : Texts} (calendar : Calendar) → IsNamed t.calendar (calendar_name calendar)
+      → ((date : Date) → ¬ (IsDateText calendar t.date date)) → IsOutcome (Ok t) (Err refusal.DateText)
+  no_such_date : {t : Texts} (calendar : Calendar) (date : Date) → Says t.calendar t.date calendar date
+      → ¬ (IsDateOfCalendar date) → IsOutcome (Ok t) (Err refusal.NoSuchDate)
+  out_of_range : {t : Texts} (calendar : Calendar) (date : Date) → Says t.calendar t.date calendar date
+      → IsDateOfCalendar date → ¬ (IsDayNumber (day_number_of_date date)) → IsOutcome (Ok t) (Err refusal.OutOfRange)
+  accepted : {t : Texts} (calendar : Calendar) (date : Date) → Says t.calendar t.date calendar date
+      → IsDateOfCalendar date → IsDayNumber (day_number_of_date date) → IsOutcome (Ok t) (Ok (day_number_of_date date))
+
+-- the cells of a day, one for each target in order
+pub data AreCellsOn (n : ℤ) : List Target → List (List ℕ) → Type 0 where
+  none : AreCellsOn n [] []
+  more : {target : Target} {cell : List ℕ} {targets : List Target} {cells : List (List ℕ)}
+      → IsCell target n cell → AreCellsOn n targets cells → AreCellsOn n (target ∷ targets) (cell ∷ cells)
+
+-- the cells of an outcome: a refused row has none
+abbrev pub AreCells : List Target → Result ℤ Refusal → List (List ℕ) → Type 0
+AreCells targets (Ok n) cells = AreCellsOn n targets cells
+AreCells targets (Err r) cells = cells ≡ []
+
+-- a row: the number and the body of its entry, its outcome and its cells
+pub record TableRow : Type 0 where
+  pub number : ℕ
+  pub body : Result Texts Refusal
+  pub outcome : Result ℤ Refusal
+  pub cells : List (List ℕ)
+
+-- a row is the row of an entry
+pub record IsRowOf (targets : List Target) (entry : Numbered) (row : TableRow) : Type 0 where
+  pub number : row.number ≡ entry.number
+  pub body : row.body ≡ entry.body
+  pub outcome : IsOutcome entry.body row.outcome
+  pub cells : AreCells targets row.outcome row.cells
+
+-- the rows of these entries, one for each in order
+pub data AreRowsOf (targets : List Target) : List Numbered → List TableRow → Type 0 where
+  none : AreRowsOf targets [] []
+  more : {entry : Numbered} {row : TableRow} {entries : List Numbered} {rows : List TableRow}
+      → IsRowOf targets entry row → AreRowsOf targets entries rows → AreRowsOf targets (entry ∷ entries) (row ∷ rows)

@@ -1,0 +1,5 @@
+//! Converts the dates of historical registers.
+#![tactic(auto)]
+
+mod date_texts;
+mod register_records;

@@ -1,0 +1,4 @@
+//! Converts the dates of historical registers.
+#![tactic(auto)]
+
+mod date_texts;

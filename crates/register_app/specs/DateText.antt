@@ -5,7 +5,7 @@ use Rattle.std.specs.Char.{is_ascii_digit}
 use Rattle.std.specs.Fmt.{decimal}
 use Rattle.register_app.specs.declared.date_texts.calendar.Calendar.{Calendar}
 use Rattle.register_app.specs.declared.date_texts.date.Date.{Date}
-use Rattle.register_app.specs.declared.date_texts.date.Date.TheVariants.{Civil}
+use Rattle.register_app.specs.declared.date_texts.date.Date.TheVariants.{Civil, Long}
 use Rattle.register_app.specs.Trimmed.{trimmed}
 
 -- ASCII digits alone
@@ -43,6 +43,7 @@ pub record IsCivilText (text : List ℕ) (year : ℤ) (month day : ℕ) : Type 0
 -- a text without blanks at its ends says this date in the calendar
 abbrev pub SaysDate : Calendar → List ℕ → Date → Type 0
 SaysDate calendar text (Civil d) = (d.calendar ≡ calendar) × IsCivilText text d.ymd.year d.ymd.month d.ymd.day
+SaysDate calendar text (Long n) = elim n [ ]
 
 -- a date text of the calendar: spaces and tabs at both ends are taken off
 abbrev pub IsDateText : Calendar → List ℕ → Date → Type 0
@@ -63,3 +64,4 @@ canonical_civil year month day = canonical_year year ++ 45 ∷ (padded 2 month +
 -- the text that a date is written as
 abbrev pub canonical_text : Date → List ℕ
 canonical_text (Civil d) = canonical_civil d.ymd.year d.ymd.month d.ymd.day
+canonical_text (Long n) = elim n [ ]

@@ -15,7 +15,7 @@ mod write;
 
 pub use calendar::{Calendar, Target};
 pub use cells::cell;
-pub use date::{CivilDate, Date};
+pub use date::{CivilDate, Date, LongCount};
 pub use days::day_of_date;
 pub use names::{calendar_named, target_named};
 pub use read::read_date;

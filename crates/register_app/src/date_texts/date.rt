@@ -34,9 +34,15 @@ impl CivilDate {
     }
 }
 
+/// A count of days in places. None is read or written yet.
+#[derive(Clone, Copy, PartialEq, Eq, Debug)]
+pub enum LongCount {}
+
 /// A date as a text says it, which need not be a date that its calendar has.
-#[derive(Clone, Copy)]
+#[derive(Clone, Copy, PartialEq, Eq, Debug)]
 pub enum Date {
     /// A year, a month and a day.
     Civil(CivilDate),
+    /// A long count.
+    Long(LongCount),
 }

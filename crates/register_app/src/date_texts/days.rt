@@ -1,23 +1,12 @@
 ghost use Rattle.std.specs.Prelude.{◌≡◌, ◌↔◌, IsOk, IsSome, IfOk, IfSome, Err};
 ghost use Rattle.day_numbers.specs.Days.{IsDayNumber, IsSinceFirstDay};
-ghost use Rattle.register_app.specs.Calendars.{first_day_in, IsDateIn, day_number_in};
+ghost use Rattle.register_app.specs.Calendars.{first_day_in};
 ghost use Rattle.register_app.specs.Dates.{calendar_of_date, IsDateOfCalendar, day_number_of_date};
 
 use super::calendar::Calendar;
 use super::date::{CivilDate, Date};
 use super::refusal::Refusal;
-use day_numbers::{DateFault, Day};
-
-/// The day of a year, a month and a day in their calendar.
-fn day_of_civil(civil: CivilDate) -> Result<Day, DateFault>
-    ensures succeeds { IsOk result ↔ (IsDateIn civil.calendar civil.ymd × IsDayNumber (day_number_in civil.calendar civil.ymd)) }
-    ensures value { IfOk result (λ day. day.number ≡ day_number_in civil.calendar civil.ymd) }
-    ensures no_such_date { (result ≡ Err DateFault.NoSuchDate) ↔ ¬ (IsDateIn civil.calendar civil.ymd) }
-    ensures out_of_range { (result ≡ Err DateFault.OutOfRange)
-        ↔ (IsDateIn civil.calendar civil.ymd × ¬ (IsDayNumber (day_number_in civil.calendar civil.ymd))) }
-{
-    civil.calendar().day_of(civil.ymd())
-}
+use day_numbers::Day;
 
 /// The day of a date.
 ///
@@ -33,7 +22,8 @@ pub fn day_of_date(date: &Date) -> Result<Day, Refusal>
         ↔ (IsDateOfCalendar date.now × ¬ (IsDayNumber (day_number_of_date date.now))) }
 {
     match *date {
-        Date::Civil(civil) => Ok(day_of_civil(civil)?),
+        Date::Civil(civil) => Ok(civil.calendar().day_of(civil.ymd())?),
+        Date::Long(count) => match count {},
     }
 }
 

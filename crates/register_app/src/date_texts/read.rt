@@ -1,7 +1,7 @@
-ghost use Rattle.std.specs.Prelude.{◌≡◌, ◌↔◌, ◌≤◌, ◌<◌, ◌-◌, ◌^◌, ℕ, ℤ, pos, neg_ℤ, IfSome, IfErr, Some, Ok, Err};
+ghost use Rattle.std.specs.Prelude.{◌≡◌, ◌↔◌, ◌≤◌, ◌<◌, ◌+◌, ◌-◌, ◌*◌, ◌^◌, ℕ, IfSome, IfErr, Some, Ok, Err};
 ghost use Rattle.day_numbers.specs.Dates.{IsYear};
 ghost use Rattle.register_app.specs.declared.date_texts.date.Date.{Date};
-ghost use Rattle.register_app.specs.DateText.{IsDateText};
+ghost use Rattle.register_app.specs.DateText.{SaysDate, IsDateText};
 ghost use Rattle.register_app.specs.Reading.{digits_at as digits_spec, number_at as number_spec, after_byte as after_spec, year_at as year_spec, civil_at as civil_spec, seen_number, seen_rest, seen_year};
 
 use super::calendar::Calendar;
@@ -15,7 +15,7 @@ fn digits_at(more: u8, number: u32, bytes: &[u8]) -> (u32, &[u8])
     requires few { more ≤ 4 }
     requires small { number < 10 ^ (5 - more) }
     ensures value { (result.0, result.1.now) ≡ digits_spec more number bytes.now }
-    ensures small { result.0 < 10 ^ 5 }
+    ensures small { result.0 < (number + 1) * 10 ^ more }
 {
     if more == 0 {
         return (number, bytes);
@@ -33,7 +33,7 @@ fn digits_at(more: u8, number: u32, bytes: &[u8]) -> (u32, &[u8])
 fn number_at(more: u8, bytes: &[u8]) -> Option<(u32, &[u8])>
     requires { more ≤ 4 }
     ensures value { seen_number result ≡ number_spec more bytes.now }
-    ensures small { IfSome result (λ r. r.0 < 10 ^ 5) }
+    ensures small { IfSome result (λ r. r.0 < 10 ^ (more + 1)) }
 {
     match bytes {
         [digit, rest @ ..] if digit.is_ascii_digit() => {
@@ -74,16 +74,25 @@ fn year_at(bytes: &[u8]) -> Option<(i32, &[u8])>
 
 /// The year, month and day that the bytes spell.
 #[tactic(auto, unfolding(crate::specs::Reading::civil_at))]
-fn civil_at(bytes: &[u8]) -> Option<(i32, u32, u32)>
-    ensures value { result ≡ civil_spec bytes.now }
+fn civil_at(bytes: &[u8]) -> Option<(i32, u8, u8)>
+    ensures { result ≡ civil_spec bytes.now }
 {
     let (year, rest) = year_at(bytes)?;
     let (month, rest) = number_at(1, after_byte(b'-', rest)?)?;
     let (day, rest) = number_at(1, after_byte(b'-', rest)?)?;
     match rest {
-        [] => Some((year, month, day)),
+        [] => Some((year, month as u8, day as u8)),
         _ => None,
     }
+}
+
+/// The date that a text without blanks at its ends says in a calendar.
+fn date_at(calendar: Calendar, text: &[u8]) -> Option<Date>
+    ensures { (date : Date) → (result ≡ Some date) ↔ SaysDate calendar text.now date }
+{
+    let (year, month, day) = civil_at(text)?;
+    let date = CivilDate::new(calendar, Ymd::new(year, month, day)?)?;
+    Some(Date::Civil(date))
 }
 
 /// The date that a text says in a calendar.
@@ -100,6 +109,5 @@ pub fn read_date(calendar: Calendar, text: &str) -> Result<Date, Refusal>
     ensures refused { (result ≡ Err Refusal.DateText) ↔ ((date : Date) → ¬ (IsDateText calendar text.now date)) }
     ensures only_refusal { IfErr result (λ refusal. refusal ≡ Refusal.DateText) }
 {
-    let (year, month, day) = civil_at(trimmed(text.as_bytes())).ok_or(Refusal::DateText)?;
-    Err(Refusal::DateText)
+    date_at(calendar, trimmed(text.as_bytes())).ok_or(Refusal::DateText)
 }

@@ -51,5 +51,6 @@ pub fn write_date(date: &Date) -> ArrayString<24>
 {
     match *date {
         Date::Civil(civil) => civil_text(civil),
+        Date::Long(count) => match count {},
     }
 }

@@ -1,5 +1,5 @@
 -- What becomes of an entry: its day and its cells, or the first refusal that applies.
-use Rattle.std.specs.Prelude.{◌≡◌, ℕ, ℤ, List, [], ◌∷◌, Result, Ok, Err}
+use Rattle.std.specs.Prelude.{◌≡◌, ℕ, ℤ, List, [], ◌∷◌, Result, Ok, Err, ⊤}
 use Rattle.day_numbers.specs.Days.{IsDayNumber}
 use Rattle.register_app.specs.Calendars.{calendar_name}
 use Rattle.register_app.specs.Cells.{IsCell}
@@ -33,10 +33,11 @@ pub data IsOutcome : Result Texts Refusal → Result ℤ Refusal → Type 0 wher
       → IsDateOfCalendar date → IsDayNumber (day_number_of_date date) → IsOutcome (Ok t) (Ok (day_number_of_date date))
 
 -- the cells of a day, one for each target in order
-pub data AreCellsOn (n : ℤ) : List Target → List (List ℕ) → Type 0 where
-  none : AreCellsOn n [] []
-  more : {target : Target} {cell : List ℕ} {targets : List Target} {cells : List (List ℕ)}
-      → IsCell target n cell → AreCellsOn n targets cells → AreCellsOn n (target ∷ targets) (cell ∷ cells)
+abbrev pub AreCellsOn : ℤ → List Target → List (List ℕ) → Type 0
+AreCellsOn n [] [] = ⊤
+AreCellsOn n [] (cell ∷ cells) = ⊥
+AreCellsOn n (target ∷ targets) [] = ⊥
+AreCellsOn n (target ∷ targets) (cell ∷ cells) = IsCell target n cell × AreCellsOn n targets cells
 
 -- the cells of an outcome: a refused row has none
 abbrev pub AreCells : List Target → Result ℤ Refusal → List (List ℕ) → Type 0
@@ -58,7 +59,8 @@ pub record IsRowOf (targets : List Target) (entry : Numbered) (row : TableRow) :
   pub cells : AreCells targets row.outcome row.cells
 
 -- the rows of these entries, one for each in order
-pub data AreRowsOf (targets : List Target) : List Numbered → List TableRow → Type 0 where
-  none : AreRowsOf targets [] []
-  more : {entry : Numbered} {row : TableRow} {entries : List Numbered} {rows : List TableRow}
-      → IsRowOf targets entry row → AreRowsOf targets entries rows → AreRowsOf targets (entry ∷ entries) (row ∷ rows)
+abbrev pub AreRowsOf : List Target → List Numbered → List TableRow → Type 0
+AreRowsOf targets [] [] = ⊤
+AreRowsOf targets [] (row ∷ rows) = ⊥
+AreRowsOf targets (entry ∷ entries) [] = ⊥
+AreRowsOf targets (entry ∷ entries) (row ∷ rows) = IsRowOf targets entry row × AreRowsOf targets entries rows

@@ -1,5 +1,5 @@
 -- The table and the journal of rows.
-use Rattle.std.specs.Prelude.{◌==◌, if◌then◌else◌, ℕ, ℤ, List, [], ◌∷◌, ◌++◌, codes, length, map, replicate, Result, Ok, Err}
+use Rattle.std.specs.Prelude.{◌==◌, if◌then◌else◌, ℕ, ℤ, List, [], ◌∷◌, ◌++◌, codes, map, Result, Ok, Err}
 use Rattle.std.specs.Fmt.{decimal, signed_decimal}
 use Rattle.day_numbers.specs.Days.{weekday_name, weekday_number}
 use Rattle.day_numbers.specs.declared.day.Weekday.{Weekday}
@@ -32,7 +32,7 @@ weekday_at n =
 -- the day number, the weekday, the cells and an empty refusal; or all of these empty but the refusal's number
 abbrev pub outcome_fields : List Target → Result ℤ Refusal → List (List ℕ) → List (List ℕ)
 outcome_fields targets (Ok n) cells = (signed_decimal n ∷ weekday_name (weekday_at (weekday_number n)) ∷ cells) ++ ([] ∷ [])
-outcome_fields targets (Err r) cells = ([] ∷ [] ∷ replicate (length targets) []) ++ (decimal (refusal_number r) ∷ [])
+outcome_fields targets (Err r) cells = ([] ∷ [] ∷ map (λ _. []) targets) ++ (decimal (refusal_number r) ∷ [])
 
 -- the fields of a row
 abbrev pub row_fields : List Target → TableRow → List (List ℕ)

@@ -166,14 +166,13 @@ pub fn convert_source<R: Read + Drop, W: Output>(
     };
     let mut journal = Vec::new(alloc);
     let mut rows = 0;
-    let mut refused = 0;
     'entries: loop {
         let entry = match entries.next() {
             Ok(Some(entry)) => entry,
             Ok(None) => {
                 return SourceEnd::Whole {
                     rows,
-                    refused,
+                    refused: journal.len() as u32,
                     journal,
                 };
             }
@@ -194,9 +193,6 @@ pub fn convert_source<R: Read + Drop, W: Output>(
                 cause: cause_of_row_fault(fault),
             };
         }
-        rows += 1;
-        if row.outcome().is_err() {
-            refused += 1;
-        }
+        rows = row.entry().number();
     }
 }

@@ -9,8 +9,12 @@ use Rattle.register_app.specs.declared.date_texts.calendar.Target.{Target}
 use Rattle.register_app.specs.declared.date_texts.calendar.Target.TheVariants.{Date as DateTarget}
 use Rattle.register_app.specs.declared.date_texts.date.Date.{Date}
 
--- the text is the cell of day n: the canonical text of a date that the target's calendar has and whose
--- day is n, or nothing where n is before the calendar's first day
-pub data IsCell : Target → ℤ → List ℕ → Type 0 where
-  on_date : {n : ℤ} (date : Date) → IsDateOfCalendar date → day_number_of_date date ≡ n → IsCell (DateTarget (calendar_of_date date)) n (canonical_text date)
-  before_first_day : {calendar : Calendar} {n : ℤ} → ¬ (IsSinceFirstDay (first_day_in calendar) n) → IsCell (DateTarget calendar) n []
+-- the text is the canonical text of a date that the calendar has and whose day is n, or it is empty
+-- and day n is before the calendar's first day
+pub data IsDateCell (calendar : Calendar) (n : ℤ) (text : List ℕ) : Type 0 where
+  on_date : (date : Date) → calendar_of_date date ≡ calendar → IsDateOfCalendar date → day_number_of_date date ≡ n → text ≡ canonical_text date → IsDateCell calendar n text
+  before_first_day : ¬ (IsSinceFirstDay (first_day_in calendar) n) → text ≡ [] → IsDateCell calendar n text
+
+-- the text is the cell of day n in the target's column
+abbrev pub IsCell : Target → ℤ → List ℕ → Type 0
+IsCell (DateTarget calendar) n text = IsDateCell calendar n text

@@ -21,3 +21,6 @@ pub use names::{calendar_named, target_named};
 pub use read::read_date;
 pub use refusal::Refusal;
 pub use write::write_date;
+
+#[cfg(test)]
+mod tests;

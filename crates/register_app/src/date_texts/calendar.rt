@@ -76,4 +76,13 @@ impl Target {
             Target::Date(calendar) => calendar.name(),
         }
     }
+
+    /// The calendar of the target's dates.
+    pub fn calendar(&self) -> Calendar
+        ensures { self.now ≡ Target.Date result }
+    {
+        match *self {
+            Target::Date(calendar) => calendar,
+        }
+    }
 }

@@ -1,5 +1,5 @@
 ghost use Rattle.std.specs.Prelude.{◌≡◌, ◌↔◌, ◌≤◌, ◌<◌, ◌+◌, ◌-◌, ◌*◌, ◌^◌, ℕ, IfSome, IfErr, Some, Ok, Err};
-ghost use Rattle.day_numbers.specs.Dates.{IsYear};
+ghost use Rattle.day_numbers.specs.Dates.{IsYear, IsYmd};
 ghost use Rattle.register_app.specs.declared.date_texts.date.Date.{Date};
 ghost use Rattle.register_app.specs.DateText.{SaysDate, IsDateText};
 ghost use Rattle.register_app.specs.Reading.{digits_at as digits_spec, number_at as number_spec, after_byte as after_spec, year_at as year_spec, civil_at as civil_spec, seen_number, seen_rest, seen_year};
@@ -75,7 +75,8 @@ fn year_at(bytes: &[u8]) -> Option<(i32, &[u8])>
 /// The year, month and day that the bytes spell.
 #[tactic(auto, unfolding(crate::specs::Reading::civil_at))]
 fn civil_at(bytes: &[u8]) -> Option<(i32, u8, u8)>
-    ensures { result ≡ civil_spec bytes.now }
+    ensures value { result ≡ civil_spec bytes.now }
+    ensures near { IfSome result (λ d. IsYmd d.0 d.1 d.2) }
 {
     let (year, rest) = year_at(bytes)?;
     let (month, rest) = number_at(1, after_byte(b'-', rest)?)?;

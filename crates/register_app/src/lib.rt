@@ -1,5 +1,0 @@
-//! Converts the dates of historical registers.
-#![tactic(auto)]
-
-mod date_texts;
-mod register_records;

@@ -1,0 +1,38 @@
+//! The program `register`: converts the dates of a historical register.
+//!
+//! It reads a CSV text from standard input and writes its table to standard output, with the day of each
+//! record in the Gregorian and in the Julian calendar.
+#![tactic(auto)]
+
+mod answering;
+mod date_texts;
+mod register_records;
+
+use answering::answer;
+use register_records::PlainOutput;
+use std::process::ExitCode;
+use std::rt::Env;
+use std::{env, io};
+
+/// The words after the program's name.
+fn words_of<R: Env + AllocGlobal>(rt: &R) -> io::Result<Vec<String>> {
+    let words = env::args(rt)?.skip(1).collect(rt.alloc())?;
+    Ok(words)
+}
+
+fn main(rt: HostRuntime) -> ExitCode {
+    let Ok(words) = words_of(&rt) else {
+        let _ = eprintln!(rt; "register: the arguments could not be read");
+        return ExitCode::from(2);
+    };
+    let output = PlainOutput::new(rt.stdout(), 1);
+    let mut errors = PlainOutput::new(rt.stderr(), 0);
+    let (status, _output) = answer(
+        rt.alloc(),
+        words.as_slice(),
+        rt.stdin(),
+        output,
+        &mut errors,
+    );
+    ExitCode::from(status)
+}

@@ -22,3 +22,4 @@ pub mod RowViews
 pub mod RowWriters
 pub mod Causes
 pub mod Sources
+pub mod Laws

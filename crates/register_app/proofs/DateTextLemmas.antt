@@ -1,5 +1,5 @@
 -- What the grammar, the canonical text and the cells say of dates.
-use Rattle.std.proofs.Common.{◌≡◌, ◌↔◌, ℕ, ◌+◌, ◌≤◌, List, [], ◌∷◌, ◌++◌, length, Bool, true, false, ◌==◌, IsTrue, Option, Some, None, Err, ℤ, refl, sym, subst, ap, ◌∙◌, arith, append_assoc, cond}
+use Rattle.std.proofs.Common.{◌≡◌, ◌↔◌, ℕ, List, [], ◌∷◌, ◌++◌, true, false, IsTrue, Option, Some, None, Err, ℤ, refl, sym, subst, ap, ◌∙◌, arith, append_assoc}
 use Rattle.std.proofs.lemmas.List.{reverse-append, reverse-reverse}
 use Rattle.std.proofs.lemmas.Bool.Decides.{nat_tests}
 use Rattle.std.specs.Prelude.{reverse}
@@ -23,7 +23,7 @@ use Rattle.register_app.specs.Trimmed.{is_blank, trim_start, trim_end, trimmed}
 use Rattle.register_app.specs.DateText.{all_digits, IsNumeral, IsYearText, plain, minus, IsCivilText, SaysDate, IsDateText, canonical_civil, canonical_text}
 use Rattle.register_app.specs.Reading.{civil_at}
 use Rattle.register_app.specs.Cells.{IsDateCell, on_date, before_first_day, IsCell}
-use Rattle.register_app.proofs.ReadingLemmas.{both_true, civil_read, civil_take, canonical_civil_is}
+use Rattle.register_app.proofs.ReadingLemmas.{both_true, some_inside, civil_read, civil_take, canonical_civil_is}
 
 -- two dates with the same parts are one
 make : Calendar → Ymd → CivilDate
@@ -39,9 +39,6 @@ none_some e = cc
 
 pub false_is_true : false ≡ true → ⊥
 false_is_true e = cc
-
-some_inside : {A : Type 0} {x y : A} → Some x ≡ Some y → x ≡ y
-some_inside e = cc
 
 pub none_says : (calendar : Calendar) (text : List ℕ) → civil_at text ≡ None → (date : Date) → SaysDate calendar text date → ⊥
 none_says calendar text e (Civil d) h = none_some (sym e ∙ civil_take text d.ymd.year d.ymd.month d.ymd.day h.1)
@@ -112,7 +109,7 @@ civil-trimmed text z m d h =
     let day = numeral_ends 2 d h.day_text h.is_day in
     let front = h.year_text ++ 45 ∷ (h.month_text ++ 45 ∷ day.front) in
     let whole : text ≡ front ++ day.last ∷ [] =
-      h.joined ∙ ap (λ t. h.year_text ++ 45 ∷ (h.month_text ++ 45 ∷ t)) day.joined ∙ ap (λ t. h.year_text ++ 45 ∷ t) (sym (append_assoc h.month_text (45 ∷ day.front) (day.last ∷ []))) ∙ sym (append_assoc h.year_text (45 ∷ (h.month_text ++ 45 ∷ day.front)) (day.last ∷ [])) in
+    h.joined ∙ ap (λ t. h.year_text ++ 45 ∷ (h.month_text ++ 45 ∷ t)) day.joined ∙ ap (λ t. h.year_text ++ 45 ∷ t) (sym (append_assoc h.month_text (45 ∷ day.front) (day.last ∷ []))) ∙ sym (append_assoc h.year_text (45 ∷ (h.month_text ++ 45 ∷ day.front)) (day.last ∷ [])) in
     let start : trim_start text ≡ text = ap trim_start h.joined ∙ year_begins h.year_text z _ h.is_year ∙ sym h.joined in
     ap trim_end start ∙ ap trim_end whole ∙ end_stays front day.last (digit_no_blank day.last day.is_digit) ∙ sym whole
 

@@ -143,7 +143,7 @@ byte_read_by b c cs rest false eb e = absurd (cc)
 dash_then : (c : ℕ) (cs ds rest : List ℕ) → (c == 45) ≡ true → cs ≡ ds ++ rest → c ∷ cs ≡ 45 ∷ (ds ++ rest)
 dash_then c cs ds rest eb e = let dash : c ≡ 45 = grind (arith, nat_tests) in cc
 
-some_inside : {A : Type 0} {x y : A} → Some x ≡ Some y → x ≡ y
+pub some_inside : {A : Type 0} {x y : A} → Some x ≡ Some y → x ≡ y
 some_inside e = cc
 
 byte_read : (b : ℕ) (bytes rest : List ℕ) → after_byte b bytes ≡ Some rest → bytes ≡ b ∷ rest
@@ -177,6 +177,10 @@ unfolding year_at
 year_read [] z rest e = absurd (cc)
 year_read (c ∷ cs) z rest e = year_read_by c cs z rest (c == 45) refl e
 
+-- the parts of a date text, one after the other
+civil_joined : (text y after_year month_on m after_month day_on d after_day : List ℕ) → text ≡ y ++ after_year → after_year ≡ 45 ∷ month_on → month_on ≡ m ++ after_month → after_month ≡ 45 ∷ day_on → day_on ≡ d ++ after_day → after_day ≡ [] → text ≡ y ++ 45 ∷ (m ++ 45 ∷ d)
+civil_joined text y after_year month_on m after_month day_on d after_day a b c e f g = rw (a, b, c, e, f, g, append-nil) refl
+
 pub civil_read : (bytes : List ℕ) (z : ℤ) (m d : ℕ) → civil_at bytes ≡ Some (z, m, d) → IsCivilText bytes z m d
 unfolding civil_at
 civil_read bytes z m d e =
@@ -189,8 +193,6 @@ civil_read bytes z m d e =
     let year = year_read bytes a.0.0 a.0.1 a.1 in
     let month = number_read 1 b.0 c.0.0 c.0.1 c.1 in
     let day = number_read 1 s.0 k.0.0 k.0.1 k.1 in
-    let last : s.0 ≡ day.ds = day.joined ∙ ap (λ x. day.ds ++ x) whole.0 ∙ append-nil day.ds in
-    let middle : b.0 ≡ month.ds ++ 45 ∷ day.ds = month.joined ∙ ap (λ x. month.ds ++ x) (byte_read 45 c.0.1 s.0 s.1 ∙ ap (λ x. 45 ∷ x) last) in
     record {
       year_text = year.text;
       month_text = month.ds;
@@ -198,7 +200,7 @@ civil_read bytes z m d e =
       is_year = subst (IsYearText year.text) (ap (λ p. p.0) whole.1) year.is_year;
       is_month = subst (IsNumeral 2 month.ds) (ap (λ p. p.1) whole.1) month.numeral;
       is_day = subst (IsNumeral 2 day.ds) (ap (λ p. p.2) whole.1) day.numeral;
-      joined = year.joined ∙ ap (λ x. year.text ++ x) (byte_read 45 a.0.1 b.0 b.1 ∙ ap (λ x. 45 ∷ x) middle);
+      joined = civil_joined bytes year.text a.0.1 b.0 month.ds c.0.1 s.0 day.ds k.0.1 year.joined (byte_read 45 a.0.1 b.0 b.1) month.joined (byte_read 45 c.0.1 s.0 s.1) day.joined whole.0;
     }
 
 -- ---- and what is in the grammar is read

@@ -1,4 +1,5 @@
--- The calendars: their names, dates, day numbers and first days, by each calendar's own rules.
+-- The calendars: their names, which are this project's own, and their dates, day numbers and first days,
+-- by each calendar's own rules (Reingold and Dershowitz, Calendrical Calculations).
 use Rattle.std.specs.Prelude.{ℕ, ℤ, Option, List, codes}
 use Rattle.day_numbers.specs.declared.ymd.Ymd.{Ymd}
 use Rattle.day_numbers.specs.Rules.{IsDateOf, day_number_of, first_day_of}

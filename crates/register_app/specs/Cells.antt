@@ -1,4 +1,4 @@
--- The cell of a day in the column of a target.
+-- The cell of a day in the column of a target: a definition of this project, over the calendars' own rules.
 use Rattle.std.specs.Prelude.{◌≡◌, ℕ, ℤ, List, []}
 use Rattle.day_numbers.specs.Days.{IsSinceFirstDay}
 use Rattle.register_app.specs.Calendars.{first_day_in}

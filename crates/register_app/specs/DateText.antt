@@ -1,6 +1,7 @@
 -- The grammar of date texts, as a relation between a text, a calendar and a date, and the one canonical
--- text of a date.
-use Rattle.std.specs.Prelude.{◌≡◌, ℕ, ◌+◌, ◌-◌, ◌*◌, ◌≤◌, Bool, true, false, ◌&&◌, List, [], ◌∷◌, ◌++◌, length, replicate, IsTrue, ℤ, pos, negsuc, suc, neg_ℤ}
+-- text of a date. Both are this project's own, after the calendar dates of ISO 8601 (year, month and day,
+-- the largest first, joined by dashes), with shorter numbers and years before 0 allowed.
+use Rattle.std.specs.Prelude.{◌≡◌, ℕ, ◌+◌, ◌-◌, ◌*◌, ◌≤◌, Bool, true, ◌&&◌, List, [], ◌∷◌, ◌++◌, length, replicate, IsTrue, ℤ, pos, negsuc, suc, neg_ℤ}
 use Rattle.std.specs.Char.{is_ascii_digit}
 use Rattle.std.specs.Fmt.{decimal}
 use Rattle.register_app.specs.declared.date_texts.calendar.Calendar.{Calendar}

@@ -23,3 +23,4 @@ pub mod RowWriters
 pub mod Causes
 pub mod Sources
 pub mod Answers
+pub mod Laws

@@ -1,4 +1,4 @@
--- Names as registers write them.
+-- Names as registers write them, by a rule of this project.
 use Rattle.std.specs.Prelude.{◌≡◌, ℕ, List}
 use Rattle.std.specs.Str.{str_to_ascii_lowercase}
 use Rattle.register_app.specs.Trimmed.{trimmed}

@@ -1,4 +1,4 @@
--- Why records are refused, by number.
+-- Why records are refused, by number. Both are this project's own.
 use Rattle.std.specs.Prelude.{ℕ}
 use Rattle.day_numbers.specs.declared.calendar.DateFault.{DateFault}
 use Rattle.day_numbers.specs.declared.calendar.DateFault.TheVariants.{NoSuchDate as NoSuchDateFault, OutOfRange as OutOfRangeFault}

@@ -7,6 +7,7 @@
 mod converting;
 mod entries;
 mod header;
+pub mod laws;
 mod lines;
 mod outputs;
 mod reading;
@@ -24,3 +25,6 @@ pub use rows::Row;
 pub use setups::{Setup, SetupFault};
 pub use sources::{Cause, Note, SourceEnd, convert_source};
 pub use writing::{RowFault, RowWriter};
+
+#[cfg(test)]
+mod tests;

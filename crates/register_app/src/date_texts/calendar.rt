@@ -34,7 +34,7 @@ impl Calendar {
     ///
     /// `NoSuchDate` exactly where the calendar has no such date; `OutOfRange` exactly where it has the
     /// date and the day number is not from -3652424 to 3652059.
-    pub fn day_of(self, date: Ymd) -> Result<Day, DateFault>
+    pub(super) fn day_of(self, date: Ymd) -> Result<Day, DateFault>
         ensures succeeds { IsOk result ↔ (IsDateIn self date × IsDayNumber (day_number_in self date)) }
         ensures value { IfOk result (λ day. day.number ≡ day_number_in self date) }
         ensures no_such_date { (result ≡ Err DateFault.NoSuchDate) ↔ ¬ (IsDateIn self date) }
@@ -48,7 +48,7 @@ impl Calendar {
     }
 
     /// The one date of the calendar whose day this is, or `None` exactly before its first day.
-    pub fn date_on(self, day: Day) -> Option<Ymd>
+    pub(super) fn date_on(self, day: Day) -> Option<Ymd>
         ensures dated { IsSome result ↔ IsSinceFirstDay (first_day_in self) day.number }
         ensures value { IfSome result (λ date. IsDateIn self date × (day_number_in self date ≡ day.number)) }
     {
@@ -78,7 +78,7 @@ impl Target {
     }
 
     /// The calendar of the target's dates.
-    pub fn calendar(&self) -> Calendar
+    pub(super) fn calendar(&self) -> Calendar
         ensures { self.now ≡ Target.Date result }
     {
         match *self {

@@ -28,7 +28,7 @@ pub fn day_of_date(date: &Date) -> Result<Day, Refusal>
 }
 
 /// The one date of the calendar whose day this is, or `None` exactly before its first day.
-pub fn date_on_day(calendar: Calendar, day: Day) -> Option<Date>
+pub(super) fn date_on_day(calendar: Calendar, day: Day) -> Option<Date>
     ensures dated { IsSome result ↔ IsSinceFirstDay (first_day_in calendar) day.number }
     ensures value { IfSome result (λ date. (calendar_of_date date ≡ calendar)
         × IsDateOfCalendar date × (day_number_of_date date ≡ day.number)) }

@@ -13,9 +13,7 @@ pub fn calendar_named(text: &str) -> Option<Calendar>
     ensures { (calendar : Calendar) → (result ≡ Some calendar) ↔ IsNamed text.now (calendar_name calendar) }
 {
     let name = trimmed(text.as_bytes());
-    Calendar::ALL
-        .into_iter()
-        .find(|calendar| calendar.name().as_bytes().eq_ignore_ascii_case(name))
+    Calendar::ALL.into_iter().find(|calendar| calendar.name().as_bytes().eq_ignore_ascii_case(name))
 }
 
 /// The target that a text names, as [`calendar_named`] reads a name. `None` exactly where the text

@@ -81,10 +81,10 @@ fn civil_at(bytes: &[u8]) -> Option<(i32, u8, u8)>
     let (year, rest) = year_at(bytes)?;
     let (month, rest) = number_at(1, after_byte(b'-', rest)?)?;
     let (day, rest) = number_at(1, after_byte(b'-', rest)?)?;
-    match rest {
-        [] => Some((year, month as u8, day as u8)),
-        _ => None,
+    if !rest.is_empty() {
+        return None;
     }
+    Some((year, month as u8, day as u8))
 }
 
 /// The date that a text without blanks at its ends says in a calendar.

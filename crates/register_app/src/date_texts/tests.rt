@@ -8,22 +8,66 @@ fn date_texts_name_days(rt: HostRuntime) -> Result<(), Fail> {
     for (calendar, text, written, day) in [
         (Calendar::Gregorian, "1945-11-12", "1945-11-12", Ok(710_347)),
         (Calendar::Gregorian, "-0-3-1", "0000-03-01", Ok(-305)),
-        (Calendar::Julian, "-0-3-1", "0000-03-01", Err(Refusal::NoSuchDate)),
-        (Calendar::Gregorian, "1945-00-12", "1945-00-12", Err(Refusal::NoSuchDate)),
+        (
+            Calendar::Julian,
+            "-0-3-1",
+            "0000-03-01",
+            Err(Refusal::NoSuchDate),
+        ),
+        (
+            Calendar::Gregorian,
+            "1945-00-12",
+            "1945-00-12",
+            Err(Refusal::NoSuchDate),
+        ),
         (Calendar::Julian, "-44-3-15", "-0044-03-15", Ok(-15_999)),
         (Calendar::Julian, "1582-10-05", "1582-10-05", Ok(577_736)),
         (Calendar::Julian, "-1-2-29", "-0001-02-29", Ok(-308)),
-        (Calendar::Gregorian, "\t 01752-9-14 \t", "1752-09-14", Ok(639_797)),
+        (
+            Calendar::Gregorian,
+            "\t 01752-9-14 \t",
+            "1752-09-14",
+            Ok(639_797),
+        ),
         (Calendar::Julian, "-0001-12-31", "-0001-12-31", Ok(-2)),
-        (Calendar::Gregorian, "9999-12-31", "9999-12-31", Ok(3_652_059)),
-        (Calendar::Gregorian, "10000-1-1", "10000-01-01", Err(Refusal::OutOfRange)),
-        (Calendar::Gregorian, "10000-02-30", "10000-02-30", Err(Refusal::NoSuchDate)),
-        (Calendar::Gregorian, "-9999-01-01", "-9999-01-01", Ok(-3_652_424)),
-        (Calendar::Gregorian, "-99999-99-99", "-99999-99-99", Err(Refusal::NoSuchDate)),
+        (
+            Calendar::Gregorian,
+            "9999-12-31",
+            "9999-12-31",
+            Ok(3_652_059),
+        ),
+        (
+            Calendar::Gregorian,
+            "10000-1-1",
+            "10000-01-01",
+            Err(Refusal::OutOfRange),
+        ),
+        (
+            Calendar::Gregorian,
+            "10000-02-30",
+            "10000-02-30",
+            Err(Refusal::NoSuchDate),
+        ),
+        (
+            Calendar::Gregorian,
+            "-9999-01-01",
+            "-9999-01-01",
+            Ok(-3_652_424),
+        ),
+        (
+            Calendar::Gregorian,
+            "-99999-99-99",
+            "-99999-99-99",
+            Err(Refusal::NoSuchDate),
+        ),
     ] {
-        let date = read_date(calendar, text).ok_or("a date text")?;
+        let date = read_date(calendar, text).ok().ok_or("a date text")?;
         assert_eq!(rt; write_date(&date).as_str(), written, "at {text}");
-        assert_eq!(rt; day_of_date(&date).map(|day| day.number()), day, "at {text}");
+        assert_eq!(rt;
+            day_of_date(&date).map(|day| day.number()),
+            day,
+            "at {text}"
+        );
     }
     Ok(())
 }
@@ -64,7 +108,10 @@ fn other_texts_are_refused(rt: HostRuntime) {
 
 #[test]
 fn calendars_have_names(rt: HostRuntime) {
-    for (calendar, name) in [(Calendar::Gregorian, "gregorian"), (Calendar::Julian, "julian")] {
+    for (calendar, name) in [
+        (Calendar::Gregorian, "gregorian"),
+        (Calendar::Julian, "julian"),
+    ] {
         assert_eq!(rt; calendar.name(), name);
         assert_eq!(rt; Target::Date(calendar).name(), name);
         assert_eq!(rt; calendar_named(name), Some(calendar));
@@ -82,7 +129,11 @@ fn calendars_have_names(rt: HostRuntime) {
         (" \t", None),
     ] {
         assert_eq!(rt; calendar_named(text), calendar, "at {text:?}");
-        assert_eq!(rt; target_named(text), calendar.map(Target::Date), "at {text:?}");
+        assert_eq!(rt;
+            target_named(text),
+            calendar.map(Target::Date),
+            "at {text:?}"
+        );
     }
 }
 
@@ -99,7 +150,10 @@ fn days_have_cells(rt: HostRuntime) -> Result<(), Fail> {
         (-3_652_424, "-9999-01-01", "-10000-03-19"),
     ] {
         let day = Day::new(number).ok_or("a day in range")?;
-        assert_eq!(rt; cell(Target::Date(Calendar::Gregorian), day).as_str(), gregorian);
+        assert_eq!(rt;
+            cell(Target::Date(Calendar::Gregorian), day).as_str(),
+            gregorian
+        );
         assert_eq!(rt; cell(Target::Date(Calendar::Julian), day).as_str(), julian);
     }
     Ok(())

@@ -19,7 +19,7 @@ fn push_padded(text: &mut ArrayString<24>, width: usize, number: u32)
     let mut buffer = Buffer::new();
     let digits = buffer.format(number);
     for _ in digits.len()..width {
-        text.push('0');
+        text.push_str("0");
     }
     text.push_str(digits);
 }
@@ -32,12 +32,12 @@ fn civil_text(civil: CivilDate) -> ArrayString<24>
     let mut text = ArrayString::new();
     let year = date.year();
     if year < 0 {
-        text.push('-');
+        text.push_str("-");
     }
     push_padded(&mut text, 4, year.unsigned_abs());
-    text.push('-');
+    text.push_str("-");
     push_padded(&mut text, 2, date.month() as u32);
-    text.push('-');
+    text.push_str("-");
     push_padded(&mut text, 2, date.day() as u32);
     text
 }

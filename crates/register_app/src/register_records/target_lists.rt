@@ -28,6 +28,18 @@ impl TargetList {
         }
     }
 
+    /// The list of these targets.
+    pub fn of(targets: &[Target]) -> TargetList
+        requires { length targets.now ≤ 13 }
+        ensures { targets_in result ≡ targets.now }
+    {
+        let mut list = TargetList::new();
+        for target in targets {
+            list.push(*target);
+        }
+        list
+    }
+
     /// The targets.
     pub fn as_slice(&self) -> &[Target]
         ensures value { result.now ≡ targets_in self.now }

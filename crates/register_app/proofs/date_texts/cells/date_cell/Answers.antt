@@ -1,4 +1,4 @@
-use Rattle.register_app.specs.Cells.{on_date, before_first_day}
+use Rattle.register_app.specs.Cells.{on_date}
 use Rattle.register_app.proofs.date_texts.cells.date_cell.Goals as goal
 
 pub returns-in-Some : goal.returns-in-Some

@@ -1,4 +1,4 @@
-use Rattle.std.proofs.Common.{◌≡◌, ◌∙◌, sym, subst, IsSome, rules, to_z-of_z, FitsSigned, w32}
+use Rattle.std.proofs.Common.{◌∙◌, sym, subst, IsSome, rules, to_z-of_z, FitsSigned, w32}
 use Rattle.register_app.proofs.DateTextLemmas.{false_is_true, none_says, some_says, parts_read}
 use Rattle.register_app.proofs.date_texts.read.date_at.Goals as goal
 

@@ -1,4 +1,3 @@
-use Rattle.std.proofs.Common.{arith}
 use Rattle.register_app.proofs.ReadingLemmas.{fits_first}
 use Rattle.register_app.proofs.date_texts.read.number_at.Goals as goal
 

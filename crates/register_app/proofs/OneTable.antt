@@ -87,7 +87,7 @@ module _ (t : Texts) where
   of-date b p (accepted {t = u} c d says is within) e a f s =
       let same : u ≡ t = cc in
       let date = one-date _ _ c a d f (rw same at says) s in
-      (λ x. absurd (x (rw date at is)), λ x y. absurd (y (rw date at within)), λ x y. ap (λ (d : Date). Ok {E = Refusal} (day_number_of_date d)) date)
+      (λ x. absurd (x (rw date at is)), λ x y. absurd (y (rw date at within)), λ x y. rw date refl)
 
 -- a body has one outcome at most
 one-outcome : (b : Result Texts Refusal) (o p : Result ℤ Refusal) → IsOutcome b o → IsOutcome b p → o ≡ p

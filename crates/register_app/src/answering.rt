@@ -6,7 +6,7 @@ ghost use Rattle.register_app.specs.Setups.{delimiter_of, targets_of};
 ghost use Rattle.register_app.specs.Sources.{GainsPart};
 
 use crate::date_texts::{Calendar, Target};
-use crate::register_records::{Cause, Output, Setup, SourceEnd, convert_source};
+use crate::register_records::{Cause, Output, Setup, SourceEnd, convert_source, send};
 use arrayvec::ArrayString;
 use std::alloc::Global;
 use std::fmt::Write;
@@ -40,28 +40,15 @@ fn program_setup() -> Setup
     }
 }
 
-/// Writes a line of standard error. A fault of it is let go: there is nowhere else to tell it.
-fn say<E: Output>(errors: &mut E, line: &str)
-    ensures { E.own_mark errors.new ≡ E.own_mark errors.old }
-{
-    let mut rest = line.as_bytes();
-    'offers: while !rest.is_empty() {
-        match errors.offer(rest) {
-            Ok(0) | Err(_) => return,
-            Ok(taken) => rest = &rest[taken..],
-        }
-    }
-    let _ = errors.flush_out();
-}
-
-/// Says the cause of a broken source.
-fn say_cause<E: Output>(errors: &mut E, cause: Cause)
+/// Writes the line with the cause of a broken source. A fault of `errors` is let go: there is nowhere else
+/// to tell it.
+fn tell_cause<E: Output>(errors: &mut E, cause: Cause)
     ensures { E.own_mark errors.new ≡ E.own_mark errors.old }
 {
     let mut line = ArrayString::<24>::new();
     let number = cause.number();
     if writeln!(line, "source 1: cause {number}").is_ok() {
-        say(errors, line.as_str());
+        let _ = send(errors, line.as_bytes());
     }
 }
 
@@ -93,16 +80,16 @@ pub fn answer<R: Read + Drop, W: Output, E: Output>(
     ensures errors_mark { E.own_mark errors.new ≡ E.own_mark errors.old }
 {
     if !words.is_empty() {
-        say(errors, "register: no arguments yet\n");
+        let _ = send(errors, b"register: no arguments yet\n");
         return (BAD_COMMAND_LINE, output);
     }
     let setup = program_setup();
     let mut output = output;
     match convert_source(alloc, input, &mut output, &setup) {
-        SourceEnd::Whole { .. } => (COMPLETE, output),
+        SourceEnd::Whole { .. } => return (COMPLETE, output),
         SourceEnd::Broken { cause } => {
-            say_cause(errors, cause);
-            (INCOMPLETE, output)
+            tell_cause(errors, cause);
+            return (INCOMPLETE, output);
         }
     }
 }

@@ -24,7 +24,7 @@ pub use reading::{EntryFault, EntryReader};
 pub use rows::Row;
 pub use setups::{Setup, SetupFault};
 pub use sources::{Cause, Note, SourceEnd, convert_source};
-pub use writing::{RowFault, RowWriter};
+pub use writing::{RowFault, RowWriter, send};
 
 #[cfg(test)]
 mod tests;

@@ -86,10 +86,10 @@ pub fn answer<R: Read + Drop, W: Output, E: Output>(
     let setup = program_setup();
     let mut output = output;
     match convert_source(alloc, input, &mut output, &setup) {
-        SourceEnd::Whole { .. } => return (COMPLETE, output),
+        SourceEnd::Whole { .. } => (COMPLETE, output),
         SourceEnd::Broken { cause } => {
             tell_cause(errors, cause);
-            return (INCOMPLETE, output);
+            (INCOMPLETE, output)
         }
     }
 }

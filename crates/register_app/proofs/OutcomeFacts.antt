@@ -41,6 +41,7 @@ module _ (t : Texts) (c : Calendar) (d : Date) where
     where
       not-ok : (r : Refusal) → IsOk {T = Day} {E = Refusal} (Err r) → ⊥
       not-ok r e = cc
+
       same : (a b : Refusal) → ◌≡◌ {A = Result Day Refusal} (Err a) (Err b) → a ≡ b
       same a b e = cc
 

@@ -13,7 +13,9 @@ use std::str;
 
 /// The most bytes of an id, of a calendar's name and of a date, before anything is trimmed.
 pub const ID_LIMIT: usize = 40;
+
 pub const CALENDAR_LIMIT: usize = 16;
+
 pub const DATE_LIMIT: usize = 32;
 
 /// The most records of a source after its header.

@@ -6,5 +6,4 @@ ghost use Rattle.register_app.specs.Laws.{OneTable};
 /// list of rows.
 pub fn one_table()
     ensures { OneTable }
-{
-}
+{}

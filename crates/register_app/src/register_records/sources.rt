@@ -55,7 +55,9 @@ pub enum SourceEnd {
         journal: Vec<Note>,
     },
     /// The conversion stopped at a fault.
-    Broken { cause: Cause },
+    Broken {
+        cause: Cause,
+    },
 }
 
 impl Cause {

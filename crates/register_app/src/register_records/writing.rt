@@ -61,11 +61,7 @@ fn texts_of(body: &Body) -> (&str, &str, &str)
 }
 
 /// The line of the heading.
-fn heading_line(
-    spare: Vec<u8>,
-    delimiter: u8,
-    targets: &[Target],
-) -> Result<Vec<u8>, AllocError>
+fn heading_line(spare: Vec<u8>, delimiter: u8, targets: &[Target]) -> Result<Vec<u8>, AllocError>
     requires { length targets.now ≤ 13 }
     ensures { IfOk result (λ v. v.items ≡ line_text delimiter (heading targets.now)) }
 {
@@ -84,12 +80,7 @@ fn heading_line(
 }
 
 /// The line of an accepted row.
-fn accepted_line(
-    spare: Vec<u8>,
-    delimiter: u8,
-    row: &Row,
-    day: Day,
-) -> Result<Vec<u8>, AllocError>
+fn accepted_line(spare: Vec<u8>, delimiter: u8, row: &Row, day: Day) -> Result<Vec<u8>, AllocError>
     requires { row_outcome row.now ≡ Ok day }
     ensures { IfOk result (λ v. v.items ≡ row_line delimiter (row_targets row.now) (row_seen row.now)) }
 {

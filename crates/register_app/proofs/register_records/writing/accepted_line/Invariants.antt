@@ -12,5 +12,5 @@ abbrev pub invariant-cells : goal.invariant-cells
 invariant-cells l =
     Holds (λ cell. cell.bytes)
     (decimal (entry_number (row_entry l.row))
-        ∷ (text_fields (body_seen (entry_body (row_entry l.row))) ++ (signed_decimal l.fn.day.number ∷ weekday_name (weekday_at (weekday_number l.fn.day.number)) ∷ [])))
+    ∷ (text_fields (body_seen (entry_body (row_entry l.row))) ++ (signed_decimal l.fn.day.number ∷ weekday_name (weekday_at (weekday_number l.fn.day.number)) ∷ [])))
     (row_cells l.row) l.cell-index l.fields.items

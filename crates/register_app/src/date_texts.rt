@@ -20,6 +20,7 @@ pub use days::day_of_date;
 pub use names::{calendar_named, target_named};
 pub use read::read_date;
 pub use refusal::Refusal;
+pub use trim::trimmed;
 pub use write::write_date;
 
 #[cfg(test)]

@@ -2,7 +2,7 @@ ghost use Rattle.std.specs.Prelude.{◌≡◌};
 ghost use Rattle.register_app.specs.Trimmed.{trimmed as trimmed_text};
 
 /// The text without the spaces and tabs at both ends.
-pub(super) fn trimmed(text: &[u8]) -> &[u8]
+pub fn trimmed(text: &[u8]) -> &[u8]
     ensures { result.now ≡ trimmed_text text.now }
 {
     let mut inner = text;

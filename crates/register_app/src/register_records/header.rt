@@ -1,46 +1,24 @@
 // Whether a record is the header.
 
-ghost use Rattle.std.specs.Prelude.{◌≡◌, ◌↔◌, ◌≤◌, length, IsTrue, map};
-ghost use Rattle.std.specs.Char.{to_ascii_lowercase};
+ghost use Rattle.std.specs.Prelude.{◌≡◌, ◌↔◌, IsTrue};
+ghost use Rattle.std.specs.Str.{str_to_ascii_lowercase};
 ghost use Rattle.csv.specs.Reading.{strip_bom};
 ghost use Rattle.csv.specs.Records.{fields_of};
-ghost use Rattle.register_app.specs.Headers.{IsHeader, IsNamed, is_blank, trim_back, trim_front};
+ghost use Rattle.register_app.specs.Headers.{IsHeader};
+ghost use Rattle.register_app.specs.Names.{IsNamed};
 
+use crate::date_texts::trimmed;
 use crate::register_records::entries::three;
 use csv::ByteRecord;
 
-fn is_blank_byte(b: u8) -> bool
-    ensures { result ≡ is_blank b }
-{
-    b == b' ' || b == b'\t'
-}
-
-fn front(s: &[u8]) -> &[u8]
-    ensures { result.now ≡ trim_front s.now }
-{
-    let mut i = 0;
-    while i < s.len() && is_blank_byte(s[i]) {
-        i += 1;
-    }
-    &s[i..]
-}
-
-fn back(s: &[u8]) -> &[u8]
-    ensures { result.now ≡ trim_back s.now }
-{
-    let mut n = s.len();
-    while n > 0 && is_blank_byte(s[n - 1]) {
-        n -= 1;
-    }
-    &s[..n]
-}
-
+/// Whether a field is this name, spaces and tabs round it and letter case aside.
 fn is_named(field: &[u8], name: &[u8]) -> bool
-    ensures { IsTrue result ↔ IsNamed field.now (map to_ascii_lowercase name.now) }
+    ensures { IsTrue result ↔ IsNamed field.now (str_to_ascii_lowercase name.now) }
 {
-    back(front(field)).eq_ignore_ascii_case(name)
+    trimmed(field).eq_ignore_ascii_case(name)
 }
 
+/// A field without one byte order mark at its start.
 fn without_mark(field: &[u8]) -> &[u8]
     ensures { result.now ≡ strip_bom field.now }
 {

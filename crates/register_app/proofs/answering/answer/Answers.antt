@@ -6,8 +6,8 @@ use Rattle.register_app.proofs.answering.answer.Goals.{in-Whole, in-Broken}
 pub returns-clause-whole : goal.returns-clause-whole
 returns-clause-whole g c complete =
     elim c.match-convert_source.branch [
-      in-Whole w ↦
-        let whole = rw (c.program_setup-setup.ensures.delimiter, c.program_setup-setup.ensures.targets) at w.in-Whole.ensures.whole in
-        (w.in-Whole.rows, w.in-Whole.refused, w.in-Whole.journal.items, rw w.result-is whole)
+      | in-Whole w ↦
+          let whole = rw (c.program_setup-setup.ensures.delimiter, c.program_setup-setup.ensures.targets) at w.in-Whole.ensures.whole in
+          (w.in-Whole.rows, w.in-Whole.refused, w.in-Whole.journal.items, rw w.result-is whole)
       | in-Broken w ↦ let broken = rw w.result-is at complete in absurd (omega (arith, broken))
     ]

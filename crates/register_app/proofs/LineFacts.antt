@@ -1,5 +1,5 @@
 -- The fields of a line, while they are gathered.
-use Rattle.std.proofs.Common.{◌≡◌, ◌<◌, ◌≤◌, ◌+◌, ◌++◌, ℕ, List, [], ◌∷◌, Bor, refl, sym, ap, ◌∙◌, arith, append_assoc, length, map, take, get_or, length-append}
+use Rattle.std.proofs.Common.{◌≡◌, ◌<◌, ◌≤◌, ◌+◌, ◌++◌, ℕ, List, [], ◌∷◌, Bor, refl, ap, ◌∙◌, arith, append_assoc, length, map, take, get_or, length-append}
 use Rattle.std.proofs.lemmas.List.{map-append, take_all, take_more}
 use Rattle.day_numbers.specs.Days.{weekday_name, weekday_place}
 use Rattle.day_numbers.specs.declared.day.Weekday.{Weekday}

@@ -3,10 +3,9 @@ use Rattle.std.proofs.Common.{◌≡◌, ℕ, List, [], ◌∷◌, refl, sym, ap
 use Rattle.std.specs.Prelude.{ℤ, Result, Ok, Err}
 use Rattle.day_numbers.specs.Days.{IsDayNumber}
 use Rattle.register_app.specs.Calendars.{calendar_name}
-use Rattle.register_app.specs.Cells.{IsCell}
 use Rattle.register_app.specs.Dates.{IsDateOfCalendar, day_number_of_date}
 use Rattle.register_app.specs.DateText.{IsDateText}
-use Rattle.register_app.specs.Entries.{Fields, HasRecords, Numbered, Texts, entries_of}
+use Rattle.register_app.specs.Entries.{Numbered, Texts, entries_of}
 use Rattle.register_app.specs.Laws.{OneTable}
 use Rattle.register_app.specs.Names.{IsNamed}
 use Rattle.register_app.specs.Outcomes.{AreCells, AreCellsOn, AreRowsOf, IsOutcome, IsRowOf, Says, TableRow, accepted, no_date_text, no_such_date, out_of_range, refused, unknown_calendar}

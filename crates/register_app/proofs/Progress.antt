@@ -1,17 +1,17 @@
 -- How far the table of a source has come.
-use Rattle.std.proofs.Common.{◌≡◌, ◌<◌, ◌≤◌, ◌+◌, ◌++◌, ℕ, List, [], ◌∷◌, length, Option, Some, None, refl, sym, ap, ◌∙◌, arith, append_assoc, inl, inr, true}
-use Rattle.std.specs.Prelude.{IfSome, OnOk, Result, Ok, Err, ℤ, nat_lt, ⊤}
+use Rattle.std.proofs.Common.{◌≡◌, ◌<◌, ◌≤◌, ◌+◌, ◌++◌, ℕ, List, [], ◌∷◌, length, Option, Some, None, refl, sym, ap, ◌∙◌, arith, append_assoc, true}
+use Rattle.std.specs.Prelude.{IfSome, OnOk, Result, Ok, Err, ℤ, nat_lt}
 use Rattle.std.specs.Result.{is_ok}
 use Rattle.std.specs.Io.KnownBytes.{Appends}
 use Rattle.std.proofs.KnownBytes.{Appends-trans}
 use Rattle.std.proofs.lemmas.Bool.Decides.{nat_tests}
 use Rattle.std.proofs.lemmas.List.{append-nil, length-append}
-use Rattle.register_app.specs.Entries.{Fields, HasRecords, Numbered, body_of, body_seen, entries_from, entries_of, record_limit}
+use Rattle.register_app.specs.Entries.{Fields, HasRecords, Numbered, body_of, entries_from, entries_of, record_limit}
 use Rattle.register_app.specs.EntriesLeft.{Gives, Opens, entry_seen}
 use Rattle.register_app.specs.Lines.{line_text}
 use Rattle.register_app.specs.Outcomes.{AreRowsOf, IsRowOf, TableRow}
-use Rattle.register_app.specs.Sources.{AreNumberedFrom, GainsFront, GainsTable, GainsWhole, HasEntries, HasFirstEntries}
-use Rattle.register_app.specs.Tables.{heading, journal_of, lines_text, notes_of, row_line, table_text}
+use Rattle.register_app.specs.Sources.{AreNumberedFrom, GainsFront, GainsTable, GainsWhole, HasEntries}
+use Rattle.register_app.specs.Tables.{heading, journal_of, lines_text, notes_of, row_line}
 use Rattle.register_app.specs.declared.date_texts.calendar.Target.{Target}
 use Rattle.register_app.specs.Causes.{IsCauseOfRowFault}
 use Rattle.register_app.specs.declared.date_texts.refusal.Refusal.{Refusal}

@@ -1,5 +1,4 @@
-use Rattle.std.proofs.Common.{◌≡◌, ◌≢◌, ◌∙◌, ◌++◌, ◌∷◌, [], refl, sym, rules, append_assoc, arith}
-use Rattle.csv.specs.Writing as Spec
+use Rattle.std.proofs.Common.{◌≡◌, ◌≢◌, ◌∷◌, [], refl, rules, append_assoc}
 use Rattle.csv.proofs.WriteFacts.{escaped-double, escaped-other}
 use Rattle.register_app.specs.Lines.{writing}
 use Rattle.register_app.proofs.register_records.lines.push_escaped.Goals as goal

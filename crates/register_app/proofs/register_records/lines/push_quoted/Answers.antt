@@ -1,4 +1,4 @@
-use Rattle.std.proofs.Common.{◌≡◌, ◌<◌, ◌∙◌, ◌++◌, ◌∷◌, [], refl, sym, ap, rules, append_assoc, arith, length}
+use Rattle.std.proofs.Common.{◌<◌, ◌∙◌, ◌++◌, ap, append_assoc, arith, length}
 use Rattle.csv.specs.Writing.{escaped}
 use Rattle.csv.proofs.WriteFacts.{quoted-step}
 use Rattle.register_app.specs.Lines.{writing}

@@ -1,6 +1,6 @@
-use Rattle.std.proofs.Common.{◌≡◌, ◌<◌, ◌≤◌, ◌∙◌, ◌++◌, ◌∷◌, [], ℕ, List, Bor, refl, sym, ap, rules, append_assoc, arith, length, map, take}
+use Rattle.std.proofs.Common.{◌≡◌, ◌<◌, ◌≤◌, ◌∙◌, ◌++◌, ◌∷◌, [], ℕ, List, refl, ap, append_assoc, arith, length, map}
 use Rattle.std.proofs.lemmas.List.{get_or-map, length-map, take_all}
-use Rattle.csv.specs.Writing.{end_text, is_blank, row_body, row_text}
+use Rattle.csv.specs.Writing.{is_blank, row_body}
 use Rattle.csv.proofs.WriteFacts.{row-step}
 use Rattle.register_app.specs.Lines.{line_text, writing}
 use Rattle.register_app.proofs.register_records.lines.push_row.Goals as goal

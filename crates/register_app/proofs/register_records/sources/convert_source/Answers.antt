@@ -1,9 +1,8 @@
-use Rattle.std.proofs.Common.{◌≡◌, ◌<◌, ◌≤◌, ◌∙◌, sym, arith, inr, rules, true, length, length-append}
+use Rattle.std.proofs.Common.{◌≡◌, ◌<◌, ◌∙◌, sym, arith, inr, rules, true, length-append}
 use Rattle.std.specs.Result.{is_ok}
 use Rattle.register_app.specs.Entries.{record_limit}
 use Rattle.register_app.specs.EntriesLeft.{entry_number, given_by}
 use Rattle.register_app.specs.RowViews.{row_seen}
-use Rattle.register_app.specs.Tables.{notes_of}
 use Rattle.register_app.specs.declared.register_records.sources.Note.{Note}
 use Rattle.register_app.proofs.Progress.{finish, front, notes-few, ok-so, only-memory, start, step}
 use Rattle.register_app.proofs.register_records.sources.convert_source.Goals as goal

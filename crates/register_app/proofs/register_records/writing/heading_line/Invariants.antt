@@ -1,4 +1,4 @@
-use Rattle.std.proofs.Common.{◌≡◌, ◌+◌, ◌++◌, ◌∷◌, [], length, map, take, codes}
+use Rattle.std.proofs.Common.{◌∷◌, [], codes}
 use Rattle.register_app.specs.Calendars.{target_name}
 use Rattle.register_app.proofs.LineFacts.{Holds}
 use Rattle.register_app.proofs.register_records.writing.heading_line.Given as goal

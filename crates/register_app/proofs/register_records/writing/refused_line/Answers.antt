@@ -1,4 +1,4 @@
-use Rattle.std.proofs.Common.{◌∙◌, ℕ, List, [], Bor, ap, arith, map, refl, rules}
+use Rattle.std.proofs.Common.{◌∙◌, ℕ, List, [], Bor, ap, map, refl, rules}
 use Rattle.register_app.specs.RowViews.{row_seen, row_targets}
 use Rattle.register_app.specs.Views.{outcome_seen}
 use Rattle.register_app.specs.declared.date_texts.calendar.Target.{Target}

@@ -1,4 +1,4 @@
-use Rattle.std.proofs.Common.{arith, ◌≡◌, refl, inl, rules, true, false}
+use Rattle.std.proofs.Common.{arith, ◌≡◌, inl, rules, true, false}
 use Rattle.register_app.proofs.EntrySteps.{gives-entry, gives-none, read-more, read-none, some-left}
 use Rattle.register_app.proofs.register_records.reading.EntryReader.next.Goals as goal
 

@@ -1,10 +1,10 @@
 -- The haab by a remainder.
-use Rattle.std.proofs.Common.{◌≡◌, ℕ, ◌+◌, ◌<◌, ◌/◌, ◌%◌, ◌==◌, if◌then◌else◌, arith, ap, sym, ◌∙◌, ℤ, pos, ◌+ℤ◌, ◌-ℤ◌}
+use Rattle.std.proofs.Common.{◌≡◌, ℕ, ◌+◌, ◌<◌, ◌/◌, ◌%◌, ◌==◌, if◌then◌else◌, arith, refl, ap, sym, ◌-◌, ◌∙◌, ℤ, pos, ◌+ℤ◌, ◌-ℤ◌}
 use Rattle.std.proofs.lemmas.Bool.Decides.{nat_tests}
 use Rattle.std.proofs.lemmas.Int.{ints}
-use Rattle.maya_calendars.specs.Rounds.{epoch, StepsOnEachDay}
+use Rattle.maya_calendars.specs.Rounds.{epoch, round_number, StepsOnEachDay}
 use Rattle.maya_calendars.specs.HaabNames.{haab_after, haab_before, haab_of}
-use Rattle.maya_calendars.proofs.RoundLemmas.{after_days_are, each_day_from_epoch, place_in, place_below, place_next}
+use Rattle.maya_calendars.proofs.RoundLemmas.{after_days_are, each_day_from_epoch, place_in, place_below, place_next, round_number_is}
 
 -- the haab at a place in the round, counted from 0 Pop
 abbrev pub haab_at : ℕ → ℕ × ℕ
@@ -32,8 +32,10 @@ by_undone days = haab_undone (place_in 365 (days +ℤ pos 348)) (place_below 365
 pub haab_each_day : StepsOnEachDay haab_after haab_of
 haab_each_day = each_day_from_epoch haab_after haab_before haab_by by_each_day by_undone
 
--- and the remainder gives it
-pub haab_is : (day : ℤ) (place d m : ℕ) → place ≡ place_in 365 ((day -ℤ epoch) +ℤ pos 348) → d ≡ place % 20 → m ≡ place / 20 + 1 → (d, m) ≡ haab_of day
-haab_is day place d m e f g =
-    let at : (d, m) ≡ haab_at place = cc in
-    at ∙ ap haab_at e ∙ sym (after_days_are haab_after haab_before haab_by by_each_day by_undone (day -ℤ epoch))
+-- and its place in the round gives it, where 8 Cumku is the 349th name
+pub haab_is : (day : ℤ) (number place d m : ℕ) → number ≡ round_number 365 349 day → place ≡ number - 1 → d ≡ place % 20 → m ≡ place / 20 + 1 → (d, m) ≡ haab_of day
+haab_is day number place d m e f g h =
+    let named : (d, m) ≡ haab_at place = cc in
+    let by = round_number_is 365 348 349 day refl (omega arith) in
+    let placed : place ≡ place_in 365 ((day -ℤ epoch) +ℤ pos 348) = omega (arith, e, f, by) in
+    named ∙ ap haab_at placed ∙ sym (after_days_are haab_after haab_before haab_by by_each_day by_undone (day -ℤ epoch))

@@ -22,7 +22,8 @@ in_prop x = hlevel props
 same_made : (x y : Numbers) → x ≡ y → (h : AreIn x) (g : AreIn y) → make x h ≡ make y g
 same_made x y e h = subst (λ z. (g : AreIn z) → make x h ≡ make z g) e (λ g. ap (make x) (in_prop x h g))
 
-same_places : (c d : LongCount) → c.baktun ≡ d.baktun → c.katun ≡ d.katun → c.tun ≡ d.tun → c.uinal ≡ d.uinal → c.kin ≡ d.kin → c ≡ d
+-- two long counts with the same places are one value
+pub same_places : (c d : LongCount) → c.baktun ≡ d.baktun → c.katun ≡ d.katun → c.tun ≡ d.tun → c.uinal ≡ d.uinal → c.kin ≡ d.kin → c ≡ d
 unfolding make
 same_places c d p q r s t =
     let x : Numbers = (c.baktun, c.katun, c.tun, c.uinal, c.kin) in
@@ -30,7 +31,7 @@ same_places c d p q r s t =
     let e : x ≡ y = cc in
     same_made x y e c.places d.places
 
--- the places of a number of days are known
+-- the places of a number of days are the only ones
 same_numbers : (b k t u n b' k' t' u' n' : ℕ) → k ≤ 19 → t ≤ 19 → u ≤ 17 → n ≤ 19 → k' ≤ 19 → t' ≤ 19 → u' ≤ 17 → n' ≤ 19 → 144_000 * b + 7_200 * k + 360 * t + 20 * u + n ≡ 144_000 * b' + 7_200 * k' + 360 * t' + 20 * u' + n' → (b ≡ b') × (k ≡ k') × (t ≡ t') × (u ≡ u') × (n ≡ n')
 same_numbers b k t u n b' k' t' u' n' i j l m i' j' l' m' e =
     let kin : n ≡ n' = omega arith in

@@ -1,10 +1,10 @@
 -- Rounds by remainders: what is a place by a remainder of the days moves one place on each day.
-use Rattle.std.proofs.Common.{◌≡◌, ℕ, zero, suc, ◌+◌, ◌-◌, ◌<◌, ◌%◌, ◌==◌, if◌then◌else◌, refl, sym, ap, ◌∙◌, arith, add-one, ℤ, pos, negsuc, ◌+ℤ◌, ◌-ℤ◌, unsigned_abs}
+use Rattle.std.proofs.Common.{◌≡◌, ℕ, zero, suc, ◌+◌, ◌-◌, ◌<◌, ◌%◌, ◌==◌, if◌then◌else◌, refl, sym, subst, ap, zero-add, ◌≤◌, ◌∙◌, arith, add-one, ℤ, pos, negsuc, ◌+ℤ◌, ◌-ℤ◌, unsigned_abs}
 use Rattle.std.proofs.Math.Nat.{mod-add-mod, mod_self, mod-eq_of_lt}
 use Rattle.std.specs.Int.{int_rem_euclid}
 use Rattle.std.proofs.lemmas.Bool.Decides.{nat_tests}
 use Rattle.std.proofs.lemmas.Int.{ints}
-use Rattle.maya_calendars.specs.Rounds.{epoch, number_after, number_before, after_steps, after_days, StepsOnEachDay}
+use Rattle.maya_calendars.specs.Rounds.{epoch, number_after, number_before, after_steps, after_days, round_number, StepsOnEachDay}
 
 below_zero_next : (n : ℕ) → negsuc (suc n) +ℤ pos 1 ≡ negsuc n
 below_zero_next n = omega (arith, ints)
@@ -66,9 +66,45 @@ place_next n (negsuc (suc a)) h =
     ap (place_in n) (below_zero_next a)
     ∙ down_next n (a % n) (suc a % n) (omega arith) (ap (λ k. k % n) (sym (add-one a)) ∙ mod_next n a h)
 
--- in the round of the numbers 1 to n the place and one is the number
-pub number_next : (n k j : ℕ) → k < n → j ≡ (if k + 1 == n then 0 else k + 1) → j + 1 ≡ number_after n (k + 1)
+-- in the round of the numbers 1 to n the number is the place and one
+number_next : (n k j : ℕ) → k < n → j ≡ (if k + 1 == n then 0 else k + 1) → j + 1 ≡ number_after n (k + 1)
 number_next n k j h e = grind (arith, nat_tests)
 
-pub number_undone : (n k : ℕ) → k < n → number_before n (number_after n (k + 1)) ≡ k + 1
+number_undone : (n k : ℕ) → k < n → number_before n (number_after n (k + 1)) ≡ k + 1
 number_undone n k h = grind (arith, nat_tests)
+
+-- the number that many days after the day at place k
+abbrev pub number_by : ℕ → ℕ → ℤ → ℕ
+number_by n k days = place_in n (days +ℤ pos k) + 1
+
+by_each_day : (n k : ℕ) → 0 < n → StepsOnEachDay (number_after n) (number_by n k)
+by_each_day n k h days =
+    let later : (days +ℤ pos 1) +ℤ pos k ≡ (days +ℤ pos k) +ℤ pos 1 = omega (arith, ints) in
+    number_next n (place_in n (days +ℤ pos k)) (place_in n ((days +ℤ pos 1) +ℤ pos k)) (place_below n (days +ℤ pos k) h) (ap (place_in n) later ∙ place_next n (days +ℤ pos k) h)
+
+by_undone : (n k : ℕ) → 0 < n → (days : ℤ) → number_before n (number_after n (number_by n k days)) ≡ number_by n k days
+by_undone n k h days = number_undone n (place_in n (days +ℤ pos k)) (place_below n (days +ℤ pos k) h)
+
+by_first : (n k first : ℕ) → k + 1 ≡ first → first ≤ n → number_by n k (pos 0) ≡ first
+by_first n k first e h =
+    let below : k < n = omega arith in
+    let small : (0 + k) % n ≡ k = ap (λ j. j % n) (zero-add k) ∙ mod-eq_of_lt below in
+    omega (arith, small)
+
+-- the remainder gives the number in the round
+pub round_number_is : (n k first : ℕ) (day : ℤ) → k + 1 ≡ first → first ≤ n → number_by n k (day -ℤ epoch) ≡ round_number n first day
+round_number_is n k first day e h =
+    let some : 0 < n = omega arith in
+    subst (λ f. number_by n k (day -ℤ epoch) ≡ after_days (number_after n) (number_before n) f (day -ℤ epoch)) (by_first n k first e h) (sym (after_days_are (number_after n) (number_before n) (number_by n k) (by_each_day n k some) (by_undone n k some) (day -ℤ epoch)))
+
+-- also as it is computed
+pub number_from_remainder : (n k first : ℕ) (day z d r : ℤ) → r ≡ int_rem_euclid z d → z ≡ (day -ℤ epoch) +ℤ pos k → d ≡ pos n → k + 1 ≡ first → first ≤ n → unsigned_abs r + 1 ≡ round_number n first day
+number_from_remainder n k first day z d r e f g h l =
+    let remainder : int_rem_euclid z d ≡ int_rem_euclid ((day -ℤ epoch) +ℤ pos k) (pos n) = cc in
+    ap (λ x. unsigned_abs x + 1) (e ∙ remainder) ∙ round_number_is n k first day h l
+
+-- which moves one place on each day
+pub round_number_each_day : (n k first : ℕ) → k + 1 ≡ first → first ≤ n → StepsOnEachDay (number_after n) (round_number n first)
+round_number_each_day n k first e h =
+    let some : 0 < n = omega arith in
+    subst (λ f. StepsOnEachDay (number_after n) (λ day. after_days (number_after n) (number_before n) f (day -ℤ epoch))) (by_first n k first e h) (each_day_from_epoch (number_after n) (number_before n) (number_by n k) (by_each_day n k some) (by_undone n k some))

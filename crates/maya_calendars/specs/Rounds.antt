@@ -1,6 +1,6 @@
 -- Names that move one place on in a round from each day to the next (Reingold and Dershowitz,
 -- Calendrical Calculations, "The Mayan Calendars").
-use Rattle.std.specs.Prelude.{◌≡◌, ℕ, zero, suc, ◌+◌, ◌-◌, ◌==◌, if◌then◌else◌, ℤ, pos, negsuc, neg_ℤ, ◌+ℤ◌}
+use Rattle.std.specs.Prelude.{◌≡◌, ℕ, zero, suc, ◌+◌, ◌-◌, ◌==◌, if◌then◌else◌, ℤ, pos, negsuc, neg_ℤ, ◌+ℤ◌, ◌-ℤ◌}
 
 -- the day number of the day whose long count is 0.0.0.0.0
 abbrev pub epoch : ℤ
@@ -23,6 +23,11 @@ after_steps step (suc n) a = step (after_steps step n a)
 unfoldable pub after_days : {A : Type 0} → (A → A) → (A → A) → A → ℤ → A
 after_days on back first (pos n) = after_steps on n first
 after_days on back first (negsuc n) = after_steps back (suc n) first
+
+-- the number of a day in the round of the numbers 1 to n, which is `first` on the epoch and moves one
+-- place on each day
+abbrev pub round_number : ℕ → ℕ → ℤ → ℕ
+round_number n first day = after_days (number_after n) (number_before n) first (day -ℤ epoch)
 
 -- a step on leads from the name of each day to the name of the next
 abbrev pub StepsOnEachDay : {A : Type 0} → (A → A) → (ℤ → A) → Type 0

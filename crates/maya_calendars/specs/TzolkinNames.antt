@@ -1,7 +1,7 @@
 -- The tzolkin: a number from 1 to 13 and one of twenty names, which both move one place on each day
 -- (Reingold and Dershowitz, Calendrical Calculations, "The Mayan Calendars").
-use Rattle.std.specs.Prelude.{ℕ, ◌-◌, ℤ, ◌-ℤ◌, List, [], ◌∷◌, codes, slice_get, unwrap_or}
-use Rattle.maya_calendars.specs.Rounds.{epoch, number_after, number_before, after_days}
+use Rattle.std.specs.Prelude.{ℕ, ◌-◌, ℤ, List, [], ◌∷◌, codes, slice_get, unwrap_or}
+use Rattle.maya_calendars.specs.Rounds.{number_after, round_number}
 use Rattle.maya_calendars.specs.declared.tzolkin.TzolkinName.{TzolkinName}
 use Rattle.maya_calendars.specs.declared.tzolkin.TzolkinName.TheVariants.{Imix, Ik, Akbal, Kan, Chicchan, Cimi, Manik, Lamat, Muluc, Oc, Chuen, Eb, Ben, Ix, Men, Cib, Caban, Etznab, Cauac, Ahau}
 
@@ -36,14 +36,10 @@ name_texts = codes "Imix" ∷ codes "Ik" ∷ codes "Akbal" ∷ codes "Kan" ∷ c
 abbrev pub name_text : ℕ → List ℕ
 name_text place = unwrap_or (slice_get name_texts (place - 1)) []
 
--- the tzolkin after a tzolkin, each as its number and the place of its name
+-- the tzolkin of a day, as its number and the place of its name; that of the epoch is 4 Ahau
+abbrev pub tzolkin_of : ℤ → ℕ × ℕ
+tzolkin_of day = (round_number 13 4 day, round_number 20 (name_place Ahau) day)
+
+-- the tzolkin after a tzolkin
 abbrev pub tzolkin_after : ℕ × ℕ → ℕ × ℕ
 tzolkin_after (number, name) = (number_after 13 number, number_after 20 name)
-
--- and the tzolkin before it
-abbrev pub tzolkin_before : ℕ × ℕ → ℕ × ℕ
-tzolkin_before (number, name) = (number_before 13 number, number_before 20 name)
-
--- the tzolkin of a day; that of the epoch is 4 Ahau
-abbrev pub tzolkin_of : ℤ → ℕ × ℕ
-tzolkin_of day = after_days tzolkin_after tzolkin_before (4, name_place Ahau) (day -ℤ epoch)

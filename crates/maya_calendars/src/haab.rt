@@ -2,7 +2,7 @@ ghost use Rattle.std.specs.Prelude.{◌≡◌, ◌≤◌, ℤ};
 ghost use Rattle.maya_calendars.specs.HaabNames.{month_number, month_name, last_day, haab_after, haab_of};
 ghost use Rattle.maya_calendars.specs.Rounds.{StepsOnEachDay};
 
-use crate::epoch::days_since_epoch;
+use crate::round::number_on;
 use day_numbers::Day;
 
 /// A month of the haab: eighteen of twenty days, and Uayeb of five.
@@ -122,7 +122,8 @@ pub fn haab_on(day: Day) -> Haab
     ensures value { (result.day, month_number result.month) ≡ haab_of day.number }
     ensures each_day { StepsOnEachDay haab_after haab_of }
 {
-    let place = (days_since_epoch(day) + 348).rem_euclid(365) as u16;
+    // 8 Cumku is the 349th of the 365 names, 0 Pop the first.
+    let place = number_on(day, 349, 365) - 1;
     Haab {
         day: (place % 20) as u8,
         month: HaabMonth::numbered((place / 20) as u8 + 1),

@@ -9,6 +9,7 @@ mod epoch;
 mod haab;
 mod long_count;
 mod long_days;
+mod round;
 mod tzolkin;
 
 pub use haab::{Haab, haab_on};

@@ -2,7 +2,7 @@ ghost use Rattle.std.specs.Prelude.{◌≡◌, ◌≤◌};
 ghost use Rattle.maya_calendars.specs.TzolkinNames.{name_place, name_text, tzolkin_after, tzolkin_of};
 ghost use Rattle.maya_calendars.specs.Rounds.{StepsOnEachDay};
 
-use crate::epoch::days_since_epoch;
+use crate::round::number_on;
 use day_numbers::Day;
 
 /// A day name of the tzolkin.
@@ -116,9 +116,8 @@ pub fn tzolkin_on(day: Day) -> Tzolkin
     ensures value { (result.number, name_place result.name) ≡ tzolkin_of day.number }
     ensures each_day { StepsOnEachDay tzolkin_after tzolkin_of }
 {
-    let days = days_since_epoch(day);
-    let number = (days + 3).rem_euclid(13) as u8 + 1;
-    let place = (days + 19).rem_euclid(20) as u8 + 1;
+    let number = number_on(day, 4, 13) as u8;
+    let place = number_on(day, 20, 20) as u8;
     Tzolkin {
         number,
         name: TzolkinName::at_place(place),

@@ -3,7 +3,7 @@ use Rattle.std.proofs.Common.{◌≡◌, ℕ, zero, suc, ◌+◌, ◌-◌, ◌*�
 use Rattle.std.proofs.lemmas.Bool.Decides.{nat_tests}
 use Rattle.day_numbers.specs.Days.{weekday_number}
 use Rattle.day_numbers.proofs.SignedArithmetic.{signed_arith}
-use Rattle.lunar_calendars.specs.Hebrew.{is_leap_year, months_before, epoch, next_allowed, postponed, new_year_of}
+use Rattle.lunar_calendars.specs.Hebrew.{is_leap_year, months_before, epoch, next_allowed, from_noon, postponed, new_year_of}
 use Rattle.lunar_calendars.proofs.MonthSums.{months_closed}
 
 weekday_after : (d : ℕ) → weekday_number (epoch +ℤ pos d) ≡ (d + 1) % 7
@@ -16,7 +16,7 @@ falls_on_place place d = (d + 1) % 7 == place
 abbrev pub is_closed : ℕ → Bool
 is_closed d = falls_on_place 0 d || falls_on_place 3 d || falls_on_place 5 d
 
-abbrev pub allowed : ℕ → ℕ
+unfoldable pub allowed : ℕ → ℕ
 allowed d = if is_closed d then d + 1 else d
 
 abbrev pub opening : Bool → Bool → ℕ → ℕ → ℕ
@@ -33,6 +33,7 @@ later : (d k : ℕ) → (epoch +ℤ pos d) +ℤ pos k ≡ epoch +ℤ pos (d + k)
 later d k = omega (arith, signed_arith)
 
 pub next_allowed_after : (d : ℕ) → next_allowed (epoch +ℤ pos d) ≡ epoch +ℤ pos (allowed d)
+unfolding allowed
 next_allowed_after d = rw (weekday_after d) (chosen (is_closed d) _ _ _ _ (later d 1) refl)
 
 pub postponed_after : (leap after_leap : Bool) (d t : ℕ) → postponed leap after_leap (epoch +ℤ pos d) t ≡ epoch +ℤ pos (opening leap after_leap d t)
@@ -50,6 +51,9 @@ opens_after leap after_leap d t r e = ap (λ n. epoch +ℤ pos n) e ∙ sym (pos
 pub allowed_from : (d r : ℕ) → epoch +ℤ pos r ≡ next_allowed (epoch +ℤ pos d) → r ≡ allowed d
 allowed_from d r e = omega (arith, signed_arith, e ∙ next_allowed_after d)
 
+pub noon_from : (d t r : ℕ) → epoch +ℤ pos r ≡ from_noon (epoch +ℤ pos d) t → r ≡ (if nat_le 19_440 t then d + 1 else d)
+noon_from d t r e = omega (arith, signed_arith, e ∙ chosen (nat_le 19_440 t) _ _ _ _ (later d 1) refl)
+
 -- the parts from that Monday to the molad of the year after n years, and the days to that new year
 abbrev pub parts_after : ℕ → ℕ
 parts_after n = 5_604 + 765_433 * ((235 * n + 1) / 19)
@@ -64,11 +68,12 @@ new_year_is n =
     rw (months_closed n, same) (postponed_after (is_leap_year (suc n)) (is_leap_year n) (parts_after n / 25_920) (parts_after n % 25_920))
 
 pub first_new_year : new_year_after 0 ≡ 0
-unfolding new_year_after
+unfolding new_year_after allowed
 first_new_year = refl
 
 -- a year opens at most two days after its molad
 opening_bounds : (leap after_leap : Bool) (d t : ℕ) → (d ≤ opening leap after_leap d t) × (opening leap after_leap d t ≤ d + 2)
+unfolding allowed
 opening_bounds leap after_leap d t = grind (arith, nat_tests)
 
 pub new_year_bounds : (n : ℕ) → (parts_after n / 25_920 ≤ new_year_after n) × (new_year_after n ≤ parts_after n / 25_920 + 2)

@@ -6,7 +6,7 @@ use Rattle.day_numbers.specs.Rules.{total_days, days_of_years}
 use Rattle.day_numbers.proofs.RulesLemmas.{years-zero, years-suc}
 use Rattle.day_numbers.proofs.SignedArithmetic.{signed_arith}
 use Rattle.lunar_calendars.specs.Hebrew.{IsYearLength, is_leap_year, epoch, new_year_of, days_in_year, months_by_length, months_of_year, year_lengths}
-use Rattle.lunar_calendars.proofs.NewYears.{opening, parts_after, new_year_after, new_year_is, first_new_year, new_year_bounds}
+use Rattle.lunar_calendars.proofs.NewYears.{allowed, opening, parts_after, new_year_after, new_year_is, first_new_year, new_year_bounds}
 
 -- n lies from low to high above m
 pub record IsFrom (low high m n : ℕ) : Type 0 where
@@ -30,7 +30,7 @@ IsStep leap a c q t r =
     IsFrom (if leap then 383 else 353) (if leap then 385 else 355) (opening leap a (7 * q + r) t) (opening c leap d ((t + (if leap then 23_269 else 9_516)) % 25_920))
 
 year_step : (leap a c : Bool) (q t : ℕ) → t < 25_920 → (r : ℕ) → r < 7 → IsStep leap a c q t r
-unfolding IsStep
+unfolding IsStep allowed
 year_step false a c q t h =
     weekday_cases (λ r. IsStep false a c q t r)
     (grind (arith, nat_tests)) (grind (arith, nat_tests)) (grind (arith, nat_tests)) (grind (arith, nat_tests)) (grind (arith, nat_tests)) (grind (arith, nat_tests)) (grind (arith, nat_tests))

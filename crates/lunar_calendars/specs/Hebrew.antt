@@ -41,6 +41,10 @@ molad_time year = molad_parts year % 25_920
 abbrev pub falls_on : Weekday → ℤ → Bool
 falls_on weekday day = weekday_number day == weekday_place weekday
 
+-- a molad at noon, 18 hours into the day, or later counts for the day after
+abbrev pub from_noon : ℤ → ℕ → ℤ
+from_noon day time = if nat_le 19_440 time then day +ℤ pos 1 else day
+
 -- no year opens on a Sunday, a Wednesday or a Friday
 abbrev pub next_allowed : ℤ → ℤ
 next_allowed day = if falls_on Sunday day || falls_on Wednesday day || falls_on Friday day then day +ℤ pos 1 else day
@@ -48,13 +52,12 @@ next_allowed day = if falls_on Sunday day || falls_on Wednesday day || falls_on 
 -- the day that a year opens on, from the day and the time of its molad, by the first case that applies:
 -- a common year whose molad is on a Tuesday at 9 hours and 204 parts or later opens on that Thursday;
 -- a year after a leap year whose molad is on a Monday at 15 hours and 589 parts or later opens on that Tuesday;
--- any other opens on the day of its molad, or the day after it from noon (18 hours) on, and the day after that where no
--- year may open on it
+-- any other opens on the day that its molad counts for, or on the day after where no year may open on it
 abbrev pub postponed : Bool → Bool → ℤ → ℕ → ℤ
 postponed leap after_leap day time =
     if not leap && falls_on Tuesday day && nat_le 9_924 time then day +ℤ pos 2
     else (if after_leap && falls_on Monday day && nat_le 16_789 time then day +ℤ pos 1
-    else next_allowed (if nat_le 19_440 time then day +ℤ pos 1 else day))
+    else next_allowed (from_noon day time))
 
 -- the new year, 1 Tishri; before year 1 the leap rule is asked of the number 0
 unfoldable pub new_year_of : ℕ → ℤ

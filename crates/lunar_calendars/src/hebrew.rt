@@ -1,7 +1,7 @@
 ghost use Rattle.std.specs.Prelude.{◌≡◌, ◌≤◌, ◌<◌, ◌+◌, ◌-◌, ℤ, pos, ◌+ℤ◌, ◌-ℤ◌, ◌≤ℤ◌, ◌<ℤ◌, IsTrue, length, Contains};
 ghost use Rattle.day_numbers.specs.Rules.{total_days, are_months, IsDateOf, day_number_of, first_day_of};
 ghost use Rattle.day_numbers.proofs.DateLemmas.{rules_one_date, rules_have_days};
-ghost use Rattle.lunar_calendars.specs.Hebrew.{is_leap_year, epoch, next_allowed as next_allowed_of, postponed, new_year_of, days_in_year, year_lengths, IsYearLength, months_by_length, hebrew_rules};
+ghost use Rattle.lunar_calendars.specs.Hebrew.{is_leap_year, epoch, from_noon as from_noon_of, next_allowed as next_allowed_of, postponed, new_year_of, days_in_year, year_lengths, IsYearLength, months_by_length, hebrew_rules};
 
 use day_numbers::from_year_one::{FromYearOne, YearsFromOne};
 use day_numbers::rules::{Month, date_by_rules, day_by_rules};
@@ -43,10 +43,19 @@ fn is_leap(year: u32) -> bool
     (7 * year + 1) % 19 < 7
 }
 
+/// The day of a molad, or the day after it from noon on.
+fn from_noon(day: u32, time: u32) -> u32
+    requires { day ≤ 49_999_998 }
+    ensures value { epoch +ℤ pos result ≡ from_noon_of (epoch +ℤ pos day) time }
+    ensures near { result ≤ day + 1 }
+{
+    if time >= NOON { day + 1 } else { day }
+}
+
 /// The day, or the day after it where no year may open on it.
 fn next_allowed(day: u32) -> u32
     requires { day ≤ 49_999_999 }
-    ensures allowed { epoch +ℤ pos result ≡ next_allowed_of (epoch +ℤ pos day) }
+    ensures value { epoch +ℤ pos result ≡ next_allowed_of (epoch +ℤ pos day) }
     ensures near { result ≤ day + 1 }
 {
     match (day + 1) % 7 {
@@ -62,12 +71,12 @@ fn opening_day(leap: bool, after_leap: bool, day: u32, time: u32) -> u32
     ensures near { result ≤ day + 2 }
 {
     let weekday = (day + 1) % 7;
-    if !leap && weekday == TUESDAY && time >= 9_924 {
+    if weekday == TUESDAY && !leap && time >= 9_924 {
         day + 2
-    } else if after_leap && weekday == MONDAY && time >= 16_789 {
+    } else if weekday == MONDAY && after_leap && time >= 16_789 {
         day + 1
     } else {
-        next_allowed(if time >= NOON { day + 1 } else { day })
+        next_allowed(from_noon(day, time))
     }
 }
 

@@ -11,13 +11,13 @@ ghost use Rattle.lane_passages.specs.Conversion.{half, Halves};
 mod promise;
 mod worker;
 
-use lane_rings::{Closed, Item, Receiver, lane};
+use lane_rings::{Closed, Item, Receiver, Sender, Unconfirmed, lane};
 use promise::{Halved, Halving, Sending};
 use std::alloc::{AllocError, Global};
 use std::snapshot::Snapshot;
 use std::sync::Wait;
 use std::thread;
-use std::thread::Threads;
+use std::thread::{PromisedHandle, Scope, Threads};
 use worker::{halve_all, send_all};
 
 /// Why a list did not pass.
@@ -31,6 +31,62 @@ pub enum PassageFault {
 impl From<AllocError> for PassageFault {
     fn from(_refused: AllocError) -> PassageFault {
         PassageFault::NoMemory
+    }
+}
+
+impl From<Unconfirmed> for PassageFault {
+    fn from(_unconfirmed: Unconfirmed) -> PassageFault {
+        PassageFault::Unconfirmed
+    }
+}
+
+// Starts the thread that sends the numbers.
+fn start_sending<'s, E, R: Threads + Wait + Sync>(
+    scope: &Scope<'s, E>,
+    rt: &'s R,
+    sender: Sender<u64>,
+    numbers: Vec<u64>,
+) -> Result<PromisedHandle<Closed<u64>, Sending>, PassageFault>
+    requires { sent sender ≡ [] }
+    ensures lane { IfOk result (λ child. sender_lane child.promise.sender.value ≡ sender_lane sender) }
+    ensures numbers { IfOk result (λ child. child.promise.numbers.value.items ≡ numbers.items) }
+{
+    let promise = Sending {
+        sender: Snapshot::of(&sender),
+        numbers: Snapshot::of(&numbers),
+    };
+    let sending = move || -> Closed<u64>
+        requires { sent sender ≡ [] }
+        ensures { Sends (sender_lane sender) numbers.items result }
+    { send_all(rt, sender, numbers.as_slice()) };
+    match scope.spawn_with(promise, sending) {
+        Ok(child) => Ok(child),
+        Err(_) => Err(PassageFault::NoThread),
+    }
+}
+
+// Starts the thread that halves numbers on their way from the one lane into the other.
+fn start_halving<'s, E, R: Threads + Wait + Sync>(
+    scope: &Scope<'s, E>,
+    rt: &'s R,
+    receiver: Receiver<u64>,
+    into: Sender<u64>,
+) -> Result<PromisedHandle<Halved, Halving>, PassageFault>
+    requires { (taken receiver ≡ []) × (sent into ≡ []) }
+    ensures from { IfOk result (λ child. receiver_lane child.promise.from.value ≡ receiver_lane receiver) }
+    ensures into { IfOk result (λ child. sender_lane child.promise.into.value ≡ sender_lane into) }
+{
+    let promise = Halving {
+        from: Snapshot::of(&receiver),
+        into: Snapshot::of(&into),
+    };
+    let halving = move || -> Halved
+        requires { (taken receiver ≡ []) × (sent into ≡ []) }
+        ensures { Halves (receiver_lane receiver) (sender_lane into) result }
+    { halve_all(rt, receiver, into) };
+    match scope.spawn_with(promise, halving) {
+        Ok(child) => Ok(child),
+        Err(_) => Err(PassageFault::NoThread),
     }
 }
 
@@ -74,28 +130,10 @@ pub fn passed<R: Threads + Wait + Sync>(
             ensures { IfOk result (λ out. out.items ≡ numbers.items) }
         {
             let mut receiver = receiver;
-            let promise = Sending {
-                sender: Snapshot::of(&sender),
-                numbers: Snapshot::of(&numbers),
-            };
-            let sending = move || -> Closed<u64>
-                requires { sent sender ≡ [] }
-                ensures { Sends (sender_lane sender) numbers.items result }
-            { send_all(rt, sender, numbers.as_slice()) };
-            let Ok(child) = scope.spawn_with(promise, sending) else {
-                return Err(PassageFault::NoThread);
-            };
-            match take_all(rt, alloc, &mut receiver) {
-                Ok((out, _)) => match receiver.confirm(child.join(rt)) {
-                    Ok(_) => Ok(out),
-                    Err(_) => Err(PassageFault::Unconfirmed),
-                },
-                Err(fault) => {
-                    drop(receiver);
-                    child.join(rt);
-                    Err(fault)
-                }
-            }
+            let reader = start_sending(scope, rt, sender, numbers)?;
+            let (out, _) = take_all(rt, alloc, &mut receiver)?;
+            receiver.confirm(reader.join(rt))?;
+            Ok(out)
         },
     )
 }
@@ -122,45 +160,18 @@ pub fn halved<R: Threads + Wait + Sync>(
             ensures { IfOk result (λ out. out.items ≡ map half numbers.items) }
         {
             let mut last = last;
-            let promise = Halving {
-                from: Snapshot::of(&receiver),
-                into: Snapshot::of(&into),
-            };
-            let halving = move || -> Halved
-                requires { (taken receiver ≡ []) × (sent into ≡ []) }
-                ensures { Halves (receiver_lane receiver) (sender_lane into) result }
-            { halve_all(rt, receiver, into) };
-            let Ok(converter) = scope.spawn_with(promise, halving) else {
-                return Err(PassageFault::NoThread);
-            };
-            let promise = Sending {
-                sender: Snapshot::of(&sender),
-                numbers: Snapshot::of(&numbers),
-            };
-            let sending = move || -> Closed<u64>
-                requires { sent sender ≡ [] }
-                ensures { Sends (sender_lane sender) numbers.items result }
-            { send_all(rt, sender, numbers.as_slice()) };
-            let Ok(reader) = scope.spawn_with(promise, sending) else {
+            let converter = start_halving(scope, rt, receiver, into)?;
+            let reader = start_sending(scope, rt, sender, numbers)?;
+            let Ok((out, _)) = take_all(rt, alloc, &mut last) else {
+                // The first lane's receiver stands in what the converter hands back, so it goes with the join.
+                drop(last);
                 converter.join(rt);
-                return Err(PassageFault::NoThread);
-            };
-            let out = match take_all(rt, alloc, &mut last) {
-                Ok((out, _)) => out,
-                Err(fault) => {
-                    drop(last);
-                    converter.join(rt);
-                    reader.join(rt);
-                    return Err(fault);
-                }
+                return Err(PassageFault::Unconfirmed);
             };
             let Halved { receiver, closed } = converter.join(rt);
-            let first = receiver.confirm(reader.join(rt));
-            let second = last.confirm(closed);
-            match (first, second) {
-                (Ok(_), Ok(_)) => Ok(out),
-                _ => Err(PassageFault::Unconfirmed),
-            }
+            receiver.confirm(reader.join(rt))?;
+            last.confirm(closed)?;
+            Ok(out)
         },
     )
 }

@@ -11,6 +11,15 @@ use std::thread::Threads;
 // As many looks as an end of a lane takes before it yields.
 const LOOKS_BEFORE_YIELD: u32 = 64;
 
+// Waits for the other end of a plain ring as an end of a lane does.
+fn pause(looks: &mut u32) {
+    if *looks < LOOKS_BEFORE_YIELD {
+        *looks += 1;
+    } else {
+        thread::yield_now();
+    }
+}
+
 fn push_all<T: Copy>(rt: &impl Wait, mut producer: Producer<T>, items: u64, item: T) {
     for _ in 0..items {
         let mut looks = 0;
@@ -18,11 +27,7 @@ fn push_all<T: Copy>(rt: &impl Wait, mut producer: Producer<T>, items: u64, item
             if producer.push(item).is_ok() {
                 break;
             }
-            if looks < LOOKS_BEFORE_YIELD {
-                looks += 1;
-            } else {
-                thread::yield_now();
-            }
+            pause(&mut looks);
         }
     }
 }
@@ -34,11 +39,7 @@ fn pop_all<T: Copy>(rt: &impl Wait, mut consumer: Consumer<T>, items: u64) {
             if consumer.pop().is_ok() {
                 break;
             }
-            if looks < LOOKS_BEFORE_YIELD {
-                looks += 1;
-            } else {
-                thread::yield_now();
-            }
+            pause(&mut looks);
         }
     }
 }

@@ -1,3 +1,4 @@
+pub mod Remainder
 pub mod TwelveMonths
 pub mod ThirteenMonths
 pub mod Gregorian

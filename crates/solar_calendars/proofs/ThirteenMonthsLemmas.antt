@@ -3,7 +3,7 @@ use Rattle.std.proofs.Common.{◌≡◌, ℕ, zero, suc, ◌+◌, ◌*◌, ◌/�
 use Rattle.std.proofs.lemmas.Bool.Decides.{nat_tests}
 use Rattle.day_numbers.specs.Rules.{days_of_years, total_days}
 use Rattle.day_numbers.proofs.RulesLemmas.{years-zero, years-suc}
-use Rattle.solar_calendars.specs.ThirteenMonths.{thirteen_months, is_third_of_four}
+use Rattle.solar_calendars.specs.ThirteenMonths.{thirteen_months, is_third_of_four, is_never}
 
 -- the days of a year, by whether it is a leap year
 abbrev pub length_by : (ℤ → Bool) → ℤ → ℕ
@@ -19,3 +19,7 @@ pub third_of_four_sum : (n : ℕ) → days_of_years (λ y. total_days (thirteen_
 third_of_four_sum zero = years-zero _
 third_of_four_sum (suc n) =
     omega (arith, years-suc (length_by is_third_of_four) n, length_is is_third_of_four (suc n), third_of_four_step (suc n), third_of_four_sum n)
+
+pub never_sum : (n : ℕ) → days_of_years (λ y. total_days (thirteen_months (is_never y))) n ≡ 365 * n
+never_sum zero = years-zero _
+never_sum (suc n) = omega (arith, years-suc (length_by is_never) n, never_sum n)

@@ -1,7 +1,7 @@
 -- Calendars of twelve months of 30 days and a short thirteenth month, whose years begin with year 1
 -- (Reingold and Dershowitz, Calendrical Calculations, "Calendar Basics" for the Egyptian and the Armenian calendar
 -- and "The Coptic and Ethiopic Calendars").
-use Rattle.std.specs.Prelude.{Bool, List, [], ◌∷◌, ◌==◌, if◌then◌else◌, ℤ, pos}
+use Rattle.std.specs.Prelude.{Bool, false, List, [], ◌∷◌, ◌==◌, if◌then◌else◌, ℤ, pos, neg_ℤ}
 use Rattle.day_numbers.specs.declared.rules.Month.{Month}
 use Rattle.day_numbers.specs.Rules.{Rules, from_one, numbered_from}
 use Rattle.solar_calendars.specs.Remainder.{remainder}
@@ -22,3 +22,19 @@ is_third_of_four y = remainder y 4 == 3
 -- from 29 August 284, Julian
 abbrev pub coptic_rules : Rules
 coptic_rules = thirteen_month_rules (pos 103_605) is_third_of_four
+
+-- from 29 August 8, Julian
+abbrev pub ethiopic_rules : Rules
+ethiopic_rules = thirteen_month_rules (pos 2_796) is_third_of_four
+
+-- no year
+abbrev pub is_never : ℤ → Bool
+is_never y = false
+
+-- from 26 February 747 before our era, Julian
+abbrev pub egyptian_rules : Rules
+egyptian_rules = thirteen_month_rules (neg_ℤ (pos 272_787)) is_never
+
+-- from 11 July 552, Julian
+abbrev pub armenian_rules : Rules
+armenian_rules = thirteen_month_rules (pos 201_443) is_never

@@ -1,16 +1,22 @@
-//! Calendars of the sun: Gregorian, Julian and Coptic.
 //!
 //! Each is a unit type with [`day_numbers::ArithmeticCalendar`], by the rules of Reingold and
-//! Dershowitz, *Calendrical Calculations*.
+//! Dershowitz, *Calendrical Calculations*, and for the week date of ISO 8601. The Gregorian calendar is
+//! computed by `jiff` where it has the year.
 #![tactic(auto)]
 
+mod armenian;
 mod coptic;
+mod egyptian;
+mod ethiopic;
 mod gregorian;
 mod julian;
 mod thirteen_months;
 mod twelve_months;
 
+pub use armenian::Armenian;
 pub use coptic::Coptic;
+pub use egyptian::Egyptian;
+pub use ethiopic::Ethiopic;
 pub use gregorian::Gregorian;
 pub use julian::Julian;
 

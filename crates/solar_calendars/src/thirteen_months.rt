@@ -5,7 +5,7 @@
 ghost use Rattle.std.specs.Prelude.{◌≡◌, ◌≤◌, ◌<◌, ◌+◌, Bool, ℤ, pos, neg_ℤ, IsTrue, length};
 ghost use Rattle.day_numbers.specs.Days.{IsBetween};
 ghost use Rattle.day_numbers.specs.Rules.{days_of_years as days_of, total_days, are_months};
-ghost use Rattle.solar_calendars.specs.ThirteenMonths.{thirteen_months as thirteen_months_of, is_third_of_four};
+ghost use Rattle.solar_calendars.specs.ThirteenMonths.{thirteen_months as thirteen_months_of, is_third_of_four, is_never};
 
 use day_numbers::from_year_one::FromYearOne;
 use day_numbers::rules::Month;
@@ -94,6 +94,25 @@ impl LeapRule for ThirdOfFour {
     #[tactic(auto, using(crate::proofs::ThirteenMonthsLemmas::third_of_four_sum))]
     fn years_in(days: u32) -> u32 {
         (4 * days + 2) / 1461
+    }
+}
+
+/// No year is a leap year.
+pub struct NoLeapYear;
+
+impl LeapRule for NoLeapYear {
+    ghost is_leap_year = { is_never };
+
+    fn is_leap(_year: u32) -> bool {
+        false
+    }
+
+    fn days_of_years(years: u32) -> u32 {
+        365 * years
+    }
+
+    fn years_in(days: u32) -> u32 {
+        days / 365
     }
 }
 

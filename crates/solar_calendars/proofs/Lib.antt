@@ -1,3 +1,4 @@
 pub mod ThirteenMonthsLemmas
+pub mod FrenchLemmas
 pub mod GregorianLemmas
 pub mod JulianLemmas

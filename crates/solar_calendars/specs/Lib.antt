@@ -3,3 +3,4 @@ pub mod TwelveMonths
 pub mod ThirteenMonths
 pub mod Gregorian
 pub mod Julian
+pub mod French

@@ -1,3 +1,4 @@
+//! Calendars of the sun: Gregorian, ISO week, Julian, Coptic, Ethiopic, Egyptian, Armenian and French.
 //!
 //! Each is a unit type with [`day_numbers::ArithmeticCalendar`], by the rules of Reingold and
 //! Dershowitz, *Calendrical Calculations*, and for the week date of ISO 8601. The Gregorian calendar is
@@ -8,6 +9,7 @@ mod armenian;
 mod coptic;
 mod egyptian;
 mod ethiopic;
+mod french;
 mod gregorian;
 mod julian;
 mod thirteen_months;
@@ -17,6 +19,7 @@ pub use armenian::Armenian;
 pub use coptic::Coptic;
 pub use egyptian::Egyptian;
 pub use ethiopic::Ethiopic;
+pub use french::French;
 pub use gregorian::Gregorian;
 pub use julian::Julian;
 

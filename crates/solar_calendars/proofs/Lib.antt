@@ -2,3 +2,4 @@ pub mod ThirteenMonthsLemmas
 pub mod FrenchLemmas
 pub mod GregorianLemmas
 pub mod JulianLemmas
+pub mod IsoWeekLemmas

@@ -11,6 +11,7 @@ mod egyptian;
 mod ethiopic;
 mod french;
 mod gregorian;
+mod iso_week;
 mod julian;
 mod thirteen_months;
 mod twelve_months;
@@ -21,6 +22,7 @@ pub use egyptian::Egyptian;
 pub use ethiopic::Ethiopic;
 pub use french::French;
 pub use gregorian::Gregorian;
+pub use iso_week::IsoWeek;
 pub use julian::Julian;
 
 #[cfg(test)]

@@ -3,3 +3,4 @@ pub mod FrenchLemmas
 pub mod GregorianLemmas
 pub mod JulianLemmas
 pub mod IsoWeekLemmas
+mod KnownDates

@@ -5,9 +5,7 @@
 #![tactic(auto)]
 
 use day_numbers::{ArithmeticCalendar, Day, Ymd};
-use solar_calendars::{
-    Armenian, Coptic, Egyptian, Ethiopic, French, Gregorian, IsoWeek, Julian,
-};
+use solar_calendars::{Armenian, Coptic, Egyptian, Ethiopic, French, Gregorian, IsoWeek, Julian};
 use std::alloc::Global;
 use std::time::{Clock, Instant};
 use std::{env, io};

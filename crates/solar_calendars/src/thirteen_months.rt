@@ -86,12 +86,10 @@ impl LeapRule for ThirdOfFour {
         year % 4 == 3
     }
 
-    #[tactic(auto, using(crate::proofs::ThirteenMonthsLemmas::third_of_four_sum))]
     fn days_of_years(years: u32) -> u32 {
         365 * years + (years + 1) / 4
     }
 
-    #[tactic(auto, using(crate::proofs::ThirteenMonthsLemmas::third_of_four_sum))]
     fn years_in(days: u32) -> u32 {
         (4 * days + 2) / 1461
     }

@@ -1,19 +1,19 @@
 -- Gregorian years in closed form, and jiff's dates by the rules.
-use Rattle.std.proofs.Common.{◌≡◌, ◌↔◌, ℕ, zero, suc, ◌+◌, ◌-◌, ◌*◌, ◌/◌, ◌%◌, ◌≤◌, ◌<◌, Bool, true, false, refl, sym, ap, ◌∙◌, cond, arith, ℤ, pos, negsuc, neg_ℤ, ◌+ℤ◌, ◌-ℤ◌, ◌*ℤ◌, ◌≤ℤ◌, ◌<ℤ◌}
+use Rattle.std.proofs.Common.{◌≡◌, ◌↔◌, ℕ, zero, suc, ◌+◌, ◌-◌, ◌/◌, ◌≤◌, Bool, refl, sym, ◌∙◌, cond, arith, ℤ, pos, negsuc, neg_ℤ, ◌+ℤ◌, ◌-ℤ◌, ◌*ℤ◌, ◌≤ℤ◌, ◌<ℤ◌}
 use Rattle.std.proofs.lemmas.Bool.Decides.{nat_tests}
 use Rattle.std.specs.Int.{int_div_euclid}
 use Rattle.day_numbers.specs.Days.{IsDayNumber, IsBetween}
-use Rattle.day_numbers.specs.Rules.{with_zero, HasYear, IsDateOf, year_length, year_start, total_days, days_of_month, days_before_month, day_number_of}
+use Rattle.day_numbers.specs.Rules.{with_zero, HasYear, IsDateOf, year_length, year_start, days_of_month, days_before_month, day_number_of}
 use Rattle.day_numbers.proofs.RulesLemmas.{next_year, start_is, start_is_from, date_in_year}
-use Rattle.day_numbers.proofs.SignedArithmetic.{up, down, signed_arith}
+use Rattle.day_numbers.proofs.SignedArithmetic.{signed_arith}
 use Rattle.solar_calendars.specs.TwelveMonths.{twelve_months}
-use Rattle.solar_calendars.specs.Gregorian.{gregorian_rules, is_gregorian_leap, leap_days_of}
+use Rattle.solar_calendars.specs.Gregorian.{gregorian_rules, is_gregorian_leap}
 use Rattle.jiff_core.specs.Calendar.{is_leap_year, days_in_year, days_in_month, days_of_months, day_count, days_from_civil, IsDate, IsEpochDay}
 use Rattle.jiff_core.specs.declared.civil.date.Date.{Date}
 use Rattle.jiff_core.specs.Date.{epoch_day, ordinal}
 use Rattle.jiff_core.proofs.DateLemmas.{epoch_day_range}
 use Rattle.jiff_core.proofs.CalendarLemmas.{day_count-next_year, days_from_civil-day_count, days_of_months_table, day_count-day_of_year}
-use Rattle.jiff_core.proofs.MarchLemmas.{day_count-early, leap_day}
+use Rattle.jiff_core.proofs.MarchLemmas.{day_count-early}
 
 abbrev pub closed : ℤ → ℤ
 closed y = pos 365 *ℤ (y -ℤ pos 1) +ℤ int_div_euclid (y -ℤ pos 1) (pos 4) -ℤ int_div_euclid (y -ℤ pos 1) (pos 100) +ℤ int_div_euclid (y -ℤ pos 1) (pos 400) +ℤ pos 1
@@ -70,11 +70,16 @@ month_days y m low high = rw (leap_same y) (grind (arith, nat_tests))
 month_before : (y : ℤ) (m : ℕ) → 1 ≤ m → m ≤ 12 → days_before_month (twelve_months (is_gregorian_leap y)) m ≡ days_of_months y (m - 1)
 month_before y m low high = rw (leap_same y) (grind (arith, nat_tests, days_of_months_table y (m - 1) (omega arith)))
 
--- the code's sum is the first day of the year
-pub gregorian_sum : (y x a z : ℤ) → x ≡ y -ℤ pos 1 → a ≡ leap_days_of x → z ≡ pos 365 *ℤ x +ℤ a +ℤ pos 1 → z ≡ day_number_of gregorian_rules y 1 1
-gregorian_sum y x a z e p s =
-    let q : a ≡ leap_days_of (y -ℤ pos 1) = p ∙ ap leap_days_of e in
-    omega (arith, signed_arith, q, e, s, gregorian_start y (any_year y))
+-- the leap days of so many years, and the first day of the year after them
+pub leap_days_are : (n a : ℤ) → a ≡ int_div_euclid n (pos 4) -ℤ int_div_euclid n (pos 100) +ℤ int_div_euclid n (pos 400) → year_start gregorian_rules (n +ℤ pos 1) ≡ pos 365 *ℤ n +ℤ a +ℤ pos 1
+leap_days_are n a e =
+    let same : n +ℤ pos 1 -ℤ pos 1 ≡ n = omega (arith, signed_arith) in
+    rw (← gregorian_start (n +ℤ pos 1) (any_year (n +ℤ pos 1)), same) (omega (arith, signed_arith, e))
+
+pub first_is : (y n a z : ℤ) → n ≡ y -ℤ pos 1 → year_start gregorian_rules (n +ℤ pos 1) ≡ pos 365 *ℤ n +ℤ a +ℤ pos 1 → z ≡ pos 365 *ℤ n +ℤ a +ℤ pos 1 → z ≡ year_start gregorian_rules y
+first_is y n a z e p s =
+    let same : n +ℤ pos 1 ≡ y = omega (arith, signed_arith, e) in
+    s ∙ sym (rw same at p)
 
 -- jiff's dates are the rules' dates
 valid_month : (y : ℤ) (m d : ℕ) → (1 ≤ m) × (m ≤ 12) → d ≤ days_of_month (twelve_months (is_gregorian_leap y)) m ↔ d ≤ days_in_month y m

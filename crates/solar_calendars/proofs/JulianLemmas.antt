@@ -1,12 +1,12 @@
 -- Julian years in closed form.
-use Rattle.std.proofs.Common.{◌≡◌, ℕ, zero, suc, ◌+◌, ◌*◌, ◌≤◌, ◌<◌, Bool, true, false, refl, sym, ap, ◌∙◌, arith, ℤ, pos, negsuc, neg_ℤ, ◌+ℤ◌, ◌-ℤ◌, ◌*ℤ◌, ◌≤ℤ◌, ◌<ℤ◌}
+use Rattle.std.proofs.Common.{◌≡◌, zero, suc, refl, ap, ◌∙◌, arith, ℤ, pos, negsuc, neg_ℤ, ◌+ℤ◌, ◌-ℤ◌, ◌*ℤ◌, ◌≤ℤ◌, ◌<ℤ◌}
 use Rattle.std.proofs.lemmas.Bool.Decides.{nat_tests}
 use Rattle.std.specs.Int.{int_div_euclid}
 use Rattle.day_numbers.specs.Days.{IsBetween}
-use Rattle.day_numbers.specs.Rules.{without_zero, HasYear, year_length, year_start, total_days}
+use Rattle.day_numbers.specs.Rules.{without_zero, HasYear, year_length, year_start}
 use Rattle.day_numbers.proofs.RulesLemmas.{next_year, start_is}
-use Rattle.day_numbers.proofs.SignedArithmetic.{up, down, signed_arith}
-use Rattle.solar_calendars.specs.Julian.{julian_rules, is_julian_leap, years_before}
+use Rattle.day_numbers.proofs.SignedArithmetic.{signed_arith}
+use Rattle.solar_calendars.specs.Julian.{julian_rules, years_before}
 
 abbrev pub closed : ℤ → ℤ
 closed y = pos 365 *ℤ years_before y +ℤ int_div_euclid (years_before y) (pos 4) -ℤ pos 1

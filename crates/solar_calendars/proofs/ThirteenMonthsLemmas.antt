@@ -1,13 +1,25 @@
--- Years of a calendar with a leap year in four, in closed form.
-use Rattle.std.proofs.Common.{◌≡◌, ℕ, zero, suc, ◌+◌, ◌-◌, ◌*◌, ◌/◌, ◌%◌, ◌≤◌, ◌<◌, cond, refl, sym, ap, ◌∙◌, arith, ℤ, pos}
+-- The days of years of thirteen months in closed form.
+use Rattle.std.proofs.Common.{◌≡◌, ℕ, zero, suc, ◌+◌, ◌*◌, ◌/◌, Bool, cond, arith, ℤ, pos}
 use Rattle.std.proofs.lemmas.Bool.Decides.{nat_tests}
 use Rattle.day_numbers.specs.Rules.{days_of_years, total_days}
 use Rattle.day_numbers.proofs.RulesLemmas.{years-zero, years-suc}
-use Rattle.solar_calendars.specs.ThirteenMonths.{four_year_months}
+use Rattle.solar_calendars.specs.ThirteenMonths.{thirteen_months, is_third_of_four, is_never}
 
-length_is : (n : ℕ) → total_days (four_year_months (pos n)) + n / 4 ≡ 365 + suc n / 4
-length_is n = grind (arith, nat_tests)
+-- the days of a year, by whether it is a leap year
+abbrev pub length_by : (ℤ → Bool) → ℤ → ℕ
+length_by is_leap y = total_days (thirteen_months (is_leap y))
 
-pub four_years_sum : (n : ℕ) → days_of_years (λ y. total_days (four_year_months y)) n ≡ 365 * n + (n + 1) / 4
-four_years_sum zero = years-zero _
-four_years_sum (suc n) = omega (arith, years-suc (λ y. total_days (four_year_months y)) n, length_is (suc n), four_years_sum n)
+pub length_is : (is_leap : ℤ → Bool) (n : ℕ) → length_by is_leap (pos n) ≡ 365 + cond (is_leap (pos n)) 1 0
+length_is is_leap n = grind arith
+
+third_of_four_step : (n : ℕ) → cond (is_third_of_four (pos n)) 1 0 + n / 4 ≡ suc n / 4
+third_of_four_step n = grind (arith, nat_tests)
+
+pub third_of_four_sum : (n : ℕ) → days_of_years (λ y. total_days (thirteen_months (is_third_of_four y))) n ≡ 365 * n + (n + 1) / 4
+third_of_four_sum zero = years-zero _
+third_of_four_sum (suc n) =
+    omega (arith, years-suc (length_by is_third_of_four) n, length_is is_third_of_four (suc n), third_of_four_step (suc n), third_of_four_sum n)
+
+pub never_sum : (n : ℕ) → days_of_years (λ y. total_days (thirteen_months (is_never y))) n ≡ 365 * n
+never_sum zero = years-zero _
+never_sum (suc n) = omega (arith, years-suc (length_by is_never) n, never_sum n)

@@ -2,36 +2,27 @@ ghost use Rattle.day_numbers.specs.Rules.{IsDateOf, day_number_of, first_day_of}
 ghost use Rattle.day_numbers.proofs.DateLemmas.{rules_one_date, rules_have_days};
 ghost use Rattle.solar_calendars.specs.ThirteenMonths.{coptic_rules};
 
-use crate::thirteen_months::{
-    days_of_four_year_calendar, months_of_four_year_calendar, years_in_four_year_calendar,
-};
-use day_numbers::from_year_one::{FromYearOne, YearsFromOne};
-use day_numbers::rules::{Month, date_by_rules, day_by_rules};
+use crate::thirteen_months::{ThirdOfFour, ThirteenMonthCalendar, ThirteenMonths};
+use day_numbers::from_year_one::YearsFromOne;
+use day_numbers::rules::{date_by_rules, day_by_rules};
 use day_numbers::{ArithmeticCalendar, DateFault, Day, Ymd};
 
-/// The Coptic calendar.
+/// The Coptic calendar (Reingold and Dershowitz, *Calendrical Calculations*, "The Coptic and Ethiopic
+/// Calendars").
+///
+/// Its epoch, 1 Thoout of year 1, is R.D. 103605, 29 August 284 of the Julian calendar. Years count
+/// from 1; there is none before. A year has twelve months of 30 days and a thirteenth of 5 days, or of
+/// 6 in a leap year, where the year's remainder by 4 is 3.
 #[derive(Clone, Copy, Debug)]
 pub struct Coptic;
 
-impl FromYearOne for Coptic {
-    ghost epoch_day = { coptic_rules.epoch };
+impl ThirteenMonthCalendar for Coptic {
+    type Leap = ThirdOfFour;
 
-    ghost months_of = { coptic_rules.months };
+    ghost epoch_day = { coptic_rules.epoch };
 
     fn epoch(&self) -> i64 {
         103_605
-    }
-
-    fn days_of_years(&self, years: u32) -> u32 {
-        days_of_four_year_calendar(years)
-    }
-
-    fn years_in(&self, days: u32) -> u32 {
-        years_in_four_year_calendar(days)
-    }
-
-    fn months(&self, year: u32) -> &'static [Month] {
-        months_of_four_year_calendar(year)
     }
 }
 
@@ -47,10 +38,10 @@ impl ArithmeticCalendar for Coptic {
     ghost dates_have_days = { rules_have_days coptic_rules };
 
     fn day_of(&self, date: Ymd) -> Result<Day, DateFault> {
-        day_by_rules(&YearsFromOne(self), date)
+        day_by_rules(&YearsFromOne(&ThirteenMonths(self)), date)
     }
 
     fn date_on(&self, day: Day) -> Option<Ymd> {
-        date_by_rules(&YearsFromOne(self), day)
+        date_by_rules(&YearsFromOne(&ThirteenMonths(self)), day)
     }
 }

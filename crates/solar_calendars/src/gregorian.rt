@@ -1,7 +1,8 @@
-ghost use Rattle.std.specs.Prelude.{◌≡◌, ℤ, ℕ, pos, neg_ℤ, ◌+ℤ◌, ◌-ℤ◌, ◌↔◌, IsTrue, IsSome, IsOk, IfOk, IfSome, Err};
+ghost use Rattle.std.specs.Prelude.{◌≡◌, pos, neg_ℤ, ◌+ℤ◌, ◌-ℤ◌, ◌*ℤ◌, ◌↔◌, IsSome, IfSome};
 ghost use Rattle.day_numbers.specs.Days.{IsDayNumber, IsBetween};
-ghost use Rattle.day_numbers.specs.Rules.{Rules, IsDateOf, day_number_of, HasDayOf, first_day_of};
-ghost use Rattle.solar_calendars.specs.Gregorian.{gregorian_rules, is_gregorian_leap, leap_days_of};
+ghost use Rattle.day_numbers.specs.Rules.{IsDateOf, day_number_of, year_start as start, HasDayOf, first_day_of};
+ghost use Rattle.day_numbers.proofs.DateLemmas.{rules_one_date, rules_have_days};
+ghost use Rattle.solar_calendars.specs.Gregorian.{gregorian_rules, is_gregorian_leap};
 
 use crate::twelve_months::twelve_months;
 use day_numbers::rules::{Month, RuledCalendar, day_by_rules};
@@ -9,7 +10,12 @@ use day_numbers::{ArithmeticCalendar, DateFault, Day, Ymd};
 use jiff::ToSpan;
 use jiff::civil::Date;
 
-/// The proleptic Gregorian calendar, with a year 0.
+/// The proleptic Gregorian calendar (Reingold and Dershowitz, *Calendrical Calculations*, "The
+/// Gregorian Calendar").
+///
+/// Its epoch, 1 January of year 1, is R.D. 1. It has all years: year 0 lies before year 1, and -1 before
+/// year 0. A year is a leap year where it is divisible by 4 and its remainder by 400 is none of 100,
+/// 200 and 300.
 #[derive(Clone, Copy, Debug)]
 pub struct Gregorian;
 
@@ -23,33 +29,27 @@ fn is_leap(year: i32) -> bool
         && in_four_centuries != 300
 }
 
-/// How many of these years, counted from year 1, have a leap day.
+/// How many leap days the years from year 1 on have, of so many years; less than 0 for years before
+/// year 1.
 fn leap_days(years: i64) -> i64
-    requires { IsBetween (neg_ℤ (pos 100_000)) (pos 100_000) years }
-    ensures value { result ≡ leap_days_of years }
+    requires { IsBetween (neg_ℤ (pos 100_001)) (pos 100_001) years }
+    ensures value { start gregorian_rules (years +ℤ pos 1) ≡ pos 365 *ℤ years +ℤ result +ℤ pos 1 }
     ensures near { IsBetween (neg_ℤ (pos 100_000)) (pos 100_000) result }
 {
     years.div_euclid(4) - years.div_euclid(100) + years.div_euclid(400)
 }
 
-/// How many years there are from year 1 to the year before this one.
-fn years_before(year: i32) -> i64
-    ensures { result ≡ year -ℤ pos 1 }
-{
-    year as i64 - 1
-}
-
-/// The day number of the year's first day.
-fn first_of_year(year: i32) -> i64
-    requires { IsBetween (neg_ℤ (pos 99_999)) (pos 99_999) year }
-    ensures value { result ≡ day_number_of gregorian_rules year 1 1 }
+/// The fixed day number of 1 January of the year, which is from -100000 to 100000.
+pub fn first_of_year(year: i64) -> i64
+    requires { IsBetween (neg_ℤ (pos 100_000)) (pos 100_000) year }
+    ensures value { result ≡ start gregorian_rules year }
     ensures near { IsBetween (neg_ℤ (pos 100_000_000)) (pos 100_000_000) result }
 {
-    let before = years_before(year);
-    365 * before + leap_days(before) + 1
+    let years = year - 1;
+    365 * years + leap_days(years) + 1
 }
 
-/// The date of jiff with these numbers.
+/// The date of jiff with these numbers, where the calendar has it; the year is from -9999 to 9999.
 fn jiff_date(date: Ymd) -> Option<Date>
     requires { IsBetween (neg_ℤ (pos 9_999)) (pos 9_999) date.year }
     ensures valid { IsSome result ↔ IsDateOf gregorian_rules date.year date.month date.day }
@@ -58,15 +58,15 @@ fn jiff_date(date: Ymd) -> Option<Date>
     Date::new(date.year() as i16, date.month() as i8, date.day() as i8).ok()
 }
 
-/// The day number of a date of jiff.
+/// The fixed day number of a date of jiff.
 fn number_of(date: Date) -> i64
     ensures value { result ≡ day_number_of gregorian_rules date.year date.month date.day }
     ensures in_range { IsDayNumber result }
 {
-    first_of_year(date.year() as i32) + date.day_of_year() as i64 - 1
+    first_of_year(date.year() as i64) + date.day_of_year() as i64 - 1
 }
 
-/// The date of jiff on a day.
+/// The date of jiff on the day with this fixed day number.
 fn jiff_date_on(day: i64) -> Date
     requires { IsDayNumber day }
     ensures { day_number_of gregorian_rules result.year result.month result.day ≡ day }
@@ -76,7 +76,7 @@ fn jiff_date_on(day: i64) -> Date
         .unwrap()
 }
 
-/// The date on a day.
+/// The date on a day, by jiff.
 fn ymd_on(day: Day) -> Option<Ymd>
     ensures dated { IsSome result ↔ HasDayOf gregorian_rules day.number }
     ensures value { IfSome result (λ date. IsDateOf gregorian_rules date.year date.month date.day
@@ -87,8 +87,6 @@ fn ymd_on(day: Day) -> Option<Ymd>
 }
 
 impl RuledCalendar for Gregorian {
-    ghost use Rattle.day_numbers.specs.Rules.{year_start};
-
     ghost rules = { gregorian_rules };
 
     fn has_year(&self, _year: i32) -> bool {
@@ -100,7 +98,7 @@ impl RuledCalendar for Gregorian {
     }
 
     fn year_start(&self, year: i32) -> i64 {
-        first_of_year(year)
+        first_of_year(year as i64)
     }
 
     fn months(&self, year: i32) -> &'static [Month] {
@@ -113,8 +111,6 @@ impl RuledCalendar for Gregorian {
 }
 
 impl ArithmeticCalendar for Gregorian {
-    ghost use Rattle.day_numbers.proofs.DateLemmas.{rules_one_date, rules_have_days};
-
     ghost IsDate = { λ d. IsDateOf gregorian_rules d.year d.month d.day };
 
     ghost day_number = { λ d. day_number_of gregorian_rules d.year d.month d.day };

@@ -1,13 +1,19 @@
-ghost use Rattle.std.specs.Prelude.{◌≡◌, ℤ, pos, neg_ℤ, ◌↔◌, IsTrue, IsSome, IsOk, IfOk, IfSome, Err};
-ghost use Rattle.day_numbers.specs.Days.{IsDayNumber, IsBetween};
-ghost use Rattle.day_numbers.specs.Rules.{Rules, HasYear, without_zero, IsDateOf, day_number_of, first_day_of};
+ghost use Rattle.std.specs.Prelude.{◌≡◌, pos, neg_ℤ};
+ghost use Rattle.day_numbers.specs.Days.{IsBetween};
+ghost use Rattle.day_numbers.specs.Dates.{IsYear};
+ghost use Rattle.day_numbers.specs.Rules.{HasYear, without_zero, IsDateOf, day_number_of, first_day_of};
+ghost use Rattle.day_numbers.proofs.DateLemmas.{rules_one_date, rules_have_days};
 ghost use Rattle.solar_calendars.specs.Julian.{julian_rules, is_julian_leap, years_before as count_before};
 
 use crate::twelve_months::twelve_months;
 use day_numbers::rules::{Month, RuledCalendar, date_by_rules, day_by_rules};
 use day_numbers::{ArithmeticCalendar, DateFault, Day, Ymd};
 
-/// The Julian calendar, in which year 1 follows year -1.
+/// The Julian calendar (Reingold and Dershowitz, *Calendrical Calculations*, "The Julian Calendar").
+///
+/// Its epoch, 1 January of year 1, is R.D. -1. It has all years but 0: year 1 follows year -1. A positive
+/// year is a leap year where it is divisible by 4, and a negative one where its remainder by 4, which
+/// is not negative, is 3: -1, -5, ..
 #[derive(Clone, Copy, Debug)]
 pub struct Julian;
 
@@ -21,7 +27,8 @@ fn is_leap(year: i32) -> bool
     }
 }
 
-/// How many years there are from year 1 to the year before this one.
+/// How many years there are from year 1 to the year before this one; less than 0 where the year is
+/// before year 1.
 fn years_before(year: i32) -> i64
     ensures { result ≡ count_before year }
 {
@@ -32,11 +39,11 @@ fn years_before(year: i32) -> i64
     }
 }
 
-/// The year with that many years before it.
+/// The year with so many years before it.
 fn year_after(before: i64) -> i32
     requires { IsBetween (neg_ℤ (pos 99_999)) (pos 99_998) before }
     ensures has { HasYear without_zero result }
-    ensures near { IsBetween (neg_ℤ (pos 99_999)) (pos 99_999) result }
+    ensures near { IsYear result }
     ensures value { count_before result ≡ before }
 {
     if before < 0 {
@@ -72,8 +79,6 @@ impl RuledCalendar for Julian {
 }
 
 impl ArithmeticCalendar for Julian {
-    ghost use Rattle.day_numbers.proofs.DateLemmas.{rules_one_date, rules_have_days};
-
     ghost IsDate = { λ d. IsDateOf julian_rules d.year d.month d.day };
 
     ghost day_number = { λ d. day_number_of julian_rules d.year d.month d.day };

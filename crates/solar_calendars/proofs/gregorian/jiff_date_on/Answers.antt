@@ -1,8 +1,5 @@
-use Rattle.std.proofs.Common.{◌≡◌, ◌∙◌, arith, rules, ℤ, pos, to_z, of_z, to_z-of_z, FitsSigned, w64, ◌-ℤ◌, refl}
-use Rattle.std.proofs.lemmas.Result.{IfOk-weaker}
-use Rattle.std.specs.Prelude.{IfOk}
+use Rattle.std.proofs.Common.{◌∙◌, arith, pos, to_z-of_z, FitsSigned, w64, ◌-ℤ◌, refl}
 use Rattle.jiff.proofs.SpanFacts.{date_add-days, can_add-days}
-use Rattle.jiff_core.specs.Date.{epoch_day}
 use Rattle.day_numbers.proofs.SignedArithmetic.{signed_arith}
 use Rattle.solar_calendars.proofs.GregorianLemmas.{first_date, can_reach, reached}
 use Rattle.solar_calendars.proofs.gregorian.jiff_date_on.Goals as goal

@@ -1,5 +1,4 @@
-use Rattle.std.proofs.Common.{arith, rules, ℤ, pos, to_z-of_z, FitsSigned, w32, w64, ◌+ℤ◌, ◌*ℤ◌, ◌≡◌, ap, ◌∙◌}
-use Rattle.std.specs.Int.{int_div_euclid}
+use Rattle.std.proofs.Common.{arith, rules, to_z-of_z, FitsSigned, w32, w64}
 use Rattle.day_numbers.proofs.SignedArithmetic.{signed_arith}
 use Rattle.solar_calendars.proofs.JulianLemmas.{julian_year_on}
 use Rattle.solar_calendars.proofs.julian.JulianRuledCalendar.year_on.Goals as goal

@@ -1,0 +1,2 @@
+pub mod ConversionLemmas
+pub mod PassageLemmas

@@ -1,0 +1,42 @@
+//! A lane: a ring from one thread to another that says how it ended, and whether all that was sent was taken.
+//!
+//! A lane has two lists of items, those sent and those taken, and each call says what it does to them. A sender ends its
+//! lane by `close`, with a count, or by `stop`, and is then gone. When its thread has been joined, `confirm` compares
+//! the two lists. An end that waits looks again at once for a short while, and then yields the processor between looks.
+#![tactic(auto)]
+
+ghost use Rattle.std.specs.Prelude.{◌≡◌, ◌≤◌, [], IfOk};
+ghost use Rattle.lane_rings.specs.Lane.{sender_lane, receiver_lane, lane_capacity, sent, taken};
+
+mod item;
+mod receiver;
+mod sender;
+mod wait;
+
+pub use item::{Gone, Item};
+pub use receiver::{Confirmed, Receiver, Unconfirmed};
+use rtrb::RingBuffer;
+pub use sender::{Closed, Sender};
+use std::alloc::{AllocError, Global};
+
+/// A lane with room for `capacity` items, from 1 to 4096. It takes all its memory here.
+///
+/// The error is want of memory alone; there is then no lane.
+pub fn lane<T: Drop>(alloc: Global, capacity: usize) -> Result<(Sender<T>, Receiver<T>), AllocError>
+    requires { (1 ≤ capacity) × (capacity ≤ 4096) }
+    ensures lane { IfOk result (λ ends. receiver_lane ends.1 ≡ sender_lane ends.0) }
+    ensures capacity { IfOk result (λ ends. lane_capacity (sender_lane ends.0) ≡ capacity) }
+    ensures empty { IfOk result (λ ends. (sent ends.0 ≡ []) × (taken ends.1 ≡ [])) }
+{
+    let (producer, consumer) = RingBuffer::new(alloc, capacity)?;
+    Ok((
+        Sender { producer },
+        Receiver {
+            consumer,
+            last: None,
+        },
+    ))
+}
+
+#[cfg(test)]
+mod tests;

@@ -1,0 +1,136 @@
+ghost use Rattle.std.specs.Prelude.{◌≡◌, Some};
+ghost use Rattle.rtrb.specs.Ring.{received};
+ghost use Rattle.lane_rings.specs.Items.{last_mark};
+
+use crate::item::{Gone, Item, Mark};
+use crate::sender::Closed;
+use crate::wait::Patience;
+use rtrb::Consumer;
+use std::sync::Wait;
+
+/// The end of a lane that takes. It can move to another thread.
+#[derive(Drop)]
+pub struct Receiver<T> {
+    pub(crate) consumer: Consumer<Item<T>>,
+    pub(crate) last: Option<Mark>,
+    ghost marked: { last ≡ last_mark (received consumer) },
+}
+
+/// A lane of which all that was ever sent was taken, and whose last item is an `End` or a `Stop`.
+#[derive(Drop)]
+pub struct Confirmed<T> {
+    pub(crate) receiver: Receiver<T>,
+    mark: Mark,
+    ghost ends: { last_mark (received receiver.consumer) ≡ Some mark },
+}
+
+/// The ring gave no confirmation, or items are left, or the last item taken is neither an `End` nor a `Stop`.
+#[derive(Clone, Copy, Debug, Eq, PartialEq)]
+pub struct Unconfirmed;
+
+fn mark_of<T>(item: &Item<T>) -> Option<Mark>
+    ensures { result ≡ Rattle.lane_rings.specs.Items.mark_of item.now }
+{
+    match item {
+        Item::Entry(_) => None,
+        Item::End(count) => Some(Mark::Counted(*count)),
+        Item::Stop => Some(Mark::Stopped),
+    }
+}
+
+impl<T> Receiver<T> {
+    ghost use Rattle.std.specs.Prelude.{◌≡◌, [], ◌∷◌, ◌++◌, IfOk, OnErr, MatchOption};
+    ghost use Rattle.lane_rings.specs.Lane.{receiver_lane, taken};
+
+    /// Takes the next item, if one is there now, and never waits.
+    ///
+    /// It answers `Gone` where the sender is no more and all that it sent was taken, also after an `End` or a `Stop`.
+    pub fn try_take(&mut self) -> Result<Option<Item<T>>, Gone<()>>
+        ensures lane { receiver_lane self.new ≡ receiver_lane self.old }
+        ensures ok { IfOk result (λ found. MatchOption found (taken self.new ≡ taken self.old) (λ item. taken self.new ≡ taken self.old ++ item ∷ [])) }
+        ensures gone { OnErr result (taken self.new ≡ taken self.old) }
+    {
+        if let Some(item) = self.pop() {
+            return Ok(Some(item));
+        }
+        if !self.consumer.is_abandoned() {
+            return Ok(None);
+        }
+        // What was sent between the first look and the sender's leaving is still taken.
+        match self.pop() {
+            Some(item) => Ok(Some(item)),
+            None => Err(Gone { value: () }),
+        }
+    }
+
+    /// Waits for the next item and takes it.
+    ///
+    /// While nothing is there it looks again at once for a short while, and then yields between looks. It answers
+    /// `Gone` where `try_take` does.
+    pub fn take(&mut self, rt: &impl Wait) -> Result<Item<T>, Gone<()>>
+        ensures lane { receiver_lane self.new ≡ receiver_lane self.old }
+        ensures ok { IfOk result (λ item. taken self.new ≡ taken self.old ++ item ∷ []) }
+        ensures gone { OnErr result (taken self.new ≡ taken self.old) }
+    {
+        let mut patience = Patience::new();
+        for _ in rt.forever() {
+            if let Some(item) = self.try_take()? {
+                return Ok(item);
+            }
+            patience.pause();
+        }
+        unreachable!()
+    }
+
+    #[tactic(auto, using(crate::proofs::Ends::last_mark_append))]
+    fn pop(&mut self) -> Option<Item<T>>
+        ensures lane { receiver_lane self.new ≡ receiver_lane self.old }
+        ensures found { MatchOption result (taken self.new ≡ taken self.old) (λ item. taken self.new ≡ taken self.old ++ item ∷ []) }
+    {
+        let item = self.consumer.pop().ok()?;
+        self.last = mark_of(&item);
+        Some(item)
+    }
+}
+
+impl<T: Drop> Receiver<T> {
+    ghost use Rattle.std.specs.Prelude.{◌≡◌, ◌↔◌, IfOk, IsOk};
+    ghost use Rattle.lane_rings.specs.Lane.{taken, IsClosedOf, IsWhole, items};
+
+    /// Whether what was taken is all that was ever sent, up to an `End` or a `Stop`. `closed` is what is left of the
+    /// sender that was made with this receiver. The lane is spent either way.
+    pub fn confirm(self, closed: Closed<T>) -> Result<Confirmed<T>, Unconfirmed>
+        requires { IsClosedOf closed self }
+        ensures whole { IsOk result ↔ IsWhole closed self }
+        ensures items { IfOk result (λ c. items c ≡ taken self) }
+    {
+        let mut receiver = self;
+        let Some(mut finished) = closed.finished else {
+            return Err(Unconfirmed);
+        };
+        if receiver.consumer.slots_after(&mut finished) != 0 {
+            return Err(Unconfirmed);
+        }
+        let Some(mark) = receiver.last else {
+            return Err(Unconfirmed);
+        };
+        Ok(Confirmed { receiver, mark })
+    }
+}
+
+impl<T> Confirmed<T> {
+    ghost use Rattle.std.specs.Prelude.{◌≡◌, Some, MatchOption};
+    ghost use Rattle.lane_rings.specs.Items.{last_mark};
+    ghost use Rattle.lane_rings.specs.Lane.{items};
+    ghost use Rattle.lane_rings.specs.declared.item.Mark.TheVariants.{Counted, Stopped};
+
+    /// The count of the lane's `End`, or `None` where it ended with `Stop`.
+    pub fn ended(&self) -> Option<u64>
+        ensures { MatchOption result (last_mark (items self.now) ≡ Some Stopped) (λ n. last_mark (items self.now) ≡ Some (Counted n)) }
+    {
+        match self.mark {
+            Mark::Counted(count) => Some(count),
+            Mark::Stopped => None,
+        }
+    }
+}

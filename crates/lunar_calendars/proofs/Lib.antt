@@ -1,0 +1,4 @@
+pub mod IslamicYears
+pub mod MonthSums
+pub mod NewYears
+pub mod YearLengths

@@ -1,0 +1,6 @@
+use Rattle.lunar_calendars.specs.Hebrew.{is_leap_year}
+use Rattle.lunar_calendars.proofs.YearLengths.{one_of_six}
+use Rattle.lunar_calendars.proofs.hebrew.hebrew_year_length.Goals as goal
+
+pub returns-clause-one_of_six : goal.returns-clause-one_of_six
+returns-clause-one_of_six c = one_of_six (is_leap_year c.args.year) c.days_of_year.result c.days_of_year.ensures.length

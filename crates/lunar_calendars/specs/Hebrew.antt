@@ -1,0 +1,98 @@
+-- The Hebrew calendar (Reingold and Dershowitz, Calendrical Calculations, "The Hebrew Calendar").
+-- A day begins at 6 in the evening before and has 24 hours of 1080 parts, 25920 parts. A mean month has 29 days, 12 hours
+-- and 793 parts, 765433 parts. A molad is a mean new moon. A year opens on the day of the molad of its month Tishri, or up
+-- to two days later where one of four postponements holds. Months are numbered from Nisan = 1, so that Tishri is month 7.
+use Rattle.std.specs.Prelude.{ℕ, Bool, not, ◌&&◌, ◌||◌, List, [], ◌∷◌, map, sum, ◌≤◌, ◌+◌, ◌-◌, ◌*◌, ◌/◌, ◌%◌, ◌==◌, nat_lt, nat_le, if◌then◌else◌, ℤ, neg_ℤ, pos, ◌+ℤ◌, ◌-ℤ◌, unsigned_abs}
+use Rattle.std.specs.List.{range_with_len}
+use Rattle.day_numbers.specs.declared.day.Weekday.{Weekday}
+use Rattle.day_numbers.specs.declared.day.Weekday.TheVariants.{Sunday, Monday, Tuesday, Wednesday, Friday}
+use Rattle.day_numbers.specs.declared.rules.Month.{Month}
+use Rattle.day_numbers.specs.Days.{weekday_number, weekday_place}
+use Rattle.day_numbers.specs.Rules.{Rules, from_one}
+
+-- the years 3, 6, 8, 11, 14, 17 and 19 of each 19
+abbrev pub is_leap_year : ℕ → Bool
+is_leap_year year = nat_lt ((7 * year + 1) % 19) 7
+
+-- how many months a year has
+abbrev pub month_count : ℕ → ℕ
+month_count year = if is_leap_year year then 13 else 12
+
+-- the months of the years before a year together, from year 1 on
+unfoldable pub months_before : ℕ → ℕ
+months_before year = sum (map month_count (range_with_len 1 (year - 1)))
+
+-- the Monday that the calendar begins with, 7 October 3761 BCE of the Julian calendar
+abbrev pub epoch : ℤ
+epoch = neg_ℤ (pos 1_373_427)
+
+-- the parts from the beginning of that Monday to the molad of Tishri of a year;
+-- the molad of year 1 stands 5 hours and 204 parts into it
+abbrev pub molad_parts : ℕ → ℕ
+molad_parts year = 5_604 + 765_433 * months_before year
+
+-- the day of that molad, and the parts of that day that have passed
+abbrev pub molad_day : ℕ → ℤ
+molad_day year = epoch +ℤ pos (molad_parts year / 25_920)
+
+abbrev pub molad_time : ℕ → ℕ
+molad_time year = molad_parts year % 25_920
+
+abbrev pub falls_on : Weekday → ℤ → Bool
+falls_on weekday day = weekday_number day == weekday_place weekday
+
+-- a molad at noon, 18 hours into the day, or later counts for the day after
+abbrev pub from_noon : ℤ → ℕ → ℤ
+from_noon day time = if nat_le 19_440 time then day +ℤ pos 1 else day
+
+-- no year opens on a Sunday, a Wednesday or a Friday
+abbrev pub next_allowed : ℤ → ℤ
+next_allowed day = if falls_on Sunday day || falls_on Wednesday day || falls_on Friday day then day +ℤ pos 1 else day
+
+-- the day that a year opens on, from the day and the time of its molad, by the first case that applies:
+-- a common year whose molad is on a Tuesday at 9 hours and 204 parts or later opens on that Thursday;
+-- a year after a leap year whose molad is on a Monday at 15 hours and 589 parts or later opens on that Tuesday;
+-- any other opens on the day that its molad counts for, or on the day after where no year may open on it
+abbrev pub postponed : Bool → Bool → ℤ → ℕ → ℤ
+postponed leap after_leap day time =
+    if not leap && falls_on Tuesday day && nat_le 9_924 time then day +ℤ pos 2
+    else (if after_leap && falls_on Monday day && nat_le 16_789 time then day +ℤ pos 1
+    else next_allowed (from_noon day time))
+
+-- the new year, 1 Tishri; before year 1 the leap rule is asked of the number 0
+unfoldable pub new_year_of : ℕ → ℤ
+new_year_of year = postponed (is_leap_year year) (is_leap_year (year - 1)) (molad_day year) (molad_time year)
+
+-- the days from a new year to the next
+abbrev pub days_in_year : ℕ → ℕ
+days_in_year year = unsigned_abs (new_year_of (year + 1) -ℤ new_year_of year)
+
+-- the lengths of a short, a regular and a long year, common and leap
+abbrev pub year_lengths : List ℕ
+year_lengths = 353 ∷ 354 ∷ 355 ∷ 383 ∷ 384 ∷ 385 ∷ []
+
+-- so many days may be the length of a common year, or of a leap year
+abbrev pub IsYearLength : Bool → ℕ → Type 0
+IsYearLength leap days = ((if leap then 383 else 353) ≤ days) × (days ≤ (if leap then 385 else 355))
+
+-- a month of this number with so many days
+abbrev pub month : ℕ → ℕ → Month
+month number days = record { number = number; days = days }
+
+-- Nisan to Elul
+abbrev pub nisan_to_elul : List Month
+nisan_to_elul = month 1 30 ∷ month 2 29 ∷ month 3 30 ∷ month 4 29 ∷ month 5 30 ∷ month 6 29 ∷ []
+
+-- the months of a year, leap or not, with so many days, from Tishri on: Heshvan (8) is longer in a long year, Kislev (9)
+-- is shorter in a short one, and a leap year has a first Adar (12) of 30 days before the second (13)
+abbrev pub months_by_length : Bool → ℕ → List Month
+months_by_length leap days =
+    month 7 30 ∷ month 8 (if (days == 355) || (days == 385) then 30 else 29)
+    ∷ month 9 (if (days == 353) || (days == 383) then 29 else 30) ∷ month 10 29 ∷ month 11 30
+    ∷ (if leap then month 12 30 ∷ month 13 29 ∷ nisan_to_elul else month 12 29 ∷ nisan_to_elul)
+
+abbrev pub months_of_year : ℕ → List Month
+months_of_year year = months_by_length (is_leap_year year) (days_in_year year)
+
+abbrev pub hebrew_rules : Rules
+hebrew_rules = record { epoch = epoch; years = from_one; months = λ year. months_of_year (unsigned_abs year) }

@@ -1,0 +1,2 @@
+pub mod Islamic
+pub mod Hebrew

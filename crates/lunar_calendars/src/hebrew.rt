@@ -1,0 +1,245 @@
+ghost use Rattle.std.specs.Prelude.{◌≡◌, ◌≤◌, ◌<◌, ◌+◌, ◌-◌, ℤ, pos, ◌+ℤ◌, ◌-ℤ◌, ◌≤ℤ◌, ◌<ℤ◌, IsTrue, length, Contains};
+ghost use Rattle.day_numbers.specs.Rules.{total_days, are_months, IsDateOf, day_number_of, first_day_of};
+ghost use Rattle.day_numbers.proofs.DateLemmas.{rules_one_date, rules_have_days};
+ghost use Rattle.lunar_calendars.specs.Hebrew.{is_leap_year, epoch, from_noon as from_noon_of, next_allowed as next_allowed_of, postponed, new_year_of, days_in_year, year_lengths, IsYearLength, months_by_length, hebrew_rules};
+
+use day_numbers::from_year_one::{FromYearOne, YearsFromOne};
+use day_numbers::rules::{Month, date_by_rules, day_by_rules};
+use day_numbers::{ArithmeticCalendar, DateFault, Day, Ymd};
+
+/// The Hebrew calendar, its months numbered from Nisan = 1.
+///
+/// A year opens with Tishri (7) and runs on to Adar (12, in a leap year 12 and 13), then from Nisan (1) to
+/// Elul (6). Years count from 1, which begins on R.D. -1373427, Monday, 7 October 3761 BCE of the Julian
+/// calendar (Reingold and Dershowitz, *Calendrical Calculations*). A day is named by the civil day that its
+/// daylight falls on. [`hebrew_new_year`] says when a year opens, and [`hebrew_year_length`] how long it is.
+#[derive(Clone, Copy, PartialEq, Eq, Debug)]
+pub struct Hebrew;
+
+/// The fixed day number of the first day of year 1, a Monday. In this file days are counted from it, as 0.
+const EPOCH: i64 = -1_373_427;
+
+/// A day begins at 6 in the evening before, and has 24 hours of 1080 parts.
+const PARTS_OF_DAY: u64 = 25_920;
+/// 29 days, 12 hours and 793 parts, the time from one mean new moon to the next.
+const PARTS_OF_MONTH: u64 = 765_433;
+/// 18 hours into the day.
+const NOON: u32 = 19_440;
+
+const SUNDAY: u32 = 0;
+
+const MONDAY: u32 = 1;
+
+const TUESDAY: u32 = 2;
+
+const WEDNESDAY: u32 = 3;
+
+const FRIDAY: u32 = 5;
+
+fn is_leap(year: u32) -> bool
+    requires { year ≤ 100_000 }
+    ensures { result ≡ is_leap_year year }
+{
+    (7 * year + 1) % 19 < 7
+}
+
+/// The day of a molad, or the day after it from noon on.
+fn from_noon(day: u32, time: u32) -> u32
+    requires { day ≤ 49_999_998 }
+    ensures value { epoch +ℤ pos result ≡ from_noon_of (epoch +ℤ pos day) time }
+    ensures near { result ≤ day + 1 }
+{
+    if time >= NOON { day + 1 } else { day }
+}
+
+/// The day, or the day after it where no year may open on it.
+fn next_allowed(day: u32) -> u32
+    requires { day ≤ 49_999_999 }
+    ensures value { epoch +ℤ pos result ≡ next_allowed_of (epoch +ℤ pos day) }
+    ensures near { result ≤ day + 1 }
+{
+    match (day + 1) % 7 {
+        SUNDAY | WEDNESDAY | FRIDAY => day + 1,
+        _ => day,
+    }
+}
+
+/// The day that a year opens on, from the day and the time of its molad.
+fn opening_day(leap: bool, after_leap: bool, day: u32, time: u32) -> u32
+    requires { day ≤ 49_999_998 }
+    ensures opens { epoch +ℤ pos result ≡ postponed leap after_leap (epoch +ℤ pos day) time }
+    ensures near { result ≤ day + 2 }
+{
+    let weekday = (day + 1) % 7;
+    if weekday == TUESDAY && !leap && time >= 9_924 {
+        day + 2
+    } else if weekday == MONDAY && after_leap && time >= 16_789 {
+        day + 1
+    } else {
+        next_allowed(from_noon(day, time))
+    }
+}
+
+/// The day of the new year.
+fn new_year(year: u32) -> u32
+    requires low { 1 ≤ year }
+    requires high { year ≤ 100_000 }
+    ensures value { epoch +ℤ pos result ≡ new_year_of year }
+    ensures near { result ≤ 50_000_000 }
+{
+    let months = (235 * year - 234) / 19;
+    let molad = 5_604 + PARTS_OF_MONTH * months as u64;
+    opening_day(
+        is_leap(year),
+        is_leap(year - 1),
+        (molad / PARTS_OF_DAY) as u32,
+        (molad % PARTS_OF_DAY) as u32,
+    )
+}
+
+/// The year that the day lies in.
+#[tactic(auto, using(crate::proofs::YearLengths::estimate))]
+fn year_on(day: u32) -> u32
+    requires { day ≤ 6_000_000 }
+    ensures low { 1 ≤ result }
+    ensures near { result ≤ 99_999 }
+    ensures after { new_year_of result ≤ℤ (epoch +ℤ pos day) }
+    ensures before { (epoch +ℤ pos day) <ℤ new_year_of (result + 1) }
+{
+    // A mean year has 35975351 / 98496 days: the year found by it is right, or the one after.
+    let year = ((day as u64 + 29) * 98_496 / 35_975_351) as u32 + 1;
+    if day < new_year(year) { year - 1 } else { year }
+}
+
+/// The days of a year.
+#[tactic(auto, using(crate::proofs::YearLengths::end_of_year))]
+fn days_of_year(year: u32) -> u16
+    requires low { 1 ≤ year }
+    requires high { year ≤ 99_999 }
+    ensures value { result ≡ days_in_year year }
+    ensures length { IsYearLength (is_leap_year year) result }
+{
+    (new_year(year + 1) - new_year(year)) as u16
+}
+
+/// The months of a year with so many days in Heshvan (8), in Kislev (9) and in the months of Adar.
+macro_rules! months {
+    (heshvan: $heshvan:literal, kislev: $kislev:literal, $($adar:literal: $days:literal),+) => {
+        [
+            Month { number: 7, days: 30 },
+            Month { number: 8, days: $heshvan },
+            Month { number: 9, days: $kislev },
+            Month { number: 10, days: 29 },
+            Month { number: 11, days: 30 },
+            $(Month { number: $adar, days: $days },)+
+            Month { number: 1, days: 30 },
+            Month { number: 2, days: 29 },
+            Month { number: 3, days: 30 },
+            Month { number: 4, days: 29 },
+            Month { number: 5, days: 30 },
+            Month { number: 6, days: 29 },
+        ]
+    };
+}
+
+static SHORT_YEAR: [Month; 12] = months!(heshvan: 29, kislev: 29, 12: 29);
+
+static REGULAR_YEAR: [Month; 12] = months!(heshvan: 29, kislev: 30, 12: 29);
+
+static LONG_YEAR: [Month; 12] = months!(heshvan: 30, kislev: 30, 12: 29);
+
+static SHORT_LEAP_YEAR: [Month; 13] = months!(heshvan: 29, kislev: 29, 12: 30, 13: 29);
+
+static REGULAR_LEAP_YEAR: [Month; 13] = months!(heshvan: 29, kislev: 30, 12: 30, 13: 29);
+
+static LONG_LEAP_YEAR: [Month; 13] = months!(heshvan: 30, kislev: 30, 12: 30, 13: 29);
+
+/// The months of a year with so many days, in the order in which they run.
+fn months_of_length(leap: bool, days: u16) -> &'static [Month]
+    requires { IsYearLength leap days }
+    ensures value { result.now ≡ months_by_length leap days }
+    ensures few { length result.now ≤ 13 }
+    ensures numbered { IsTrue (are_months result.now) }
+{
+    if leap {
+        match days {
+            383 => &SHORT_LEAP_YEAR,
+            384 => &REGULAR_LEAP_YEAR,
+            _ => &LONG_LEAP_YEAR,
+        }
+    } else {
+        match days {
+            353 => &SHORT_YEAR,
+            354 => &REGULAR_YEAR,
+            _ => &LONG_YEAR,
+        }
+    }
+}
+
+impl FromYearOne for Hebrew {
+    ghost epoch_day = { hebrew_rules.epoch };
+
+    ghost months_of = { hebrew_rules.months };
+
+    fn epoch(&self) -> i64 {
+        EPOCH
+    }
+
+    fn days_of_years(&self, years: u32) -> u32 {
+        new_year(years + 1)
+    }
+
+    fn years_in(&self, days: u32) -> u32 {
+        year_on(days) - 1
+    }
+
+    fn months(&self, year: u32) -> &'static [Month] {
+        months_of_length(is_leap(year), days_of_year(year))
+    }
+}
+
+impl ArithmeticCalendar for Hebrew {
+    ghost IsDate = { λ d. IsDateOf hebrew_rules d.year d.month d.day };
+
+    ghost day_number = { λ d. day_number_of hebrew_rules d.year d.month d.day };
+
+    ghost first_day = { first_day_of hebrew_rules };
+
+    ghost one_date = { rules_one_date hebrew_rules };
+
+    ghost dates_have_days = { rules_have_days hebrew_rules };
+
+    fn day_of(&self, date: Ymd) -> Result<Day, DateFault> {
+        day_by_rules(&YearsFromOne(self), date)
+    }
+
+    fn date_on(&self, day: Day) -> Option<Ymd> {
+        date_by_rules(&YearsFromOne(self), day)
+    }
+}
+
+/// The fixed day number of the Hebrew new year, 1 Tishri of `year`, which is from 1 to 100000.
+///
+/// A year opens on the day of its molad, the mean new moon of Tishri, or later by four postponements: the
+/// next day where the molad is at noon or later; the day after where that would be a Sunday, a Wednesday or a
+/// Friday; Thursday where the molad of a common year is on a Tuesday at 9 hours and 204 parts or later; and
+/// Tuesday where the molad of a year after a leap year is on a Monday at 15 hours and 589 parts or later.
+pub fn hebrew_new_year(year: u32) -> i64
+    requires low { 1 ≤ year }
+    requires high { year ≤ 100_000 }
+    ensures { result ≡ new_year_of year }
+{
+    EPOCH + new_year(year) as i64
+}
+
+/// The days of the Hebrew year `year`, which is from 1 to 99999: those from its new year to the next.
+#[tactic(auto, using(crate::proofs::YearLengths::end_of_year, crate::proofs::YearLengths::total))]
+pub fn hebrew_year_length(year: u32) -> u16
+    requires low { 1 ≤ year }
+    requires high { year ≤ 99_999 }
+    ensures difference { pos result ≡ new_year_of (year + 1) -ℤ new_year_of year }
+    ensures one_of_six { Contains year_lengths result }
+    ensures sum { result ≡ total_days (hebrew_rules.months (pos year)) }
+{
+    days_of_year(year)
+}

@@ -1,0 +1,116 @@
+ghost use Rattle.std.specs.Prelude.{◌≡◌, ◌≤◌, ◌<◌, ◌+◌, unsigned_abs};
+ghost use Rattle.day_numbers.specs.Rules.{days_of_years as days_of, total_days, IsDateOf, day_number_of, first_day_of};
+ghost use Rattle.day_numbers.proofs.DateLemmas.{rules_one_date, rules_have_days};
+ghost use Rattle.lunar_calendars.specs.Islamic.{is_leap_year, months_of_year, islamic_rules};
+
+use day_numbers::from_year_one::{FromYearOne, YearsFromOne};
+use day_numbers::rules::{Month, date_by_rules, day_by_rules};
+use day_numbers::{ArithmeticCalendar, DateFault, Day, Ymd};
+
+/// The arithmetic Islamic calendar, in which month 1 is Muharram and month 12 is Dhu al-Hijja.
+///
+/// Odd months have 30 days and even months 29. A year is leap where `(11 * year + 14) mod 30 < 11`, which
+/// makes the years 2, 5, 7, 10, 13, 16, 18, 21, 24, 26 and 29 of each 30 leap, and then month 12 has 30
+/// days. Years count from 1, which begins on R.D. 227015, Friday, 16 July 622 of the Julian calendar
+/// (Reingold and Dershowitz, *Calendrical Calculations*). A register that went by observed new moons may
+/// differ by a day or two.
+#[derive(Clone, Copy, PartialEq, Eq, Debug)]
+pub struct Islamic;
+
+/// The months of a year whose last month has so many days.
+macro_rules! months {
+    (month 12: $days:literal) => {
+        [
+            Month { number: 1, days: 30 },
+            Month { number: 2, days: 29 },
+            Month { number: 3, days: 30 },
+            Month { number: 4, days: 29 },
+            Month { number: 5, days: 30 },
+            Month { number: 6, days: 29 },
+            Month { number: 7, days: 30 },
+            Month { number: 8, days: 29 },
+            Month { number: 9, days: 30 },
+            Month { number: 10, days: 29 },
+            Month { number: 11, days: 30 },
+            Month { number: 12, days: $days },
+        ]
+    };
+}
+
+static COMMON_YEAR: [Month; 12] = months!(month 12: 29);
+
+static LEAP_YEAR: [Month; 12] = months!(month 12: 30);
+
+fn is_leap(year: u32) -> bool
+    requires { year ≤ 99_999 }
+    ensures { result ≡ is_leap_year year }
+{
+    (11 * year + 14) % 30 < 11
+}
+
+/// The days of the years 1 to `years`.
+#[tactic(auto, using(crate::proofs::IslamicYears::islamic_days))]
+fn days_of_years(years: u32) -> u32
+    requires { years ≤ 99_999 }
+    ensures value { result ≡ days_of (λ year. total_days (months_of_year (unsigned_abs year))) years }
+    ensures near { result ≤ 50_000_000 }
+{
+    354 * years + (11 * years + 14) / 30
+}
+
+/// How many whole years the first `days` days of the calendar fill.
+#[tactic(auto, using(crate::proofs::IslamicYears::islamic_days))]
+fn years_in(days: u32) -> u32
+    requires { days ≤ 6_000_000 }
+    ensures near { result ≤ 99_998 }
+    ensures after { days_of (λ year. total_days (months_of_year (unsigned_abs year))) result ≤ days }
+    ensures before { days < days_of (λ year. total_days (months_of_year (unsigned_abs year))) (result + 1) }
+{
+    (30 * days + 15) / 10_631
+}
+
+impl FromYearOne for Islamic {
+    ghost epoch_day = { islamic_rules.epoch };
+
+    ghost months_of = { islamic_rules.months };
+
+    fn epoch(&self) -> i64 {
+        227_015
+    }
+
+    fn days_of_years(&self, years: u32) -> u32 {
+        days_of_years(years)
+    }
+
+    fn years_in(&self, days: u32) -> u32 {
+        years_in(days)
+    }
+
+    fn months(&self, year: u32) -> &'static [Month] {
+        if is_leap(year) {
+            &LEAP_YEAR
+        } else {
+            &COMMON_YEAR
+        }
+    }
+}
+
+impl ArithmeticCalendar for Islamic {
+    ghost IsDate = { λ d. IsDateOf islamic_rules d.year d.month d.day };
+
+    ghost day_number = { λ d. day_number_of islamic_rules d.year d.month d.day };
+
+    ghost first_day = { first_day_of islamic_rules };
+
+    ghost one_date = { rules_one_date islamic_rules };
+
+    ghost dates_have_days = { rules_have_days islamic_rules };
+
+    fn day_of(&self, date: Ymd) -> Result<Day, DateFault> {
+        day_by_rules(&YearsFromOne(self), date)
+    }
+
+    fn date_on(&self, day: Day) -> Option<Ymd> {
+        date_by_rules(&YearsFromOne(self), day)
+    }
+}

@@ -1,0 +1,4 @@
+pub mod RoundLemmas
+pub mod HaabLemmas
+pub mod TzolkinLemmas
+pub mod LongCountLemmas

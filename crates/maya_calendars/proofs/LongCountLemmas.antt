@@ -1,0 +1,58 @@
+-- A long count is known by its day.
+use Rattle.std.proofs.Common.{◌≡◌, ℕ, ◌+◌, ◌*◌, ◌≤◌, Option, Some, None, IsSome, IfSome, ◌↔◌, sym, ◌∙◌, ◌≤ℤ◌, subst, ap, arith, ℤ}
+use Rattle.std.proofs.Props.{props}
+use Rattle.std.proofs.lemmas.Int.{ints}
+use Rattle.maya_calendars.specs.Rounds.{epoch}
+use Rattle.maya_calendars.specs.Places.{ArePlaces}
+use Rattle.maya_calendars.specs.LongCounts.{IsLongCount, long_day}
+use Rattle.maya_calendars.specs.declared.long_count.LongCount.{LongCount}
+
+abbrev Numbers : Type 0
+Numbers = ℕ × ℕ × ℕ × ℕ × ℕ
+
+abbrev AreIn : Numbers → Type 0
+AreIn x = ArePlaces x.0 x.1 x.2 x.3 x.4
+
+make : (x : Numbers) → AreIn x → LongCount
+make x h = record { baktun = x.0; katun = x.1; tun = x.2; uinal = x.3; kin = x.4; places = h }
+
+in_prop : (x : Numbers) → IsProp (AreIn x)
+in_prop x = hlevel props
+
+same_made : (x y : Numbers) → x ≡ y → (h : AreIn x) (g : AreIn y) → make x h ≡ make y g
+same_made x y e h = subst (λ z. (g : AreIn z) → make x h ≡ make z g) e (λ g. ap (make x) (in_prop x h g))
+
+-- two long counts with the same places are one value
+pub same_places : (c d : LongCount) → c.baktun ≡ d.baktun → c.katun ≡ d.katun → c.tun ≡ d.tun → c.uinal ≡ d.uinal → c.kin ≡ d.kin → c ≡ d
+unfolding make
+same_places c d p q r s t =
+    let x : Numbers = (c.baktun, c.katun, c.tun, c.uinal, c.kin) in
+    let y : Numbers = (d.baktun, d.katun, d.tun, d.uinal, d.kin) in
+    let e : x ≡ y = cc in
+    same_made x y e c.places d.places
+
+-- the places of a number of days are the only ones
+same_numbers : (b k t u n b' k' t' u' n' : ℕ) → k ≤ 19 → t ≤ 19 → u ≤ 17 → n ≤ 19 → k' ≤ 19 → t' ≤ 19 → u' ≤ 17 → n' ≤ 19 → 144_000 * b + 7_200 * k + 360 * t + 20 * u + n ≡ 144_000 * b' + 7_200 * k' + 360 * t' + 20 * u' + n' → (b ≡ b') × (k ≡ k') × (t ≡ t') × (u ≡ u') × (n ≡ n')
+same_numbers b k t u n b' k' t' u' n' i j l m i' j' l' m' e =
+    let kin : n ≡ n' = omega arith in
+    let uinal : u ≡ u' = omega arith in
+    let tun : t ≡ t' = omega arith in
+    let katun : k ≡ k' = omega arith in
+    let baktun : b ≡ b' = omega arith in
+    (baktun, katun, tun, uinal, kin)
+
+one_long_count : (c d : LongCount) → IsLongCount c → IsLongCount d → long_day c ≡ long_day d → c ≡ d
+one_long_count c d h g e =
+    let same = same_numbers c.baktun c.katun c.tun c.uinal c.kin d.baktun d.katun d.tun d.uinal d.kin h.0 h.1 h.2 h.3 g.0 g.1 g.2 g.3 (omega (arith, ints, e)) in
+    same_places c d same.0 same.1 same.2 same.3 same.4
+
+nothing : IsSome {T = LongCount} None → ⊥
+nothing h = cc
+
+day_since_epoch : (c : LongCount) → epoch ≤ℤ long_day c
+day_since_epoch c = omega (arith, ints)
+
+-- the long count of a day is the only one
+pub only_long_count : (o : Option LongCount) (day : ℤ) → IsSome o ↔ (epoch ≤ℤ day) → IfSome o (λ c. IsLongCount c × (long_day c ≡ day)) → (c : LongCount) → IsLongCount c → long_day c ≡ day → o ≡ Some c
+only_long_count None day some value c h e = absurd (nothing (some.1 (subst (λ z. epoch ≤ℤ z) e (day_since_epoch c))))
+only_long_count (Some x) day some value c h e = ap Some (one_long_count x c value.0 h (value.1 ∙ sym e))

@@ -1,0 +1,53 @@
+-- The haab, a round of 365 names: days 0 to 19 of eighteen months, and days 0 to 4 of Uayeb (Reingold and
+-- Dershowitz, Calendrical Calculations, "The Mayan Calendars").
+use Rattle.std.specs.Prelude.{ℕ, ◌+◌, ◌-◌, ◌==◌, if◌then◌else◌, ℤ, ◌-ℤ◌, List, [], ◌∷◌, codes, slice_get, unwrap_or}
+use Rattle.maya_calendars.specs.Rounds.{epoch, number_after, number_before, after_days}
+use Rattle.maya_calendars.specs.declared.haab.HaabMonth.{HaabMonth}
+use Rattle.maya_calendars.specs.declared.haab.HaabMonth.TheVariants.{Pop, Uo, Zip, Zotz, Tzec, Xul, Yaxkin, Mol, Chen, Yax, Zac, Ceh, Mac, Kankin, Muan, Pax, Kayab, Cumku, Uayeb}
+
+-- the months in their order, from 1 to 19
+abbrev pub month_number : HaabMonth → ℕ
+month_number Pop = 1
+month_number Uo = 2
+month_number Zip = 3
+month_number Zotz = 4
+month_number Tzec = 5
+month_number Xul = 6
+month_number Yaxkin = 7
+month_number Mol = 8
+month_number Chen = 9
+month_number Yax = 10
+month_number Zac = 11
+month_number Ceh = 12
+month_number Mac = 13
+month_number Kankin = 14
+month_number Muan = 15
+month_number Pax = 16
+month_number Kayab = 17
+month_number Cumku = 18
+month_number Uayeb = 19
+
+-- the names of the months in their order
+abbrev pub month_names : List (List ℕ)
+month_names = codes "Pop" ∷ codes "Uo" ∷ codes "Zip" ∷ codes "Zotz" ∷ codes "Tzec" ∷ codes "Xul" ∷ codes "Yaxkin" ∷ codes "Mol" ∷ codes "Chen" ∷ codes "Yax" ∷ codes "Zac" ∷ codes "Ceh" ∷ codes "Mac" ∷ codes "Kankin" ∷ codes "Muan" ∷ codes "Pax" ∷ codes "Kayab" ∷ codes "Cumku" ∷ codes "Uayeb" ∷ []
+
+-- the name of the month of this number
+abbrev pub month_name : ℕ → List ℕ
+month_name number = unwrap_or (slice_get month_names (number - 1)) []
+
+-- the last day of the month of this number: 4 in Uayeb, and 19 in the others
+abbrev pub last_day : ℕ → ℕ
+last_day month = if month == month_number Uayeb then 4 else 19
+
+-- the haab after a haab, each as its day and the number of its month: a day more, and after the last day
+-- of a month day 0 of the next, where Pop follows Uayeb
+abbrev pub haab_after : ℕ × ℕ → ℕ × ℕ
+haab_after (day, month) = if day == last_day month then (0, number_after 19 month) else (day + 1, month)
+
+-- and the haab before it
+abbrev pub haab_before : ℕ × ℕ → ℕ × ℕ
+haab_before (day, month) = if day == 0 then (last_day (number_before 19 month), number_before 19 month) else (day - 1, month)
+
+-- the haab of a day; that of the epoch is 8 Cumku
+abbrev pub haab_of : ℤ → ℕ × ℕ
+haab_of day = after_days haab_after haab_before (8, month_number Cumku) (day -ℤ epoch)

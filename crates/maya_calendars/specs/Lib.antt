@@ -1,0 +1,5 @@
+pub mod Rounds
+pub mod Places
+pub mod LongCounts
+pub mod HaabNames
+pub mod TzolkinNames

@@ -1,0 +1,16 @@
+ghost use Rattle.std.specs.Prelude.{◌≡◌, ◌≤◌, ℤ};
+ghost use Rattle.maya_calendars.specs.Rounds.{round_number};
+
+use crate::epoch::days_since_epoch;
+use day_numbers::Day;
+
+/// The number of a day in the round of the numbers 1 to `length`: the day 0.0.0.0.0 has the number
+/// `first`, from 1 to `length`, and the number moves one place on from each day to the next.
+pub fn number_on(day: Day, first: u16, length: u16) -> u16
+    requires { (1 ≤ first) × (first ≤ length) }
+    ensures value { result ≡ round_number length first day.number }
+    ensures in_round { (1 ≤ result) × (result ≤ length) }
+{
+    let place = (days_since_epoch(day) + first as i64 - 1).rem_euclid(length as i64);
+    place as u16 + 1
+}

@@ -1,0 +1,180 @@
+use crate::*;
+use day_numbers::{DateFault, Day};
+use std::test::Fail;
+
+/// The fixed day number of 0.0.0.0.0.
+const EPOCH: i64 = -1_137_142;
+
+const MONTHS: [&str; 19] = [
+    "Pop", "Uo", "Zip", "Zotz", "Tzec", "Xul", "Yaxkin", "Mol", "Chen", "Yax", "Zac", "Ceh", "Mac",
+    "Kankin", "Muan", "Pax", "Kayab", "Cumku", "Uayeb",
+];
+
+const NAMES: [&str; 20] = [
+    "Imix", "Ik", "Akbal", "Kan", "Chicchan", "Cimi", "Manik", "Lamat", "Muluc", "Oc", "Chuen",
+    "Eb", "Ben", "Ix", "Men", "Cib", "Caban", "Etznab", "Cauac", "Ahau",
+];
+
+/// The first days of the long count, a day of 1945, the day that ends the thirteenth baktun, 21 December
+/// 2012, and the last day of the range.
+#[test]
+fn long_counts_and_days_are_inverse(rt: HostRuntime) -> Result<(), Fail> {
+    for (number, (baktun, katun, tun, uinal, kin)) in [
+        (EPOCH, (0, 0, 0, 0, 0)),
+        (-1_137_130, (0, 0, 0, 0, 12)),
+        (710_347, (12, 16, 11, 16, 9)),
+        (734_858, (13, 0, 0, 0, 0)),
+        (3_652_059, (33, 5, 3, 6, 1)),
+    ] {
+        let day = Day::new(number).ok_or("a day in range")?;
+        let count = LongCount::new(baktun, katun, tun, uinal, kin).ok_or("places in range")?;
+        assert_eq!(rt; long_on(day), Some(count), "at {number}");
+        assert_eq!(rt; long_day_of(count), Ok(day), "at {number}");
+    }
+    for number in [-3_652_424, EPOCH - 1] {
+        let day = Day::new(number).ok_or("a day in range")?;
+        assert_eq!(rt; long_on(day), None, "at {number}");
+    }
+    Ok(())
+}
+
+#[test]
+fn long_counts_have_faults(rt: HostRuntime) -> Result<(), Fail> {
+    for ((baktun, katun, tun, uinal, kin), fault) in [
+        ((0, 0, 0, 18, 0), DateFault::NoSuchDate),
+        ((0, 20, 0, 0, 0), DateFault::NoSuchDate),
+        ((0, 0, 20, 0, 0), DateFault::NoSuchDate),
+        ((0, 0, 0, 0, 20), DateFault::NoSuchDate),
+        ((9_999, 0, 0, 18, 0), DateFault::NoSuchDate),
+        ((9_999, 0, 0, 0, 0), DateFault::OutOfRange),
+        ((33, 5, 3, 6, 2), DateFault::OutOfRange),
+    ] {
+        let count = LongCount::new(baktun, katun, tun, uinal, kin).ok_or("places in range")?;
+        assert_eq!(rt;
+            long_day_of(count),
+            Err(fault),
+            "at {baktun}.{katun}.{tun}.{uinal}.{kin}"
+        );
+    }
+    Ok(())
+}
+
+#[test]
+fn places_are_within_their_bounds(rt: HostRuntime) -> Result<(), Fail> {
+    let count = LongCount::new(9_999, 9_998, 9_997, 9_996, 9_995).ok_or("places in range")?;
+    assert_eq!(rt;
+        (count.baktun(), count.katun(), count.tun()),
+        (9_999, 9_998, 9_997)
+    );
+    assert_eq!(rt; (count.uinal(), count.kin()), (9_996, 9_995));
+    assert_eq!(rt; LongCount::new(10_000, 0, 0, 0, 0), None);
+    assert_eq!(rt; LongCount::new(0, 10_000, 0, 0, 0), None);
+    assert_eq!(rt; LongCount::new(0, 0, 10_000, 0, 0), None);
+    assert_eq!(rt; LongCount::new(0, 0, 0, 10_000, 0), None);
+    assert_eq!(rt; LongCount::new(0, 0, 0, 0, 10_000), None);
+    Ok(())
+}
+
+/// The haab and the tzolkin of known days, of the day before the long count begins, and of the ends of
+/// the range.
+#[test]
+fn days_have_haab_and_tzolkin(rt: HostRuntime) -> Result<(), Fail> {
+    for (number, (day_of_month, month), (count, name)) in [
+        (-3_652_424, (1, "Muan"), (1, "Etznab")),
+        (EPOCH - 1, (7, "Cumku"), (3, "Cauac")),
+        (EPOCH, (8, "Cumku"), (4, "Ahau")),
+        (-1_137_130, (0, "Uayeb"), (3, "Eb")),
+        (710_347, (7, "Zac"), (11, "Muluc")),
+        (734_858, (3, "Kankin"), (4, "Ahau")),
+        (3_652_059, (19, "Pop"), (5, "Imix")),
+    ] {
+        let day = Day::new(number).ok_or("a day in range")?;
+        let haab = haab_on(day);
+        assert_eq!(rt;
+            (haab.day(), haab.month_name()),
+            (day_of_month, month),
+            "at {number}"
+        );
+        let tzolkin = tzolkin_on(day);
+        assert_eq!(rt;
+            (tzolkin.number(), tzolkin.name()),
+            (count, name),
+            "at {number}"
+        );
+    }
+    Ok(())
+}
+
+fn last_day(month: u8) -> u8 {
+    if month == 19 { 4 } else { 19 }
+}
+
+fn haab_after((day, month): (u8, u8)) -> (u8, u8) {
+    if day < last_day(month) {
+        (day + 1, month)
+    } else {
+        (0, if month < 19 { month + 1 } else { 1 })
+    }
+}
+
+fn haab_before((day, month): (u8, u8)) -> (u8, u8) {
+    if day > 0 {
+        (day - 1, month)
+    } else {
+        let month = if month > 1 { month - 1 } else { 19 };
+        (last_day(month), month)
+    }
+}
+
+/// A year on from the epoch and a year back, one place a day.
+#[test]
+fn haab_steps_through_a_year(rt: HostRuntime) -> Result<(), Fail> {
+    let mut later = (8, 18);
+    let mut earlier = (8, 18);
+    for days in 0..366u32 {
+        let haab = haab_on(Day::new(EPOCH + days as i64).ok_or("a day in range")?);
+        assert_eq!(rt; (haab.day(), haab.month()), later, "{days} days on");
+        assert_eq!(rt;
+            Some(&haab.month_name()),
+            MONTHS.get(haab.month() as usize - 1),
+            "{days} days on"
+        );
+        let haab = haab_on(Day::new(EPOCH - days as i64).ok_or("a day in range")?);
+        assert_eq!(rt; (haab.day(), haab.month()), earlier, "{days} days back");
+        later = haab_after(later);
+        earlier = haab_before(earlier);
+    }
+    Ok(())
+}
+
+/// The round of 260 days on from the epoch and back, one place a day.
+#[test]
+fn tzolkin_steps_through_a_round(rt: HostRuntime) -> Result<(), Fail> {
+    let mut later = (4, 19);
+    let mut earlier = (4, 19);
+    for days in 0..261u32 {
+        let tzolkin = tzolkin_on(Day::new(EPOCH + days as i64).ok_or("a day in range")?);
+        let (number, place) = later;
+        assert_eq!(rt;
+            (tzolkin.number(), Some(&tzolkin.name())),
+            (number, NAMES.get(place)),
+            "{days} days on"
+        );
+        let tzolkin = tzolkin_on(Day::new(EPOCH - days as i64).ok_or("a day in range")?);
+        let (number, place) = earlier;
+        assert_eq!(rt;
+            (tzolkin.number(), Some(&tzolkin.name())),
+            (number, NAMES.get(place)),
+            "{days} days back"
+        );
+        later = (
+            if later.0 < 13 { later.0 + 1 } else { 1 },
+            if later.1 < 19 { later.1 + 1 } else { 0 },
+        );
+        earlier = (
+            if earlier.0 > 1 { earlier.0 - 1 } else { 13 },
+            if earlier.1 > 0 { earlier.1 - 1 } else { 19 },
+        );
+    }
+    Ok(())
+}

@@ -1,5 +1,5 @@
 -- The status 0 is that of a whole source, whose output has gained its table.
-use Rattle.std.proofs.Common.{◌≡◌, arith}
+use Rattle.std.proofs.Common.{arith}
 use Rattle.register_app.proofs.answering.answer.Goals as goal
 use Rattle.register_app.proofs.answering.answer.Goals.{in-Whole, in-Broken}
 

@@ -1,11 +1,11 @@
 -- What follows from a calendar's rules, for every calendar.
-use Rattle.std.proofs.Common.{◌≡◌, ℕ, zero, suc, ◌+◌, ◌-◌, ◌*◌, ◌<◌, ◌≤◌, ◌⊎◌, inl, inr, List, [], ◌∷◌, length, IsTrue, refl, sym, subst, ap, ◌∙◌, arith, ℤ, pos, negsuc, neg_ℤ, ◌+ℤ◌, ◌-ℤ◌, ◌<ℤ◌, ◌≤ℤ◌}
+use Rattle.std.proofs.Common.{◌≡◌, ℕ, zero, suc, ◌+◌, ◌-◌, ◌*◌, ◌<◌, ◌≤◌, List, [], ◌∷◌, length, IsTrue, refl, sym, subst, ap, ◌∙◌, arith, ℤ, pos, negsuc, ◌+ℤ◌, ◌-ℤ◌, ◌<ℤ◌, ◌≤ℤ◌}
 use Rattle.std.proofs.lemmas.Int.{by_lt_z}
 use Rattle.std.proofs.lemmas.Bool.Decides.{nat_tests}
-use Rattle.day_numbers.specs.Rules.{Years, from_one, with_zero, without_zero, Rules, HasYear, total_days, days_of_month, days_before_month, days_of_years, year_before, days_of_years_before, years_back, start_of_year, year_length, year_start, IsDateOf, day_number_of, are_months, has_number, HasDayOf, first_day_by}
+use Rattle.day_numbers.specs.Rules.{Years, from_one, with_zero, without_zero, Rules, HasYear, total_days, days_of_month, days_before_month, days_of_years, year_before, days_of_years_before, years_back, start_of_year, year_length, year_start, IsDateOf, day_number_of, are_months, HasDayOf, first_day_by}
 use Rattle.day_numbers.specs.Days.{IsSinceFirstDay}
 use Rattle.day_numbers.specs.declared.rules.Month.{Month}
-use Rattle.day_numbers.proofs.SignedArithmetic.{up, down, signed_arith}
+use Rattle.day_numbers.proofs.SignedArithmetic.{signed_arith}
 
 -- the year after a year
 abbrev pub next_year : Years → ℤ → ℤ

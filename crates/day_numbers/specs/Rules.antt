@@ -1,7 +1,7 @@
 -- A calendar by its rules: where its years begin to count, and how long the months of each year are.
 -- Year lengths, year starts, valid dates and day numbers are sums over these lists of months and years
 -- (Reingold and Dershowitz, Calendrical Calculations: a fixed day number is the number of days that have passed).
-use Rattle.std.specs.Prelude.{ℕ, zero, suc, ◌+◌, ◌≤◌, Bool, true, false, List, [], ◌∷◌, ◌==◌, if◌then◌else◌, ℤ, pos, negsuc, neg_ℤ, ◌+ℤ◌, ◌-ℤ◌, not, ◌&&◌, nat_le, IsTrue, Option, Some, None}
+use Rattle.std.specs.Prelude.{ℕ, zero, suc, ◌+◌, ◌≤◌, Bool, true, false, List, [], ◌∷◌, ◌==◌, if◌then◌else◌, ℤ, pos, negsuc, neg_ℤ, ◌+ℤ◌, ◌-ℤ◌, not, ◌&&◌, nat_le, Option, Some, None}
 use Rattle.day_numbers.specs.Days.{IsSinceFirstDay}
 use Rattle.day_numbers.specs.declared.rules.Month.{Month}
 

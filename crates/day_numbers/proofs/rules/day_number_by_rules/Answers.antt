@@ -1,4 +1,4 @@
-use Rattle.std.proofs.Common.{◌≡◌, ap, arith, rules, ℤ, pos, to_z-of_z, FitsSigned, w32, w64, ◌∙◌, refl, ◌+◌, ◌+ℤ◌, ◌-ℤ◌}
+use Rattle.std.proofs.Common.{◌≡◌, arith, rules, to_z-of_z, FitsSigned, w32, refl}
 use Rattle.day_numbers.specs.Rules.{day_number_of}
 use Rattle.day_numbers.proofs.RulesLemmas.{number_from_parts}
 use Rattle.std.proofs.lemmas.Int.{ints}

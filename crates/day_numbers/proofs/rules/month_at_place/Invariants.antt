@@ -1,4 +1,4 @@
-use Rattle.std.proofs.Common.{◌≡◌, ℕ, ◌≤◌, ◌<◌, ◌+◌, IsTrue, drop}
+use Rattle.std.proofs.Common.{◌≡◌, ℕ, ◌<◌, ◌+◌, IsTrue, drop}
 use Rattle.day_numbers.specs.Rules.{total_days, days_of_month, days_before_month, has_number, are_months}
 use Rattle.day_numbers.proofs.rules.month_at_place.Given as goal
 

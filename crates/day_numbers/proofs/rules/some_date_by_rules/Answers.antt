@@ -1,9 +1,8 @@
-use Rattle.std.proofs.Common.{◌≡◌, ap, arith, rules, ℤ, pos, to_z-of_z, FitsSigned, w32, w64, sym, ◌∙◌, refl}
-use Rattle.day_numbers.specs.Rules.{total_days, year_length}
+use Rattle.std.proofs.Common.{ap, arith, rules, to_z-of_z, FitsSigned, w32, w64}
+use Rattle.day_numbers.specs.Rules.{total_days}
 use Rattle.std.proofs.lemmas.Int.{ints}
 use Rattle.day_numbers.proofs.RulesLemmas.{total-le, date_at_place}
 use Rattle.std.proofs.lemmas.Option.{IfSome_then}
-use Rattle.day_numbers.proofs.SignedArithmetic.{signed_casts}
 use Rattle.day_numbers.proofs.rules.some_date_by_rules.Goals as goal
 
 pub overflow_cast-place : goal.overflow_cast-place

@@ -1,4 +1,4 @@
-use Rattle.std.proofs.Common.{arith, ℤ, pos, suc, ◌≡◌, to_z, of_z, w32, ◌+ℤ◌}
+use Rattle.std.proofs.Common.{arith, pos, suc, ◌≡◌, to_z, of_z, w32, ◌+ℤ◌}
 use Rattle.std.proofs.lemmas.Int.{ints}
 use Rattle.day_numbers.specs.Rules.{total_days}
 use Rattle.day_numbers.proofs.RulesLemmas.{sum_in_year}

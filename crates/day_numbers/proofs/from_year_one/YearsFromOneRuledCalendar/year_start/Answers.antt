@@ -1,8 +1,7 @@
-use Rattle.std.proofs.Common.{arith, ℤ, pos, suc, ◌≡◌}
+use Rattle.std.proofs.Common.{arith}
 use Rattle.std.proofs.lemmas.Int.{ints}
 use Rattle.day_numbers.specs.Rules.{total_days}
 use Rattle.day_numbers.proofs.RulesLemmas.{sum_is_start, year_from_one}
-use Rattle.day_numbers.proofs.SignedArithmetic.{signed_arith}
 use Rattle.day_numbers.proofs.from_year_one.YearsFromOneRuledCalendar.year_start.Goals as goal
 
 pub returns-clause-value : goal.returns-clause-value

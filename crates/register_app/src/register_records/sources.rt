@@ -103,6 +103,13 @@ fn cause_of_row_fault(fault: RowFault) -> Cause
     }
 }
 
+/// The end of a source that broke off for this cause.
+fn broken(cause: Cause) -> SourceEnd
+    ensures { result ≡ SourceEnd.Broken cause }
+{
+    SourceEnd::Broken { cause }
+}
+
 /// Notes a row that was refused.
 fn push_note(journal: &mut Vec<Note>, row: &Row) -> Result<(), AllocError>
     ensures { OnOk result (journal.new.items ≡ journal.old.items ++ notes_of (row_seen row.now).number (row_seen row.now).outcome) }
@@ -152,19 +159,11 @@ pub fn convert_source<R: Read + Drop, W: Output>(
 {
     let mut entries = match EntryReader::open(alloc, reader, setup) {
         Ok(entries) => entries,
-        Err(fault) => {
-            return SourceEnd::Broken {
-                cause: cause_of_entry_fault(fault),
-            };
-        }
+        Err(fault) => return broken(cause_of_entry_fault(fault)),
     };
     let mut writer = match RowWriter::open(alloc, output, setup) {
         Ok(writer) => writer,
-        Err(fault) => {
-            return SourceEnd::Broken {
-                cause: cause_of_row_fault(fault),
-            };
-        }
+        Err(fault) => return broken(cause_of_row_fault(fault)),
     };
     let mut journal = Vec::new(alloc);
     let mut rows = 0;
@@ -178,22 +177,14 @@ pub fn convert_source<R: Read + Drop, W: Output>(
                     journal,
                 };
             }
-            Err(fault) => {
-                return SourceEnd::Broken {
-                    cause: cause_of_entry_fault(fault),
-                };
-            }
+            Err(fault) => return broken(cause_of_entry_fault(fault)),
         };
         let row = convert(entry, setup);
         if push_note(&mut journal, &row).is_err() {
-            return SourceEnd::Broken {
-                cause: Cause::NoMemory,
-            };
+            return broken(Cause::NoMemory);
         }
         if let Err(fault) = writer.put(output, &row) {
-            return SourceEnd::Broken {
-                cause: cause_of_row_fault(fault),
-            };
+            return broken(cause_of_row_fault(fault));
         }
         rows = row.entry().number();
     }

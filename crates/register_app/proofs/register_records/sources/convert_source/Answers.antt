@@ -29,14 +29,15 @@ returns-in-Ok-None-clause-whole g c =
     finish _ _ _ _ _ _ _ _ _ _ _ inv.come gives (rw (← inv.counted) inv.limit) inv.counted (search rules)
 
 pub returns-then-is_err-clause-part : goal.returns-then-is_err-clause-part
-returns-then-is_err-clause-part g c h = inr (front _ _ _ _ _ _ _ _ c.entries.invariant.come)
+returns-then-is_err-clause-part g c = rw c.broken-then-is_err.ensures (λ h. inr (front _ _ _ _ _ _ _ _ c.entries.invariant.come))
 
 pub returns-in-Err-put-clause-part : goal.returns-in-Err-put-clause-part
-returns-in-Err-put-clause-part g c h =
+returns-in-Err-put-clause-part g c =
     let inv = c.entries.invariant in
+    rw c.broken-in-Err-put.ensures (λ h.
     let memory = only-memory _ _ c.cause_of_row_fault-in-Err-put.ensures (c.in-Err-put.ensures.only_failed inv.writes) h in
     let same = c.in-Err-put.ensures.memory memory in
-    inr (rw same (front _ _ _ _ _ _ _ _ inv.come))
+    inr (rw same (front _ _ _ _ _ _ _ _ inv.come)))
 
 pub entries-preserved : goal.entries-preserved
 entries-preserved g c =

@@ -35,11 +35,11 @@ impl CivilDate {
 }
 
 /// A count of days in places. None is read or written yet.
-#[derive(Clone, Copy, PartialEq, Eq, Debug)]
+#[derive(Clone, Copy)]
 pub enum LongCount {}
 
 /// A date as a text says it, which need not be a date that its calendar has.
-#[derive(Clone, Copy, PartialEq, Eq, Debug)]
+#[derive(Clone, Copy)]
 pub enum Date {
     /// A year, a month and a day.
     Civil(CivilDate),

@@ -20,10 +20,20 @@ fn words_of<R: Env + AllocGlobal>(rt: &R) -> io::Result<Vec<String>> {
     Ok(words)
 }
 
+/// Tells why the words could not be read: want of memory, status 3, or a word that is no text, status 2.
+fn unread_words(rt: &impl Eprint, error: &io::Error) -> ExitCode {
+    if error.kind() == io::ErrorKind::OutOfMemory {
+        let _ = eprintln!(rt; "register: out of memory");
+        return ExitCode::from(3);
+    }
+    let _ = eprintln!(rt; "register: an argument is not UTF-8");
+    ExitCode::from(2)
+}
+
 fn main(rt: HostRuntime) -> ExitCode {
-    let Ok(words) = words_of(&rt) else {
-        let _ = eprintln!(rt; "register: the arguments could not be read");
-        return ExitCode::from(2);
+    let words = match words_of(&rt) {
+        Ok(words) => words,
+        Err(error) => return unread_words(&rt, &error),
     };
     let output = PlainOutput::new(rt.stdout(), 1);
     let mut errors = PlainOutput::new(rt.stderr(), 0);

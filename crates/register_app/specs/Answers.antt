@@ -1,10 +1,10 @@
 -- How the program answers: what it converts to, and what its output has gained.
 use Rattle.std.specs.Prelude.{ℕ, List, [], ◌∷◌, Option}
-use Rattle.register_app.specs.Sources.{GainsWhole}
-use Rattle.register_app.specs.declared.date_texts.calendar.Calendar.TheVariants.{Gregorian, Julian}
-use Rattle.register_app.specs.declared.date_texts.calendar.Target.{Target}
-use Rattle.register_app.specs.declared.date_texts.calendar.Target.TheVariants.{Date as DateTarget}
-use Rattle.register_app.specs.declared.register_records.sources.Note.{Note}
+use Rattle.register_records.specs.Sources.{GainsWhole}
+use Rattle.date_texts.specs.declared.calendar.Calendar.TheVariants.{Gregorian, Julian}
+use Rattle.date_texts.specs.declared.calendar.Target.{Target}
+use Rattle.date_texts.specs.declared.calendar.Target.TheVariants.{Date as DateTarget}
+use Rattle.register_records.specs.declared.sources.Note.{Note}
 
 -- the columns of the program's table after the weekday: the date in the Gregorian and in the Julian calendar
 abbrev pub program_targets : List Target

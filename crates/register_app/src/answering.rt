@@ -2,11 +2,11 @@
 
 ghost use Rattle.std.specs.Prelude.{◌≡◌, ◌<◌, ◌⊎◌, false, length};
 ghost use Rattle.register_app.specs.Answers.{GainsWholeTable, comma, program_targets};
-ghost use Rattle.register_app.specs.Setups.{delimiter_of, targets_of};
-ghost use Rattle.register_app.specs.Sources.{GainsPart};
+ghost use Rattle.register_records.specs.Setups.{delimiter_of, targets_of};
+ghost use Rattle.register_records.specs.Sources.{GainsPart};
 
-use crate::date_texts::{Calendar, Target};
-use crate::register_records::{Cause, Output, Setup, SourceEnd, convert_source, send};
+use date_texts::{Calendar, Target};
+use register_records::{Cause, Output, Setup, SourceEnd, convert_source, send};
 use arrayvec::ArrayString;
 use std::alloc::Global;
 use std::fmt::Write;

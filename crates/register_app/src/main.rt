@@ -5,8 +5,6 @@
 #![tactic(auto)]
 
 mod answering;
-mod date_texts;
-mod register_records;
 
 use answering::answer;
 use register_records::PlainOutput;

@@ -2,7 +2,7 @@
 // published day numbers.
 
 use crate::answering::answer;
-use crate::register_records::PlainOutput;
+use register_records::PlainOutput;
 use std::alloc::Global;
 use std::io;
 use std::io::{ErrorKind, Read, Write};

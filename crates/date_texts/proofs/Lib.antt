@@ -1,0 +1,4 @@
+pub mod ReadingLemmas
+pub mod DateTextLemmas
+pub mod TargetCount
+pub mod OneCalendarName

@@ -1,0 +1,57 @@
+-- How many targets there are at most, where none is named twice.
+use Rattle.std.proofs.Common.{◌≡◌, ◌≢◌, ◌<◌, ◌≤◌, ℕ, List, [], ◌∷◌, refl, sym, ap, ◌∙◌, arith, inl, inr, length, map, get_or, Some, false, true, eqb}
+use Rattle.std.specs.Prelude.{slice_get}
+use Rattle.std.specs.List.{list_any}
+use Rattle.std.proofs.lemmas.Bool.Decides.{eqb_tells}
+use Rattle.std.proofs.lemmas.List.{get_or-map, length-map}
+use Rattle.std.proofs.lemmas.Map.Keys.{IsDistinct-from_apart}
+use Rattle.std.proofs.lemmas.Map.Steps.{length-le_from_distinct_below}
+use Rattle.std.proofs.lemmas.Option.{slice_get-get_or}
+use Rattle.date_texts.specs.declared.calendar.Calendar.TheVariants.{Gregorian, Julian}
+use Rattle.date_texts.specs.declared.calendar.Target.{Target}
+use Rattle.date_texts.specs.declared.calendar.Target.TheVariants.{Date}
+
+-- the targets, counted
+target_place : Target → ℕ
+target_place (Date Gregorian) = 0
+target_place (Date Julian) = 1
+
+place-below : (t : Target) → target_place t < 13
+unfolding target_place
+place-below (Date Gregorian) = omega arith
+place-below (Date Julian) = omega arith
+
+place-same : (t u : Target) → target_place t ≡ target_place u → t ≡ u
+unfolding target_place
+place-same (Date Gregorian) (Date Gregorian) e = refl
+place-same (Date Gregorian) (Date Julian) e = absurd (omega arith)
+place-same (Date Julian) (Date Gregorian) e = absurd (omega arith)
+place-same (Date Julian) (Date Julian) e = refl
+
+below : (ts : List Target) (q : ℕ) → list_any (eqb q) (map target_place ts) ≡ true → q < 13
+below [] q e = cc
+below (t ∷ ts) q e =
+    elim (eqb_tells q (target_place t)) [
+      | inl same ↦ rw same.1 (place-below t)
+      | inr other ↦ below ts q (rw other.0 at e)
+    ]
+
+apart : (ts : List Target) → ((i j : ℕ) → i < j → j < length ts → slice_get ts i ≢ slice_get ts j)
+    → (i j d : ℕ) → i < j → j < length (map target_place ts) → eqb (get_or (map target_place ts) i d) (get_or (map target_place ts) j d) ≡ false
+apart ts h i j d lt le =
+    let long = length-map ts target_place in
+    let near : j < length ts = omega (arith, long, le) in
+    let first : i < length ts = omega arith in
+    let there = get_or-map target_place ts i (Date Gregorian) d first in
+    let here = get_or-map target_place ts j (Date Gregorian) d near in
+    rw (there, here) (elim (eqb_tells (target_place (get_or ts i (Date Gregorian))) (target_place (get_or ts j (Date Gregorian)))) [
+      | inl same ↦ absurd (h i j lt near (slice_get-get_or ts i (Date Gregorian) first ∙ (ap Some (place-same _ _ same.1) ∙ sym (slice_get-get_or ts j (Date Gregorian) near))))
+      | inr other ↦ other.0
+    ])
+
+-- targets of which none is named twice are thirteen at most
+pub few : (ts : List Target) → ((i j : ℕ) → i < j → j < length ts → slice_get ts i ≢ slice_get ts j) → length ts ≤ 13
+few ts h =
+    let long = length-map ts target_place in
+    let short = length-le_from_distinct_below (map target_place ts) 13 (IsDistinct-from_apart eqb (map target_place ts) (apart ts h)) (below ts) in
+    omega (arith, long, short)

@@ -1,0 +1,5 @@
+use Rattle.date_texts.proofs.TargetCount.{few}
+use Rattle.date_texts.proofs.laws.few_targets.Goals as goal
+
+pub returns : goal.returns
+returns c = few

@@ -1,0 +1,5 @@
+use Rattle.date_texts.proofs.DateTextLemmas.{one_cell}
+use Rattle.date_texts.proofs.laws.one_cell.Goals as goal
+
+pub returns : goal.returns
+returns c = one_cell

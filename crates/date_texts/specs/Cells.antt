@@ -1,0 +1,20 @@
+-- The cell of a day in the column of a target: a definition of this project, over the calendars' own rules.
+use Rattle.std.specs.Prelude.{◌≡◌, ℕ, ℤ, List, []}
+use Rattle.day_numbers.specs.Days.{IsSinceFirstDay}
+use Rattle.date_texts.specs.Calendars.{first_day_in}
+use Rattle.date_texts.specs.Dates.{calendar_of_date, IsDateOfCalendar, day_number_of_date}
+use Rattle.date_texts.specs.DateText.{canonical_text}
+use Rattle.date_texts.specs.declared.calendar.Calendar.{Calendar}
+use Rattle.date_texts.specs.declared.calendar.Target.{Target}
+use Rattle.date_texts.specs.declared.calendar.Target.TheVariants.{Date as DateTarget}
+use Rattle.date_texts.specs.declared.date.Date.{Date}
+
+-- the text is the canonical text of a date that the calendar has and whose day is n, or it is empty
+-- and day n is before the calendar's first day
+pub data IsDateCell (calendar : Calendar) (n : ℤ) (text : List ℕ) : Type 0 where
+  on_date : (date : Date) → calendar_of_date date ≡ calendar → IsDateOfCalendar date → day_number_of_date date ≡ n → text ≡ canonical_text date → IsDateCell calendar n text
+  before_first_day : ¬ (IsSinceFirstDay (first_day_in calendar) n) → text ≡ [] → IsDateCell calendar n text
+
+-- the text is the cell of day n in the target's column
+abbrev pub IsCell : Target → ℤ → List ℕ → Type 0
+IsCell (DateTarget calendar) n text = IsDateCell calendar n text

@@ -1,0 +1,20 @@
+-- Dates: which calendar a date is of, whether the calendar has it, and its day.
+use Rattle.std.specs.Prelude.{ℤ}
+use Rattle.date_texts.specs.declared.calendar.Calendar.{Calendar}
+use Rattle.date_texts.specs.declared.date.Date.{Date}
+use Rattle.date_texts.specs.declared.date.Date.TheVariants.{Civil, Long}
+use Rattle.date_texts.specs.Calendars.{IsDateIn, day_number_in}
+
+abbrev pub calendar_of_date : Date → Calendar
+calendar_of_date (Civil d) = d.calendar
+calendar_of_date (Long n) = elim n [ ]
+
+-- the date's calendar has it
+abbrev pub IsDateOfCalendar : Date → Type 0
+IsDateOfCalendar (Civil d) = IsDateIn d.calendar d.ymd
+IsDateOfCalendar (Long n) = elim n [ ]
+
+-- the fixed day number of a date
+abbrev pub day_number_of_date : Date → ℤ
+day_number_of_date (Civil d) = day_number_in d.calendar d.ymd
+day_number_of_date (Long n) = elim n [ ]

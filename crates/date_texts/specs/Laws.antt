@@ -1,0 +1,25 @@
+-- Laws of names, date texts, cells and lists of targets.
+use Rattle.std.specs.Prelude.{◌≡◌, ◌≢◌, ◌<◌, ◌≤◌, ℕ, ℤ, List, length, slice_get}
+use Rattle.date_texts.specs.declared.calendar.Calendar.{Calendar}
+use Rattle.date_texts.specs.declared.calendar.Target.{Target}
+use Rattle.date_texts.specs.declared.date.Date.{Date}
+use Rattle.date_texts.specs.Calendars.{calendar_name}
+use Rattle.date_texts.specs.Cells.{IsCell}
+use Rattle.date_texts.specs.DateText.{IsDateText}
+use Rattle.date_texts.specs.Names.{IsNamed}
+
+-- a text names one calendar at most
+abbrev pub OneCalendar : Type 0
+OneCalendar = (text : List ℕ) (c e : Calendar) → IsNamed text (calendar_name c) → IsNamed text (calendar_name e) → c ≡ e
+
+-- a text says one date of a calendar at most
+abbrev pub OneDateText : Type 0
+OneDateText = (calendar : Calendar) (text : List ℕ) (d e : Date) → IsDateText calendar text d → IsDateText calendar text e → d ≡ e
+
+-- a target and a day have one cell at most
+abbrev pub OneCell : Type 0
+OneCell = (target : Target) (n : ℤ) (x y : List ℕ) → IsCell target n x → IsCell target n y → x ≡ y
+
+-- targets of which none stands at two places are thirteen at most
+abbrev pub FewTargets : Type 0
+FewTargets = (targets : List Target) → ((i j : ℕ) → i < j → j < length targets → slice_get targets i ≢ slice_get targets j) → length targets ≤ 13

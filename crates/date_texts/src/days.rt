@@ -1,0 +1,37 @@
+ghost use Rattle.std.specs.Prelude.{◌≡◌, ◌↔◌, IsOk, IsSome, IfOk, IfSome, Err};
+ghost use Rattle.day_numbers.specs.Days.{IsDayNumber, IsSinceFirstDay};
+ghost use Rattle.date_texts.specs.Calendars.{first_day_in};
+ghost use Rattle.date_texts.specs.Dates.{calendar_of_date, IsDateOfCalendar, day_number_of_date};
+
+use super::calendar::Calendar;
+use super::date::{CivilDate, Date};
+use super::refusal::Refusal;
+use day_numbers::Day;
+
+/// The day of a date.
+///
+/// # Errors
+///
+/// `NoSuchDate` exactly where the date's calendar has no such date, whatever its day would be;
+/// `OutOfRange` exactly where it has the date and the day number is not from -3652424 to 3652059.
+pub fn day_of_date(date: &Date) -> Result<Day, Refusal>
+    ensures succeeds { IsOk result ↔ (IsDateOfCalendar date.now × IsDayNumber (day_number_of_date date.now)) }
+    ensures value { IfOk result (λ day. day.number ≡ day_number_of_date date.now) }
+    ensures no_such_date { (result ≡ Err Refusal.NoSuchDate) ↔ ¬ (IsDateOfCalendar date.now) }
+    ensures out_of_range { (result ≡ Err Refusal.OutOfRange)
+        ↔ (IsDateOfCalendar date.now × ¬ (IsDayNumber (day_number_of_date date.now))) }
+{
+    match *date {
+        Date::Civil(civil) => Ok(civil.calendar().day_of(civil.ymd())?),
+        Date::Long(count) => match count {},
+    }
+}
+
+/// The one date of the calendar whose day this is, or `None` exactly before its first day.
+pub(crate) fn date_on_day(calendar: Calendar, day: Day) -> Option<Date>
+    ensures dated { IsSome result ↔ IsSinceFirstDay (first_day_in calendar) day.number }
+    ensures value { IfSome result (λ date. (calendar_of_date date ≡ calendar)
+        × IsDateOfCalendar date × (day_number_of_date date ≡ day.number)) }
+{
+    Some(Date::Civil(CivilDate::new(calendar, calendar.date_on(day)?)?))
+}

@@ -1,0 +1,23 @@
+//! Laws of names, date texts, cells and lists of targets, for the proofs of what stands on them.
+
+ghost use Rattle.date_texts.specs.Laws.{FewTargets, OneCalendar, OneCell, OneDateText};
+
+/// A text names one calendar at most.
+pub fn one_calendar()
+    ensures { OneCalendar }
+{}
+
+/// A text says one date of a calendar at most.
+pub fn one_date_text()
+    ensures { OneDateText }
+{}
+
+/// A target and a day have one cell at most.
+pub fn one_cell()
+    ensures { OneCell }
+{}
+
+/// Targets of which none stands at two places are thirteen at most.
+pub fn few_targets()
+    ensures { FewTargets }
+{}

@@ -1,0 +1,29 @@
+//! The names of calendars, dates as text, and the cells of a table.
+//!
+//! A date text is read where the grammar has it and written in one canonical form, which is read back
+//! as the same date. A cell is the canonical text of a day in a calendar.
+#![tactic(auto)]
+
+mod calendar;
+mod cells;
+mod date;
+mod days;
+pub mod laws;
+mod names;
+mod read;
+mod refusal;
+mod trim;
+mod write;
+
+pub use calendar::{Calendar, Target};
+pub use cells::cell;
+pub use date::{CivilDate, Date, LongCount};
+pub use days::day_of_date;
+pub use names::{calendar_named, target_named};
+pub use read::read_date;
+pub use refusal::Refusal;
+pub use trim::trimmed;
+pub use write::write_date;
+
+#[cfg(test)]
+mod tests;

@@ -1,0 +1,54 @@
+ghost use Rattle.std.specs.Prelude.{◌≡◌};
+
+use day_numbers::DateFault;
+
+/// Why a record is refused. A record is refused by the first that applies, in this order.
+#[derive(Clone, Copy, PartialEq, Eq, Debug)]
+pub enum Refusal {
+    /// The record has not three fields.
+    FieldCount,
+    /// A field is over its limit in bytes.
+    FieldTooLong,
+    /// A field is not UTF-8.
+    NotUtf8,
+    /// No calendar has the name.
+    UnknownCalendar,
+    /// The date text is not in the calendar's grammar.
+    DateText,
+    /// The calendar has no such date.
+    NoSuchDate,
+    /// The calendar has the date, and its day number is not from -3652424 to 3652059.
+    OutOfRange,
+}
+
+impl Refusal {
+    ghost use Rattle.date_texts.specs.Refusals.{refusal_number};
+
+    /// The number that a table shows, from 1 for `FieldCount` to 7 for `OutOfRange`.
+    pub fn number(&self) -> u8
+        ensures { result ≡ refusal_number self.now }
+    {
+        match self {
+            Refusal::FieldCount => 1,
+            Refusal::FieldTooLong => 2,
+            Refusal::NotUtf8 => 3,
+            Refusal::UnknownCalendar => 4,
+            Refusal::DateText => 5,
+            Refusal::NoSuchDate => 6,
+            Refusal::OutOfRange => 7,
+        }
+    }
+}
+
+impl From<DateFault> for Refusal {
+    ghost use Rattle.date_texts.specs.Refusals.{refusal_of};
+
+    ghost from_gives = { λ fault refusal. refusal ≡ refusal_of fault };
+
+    fn from(fault: DateFault) -> Self {
+        match fault {
+            DateFault::NoSuchDate => Refusal::NoSuchDate,
+            DateFault::OutOfRange => Refusal::OutOfRange,
+        }
+    }
+}

@@ -1,7 +1,0 @@
-use Rattle.register_app.specs.Cells.{on_date}
-use Rattle.register_app.proofs.date_texts.cells.date_cell.Goals as goal
-
-pub returns-in-Some : goal.returns-in-Some
-returns-in-Some c =
-    let date = c.in-Some.ensures.value in
-    on_date c.in-Some.date date.0 date.1 date.2 c.write_date.ensures.canonical

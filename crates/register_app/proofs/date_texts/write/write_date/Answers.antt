@@ -1,5 +1,0 @@
-use Rattle.register_app.proofs.DateTextLemmas.{canonical_text_is}
-use Rattle.register_app.proofs.date_texts.write.write_date.Goals as goal
-
-pub returns-clause-reads_back : goal.returns-clause-reads_back
-returns-clause-reads_back c = canonical_text_is c.args.date.now

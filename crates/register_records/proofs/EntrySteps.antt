@@ -1,0 +1,87 @@
+-- What a read of csv's reader does to the records that are left.
+use Rattle.std.proofs.Common.{◌≡◌, ◌<◌, ◌+◌, ℕ, List, [], ◌∷◌, length, Option, Some, None, true, false, refl, sym, ◌∙◌, arith}
+use Rattle.std.specs.Prelude.{⊤, IfSome, option_map}
+use Rattle.csv.specs.Reading.{ReadRecord, Reached, reader_config, reader_state, source_of, strip_bom}
+use Rattle.csv.specs.declared.reader.Reader.{Reader}
+use Rattle.csv.specs.declared.parser.Config.{Config}
+use Rattle.csv.specs.declared.parser.State.{State}
+use Rattle.csv.specs.declared.parser.State.TheVariants as st
+use Rattle.csv.proofs.ReadFacts.{rows-end, rows-more}
+use Rattle.register_records.specs.Headers.{IsHeader}
+use Rattle.register_records.specs.Entries.{HasRecords, Fields, all_after, body_of, body_seen, reading, text_records}
+use Rattle.register_records.specs.EntriesLeft.{Gives, Opens, entry_body, entry_number, records_left}
+use Rattle.register_records.specs.declared.entries.Entry.{Entry}
+use Rattle.register_records.proofs.RecordsLeft.{all-more, all-none}
+
+-- this record was the first of those that were left
+abbrev pub TakesFirst : Option (List Fields) → Option (List Fields) → Fields → Type 0
+TakesFirst None after f = ⊤
+TakesFirst (Some rows) None f = ⊥
+TakesFirst (Some rows) (Some rest) f = rows ≡ f ∷ rest
+
+one-record : (cfg cfg2 : Config) (s s2 : State) (y z : List ℕ) (f : Fields) → cfg2 ≡ cfg → Reached cfg s y (f ∷ []) s2 z → all_after cfg s y ≡ f ∷ all_after cfg2 s2 z
+unfolding Reached
+one-record cfg cfg2 s s2 y z f e h =
+    let (p, next, first, ends) = h in
+    all-more cfg s y p next ∙ rw (← first, ends.0, ends.1, e) refl
+
+nothing-yet : (cfg : Config) (s : State) (y : List ℕ) → Reached cfg s y [] s y
+unfolding Reached
+nothing-yet cfg s y = (refl, refl)
+
+-- a read that found a record
+pub read-more : {R : Type 0} (rem : R → Option (List ℕ)) (a b : Reader R) (f : Fields) → ReadRecord rem a b true f → TakesFirst (records_left rem a) (records_left rem b) f
+read-more {R = R} rem a b f r = by (source_of rem a) refl
+  where
+    by : (o : Option (List ℕ)) → source_of rem a ≡ o → TakesFirst (option_map (all_after a.config a.state) o) (records_left rem b) f
+    by None e = tt
+    by (Some y) e =
+        let m = rows-more rem a b f a.config a.state y y [] refl e (nothing-yet a.config a.state y) r in
+        rw m.1 (one-record a.config b.config a.state b.state y m.0 f r.2 m.2)
+
+-- a read that found none
+pub read-none : {R : Type 0} (rem : R → Option (List ℕ)) (a b : Reader R) (f : Fields) → ReadRecord rem a b false f → IfSome (records_left rem a) (λ rows. rows ≡ [])
+read-none {R = R} rem a b f r = by (source_of rem a) refl
+  where
+    by : (o : Option (List ℕ)) → source_of rem a ≡ o → IfSome (option_map (all_after a.config a.state) o) (λ rows. rows ≡ [])
+    by None e = tt
+    by (Some y) e = all-none a.config a.state y (rows-end rem a b f a.config y refl e r)
+
+pub gives-entry : (x y : Option (List Fields)) (f : Fields) (k : ℕ) (e : Entry) → TakesFirst x y f → entry_number e ≡ k + 1 → body_seen (entry_body e) ≡ body_of f → Gives x y k (Some e)
+gives-entry None y f k e t n b = tt
+gives-entry (Some rows) None f k e t n b = t
+gives-entry (Some rows) (Some rest) f k e t n b = (f, t, rw (n, b) refl)
+
+pub gives-none : (x : Option (List Fields)) (k : ℕ) → IfSome x (λ rows. rows ≡ []) → Gives x (Some []) k None
+gives-none None k t = tt
+gives-none (Some rows) k t = (t, refl)
+
+pub some-left : (x y : Option (List Fields)) (f : Fields) → TakesFirst x y f → IfSome x (λ rows. 0 < length rows)
+some-left None y f t = tt
+some-left (Some rows) None f t = absurd t
+some-left (Some rows) (Some rest) f t = rw t (omega arith)
+
+-- the records of a text, at a reader that is at its start
+pub at-start : {R : Type 0} (rem : R → Option (List ℕ)) (a : Reader R) (d : ℕ) (o : Option (List ℕ)) → reader_config a ≡ reading d → reader_state a ≡ st.StartRecord
+    → source_of rem a ≡ option_map strip_bom o → records_left rem a ≡ option_map (text_records d) o
+at-start rem a d None config state source = rw (source) refl
+at-start rem a d (Some text) config state source = rw (source, config, state) refl
+
+-- a first record that is a header
+pub opens : (o : Option (List ℕ)) (y : Option (List Fields)) (d : ℕ) (f : Fields) → TakesFirst (option_map (text_records d) o) y f → IsHeader f → IfSome o (λ text. Opens d text y)
+opens None y d f t h = tt
+opens (Some text) None d f t h = t
+opens (Some text) (Some rest) d f t h = (f, t, h)
+
+-- a first record that is none
+pub refuses : (o : Option (List ℕ)) (y : Option (List Fields)) (d : ℕ) (f : Fields) → TakesFirst (option_map (text_records d) o) y f → (IsHeader f → ⊥)
+    → IfSome o (λ text. (rows : List Fields) → HasRecords d text rows → ⊥)
+refuses None y d f t h = tt
+refuses (Some text) None d f t h = absurd t
+refuses (Some text) (Some rest) d f t h = λ rows a. let same : a.0 ≡ f = cc (t, a.1) in h (rw same at a.2)
+
+-- no record
+pub refuses-none : (o : Option (List ℕ)) (d : ℕ) → IfSome (option_map (text_records d) o) (λ rows. rows ≡ [])
+    → IfSome o (λ text. (rows : List Fields) → HasRecords d text rows → ⊥)
+refuses-none None d t = tt
+refuses-none (Some text) d t = λ rows a. let none : a.0 ∷ rows ≡ [] = sym a.1 ∙ t in cc

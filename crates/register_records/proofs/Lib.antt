@@ -1,0 +1,8 @@
+pub mod FieldFacts
+pub mod HeaderFacts
+pub mod RecordsLeft
+pub mod EntrySteps
+pub mod LineFacts
+pub mod OutcomeFacts
+pub mod Progress
+pub mod OneTable

@@ -1,0 +1,14 @@
+use Rattle.std.proofs.Common.{◌<◌, ◌∙◌, ◌++◌, ap, append_assoc, arith, length}
+use Rattle.csv.specs.Writing.{escaped}
+use Rattle.csv.proofs.WriteFacts.{quoted-step}
+use Rattle.register_records.specs.Lines.{writing}
+use Rattle.register_records.proofs.lines.push_quoted.Goals as goal
+
+pub bytes-init : goal.bytes-init
+unfolding escaped
+bytes-init c = c.in_ok-push.ensures.items
+
+pub bytes-preserved : goal.bytes-preserved
+bytes-preserved c =
+    let lt : c.bytes.i < length c.args.field.now = omega arith in
+    c.in_ok-push_escaped.ensures ∙ rw (c.bytes.invariant, append_assoc) (ap (λ t. c.args.line.now.items ++ t) (quoted-step (writing c.args.delimiter) 34 c.args.field.now c.bytes.i lt))

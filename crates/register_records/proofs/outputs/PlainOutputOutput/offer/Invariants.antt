@@ -1,0 +1,11 @@
+use Rattle.std.proofs.Common.{◌≡◌}
+use Rattle.std.specs.Io.KnownBytes.{Keeps}
+use Rattle.register_records.proofs.outputs.PlainOutputOutput.offer.Given as goal
+
+abbrev pub invariant-tries : goal.invariant-tries
+invariant-tries g l =
+    record {
+      kept : Keeps (g.W.Write.contents l.fn.self.inner) (g.W.Write.contents l.self.inner);
+      failed : l.self.failed ≡ l.fn.self.failed;
+      mark : l.self.mark ≡ l.fn.self.mark;
+    }

@@ -1,0 +1,39 @@
+use Rattle.std.proofs.Common.{◌≡◌, inr, rules, false}
+use Rattle.csv.specs.Reading.{names_headers, reader_config, reader_trim}
+use Rattle.csv.specs.declared.reader.Trim.TheVariants as trim
+use Rattle.register_records.specs.Entries.{reading}
+use Rattle.register_records.specs.Setups.{delimiter_of}
+use Rattle.register_records.proofs.EntrySteps.{at-start, opens, read-more, read-none, refuses, refuses-none}
+use Rattle.register_records.proofs.reading.EntryReader.open.Goals as goal
+use Rattle.register_records.proofs.reading.EntryReader.open.Goals.{then-not-found-via-else-not-found+then-not-is_header, then-not-found-via-then-not-found}
+
+pub returns-then-not-found-clause-bad : goal.returns-then-not-found-clause-bad
+returns-then-not-found-clause-bad g c _ =
+    let fr = c.from_reader-rows.ensures in
+    let config : reader_config c.from_reader-rows.result ≡ reading (delimiter_of c.args.setup.now) = search rules in
+    let plain : reader_trim c.from_reader-rows.result ≡ trim.None = search rules in
+    let named : names_headers c.from_reader-rows.result ≡ false = search rules in
+    let r = c.in-Ok.ensures.reads plain (inr (inr (named, fr.headers))) in
+    let start = at-start g.R.Read.remaining c.from_reader-rows.result (delimiter_of c.args.setup.now) (g.R.Read.remaining c.args.reader) config fr.state fr.source in
+    elim c.then-not-found.branch [
+      | then-not-found-via-then-not-found w ↦
+          let none = rw w.if-not-found.true at r in
+          refuses-none _ (delimiter_of c.args.setup.now) (rw start at (read-none g.R.Read.remaining c.from_reader-rows.result c.read_byte_record.new.self _ none))
+      | then-not-found-via-else-not-found+then-not-is_header w ↦
+          let some = rw w.if-not-found.false at r in
+          refuses _ _ (delimiter_of c.args.setup.now) _
+          (rw start at (read-more g.R.Read.remaining c.from_reader-rows.result c.read_byte_record.new.self _ some))
+          (λ h. cc (w.is_header.ensures.1 h, w.if-not-is_header.true))
+    ]
+
+pub returns-clause-accepts : goal.returns-clause-accepts
+returns-clause-accepts g c =
+    let fr = c.from_reader-rows.ensures in
+    let config : reader_config c.from_reader-rows.result ≡ reading (delimiter_of c.args.setup.now) = search rules in
+    let plain : reader_trim c.from_reader-rows.result ≡ trim.None = search rules in
+    let named : names_headers c.from_reader-rows.result ≡ false = search rules in
+    let some = rw c.if-not-found.false at (c.in-Ok.ensures.reads plain (inr (inr (named, fr.headers)))) in
+    let start = at-start g.R.Read.remaining c.from_reader-rows.result (delimiter_of c.args.setup.now) (g.R.Read.remaining c.args.reader) config fr.state fr.source in
+    opens _ _ (delimiter_of c.args.setup.now) _
+    (rw start at (read-more g.R.Read.remaining c.from_reader-rows.result c.read_byte_record.new.self _ some))
+    (c.is_header.ensures.0 c.if-not-is_header.false)

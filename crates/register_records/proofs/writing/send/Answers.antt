@@ -1,0 +1,25 @@
+use Rattle.std.proofs.Common.{◌≡◌, ◌≢◌, ◌∙◌, ℕ, Bool, true, false, arith, rules, take-add, length-drop, refl}
+use Rattle.std.specs.Prelude.{◌==◌, ◌&&◌, ◌||◌}
+use Rattle.std.proofs.lemmas.Bool.Decides.{nat_tests}
+use Rattle.std.proofs.KnownBytes.{Appends-trans}
+use Rattle.csv.proofs.WriteFacts.{slice-end}
+use Rattle.register_records.proofs.writing.send.Goals as goal
+
+-- an offer that took some did not fail
+took-some : (a : Bool) (n : ℕ) (b : Bool) → n ≢ 0 → (a || ((n == 0) && b)) ≡ a
+took-some true n b h = refl
+took-some false n b h = let e : (n == 0) ≡ false = grind (arith, nat_tests) in rw e refl
+
+pub offers-preserved : goal.offers-preserved
+offers-preserved g c =
+    let inv = c.offers.invariant in
+    let all = c.args.bytes.now in
+    let sent = c.offers.sent in
+    let more = rw (slice-end all sent) at c.in-Ok.ensures.bytes in
+    let bound = rw (slice-end all sent) at c.in-Ok.ensures.bound in
+    let some : c.in-Ok.n ≢ 0 = search rules in (
+      omega (arith, inv.0, bound, length-drop sent all),
+      rw (take-add sent c.in-Ok.n all) (Appends-trans _ _ _ _ _ inv.1 more),
+      c.in-Ok.ensures.fails ∙ (took-some _ c.in-Ok.n _ some ∙ inv.2),
+      c.in-Ok.ensures.mark ∙ inv.3,
+    )

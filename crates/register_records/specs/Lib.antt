@@ -1,0 +1,17 @@
+pub mod Headers
+pub mod Entries
+pub mod EntriesLeft
+pub mod EntryFaults
+pub mod TargetLists
+pub mod Setups
+pub mod Lines
+pub mod Outputs
+pub mod PlainOutputs
+pub mod Outcomes
+pub mod Tables
+pub mod Views
+pub mod RowViews
+pub mod RowWriters
+pub mod Causes
+pub mod Sources
+pub mod Laws

@@ -1,0 +1,62 @@
+-- The table and the journal of rows.
+use Rattle.std.specs.Prelude.{◌==◌, if◌then◌else◌, ℕ, ℤ, List, [], ◌∷◌, ◌++◌, codes, map, Result, Ok, Err}
+use Rattle.std.specs.Fmt.{decimal, signed_decimal}
+use Rattle.day_numbers.specs.Days.{weekday_name, weekday_number}
+use Rattle.day_numbers.specs.declared.day.Weekday.{Weekday}
+use Rattle.day_numbers.specs.declared.day.Weekday.TheVariants.{Sunday, Monday, Tuesday, Wednesday, Thursday, Friday, Saturday}
+use Rattle.date_texts.specs.Calendars.{target_name}
+use Rattle.register_records.specs.Entries.{Texts}
+use Rattle.register_records.specs.Lines.{line_text}
+use Rattle.register_records.specs.Outcomes.{TableRow}
+use Rattle.date_texts.specs.Refusals.{refusal_number}
+use Rattle.date_texts.specs.declared.calendar.Target.{Target}
+use Rattle.date_texts.specs.declared.refusal.Refusal.{Refusal}
+use Rattle.register_records.specs.declared.sources.Note.{Note}
+
+-- the heading: six columns, one for each target, and the refusal
+abbrev pub heading : List Target → List (List ℕ)
+heading targets =
+    (codes "row" ∷ codes "id" ∷ codes "calendar" ∷ codes "date" ∷ codes "rd" ∷ codes "weekday" ∷ map target_name targets) ++ (codes "refusal" ∷ [])
+
+-- the three texts as they stand in the record; a record that was refused before has none
+abbrev pub text_fields : Result Texts Refusal → List (List ℕ)
+text_fields (Ok t) = t.id ∷ t.calendar ∷ t.date ∷ []
+text_fields (Err r) = [] ∷ [] ∷ [] ∷ []
+
+-- the weekday with this number, from 0 for Sunday
+abbrev pub weekday_at : ℕ → Weekday
+weekday_at n =
+    if n == 0 then Sunday else if n == 1 then Monday else if n == 2 then Tuesday else if n == 3 then Wednesday
+    else if n == 4 then Thursday else if n == 5 then Friday else Saturday
+
+-- the day number, the weekday, the cells and an empty refusal; or all of these empty but the refusal's number
+abbrev pub outcome_fields : List Target → Result ℤ Refusal → List (List ℕ) → List (List ℕ)
+outcome_fields targets (Ok n) cells = (signed_decimal n ∷ weekday_name (weekday_at (weekday_number n)) ∷ cells) ++ ([] ∷ [])
+outcome_fields targets (Err r) cells = ([] ∷ [] ∷ map (λ _. []) targets) ++ (decimal (refusal_number r) ∷ [])
+
+-- the fields of a row
+abbrev pub row_fields : List Target → TableRow → List (List ℕ)
+row_fields targets row = decimal row.number ∷ (text_fields row.body ++ outcome_fields targets row.outcome row.cells)
+
+-- the line of a row
+abbrev pub row_line : ℕ → List Target → TableRow → List ℕ
+row_line delimiter targets row = line_text delimiter (row_fields targets row)
+
+-- the lines of rows, in order
+unfoldable pub lines_text : ℕ → List Target → List TableRow → List ℕ
+lines_text delimiter targets [] = []
+lines_text delimiter targets (row ∷ rows) = row_line delimiter targets row ++ lines_text delimiter targets rows
+
+-- the table of rows: the heading's line and theirs
+abbrev pub table_text : ℕ → List Target → List TableRow → List ℕ
+table_text delimiter targets rows = line_text delimiter (heading targets) ++ lines_text delimiter targets rows
+
+-- what a row adds to the journal: its number and its refusal, where it was refused
+abbrev pub notes_of : ℕ → Result ℤ Refusal → List Note
+notes_of number (Ok n) = []
+notes_of number (Err r) = record { number = number; refusal = r } ∷ []
+
+-- the journal of rows: the refused ones, in order
+unfoldable pub journal_of : List TableRow → List Note
+journal_of [] = []
+journal_of (row ∷ rows) = notes_of row.number row.outcome ++ journal_of rows

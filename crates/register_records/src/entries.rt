@@ -1,0 +1,151 @@
+// An entry, and how it is made of a record.
+
+ghost use Rattle.std.specs.Prelude.{◌≡◌, ◌≢◌, ◌≤◌, ◌↔◌, [], ◌∷◌, length, MatchOption, IfSome, IsSome, IsTrue, Some, None};
+ghost use Rattle.std.specs.Prelude.{true, false};
+ghost use Rattle.std.specs.Str.{is_utf8};
+ghost use Rattle.csv.specs.Records.{fields_of};
+ghost use Rattle.register_records.specs.Entries.{body_of, body_seen, may_hold, record_limit};
+
+use arrayvec::ArrayString;
+use csv::ByteRecord;
+use date_texts::Refusal;
+use std::str;
+
+/// The most bytes of an id, of a calendar's name and of a date, before anything is trimmed.
+pub const ID_LIMIT: usize = 40;
+
+pub const CALENDAR_LIMIT: usize = 16;
+
+pub const DATE_LIMIT: usize = 32;
+
+/// The most records of a source after its header.
+pub const MAX_RECORDS: u32 = 1_000_000;
+
+/// What a record holds.
+#[derive(Clone, Copy)]
+pub enum Body {
+    /// The three fields of the record, as they stand in it.
+    Fields {
+        id: ArrayString<ID_LIMIT>,
+        calendar: ArrayString<CALENDAR_LIMIT>,
+        date: ArrayString<DATE_LIMIT>,
+    },
+    /// The record was refused before a calendar was looked for: `FieldCount` where it has not three
+    /// fields, else `FieldTooLong` where one is over its limit in bytes, else `NotUtf8` where one is
+    /// no UTF-8.
+    Refused(Refusal),
+}
+
+/// A record of a register with its number, from 1 to 1,000,000; the header has none.
+#[derive(Clone, Copy)]
+pub struct Entry {
+    number: u32,
+    body: Body,
+    ghost from_one: { 1 ≤ number },
+    ghost limited: { number ≤ record_limit },
+    ghost held: { IsTrue (may_hold body) },
+}
+
+impl Entry {
+    ghost use Rattle.register_records.specs.EntriesLeft.{entry_body, entry_number};
+
+    /// The entry with this number and this body, or `None` exactly where the number is not from 1 to
+    /// 1,000,000 or a refused body holds another refusal than `FieldCount`, `FieldTooLong` and
+    /// `NotUtf8`.
+    pub fn new(number: u32, body: Body) -> Option<Entry>
+        ensures made { IsSome result ↔ ((1 ≤ number) × (number ≤ 1000000) × IsTrue (may_hold body)) }
+        ensures value { IfSome result (λ e. (entry_number e ≡ number) × (entry_body e ≡ body)) }
+    {
+        if number == 0 || number > MAX_RECORDS || !is_allowed(&body) {
+            return None;
+        }
+        Some(Entry { number, body })
+    }
+
+    /// The entry of a record.
+    pub(crate) fn read(number: u32, row: &ByteRecord) -> Entry
+        requires from_one { 1 ≤ number }
+        requires limited { number ≤ record_limit }
+        ensures { (entry_number result ≡ number) × (body_seen (entry_body result) ≡ body_of (fields_of row.now)) }
+    {
+        Entry {
+            number,
+            body: read_body(row),
+        }
+    }
+
+    /// The number, from 1 to 1,000,000.
+    pub fn number(&self) -> u32
+        ensures value { result ≡ entry_number self.now }
+        ensures from_one { 1 ≤ result }
+        ensures limited { result ≤ 1000000 }
+    {
+        self.number
+    }
+
+    /// The body.
+    pub fn body(&self) -> &Body
+        ensures value { result.now ≡ entry_body self.now }
+        ensures held { IsTrue (may_hold result.now) }
+    {
+        &self.body
+    }
+}
+
+/// Whether an entry may have this body.
+fn is_allowed(body: &Body) -> bool
+    ensures { result ≡ may_hold body.now }
+{
+    match body {
+        Body::Fields { .. } => true,
+        Body::Refused(refusal) => matches!(
+            refusal,
+            Refusal::FieldCount | Refusal::FieldTooLong | Refusal::NotUtf8
+        ),
+    }
+}
+
+/// The fields of a record of three.
+pub(crate) fn three(row: &ByteRecord) -> Option<(&[u8], &[u8], &[u8])>
+    ensures { MatchOption result (length (fields_of row.now) ≢ 3) (λ t. fields_of row.now ≡ t.0.now ∷ t.1.now ∷ t.2.now ∷ []) }
+{
+    let a = row.get(0)?;
+    let b = row.get(1)?;
+    let c = row.get(2)?;
+    if row.len() != 3 {
+        return None;
+    }
+    Some((a, b, c))
+}
+
+/// A field as a text of a fixed capacity, where it is UTF-8.
+fn text<const N: usize>(field: &[u8]) -> Option<ArrayString<N>>
+    requires { length field.now ≤ N }
+    ensures { MatchOption result (is_utf8 field.now ≡ false) (λ t. (is_utf8 field.now ≡ true) × (t.bytes ≡ field.now)) }
+{
+    match str::from_utf8(field) {
+        Ok(s) => {
+            let mut t = ArrayString::new();
+            t.push_str(s);
+            Some(t)
+        }
+        Err(_) => None,
+    }
+}
+
+/// The body of a record.
+fn read_body(row: &ByteRecord) -> Body
+    ensures value { body_seen result ≡ body_of (fields_of row.now) }
+    ensures held { IsTrue (may_hold result) }
+{
+    let Some((id, calendar, date)) = three(row) else {
+        return Body::Refused(Refusal::FieldCount);
+    };
+    if id.len() > ID_LIMIT || calendar.len() > CALENDAR_LIMIT || date.len() > DATE_LIMIT {
+        return Body::Refused(Refusal::FieldTooLong);
+    }
+    match (text(id), text(calendar), text(date)) {
+        (Some(id), Some(calendar), Some(date)) => Body::Fields { id, calendar, date },
+        _ => Body::Refused(Refusal::NotUtf8),
+    }
+}

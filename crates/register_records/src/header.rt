@@ -1,0 +1,40 @@
+// Whether a record is the header.
+
+ghost use Rattle.std.specs.Prelude.{◌≡◌, ◌↔◌, IsTrue};
+ghost use Rattle.std.specs.Str.{str_to_ascii_lowercase};
+ghost use Rattle.csv.specs.Reading.{strip_bom};
+ghost use Rattle.csv.specs.Records.{fields_of};
+ghost use Rattle.register_records.specs.Headers.{IsHeader};
+ghost use Rattle.date_texts.specs.Names.{IsNamed};
+
+use crate::entries::three;
+use csv::ByteRecord;
+use date_texts::trimmed;
+
+/// Whether a field is this name, spaces and tabs round it and letter case aside.
+fn is_named(field: &[u8], name: &[u8]) -> bool
+    ensures { IsTrue result ↔ IsNamed field.now (str_to_ascii_lowercase name.now) }
+{
+    trimmed(field).eq_ignore_ascii_case(name)
+}
+
+/// A field without one byte order mark at its start.
+fn without_mark(field: &[u8]) -> &[u8]
+    ensures { result.now ≡ strip_bom field.now }
+{
+    if field.len() >= 3 && field[0] == 0xEF && field[1] == 0xBB && field[2] == 0xBF {
+        &field[3..]
+    } else {
+        field
+    }
+}
+
+/// Whether a record is the header.
+pub(crate) fn is_header(row: &ByteRecord) -> bool
+    ensures { IsTrue result ↔ IsHeader (fields_of row.now) }
+{
+    let Some((a, b, c)) = three(row) else {
+        return false;
+    };
+    is_named(without_mark(a), b"id") && is_named(b, b"calendar") && is_named(c, b"date")
+}

@@ -1,0 +1,31 @@
+//! The records of a register and its table.
+//!
+//! A source is a CSV text: a header `id,calendar,date` and records of three fields. Its table has one
+//! row for each record, in order: the day, its weekday and its dates in the calendars asked, or the
+//! number of the refusal. [`convert_source`] makes the table of a text on the caller's thread.
+#![tactic(auto)]
+
+mod converting;
+mod entries;
+mod header;
+pub mod laws;
+mod lines;
+mod outputs;
+mod reading;
+mod rows;
+mod setups;
+mod sources;
+mod target_lists;
+mod writing;
+
+pub use converting::convert;
+pub use entries::{Body, Entry};
+pub use outputs::{Output, OutputFault, PlainOutput};
+pub use reading::{EntryFault, EntryReader};
+pub use rows::Row;
+pub use setups::{Setup, SetupFault};
+pub use sources::{Cause, Note, SourceEnd, convert_source};
+pub use writing::{RowFault, RowWriter, send};
+
+#[cfg(test)]
+mod tests;

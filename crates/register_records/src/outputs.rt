@@ -1,0 +1,138 @@
+// Where the bytes of a table go.
+
+ghost use Rattle.std.specs.Prelude.{◌≡◌, ◌≤◌, ◌||◌, true, false, ℕ, Bool, List, Option, length, take, IfOk, OnOk, is_err};
+ghost use Rattle.std.specs.Io.KnownBytes.{Appends, Keeps};
+ghost use Rattle.register_records.specs.Outputs.{took_none};
+
+use std::io::{ErrorKind, Write};
+
+/// An output did not take bytes, or did not hand them on.
+#[derive(Clone, Copy, PartialEq, Eq, Debug)]
+pub struct OutputFault;
+
+/// Where the bytes of a table go.
+///
+/// An output has failed from its first fault on, or from the first offer of some bytes that took none,
+/// and not before. After a fault nothing is said of its bytes.
+pub trait Output {
+    // The bytes that the output holds, where they are known.
+    ghost contents: { Self → Option (List ℕ) };
+
+    // A call answered a fault, or an offer of some bytes took none.
+    ghost has_failed: { Self → Bool };
+
+    // What was taken was handed on.
+    ghost is_flushed: { Self → Bool };
+
+    // The mark, which no call changes.
+    ghost own_mark: { Self → ℕ };
+
+    /// Offers bytes, and answers how many of them, from the first on, were taken.
+    ///
+    /// # Errors
+    ///
+    /// `OutputFault` where the output has failed.
+    fn offer(&mut self, bytes: &[u8]) -> Result<usize, OutputFault>
+        ensures bound { IfOk result (λ k. k ≤ length bytes.now) }
+        ensures bytes { IfOk result (λ k. Appends (contents self.old) (contents self.new) (take k bytes.now)) }
+        ensures fails { has_failed self.new ≡ (has_failed self.old || took_none result bytes.now) }
+        ensures mark { own_mark self.new ≡ own_mark self.old };
+
+    /// Hands on what was taken, and takes nothing.
+    ///
+    /// # Errors
+    ///
+    /// `OutputFault` where the output has failed.
+    fn flush_out(&mut self) -> Result<(), OutputFault>
+        ensures bytes { OnOk result (Keeps (contents self.old) (contents self.new)) }
+        ensures flushed { OnOk result (is_flushed self.new ≡ true) }
+        ensures fails { has_failed self.new ≡ (has_failed self.old || is_err result) }
+        ensures mark { own_mark self.new ≡ own_mark self.old };
+
+    /// The mark that the output was made with.
+    fn mark(&self) -> u32
+        ensures { result ≡ own_mark self.now };
+}
+
+/// An output over a writer: it holds what the writer holds.
+#[derive(Drop)]
+pub struct PlainOutput<W> {
+    inner: W,
+    failed: bool,
+    flushed: bool,
+    mark: u32,
+}
+
+impl<W: Write> PlainOutput<W> {
+    ghost use Rattle.register_records.specs.PlainOutputs.{inner_of, mark_of, plain_failed};
+
+    /// The output over `inner`, with the mark `mark`; it has not failed.
+    pub fn new(inner: W, mark: u32) -> PlainOutput<W>
+        ensures inner { inner_of result ≡ inner }
+        ensures fresh { plain_failed result ≡ false }
+        ensures mark { mark_of result ≡ mark }
+    {
+        PlainOutput {
+            inner,
+            failed: false,
+            flushed: false,
+            mark,
+        }
+    }
+
+    /// The writer.
+    pub fn into_inner(self) -> W
+        ensures { result ≡ inner_of self }
+    {
+        self.inner
+    }
+}
+
+impl<W: Write> Output for PlainOutput<W> {
+    ghost contents = { λ o. W.contents o.inner };
+
+    ghost has_failed = { λ o. o.failed };
+
+    ghost is_flushed = { λ o. o.flushed };
+
+    ghost own_mark = { λ o. o.mark };
+
+    // A write that was interrupted is tried again.
+    fn offer(&mut self, bytes: &[u8]) -> Result<usize, OutputFault> {
+        self.flushed = false;
+        'tries: for _ in 0..u64::MAX {
+            match self.inner.write(bytes) {
+                Ok(n) => {
+                    if n == 0 && !bytes.is_empty() {
+                        self.failed = true;
+                    }
+                    return Ok(n);
+                }
+                Err(e) => {
+                    if e.kind() != ErrorKind::Interrupted {
+                        break;
+                    }
+                }
+            }
+        }
+        self.failed = true;
+        Err(OutputFault)
+    }
+
+    fn flush_out(&mut self) -> Result<(), OutputFault> {
+        match self.inner.flush() {
+            Ok(()) => {
+                self.flushed = true;
+                Ok(())
+            }
+            Err(_) => {
+                self.failed = true;
+                Err(OutputFault)
+            }
+        }
+    }
+
+    fn mark(&self) -> u32 {
+        self.mark
+    }
+}

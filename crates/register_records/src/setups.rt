@@ -1,0 +1,129 @@
+// What a conversion is asked for.
+
+ghost use Rattle.std.specs.Prelude.{◌≡◌, ◌≤◌, ◌<◌, ◌↔◌, ◌≢◌, ℕ, length, IsTrue, IfOk, Err, true, false, slice_get};
+
+use crate::target_lists::TargetList;
+use date_texts::Target;
+use date_texts::laws::few_targets;
+use thiserror::Error;
+
+/// The largest ring.
+const MAX_RING: usize = 4096;
+
+/// The targets, the size of the rings and the delimiter of a conversion.
+#[derive(Clone, Copy)]
+pub struct Setup {
+    targets: TargetList,
+    ring: usize,
+    delimiter: u8,
+}
+
+/// Why there is no such setup: the first of these that applies.
+#[derive(Clone, Copy, PartialEq, Eq, Debug, Error)]
+pub enum SetupFault {
+    /// A target is named twice.
+    #[error("a target is named twice")]
+    TargetTwice,
+    /// A ring has not 1 to 4096 places.
+    #[error("the ring size is not from 1 to 4096")]
+    RingSize,
+    /// The delimiter is no comma, semicolon or tab.
+    #[error("the delimiter is no comma, semicolon or tab")]
+    Delimiter,
+}
+
+impl SetupFault {
+    ghost use Rattle.register_records.specs.Setups.{setup_fault_number};
+
+    /// The number of the fault, from 1 for `TargetTwice` to 3 for `Delimiter`.
+    pub fn number(&self) -> u8
+        ensures { result ≡ setup_fault_number self.now }
+    {
+        match self {
+            SetupFault::TargetTwice => 1,
+            SetupFault::RingSize => 2,
+            SetupFault::Delimiter => 3,
+        }
+    }
+}
+
+impl Setup {
+    ghost use Rattle.register_records.specs.Setups.{NamesTwice, delimiter_of, is_delimiter, is_ring_size, ring_of, targets_of};
+    ghost use Rattle.register_records.specs.TargetLists.{targets_in};
+
+    /// A setup for these targets, in this order; none is allowed. Each ring holds `ring` items, from 1
+    /// to 4096, and `delimiter`, a comma, a semicolon or a tab, stands between two fields of the input
+    /// and of the output.
+    ///
+    /// # Errors
+    ///
+    /// The first that applies of `TargetTwice`, `RingSize` and `Delimiter`.
+    pub fn new(targets: &[Target], ring: usize, delimiter: u8) -> Result<Setup, SetupFault>
+        ensures value { IfOk result (λ s. (targets_of s ≡ targets.now) × (ring_of s ≡ ring) × (delimiter_of s ≡ delimiter)) }
+        ensures fit { IfOk result (λ s. (¬ (NamesTwice targets.now)) × (is_ring_size ring ≡ true) × (is_delimiter delimiter ≡ true)) }
+        ensures twice { (result ≡ Err SetupFault.TargetTwice) ↔ NamesTwice targets.now }
+        ensures ring_size { (result ≡ Err SetupFault.RingSize) ↔ ((¬ (NamesTwice targets.now)) × (is_ring_size ring ≡ false)) }
+        ensures delimiter { (result ≡ Err SetupFault.Delimiter)
+            ↔ ((¬ (NamesTwice targets.now)) × (is_ring_size ring ≡ true) × (is_delimiter delimiter ≡ false)) }
+    {
+        if names_twice(targets) {
+            return Err(SetupFault::TargetTwice);
+        }
+        if ring < 1 || ring > MAX_RING {
+            return Err(SetupFault::RingSize);
+        }
+        if delimiter != b',' && delimiter != b';' && delimiter != b'\t' {
+            return Err(SetupFault::Delimiter);
+        }
+        few_targets();
+        Ok(Setup {
+            targets: TargetList::of(targets),
+            ring,
+            delimiter,
+        })
+    }
+
+    /// The targets, in the order of the columns.
+    pub fn targets(&self) -> &[Target]
+        ensures value { result.now ≡ targets_of self.now }
+        ensures few { length result.now ≤ 13 }
+    {
+        self.targets.as_slice()
+    }
+
+    /// The targets as a list to be kept.
+    pub(crate) fn target_list(&self) -> TargetList
+        ensures { targets_in result ≡ targets_of self.now }
+    {
+        self.targets
+    }
+
+    /// How many items a ring holds, from 1 to 4096.
+    pub fn ring(&self) -> usize
+        ensures { result ≡ ring_of self.now }
+    {
+        self.ring
+    }
+
+    /// The byte between two fields: a comma, a semicolon or a tab.
+    pub fn delimiter(&self) -> u8
+        ensures { result ≡ delimiter_of self.now }
+    {
+        self.delimiter
+    }
+}
+
+/// Whether a target stands at two places.
+fn names_twice(targets: &[Target]) -> bool
+    ensures some { result ≡ true → (i : ℕ) × (j : ℕ) × (i < j) × (j < length targets.now) × (slice_get targets.now i ≡ slice_get targets.now j) }
+    ensures none { result ≡ false → (i : ℕ) → (j : ℕ) → i < j → j < length targets.now → slice_get targets.now i ≢ slice_get targets.now j }
+{
+    'later: for j in 0..targets.len() {
+        'earlier: for i in 0..j {
+            if targets[i] == targets[j] {
+                return true;
+            }
+        }
+    }
+    false
+}

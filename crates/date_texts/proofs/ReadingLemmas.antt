@@ -8,7 +8,7 @@ use Rattle.std.proofs.lemmas.Fmt.{digits_decimal, digits_value-decimal, length-d
 use Rattle.std.proofs.lemmas.Str.Parse.{IsNumeralModel, numerals_by_fold}
 use Rattle.day_numbers.specs.Days.{IsBetween}
 use Rattle.maya_calendars.specs.Places.{ArePlaces}
-use Rattle.day_numbers.proofs.SignedArithmetic.{signed_arith}
+use Rattle.std.proofs.lemmas.Int.{ints}
 use Rattle.std.proofs.Common.{append-nil}
 use Rattle.std.proofs.lemmas.Bool.Decides.{nat_tests}
 use Rattle.date_texts.specs.DateText.{all_digits, value_after, IsNumeral, IsYearText, plain, minus, IsMark, of_month, capital_letter, small_letter, IsCivilText, IsLongText, padded, canonical_year, canonical_civil, canonical_week, canonical_long}
@@ -344,8 +344,8 @@ padded_numeral width most n fits small less one =
     }
 
 year_is_year : (z : ℤ) → IsBetween (neg_ℤ (pos 99_999)) (pos 99_999) z → IsYearText (canonical_year z) z
-year_is_year (pos n) h = plain (padded_numeral 4 5 n (omega arith) (omega (arith, signed_arith, h)) (omega (arith, signed_arith, h)) (omega arith))
-year_is_year (negsuc n) h = minus (padded_numeral 4 5 (suc n) (omega arith) (omega (arith, signed_arith, h)) (omega (arith, signed_arith, h)) (omega arith))
+year_is_year (pos n) h = plain (padded_numeral 4 5 n (omega arith) (omega (arith, ints, h)) (omega (arith, ints, h)) (omega arith))
+year_is_year (negsuc n) h = minus (padded_numeral 4 5 (suc n) (omega arith) (omega (arith, ints, h)) (omega (arith, ints, h)) (omega arith))
 
 pub decimal_numeral : (most n : ℕ) → n < 10 ^ most → n < 100_000 → 1 ≤ most → IsNumeral most (decimal n) n
 decimal_numeral most n small less one =

@@ -3,7 +3,8 @@ use Rattle.std.specs.Prelude.{◌≡◌, ◌≢◌, ◌<◌, ◌≤◌, ℕ, ℤ
 use Rattle.date_texts.specs.declared.calendar.Calendar.{Calendar}
 use Rattle.date_texts.specs.declared.calendar.Target.{Target}
 use Rattle.date_texts.specs.declared.date.Date.{Date}
-use Rattle.date_texts.specs.Calendars.{calendar_name}
+use Rattle.date_texts.specs.declared.calendar.TheConstants.Target.{ALL}
+use Rattle.date_texts.specs.Calendars.{calendar_name, all_targets}
 use Rattle.date_texts.specs.Cells.{IsCell}
 use Rattle.date_texts.specs.DateText.{IsDateText}
 use Rattle.date_texts.specs.Names.{IsNamed}
@@ -23,3 +24,7 @@ OneCell = (target : Target) (n : ℤ) (x y : List ℕ) → IsCell target n x →
 -- targets of which none stands at two places are thirteen at most
 abbrev pub FewTargets : Type 0
 FewTargets = (targets : List Target) → ((i j : ℕ) → i < j → j < length targets → slice_get targets i ≢ slice_get targets j) → length targets ≤ 13
+
+-- the constant `Target::ALL` is every calendar's dates, the haab and the tzolkin, in the order of their list
+abbrev pub DefaultTargets : Type 0
+DefaultTargets = ALL ≡ all_targets

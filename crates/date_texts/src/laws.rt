@@ -1,6 +1,6 @@
 //! Laws of names, date texts, cells and lists of targets, for the proofs of what stands on them.
 
-ghost use Rattle.date_texts.specs.Laws.{FewTargets, OneCalendar, OneCell, OneDateText};
+ghost use Rattle.date_texts.specs.Laws.{DefaultTargets, FewTargets, OneCalendar, OneCell, OneDateText};
 
 /// A text names one calendar at most.
 pub fn one_calendar()
@@ -20,4 +20,9 @@ pub fn one_cell()
 /// Targets of which none stands at two places are thirteen at most.
 pub fn few_targets()
     ensures { FewTargets }
+{}
+
+/// `Target::ALL` has every calendar in order, the haab and the tzolkin.
+pub fn default_targets()
+    ensures { DefaultTargets }
 {}

@@ -4,13 +4,13 @@ ghost use Rattle.std.specs.Prelude.{◌≡◌, ◌≤◌, length};
 ghost use Rattle.register_records.specs.Entries.{body_seen};
 ghost use Rattle.register_records.specs.EntriesLeft.{entry_seen};
 ghost use Rattle.register_records.specs.Outcomes.{AreCells, IsOutcome, IsRowOf};
-ghost use Rattle.register_records.specs.TargetLists.{targets_in};
+ghost use Rattle.register_records.specs.ShortLists.{items_in};
 ghost use Rattle.register_records.specs.Views.{cells_seen, outcome_seen, row_made};
 
 use crate::entries::{Body, Entry};
 use crate::setups::Setup;
-use crate::target_lists::{MAX_TARGETS, TargetList};
-use arrayvec::{ArrayString, ArrayVec};
+use crate::short_lists::ShortList;
+use arrayvec::ArrayString;
 use date_texts::{Refusal, Target, calendar_named, cell, day_of_date, read_date};
 use day_numbers::Day;
 
@@ -19,10 +19,10 @@ use day_numbers::Day;
 #[derive(Drop)]
 pub struct Row {
     entry: Entry,
-    targets: TargetList,
+    targets: ShortList<Target>,
     outcome: Result<Day, Refusal>,
-    cells: ArrayVec<ArrayString<24>, MAX_TARGETS>,
-    pub ghost is_row: { ∥ IsRowOf (targets_in targets) (entry_seen entry) (row_made entry outcome cells.items) ∥₁ },
+    cells: ShortList<ArrayString<24>>,
+    pub ghost is_row: { ∥ IsRowOf (items_in targets) (entry_seen entry) (row_made entry outcome (items_in cells)) ∥₁ },
 }
 
 impl Row {
@@ -95,15 +95,12 @@ fn day_of_body(body: &Body) -> Result<Day, Refusal>
     }
 }
 
-/// The cells of a day, one for each target.
-fn cells_on(
-    targets: &[Target],
-    outcome: Result<Day, Refusal>,
-) -> ArrayVec<ArrayString<24>, MAX_TARGETS>
+/// The cells of an outcome: one for each target on a day, and none with a refusal.
+fn cells_on(targets: &[Target], outcome: Result<Day, Refusal>) -> ShortList<ArrayString<24>>
     requires { length targets.now ≤ 13 }
-    ensures { AreCells targets.now (outcome_seen outcome) (cells_seen result.items) }
+    ensures { AreCells targets.now (outcome_seen outcome) (cells_seen (items_in result)) }
 {
-    let mut cells = ArrayVec::new();
+    let mut cells = ShortList::new(ArrayString::new());
     if let Ok(day) = outcome {
         for target in targets {
             cells.push(cell(*target, day));

@@ -15,7 +15,7 @@ mod counter;
 mod inputs;
 
 use counter::Counter;
-use date_texts::{Calendar, Target};
+use date_texts::Target;
 use inputs::{Kind, register};
 use register_records::{Output, PlainOutput, Setup, SourceEnd, convert_source};
 use std::alloc::Global;
@@ -28,14 +28,9 @@ use std::{env, fs, io};
 const FEW: u32 = 1_000;
 
 /// The setup with every target, or with none.
-fn setup(alloc: Global, every_target: bool) -> io::Result<Option<Setup>> {
-    let mut targets = Vec::new(alloc);
-    if every_target {
-        for calendar in Calendar::ALL {
-            targets.push(Target::Date(calendar))?;
-        }
-    }
-    Ok(Setup::new(targets.as_slice(), 16, b',').ok())
+fn setup(every_target: bool) -> Option<Setup> {
+    let targets: &[Target] = if every_target { &Target::ALL } else { &[] };
+    Setup::new(targets, 16, b',').ok()
 }
 
 /// Prints what a conversion took that began at `start` and gave so many rows.
@@ -67,7 +62,7 @@ fn measure<R: Clock + Print>(
     every_target: bool,
     what: Option<&str>,
 ) -> io::Result<bool> {
-    let Some(setup) = setup(alloc, every_target)? else {
+    let Some(setup) = setup(every_target) else {
         return Ok(false);
     };
     let mut output = Counter::new();
@@ -111,7 +106,7 @@ fn over_files<R: Files + Clock + Print>(
     from: &str,
     to: &str,
 ) -> io::Result<bool> {
-    let Some(setup) = setup(alloc, every_target)? else {
+    let Some(setup) = setup(every_target) else {
         return Ok(false);
     };
     let input = fs::File::open(rt, from)?;

@@ -1,6 +1,6 @@
 // The row of an entry.
 
-ghost use Rattle.std.specs.Prelude.{◌≡◌, ◌≤◌, length};
+ghost use Rattle.std.specs.Prelude.{◌≡◌, ◌≤◌, [], length};
 ghost use Rattle.register_records.specs.Entries.{body_seen};
 ghost use Rattle.register_records.specs.EntriesLeft.{entry_seen};
 ghost use Rattle.register_records.specs.Outcomes.{AreCells, IsOutcome, IsRowOf};
@@ -36,11 +36,13 @@ impl Row {
         ensures row { IsRowOf (targets_of setup.now) (entry_seen entry) (row_seen result) }
     {
         let outcome = day_of_body(entry.body());
+        let mut cells = ShortList::new(ArrayString::new());
+        fill(&mut cells, setup.targets(), outcome);
         Row {
+            entry,
             targets: setup.target_list(),
             outcome,
-            cells: cells_on(setup.targets(), outcome),
-            entry,
+            cells,
         }
     }
 
@@ -95,16 +97,17 @@ fn day_of_body(body: &Body) -> Result<Day, Refusal>
     }
 }
 
-/// The cells of an outcome: one for each target on a day, and none with a refusal.
-fn cells_on(targets: &[Target], outcome: Result<Day, Refusal>) -> ShortList<ArrayString<24>>
-    requires { length targets.now ≤ 13 }
-    ensures { AreCells targets.now (outcome_seen outcome) (cells_seen (items_in result)) }
+/// Fills an empty list with the cells of an outcome: one for each target on a day, and none with a
+/// refusal. The list is lent, since it is large.
+fn fill(cells: &mut ShortList<ArrayString<24>>, targets: &[Target], outcome: Result<Day, Refusal>)
+    requires empty { items_in cells.old ≡ [] }
+    requires few { length targets.now ≤ 13 }
+    ensures { AreCells targets.now (outcome_seen outcome) (cells_seen (items_in cells.new)) }
 {
-    let mut cells = ShortList::new(ArrayString::new());
-    if let Ok(day) = outcome {
-        for target in targets {
-            cells.push(cell(*target, day));
-        }
+    let Ok(day) = outcome else {
+        return;
+    };
+    for target in targets {
+        cells.push(cell(*target, day));
     }
-    cells
 }

@@ -231,8 +231,9 @@ impl RowWriter {
         ensures { result ≡ (if has_faulted self then Err RowFault.Failed else Ok tt) }
     {
         if self.failed {
-            return Err(RowFault::Failed);
+            Err(RowFault::Failed)
+        } else {
+            Ok(())
         }
-        Ok(())
     }
 }

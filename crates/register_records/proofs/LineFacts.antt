@@ -1,43 +1,70 @@
--- The fields of a line, while they are gathered.
-use Rattle.std.proofs.Common.{◌≡◌, ◌<◌, ◌≤◌, ◌+◌, ◌++◌, ℕ, List, [], ◌∷◌, Bor, refl, ap, ◌∙◌, arith, append_assoc, length, map, take, get_or, length-append}
+-- The fields of a line, while they are appended.
+use Rattle.std.proofs.Common.{◌≡◌, ◌≢◌, ◌<◌, ◌≤◌, ◌+◌, ◌*◌, ◌^◌, ◌/◌, ◌%◌, ◌++◌, ℕ, List, [], ◌∷◌, Bool, true, false, refl, sym, ap, ◌∙◌, arith, append_assoc, append-nil, length, length-append, map, take, get_or}
+use Rattle.std.specs.Prelude.{ℤ, pos, negsuc, zero, suc, Ok, Err}
+use Rattle.std.specs.Fmt.{decimal, signed_decimal}
+use Rattle.std.proofs.lemmas.Int.{ints}
+use Rattle.std.proofs.lemmas.Bool.Decides.{nat_tests}
+use Rattle.std.proofs.lemmas.Fmt.{decimal_by_steps}
 use Rattle.std.proofs.lemmas.List.{map-append, take_all, take_more}
-use Rattle.day_numbers.specs.Days.{weekday_name, weekday_place}
+use Rattle.std.proofs.lemmas.List.Folds.{list_any-append}
+use Rattle.csv.specs.Writing.{field_text, fields_text, is_blank, needs_byte, needs_quotes, row_body}
+use Rattle.csv.proofs.WriteFacts.{fields-snoc}
+use Rattle.day_numbers.specs.Days.{IsDayNumber, weekday_name, weekday_number, weekday_place}
 use Rattle.day_numbers.specs.declared.day.Weekday.{Weekday}
 use Rattle.day_numbers.specs.declared.day.Weekday.TheVariants.{Sunday, Monday, Tuesday, Wednesday, Thursday, Friday, Saturday}
-use Rattle.std.specs.Prelude.{IfOk, Result, Ok, Err}
-use Rattle.register_records.specs.Lines.{line_text}
-use Rattle.std.specs.Prelude.{ℤ}
-use Rattle.std.specs.Fmt.{decimal, signed_decimal}
-use Rattle.day_numbers.specs.Days.{weekday_number}
+use Rattle.register_records.specs.Lines.{line_text, writing}
+use Rattle.register_records.specs.SetupRules.{is_delimiter}
 use Rattle.register_records.specs.Outcomes.{TableRow}
+use Rattle.register_records.specs.Tables.{entry_fields, row_fields, weekday_at}
 use Rattle.date_texts.specs.Refusals.{refusal_number}
-use Rattle.register_records.specs.Tables.{row_fields, text_fields, weekday_at}
 use Rattle.date_texts.specs.declared.calendar.Target.{Target}
 use Rattle.date_texts.specs.declared.refusal.Refusal.{Refusal}
 
--- the gathered fields are the first ones and one more for each of the first i items
-pub record Holds {X : Type 0} (f : X → List ℕ) (first : List (List ℕ)) (xs : List X) (i : ℕ) (fields : List (Bor (List ℕ))) : Type 0 where
-  pub within : i ≤ length xs
-  pub bytes : map (λ b. b.now) fields ≡ first ++ map f (take i xs)
-  pub count : length fields ≡ length first + i
+-- the bytes of some fields, and of one more
+abbrev pub body : ℕ → List (List ℕ) → List ℕ
+body d fields = row_body (writing d) fields
 
-module _ {X : Type 0} (f : X → List ℕ) (first : List (List ℕ)) (xs : List X) (i : ℕ) (fields fields2 : List (Bor (List ℕ))) (b : Bor (List ℕ)) where
-  -- one more field
-  pub holds-more : (d : X) → Holds f first xs i fields → i < length xs → b.now ≡ f (get_or xs i d) → fields2 ≡ fields ++ b ∷ [] → Holds f first xs (i + 1) fields2
-  holds-more d h lt e a =
-      record {
-        within = omega arith;
-        bytes = rw (a, map-append (λ (b : Bor (List ℕ)). b.now) fields (b ∷ []), h.bytes, take_more xs i d lt, map-append f (take i xs) (get_or xs i d ∷ []), e) (append_assoc first _ _);
-        count = rw (a, length-append fields (b ∷ []), h.count) (omega arith);
-      }
+pub one-more : (d : ℕ) (fields : List (List ℕ)) (field old mid new : List ℕ) → 1 ≤ length fields → old ≡ body d fields → mid ≡ old ++ d ∷ [] → new ≡ mid ++ field_text (writing d) field
+    → new ≡ body d (fields ++ field ∷ [])
+one-more d [] field old mid new some is m n = absurd (omega arith)
+one-more d (f ∷ fs) field old mid new some is m n =
+    rw (n, m, is, fields-snoc (writing d) fs field, append_assoc (field_text (writing d) f ++ fields_text (writing d) fs) (d ∷ []) (field_text (writing d) field))
+    (append_assoc (field_text (writing d) f) (fields_text (writing d) fs) (d ∷ field_text (writing d) field))
 
-  -- the last field
-  pub holds-end : Holds f first xs i fields → length xs ≤ i → fields2 ≡ fields ++ b ∷ [] → map (λ b. b.now) fields2 ≡ (first ++ map f xs) ++ (b.now ∷ [])
-  holds-end h ge a = rw (a, map-append (λ (b : Bor (List ℕ)). b.now) fields (b ∷ []), h.bytes, take_all i xs ge) refl
+-- a field that needs no quotes
+pub plain-text : (d : ℕ) (field : List ℕ) → needs_quotes (writing d) field ≡ false → field_text (writing d) field ≡ field
+plain-text d field h = rw h refl
 
--- the fields of a row, from the first to the last
-pub row-joined : (n a b last : List ℕ) (texts rest : List (List ℕ)) → ((n ∷ (texts ++ (a ∷ b ∷ []))) ++ rest) ++ (last ∷ []) ≡ n ∷ (texts ++ ((a ∷ b ∷ rest) ++ (last ∷ [])))
-row-joined n a b last texts rest = simp append_assoc refl
+pub only-field : (d : ℕ) (field bytes : List ℕ) → needs_quotes (writing d) field ≡ false → bytes ≡ field → bytes ≡ body d (field ∷ [])
+unfolding fields_text
+only-field d field bytes h e = e ∙ rw (plain-text d field h) (sym (append-nil field))
+
+-- a line of two fields or more is never blank
+pub ended : (d : ℕ) (fields : List (List ℕ)) (old new : List ℕ) → 2 ≤ length fields → old ≡ body d fields → new ≡ old ++ 10 ∷ [] → new ≡ line_text d fields
+unfolding is_blank
+ended d [] old new some is n = absurd (omega arith)
+ended d (a ∷ []) old new some is n = absurd (omega arith)
+ended d (a ∷ b ∷ rest) old new some is n = rw (n, is) refl
+
+-- one more of the fields that the items of a list give
+pub one-item : {X : Type 0} (f : X → List ℕ) (d : ℕ) (first : List (List ℕ)) (xs : List X) (i : ℕ) (e : X) (field new : List ℕ) → i < length xs → field ≡ f (get_or xs i e)
+    → new ≡ body d ((first ++ map f (take i xs)) ++ field ∷ []) → new ≡ body d (first ++ map f (take (i + 1) xs))
+one-item f d first xs i e field new lt is n =
+    n ∙ ap (body d) (rw (take_more xs i e lt, map-append f (take i xs) (get_or xs i e ∷ []), is) (append_assoc first _ _))
+
+-- a digit or a minus sign needs no quotes
+plain-byte : (d c : ℕ) → is_delimiter d ≡ true → 45 ≤ c → c < 58 → needs_byte (writing d) c ≡ false
+plain-byte d c h low high = grind (arith, nat_tests)
+
+pub plain-decimal : (d : ℕ) → is_delimiter d ≡ true → (n : ℕ) → n < 2 ^ 64 → needs_quotes (writing d) (decimal n) ≡ false
+plain-decimal d h =
+    decimal_by_steps (λ n ds. needs_quotes (writing d) ds ≡ false) (λ n lt. rw (plain-byte d (48 + n) h (omega arith) (omega arith)) refl)
+    (λ n ds ge before. rw (list_any-append (needs_byte (writing d)) ds ((48 + n % 10) ∷ []), before, plain-byte d (48 + n % 10) h (omega arith) (omega arith)) refl)
+
+-- a number of a day
+pub plain-day : (d : ℕ) → is_delimiter d ≡ true → (z : ℤ) → IsDayNumber z → needs_quotes (writing d) (signed_decimal z) ≡ false
+plain-day d h (pos n) r = plain-decimal d h n (omega (arith, ints, r.0, r.1))
+plain-day d h (negsuc n) r = rw (plain-byte d 45 h (omega arith) (omega arith), plain-decimal d h (suc n) (omega (arith, ints, r.0, r.1))) refl
 
 -- the name of a weekday, by its number
 pub weekday-name : (w : Weekday) (k : ℕ) → weekday_place w ≡ k → weekday_name w ≡ weekday_name (weekday_at k)
@@ -52,16 +79,39 @@ weekday-name w k e = rw (← e) (named w)
     named Friday = refl
     named Saturday = refl
 
--- a line of equal fields
-pub line-of : {V E : Type 0} (items : V → List ℕ) (r : Result V E) (d : ℕ) (a b : List (List ℕ)) → a ≡ b → IfOk r (λ v. items v ≡ line_text d a) → IfOk r (λ v. items v ≡ line_text d b)
-line-of items (Ok v) d a b e h = h ∙ ap (line_text d) e
-line-of items (Err x) d a b e h = tt
+-- equal fields
+pub same-body : (d : ℕ) (fields wanted : List (List ℕ)) (bytes : List ℕ) → fields ≡ wanted → bytes ≡ body d fields → bytes ≡ body d wanted
+same-body d fields wanted bytes e h = h ∙ ap (body d) e
+
+pub same-line : (d e : ℕ) (fields wanted : List (List ℕ)) (bytes : List ℕ) → d ≡ e → fields ≡ wanted → bytes ≡ line_text d fields → bytes ≡ line_text e wanted
+same-line d e fields wanted bytes p q h = rw (← p, ← q) h
+
+-- two more fields
+pub two-more : (fields : List (List ℕ)) (x y a b : List ℕ) → x ≡ a → y ≡ b → (fields ++ x ∷ []) ++ y ∷ [] ≡ (fields ++ (a ∷ b ∷ [])) ++ []
+two-more fields x y a b p q = rw (p, q, append_assoc fields (a ∷ []) (b ∷ [])) (sym (append-nil (fields ++ (a ∷ b ∷ []))))
+
+-- the fields of a row, from the first to the last
+joined : (first : List (List ℕ)) (a b last : List ℕ) (rest : List (List ℕ)) → ((first ++ (a ∷ b ∷ [])) ++ rest) ++ last ∷ [] ≡ first ++ ((a ∷ b ∷ rest) ++ last ∷ [])
+joined first a b last rest = simp append_assoc refl
 
 -- the fields of an accepted row, and of a refused one
-pub accepted-fields : (targets : List Target) (row : TableRow) (n : ℤ) (last : List ℕ) → row.outcome ≡ Ok n → last ≡ []
-    → ((decimal row.number ∷ (text_fields row.body ++ (signed_decimal n ∷ weekday_name (weekday_at (weekday_number n)) ∷ []))) ++ row.cells) ++ (last ∷ []) ≡ row_fields targets row
-accepted-fields targets row n last e z = row-joined _ _ _ last (text_fields row.body) row.cells ∙ rw (e, z) refl
+pub accepted-fields : (targets : List Target) (row : TableRow) (n : ℤ) → row.outcome ≡ Ok n
+    → ((entry_fields row ++ (signed_decimal n ∷ weekday_name (weekday_at (weekday_number n)) ∷ [])) ++ row.cells) ++ [] ∷ [] ≡ row_fields targets row
+accepted-fields targets row n e = joined (entry_fields row) _ _ [] row.cells ∙ rw e refl
 
 pub refused-fields : (targets : List Target) (row : TableRow) (r : Refusal) (last : List ℕ) → row.outcome ≡ Err r → last ≡ decimal (refusal_number r)
-    → ((decimal row.number ∷ (text_fields row.body ++ ([] ∷ [] ∷ []))) ++ map (λ (t : Target). []) targets) ++ (last ∷ []) ≡ row_fields targets row
-refused-fields targets row r last e z = row-joined _ _ _ last (text_fields row.body) (map (λ (t : Target). []) targets) ∙ rw (e, z) refl
+    → ((entry_fields row ++ ([] ∷ [] ∷ [])) ++ map (λ (t : Target). []) targets) ++ last ∷ [] ≡ row_fields targets row
+refused-fields targets row r last e z = joined (entry_fields row) [] [] last (map (λ (t : Target). []) targets) ∙ rw (e, z) refl
+
+-- one more of the empty fields that stand for the cells of a refused row
+pub one-empty : {X : Type 0} (first : List (List ℕ)) (xs : List X) (i : ℕ) → i < length xs
+    → (first ++ map {A = X} {B = List ℕ} (λ x. []) (take i xs)) ++ [] ∷ [] ≡ first ++ map {A = X} {B = List ℕ} (λ x. []) (take (i + 1) xs)
+one-empty first xs i lt = append_assoc first _ _ ∙ ap (λ (fields : List (List ℕ)). first ++ fields) (empties xs i lt)
+  where
+    empties : {X : Type 0} (xs : List X) (i : ℕ) → i < length xs → map {A = X} {B = List ℕ} (λ x. []) (take i xs) ++ [] ∷ [] ≡ map {A = X} {B = List ℕ} (λ x. []) (take (i + 1) xs)
+    empties [] i lt = absurd (omega arith)
+    empties (x ∷ xs) zero lt = refl
+    empties (x ∷ xs) (suc i) lt = let e : suc i + 1 ≡ suc (i + 1) = omega arith in rw e (ap (λ (fields : List (List ℕ)). [] ∷ fields) (empties xs i (omega arith)))
+
+pub two-fields : (fields : List (List ℕ)) (last : List ℕ) → 1 ≤ length fields → 2 ≤ length (fields ++ last ∷ [])
+two-fields fields last some = rw (length-append fields (last ∷ [])) (omega arith)

@@ -32,6 +32,10 @@ given_by s = s.given
 abbrev pub has_faulted : {R : Type 0} → EntryReader R → Bool
 has_faulted s = s.failed
 
+-- a call answered that no entry is left
+abbrev pub has_ended : {R : Type 0} → EntryReader R → Bool
+has_ended s = s.done
+
 -- csv's reader was stopped, by the reader underneath or for memory
 abbrev pub is_stopped : {R : Type 0} → EntryReader R → Bool
 is_stopped s = has_failed s.rows

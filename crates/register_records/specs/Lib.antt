@@ -2,9 +2,11 @@ pub mod Headers
 pub mod Entries
 pub mod EntriesLeft
 pub mod EntryFaults
-pub mod TargetLists
+pub mod ShortLists
+pub mod SetupRules
 pub mod Setups
 pub mod Lines
+pub mod LineViews
 pub mod Outputs
 pub mod PlainOutputs
 pub mod Outcomes

@@ -34,9 +34,13 @@ abbrev pub outcome_fields : List Target → Result ℤ Refusal → List (List �
 outcome_fields targets (Ok n) cells = (signed_decimal n ∷ weekday_name (weekday_at (weekday_number n)) ∷ cells) ++ ([] ∷ [])
 outcome_fields targets (Err r) cells = ([] ∷ [] ∷ map (λ _. []) targets) ++ (decimal (refusal_number r) ∷ [])
 
+-- the fields that a row has of its entry: its number and the three texts
+abbrev pub entry_fields : TableRow → List (List ℕ)
+entry_fields row = decimal row.number ∷ text_fields row.body
+
 -- the fields of a row
 abbrev pub row_fields : List Target → TableRow → List (List ℕ)
-row_fields targets row = decimal row.number ∷ (text_fields row.body ++ outcome_fields targets row.outcome row.cells)
+row_fields targets row = entry_fields row ++ outcome_fields targets row.outcome row.cells
 
 -- the line of a row
 abbrev pub row_line : ℕ → List Target → TableRow → List ℕ

@@ -118,17 +118,22 @@ pub(crate) fn three(row: &ByteRecord) -> Option<(&[u8], &[u8], &[u8])>
     Some((a, b, c))
 }
 
-/// A field as a text of a fixed capacity, where it is UTF-8.
-fn text<const N: usize>(field: &[u8]) -> Option<ArrayString<N>>
-    requires { length field.now ≤ N }
-    ensures { MatchOption result (is_utf8 field.now ≡ false) (λ t. (is_utf8 field.now ≡ true) × (t.bytes ≡ field.now)) }
+/// A text of a fixed capacity.
+fn copied<const N: usize>(text: &str) -> ArrayString<N>
+    requires { length text.now ≤ N }
+    ensures { result.bytes ≡ text.now }
+{
+    let mut copy = ArrayString::new();
+    copy.push_str(text);
+    copy
+}
+
+/// A field as text, where it is UTF-8.
+fn text(field: &[u8]) -> Option<&str>
+    ensures { MatchOption result (is_utf8 field.now ≡ false) (λ t. (is_utf8 field.now ≡ true) × (t.now ≡ field.now)) }
 {
     match str::from_utf8(field) {
-        Ok(s) => {
-            let mut t = ArrayString::new();
-            t.push_str(s);
-            Some(t)
-        }
+        Ok(text) => Some(text),
         Err(_) => None,
     }
 }
@@ -145,7 +150,11 @@ fn read_body(row: &ByteRecord) -> Body
         return Body::Refused(Refusal::FieldTooLong);
     }
     match (text(id), text(calendar), text(date)) {
-        (Some(id), Some(calendar), Some(date)) => Body::Fields { id, calendar, date },
+        (Some(id), Some(calendar), Some(date)) => Body::Fields {
+            id: copied(id),
+            calendar: copied(calendar),
+            date: copied(date),
+        },
         _ => Body::Refused(Refusal::NotUtf8),
     }
 }

@@ -14,8 +14,8 @@ mod outputs;
 mod reading;
 mod rows;
 mod setups;
+mod short_lists;
 mod sources;
-mod target_lists;
 mod writing;
 
 pub use converting::convert;

@@ -1,15 +1,24 @@
-// The bytes of a line, as csv's writer would write them.
+// A line of a table, as csv's writer would write it.
 //
 // The writer of `csv` is made anew for each record and moves a buffer of 8 KiB several times, which
 // costs more than all else in a row. A line by hand into memory that is used again takes a twentieth.
 
-ghost use Rattle.std.specs.Prelude.{◌≡◌, ◌≤◌, ◌++◌, ◌∷◌, [], length, map, IfOk, OnOk};
+ghost use Rattle.std.specs.Prelude.{◌≡◌, ◌≤◌, ◌++◌, ◌∷◌, [], ℕ, List, true, false, length, OnOk};
 ghost use Rattle.csv.specs.Writing as Spec;
 ghost use Rattle.register_records.specs.Lines.{line_text, writing};
+ghost use Rattle.register_records.specs.SetupRules.{is_delimiter};
 
-use std::alloc::AllocError;
+use std::alloc::{AllocError, Global};
 
 const QUOTE: u8 = b'"';
+
+/// A line while its fields are appended, in memory that serves again for the next line.
+#[derive(Drop)]
+pub(crate) struct Line {
+    bytes: Vec<u8>,
+    delimiter: u8,
+    ghost separated: { is_delimiter delimiter ≡ true },
+}
 
 /// Whether a field with this byte must be quoted.
 fn is_special(delimiter: u8, byte: u8) -> bool
@@ -62,39 +71,74 @@ fn push_field(line: &mut Vec<u8>, delimiter: u8, field: &[u8]) -> Result<(), All
     Ok(())
 }
 
-/// Appends the field at the place `i`, with the delimiter before it but at the first.
-fn push_next(line: &mut Vec<u8>, delimiter: u8, i: usize, field: &[u8]) -> Result<(), AllocError>
-    ensures { OnOk result (line.new.items ≡ line.old.items ++ (Spec.next_sep (writing delimiter) i ++ Spec.field_text (writing delimiter) field.now)) }
-{
-    if i > 0 {
-        line.push(delimiter)?;
-    }
-    push_field(line, delimiter, field)
-}
+impl Line {
+    ghost use Rattle.register_records.specs.LineViews.{Begins, line_bytes, line_delimiter};
 
-/// Appends the line of two fields or more, ended by a line feed.
-fn push_row(line: &mut Vec<u8>, delimiter: u8, fields: &[&[u8]]) -> Result<(), AllocError>
-    requires { 2 ≤ length fields.now }
-    ensures { OnOk result (line.new.items ≡ line.old.items ++ line_text delimiter (map (λ f. f.now) fields.now)) }
-{
-    'fields: for i in 0..fields.len() {
-        push_next(line, delimiter, i, fields[i])?;
+    /// A line of no field, whose fields this delimiter will separate.
+    pub fn new(alloc: Global, delimiter: u8) -> Line
+        requires { is_delimiter delimiter ≡ true }
+        ensures { line_delimiter result ≡ delimiter }
+    {
+        Line {
+            bytes: Vec::new(alloc),
+            delimiter,
+        }
     }
-    line.push(b'\n')?;
-    Ok(())
-}
 
-/// The line of two fields or more, ended by a line feed, in the memory of `spare`.
-pub(crate) fn line_into(
-    spare: Vec<u8>,
-    delimiter: u8,
-    fields: &[&[u8]],
-) -> Result<Vec<u8>, AllocError>
-    requires { 2 ≤ length fields.now }
-    ensures { IfOk result (λ v. v.items ≡ line_text delimiter (map (λ f. f.now) fields.now)) }
-{
-    let mut line = spare;
-    line.clear();
-    push_row(&mut line, delimiter, fields)?;
-    Ok(line)
+    /// The bytes so far.
+    pub fn as_slice(&self) -> &[u8]
+        ensures { result.now ≡ line_bytes self.now }
+    {
+        self.bytes.as_slice()
+    }
+
+    /// The byte between two fields.
+    pub fn delimiter(&self) -> u8
+        ensures value { result ≡ line_delimiter self.now }
+        ensures separated { is_delimiter result ≡ true }
+    {
+        self.delimiter
+    }
+
+    /// Lets the fields go, and begins a line with this one, which needs no quotes.
+    pub fn start(&mut self, field: &[u8]) -> Result<(), AllocError>
+        requires { Spec.needs_quotes (writing (line_delimiter self.old)) field.now ≡ false }
+        ensures value { OnOk result (Begins (field.now ∷ []) self.new) }
+        ensures kept { line_delimiter self.new ≡ line_delimiter self.old }
+    {
+        self.bytes.clear();
+        self.bytes.extend_from_slice(field)?;
+        Ok(())
+    }
+
+    /// Appends a field that needs no quotes.
+    pub fn push_plain(&mut self, field: &[u8]) -> Result<(), AllocError>
+        requires { Spec.needs_quotes (writing (line_delimiter self.old)) field.now ≡ false }
+        ensures value { (fields : List (List ℕ)) → 1 ≤ length fields → Begins fields self.old → OnOk result (Begins (fields ++ field.now ∷ []) self.new) }
+        ensures kept { line_delimiter self.new ≡ line_delimiter self.old }
+    {
+        self.bytes.push(self.delimiter)?;
+        self.bytes.extend_from_slice(field)?;
+        Ok(())
+    }
+
+    /// Appends a field, quoted where it must be.
+    pub fn push(&mut self, field: &[u8]) -> Result<(), AllocError>
+        ensures value { (fields : List (List ℕ)) → 1 ≤ length fields → Begins fields self.old → OnOk result (Begins (fields ++ field.now ∷ []) self.new) }
+        ensures kept { line_delimiter self.new ≡ line_delimiter self.old }
+    {
+        self.bytes.push(self.delimiter)?;
+        push_field(&mut self.bytes, self.delimiter, field)?;
+        Ok(())
+    }
+
+    /// Ends a line of two fields or more.
+    pub fn end(&mut self) -> Result<(), AllocError>
+        ensures value { (fields : List (List ℕ)) → 2 ≤ length fields → Begins fields self.old
+            → OnOk result (line_bytes self.new ≡ line_text (line_delimiter self.old) fields) }
+        ensures kept { line_delimiter self.new ≡ line_delimiter self.old }
+    {
+        self.bytes.push(b'\n')?;
+        Ok(())
+    }
 }

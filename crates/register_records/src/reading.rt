@@ -1,6 +1,6 @@
 // The entries of a text, in order.
 
-ghost use Rattle.std.specs.Prelude.{◌≡◌, ◌+◌, ◌≤◌, ◌<◌, true, false, ℕ, List, length, OnOk, OnErr, IfOk, IfErr, IfSome, IsErr, Err, Option};
+ghost use Rattle.std.specs.Prelude.{◌≡◌, ◌+◌, ◌≤◌, ◌<◌, true, false, ℕ, List, length, OnOk, OnErr, IfOk, IfErr, IfSome, IsErr, Ok, Err, Option, None};
 ghost use Rattle.csv.specs.Reading.{error_kind, has_failed, is_flexible, reader_trim, stops_reader, took_first};
 ghost use Rattle.csv.specs.declared.reader.Trim.TheVariants as trim;
 ghost use Rattle.register_records.specs.EntryFaults.{fault_of};
@@ -58,7 +58,7 @@ fn fault(e: &Error) -> EntryFault
 }
 
 impl<R: Read + Drop> EntryReader<R> {
-    ghost use Rattle.register_records.specs.EntriesLeft.{Gives, Opens, entry_number, given_by, has_faulted, is_stopped, rows_left};
+    ghost use Rattle.register_records.specs.EntriesLeft.{Gives, Opens, entry_number, given_by, has_ended, has_faulted, is_stopped, rows_left};
     ghost use Rattle.register_records.specs.Entries.{Fields, HasRecords};
     ghost use Rattle.register_records.specs.Setups.{delimiter_of};
 
@@ -74,7 +74,7 @@ impl<R: Read + Drop> EntryReader<R> {
         // The header is accepted, and the records after it are left.
         ensures accepts { IfOk result (λ r. IfSome (R.remaining reader) (λ text. Opens (delimiter_of setup.now) text (rows_left R.remaining r))) }
         ensures none_given { IfOk result (λ r. given_by r ≡ 0) }
-        ensures goes { IfOk result (λ r. has_faulted r ≡ false) }
+        ensures goes { IfOk result (λ r. (has_faulted r ≡ false) × (has_ended r ≡ false)) }
         ensures bad { IfErr result (λ e. e ≡ EntryFault.BadHeader → IfSome (R.remaining reader) (λ text. (rows : List Fields) → HasRecords (delimiter_of setup.now) text rows → ⊥)) }
         ensures told { IfErr result (λ e. (e ≡ EntryFault.TooManyRecords → ⊥) × (e ≡ EntryFault.Failed → ⊥)) }
     {
@@ -113,8 +113,14 @@ impl<R: Read + Drop> EntryReader<R> {
         ensures gives { IfOk result (λ o. Gives (rows_left R.remaining self.old) (rows_left R.remaining self.new) (given_by self.old) o) }
         // The numbers go up from 1, whatever the reader tells.
         ensures number { IfOk result (λ o. IfSome o (λ e. (entry_number e ≡ given_by self.old + 1) × (given_by self.new ≡ entry_number e) × (entry_number e ≤ 1000000))) }
+
+        // None comes only at the end, gives nothing, and comes again.
+        ensures ends { result ≡ Ok None → (has_ended self.new ≡ true) × (given_by self.new ≡ given_by self.old) }
+        ensures ended { has_faulted self.old ≡ false → has_ended self.old ≡ true → (result ≡ Ok None) × (self.new ≡ self.old) }
+
         ensures many { IfErr result (λ e. e ≡ EntryFault.TooManyRecords → (given_by self.old ≡ 1000000)
             × IfSome (rows_left R.remaining self.old) (λ rows. 0 < length rows)) }
+        ensures kept { OnErr result (given_by self.new ≡ given_by self.old) }
         ensures only_failed { has_faulted self.old ≡ false → IfErr result (λ e. e ≡ EntryFault.Failed → ⊥) }
         ensures no_header { IfErr result (λ e. e ≡ EntryFault.BadHeader → ⊥) }
         ensures failed { has_faulted self.old ≡ true → (result ≡ Err EntryFault.Failed) × (self.new ≡ self.old) }

@@ -1,16 +1,16 @@
 // The row of an entry.
 
-ghost use Rattle.std.specs.Prelude.{◌≡◌, ◌≤◌, length};
+ghost use Rattle.std.specs.Prelude.{◌≡◌, ◌≤◌, [], length};
 ghost use Rattle.register_records.specs.Entries.{body_seen};
 ghost use Rattle.register_records.specs.EntriesLeft.{entry_seen};
 ghost use Rattle.register_records.specs.Outcomes.{AreCells, IsOutcome, IsRowOf};
-ghost use Rattle.register_records.specs.TargetLists.{targets_in};
+ghost use Rattle.register_records.specs.ShortLists.{items_in};
 ghost use Rattle.register_records.specs.Views.{cells_seen, outcome_seen, row_made};
 
 use crate::entries::{Body, Entry};
 use crate::setups::Setup;
-use crate::target_lists::{MAX_TARGETS, TargetList};
-use arrayvec::{ArrayString, ArrayVec};
+use crate::short_lists::ShortList;
+use arrayvec::ArrayString;
 use date_texts::{Refusal, Target, calendar_named, cell, day_of_date, read_date};
 use day_numbers::Day;
 
@@ -19,10 +19,10 @@ use day_numbers::Day;
 #[derive(Drop)]
 pub struct Row {
     entry: Entry,
-    targets: TargetList,
+    targets: ShortList<Target>,
     outcome: Result<Day, Refusal>,
-    cells: ArrayVec<ArrayString<24>, MAX_TARGETS>,
-    pub ghost is_row: { ∥ IsRowOf (targets_in targets) (entry_seen entry) (row_made entry outcome cells.items) ∥₁ },
+    cells: ShortList<ArrayString<24>>,
+    pub ghost is_row: { ∥ IsRowOf (items_in targets) (entry_seen entry) (row_made entry outcome (items_in cells)) ∥₁ },
 }
 
 impl Row {
@@ -36,11 +36,13 @@ impl Row {
         ensures row { IsRowOf (targets_of setup.now) (entry_seen entry) (row_seen result) }
     {
         let outcome = day_of_body(entry.body());
+        let mut cells = ShortList::new(ArrayString::new());
+        fill(&mut cells, setup.targets(), outcome);
         Row {
+            entry,
             targets: setup.target_list(),
             outcome,
-            cells: cells_on(setup.targets(), outcome),
-            entry,
+            cells,
         }
     }
 
@@ -95,19 +97,17 @@ fn day_of_body(body: &Body) -> Result<Day, Refusal>
     }
 }
 
-/// The cells of a day, one for each target.
-fn cells_on(
-    targets: &[Target],
-    outcome: Result<Day, Refusal>,
-) -> ArrayVec<ArrayString<24>, MAX_TARGETS>
-    requires { length targets.now ≤ 13 }
-    ensures { AreCells targets.now (outcome_seen outcome) (cells_seen result.items) }
+/// Fills an empty list with the cells of an outcome: one for each target on a day, and none with a
+/// refusal. The list is lent, since it is large.
+fn fill(cells: &mut ShortList<ArrayString<24>>, targets: &[Target], outcome: Result<Day, Refusal>)
+    requires empty { items_in cells.old ≡ [] }
+    requires few { length targets.now ≤ 13 }
+    ensures { AreCells targets.now (outcome_seen outcome) (cells_seen (items_in cells.new)) }
 {
-    let mut cells = ArrayVec::new();
-    if let Ok(day) = outcome {
-        for target in targets {
-            cells.push(cell(*target, day));
-        }
+    let Ok(day) = outcome else {
+        return;
+    };
+    for target in targets {
+        cells.push(cell(*target, day));
     }
-    cells
 }

@@ -1,10 +1,12 @@
 // What a conversion is asked for.
 
 ghost use Rattle.std.specs.Prelude.{◌≡◌, ◌≤◌, ◌<◌, ◌↔◌, ◌≢◌, ℕ, length, IsTrue, IfOk, Err, true, false, slice_get};
+ghost use Rattle.register_records.specs.ShortLists.{items_in};
+ghost use Rattle.register_records.specs.SetupRules.{NamesTwice, is_delimiter, is_ring_size};
 
-use crate::target_lists::TargetList;
-use date_texts::Target;
+use crate::short_lists::ShortList;
 use date_texts::laws::few_targets;
+use date_texts::{Calendar, Target};
 use thiserror::Error;
 
 /// The largest ring.
@@ -13,9 +15,11 @@ const MAX_RING: usize = 4096;
 /// The targets, the size of the rings and the delimiter of a conversion.
 #[derive(Clone, Copy)]
 pub struct Setup {
-    targets: TargetList,
+    targets: ShortList<Target>,
     ring: usize,
     delimiter: u8,
+    ghost rings: { is_ring_size ring ≡ true },
+    ghost separates: { is_delimiter delimiter ≡ true },
 }
 
 /// Why there is no such setup: the first of these that applies.
@@ -48,8 +52,7 @@ impl SetupFault {
 }
 
 impl Setup {
-    ghost use Rattle.register_records.specs.Setups.{NamesTwice, delimiter_of, is_delimiter, is_ring_size, ring_of, targets_of};
-    ghost use Rattle.register_records.specs.TargetLists.{targets_in};
+    ghost use Rattle.register_records.specs.Setups.{delimiter_of, ring_of, targets_of};
 
     /// A setup for these targets, in this order; none is allowed. Each ring holds `ring` items, from 1
     /// to 4096, and `delimiter`, a comma, a semicolon or a tab, stands between two fields of the input
@@ -77,7 +80,7 @@ impl Setup {
         }
         few_targets();
         Ok(Setup {
-            targets: TargetList::of(targets),
+            targets: listed(targets),
             ring,
             delimiter,
         })
@@ -92,25 +95,39 @@ impl Setup {
     }
 
     /// The targets as a list to be kept.
-    pub(crate) fn target_list(&self) -> TargetList
-        ensures { targets_in result ≡ targets_of self.now }
+    pub(crate) fn target_list(&self) -> ShortList<Target>
+        ensures { items_in result ≡ targets_of self.now }
     {
         self.targets
     }
 
     /// How many items a ring holds, from 1 to 4096.
     pub fn ring(&self) -> usize
-        ensures { result ≡ ring_of self.now }
+        ensures value { result ≡ ring_of self.now }
+        ensures fits { is_ring_size result ≡ true }
     {
         self.ring
     }
 
     /// The byte between two fields: a comma, a semicolon or a tab.
     pub fn delimiter(&self) -> u8
-        ensures { result ≡ delimiter_of self.now }
+        ensures value { result ≡ delimiter_of self.now }
+        ensures fits { is_delimiter result ≡ true }
     {
         self.delimiter
     }
+}
+
+/// The list of these targets.
+fn listed(targets: &[Target]) -> ShortList<Target>
+    requires { length targets.now ≤ 13 }
+    ensures { items_in result ≡ targets.now }
+{
+    let mut list = ShortList::new(Target::Date(Calendar::Gregorian));
+    for target in targets {
+        list.push(*target);
+    }
+    list
 }
 
 /// Whether a target stands at two places.

@@ -1,8 +1,8 @@
 // The tables that are wanted are worked by hand from the calendars' rules and from published day numbers.
 
 use crate::{
-    Body, Cause, Entry, EntryFault, EntryReader, Note, Output, PlainOutput, RowFault, RowWriter,
-    Setup, SetupFault, SourceEnd, convert, convert_source,
+    Body, Entry, EntryFault, EntryReader, Output, PlainOutput, RowFault, RowWriter, Setup,
+    SourceEnd, convert, convert_source,
 };
 use arrayvec::ArrayString;
 use date_texts::{Calendar, Refusal, Target};
@@ -13,15 +13,29 @@ use std::test::Fail;
 
 const GREGORIAN: Target = Target::Date(Calendar::Gregorian);
 
+const ISO: Target = Target::Date(Calendar::Iso);
+
 const JULIAN: Target = Target::Date(Calendar::Julian);
 
-/// A table of text to be converted, and the table that is wanted.
+const ISLAMIC: Target = Target::Date(Calendar::Islamic);
+
+const LONGCOUNT: Target = Target::Date(Calendar::Longcount);
+
+/// A text to be converted, the table that is wanted, and number and refusal of the rows in its journal.
 #[derive(Clone, Copy)]
 struct Case {
     targets: &'static [Target],
     delimiter: u8,
     input: &'static [u8],
     output: &'static [u8],
+    journal: &'static [(u32, u8)],
+}
+
+/// Records of a register, each with its row for these targets.
+#[derive(Clone, Copy)]
+struct Worked {
+    targets: &'static [Target],
+    rows: &'static [(&'static str, &'static str)],
 }
 
 const HEADING: &[u8] = b"row,id,calendar,date,rd,weekday,gregorian,julian,refusal\n";
@@ -50,68 +64,206 @@ fn tables_are_as_worked(rt: HostRuntime) -> Result<(), Fail> {
         Case {
             targets: &[GREGORIAN, JULIAN],
             delimiter: b',',
-            input: b"id,calendar,date\na,julian,1582-10-05\nb,gregorian,1582-10-15\nc,julian,0-1-1\nd,hebrew,5706-08-30\n",
-            output: b"row,id,calendar,date,rd,weekday,gregorian,julian,refusal\n1,a,julian,1582-10-05,577736,Friday,1582-10-15,1582-10-05,\n2,b,gregorian,1582-10-15,577736,Friday,1582-10-15,1582-10-05,\n3,c,julian,0-1-1,,,,,6\n4,d,hebrew,5706-08-30,,,,,4\n",
-        },
-        Case {
-            targets: &[GREGORIAN, JULIAN],
-            delimiter: b',',
-            input: b"id,calendar,date\ne,julian,-1-2-29",
-            output: b"row,id,calendar,date,rd,weekday,gregorian,julian,refusal\n1,e,julian,-1-2-29,-308,Sunday,0000-02-27,-0001-02-29,\n",
+            input: b"id,calendar,date\na,julian,1582-10-05\nb,gregorian,1582-10-15\nc,julian,0-1-1\nd,mayan,1",
+            output: b"row,id,calendar,date,rd,weekday,gregorian,julian,refusal\n1,a,julian,1582-10-05,577736,Friday,1582-10-15,1582-10-05,\n2,b,gregorian,1582-10-15,577736,Friday,1582-10-15,1582-10-05,\n3,c,julian,0-1-1,,,,,6\n4,d,mayan,1,,,,,4\n",
+            journal: &[(3, 6), (4, 4)],
         },
         Case {
             targets: &[JULIAN],
             delimiter: b';',
             input: b"\xEF\xBB\xBFID; Calendar ;DATE\r\n\r\n\"Smith; J.\";Gregorian; 1752-9-14\r\n",
             output: b"row;id;calendar;date;rd;weekday;julian;refusal\n1;\"Smith; J.\";Gregorian; 1752-9-14;639797;Thursday;1752-09-03;\n",
+            journal: &[],
         },
         Case {
             targets: &[],
             delimiter: b',',
-            input: b"\n\"\xEF\xBB\xBFId\",calendar,date\na,gregorian\naaaaaaaaaaaaaaaaaaaaaaaaaaaaaaaaaaaaaaaaa,gregorian,1945-11-12\n\xFF,gregorian,1945-11-12\nd,mayan,1945-11-12\ne,gregorian,1945/11/12\nf,julian,0-1-1\ng,gregorian,10000-01-01\n",
-            output: b"row,id,calendar,date,rd,weekday,refusal\n1,,,,,,1\n2,,,,,,2\n3,,,,,,3\n4,d,mayan,1945-11-12,,,4\n5,e,gregorian,1945/11/12,,,5\n6,f,julian,0-1-1,,,6\n7,g,gregorian,10000-01-01,,,7\n",
+            input: b"id,calendar,date\na,gregorian\naaaaaaaaaaaaaaaaaaaaaaaaaaaaaaaaaaaaaaaaa,gregorian,1945-11-12\n\xFF,gregorian,1945-11-12\nd,mayan,1945-11-12\ne,gregorian,1945/11/12\n",
+            output: b"row,id,calendar,date,rd,weekday,refusal\n1,,,,,,1\n2,,,,,,2\n3,,,,,,3\n4,d,mayan,1945-11-12,,,4\n5,e,gregorian,1945/11/12,,,5\n",
+            journal: &[(1, 1), (2, 2), (3, 3), (4, 4), (5, 5)],
+        },
+        Case {
+            targets: &[],
+            delimiter: b',',
+            input: b"\n\"\xEF\xBB\xBFId\",calendar,date\n\"say \"\"so\"\"\",gregorian,1970-01-01\n",
+            output: b"row,id,calendar,date,rd,weekday,refusal\n1,\"say \"\"so\"\"\",gregorian,1970-01-01,719163,Thursday,\n",
+            journal: &[],
+        },
+        Case {
+            targets: &[],
+            delimiter: b',',
+            input: b"id,calendar,date\n",
+            output: b"row,id,calendar,date,rd,weekday,refusal\n",
+            journal: &[],
         },
         Case {
             targets: &[],
             delimiter: b'\t',
             input: b"id\tcalendar\tdate\n",
             output: b"row\tid\tcalendar\tdate\trd\tweekday\trefusal\n",
+            journal: &[],
         },
     ];
     for case in &cases {
         let setup = Setup::new(case.targets, 16, case.delimiter)?;
         let (text, end) = converted(rt.alloc(), case.input, &setup);
-        assert_eq!(rt; cause_of(&end), 0);
         assert_eq!(rt; text.as_slice(), case.output);
+        let lines = case.output.iter().filter(|byte| **byte == b'\n').count();
+        let SourceEnd::Whole {
+            rows,
+            refused,
+            journal,
+        } = end
+        else {
+            return Err(Fail::from("broken"));
+        };
+        assert_eq!(rt; (rows as usize).saturating_add(1), lines);
+        assert_eq!(rt; refused as usize, case.journal.len());
+        assert_eq!(rt; journal.len(), case.journal.len());
+        for (note, (number, refusal)) in journal.iter().zip(case.journal) {
+            assert_eq!(rt; note.number, *number);
+            assert_eq!(rt; note.refusal.number(), *refusal);
+        }
     }
     Ok(())
 }
 
 #[test]
-fn the_journal_has_the_refused_rows(rt: HostRuntime) -> Result<(), Fail> {
-    let input = b"id,calendar,date\na,b\nc,julian,1-1-1\nd,maya,1\n";
-    let (_text, end) = converted(rt.alloc(), input, &both(b',')?);
-    let SourceEnd::Whole {
-        rows,
-        refused,
-        journal,
-    } = end
-    else {
-        return Err(Fail::from("broken"));
-    };
-    let want = [
-        Note {
-            number: 1,
-            refusal: Refusal::FieldCount,
+fn records_become_their_rows(rt: HostRuntime) -> Result<(), Fail> {
+    let tables = [
+        Worked {
+            targets: &Target::ALL,
+            rows: &[(
+                "a,gregorian,1945-11-12",
+                "1,a,gregorian,1945-11-12,710347,Monday,1945-11-12,1945-W46-1,1945-10-30,1662-03-03,1938-03-03,2694-07-10,1395-04-05,1364-12-06,5706-09-07,12.16.11.16.9,0154-02-21,7 Zac,11 Muluc,",
+            )],
         },
-        Note {
-            number: 3,
-            refusal: Refusal::UnknownCalendar,
+        Worked {
+            targets: &[GREGORIAN],
+            rows: &[
+                (
+                    "b,julian,1582-10-05",
+                    "1,b,julian,1582-10-05,577736,Friday,1582-10-15,",
+                ),
+                ("d,julian,0-1-1", "2,d,julian,0-1-1,,,,6"),
+                (
+                    "e,julian,-1-2-29",
+                    "3,e,julian,-1-2-29,-308,Sunday,0000-02-27,",
+                ),
+                (
+                    "g,hebrew,5745-07-01",
+                    "4,g,hebrew,5745-07-01,724546,Thursday,1984-09-27,",
+                ),
+                (
+                    "h,hebrew,5766-07-01",
+                    "5,h,hebrew,5766-07-01,732223,Tuesday,2005-10-04,",
+                ),
+                ("k,french,4000-13-6", "6,k,french,4000-13-6,,,,6"),
+                (
+                    "l,french,4-13-6",
+                    "7,l,french,4-13-6,655875,Wednesday,1796-09-21,",
+                ),
+                (
+                    "m,islamic,1-1-1",
+                    "8,m,islamic,1-1-1,227015,Friday,0622-07-19,",
+                ),
+                ("n,islamic,1-12-30", "9,n,islamic,1-12-30,,,,6"),
+                (
+                    "o,islamic,2-12-30",
+                    "10,o,islamic,2-12-30,227723,Saturday,0624-06-26,",
+                ),
+            ],
+        },
+        Worked {
+            targets: &[GREGORIAN, ISLAMIC],
+            rows: &[(
+                "c,julian,-44-3-15",
+                "1,c,julian,-44-3-15,-15999,Wednesday,-0043-03-13,,",
+            )],
+        },
+        Worked {
+            targets: &[GREGORIAN, ISO],
+            rows: &[(
+                "f,iso,2004-w53-6",
+                "1,f,iso,2004-w53-6,731947,Saturday,2005-01-01,2004-W53-6,",
+            )],
+        },
+        Worked {
+            targets: &[],
+            rows: &[
+                ("i,hebrew,5706-08-30", "1,i,hebrew,5706-08-30,,,6"),
+                ("j,hebrew,5707-13-01", "2,j,hebrew,5707-13-01,,,6"),
+            ],
+        },
+        Worked {
+            targets: &[LONGCOUNT, Target::Haab, Target::Tzolkin],
+            rows: &[
+                (
+                    "p,longcount,0.0.0.0.0",
+                    "1,p,longcount,0.0.0.0.0,-1137142,Monday,0.0.0.0.0,8 Cumku,4 Ahau,",
+                ),
+                (
+                    "q,longcount,0.0.0.0.12",
+                    "2,q,longcount,0.0.0.0.12,-1137130,Saturday,0.0.0.0.12,0 Uayeb,3 Eb,",
+                ),
+                ("r,longcount,0.0.0.18.0", "3,r,longcount,0.0.0.18.0,,,,,,6"),
+                (
+                    "s,gregorian,-3113-08-10",
+                    "4,s,gregorian,-3113-08-10,-1137143,Sunday,,7 Cumku,3 Cauac,",
+                ),
+            ],
+        },
+        Worked {
+            targets: &[JULIAN],
+            rows: &[
+                (
+                    "t,gregorian,9999-12-31",
+                    "1,t,gregorian,9999-12-31,3652059,Friday,9999-10-19,",
+                ),
+                ("u,gregorian,10000-01-01", "2,u,gregorian,10000-01-01,,,,7"),
+                ("v,gregorian,10000-02-30", "3,v,gregorian,10000-02-30,,,,6"),
+                ("w,iso,9999-W52-6", "4,w,iso,9999-W52-6,,,,7"),
+                (
+                    "x,gregorian,-9999-01-01",
+                    "5,x,gregorian,-9999-01-01,-3652424,Monday,-10000-03-19,",
+                ),
+            ],
+        },
+        Worked {
+            targets: &[GREGORIAN, JULIAN],
+            rows: &[
+                (
+                    "a,coptic,3-13-6",
+                    "1,a,coptic,3-13-6,104700,Monday,0287-08-29,0287-08-29,",
+                ),
+                ("b,coptic,4-13-6", "2,b,coptic,4-13-6,,,,,6"),
+                (
+                    "c,ethiopic,1-1-1",
+                    "3,c,ethiopic,1-1-1,2796,Wednesday,0008-08-27,0008-08-29,",
+                ),
+                ("d,ethiopic,0-1-1", "4,d,ethiopic,0-1-1,,,,,6"),
+                ("e,egyptian,1-13-6", "5,e,egyptian,1-13-6,,,,,6"),
+            ],
         },
     ];
-    assert_eq!(rt; rows, 3);
-    assert_eq!(rt; refused, 2);
-    assert_eq!(rt; journal.as_slice(), want.as_slice());
+    for table in &tables {
+        let setup = Setup::new(table.targets, 16, b',')?;
+        let mut input = Vec::new(rt.alloc());
+        let mut output = Vec::new(rt.alloc());
+        write!(input, "id,calendar,date\n")?;
+        write!(output, "row,id,calendar,date,rd,weekday")?;
+        for target in table.targets {
+            write!(output, ",{}", target.name())?;
+        }
+        write!(output, ",refusal\n")?;
+        for (record, row) in table.rows {
+            write!(input, "{record}\n")?;
+            write!(output, "{row}\n")?;
+        }
+        let (text, end) = converted(rt.alloc(), input.as_slice(), &setup);
+        assert_eq!(rt; cause_of(&end), 0);
+        assert_eq!(rt; text.as_slice(), output.as_slice());
+    }
     Ok(())
 }
 
@@ -191,6 +343,35 @@ impl Write for Paper {
         self.flushes = self.flushes.saturating_add(1);
         Ok(())
     }
+}
+
+/// Gives what it has, as much as is asked for, and then a fault.
+#[derive(Drop)]
+struct Chunk<'a> {
+    rest: &'a [u8],
+}
+
+impl Read for Chunk<'_> {
+    fn read(&mut self, buf: &mut [u8]) -> io::Result<usize> {
+        if self.rest.is_empty() {
+            return Err(io::Error::from(ErrorKind::BrokenPipe));
+        }
+        self.rest.read(buf)
+    }
+}
+
+#[test]
+fn a_read_fault_in_mid_text_leaves_the_rows_before_it(rt: HostRuntime) -> Result<(), Fail> {
+    let reader = Chunk {
+        rest: b"id,calendar,date\na,iso,1970-W01-4\n",
+    };
+    let setup = Setup::new(&[], 16, b',')?;
+    let mut output = PlainOutput::new(Vec::new(rt.alloc()), 1);
+    let end = convert_source(rt.alloc(), reader, &mut output, &setup);
+    assert_eq!(rt; cause_of(&end), 5);
+    let table = b"row,id,calendar,date,rd,weekday,refusal\n1,a,iso,1970-W01-4,719163,Thursday,\n";
+    assert_eq!(rt; output.into_inner().as_slice(), table.as_slice());
+    Ok(())
 }
 
 fn new_paper(alloc: Global, most: usize, bad_call: usize) -> PlainOutput<Paper> {
@@ -273,16 +454,24 @@ fn each_row_is_one_write_and_a_flush(rt: HostRuntime) -> Result<(), Fail> {
 
 #[test]
 fn setups_have_their_faults(rt: HostRuntime) {
-    let twice = Setup::new(&[JULIAN, JULIAN], 0, b',');
-    assert_eq!(rt; twice.err(), Some(SetupFault::TargetTwice));
-    let ring = Setup::new(&[], 0, b',');
-    assert_eq!(rt; ring.err(), Some(SetupFault::RingSize));
-    let long = Setup::new(&[], 4097, b'|');
-    assert_eq!(rt; long.err(), Some(SetupFault::RingSize));
-    let delimiter = Setup::new(&[], 1, b'|').err();
-    assert_eq!(rt; delimiter.map(|fault| fault.number()), Some(3));
-    let tabs = Setup::new(&[], 4096, b'\t');
-    assert!(rt; tabs.is_ok_and(|setup| setup.ring() == 4096));
+    let cases: [(&[Target], usize, u8, u8); 5] = [
+        (&[JULIAN, JULIAN], 0, b',', 1),
+        (&[], 0, b',', 2),
+        (&[], 4097, b'|', 2),
+        (&[], 1, b'|', 3),
+        (&[], 4096, b'\t', 0),
+    ];
+    for (targets, ring, delimiter, fault) in cases {
+        let answer = match Setup::new(targets, ring, delimiter) {
+            Ok(setup) => {
+                assert_eq!(rt; setup.ring(), ring);
+                assert_eq!(rt; setup.delimiter(), delimiter);
+                0
+            }
+            Err(fault) => fault.number(),
+        };
+        assert_eq!(rt; answer, fault);
+    }
 }
 
 #[test]
@@ -308,13 +497,12 @@ fn entries_and_rows_tell_their_parts(rt: HostRuntime) -> Result<(), Fail> {
 #[test]
 fn readers_and_writers_fail_from_a_fault_on(rt: HostRuntime) -> Result<(), Fail> {
     let setup = both(b',')?;
-    let reader = CutText {
-        text: b"id,calendar,date\na,b,c\n",
-        at: 0,
-        cut: 23,
+    let reader = Chunk {
+        rest: b"id,calendar,date\na,iso,1970-W01-4\n",
     };
     let mut entries = EntryReader::open(rt.alloc(), reader, &setup)?;
     let entry = entries.next()?.ok_or("no entry")?;
+    assert_eq!(rt; entry.number(), 1);
     assert_eq!(rt; entries.next().err(), Some(EntryFault::ReadFault));
     assert_eq!(rt; entries.next().err(), Some(EntryFault::Failed));
     let row = convert(entry, &setup);

@@ -4,27 +4,22 @@ ghost use Rattle.std.specs.Prelude.{◌≡◌, ◌≤◌, ◌∷◌, [], true, f
 ghost use Rattle.std.specs.Io.KnownBytes.{Appends};
 ghost use Rattle.register_records.specs.Entries.{body_seen};
 ghost use Rattle.register_records.specs.EntriesLeft.{entry_seen};
+ghost use Rattle.register_records.specs.LineViews.{Begins, line_bytes, line_delimiter};
 ghost use Rattle.register_records.specs.Lines.{line_text};
 ghost use Rattle.register_records.specs.RowViews.{row_cells, row_entry, row_outcome, row_seen, row_targets};
 ghost use Rattle.register_records.specs.Setups.{delimiter_of, targets_of};
-ghost use Rattle.register_records.specs.Tables.{heading, row_line, text_fields};
+ghost use Rattle.register_records.specs.Tables.{entry_fields, heading, row_line, text_fields};
 
 use crate::entries::Body;
-use crate::lines::line_into;
+use crate::lines::Line;
 use crate::outputs::{Output, OutputFault};
 use crate::rows::Row;
 use crate::setups::Setup;
-use arrayvec::ArrayVec;
 use date_texts::{Refusal, Target};
 use day_numbers::Day;
 use itoa::Buffer;
 use std::alloc::{AllocError, Global};
-use std::mem;
 use thiserror::Error;
-
-/// The most fields of a line: the row's number, three texts, the day number, the weekday, a cell for
-/// each target and the refusal.
-const MAX_FIELDS: usize = 20;
 
 /// Why writing rows stopped.
 #[derive(Clone, Copy, PartialEq, Eq, Debug, Error)]
@@ -43,10 +38,8 @@ pub enum RowFault {
 /// Writes rows to an output that is lent to each call.
 #[derive(Drop)]
 pub struct RowWriter {
-    // The line of the row before, whose memory serves again.
-    line: Vec<u8>,
-    alloc: Global,
-    delimiter: u8,
+    // The last line, whose memory serves again.
+    line: Line,
     failed: bool,
 }
 
@@ -60,82 +53,80 @@ fn texts_of(body: &Body) -> (&str, &str, &str)
     }
 }
 
-/// The line of the heading.
-fn heading_line(spare: Vec<u8>, delimiter: u8, targets: &[Target]) -> Result<Vec<u8>, AllocError>
-    requires { length targets.now ≤ 13 }
-    ensures { IfOk result (λ v. v.items ≡ line_text delimiter (heading targets.now)) }
+/// Makes the line of the heading.
+fn make_heading(line: &mut Line, targets: &[Target]) -> Result<(), AllocError>
+    ensures value { OnOk result (line_bytes line.new ≡ line_text (line_delimiter line.old) (heading targets.now)) }
+    ensures kept { line_delimiter line.new ≡ line_delimiter line.old }
 {
-    let mut fields: ArrayVec<&[u8], MAX_FIELDS> = ArrayVec::new();
-    fields.push(b"row");
-    fields.push(b"id");
-    fields.push(b"calendar");
-    fields.push(b"date");
-    fields.push(b"rd");
-    fields.push(b"weekday");
+    line.start(b"row")?;
+    line.push_plain(b"id")?;
+    line.push_plain(b"calendar")?;
+    line.push_plain(b"date")?;
+    line.push_plain(b"rd")?;
+    line.push_plain(b"weekday")?;
     'targets: for target in targets {
-        fields.push(target.name().as_bytes());
+        line.push(target.name().as_bytes())?;
     }
-    fields.push(b"refusal");
-    line_into(spare, delimiter, fields.as_slice())
+    line.push_plain(b"refusal")?;
+    line.end()?;
+    Ok(())
 }
 
-/// The line of an accepted row.
-fn accepted_line(spare: Vec<u8>, delimiter: u8, row: &Row, day: Day) -> Result<Vec<u8>, AllocError>
+/// Begins the line of a row: its number and its three texts.
+fn begin_line(line: &mut Line, row: &Row) -> Result<(), AllocError>
+    ensures value { OnOk result (Begins (entry_fields (row_seen row.now)) line.new) }
+    ensures kept { line_delimiter line.new ≡ line_delimiter line.old }
+{
+    let (id, calendar, date) = texts_of(row.entry().body());
+    line.start(Buffer::new().format(row.entry().number()).as_bytes())?;
+    line.push(id.as_bytes())?;
+    line.push(calendar.as_bytes())?;
+    line.push(date.as_bytes())?;
+    Ok(())
+}
+
+/// Makes the line of an accepted row.
+fn make_accepted(line: &mut Line, row: &Row, day: Day) -> Result<(), AllocError>
     requires { row_outcome row.now ≡ Ok day }
-    ensures { IfOk result (λ v. v.items ≡ row_line delimiter (row_targets row.now) (row_seen row.now)) }
+    ensures value { OnOk result (line_bytes line.new ≡ row_line (line_delimiter line.old) (row_targets row.now) (row_seen row.now)) }
+    ensures kept { line_delimiter line.new ≡ line_delimiter line.old }
 {
-    let mut number = Buffer::new();
-    let mut day_number = Buffer::new();
-    let weekday = day.weekday();
-    let (id, calendar, date) = texts_of(row.entry().body());
-    let mut fields: ArrayVec<&[u8], MAX_FIELDS> = ArrayVec::new();
-    fields.push(number.format(row.entry().number()).as_bytes());
-    fields.push(id.as_bytes());
-    fields.push(calendar.as_bytes());
-    fields.push(date.as_bytes());
-    fields.push(day_number.format(day.number()).as_bytes());
-    fields.push(weekday.name().as_bytes());
+    begin_line(line, row)?;
+    line.push_plain(Buffer::new().format(day.number()).as_bytes())?;
+    line.push_plain(day.weekday().name().as_bytes())?;
     'cells: for cell in row.cells() {
-        fields.push(cell.as_str().as_bytes());
+        line.push(cell.as_str().as_bytes())?;
     }
-    fields.push(b"");
-    line_into(spare, delimiter, fields.as_slice())
+    line.push_plain(b"")?;
+    line.end()?;
+    Ok(())
 }
 
-/// The line of a refused row.
-fn refused_line(
-    spare: Vec<u8>,
-    delimiter: u8,
-    row: &Row,
-    refusal: Refusal,
-) -> Result<Vec<u8>, AllocError>
+/// Makes the line of a refused row.
+fn make_refused(line: &mut Line, row: &Row, refusal: Refusal) -> Result<(), AllocError>
     requires { row_outcome row.now ≡ Err refusal }
-    ensures { IfOk result (λ v. v.items ≡ row_line delimiter (row_targets row.now) (row_seen row.now)) }
+    ensures value { OnOk result (line_bytes line.new ≡ row_line (line_delimiter line.old) (row_targets row.now) (row_seen row.now)) }
+    ensures kept { line_delimiter line.new ≡ line_delimiter line.old }
 {
-    let mut number = Buffer::new();
-    let mut refusal_number = Buffer::new();
-    let (id, calendar, date) = texts_of(row.entry().body());
-    let mut fields: ArrayVec<&[u8], MAX_FIELDS> = ArrayVec::new();
-    fields.push(number.format(row.entry().number()).as_bytes());
-    fields.push(id.as_bytes());
-    fields.push(calendar.as_bytes());
-    fields.push(date.as_bytes());
-    fields.push(b"");
-    fields.push(b"");
+    begin_line(line, row)?;
+    line.push_plain(b"")?;
+    line.push_plain(b"")?;
     'targets: for _target in row.targets() {
-        fields.push(b"");
+        line.push_plain(b"")?;
     }
-    fields.push(refusal_number.format(refusal.number()).as_bytes());
-    line_into(spare, delimiter, fields.as_slice())
+    line.push_plain(Buffer::new().format(refusal.number()).as_bytes())?;
+    line.end()?;
+    Ok(())
 }
 
-/// The line of a row.
-fn line_of_row(spare: Vec<u8>, delimiter: u8, row: &Row) -> Result<Vec<u8>, AllocError>
-    ensures { IfOk result (λ v. v.items ≡ row_line delimiter (row_targets row.now) (row_seen row.now)) }
+/// Makes the line of a row.
+fn make_row(line: &mut Line, row: &Row) -> Result<(), AllocError>
+    ensures value { OnOk result (line_bytes line.new ≡ row_line (line_delimiter line.old) (row_targets row.now) (row_seen row.now)) }
+    ensures kept { line_delimiter line.new ≡ line_delimiter line.old }
 {
     match row.outcome() {
-        Ok(day) => accepted_line(spare, delimiter, row, day),
-        Err(refusal) => refused_line(spare, delimiter, row, refusal),
+        Ok(day) => make_accepted(line, row, day),
+        Err(refusal) => make_refused(line, row, refusal),
     }
 }
 
@@ -185,15 +176,13 @@ impl RowWriter {
         ensures told { IfErr result (λ e. e ≡ RowFault.Failed → ⊥) }
         ensures mark { W.own_mark output.new ≡ W.own_mark output.old }
     {
-        let delimiter = setup.delimiter();
-        let Ok(line) = heading_line(Vec::new(alloc), delimiter, setup.targets()) else {
+        let mut line = Line::new(alloc, setup.delimiter());
+        if make_heading(&mut line, setup.targets()).is_err() {
             return Err(RowFault::OutOfMemory);
-        };
+        }
         match send(output, line.as_slice()) {
             Ok(()) => Ok(RowWriter {
                 line,
-                alloc,
-                delimiter,
                 failed: false,
             }),
             Err(_) => Err(RowFault::WriteFault),
@@ -222,14 +211,11 @@ impl RowWriter {
         if self.failed {
             return Err(RowFault::Failed);
         }
-        let spare = mem::replace(&mut self.line, Vec::new(self.alloc));
-        let Ok(line) = line_of_row(spare, self.delimiter, row) else {
+        if make_row(&mut self.line, row).is_err() {
             self.failed = true;
             return Err(RowFault::OutOfMemory);
-        };
-        let sent = send(output, line.as_slice());
-        self.line = line;
-        if sent.is_err() {
+        }
+        if send(output, self.line.as_slice()).is_err() {
             self.failed = true;
             return Err(RowFault::WriteFault);
         }
@@ -245,8 +231,9 @@ impl RowWriter {
         ensures { result ≡ (if has_faulted self then Err RowFault.Failed else Ok tt) }
     {
         if self.failed {
-            return Err(RowFault::Failed);
+            Err(RowFault::Failed)
+        } else {
+            Ok(())
         }
-        Ok(())
     }
 }

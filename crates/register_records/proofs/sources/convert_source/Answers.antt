@@ -1,5 +1,6 @@
-use Rattle.std.proofs.Common.{◌≡◌, ◌<◌, ◌∙◌, sym, arith, inr, rules, true, length-append}
+use Rattle.std.proofs.Common.{◌≡◌, ◌<◌, ◌∙◌, sym, arith, inl, inr, rules, true, length-append}
 use Rattle.std.specs.Result.{is_ok}
+use Rattle.csv.proofs.WriteFacts.{appends-none}
 use Rattle.register_records.specs.Entries.{record_limit}
 use Rattle.register_records.specs.EntriesLeft.{entry_number, given_by}
 use Rattle.register_records.specs.RowViews.{row_seen}
@@ -10,7 +11,7 @@ use Rattle.register_records.proofs.sources.convert_source.Goals as goal
 pub entries-init : goal.entries-init
 entries-init g c =
     record {
-      reads = c.in-Ok.ensures.goes;
+      reads = c.in-Ok.ensures.goes.0;
       counted = sym c.in-Ok.ensures.none_given;
       limit = omega arith;
       fewer = rw c.new-journal.ensures.items (omega arith);
@@ -21,6 +22,13 @@ entries-init g c =
       mark = c.open-2.ensures.mark;
       come = rw (c.in-Ok.ensures.none_given, c.new-journal.ensures.items) (start _ _ _ _ _ _ c.in-Ok.ensures.accepts c.in-Ok-open.ensures.ok);
     }
+
+pub returns-in-Err-open-clause-part : goal.returns-in-Err-open-clause-part
+returns-in-Err-open-clause-part g c =
+    rw c.broken-in-Err-open.ensures (λ h.
+    let memory = only-memory _ _ c.cause_of_row_fault.ensures c.in-Err-open.ensures.told h in
+    let same = c.in-Err-open.ensures.memory memory in
+    inl (rw same (appends-none _)))
 
 pub returns-in-Ok-None-clause-whole : goal.returns-in-Ok-None-clause-whole
 returns-in-Ok-None-clause-whole g c =

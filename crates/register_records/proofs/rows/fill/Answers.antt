@@ -1,0 +1,10 @@
+use Rattle.std.proofs.Common.{arith, ap, length, length-append}
+use Rattle.arrayvec.specs.ArrayString.{ArrayString}
+use Rattle.register_records.proofs.OutcomeFacts.{cells-more}
+use Rattle.register_records.proofs.rows.fill.Goals as goal
+
+pub loop-target-preserved : goal.loop-target-preserved
+loop-target-preserved c = record {
+  count = omega (arith, length-append {A = ArrayString}, ap length c.push.ensures, c.loop-target.invariant.count);
+  cells = cells-more _ _ _ _ _ _ _ c.loop-target-test.true c.loop-target.invariant.cells c.cell.ensures.value c.push.ensures;
+}

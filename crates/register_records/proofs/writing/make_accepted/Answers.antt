@@ -1,0 +1,50 @@
+use Rattle.std.proofs.Common.{◌≡◌, ◌∷◌, ◌++◌, [], ◌∙◌, List, ap, arith, map, take}
+use Rattle.std.proofs.lemmas.Grind.{common_steps}
+use Rattle.std.proofs.lemmas.List.{take_all}
+use Rattle.std.specs.Fmt.{signed_decimal}
+use Rattle.arrayvec.specs.ArrayString.{ArrayString}
+use Rattle.day_numbers.specs.Days.{weekday_name, weekday_number}
+use Rattle.register_records.specs.LineViews.{line_delimiter}
+use Rattle.register_records.specs.RowViews.{row_cells, row_seen, row_targets}
+use Rattle.register_records.specs.Tables.{entry_fields, row_fields, weekday_at}
+use Rattle.register_records.specs.Views.{outcome_seen}
+use Rattle.register_records.proofs.LineFacts.{accepted-fields, one-item, plain-day, same-body, same-line, two-fields, two-more, weekday-name}
+use Rattle.register_records.proofs.writing.make_accepted.Goals as goal
+
+pub push_plain-requires : goal.push_plain-requires
+push_plain-requires c =
+    let day : c.as_bytes.result.now ≡ signed_decimal c.args.day.number = grind (arith, common_steps) in
+    rw day (plain-day (line_delimiter c.begin_line.new.line) c.begin_line.new.line.separated c.args.day.number c.args.day.in_range)
+
+pub cells-init : goal.cells-init
+cells-init c =
+    let entry = entry_fields (row_seen c.args.row.now) in
+    let day : c.as_bytes.result.now ≡ signed_decimal c.args.day.number = grind (arith, common_steps) in
+    let named = c.as_bytes-2.ensures.value ∙ c.name.ensures ∙ weekday-name _ _ c.weekday.ensures in
+    let one = c.in_ok-push_plain.ensures.value entry (omega arith) c.in_ok-begin_line.ensures.value in
+    let two = c.in_ok-push_plain-2.ensures.value (entry ++ c.as_bytes.result.now ∷ []) (omega arith) one in
+    record { begun = same-body _ _ _ _ (two-more entry _ _ _ _ day named) two; kept = cc }
+
+pub cells-preserved : goal.cells-preserved
+cells-preserved c =
+    let inv = c.cells.invariant in
+    let first = entry_fields (row_seen c.args.row.now) ++ (signed_decimal c.args.day.number ∷ weekday_name (weekday_at (weekday_number c.args.day.number)) ∷ []) in
+    let fields = first ++ map (λ (cell : ArrayString). cell.bytes) (take c.cells.cell-index (row_cells c.args.row.now)) in
+    let here = rw c.cells-cell-items.ensures.value at c.cell-item.is in
+    record {
+      begun = one-item (λ (cell : ArrayString). cell.bytes) _ first _ _ _ _ _ (rw (← c.cells-cell-items.ensures.value) c.cells-test.true)
+          (c.as_bytes-in-cells.ensures.value ∙ c.as_str.ensures.value ∙ ap (λ (cell : ArrayString). cell.bytes) here) (c.in_ok-push.ensures.value fields (omega arith) inv.begun);
+      kept = c.in_ok-push.ensures.kept ∙ inv.kept;
+    }
+
+pub returns-clause-value : goal.returns-clause-value
+returns-clause-value c =
+    let inv = c.cells.invariant in
+    let row = c.args.row.now in
+    let first = entry_fields (row_seen row) ++ (signed_decimal c.args.day.number ∷ weekday_name (weekday_at (weekday_number c.args.day.number)) ∷ []) in
+    let cells = λ (items : List ArrayString). (first ++ map (λ (cell : ArrayString). cell.bytes) items) ++ [] ∷ [] in
+    let all = take_all c.cells.cell-index (row_cells row) (rw (← c.cells-cell-items.ensures.value) c.cells-test.false) in
+    let fields = first ++ map (λ (cell : ArrayString). cell.bytes) (take c.cells.cell-index (row_cells row)) in
+    let last = c.in_ok-push_plain-3.ensures.value fields (omega arith) inv.begun in
+    same-line _ _ (fields ++ [] ∷ []) (row_fields (row_targets row) (row_seen row)) _ (c.in_ok-push_plain-3.ensures.kept ∙ inv.kept)
+    (ap cells all ∙ accepted-fields (row_targets row) (row_seen row) c.args.day.number (ap outcome_seen c.requires)) (c.in_ok-end.ensures.value (fields ++ [] ∷ []) (two-fields fields [] (omega arith)) last)

@@ -1,0 +1,12 @@
+use Rattle.std.proofs.Common.{◌≡◌, ◌++◌, ◌∷◌, [], map, take}
+use Rattle.register_records.specs.LineViews.{Begins, line_delimiter}
+use Rattle.register_records.specs.RowViews.{row_seen, row_targets}
+use Rattle.register_records.specs.Tables.{entry_fields}
+use Rattle.register_records.proofs.writing.make_refused.Given as goal
+
+abbrev pub invariant-targets : goal.invariant-targets
+invariant-targets l =
+    record {
+      begun : Begins ((entry_fields (row_seen l.row) ++ ([] ∷ [] ∷ [])) ++ map (λ target. []) (take l._target-index (row_targets l.row))) l.line;
+      kept : line_delimiter l.line ≡ line_delimiter l.fn.line;
+    }

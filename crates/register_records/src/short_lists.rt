@@ -1,0 +1,58 @@
+// Lists of fixed room: the targets of a setup and of a row, and a row's cells.
+
+ghost use Rattle.std.specs.Prelude.{◌≡◌, ◌≤◌, ◌<◌, ◌∷◌, ◌++◌, [], ⊤, length};
+
+use std::alloc::AllocError;
+
+/// The most targets: each is named once at most.
+pub const MAX_TARGETS: usize = 13;
+
+/// At most thirteen items, in order. A place that holds none yet holds a blank.
+pub struct ShortList<T: Copy> {
+    places: [T; MAX_TARGETS],
+    count: usize,
+    ghost few: { count ≤ 13 },
+}
+
+impl<T: Copy> Copy for ShortList<T> {}
+
+impl<T: Copy> Clone for ShortList<T> {
+    ghost is_clone = { λ list copy. copy ≡ list };
+
+    ghost is_infallible = { λ _. ⊤ };
+
+    fn clone(&self) -> Result<ShortList<T>, AllocError> {
+        Ok(*self)
+    }
+}
+
+impl<T: Copy> ShortList<T> {
+    ghost use Rattle.register_records.specs.ShortLists.{items_in};
+
+    /// The list of no item.
+    pub fn new(blank: T) -> ShortList<T>
+        ensures { items_in result ≡ [] }
+    {
+        ShortList {
+            places: [blank; MAX_TARGETS],
+            count: 0,
+        }
+    }
+
+    /// The items.
+    pub fn as_slice(&self) -> &[T]
+        ensures value { result.now ≡ items_in self.now }
+        ensures few { length result.now ≤ 13 }
+    {
+        &self.places[..self.count]
+    }
+
+    /// Appends an item.
+    pub fn push(&mut self, item: T)
+        requires { length (items_in self.old) < 13 }
+        ensures { items_in self.new ≡ items_in self.old ++ item ∷ [] }
+    {
+        self.places[self.count] = item;
+        self.count += 1;
+    }
+}

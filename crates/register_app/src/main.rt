@@ -5,6 +5,10 @@
 #![tactic(auto)]
 
 mod answering;
+mod help;
+mod option_values;
+mod refusals;
+mod requests;
 
 use answering::answer;
 use register_records::PlainOutput;

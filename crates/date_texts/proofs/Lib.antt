@@ -1,4 +1,7 @@
 pub mod ReadingLemmas
+pub mod DateParts
 pub mod DateTextLemmas
+pub mod CellLemmas
+pub mod TargetPlaces
 pub mod TargetCount
-pub mod OneCalendarName
+pub mod TargetNames

@@ -7,11 +7,12 @@ use Rattle.std.proofs.lemmas.List.{length-replicate}
 use Rattle.std.proofs.lemmas.Fmt.{digits_decimal, digits_value-decimal, length-decimal-le, decimal_nonempty}
 use Rattle.std.proofs.lemmas.Str.Parse.{IsNumeralModel, numerals_by_fold}
 use Rattle.day_numbers.specs.Days.{IsBetween}
+use Rattle.maya_calendars.specs.Places.{ArePlaces}
 use Rattle.day_numbers.proofs.SignedArithmetic.{signed_arith}
 use Rattle.std.proofs.Common.{append-nil}
 use Rattle.std.proofs.lemmas.Bool.Decides.{nat_tests}
-use Rattle.date_texts.specs.DateText.{all_digits, value_after, IsNumeral, IsYearText, plain, minus, IsCivilText, padded, canonical_year, canonical_civil}
-use Rattle.date_texts.specs.Reading.{digits_at, number_at, after_byte, year_at, civil_at, all_read, as_year, as_year_before_zero, ◌>>=◌}
+use Rattle.date_texts.specs.DateText.{all_digits, value_after, IsNumeral, IsYearText, plain, minus, IsMark, of_month, capital_letter, small_letter, IsCivilText, IsLongText, padded, canonical_year, canonical_civil, canonical_week, canonical_long}
+use Rattle.date_texts.specs.Reading.{digits_at, number_at, after_byte, year_at, after_week_letter, after_mark, civil_at, long_at, all_read, as_year, as_year_before_zero, ◌>>=◌}
 
 -- a text that does not begin with a digit
 abbrev pub NoDigitFirst : List ℕ → Type 0
@@ -177,30 +178,112 @@ unfolding year_at
 year_read [] z rest e = absurd (cc)
 year_read (c ∷ cs) z rest e = year_read_by c cs z rest (c == 45) refl e
 
--- the parts of a date text, one after the other
-civil_joined : (text y after_year month_on m after_month day_on d after_day : List ℕ) → text ≡ y ++ after_year → after_year ≡ 45 ∷ month_on → month_on ≡ m ++ after_month → after_month ≡ 45 ∷ day_on → day_on ≡ d ++ after_day → after_day ≡ [] → text ≡ y ++ 45 ∷ (m ++ 45 ∷ d)
-civil_joined text y after_year month_on m after_month day_on d after_day a b c e f g = rw (a, b, c, e, f, g, append-nil) refl
+-- the letter before a week
+record ReadsMark (weeks : Bool) (bytes rest : List ℕ) : Type 0 where
+  mark : List ℕ
+  is_mark : IsMark weeks mark
+  joined : bytes ≡ mark ++ rest
 
-pub civil_read : (bytes : List ℕ) (z : ℤ) (m d : ℕ) → civil_at bytes ≡ Some (z, m, d) → IsCivilText bytes z m d
+small_read_by : (c : ℕ) (cs rest : List ℕ) (t : Bool) → (c == 119) ≡ t → cond t (Some cs) None ≡ Some rest → ReadsMark true (c ∷ cs) rest
+small_read_by c cs rest t e h = record { mark = 119 ∷ []; is_mark = small_letter; joined = byte_read_by 119 c cs rest t e h }
+
+letter_read_by : (c : ℕ) (cs rest : List ℕ) (t : Bool) → (c == 87) ≡ t → cond t (Some cs) (cond (c == 119) (Some cs) None) ≡ Some rest → ReadsMark true (c ∷ cs) rest
+letter_read_by c cs rest true e h = record { mark = 87 ∷ []; is_mark = capital_letter; joined = byte_read_by 87 c cs rest true e h }
+letter_read_by c cs rest false e h = small_read_by c cs rest (c == 119) refl h
+
+mark_read : (weeks : Bool) (bytes rest : List ℕ) → after_mark weeks bytes ≡ Some rest → ReadsMark weeks bytes rest
+unfolding after_mark after_week_letter
+mark_read true [] rest e = absurd (cc)
+mark_read true (c ∷ cs) rest e = letter_read_by c cs rest (c == 87) refl e
+mark_read false bytes rest e = record { mark = []; is_mark = of_month; joined = some_inside e }
+
+mark_take : (weeks : Bool) (mark x : List ℕ) → IsMark weeks mark → after_mark weeks (mark ++ x) ≡ Some x
+unfolding after_mark after_week_letter
+mark_take _ _ x of_month = refl
+mark_take _ _ x capital_letter = refl
+mark_take _ _ x small_letter = refl
+
+-- the parts of a date text, one after the other
+civil_joined : (text y after_year marked mark month_on m after_month day_on d after_day : List ℕ) → text ≡ y ++ after_year → after_year ≡ 45 ∷ marked → marked ≡ mark ++ month_on → month_on ≡ m ++ after_month → after_month ≡ 45 ∷ day_on → day_on ≡ d ++ after_day → after_day ≡ [] → text ≡ y ++ 45 ∷ (mark ++ (m ++ 45 ∷ d))
+civil_joined text y after_year marked mark month_on m after_month day_on d after_day a b h c e f g = rw (a, b, h, c, e, f, g, append-nil) refl
+
+pub civil_read : (weeks : Bool) (bytes : List ℕ) (z : ℤ) (m d : ℕ) → civil_at weeks bytes ≡ Some (z, m, d) → IsCivilText weeks bytes z m d
 unfolding civil_at
-civil_read bytes z m d e =
+civil_read weeks bytes z m d e =
     let a = bind_some (year_at bytes) _ (z, m, d) e in
     let b = bind_some (after_byte 45 a.0.1) _ (z, m, d) a.2 in
-    let c = bind_some (number_at 1 b.0) _ (z, m, d) b.2 in
+    let l = bind_some (after_mark weeks b.0) _ (z, m, d) b.2 in
+    let c = bind_some (number_at 1 l.0) _ (z, m, d) l.2 in
     let s = bind_some (after_byte 45 c.0.1) _ (z, m, d) c.2 in
     let k = bind_some (number_at 1 s.0) _ (z, m, d) s.2 in
     let whole = all_is_read k.0.1 (a.0.0, c.0.0, k.0.0) (z, m, d) k.2 in
     let year = year_read bytes a.0.0 a.0.1 a.1 in
-    let month = number_read 1 b.0 c.0.0 c.0.1 c.1 in
+    let mark = mark_read weeks b.0 l.0 l.1 in
+    let month = number_read 1 l.0 c.0.0 c.0.1 c.1 in
     let day = number_read 1 s.0 k.0.0 k.0.1 k.1 in
     record {
       year_text = year.text;
+      mark = mark.mark;
       month_text = month.ds;
       day_text = day.ds;
       is_year = subst (IsYearText year.text) (ap (λ p. p.0) whole.1) year.is_year;
+      is_mark = mark.is_mark;
       is_month = subst (IsNumeral 2 month.ds) (ap (λ p. p.1) whole.1) month.numeral;
       is_day = subst (IsNumeral 2 day.ds) (ap (λ p. p.2) whole.1) day.numeral;
-      joined = civil_joined bytes year.text a.0.1 b.0 month.ds c.0.1 s.0 day.ds k.0.1 year.joined (byte_read 45 a.0.1 b.0 b.1) month.joined (byte_read 45 c.0.1 s.0 s.1) day.joined whole.0;
+      joined = civil_joined bytes year.text a.0.1 b.0 mark.mark l.0 month.ds c.0.1 s.0 day.ds k.0.1 year.joined (byte_read 45 a.0.1 b.0 b.1) mark.joined month.joined (byte_read 45 c.0.1 s.0 s.1) day.joined whole.0;
+    }
+
+-- the places of a long count, one after the other
+last_place : (text a after_a : List ℕ) → text ≡ a ++ after_a → after_a ≡ [] → text ≡ a
+last_place text a after_a p q = rw (p, q, append-nil) refl
+
+-- a place, a dot (46) and what follows
+record ReadsPlace (bytes : List ℕ) (n : ℕ) (rest : List ℕ) : Type 0 where
+  ds : List ℕ
+  numeral : IsNumeral 4 ds n
+  joined : bytes ≡ ds ++ 46 ∷ rest
+
+place_read : {B : Type 0} (bytes : List ℕ) (f : ℕ → List ℕ → Option B) (y : B) → (number_at 3 bytes >>= λ r. after_byte 46 r.1 >>= λ rest. f r.0 rest) ≡ Some y → (n : ℕ) × (rest : List ℕ) × ReadsPlace bytes n rest × (f n rest ≡ Some y)
+place_read bytes f y e =
+    let a = bind_some (number_at 3 bytes) (λ r. after_byte 46 r.1 >>= λ rest. f r.0 rest) y e in
+    let b = bind_some (after_byte 46 a.0.1) (λ rest. f a.0.0 rest) y a.2 in
+    let number = number_read 3 bytes a.0.0 a.0.1 a.1 in
+    (a.0.0, b.0, record { ds = number.ds; numeral = number.numeral; joined = number.joined ∙ ap (λ x. number.ds ++ x) (byte_read 46 a.0.1 b.0 b.1) }, b.2)
+
+final_read : {B : Type 0} (bytes : List ℕ) (f : ℕ → B) (y : B) → (number_at 3 bytes >>= λ r. all_read r.1 (f r.0)) ≡ Some y → (n : ℕ) × (ds : List ℕ) × IsNumeral 4 ds n × (bytes ≡ ds) × (f n ≡ y)
+final_read bytes f y e =
+    let a = bind_some (number_at 3 bytes) (λ r. all_read r.1 (f r.0)) y e in
+    let number = number_read 3 bytes a.0.0 a.0.1 a.1 in
+    let whole = all_is_read a.0.1 (f a.0.0) y a.2 in
+    (a.0.0, number.ds, number.numeral, last_place bytes number.ds a.0.1 number.joined whole.0, whole.1)
+
+long_joined : (text a x b y c z d w e : List ℕ) → text ≡ a ++ 46 ∷ x → x ≡ b ++ 46 ∷ y → y ≡ c ++ 46 ∷ z → z ≡ d ++ 46 ∷ w → w ≡ e → text ≡ a ++ 46 ∷ (b ++ 46 ∷ (c ++ 46 ∷ (d ++ 46 ∷ e)))
+long_joined text a x b y c z d w e h i j k l = rw (h, i, j, k, l) refl
+
+Places : Type 0
+Places = ℕ × ℕ × ℕ × ℕ × ℕ
+
+pub long_read : (bytes : List ℕ) (p q r s t : ℕ) → long_at bytes ≡ Some (p, q, r, s, t) → IsLongText bytes p q r s t
+unfolding long_at Places
+long_read bytes p q r s t e =
+    let y : Places = (p, q, r, s, t) in
+    let a = place_read {B = Places} bytes (λ b x. number_at 3 x >>= λ k. after_byte 46 k.1 >>= λ x2. number_at 3 x2 >>= λ u. after_byte 46 u.1 >>= λ x3. number_at 3 x3 >>= λ v. after_byte 46 v.1 >>= λ x4. number_at 3 x4 >>= λ w. all_read w.1 (b, k.0, u.0, v.0, w.0)) y e in
+    let b = place_read {B = Places} a.1 (λ k x2. number_at 3 x2 >>= λ u. after_byte 46 u.1 >>= λ x3. number_at 3 x3 >>= λ v. after_byte 46 v.1 >>= λ x4. number_at 3 x4 >>= λ w. all_read w.1 (a.0, k, u.0, v.0, w.0)) y a.3 in
+    let c = place_read {B = Places} b.1 (λ u x3. number_at 3 x3 >>= λ v. after_byte 46 v.1 >>= λ x4. number_at 3 x4 >>= λ w. all_read w.1 (a.0, b.0, u, v.0, w.0)) y b.3 in
+    let d = place_read {B = Places} c.1 (λ v x4. number_at 3 x4 >>= λ w. all_read w.1 (a.0, b.0, c.0, v, w.0)) y c.3 in
+    let f = final_read {B = Places} d.1 (λ w. (a.0, b.0, c.0, d.0, w)) y d.3 in
+    record {
+      baktun_text = a.2.ds;
+      katun_text = b.2.ds;
+      tun_text = c.2.ds;
+      uinal_text = d.2.ds;
+      kin_text = f.1;
+      is_baktun = subst (IsNumeral 4 a.2.ds) (ap (λ x. x.0) f.4) a.2.numeral;
+      is_katun = subst (IsNumeral 4 b.2.ds) (ap (λ x. x.1) f.4) b.2.numeral;
+      is_tun = subst (IsNumeral 4 c.2.ds) (ap (λ x. x.2) f.4) c.2.numeral;
+      is_uinal = subst (IsNumeral 4 d.2.ds) (ap (λ x. x.3) f.4) d.2.numeral;
+      is_kin = subst (IsNumeral 4 f.1) (ap (λ x. x.4) f.4) f.2;
+      joined = long_joined bytes a.2.ds a.1 b.2.ds b.1 c.2.ds c.1 d.2.ds d.1 f.1 a.2.joined b.2.joined c.2.joined d.2.joined f.3;
     }
 
 -- ---- and what is in the grammar is read
@@ -215,13 +298,27 @@ year_take (c ∷ cs) z x (plain {n = n} h) stop =
     rw (digit_no_dash c both.0, number_take 4 (c ∷ cs) x n h stop)
 year_take text z x (minus {text = ds} {n = n} h) stop = rw (number_take 4 ds x n h stop)
 
-pub civil_take : (text : List ℕ) (z : ℤ) (m d : ℕ) → IsCivilText text z m d → civil_at text ≡ Some (z, m, d)
+pub civil_take : (weeks : Bool) (text : List ℕ) (z : ℤ) (m d : ℕ) → IsCivilText weeks text z m d → civil_at weeks text ≡ Some (z, m, d)
 unfolding civil_at after_byte
-civil_take text z m d h =
+civil_take weeks text z m d h =
     let day = number_take 1 h.day_text [] d h.is_day tt in
     let month = number_take 1 h.month_text (45 ∷ h.day_text) m h.is_month refl in
-    let year = year_take h.year_text z (45 ∷ (h.month_text ++ 45 ∷ h.day_text)) h.is_year refl in
-    rw (h.joined, year, month, rw append-nil at day)
+    let mark = mark_take weeks h.mark (h.month_text ++ 45 ∷ h.day_text) h.is_mark in
+    let year = year_take h.year_text z (45 ∷ (h.mark ++ (h.month_text ++ 45 ∷ h.day_text))) h.is_year refl in
+    rw (h.joined, year, mark, month, rw append-nil at day)
+
+pub long_take : (text : List ℕ) (p q r s t : ℕ) → IsLongText text p q r s t → long_at text ≡ Some (p, q, r, s, t)
+unfolding long_at after_byte
+long_take text p q r s t h =
+    let from_uinal = h.uinal_text ++ 46 ∷ h.kin_text in
+    let from_tun = h.tun_text ++ 46 ∷ from_uinal in
+    let from_katun = h.katun_text ++ 46 ∷ from_tun in
+    let kin = number_take 3 h.kin_text [] t h.is_kin tt in
+    let uinal = number_take 3 h.uinal_text (46 ∷ h.kin_text) s h.is_uinal refl in
+    let tun = number_take 3 h.tun_text (46 ∷ from_uinal) r h.is_tun refl in
+    let katun = number_take 3 h.katun_text (46 ∷ from_tun) q h.is_katun refl in
+    let baktun = number_take 3 h.baktun_text (46 ∷ from_katun) p h.is_baktun refl in
+    rw (h.joined, baktun, katun, tun, uinal, rw append-nil at kin)
 
 -- ---- the canonical text is in the grammar
 own : IsNumeralModel (λ ds. IsTrue (all_digits ds)) (value_after 0)
@@ -250,15 +347,53 @@ year_is_year : (z : ℤ) → IsBetween (neg_ℤ (pos 99_999)) (pos 99_999) z →
 year_is_year (pos n) h = plain (padded_numeral 4 5 n (omega arith) (omega (arith, signed_arith, h)) (omega (arith, signed_arith, h)) (omega arith))
 year_is_year (negsuc n) h = minus (padded_numeral 4 5 (suc n) (omega arith) (omega (arith, signed_arith, h)) (omega (arith, signed_arith, h)) (omega arith))
 
+pub decimal_numeral : (most n : ℕ) → n < 10 ^ most → n < 100_000 → 1 ≤ most → IsNumeral most (decimal n) n
+decimal_numeral most n small less one =
+    let none : 0 - length (decimal n) ≡ 0 = omega arith in
+    subst (λ ds. IsNumeral most ds n) (ap (λ k. replicate k 48 ++ decimal n) none) (padded_numeral 0 most n (omega arith) small less one)
+
 -- so it is read back to what it was written for
-pub canonical_civil_is : (z : ℤ) (m d : ℕ) → IsBetween (neg_ℤ (pos 99_999)) (pos 99_999) z → m ≤ 99 → d ≤ 99 → IsCivilText (canonical_civil z m d) z m d
+pub canonical_civil_is : (z : ℤ) (m d : ℕ) → IsBetween (neg_ℤ (pos 99_999)) (pos 99_999) z → m ≤ 99 → d ≤ 99 → IsCivilText false (canonical_civil z m d) z m d
 canonical_civil_is z m d h i j = record {
   year_text = canonical_year z;
+  mark = [];
   month_text = padded 2 m;
   day_text = padded 2 d;
   is_year = year_is_year z h;
+  is_mark = of_month;
   is_month = padded_numeral 2 2 m (omega arith) (omega arith) (omega arith) (omega arith);
   is_day = padded_numeral 2 2 d (omega arith) (omega arith) (omega arith) (omega arith);
+  joined = refl;
+}
+
+pub canonical_week_is : (z : ℤ) (w d : ℕ) → IsBetween (neg_ℤ (pos 99_999)) (pos 99_999) z → w ≤ 99 → d ≤ 99 → IsCivilText true (canonical_week z w d) z w d
+canonical_week_is z w d h i j = record {
+  year_text = canonical_year z;
+  mark = 87 ∷ [];
+  month_text = padded 2 w;
+  day_text = decimal d;
+  is_year = year_is_year z h;
+  is_mark = capital_letter;
+  is_month = padded_numeral 2 2 w (omega arith) (omega arith) (omega arith) (omega arith);
+  is_day = decimal_numeral 2 d (omega arith) (omega arith) (omega arith);
+  joined = refl;
+}
+
+place_numeral : (n : ℕ) → n ≤ 9_999 → IsNumeral 4 (decimal n) n
+place_numeral n h = decimal_numeral 4 n (omega arith) (omega arith) (omega arith)
+
+pub canonical_long_is : (p q r s t : ℕ) → ArePlaces p q r s t → IsLongText (canonical_long p q r s t) p q r s t
+canonical_long_is p q r s t h = record {
+  baktun_text = decimal p;
+  katun_text = decimal q;
+  tun_text = decimal r;
+  uinal_text = decimal s;
+  kin_text = decimal t;
+  is_baktun = place_numeral p h.0;
+  is_katun = place_numeral q h.1;
+  is_tun = place_numeral r h.2;
+  is_uinal = place_numeral s h.3;
+  is_kin = place_numeral t h.4;
   joined = refl;
 }
 

@@ -7,32 +7,15 @@ use Rattle.std.proofs.lemmas.List.{get_or-map, length-map}
 use Rattle.std.proofs.lemmas.Map.Keys.{IsDistinct-from_apart}
 use Rattle.std.proofs.lemmas.Map.Steps.{length-le_from_distinct_below}
 use Rattle.std.proofs.lemmas.Option.{slice_get-get_or}
-use Rattle.date_texts.specs.declared.calendar.Calendar.TheVariants.{Gregorian, Julian}
 use Rattle.date_texts.specs.declared.calendar.Target.{Target}
-use Rattle.date_texts.specs.declared.calendar.Target.TheVariants.{Date}
-
--- the targets, counted
-target_place : Target → ℕ
-target_place (Date Gregorian) = 0
-target_place (Date Julian) = 1
-
-place-below : (t : Target) → target_place t < 13
-unfolding target_place
-place-below (Date Gregorian) = omega arith
-place-below (Date Julian) = omega arith
-
-place-same : (t u : Target) → target_place t ≡ target_place u → t ≡ u
-unfolding target_place
-place-same (Date Gregorian) (Date Gregorian) e = refl
-place-same (Date Gregorian) (Date Julian) e = absurd (omega arith)
-place-same (Date Julian) (Date Gregorian) e = absurd (omega arith)
-place-same (Date Julian) (Date Julian) e = refl
+use Rattle.date_texts.specs.declared.calendar.Target.TheVariants.{Haab}
+use Rattle.date_texts.proofs.TargetPlaces.{target_place, place_below, place_same}
 
 below : (ts : List Target) (q : ℕ) → list_any (eqb q) (map target_place ts) ≡ true → q < 13
 below [] q e = cc
 below (t ∷ ts) q e =
     elim (eqb_tells q (target_place t)) [
-      | inl same ↦ rw same.1 (place-below t)
+      | inl same ↦ rw same.1 (place_below t)
       | inr other ↦ below ts q (rw other.0 at e)
     ]
 
@@ -42,10 +25,10 @@ apart ts h i j d lt le =
     let long = length-map ts target_place in
     let near : j < length ts = omega (arith, long, le) in
     let first : i < length ts = omega arith in
-    let there = get_or-map target_place ts i (Date Gregorian) d first in
-    let here = get_or-map target_place ts j (Date Gregorian) d near in
-    rw (there, here) (elim (eqb_tells (target_place (get_or ts i (Date Gregorian))) (target_place (get_or ts j (Date Gregorian)))) [
-      | inl same ↦ absurd (h i j lt near (slice_get-get_or ts i (Date Gregorian) first ∙ (ap Some (place-same _ _ same.1) ∙ sym (slice_get-get_or ts j (Date Gregorian) near))))
+    let there = get_or-map target_place ts i Haab d first in
+    let here = get_or-map target_place ts j Haab d near in
+    rw (there, here) (elim (eqb_tells (target_place (get_or ts i Haab)) (target_place (get_or ts j Haab))) [
+      | inl same ↦ absurd (h i j lt near (slice_get-get_or ts i Haab first ∙ (ap Some (place_same _ _ same.1) ∙ sym (slice_get-get_or ts j Haab near))))
       | inr other ↦ other.0
     ])
 

@@ -1,33 +1,103 @@
 -- The calendars: their names, which are this project's own, and their dates, day numbers and first days,
--- by each calendar's own rules (Reingold and Dershowitz, Calendrical Calculations).
-use Rattle.std.specs.Prelude.{ℕ, ℤ, Option, List, codes}
+-- by each calendar's own rules (Reingold and Dershowitz, Calendrical Calculations; for week dates ISO 8601).
+use Rattle.std.specs.Prelude.{ℕ, ℤ, Option, Some, None, Bool, true, false, List, [], ◌∷◌, codes}
 use Rattle.day_numbers.specs.declared.ymd.Ymd.{Ymd}
-use Rattle.day_numbers.specs.Rules.{IsDateOf, day_number_of, first_day_of}
+use Rattle.day_numbers.specs.Rules.{Rules, IsDateOf, day_number_of, first_day_of}
 use Rattle.solar_calendars.specs.Gregorian.{gregorian_rules}
+use Rattle.solar_calendars.specs.IsoWeek.{IsWeekDate, week_day_number}
 use Rattle.solar_calendars.specs.Julian.{julian_rules}
+use Rattle.solar_calendars.specs.ThirteenMonths.{coptic_rules, ethiopic_rules, egyptian_rules, armenian_rules}
+use Rattle.solar_calendars.specs.French.{french_rules}
+use Rattle.lunar_calendars.specs.Islamic.{islamic_rules}
+use Rattle.lunar_calendars.specs.Hebrew.{hebrew_rules}
+use Rattle.maya_calendars.specs.Rounds.{epoch as long_count_epoch}
 use Rattle.date_texts.specs.declared.calendar.Calendar.{Calendar}
-use Rattle.date_texts.specs.declared.calendar.Calendar.TheVariants.{Gregorian, Julian}
+use Rattle.date_texts.specs.declared.calendar.Calendar.TheVariants.{Gregorian, Iso, Julian, Coptic, Ethiopic, Egyptian, Armenian, Islamic, Hebrew, Longcount, French}
 use Rattle.date_texts.specs.declared.calendar.Target.{Target}
-use Rattle.date_texts.specs.declared.calendar.Target.TheVariants.{Date as DateTarget}
+use Rattle.date_texts.specs.declared.calendar.Target.TheVariants.{Date as DateTarget, Haab, Tzolkin}
 
 abbrev pub calendar_name : Calendar → List ℕ
 calendar_name Gregorian = codes "gregorian"
+calendar_name Iso = codes "iso"
 calendar_name Julian = codes "julian"
+calendar_name Coptic = codes "coptic"
+calendar_name Ethiopic = codes "ethiopic"
+calendar_name Egyptian = codes "egyptian"
+calendar_name Armenian = codes "armenian"
+calendar_name Islamic = codes "islamic"
+calendar_name Hebrew = codes "hebrew"
+calendar_name Longcount = codes "longcount"
+calendar_name French = codes "french"
 
 abbrev pub target_name : Target → List ℕ
 target_name (DateTarget calendar) = calendar_name calendar
+target_name Haab = codes "haab"
+target_name Tzolkin = codes "tzolkin"
+
+-- every calendar, in the order of the default targets
+abbrev pub all_calendars : List Calendar
+all_calendars = Gregorian ∷ Iso ∷ Julian ∷ Coptic ∷ Ethiopic ∷ Egyptian ∷ Armenian ∷ Islamic ∷ Hebrew ∷ Longcount ∷ French ∷ []
+
+-- the default targets: the dates of every calendar, the haab and the tzolkin
+abbrev pub all_targets : List Target
+all_targets = DateTarget Gregorian ∷ DateTarget Iso ∷ DateTarget Julian ∷ DateTarget Coptic ∷ DateTarget Ethiopic ∷ DateTarget Egyptian ∷ DateTarget Armenian ∷ DateTarget Islamic ∷ DateTarget Hebrew ∷ DateTarget Longcount ∷ DateTarget French ∷ Haab ∷ Tzolkin ∷ []
+
+-- how a calendar tells days: by rules for its years and months, by years of weeks, or by a count in places
+pub data Reckoning : Type 0 where
+  by_rules : Rules → Reckoning
+  by_weeks : Reckoning
+  by_places : Reckoning
+
+abbrev pub reckoning : Calendar → Reckoning
+reckoning Gregorian = by_rules gregorian_rules
+reckoning Iso = by_weeks
+reckoning Julian = by_rules julian_rules
+reckoning Coptic = by_rules coptic_rules
+reckoning Ethiopic = by_rules ethiopic_rules
+reckoning Egyptian = by_rules egyptian_rules
+reckoning Armenian = by_rules armenian_rules
+reckoning Islamic = by_rules islamic_rules
+reckoning Hebrew = by_rules hebrew_rules
+reckoning Longcount = by_places
+reckoning French = by_rules french_rules
+
+-- the numbers are a date: a year, a month and a day, or a year, a week and a weekday; no long count is
+-- written so
+abbrev pub IsDateBy : Reckoning → Ymd → Type 0
+IsDateBy (by_rules rules) d = IsDateOf rules d.year d.month d.day
+IsDateBy by_weeks d = IsWeekDate d.year d.month d.day
+IsDateBy by_places d = ⊥
+
+-- the fixed day number of a date; where no numbers are a date, the count's beginning
+abbrev pub day_number_by : Reckoning → Ymd → ℤ
+day_number_by (by_rules rules) d = day_number_of rules d.year d.month d.day
+day_number_by by_weeks d = week_day_number d.year d.month d.day
+day_number_by by_places d = long_count_epoch
+
+-- the first day where there is one: years of weeks go back without end, and 0.0.0.0.0 begins the long count
+abbrev pub first_day_by : Reckoning → Option ℤ
+first_day_by (by_rules rules) = first_day_of rules
+first_day_by by_weeks = None
+first_day_by by_places = Some long_count_epoch
 
 -- the calendar has this date
 abbrev pub IsDateIn : Calendar → Ymd → Type 0
-IsDateIn Gregorian d = IsDateOf gregorian_rules d.year d.month d.day
-IsDateIn Julian d = IsDateOf julian_rules d.year d.month d.day
+IsDateIn calendar d = IsDateBy (reckoning calendar) d
 
 -- the fixed day number of a date
 abbrev pub day_number_in : Calendar → Ymd → ℤ
-day_number_in Gregorian d = day_number_of gregorian_rules d.year d.month d.day
-day_number_in Julian d = day_number_of julian_rules d.year d.month d.day
+day_number_in calendar d = day_number_by (reckoning calendar) d
 
 -- the first day of a calendar that has one
 abbrev pub first_day_in : Calendar → Option ℤ
-first_day_in Gregorian = first_day_of gregorian_rules
-first_day_in Julian = first_day_of julian_rules
+first_day_in calendar = first_day_by (reckoning calendar)
+
+-- years are divided into weeks
+abbrev pub are_weeks : Reckoning → Bool
+are_weeks (by_rules rules) = false
+are_weeks by_weeks = true
+are_weeks by_places = false
+
+-- a date of the calendar is a year, a week and a weekday
+abbrev pub has_weeks : Calendar → Bool
+has_weeks calendar = are_weeks (reckoning calendar)

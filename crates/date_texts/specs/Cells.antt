@@ -1,12 +1,15 @@
 -- The cell of a day in the column of a target: a definition of this project, over the calendars' own rules.
-use Rattle.std.specs.Prelude.{◌≡◌, ℕ, ℤ, List, []}
+use Rattle.std.specs.Prelude.{◌≡◌, ℕ, ℤ, List, [], ◌∷◌, ◌++◌}
+use Rattle.std.specs.Fmt.{decimal}
 use Rattle.day_numbers.specs.Days.{IsSinceFirstDay}
+use Rattle.maya_calendars.specs.HaabNames.{haab_of, month_name}
+use Rattle.maya_calendars.specs.TzolkinNames.{tzolkin_of, name_text}
 use Rattle.date_texts.specs.Calendars.{first_day_in}
 use Rattle.date_texts.specs.Dates.{calendar_of_date, IsDateOfCalendar, day_number_of_date}
 use Rattle.date_texts.specs.DateText.{canonical_text}
 use Rattle.date_texts.specs.declared.calendar.Calendar.{Calendar}
 use Rattle.date_texts.specs.declared.calendar.Target.{Target}
-use Rattle.date_texts.specs.declared.calendar.Target.TheVariants.{Date as DateTarget}
+use Rattle.date_texts.specs.declared.calendar.Target.TheVariants.{Date as DateTarget, Haab, Tzolkin}
 use Rattle.date_texts.specs.declared.date.Date.{Date}
 
 -- the text is the canonical text of a date that the calendar has and whose day is n, or it is empty
@@ -15,6 +18,20 @@ pub data IsDateCell (calendar : Calendar) (n : ℤ) (text : List ℕ) : Type 0 w
   on_date : (date : Date) → calendar_of_date date ≡ calendar → IsDateOfCalendar date → day_number_of_date date ≡ n → text ≡ canonical_text date → IsDateCell calendar n text
   before_first_day : ¬ (IsSinceFirstDay (first_day_in calendar) n) → text ≡ [] → IsDateCell calendar n text
 
+-- a number without leading zeros, one space (32) and a name
+abbrev pub numbered_name : ℕ → List ℕ → List ℕ
+numbered_name number name = decimal number ++ 32 ∷ name
+
+-- a haab as it is written, of its day and the number of its month: 7 Zac
+abbrev pub haab_text : ℕ × ℕ → List ℕ
+haab_text (day, month) = numbered_name day (month_name month)
+
+-- a tzolkin as it is written, of its number and the place of its name: 11 Muluc
+abbrev pub tzolkin_text : ℕ × ℕ → List ℕ
+tzolkin_text (number, name) = numbered_name number (name_text name)
+
 -- the text is the cell of day n in the target's column
 abbrev pub IsCell : Target → ℤ → List ℕ → Type 0
 IsCell (DateTarget calendar) n text = IsDateCell calendar n text
+IsCell Haab n text = text ≡ haab_text (haab_of n)
+IsCell Tzolkin n text = text ≡ tzolkin_text (tzolkin_of n)

@@ -1,6 +1,6 @@
 -- Reading from left to right, as the reader's private functions do. The grammar in `DateText` stands
 -- apart from it, and lemmas tie the two.
-use Rattle.std.specs.Prelude.{ℕ, zero, suc, ◌+◌, ◌-◌, ◌*◌, List, [], ◌∷◌, Option, Some, None, ℤ, pos, neg_ℤ, ◌==◌, if◌then◌else◌}
+use Rattle.std.specs.Prelude.{ℕ, zero, suc, ◌+◌, ◌-◌, ◌*◌, List, [], ◌∷◌, Option, Some, None, ℤ, pos, neg_ℤ, ◌==◌, if◌then◌else◌, Bool, true, false}
 use Rattle.std.specs.Char.{is_ascii_digit}
 use denote.Bor.{Bor}
 
@@ -40,14 +40,38 @@ abbrev pub all_read : {A : Type 0} → List ℕ → A → Option A
 all_read [] x = Some x
 all_read (c ∷ cs) x = None
 
-unfoldable pub civil_at : List ℕ → Option (ℤ × ℕ × ℕ)
-civil_at bytes = do
+-- what follows the letter W or w
+unfoldable pub after_week_letter : List ℕ → Option (List ℕ)
+after_week_letter [] = None
+after_week_letter (c ∷ cs) = if c == 87 then Some cs else (if c == 119 then Some cs else None)
+
+-- what follows the mark before a week or a month
+unfoldable pub after_mark : Bool → List ℕ → Option (List ℕ)
+after_mark true bytes = after_week_letter bytes
+after_mark false bytes = Some bytes
+
+unfoldable pub civil_at : Bool → List ℕ → Option (ℤ × ℕ × ℕ)
+civil_at weeks bytes = do
   year ← year_at bytes
   first ← after_byte 45 year.1
-  month ← number_at 1 first
+  marked ← after_mark weeks first
+  month ← number_at 1 marked
   second ← after_byte 45 month.1
   day ← number_at 1 second
   all_read day.1 (year.0, month.0, day.0)
+
+unfoldable pub long_at : List ℕ → Option (ℕ × ℕ × ℕ × ℕ × ℕ)
+long_at bytes = do
+  baktun ← number_at 3 bytes
+  first ← after_byte 46 baktun.1
+  katun ← number_at 3 first
+  second ← after_byte 46 katun.1
+  tun ← number_at 3 second
+  third ← after_byte 46 tun.1
+  uinal ← number_at 3 third
+  fourth ← after_byte 46 uinal.1
+  kin ← number_at 3 fourth
+  all_read kin.1 (baktun.0, katun.0, tun.0, uinal.0, kin.0)
 
 -- what a reader answered, without where the rest lies in memory
 abbrev pub seen_number : Option (ℕ × Bor (List ℕ)) → Option (ℕ × List ℕ)

@@ -1,22 +1,44 @@
-ghost use Rattle.std.specs.Prelude.{◌≡◌, ◌↔◌, IsOk, IsSome, IfOk, IfSome, Err, Some};
+ghost use Rattle.std.specs.Prelude.{◌≡◌, ◌≢◌, ◌↔◌, IsOk, IsSome, IfOk, IfSome, Err, Some};
 ghost use Rattle.day_numbers.specs.Days.{IsDayNumber, IsSinceFirstDay};
 ghost use Rattle.day_numbers.specs.declared.ymd.Ymd.{Ymd};
 
 use day_numbers::{ArithmeticCalendar, DateFault, Day, Ymd};
-use solar_calendars::{Gregorian, Julian};
+use lunar_calendars::{Hebrew, Islamic};
+use solar_calendars::{Armenian, Coptic, Egyptian, Ethiopic, French, Gregorian, IsoWeek, Julian};
 
 /// A calendar whose dates are read and written.
 #[derive(Clone, Copy, PartialEq, Eq, Debug)]
 pub enum Calendar {
     Gregorian,
+    Iso,
     Julian,
+    Coptic,
+    Ethiopic,
+    Egyptian,
+    Armenian,
+    Islamic,
+    Hebrew,
+    Longcount,
+    French,
 }
 
 impl Calendar {
-    ghost use Rattle.date_texts.specs.Calendars.{calendar_name, IsDateIn, day_number_in, first_day_in};
+    ghost use Rattle.date_texts.specs.Calendars.{calendar_name, IsDateIn, day_number_in, first_day_in, has_weeks as has_weeks_spec};
 
     /// Every calendar once, in the order of the default targets.
-    pub const ALL: [Calendar; 2] = [Calendar::Gregorian, Calendar::Julian];
+    pub const ALL: [Calendar; 11] = [
+        Calendar::Gregorian,
+        Calendar::Iso,
+        Calendar::Julian,
+        Calendar::Coptic,
+        Calendar::Ethiopic,
+        Calendar::Egyptian,
+        Calendar::Armenian,
+        Calendar::Islamic,
+        Calendar::Hebrew,
+        Calendar::Longcount,
+        Calendar::French,
+    ];
 
     /// The name in small letters, as registers and the headings of tables have it.
     pub fn name(&self) -> &'static str
@@ -24,11 +46,30 @@ impl Calendar {
     {
         match self {
             Calendar::Gregorian => "gregorian",
+            Calendar::Iso => "iso",
             Calendar::Julian => "julian",
+            Calendar::Coptic => "coptic",
+            Calendar::Ethiopic => "ethiopic",
+            Calendar::Egyptian => "egyptian",
+            Calendar::Armenian => "armenian",
+            Calendar::Islamic => "islamic",
+            Calendar::Hebrew => "hebrew",
+            Calendar::Longcount => "longcount",
+            Calendar::French => "french",
         }
     }
 
-    /// The day of a date of the calendar.
+    /// Whether a date of the calendar is a year, a week and a weekday.
+    pub(crate) fn has_weeks(self) -> bool
+        ensures { result ≡ has_weeks_spec self }
+    {
+        match self {
+            Calendar::Iso => true,
+            _ => false,
+        }
+    }
+
+    /// The day of a year, a month and a day, or a year, a week and a weekday, of the calendar.
     ///
     /// # Errors
     ///
@@ -43,30 +84,70 @@ impl Calendar {
     {
         match self {
             Calendar::Gregorian => Gregorian.day_of(date),
+            Calendar::Iso => IsoWeek.day_of(date),
             Calendar::Julian => Julian.day_of(date),
+            Calendar::Coptic => Coptic.day_of(date),
+            Calendar::Ethiopic => Ethiopic.day_of(date),
+            Calendar::Egyptian => Egyptian.day_of(date),
+            Calendar::Armenian => Armenian.day_of(date),
+            Calendar::Islamic => Islamic.day_of(date),
+            Calendar::Hebrew => Hebrew.day_of(date),
+            Calendar::Longcount => Err(DateFault::NoSuchDate),
+            Calendar::French => French.day_of(date),
         }
     }
 
-    /// The one date of the calendar whose day this is, or `None` exactly before its first day.
+    /// The one date of the calendar whose day this is, or `None` exactly before its first day. The
+    /// calendar is not the long count.
     pub(crate) fn date_on(self, day: Day) -> Option<Ymd>
+        requires { self ≢ Calendar.Longcount }
         ensures dated { IsSome result ↔ IsSinceFirstDay (first_day_in self) day.number }
         ensures value { IfSome result (λ date. IsDateIn self date × (day_number_in self date ≡ day.number)) }
     {
         match self {
             Calendar::Gregorian => Gregorian.date_on(day),
+            Calendar::Iso => IsoWeek.date_on(day),
             Calendar::Julian => Julian.date_on(day),
+            Calendar::Coptic => Coptic.date_on(day),
+            Calendar::Ethiopic => Ethiopic.date_on(day),
+            Calendar::Egyptian => Egyptian.date_on(day),
+            Calendar::Armenian => Armenian.date_on(day),
+            Calendar::Islamic => Islamic.date_on(day),
+            Calendar::Hebrew => Hebrew.date_on(day),
+            Calendar::Longcount => unreachable!(),
+            Calendar::French => French.date_on(day),
         }
     }
 }
 
-/// What a table shows of each day: the date in a calendar.
+/// What a table shows of each day: the date in a calendar, the haab or the tzolkin.
 #[derive(Clone, Copy, PartialEq, Eq, Debug)]
 pub enum Target {
     Date(Calendar),
+    Haab,
+    Tzolkin,
 }
 
 impl Target {
     ghost use Rattle.date_texts.specs.Calendars.{target_name};
+
+    /// Every target once, in the order in which a table has them by default: the calendars, the haab and
+    /// the tzolkin.
+    pub const ALL: [Target; 13] = [
+        Target::Date(Calendar::Gregorian),
+        Target::Date(Calendar::Iso),
+        Target::Date(Calendar::Julian),
+        Target::Date(Calendar::Coptic),
+        Target::Date(Calendar::Ethiopic),
+        Target::Date(Calendar::Egyptian),
+        Target::Date(Calendar::Armenian),
+        Target::Date(Calendar::Islamic),
+        Target::Date(Calendar::Hebrew),
+        Target::Date(Calendar::Longcount),
+        Target::Date(Calendar::French),
+        Target::Haab,
+        Target::Tzolkin,
+    ];
 
     /// The name in small letters, which heads the target's column.
     pub fn name(&self) -> &'static str
@@ -74,15 +155,8 @@ impl Target {
     {
         match self {
             Target::Date(calendar) => calendar.name(),
-        }
-    }
-
-    /// The calendar of the target's dates.
-    pub(crate) fn calendar(&self) -> Calendar
-        ensures { self.now ≡ Target.Date result }
-    {
-        match *self {
-            Target::Date(calendar) => calendar,
+            Target::Haab => "haab",
+            Target::Tzolkin => "tzolkin",
         }
     }
 }

@@ -7,6 +7,7 @@ use super::calendar::Calendar;
 use super::date::{CivilDate, Date};
 use super::refusal::Refusal;
 use day_numbers::Day;
+use maya_calendars::{long_day_of, long_on};
 
 /// The day of a date.
 ///
@@ -23,7 +24,7 @@ pub fn day_of_date(date: &Date) -> Result<Day, Refusal>
 {
     match *date {
         Date::Civil(civil) => Ok(civil.calendar().day_of(civil.ymd())?),
-        Date::Long(count) => match count {},
+        Date::Long(count) => Ok(long_day_of(count)?),
     }
 }
 
@@ -33,5 +34,8 @@ pub(crate) fn date_on_day(calendar: Calendar, day: Day) -> Option<Date>
     ensures value { IfSome result (λ date. (calendar_of_date date ≡ calendar)
         × IsDateOfCalendar date × (day_number_of_date date ≡ day.number)) }
 {
-    Some(Date::Civil(CivilDate::new(calendar, calendar.date_on(day)?)?))
+    match calendar {
+        Calendar::Longcount => Some(Date::Long(long_on(day)?)),
+        _ => Some(Date::Civil(CivilDate::new(calendar, calendar.date_on(day)?)?)),
+    }
 }

@@ -1,7 +1,8 @@
 //! The names of calendars, dates as text, and the cells of a table.
 //!
-//! A date text is read where the grammar has it and written in one canonical form, which is read back
-//! as the same date. A cell is the canonical text of a day in a calendar.
+//! A date text is read where the grammar of its calendar has it and written in one canonical form, which
+//! is read back as the same date. A cell is the canonical text of a day in a calendar, or the name of a
+//! day in the haab or the tzolkin.
 #![tactic(auto)]
 
 mod calendar;
@@ -17,8 +18,9 @@ mod write;
 
 pub use calendar::{Calendar, Target};
 pub use cells::cell;
-pub use date::{CivilDate, Date, LongCount};
+pub use date::{CivilDate, Date};
 pub use days::day_of_date;
+pub use maya_calendars::LongCount;
 pub use names::{calendar_named, target_named};
 pub use read::read_date;
 pub use refusal::Refusal;

@@ -1,12 +1,15 @@
-ghost use Rattle.std.specs.Prelude.{◌≡◌, ◌≤◌, ◌<◌, ◌+◌, ◌++◌};
+ghost use Rattle.std.specs.Prelude.{◌≡◌, ◌≤◌, ◌<◌, ◌+◌, ◌∷◌, ◌++◌};
+ghost use Rattle.std.specs.Fmt.{decimal};
+ghost use Rattle.day_numbers.specs.Dates.{IsYear};
 ghost use Rattle.arrayvec.specs.ArrayString.{array_string_len};
 ghost use Rattle.date_texts.specs.declared.date.Date.{Date};
-ghost use Rattle.date_texts.specs.DateText.{padded, canonical_text, IsDateText};
+ghost use Rattle.date_texts.specs.DateText.{padded, canonical_year, canonical_text, IsDateText};
 ghost use Rattle.date_texts.specs.Dates.{calendar_of_date};
 
 use super::date::{CivilDate, Date};
 use arrayvec::ArrayString;
 use itoa::Buffer;
+use maya_calendars::LongCount;
 
 /// Appends a number in decimal, with zeros before it up to a width.
 fn push_padded(text: &mut ArrayString<24>, width: usize, number: u32)
@@ -24,33 +27,85 @@ fn push_padded(text: &mut ArrayString<24>, width: usize, number: u32)
     text.push_str(digits);
 }
 
-/// The canonical text of a year, a month and a day.
+/// Appends a number in decimal.
+pub(crate) fn push_number(text: &mut ArrayString<24>, number: u16)
+    requires room { array_string_len text.old ≤ 20 }
+    requires small { number ≤ 9_999 }
+    ensures bytes { text.new.bytes ≡ text.old.bytes ++ decimal number }
+    ensures len { array_string_len text.new ≤ array_string_len text.old + 4 }
+{
+    text.push_str(Buffer::new().format(number));
+}
+
+/// Appends a year.
+fn push_year(text: &mut ArrayString<24>, year: i32)
+    requires empty { array_string_len text.old ≡ 0 }
+    requires near { IsYear year }
+    ensures bytes { text.new.bytes ≡ text.old.bytes ++ canonical_year year }
+    ensures len { array_string_len text.new ≤ 6 }
+{
+    if year < 0 {
+        text.push_str("-");
+    }
+    push_padded(text, 4, year.unsigned_abs());
+}
+
+/// The canonical text of a year, a month and a day, or of a year, a week and a weekday.
 fn civil_text(civil: CivilDate) -> ArrayString<24>
     ensures { result.bytes ≡ canonical_text (Date.Civil civil) }
 {
     let date = civil.ymd();
     let mut text = ArrayString::new();
-    let year = date.year();
-    if year < 0 {
+    push_year(&mut text, date.year());
+    if civil.calendar().has_weeks() {
+        text.push_str("-W");
+        push_padded(&mut text, 2, date.month() as u32);
         text.push_str("-");
+        push_number(&mut text, date.day() as u16);
+    } else {
+        text.push_str("-");
+        push_padded(&mut text, 2, date.month() as u32);
+        text.push_str("-");
+        push_padded(&mut text, 2, date.day() as u32);
     }
-    push_padded(&mut text, 4, year.unsigned_abs());
-    text.push_str("-");
-    push_padded(&mut text, 2, date.month() as u32);
-    text.push_str("-");
-    push_padded(&mut text, 2, date.day() as u32);
     text
 }
 
-/// The canonical text of a date: the year in at least four digits, after a minus sign where it is
-/// negative, the month and the day in at least two, joined by dashes. Read in the date's calendar, it is
-/// the same date again.
+/// Appends a dot and a place of a long count.
+fn push_place(text: &mut ArrayString<24>, place: u16)
+    requires room { array_string_len text.old ≤ 19 }
+    requires small { place ≤ 9_999 }
+    ensures bytes { text.new.bytes ≡ text.old.bytes ++ 46 ∷ decimal place }
+    ensures len { array_string_len text.new ≤ array_string_len text.old + 5 }
+{
+    text.push_str(".");
+    push_number(text, place);
+}
+
+/// The canonical text of a long count.
+fn long_text(count: LongCount) -> ArrayString<24>
+    ensures { result.bytes ≡ canonical_text (Date.Long count) }
+{
+    let mut text = ArrayString::new();
+    push_number(&mut text, count.baktun());
+    push_place(&mut text, count.katun());
+    push_place(&mut text, count.tun());
+    push_place(&mut text, count.uinal());
+    push_place(&mut text, count.kin());
+    text
+}
+
+/// The canonical text of a date. Read in the date's calendar, it is the same date again.
+///
+/// A year has at least four digits, after a minus sign where it is negative, a month, a week and a day
+/// have at least two, and dashes join them. A week date has the letter W before the week, and no leading
+/// zero in the weekday. A long count has five places without leading zeros, joined by dots.
 pub fn write_date(date: &Date) -> ArrayString<24>
     ensures canonical { result.bytes ≡ canonical_text date.now }
     ensures reads_back { IsDateText (calendar_of_date date.now) (canonical_text date.now) date.now }
 {
     match *date {
         Date::Civil(civil) => civil_text(civil),
-        Date::Long(count) => match count {},
+        Date::Long(count) => long_text(count),
     }
 }

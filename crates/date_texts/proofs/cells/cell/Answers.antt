@@ -1,11 +1,8 @@
-use Rattle.date_texts.proofs.DateTextLemmas.{date_cell_is, one_cell}
+use Rattle.date_texts.proofs.CellLemmas.{one_cell, date_cell_is}
 use Rattle.date_texts.proofs.cells.cell.Goals as goal
 
-pub returns-clause-value : goal.returns-clause-value
-returns-clause-value c =
-    date_cell_is c.args.target c.calendar.result c.args.day.number c.date_cell.result.bytes c.calendar.ensures c.date_cell.ensures
+pub returns-in-Date-clause-value : goal.returns-in-Date-clause-value
+returns-in-Date-clause-value c = date_cell_is c.args.target c.in-Date.calendar c.args.day.number c.date_cell.result.bytes c.in-Date.is c.date_cell.ensures
 
-pub returns-clause-only : goal.returns-clause-only
-returns-clause-only c =
-    let value = date_cell_is c.args.target c.calendar.result c.args.day.number c.date_cell.result.bytes c.calendar.ensures c.date_cell.ensures in
-    λ text is. one_cell c.args.target c.args.day.number text c.date_cell.result.bytes is value
+pub returns-in-Date-clause-only : goal.returns-in-Date-clause-only
+returns-in-Date-clause-only c = λ text is. one_cell c.args.target c.args.day.number text c.date_cell.result.bytes is (date_cell_is c.args.target c.in-Date.calendar c.args.day.number c.date_cell.result.bytes c.in-Date.is c.date_cell.ensures)

@@ -1,4 +1,4 @@
-use Rattle.date_texts.proofs.DateTextLemmas.{one_cell}
+use Rattle.date_texts.proofs.CellLemmas.{one_cell}
 use Rattle.date_texts.proofs.laws.one_cell.Goals as goal
 
 pub returns : goal.returns

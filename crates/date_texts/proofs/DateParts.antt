@@ -1,0 +1,70 @@
+-- Dates with the same parts are one value.
+use Rattle.std.proofs.Common.{◌≡◌, ◌≢◌, ℕ, ◌≤◌, ℤ, subst, ap, ◌∙◌}
+use Rattle.std.proofs.Props.{props}
+use Rattle.day_numbers.specs.Dates.{IsYear}
+use Rattle.day_numbers.specs.declared.ymd.Ymd.{Ymd}
+use Rattle.maya_calendars.specs.Places.{ArePlaces}
+use Rattle.maya_calendars.specs.declared.long_count.LongCount.{LongCount}
+use Rattle.date_texts.specs.declared.calendar.Calendar.{Calendar}
+use Rattle.date_texts.specs.declared.calendar.Calendar.TheVariants.{Longcount}
+use Rattle.date_texts.specs.declared.date.CivilDate.{CivilDate}
+
+abbrev YmdParts : Type 0
+YmdParts = ℤ × ℕ × ℕ
+
+abbrev AreYmd : YmdParts → Type 0
+AreYmd x = IsYear x.0 × (x.1 ≤ 99) × (x.2 ≤ 99)
+
+make_ymd : (x : YmdParts) → AreYmd x → Ymd
+make_ymd x h = record { year = x.0; month = x.1; day = x.2; year_in = h.0; month_in = h.1; day_in = h.2 }
+
+ymd_prop : (x : YmdParts) → IsProp (AreYmd x)
+ymd_prop x = hlevel props
+
+ymd_made : (x y : YmdParts) → x ≡ y → (h : AreYmd x) (g : AreYmd y) → make_ymd x h ≡ make_ymd y g
+ymd_made x y e h = subst (λ z. (g : AreYmd z) → make_ymd x h ≡ make_ymd z g) e (λ g. ap (make_ymd x) (ymd_prop x h g))
+
+pub ymd_same : (d e : Ymd) → ◌≡◌ {A = YmdParts} (d.year, d.month, d.day) (e.year, e.month, e.day) → d ≡ e
+unfolding make_ymd
+ymd_same d e same =
+    ymd_made (d.year, d.month, d.day) (e.year, e.month, e.day) same (d.year_in, d.month_in, d.day_in) (e.year_in, e.month_in, e.day_in)
+
+abbrev CivilParts : Type 0
+CivilParts = Calendar × Ymd
+
+make_civil : (x : CivilParts) → x.0 ≢ Longcount → CivilDate
+make_civil x h = record { calendar = x.0; ymd = x.1; civil = h }
+
+civil_prop : (c : Calendar) → IsProp (c ≢ Longcount)
+civil_prop c = hlevel props
+
+civil_made : (x y : CivilParts) → x ≡ y → (h : x.0 ≢ Longcount) (g : y.0 ≢ Longcount) → make_civil x h ≡ make_civil y g
+civil_made x y e h = subst (λ z. (g : z.0 ≢ Longcount) → make_civil x h ≡ make_civil z g) e (λ g. ap (make_civil x) (civil_prop x.0 h g))
+
+pub civil_same : (d e : CivilDate) → d.calendar ≡ e.calendar → d.ymd ≡ e.ymd → d ≡ e
+unfolding make_civil
+civil_same d e p q =
+    let x : CivilParts = (d.calendar, d.ymd) in
+    let y : CivilParts = (e.calendar, e.ymd) in
+    let same : x ≡ y = cc in
+    civil_made x y same d.civil e.civil
+
+abbrev pub CountParts : Type 0
+CountParts = ℕ × ℕ × ℕ × ℕ × ℕ
+
+abbrev AreCount : CountParts → Type 0
+AreCount x = ArePlaces x.0 x.1 x.2 x.3 x.4
+
+make_count : (x : CountParts) → AreCount x → LongCount
+make_count x h = record { baktun = x.0; katun = x.1; tun = x.2; uinal = x.3; kin = x.4; places = h }
+
+count_prop : (x : CountParts) → IsProp (AreCount x)
+count_prop x = hlevel props
+
+count_made : (x y : CountParts) → x ≡ y → (h : AreCount x) (g : AreCount y) → make_count x h ≡ make_count y g
+count_made x y e h = subst (λ z. (g : AreCount z) → make_count x h ≡ make_count z g) e (λ g. ap (make_count x) (count_prop x h g))
+
+pub count_same : (n m : LongCount) → ◌≡◌ {A = CountParts} (n.baktun, n.katun, n.tun, n.uinal, n.kin) (m.baktun, m.katun, m.tun, m.uinal, m.kin) → n ≡ m
+unfolding make_count
+count_same n m same =
+    count_made (n.baktun, n.katun, n.tun, n.uinal, n.kin) (m.baktun, m.katun, m.tun, m.uinal, m.kin) same n.places m.places

@@ -1,0 +1,13 @@
+use Rattle.std.proofs.Common.{◌∙◌, ap, rules, tests}
+use Rattle.std.specs.Str.{str_to_ascii_lowercase}
+use Rattle.std.proofs.lemmas.Iterator.{YieldsList-from_slice}
+use Rattle.std.proofs.lemmas.Iterator.Search.{find_from_yields_List}
+use Rattle.date_texts.specs.Calendars.{all_targets}
+use Rattle.date_texts.specs.Trimmed.{trimmed}
+use Rattle.date_texts.proofs.TargetNames.{has_name, named_by_search, compared}
+use Rattle.date_texts.proofs.names.target_named.Goals as goal
+
+pub returns : goal.returns
+returns c =
+    let found = find_from_yields_List (has_name (str_to_ascii_lowercase c.trimmed-name.result.now)) _ _ _ c.find.ensures.ran (YieldsList-from_slice all_targets cc) (λ x b q k. search (rules, tests, compared)) in
+    λ target. named_by_search c.copied.result c.trimmed-name.result.now c.args.text.now target (c.copied.ensures ∙ found) (c.trimmed-name.ensures ∙ ap trimmed c.as_bytes.ensures.value)

@@ -10,17 +10,15 @@ use crate::option_values::{delimiter_named, read_targets};
 use crate::refusals::Refusal;
 use clap::error::ErrorKind;
 use clap::{Arg, Command};
-use date_texts::{Calendar, Target};
+use date_texts::Target;
 use register_records::Setup;
 use std::alloc::{AllocError, Global};
 
 /// How many items a ring would hold; one source on one thread has none.
 const RING: usize = 16;
 
-static DEFAULT_TARGETS: [Target; 2] = [
-    Target::Date(Calendar::Gregorian),
-    Target::Date(Calendar::Julian),
-];
+/// The targets where the words name none: all of them.
+pub static DEFAULT_TARGETS: [Target; 13] = Target::ALL;
 
 /// What the words ask for.
 #[derive(Clone, Copy)]

@@ -1,1 +1,3 @@
+pub mod OptionValues
+pub mod Requests
 pub mod Answers

@@ -1,44 +1,30 @@
 // What the program answers.
 
-ghost use Rattle.std.specs.Prelude.{◌≡◌, ◌<◌, ◌⊎◌, false, length};
-ghost use Rattle.register_app.specs.Answers.{GainsWholeTable, comma, program_targets};
+ghost use Rattle.std.specs.Prelude.{◌≡◌, ◌≢◌, ◌≤◌, ◌⊎◌, true, false, map};
+ghost use Rattle.std.specs.Io.KnownBytes.{Appends};
+ghost use Rattle.std.specs.String.{string_bytes};
+ghost use Rattle.register_app.specs.Answers.{GainsHelp, GainsPartAsked, GainsTableAsked, GainsWholeTable, IsRefused};
+ghost use Rattle.register_app.specs.Requests.{refusal_status};
 ghost use Rattle.register_records.specs.Setups.{delimiter_of, targets_of};
 ghost use Rattle.register_records.specs.Sources.{GainsPart};
 
-use date_texts::{Calendar, Target};
-use register_records::{Cause, Output, Setup, SourceEnd, convert_source, send};
+use crate::help::HELP;
+use crate::refusals::Refusal;
+use crate::requests::{Request, read_request};
 use arrayvec::ArrayString;
+use register_records::{Cause, Output, Setup, SourceEnd, convert_source, send};
 use std::alloc::Global;
 use std::fmt::Write;
 use std::io::Read;
 
-/// The whole text was converted, refused records included.
+/// The whole text was converted, refused records included, or the help was printed.
 const COMPLETE: u8 = 0;
 
-/// The conversion broke off.
+/// The conversion broke off, or the help could not be printed.
 const INCOMPLETE: u8 = 1;
 
-/// The command line was refused.
-const BAD_COMMAND_LINE: u8 = 2;
-
-/// How many items a ring would hold; one source on one thread has none.
-const RING: usize = 16;
-
-static TARGETS: [Target; 2] = [
-    Target::Date(Calendar::Gregorian),
-    Target::Date(Calendar::Julian),
-];
-
-/// What the program converts to.
-fn program_setup() -> Setup
-    ensures targets { targets_of result ≡ program_targets }
-    ensures delimiter { delimiter_of result ≡ comma }
-{
-    match Setup::new(&TARGETS, RING, b',') {
-        Ok(setup) => setup,
-        Err(_) => unreachable!(),
-    }
-}
+/// There was no memory before the run.
+const OUT_OF_MEMORY: u8 = 3;
 
 /// Writes the line with the cause of a broken source. A fault of `errors` is let go: there is nowhere else
 /// to tell it.
@@ -52,13 +38,83 @@ fn tell_cause<E: Output>(errors: &mut E, cause: Cause)
     }
 }
 
-/// Answers the program's words: reads a text from `input`, writes its table to `output` and one line to
-/// `errors` where something was refused, and gives the exit status and the output back.
+/// Tells why the words ask for nothing, and gives the exit status. A fault of `errors` is let go: there is
+/// nowhere else to tell it.
+fn tell_refusal<E: Output>(alloc: Global, errors: &mut E, refusal: &Refusal<'_>) -> u8
+    ensures status { (result ≡ 3) ⊎ (result ≡ refusal_status refusal.now) }
+    ensures mark { E.own_mark errors.new ≡ E.own_mark errors.old }
+{
+    let text = match refusal {
+        Refusal::Usage(error) => format!(in alloc; "{error}"),
+        fault => format!(in alloc; "register: {fault}\n"),
+    };
+    match text {
+        Ok(text) => {
+            let _ = send(errors, text.as_bytes());
+            refusal.status()
+        }
+        Err(_) => {
+            let _ = send(errors, b"register: out of memory\n");
+            OUT_OF_MEMORY
+        }
+    }
+}
+
+/// Prints the help.
+fn print_help<W: Output, E: Output>(output: W, errors: &mut E) -> (u8, W)
+    ensures printed { result.0 ≡ 0 → Appends (W.contents output) (W.contents result.1) HELP.now }
+    ensures quiet { result.0 ≡ 0 → errors.new ≡ errors.old }
+    ensures broken { result.0 ≢ 0 → (result.0 ≡ 1) × (W.has_failed result.1 ≡ true) }
+    ensures mark { W.own_mark result.1 ≡ W.own_mark output }
+    ensures errors_mark { E.own_mark errors.new ≡ E.own_mark errors.old }
+{
+    let mut output = output;
+    if send(&mut output, HELP.as_bytes()).is_err() {
+        let _ = send(errors, b"register: cannot print the help\n");
+        return (INCOMPLETE, output);
+    }
+    (COMPLETE, output)
+}
+
+/// Converts the text that `input` gives.
+fn convert_text<R: Read + Drop, W: Output, E: Output>(
+    alloc: Global,
+    input: R,
+    output: W,
+    errors: &mut E,
+    setup: &Setup,
+) -> (u8, W)
+    ensures whole { result.0 ≡ 0 → GainsWholeTable (delimiter_of setup.now) (targets_of setup.now) (R.remaining input)
+        (W.contents output) (W.contents result.1) }
+    ensures quiet { result.0 ≡ 0 → errors.new ≡ errors.old }
+    ensures broken { result.0 ≡ 1 → W.has_failed result.1 ≡ false → GainsPart (delimiter_of setup.now) (targets_of setup.now)
+        (R.remaining input) (W.contents output) (W.contents result.1) }
+    ensures statuses { (result.0 ≡ 0) ⊎ (result.0 ≡ 1) }
+    ensures mark { W.own_mark result.1 ≡ W.own_mark output }
+    ensures errors_mark { E.own_mark errors.new ≡ E.own_mark errors.old }
+{
+    let mut output = output;
+    match convert_source(alloc, input, &mut output, setup) {
+        SourceEnd::Whole { .. } => (COMPLETE, output),
+        SourceEnd::Broken { cause } => {
+            tell_cause(errors, cause);
+            (INCOMPLETE, output)
+        }
+    }
+}
+
+/// Answers the program's words: prints the help, or reads a text from `input` and writes its table to
+/// `output`; writes to `errors` what went wrong; and gives the exit status and the output back.
 ///
-/// The status is 0 where the whole text was converted, refused records included; 1 where the conversion
-/// broke off, with the line `source 1: cause C`; 2 where there is a word at all, since no argument is taken
-/// yet, with the line `register: no arguments yet`. A fault of `errors` changes neither the status nor the
-/// output.
+/// The status is
+///
+/// - 0 where the whole text was converted, refused records included, or the help was printed;
+/// - 1 where the conversion broke off, with the line `source 1: cause C`, or the help could not be printed;
+/// - 2 where the words were refused, with one line of the program's own or the text of clap;
+/// - 3 where there was no memory before the run, with the line `register: out of memory`.
+///
+/// Nothing is read where the status is 2 or 3, or where the words ask for help. A fault of `errors` changes
+/// neither the status nor the output.
 pub fn answer<R: Read + Drop, W: Output, E: Output>(
     alloc: Global,
     words: &[String],
@@ -66,30 +122,26 @@ pub fn answer<R: Read + Drop, W: Output, E: Output>(
     output: W,
     errors: &mut E,
 ) -> (u8, W)
-    // The output has gained the table of the text, and nothing else.
-    ensures whole { result.0 ≡ 0 → GainsWholeTable (R.remaining input) (W.contents output) (W.contents result.1) }
+    // The words ask for help and the output has gained it, or they ask for a table and the output has gained
+    // the table of the text by the targets and the delimiter asked, and nothing else.
+    ensures whole { result.0 ≡ 0
+        → GainsHelp (map string_bytes words.now) (W.contents output) (W.contents result.1)
+        ⊎ GainsTableAsked (map string_bytes words.now) (R.remaining input) (W.contents output) (W.contents result.1) }
     ensures quiet { result.0 ≡ 0 → errors.new ≡ errors.old }
 
-    // Where the output has not failed it has gained a front of the table, or nothing.
+    // Where the output has not failed it has gained a front of the table that the words ask for, or nothing.
     ensures broken { result.0 ≡ 1 → W.has_failed result.1 ≡ false
-        → GainsPart comma program_targets (R.remaining input) (W.contents output) (W.contents result.1) }
+        → GainsPartAsked (map string_bytes words.now) (R.remaining input) (W.contents output) (W.contents result.1) }
 
-    ensures usage { 0 < length words.now → (result.0 ≡ 2) × (result.1 ≡ output) }
-    ensures statuses { length words.now ≡ 0 → (result.0 ≡ 0) ⊎ (result.0 ≡ 1) }
+    ensures refused { result.0 ≡ 2 → IsRefused (map string_bytes words.now) × (result.1 ≡ output) }
+    ensures out_of_memory { result.0 ≡ 3 → result.1 ≡ output }
+    ensures statuses { result.0 ≤ 3 }
     ensures mark { W.own_mark result.1 ≡ W.own_mark output }
     ensures errors_mark { E.own_mark errors.new ≡ E.own_mark errors.old }
 {
-    if !words.is_empty() {
-        let _ = send(errors, b"register: no arguments yet\n");
-        return (BAD_COMMAND_LINE, output);
-    }
-    let setup = program_setup();
-    let mut output = output;
-    match convert_source(alloc, input, &mut output, &setup) {
-        SourceEnd::Whole { .. } => (COMPLETE, output),
-        SourceEnd::Broken { cause } => {
-            tell_cause(errors, cause);
-            (INCOMPLETE, output)
-        }
+    match read_request(alloc, words) {
+        Ok(Request::Help) => print_help(output, errors),
+        Ok(Request::Convert(setup)) => convert_text(alloc, input, output, errors, &setup),
+        Err(refusal) => (tell_refusal(alloc, errors, &refusal), output),
     }
 }

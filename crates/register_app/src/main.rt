@@ -1,10 +1,14 @@
 //! The program `register`: converts the dates of a historical register.
 //!
 //! It reads a CSV text from standard input and writes its table to standard output, with the day of each
-//! record in the Gregorian and in the Julian calendar.
+//! record in the calendars that the words ask for.
 #![tactic(auto)]
 
 mod answering;
+mod help;
+mod option_values;
+mod refusals;
+mod requests;
 
 use answering::answer;
 use register_records::PlainOutput;

@@ -2,8 +2,9 @@
 // published day numbers.
 
 use crate::answering::answer;
+use crate::help::HELP;
 use register_records::PlainOutput;
-use std::alloc::Global;
+use std::alloc::{AllocError, Global};
 use std::io;
 use std::io::{ErrorKind, Read, Write};
 use std::test::Fail;
@@ -83,25 +84,227 @@ const CASES: [Case; 8] = [
     },
 ];
 
+/// The words of a command line.
+fn words_of(alloc: Global, words: &[&str]) -> Result<Vec<String>, AllocError> {
+    let mut copied = Vec::new(alloc);
+    for word in words {
+        copied.push(String::from_str(alloc, word)?)?;
+    }
+    Ok(copied)
+}
+
 #[test]
-fn texts_get_their_tables(rt: HostRuntime) {
+fn texts_get_their_tables(rt: HostRuntime) -> Result<(), Fail> {
+    let words = words_of(rt.alloc(), &["--to", "gregorian,julian"])?;
     for case in &CASES {
-        let (status, output, errors) = run(rt.alloc(), &[], case.input);
+        let (status, output, errors) = run(rt.alloc(), words.as_slice(), case.input);
         assert_eq!(rt; status, case.status);
         assert_eq!(rt; output.as_slice(), case.output);
         assert_eq!(rt; errors.as_slice(), case.errors);
     }
+    Ok(())
+}
+
+/// What a command line gives for one text: the status, the output and standard error.
+#[derive(Clone, Copy)]
+struct Line {
+    words: &'static [&'static str],
+    status: u8,
+    output: &'static [u8],
+    errors: &'static [u8],
+}
+
+/// The text that the command lines are run on.
+const TEXT: &[u8] = b"id,calendar,date\nb,julian,1582-10-05\n";
+
+const LINES: [Line; 25] = [
+    // Every target, in the default order.
+    Line {
+        words: &[],
+        status: 0,
+        output: b"row,id,calendar,date,rd,weekday,gregorian,iso,julian,coptic,ethiopic,egyptian,armenian,islamic,hebrew,longcount,french,haab,tzolkin,refusal\n1,b,julian,1582-10-05,577736,Friday,1582-10-15,1582-W41-5,1582-10-05,1299-02-08,1575-02-08,2331-03-14,1031-12-14,0990-09-17,5343-07-19,11.18.3.9.18,,11 Tzec,13 Etznab,\n",
+        errors: b"",
+    },
+    // The targets that are named, in their order, in either letter case and with blanks.
+    Line {
+        words: &["--to", "gregorian"],
+        status: 0,
+        output: b"row,id,calendar,date,rd,weekday,gregorian,refusal\n1,b,julian,1582-10-05,577736,Friday,1582-10-15,\n",
+        errors: b"",
+    },
+    Line {
+        words: &["--to", " Julian ,\tGREGORIAN"],
+        status: 0,
+        output: b"row,id,calendar,date,rd,weekday,julian,gregorian,refusal\n1,b,julian,1582-10-05,577736,Friday,1582-10-05,1582-10-15,\n",
+        errors: b"",
+    },
+    Line {
+        words: &["--to=julian"],
+        status: 0,
+        output: b"row,id,calendar,date,rd,weekday,julian,refusal\n1,b,julian,1582-10-05,577736,Friday,1582-10-05,\n",
+        errors: b"",
+    },
+    Line {
+        words: &["--to", "none"],
+        status: 0,
+        output: b"row,id,calendar,date,rd,weekday,refusal\n1,b,julian,1582-10-05,577736,Friday,\n",
+        errors: b"",
+    },
+    // A comma, in words.
+    Line {
+        words: &["--delimiter", "comma", "--to", "none"],
+        status: 0,
+        output: b"row,id,calendar,date,rd,weekday,refusal\n1,b,julian,1582-10-05,577736,Friday,\n",
+        errors: b"",
+    },
+    // Names of targets that are none, and targets named twice: the first from the left.
+    Line {
+        words: &["--to", "none,julian"],
+        status: 2,
+        output: b"",
+        errors: b"register: unknown target: none\n",
+    },
+    Line {
+        words: &["--to", "None"],
+        status: 2,
+        output: b"",
+        errors: b"register: unknown target: None\n",
+    },
+    Line {
+        words: &["--to", ""],
+        status: 2,
+        output: b"",
+        errors: b"register: unknown target: \n",
+    },
+    Line {
+        words: &["--to", "julian,"],
+        status: 2,
+        output: b"",
+        errors: b"register: unknown target: \n",
+    },
+    Line {
+        words: &["--to", "julian, Mayan ,julian"],
+        status: 2,
+        output: b"",
+        errors: b"register: unknown target:  Mayan \n",
+    },
+    Line {
+        words: &["--to", "julian,Julian"],
+        status: 2,
+        output: b"",
+        errors: b"register: target named twice: julian\n",
+    },
+    Line {
+        words: &["--to", "gregorian,julian, GREGORIAN ,x"],
+        status: 2,
+        output: b"",
+        errors: b"register: target named twice: gregorian\n",
+    },
+    // Delimiters that are none; a fault of the targets comes before one of the delimiter.
+    Line {
+        words: &["--delimiter", ";"],
+        status: 2,
+        output: b"",
+        errors: b"register: unknown delimiter: ;\n",
+    },
+    Line {
+        words: &["--delimiter", "Tab"],
+        status: 2,
+        output: b"",
+        errors: b"register: unknown delimiter: Tab\n",
+    },
+    Line {
+        words: &["--delimiter="],
+        status: 2,
+        output: b"",
+        errors: b"register: unknown delimiter: \n",
+    },
+    Line {
+        words: &["--delimiter", "y", "--to", "x"],
+        status: 2,
+        output: b"",
+        errors: b"register: unknown target: x\n",
+    },
+    // What clap refuses.
+    Line {
+        words: &["--bogus"],
+        status: 2,
+        output: b"",
+        errors: b"error: unexpected argument '--bogus' found\n\nUsage: register [OPTIONS]\n\nFor more information, try '--help'.\n",
+    },
+    Line {
+        words: &["parish.csv"],
+        status: 2,
+        output: b"",
+        errors: b"error: unexpected argument 'parish.csv' found\n\nUsage: register [OPTIONS]\n\nFor more information, try '--help'.\n",
+    },
+    Line {
+        words: &[""],
+        status: 2,
+        output: b"",
+        errors: b"error: unexpected argument '' found\n\nUsage: register [OPTIONS]\n\nFor more information, try '--help'.\n",
+    },
+    Line {
+        words: &["--ring", "4"],
+        status: 2,
+        output: b"",
+        errors: b"error: unexpected argument '--ring' found\n\nUsage: register [OPTIONS]\n\nFor more information, try '--help'.\n",
+    },
+    Line {
+        words: &["--to", "julian", "--to", "julian"],
+        status: 2,
+        output: b"",
+        errors: b"error: the argument '--to <LIST>' cannot be used multiple times\n\nUsage: register [OPTIONS]\n\nFor more information, try '--help'.\n",
+    },
+    Line {
+        words: &["--to"],
+        status: 2,
+        output: b"",
+        errors: b"error: a value is required for '--to <LIST>' but none was supplied\n\nFor more information, try '--help'.\n",
+    },
+    Line {
+        words: &["--to", "--delimiter", "tab"],
+        status: 2,
+        output: b"",
+        errors: b"error: a value is required for '--to <LIST>' but none was supplied\n\nFor more information, try '--help'.\n",
+    },
+    Line {
+        words: &["--to", "x", "--ring", "4"],
+        status: 2,
+        output: b"",
+        errors: b"error: unexpected argument '--ring' found\n\nUsage: register --to <LIST>\n\nFor more information, try '--help'.\n",
+    },
+];
+
+#[test]
+fn command_lines_get_their_answers(rt: HostRuntime) -> Result<(), Fail> {
+    for line in &LINES {
+        let words = words_of(rt.alloc(), line.words)?;
+        let (status, output, errors) = run(rt.alloc(), words.as_slice(), TEXT);
+        assert_eq!(rt; status, line.status);
+        assert_eq!(rt; output.as_slice(), line.output);
+        assert_eq!(rt; errors.as_slice(), line.errors);
+    }
+    Ok(())
 }
 
 #[test]
-fn arguments_are_refused(rt: HostRuntime) -> Result<(), Fail> {
-    let words = [String::from_str(rt.alloc(), "--help")?];
-    let (status, output, errors) = run(rt.alloc(), &words, b"id,calendar,date\n");
-    assert_eq!(rt; status, 2);
-    assert!(rt; output.is_empty());
+fn delimiters_stand_in_text_and_table(rt: HostRuntime) -> Result<(), Fail> {
+    let words = words_of(rt.alloc(), &["--delimiter", "semicolon", "--to", "julian"])?;
+    let text = b"\xEF\xBB\xBFID; Calendar ;DATE\r\n\r\n\"Smith; J.\";Gregorian; 1752-9-14\r\n";
+    let (status, output, _) = run(rt.alloc(), words.as_slice(), text);
+    assert_eq!(rt; status, 0);
     assert_eq!(rt;
-        errors.as_slice(),
-        b"register: no arguments yet\n".as_slice()
+        output.as_slice(),
+        b"row;id;calendar;date;rd;weekday;julian;refusal\n1;\"Smith; J.\";Gregorian; 1752-9-14;639797;Thursday;1752-09-03;\n".as_slice()
+    );
+    let words = words_of(rt.alloc(), &["--to", "julian", "--delimiter=tab"])?;
+    let text = b"id\tcalendar\tdate\na,b\tgregorian\t1752-9-14\n";
+    let (status, output, _) = run(rt.alloc(), words.as_slice(), text);
+    assert_eq!(rt; status, 0);
+    assert_eq!(rt;
+        output.as_slice(),
+        b"row\tid\tcalendar\tdate\trd\tweekday\tjulian\trefusal\n1\ta,b\tgregorian\t1752-9-14\t639797\tThursday\t1752-09-03\t\n".as_slice()
     );
     Ok(())
 }
@@ -154,4 +357,43 @@ fn broken_streams_are_told(rt: HostRuntime) {
     let (status, output) = answer(rt.alloc(), &[], Broken, output, &mut errors);
     assert_eq!(rt; status, 1);
     assert!(rt; output.into_inner().is_empty());
+}
+
+/// Command lines that ask for help: before anything is wrong with them.
+const FOR_HELP: [&[&str]; 4] = [
+    &["--help"],
+    &["-h"],
+    &["--help", "--bogus"],
+    &["--to", "x", "-h"],
+];
+
+#[test]
+fn help_reads_nothing(rt: HostRuntime) -> Result<(), Fail> {
+    for words in &FOR_HELP {
+        let words = words_of(rt.alloc(), words)?;
+        let mut errors = PlainOutput::new(Vec::new(rt.alloc()), 0);
+        let output = PlainOutput::new(Vec::new(rt.alloc()), 1);
+        let (status, output) = answer(rt.alloc(), words.as_slice(), Broken, output, &mut errors);
+        assert_eq!(rt; status, 0);
+        assert_eq!(rt; output.into_inner().as_slice(), HELP.as_bytes());
+        assert!(rt; errors.into_inner().is_empty());
+    }
+    for line in HELP.lines() {
+        assert!(rt; line.len() <= 80);
+    }
+    Ok(())
+}
+
+#[test]
+fn help_that_cannot_be_printed_is_told(rt: HostRuntime) -> Result<(), Fail> {
+    let words = words_of(rt.alloc(), &["--help"])?;
+    let mut errors = PlainOutput::new(Vec::new(rt.alloc()), 0);
+    let output = PlainOutput::new(Broken, 1);
+    let (status, _output) = answer(rt.alloc(), words.as_slice(), Broken, output, &mut errors);
+    assert_eq!(rt; status, 1);
+    assert_eq!(rt;
+        errors.into_inner().as_slice(),
+        b"register: cannot print the help\n".as_slice()
+    );
+    Ok(())
 }

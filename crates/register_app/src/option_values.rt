@@ -1,0 +1,54 @@
+// The values of the options.
+
+ghost use Rattle.std.specs.Prelude.{◌≡◌, ◌↔◌, ℕ, Some, IfOk, IfErr};
+ghost use Rattle.register_app.specs.OptionValues.{AsksForTargets, IsDelimiterWord, IsListFault};
+
+use crate::refusals::Refusal;
+use date_texts::{Target, target_named};
+use std::alloc::Global;
+
+/// The word that asks for no target.
+const NO_TARGET: &str = "none";
+
+/// The targets that a list names, in its order: names between commas, each as [`target_named`] reads it,
+/// or the word `none` alone for no target.
+///
+/// # Errors
+///
+/// The names are looked at from left to right: `UnknownTarget` for the first that names no target, and
+/// `TargetTwice` for the first whose target was named before, whichever comes first. `OutOfMemory` where a
+/// growth of the targets is refused.
+pub fn read_targets(alloc: Global, list: &str) -> Result<Vec<Target>, Refusal<'_>>
+    ensures value { IfOk result (λ targets. AsksForTargets list.entry.now targets.items) }
+    ensures fault { IfErr result (λ refusal. IsListFault list.entry.now refusal) }
+{
+    let mut targets = Vec::new(alloc);
+    if list == NO_TARGET {
+        return Ok(targets);
+    }
+    'names: for name in list.split(',') {
+        let Some(target) = target_named(name) else {
+            return Err(Refusal::UnknownTarget(name));
+        };
+        if targets.contains(&target) {
+            return Err(Refusal::TargetTwice(target));
+        }
+        if targets.push(target).is_err() {
+            return Err(Refusal::OutOfMemory);
+        }
+    }
+    Ok(targets)
+}
+
+/// The byte that a delimiter's word names, or `None` exactly where it is none of `comma`, `semicolon` and
+/// `tab`.
+pub fn delimiter_named(word: &str) -> Option<u8>
+    ensures { (byte : ℕ) → (result ≡ Some byte) ↔ IsDelimiterWord word.now byte }
+{
+    match word {
+        "comma" => Some(b','),
+        "semicolon" => Some(b';'),
+        "tab" => Some(b'\t'),
+        _ => None,
+    }
+}

@@ -1,0 +1,40 @@
+// Why the words ask for nothing.
+
+ghost use Rattle.std.specs.Prelude.{◌≡◌};
+
+use date_texts::Target;
+use thiserror::Error;
+
+/// Why the words ask for nothing that can be done: the first of these that applies.
+#[derive(Debug, Drop, Error)]
+pub enum Refusal<'a> {
+    /// A growth of memory was refused.
+    #[error("out of memory")]
+    OutOfMemory,
+    /// The options are not written as they are taken. The text says how, and ends its last line.
+    #[error("{0}")]
+    Usage(clap::Error),
+    /// A name in the list of targets that names none, as it was given.
+    #[error("unknown target: {0}")]
+    UnknownTarget(&'a str),
+    /// A target that is named at two places of the list.
+    #[error("target named twice: {}", .0.name())]
+    TargetTwice(Target),
+    /// A delimiter that is none of the three words, as it was given.
+    #[error("unknown delimiter: {0}")]
+    UnknownDelimiter(&'a str),
+}
+
+impl Refusal<'_> {
+    ghost use Rattle.register_app.specs.Requests.{refusal_status};
+
+    /// The exit status: 3 for want of memory, and 2 for what is wrong with the words.
+    pub fn status(&self) -> u8
+        ensures { result ≡ refusal_status self.now }
+    {
+        match self {
+            Refusal::OutOfMemory => 3,
+            _ => 2,
+        }
+    }
+}

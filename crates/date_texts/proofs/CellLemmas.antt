@@ -1,5 +1,5 @@
 -- A target and a day have one cell.
-use Rattle.std.proofs.Common.{◌≡◌, ℕ, zero, suc, ◌+◌, ◌*◌, ◌-◌, ◌≤◌, List, [], ◌∷◌, ◌++◌, Bool, true, ◌&&◌, IsTrue, nat_le, length, ℤ, ◌≤ℤ◌, refl, sym, subst, ap, ◌∙◌, arith}
+use Rattle.std.proofs.Common.{◌≡◌, ℕ, zero, suc, ◌+◌, ◌*◌, ◌-◌, ◌≤◌, List, [], ◌∷◌, Bool, true, ◌&&◌, IsTrue, nat_le, length, ℤ, ◌≤ℤ◌, refl, sym, subst, ap, ◌∙◌, arith}
 use Rattle.std.specs.Prelude.{slice_get, unwrap_or}
 use Rattle.std.proofs.lemmas.Int.{ints}
 use Rattle.std.proofs.lemmas.Bool.Decides.{nat_tests}

@@ -1,5 +1,5 @@
 -- Dates with the same parts are one value.
-use Rattle.std.proofs.Common.{◌≡◌, ◌≢◌, ℕ, ◌≤◌, ℤ, subst, ap, ◌∙◌}
+use Rattle.std.proofs.Common.{◌≡◌, ◌≢◌, ℕ, ◌≤◌, ℤ, subst, ap}
 use Rattle.std.proofs.Props.{props}
 use Rattle.day_numbers.specs.Dates.{IsYear}
 use Rattle.day_numbers.specs.declared.ymd.Ymd.{Ymd}

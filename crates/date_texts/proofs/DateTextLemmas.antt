@@ -15,7 +15,7 @@ use Rattle.date_texts.specs.declared.date.Date.TheVariants.{Civil, Long}
 use Rattle.date_texts.specs.Calendars.{has_weeks}
 use Rattle.date_texts.specs.Dates.{calendar_of_date}
 use Rattle.date_texts.specs.Trimmed.{is_blank, trim_start, trim_end, trimmed}
-use Rattle.date_texts.specs.DateText.{all_digits, IsNumeral, IsYearText, plain, minus, IsCivilText, IsLongText, SaysDate, IsDateText, canonical_civil, canonical_week, canonical_long, canonical_text}
+use Rattle.date_texts.specs.DateText.{all_digits, IsNumeral, IsYearText, plain, minus, IsCivilText, IsLongText, SaysDate, IsDateText, canonical_civil, canonical_week, canonical_text}
 use Rattle.date_texts.specs.Reading.{civil_at, long_at}
 use Rattle.date_texts.proofs.DateParts.{ymd_same, civil_same, count_same}
 use Rattle.date_texts.proofs.ReadingLemmas.{both_true, some_inside, civil_read, civil_take, long_read, long_take, canonical_civil_is, canonical_week_is, canonical_long_is}

@@ -1,4 +1,4 @@
-use Rattle.std.proofs.Common.{◌∙◌, ap, sym, Some}
+use Rattle.std.proofs.Common.{◌∙◌, ap, Some}
 use Rattle.date_texts.proofs.TargetNames.{calendar_is_named, no_target_is_named, other_is_named}
 use Rattle.date_texts.proofs.names.calendar_named.Goals as goal
 

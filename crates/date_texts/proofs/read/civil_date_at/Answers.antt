@@ -1,7 +1,6 @@
-use Rattle.std.proofs.Common.{◌≡◌, ◌∙◌, sym, ap, subst, IsSome, rules, to_z-of_z, FitsSigned, w32}
+use Rattle.std.proofs.Common.{◌∙◌, sym, ap, rules, to_z-of_z, FitsSigned, w32}
 use Rattle.date_texts.specs.Reading.{civil_at}
-use Rattle.date_texts.specs.Calendars.{has_weeks}
-use Rattle.date_texts.proofs.DateTextLemmas.{false_is_true, no_civil, some_civil, parts_read}
+use Rattle.date_texts.proofs.DateTextLemmas.{no_civil, some_civil, parts_read}
 use Rattle.date_texts.proofs.read.civil_date_at.Goals as goal
 
 pub returns-in_err-year : goal.returns-in_err-year

@@ -1,4 +1,3 @@
-use Rattle.date_texts.specs.declared.date.Date.TheVariants.{Civil, Long}
 use Rattle.date_texts.proofs.DateTextLemmas.{canonical_text_is}
 use Rattle.date_texts.proofs.write.write_date.Goals as goal
 

@@ -12,7 +12,7 @@ use Rattle.std.proofs.lemmas.Iterator.Splits.{YieldsList-from_str_split}
 use Rattle.date_texts.specs.Calendars.{target_name}
 use Rattle.date_texts.specs.Names.{IsNamed}
 use Rattle.date_texts.specs.declared.calendar.Target.{Target}
-use Rattle.register_records.specs.Setups.{NamesTwice}
+use Rattle.register_records.specs.SetupRules.{NamesTwice}
 use Rattle.register_app.specs.OptionValues.{AreNamesOf, StandsBehind, names_in, no_target}
 
 -- one more name and its target

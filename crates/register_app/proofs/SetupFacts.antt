@@ -7,7 +7,7 @@ use Rattle.std.proofs.lemmas.Slice.Eq.{bytes_eq-Decides}
 use Rattle.clap.proofs.WalkLemmas.{both}
 use Rattle.date_texts.specs.Calendars.{target_name}
 use Rattle.date_texts.specs.declared.calendar.Target.{Target}
-use Rattle.register_records.specs.Setups.{NamesTwice, is_delimiter, is_ring_size}
+use Rattle.register_records.specs.SetupRules.{NamesTwice, is_delimiter, is_ring_size}
 use Rattle.register_records.specs.declared.setups.Setup.{Setup}
 use Rattle.register_records.specs.declared.setups.SetupFault.{SetupFault}
 use Rattle.register_records.specs.declared.setups.SetupFault.TheVariants.{TargetTwice, RingSize, Delimiter}

@@ -4,7 +4,7 @@ use Rattle.std.specs.List.{slice_split}
 use Rattle.date_texts.specs.Calendars.{target_name}
 use Rattle.date_texts.specs.Names.{IsNamed}
 use Rattle.date_texts.specs.declared.calendar.Target.{Target}
-use Rattle.register_records.specs.Setups.{NamesTwice}
+use Rattle.register_records.specs.SetupRules.{NamesTwice}
 use Rattle.register_app.specs.declared.refusals.Refusal.{Refusal}
 use Rattle.register_app.specs.declared.refusals.Refusal.TheVariants as refusal
 

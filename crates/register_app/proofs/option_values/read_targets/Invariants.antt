@@ -1,5 +1,5 @@
 use Rattle.std.proofs.Common.{map}
-use Rattle.register_records.specs.Setups.{NamesTwice}
+use Rattle.register_records.specs.SetupRules.{NamesTwice}
 use Rattle.register_app.specs.OptionValues.{AreNamesOf}
 use Rattle.register_app.proofs.option_values.read_targets.Given as goal
 

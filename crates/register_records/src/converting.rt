@@ -1,14 +1,55 @@
 // The conversion of an entry.
 
-ghost use Rattle.std.specs.Prelude.{◌≡◌};
+ghost use Rattle.std.specs.Prelude.{◌≡◌, ◌≤◌, [], length};
+ghost use Rattle.register_records.specs.Entries.{body_seen};
 ghost use Rattle.register_records.specs.EntriesLeft.{entry_seen};
-ghost use Rattle.register_records.specs.Outcomes.{IsRowOf};
+ghost use Rattle.register_records.specs.Outcomes.{AreCells, IsOutcome, IsRowOf};
 ghost use Rattle.register_records.specs.RowViews.{row_entry, row_seen, row_targets};
 ghost use Rattle.register_records.specs.Setups.{targets_of};
+ghost use Rattle.register_records.specs.ShortLists.{items_in};
+ghost use Rattle.register_records.specs.Views.{cells_seen, outcome_seen};
 
-use crate::entries::Entry;
+use crate::entries::{Body, Entry};
 use crate::rows::Row;
 use crate::setups::Setup;
+use crate::short_lists::ShortList;
+use arrayvec::ArrayString;
+use date_texts::{Refusal, Target, calendar_named, cell, day_of_date, read_date};
+use day_numbers::Day;
+
+/// The day of a body, or the first refusal that applies.
+fn day_of_body(body: &Body) -> Result<Day, Refusal>
+    ensures { IsOutcome (body_seen body.now) (outcome_seen result) }
+{
+    match body {
+        Body::Refused(refusal) => Err(*refusal),
+        Body::Fields { calendar, date, .. } => {
+            let Some(calendar) = calendar_named(calendar.as_str()) else {
+                return Err(Refusal::UnknownCalendar);
+            };
+            let date = match read_date(calendar, date.as_str()) {
+                Ok(date) => date,
+                Err(refusal) => return Err(refusal),
+            };
+            day_of_date(&date)
+        }
+    }
+}
+
+/// Fills an empty list with the cells of an outcome: one for each target on a day, and none with a
+/// refusal. The list is lent, since it is large.
+fn fill(cells: &mut ShortList<ArrayString<24>>, targets: &[Target], outcome: Result<Day, Refusal>)
+    requires empty { items_in cells.old ≡ [] }
+    requires few { length targets.now ≤ 13 }
+    ensures { AreCells targets.now (outcome_seen outcome) (cells_seen (items_in cells.new)) }
+{
+    let Ok(day) = outcome else {
+        return;
+    };
+    for target in targets {
+        cells.push(cell(*target, day));
+    }
+}
 
 /// The row of an entry for the setup's targets: the refusal of its body, else `UnknownCalendar`,
 /// `DateText`, `NoSuchDate` or `OutOfRange`, the first that applies, else the day and its cells.
@@ -17,5 +58,13 @@ pub fn convert(entry: Entry, setup: &Setup) -> Row
     ensures targets { row_targets result ≡ targets_of setup.now }
     ensures row { IsRowOf (targets_of setup.now) (entry_seen entry) (row_seen result) }
 {
-    Row::of_entry(entry, setup)
+    let outcome = day_of_body(entry.body());
+    let mut cells = ShortList::new(ArrayString::new());
+    fill(&mut cells, setup.targets(), outcome);
+    Row {
+        entry,
+        targets: setup.target_list(),
+        outcome,
+        cells,
+    }
 }

@@ -1,7 +1,7 @@
 use Rattle.std.proofs.Common.{arith, ap, length, length-append}
 use Rattle.arrayvec.specs.ArrayString.{ArrayString}
 use Rattle.register_records.proofs.OutcomeFacts.{cells-more}
-use Rattle.register_records.proofs.rows.fill.Goals as goal
+use Rattle.register_records.proofs.converting.fill.Goals as goal
 
 pub loop-target-preserved : goal.loop-target-preserved
 loop-target-preserved c = record {

@@ -5,7 +5,7 @@ use Rattle.std.specs.List.{list_any}
 use Rattle.std.specs.Str.{bytes_eq}
 use Rattle.std.proofs.lemmas.Slice.Eq.{bytes_eq-Decides}
 use Rattle.clap.proofs.WalkLemmas.{both}
-use Rattle.date_texts.specs.Calendars.{target_name}
+use Rattle.date_texts.specs.Calendars.{all_targets, target_name}
 use Rattle.date_texts.specs.declared.calendar.Target.{Target}
 use Rattle.register_records.specs.SetupRules.{NamesTwice, is_delimiter, is_ring_size}
 use Rattle.register_records.specs.declared.setups.Setup.{Setup}
@@ -13,7 +13,6 @@ use Rattle.register_records.specs.declared.setups.SetupFault.{SetupFault}
 use Rattle.register_records.specs.declared.setups.SetupFault.TheVariants.{TargetTwice, RingSize, Delimiter}
 use Rattle.register_app.proofs.NameFacts.{never_twice}
 use Rattle.register_app.specs.Requests.{AreTargetsOf, IsDelimiterOf}
-use Rattle.register_app.specs.declared.requests.TheConstants.{DEFAULT_TARGETS}
 
 -- no name stands at two places
 abbrev differ : List (List ℕ) → Bool
@@ -41,8 +40,8 @@ once_from (u ∷ us) zero (suc j) d lt high same =
 once_from (u ∷ us) (suc i) (suc j) d lt high same =
     once_from us i j (both (not (list_any (λ other. bytes_eq other (target_name u)) (map target_name us))) _ d).1 (omega arith) (omega arith) same
 
-default_once : ¬ NamesTwice DEFAULT_TARGETS
-default_once twice = once_from DEFAULT_TARGETS twice.0 twice.1 refl twice.2 twice.3 twice.4
+default_once : ¬ NamesTwice all_targets
+default_once twice = once_from all_targets twice.0 twice.1 refl twice.2 twice.3 twice.4
 
 -- the targets asked for are each named once
 pub asked_once : (value : Option (List ℕ)) (targets : List Target) → AreTargetsOf value targets → ¬ NamesTwice targets

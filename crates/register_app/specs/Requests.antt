@@ -2,12 +2,12 @@
 use Rattle.std.specs.Prelude.{◌≡◌, ◌≢◌, ℕ, List, [], codes, true, ⊤, Option, Some, None}
 use Rattle.clap.specs.Words.{App, IsAmong, Rule, Text, first_of, fault_of, kind_of, matches_of, new_app, new_rule, with_rule}
 use Rattle.clap.specs.declared.error.kind.ErrorKind.TheVariants.{DisplayHelp}
+use Rattle.date_texts.specs.Calendars.{all_targets}
 use Rattle.date_texts.specs.declared.calendar.Target.{Target}
 use Rattle.register_records.specs.Setups.{delimiter_of, targets_of}
 use Rattle.register_app.specs.OptionValues.{AsksForTargets, IsDelimiterWord, IsListFault}
 use Rattle.register_app.specs.declared.refusals.Refusal.{Refusal}
 use Rattle.register_app.specs.declared.refusals.Refusal.TheVariants as refusal
-use Rattle.register_app.specs.declared.requests.TheConstants.{DEFAULT_TARGETS}
 use Rattle.register_app.specs.declared.requests.Request.{Request}
 use Rattle.register_app.specs.declared.requests.Request.TheVariants as request
 
@@ -27,7 +27,7 @@ value_in words name = first_of name (matches_of command_line words)
 
 -- these are the targets that the option asks for; without it, all targets in the default order
 abbrev pub AreTargetsOf : Option Text → List Target → Type 0
-AreTargetsOf None targets = targets ≡ DEFAULT_TARGETS
+AreTargetsOf None targets = targets ≡ all_targets
 AreTargetsOf (Some list) targets = AsksForTargets list targets
 
 -- this is the byte that the option asks for; without it, a comma (44)

@@ -11,14 +11,12 @@ use crate::refusals::Refusal;
 use clap::error::ErrorKind;
 use clap::{Arg, Command};
 use date_texts::Target;
+use date_texts::laws::default_targets;
 use register_records::Setup;
 use std::alloc::{AllocError, Global};
 
 /// How many items a ring would hold; one source on one thread has none.
 const RING: usize = 16;
-
-/// The targets where the words name none: all of them.
-pub static DEFAULT_TARGETS: [Target; 13] = Target::ALL;
 
 /// What the words ask for.
 #[derive(Clone, Copy)]
@@ -76,10 +74,13 @@ fn chosen_targets<'a>(alloc: Global, list: Option<&'a str>) -> Result<Vec<Target
 {
     match list {
         Some(list) => read_targets(alloc, list),
-        None => match DEFAULT_TARGETS.to_vec(alloc) {
-            Ok(targets) => Ok(targets),
-            Err(_) => Err(Refusal::OutOfMemory),
-        },
+        None => {
+            default_targets();
+            match Target::ALL.to_vec(alloc) {
+                Ok(targets) => Ok(targets),
+                Err(_) => Err(Refusal::OutOfMemory),
+            }
+        }
     }
 }
 

@@ -6,7 +6,8 @@ use Rattle.date_texts.specs.declared.date.Date.{Date}
 use Rattle.date_texts.specs.declared.calendar.TheConstants.Target.{ALL}
 use Rattle.date_texts.specs.Calendars.{calendar_name, all_targets}
 use Rattle.date_texts.specs.Cells.{IsCell}
-use Rattle.date_texts.specs.DateText.{IsDateText}
+use Rattle.date_texts.specs.Dates.{calendar_of_date}
+use Rattle.date_texts.specs.DateText.{IsDateText, canonical_text}
 use Rattle.date_texts.specs.Names.{IsNamed}
 
 -- a text names one calendar at most
@@ -16,6 +17,10 @@ OneCalendar = (text : List ℕ) (c e : Calendar) → IsNamed text (calendar_name
 -- a text says one date of a calendar at most
 abbrev pub OneDateText : Type 0
 OneDateText = (calendar : Calendar) (text : List ℕ) (d e : Date) → IsDateText calendar text d → IsDateText calendar text e → d ≡ e
+
+-- the canonical text of a date says that date in its calendar
+abbrev pub CanonicalTextsReadBack : Type 0
+CanonicalTextsReadBack = (date : Date) → IsDateText (calendar_of_date date) (canonical_text date) date
 
 -- a target and a day have one cell at most
 abbrev pub OneCell : Type 0

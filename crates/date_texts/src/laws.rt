@@ -1,6 +1,6 @@
 //! Laws of names, date texts, cells and lists of targets, for the proofs of what stands on them.
 
-ghost use Rattle.date_texts.specs.Laws.{DefaultTargets, FewTargets, OneCalendar, OneCell, OneDateText};
+ghost use Rattle.date_texts.specs.Laws.{CanonicalTextsReadBack, DefaultTargets, FewTargets, OneCalendar, OneCell, OneDateText};
 
 /// A text names one calendar at most.
 pub fn one_calendar()
@@ -10,6 +10,11 @@ pub fn one_calendar()
 /// A text says one date of a calendar at most.
 pub fn one_date_text()
     ensures { OneDateText }
+{}
+
+/// The canonical text of a date says that date in its calendar.
+pub fn canonical_texts_read_back()
+    ensures { CanonicalTextsReadBack }
 {}
 
 /// A target and a day have one cell at most.

@@ -6,3 +6,4 @@ pub mod LineFacts
 pub mod OutcomeFacts
 pub mod Progress
 pub mod OneTable
+pub mod ReadBack

@@ -1,9 +1,15 @@
 -- Laws of tables.
-use Rattle.std.specs.Prelude.{◌≡◌, ℕ, List}
-use Rattle.register_records.specs.Entries.{Numbered}
-use Rattle.register_records.specs.Outcomes.{AreRowsOf, TableRow}
-use Rattle.register_records.specs.Sources.{HasEntries}
+use Rattle.std.specs.Prelude.{◌≡◌, ◌≢◌, ℕ, ℤ, List, [], Ok}
+use Rattle.day_numbers.specs.Days.{IsDayNumber}
+use Rattle.date_texts.specs.Calendars.{calendar_name}
+use Rattle.date_texts.specs.Cells.{IsCell}
+use Rattle.date_texts.specs.Names.{IsNamed}
+use Rattle.date_texts.specs.declared.calendar.Calendar.{Calendar}
 use Rattle.date_texts.specs.declared.calendar.Target.{Target}
+use Rattle.date_texts.specs.declared.calendar.Target.TheVariants.{Date as DateTarget}
+use Rattle.register_records.specs.Entries.{Numbered, Texts}
+use Rattle.register_records.specs.Outcomes.{AreRowsOf, IsOutcome, TableRow}
+use Rattle.register_records.specs.Sources.{HasEntries}
 
 -- a text has one list of entries at most, and entries have one list of rows at most: so a text has one
 -- table and one journal at most
@@ -12,3 +18,9 @@ OneTable =
     (delimiter : ℕ) (targets : List Target) (text : List ℕ) (entries others : List Numbered) (rows more : List TableRow)
     → HasEntries delimiter text entries → HasEntries delimiter text others → AreRowsOf targets entries rows → AreRowsOf targets others more
     → (entries ≡ others) × (rows ≡ more)
+
+-- a cell of a calendar that is not empty, read as a date of that calendar, gives the cell's day again
+abbrev pub CellsReadBack : Type 0
+CellsReadBack =
+    (calendar : Calendar) (n : ℤ) (texts : Texts) → IsDayNumber n → IsNamed texts.calendar (calendar_name calendar)
+    → IsCell (DateTarget calendar) n texts.date → texts.date ≢ [] → IsOutcome (Ok texts) (Ok n)

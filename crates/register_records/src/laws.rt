@@ -1,8 +1,8 @@
 //! Laws of tables.
 
-ghost use Rattle.register_records.specs.Laws.{OneTable};
+ghost use Rattle.register_records.specs.Laws.{CellsReadBack, OneTable};
 
-use date_texts::laws::{one_calendar, one_cell, one_date_text};
+use date_texts::laws::{canonical_texts_read_back, one_calendar, one_cell, one_date_text};
 
 /// A text has at most one table: at most one list of entries, and for each list of targets at most one
 /// list of rows.
@@ -12,4 +12,12 @@ pub fn one_table()
     one_calendar();
     one_date_text();
     one_cell();
+}
+
+/// A cell of a calendar that is not empty, in a record as a date of that calendar, gives the cell's day
+/// again.
+pub fn cells_read_back()
+    ensures { CellsReadBack }
+{
+    canonical_texts_read_back();
 }

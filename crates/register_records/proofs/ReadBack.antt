@@ -1,0 +1,17 @@
+-- A cell that is read gives its day again.
+use Rattle.std.proofs.Common.{sym, subst}
+use Rattle.std.specs.Prelude.{Ok}
+use Rattle.day_numbers.specs.Days.{IsDayNumber}
+use Rattle.date_texts.specs.Cells.{before_first_day, on_date}
+use Rattle.date_texts.specs.DateText.{IsDateText}
+use Rattle.date_texts.specs.Dates.{calendar_of_date}
+use Rattle.date_texts.specs.Laws.{CanonicalTextsReadBack}
+use Rattle.register_records.specs.Laws.{CellsReadBack}
+use Rattle.register_records.specs.Outcomes.{IsOutcome, accepted}
+
+pub cells-read-back : CanonicalTextsReadBack → CellsReadBack
+cells-read-back law calendar n texts within named (on_date date of is day text) some =
+    let written = subst (λ x. IsDateText (calendar_of_date date) x date) (sym text) (law date) in
+    let dated = subst (λ c. IsDateText c texts.date date) of written in
+    subst (λ m. IsOutcome (Ok texts) (Ok m)) day (accepted calendar date (record { named = named; dated = dated }) is (subst IsDayNumber (sym day) within))
+cells-read-back law calendar n texts within named (before_first_day before empty) some = absurd (some empty)

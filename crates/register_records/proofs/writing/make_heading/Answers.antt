@@ -1,4 +1,4 @@
-use Rattle.std.proofs.Common.{◌≡◌, ◌∷◌, ◌++◌, [], ◌∙◌, arith, codes, map, take, refl, ap}
+use Rattle.std.proofs.Common.{◌∷◌, ◌++◌, [], ◌∙◌, arith, codes, map, take, ap}
 use Rattle.std.proofs.lemmas.List.{take_all}
 use Rattle.date_texts.specs.Calendars.{target_name}
 use Rattle.register_records.specs.LineViews.{line_delimiter}

@@ -5,7 +5,7 @@ ghost use Rattle.day_numbers.specs.Days.{IsBetween};
 ghost use Rattle.day_numbers.specs.Rules.{Rules, from_one, days_of_years as days_of, total_days, are_months};
 ghost use Rattle.day_numbers.specs.declared.rules.Month.{Month};
 
-use crate::rules::{Month, RuledCalendar};
+use crate::rules::{Month, RuledCalendar, Year};
 
 /// A calendar whose years begin with year 1, with the formulas by which its dates and days are found.
 pub trait FromYearOne {
@@ -57,15 +57,17 @@ impl<'a, C: FromYearOne> RuledCalendar for YearsFromOne<'a, C> {
         day >= self.0.epoch()
     }
 
-    fn year_start(&self, year: i32) -> i64 {
-        self.0.epoch() + self.0.days_of_years((year - 1) as u32) as i64
+    fn year(&self, number: i32) -> Year {
+        let days_before = self.0.days_of_years((number - 1) as u32);
+        Year {
+            number,
+            start: self.0.epoch() + days_before as i64,
+            months: self.0.months(number as u32),
+        }
     }
 
-    fn months(&self, year: i32) -> &'static [Month] {
-        self.0.months(year as u32)
-    }
-
-    fn year_on(&self, day: i64) -> i32 {
-        self.0.years_in((day - self.0.epoch()) as u32) as i32 + 1
+    fn year_with(&self, day: i64) -> Year {
+        let years_before = self.0.years_in((day - self.0.epoch()) as u32);
+        self.year(years_before as i32 + 1)
     }
 }

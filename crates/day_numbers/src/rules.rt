@@ -1,14 +1,14 @@
 //! Calendars that are given by rules: an epoch, which years there are, and the months of each year.
 //!
 //! The definitions sum these lists, and no closed formula stands in them. A calendar says in
-//! [`RuledCalendar`] by which formulas it finds the start of a year and the year of a day, and
+//! [`RuledCalendar`] by which formulas it finds a year by its number and by one of its days, and
 //! [`day_by_rules`] and [`date_by_rules`] are then `day_of` and `date_on` of its `ArithmeticCalendar`.
 
 ghost use Rattle.std.specs.Prelude.{◌≡◌, ◌↔◌, ◌≤◌, ◌<◌, ◌+◌, ℕ, ℤ, pos, neg_ℤ, ◌+ℤ◌, ◌≤ℤ◌, ◌<ℤ◌, IsTrue, IsOk, IsSome, IfOk, IfSome, Err, Some, length};
 ghost use Rattle.day_numbers.specs.declared.ymd.Ymd.{Ymd};
 ghost use Rattle.day_numbers.specs.Days.{IsBetween, IsDayNumber};
 ghost use Rattle.day_numbers.specs.Dates.{IsYear};
-ghost use Rattle.day_numbers.specs.Rules.{Rules, HasYear, HasDayOf, IsDateOf, day_number_of, year_start as start, year_length, total_days, days_of_month, days_before_month, are_months};
+ghost use Rattle.day_numbers.specs.Rules.{Rules, HasYear, HasDayOf, IsDateOf, day_number_of, year_start as start, total_days, days_of_month, days_before_month, are_months};
 
 use crate::calendar::DateFault;
 use crate::day::Day;
@@ -19,6 +19,15 @@ use crate::ymd::Ymd;
 pub struct Month {
     pub number: u8,
     pub days: u8,
+}
+
+/// A year of a calendar: its number, the fixed day number of its first day, and its months in the order in
+/// which they run.
+#[derive(Clone, Copy, Debug)]
+pub struct Year {
+    pub number: i32,
+    pub start: i64,
+    pub months: &'static [Month],
 }
 
 /// A calendar that is given by rules, with the formulas by which its dates and days are found.
@@ -36,29 +45,31 @@ pub trait RuledCalendar {
     fn has_day(&self, day: i64) -> bool
         ensures { IsTrue result ↔ HasDayOf rules day };
 
-    /// The fixed day number of the year's first day.
-    fn year_start(&self, year: i32) -> i64
-        requires has { HasYear rules.years year }
-        requires near { IsYear year }
-        ensures value { result ≡ start rules year }
-        ensures near { IsBetween (neg_ℤ (pos 100_000_000)) (pos 100_000_000) result };
+    /// The year of this number.
+    fn year(&self, number: i32) -> Year
+        requires has { HasYear rules.years number }
+        requires in_range { IsYear number }
+        ensures number { result.number ≡ number }
+        ensures start { result.start ≡ start rules number }
+        ensures months { result.months.now ≡ rules.months number }
 
-    /// The months of the year, in the order in which they run.
-    fn months(&self, year: i32) -> &'static [Month]
-        requires has { HasYear rules.years year }
-        requires near { IsYear year }
-        ensures value { result.now ≡ rules.months year }
-        ensures few { length result.now ≤ 13 }
-        ensures numbered { IsTrue (are_months result.now) };
+        ensures near { IsBetween (neg_ℤ (pos 100_000_000)) (pos 100_000_000) result.start }
+        ensures few { length result.months.now ≤ 13 }
+        ensures numbered { IsTrue (are_months result.months.now) };
 
     /// The year that the day with this fixed day number lies in.
-    fn year_on(&self, day: i64) -> i32
+    fn year_with(&self, day: i64) -> Year
         requires in_range { IsDayNumber day }
         requires has { HasDayOf rules day }
-        ensures has { HasYear rules.years result }
-        ensures near { IsYear result }
-        ensures after { start rules result ≤ℤ day }
-        ensures before { day <ℤ (start rules result +ℤ pos (year_length rules result)) };
+        ensures has { HasYear rules.years result.number }
+        ensures in_range { IsYear result.number }
+        ensures start { result.start ≡ start rules result.number }
+        ensures months { result.months.now ≡ rules.months result.number }
+        ensures after { result.start ≤ℤ day }
+        ensures before { day <ℤ (result.start +ℤ pos (total_days result.months.now)) }
+
+        ensures few { length result.months.now ≤ 13 }
+        ensures numbered { IsTrue (are_months result.months.now) };
 }
 
 /// The days of the months before the month of this number, and that month's days; all the days and 0
@@ -103,16 +114,17 @@ fn day_number_by_rules<C: RuledCalendar>(calendar: &C, date: Ymd) -> Option<i64>
     ensures valid { IsSome result ↔ IsDateOf C.rules date.year date.month date.day }
     ensures value { IfSome result (λ n. n ≡ day_number_of C.rules date.year date.month date.day) }
 {
-    let year = date.year();
-    if !calendar.has_year(year) {
+    let number = date.year();
+    if !calendar.has_year(number) {
         return None;
     }
-    let (before, days) = month_by_number(calendar.months(year), date.month());
+    let year = calendar.year(number);
+    let (before, days) = month_by_number(year.months, date.month());
     let day = date.day();
     if day < 1 || day > days {
         return None;
     }
-    Some(calendar.year_start(year) + before as i64 + day as i64 - 1)
+    Some(year.start + before as i64 + day as i64 - 1)
 }
 
 /// `day_of` of a calendar that is given by rules: the day of a date.
@@ -145,10 +157,10 @@ fn some_date_by_rules<C: RuledCalendar>(calendar: &C, day: Day) -> Option<Ymd>
     if !calendar.has_day(number) {
         return None;
     }
-    let year = calendar.year_on(number);
-    let place = number - calendar.year_start(year);
-    let (month, day) = month_at_place(calendar.months(year), place as u16);
-    Ymd::new(year, month, day)
+    let year = calendar.year_with(number);
+    let place = number - year.start;
+    let (month, day) = month_at_place(year.months, place as u16);
+    Ymd::new(year.number, month, day)
 }
 
 /// `date_on` of a calendar that is given by rules: the one date whose day this is, or `None` exactly

@@ -48,12 +48,6 @@ postponed_after leap after_leap d t =
 pub opens_after : (leap after_leap : Bool) (d t r : ℕ) → r ≡ opening leap after_leap d t → epoch +ℤ pos r ≡ postponed leap after_leap (epoch +ℤ pos d) t
 opens_after leap after_leap d t r e = ap (λ n. epoch +ℤ pos n) e ∙ sym (postponed_after leap after_leap d t)
 
-pub allowed_from : (d r : ℕ) → epoch +ℤ pos r ≡ next_allowed (epoch +ℤ pos d) → r ≡ allowed d
-allowed_from d r e = omega (arith, signed_arith, e ∙ next_allowed_after d)
-
-pub noon_from : (d t r : ℕ) → epoch +ℤ pos r ≡ from_noon (epoch +ℤ pos d) t → r ≡ (if nat_le 19_440 t then d + 1 else d)
-noon_from d t r e = omega (arith, signed_arith, e ∙ chosen (nat_le 19_440 t) _ _ _ _ (later d 1) refl)
-
 -- the parts from that Monday to the molad of the year after n years, and the days to that new year
 abbrev pub parts_after : ℕ → ℕ
 parts_after n = 5_604 + 765_433 * ((235 * n + 1) / 19)

@@ -1,11 +1,11 @@
 -- The lengths of Hebrew years.
-use Rattle.std.proofs.Common.{◌≡◌, ℕ, zero, suc, ◌+◌, ◌-◌, ◌*◌, ◌/◌, ◌%◌, ◌≤◌, ◌<◌, Bool, true, false, if◌then◌else◌, refl, sym, ◌∙◌, arith, ℤ, pos, ◌+ℤ◌, ◌-ℤ◌, ◌<ℤ◌, ◌≤ℤ◌, unsigned_abs, ◌⊎◌, inl, inr}
+use Rattle.std.proofs.Common.{◌≡◌, ℕ, zero, suc, ◌+◌, ◌-◌, ◌*◌, ◌/◌, ◌%◌, ◌≤◌, ◌<◌, Bool, true, false, if◌then◌else◌, refl, sym, ap, ◌∙◌, arith, ℤ, pos, ◌+ℤ◌, ◌-ℤ◌, ◌<ℤ◌, ◌≤ℤ◌, unsigned_abs, ◌⊎◌, inl, inr}
 use Rattle.std.specs.Prelude.{Contains}
 use Rattle.std.proofs.lemmas.Bool.Decides.{nat_tests}
-use Rattle.day_numbers.specs.Rules.{total_days, days_of_years}
+use Rattle.day_numbers.specs.Rules.{total_days, days_of_years, start_of_year, year_start}
 use Rattle.day_numbers.proofs.RulesLemmas.{years-zero, years-suc}
 use Rattle.day_numbers.proofs.SignedArithmetic.{signed_arith}
-use Rattle.lunar_calendars.specs.Hebrew.{IsYearLength, is_leap_year, epoch, new_year_of, days_in_year, months_by_length, months_of_year, year_lengths}
+use Rattle.lunar_calendars.specs.Hebrew.{IsYearLength, is_leap_year, epoch, new_year_of, days_in_year, months_by_length, months_of_year, year_lengths, hebrew_rules}
 use Rattle.lunar_calendars.proofs.NewYears.{allowed, opening, parts_after, new_year_after, new_year_is, first_new_year, new_year_bounds}
 
 -- n lies from low to high above m
@@ -87,21 +87,16 @@ days_before zero = years-zero _ ∙ sym first_new_year
 days_before (suc n) = omega (arith, years-suc (λ year. total_days (months_of_year (unsigned_abs year))) n, total_of n, days_more n, days_before n)
 
 -- the same facts of a year from 1 on
-pub starts : (year : ℕ) → 1 ≤ year → epoch +ℤ pos (days_of_years (λ y. total_days (months_of_year (unsigned_abs y))) (year - 1)) ≡ new_year_of year
-starts zero low = absurd (omega arith)
-starts (suc n) low = let same : suc n - 1 ≡ n = omega arith in rw (same, days_before n) (sym (new_year_is n))
+pub year_start_is : (year : ℕ) → 1 ≤ year → new_year_of year ≡ year_start hebrew_rules (pos year)
+unfolding start_of_year
+year_start_is zero low = absurd (omega arith)
+year_start_is (suc n) low = new_year_is n ∙ ap (λ days. epoch +ℤ pos days) (sym (days_before n))
 
 end_by : (x y : ℤ) (m n days : ℕ) → y ≡ epoch +ℤ pos n → x ≡ epoch +ℤ pos m → m + days ≡ n → y ≡ x +ℤ pos days
 end_by x y m n days p q h = omega (arith, signed_arith, p, q, h)
 
 end_of : (n : ℕ) → new_year_of (suc n + 1) ≡ new_year_of (suc n) +ℤ pos (days_in_year (suc n))
 end_of n = end_by _ _ _ _ _ (let next : suc n + 1 ≡ suc (suc n) = omega arith in rw next (new_year_is (suc n))) (new_year_is n) (days_more n)
-
-pub days_of_years_is : (n r : ℕ) → epoch +ℤ pos r ≡ new_year_of (n + 1) → r ≡ days_of_years (λ y. total_days (months_of_year (unsigned_abs y))) n
-days_of_years_is n r e =
-    let next : suc n ≡ n + 1 = omega arith in
-    let start : new_year_of (n + 1) ≡ epoch +ℤ pos (new_year_after n) = rw (← next) (new_year_is n) in
-    omega (arith, signed_arith, e, start, days_before n)
 
 pub length_of_year : (year : ℕ) → 1 ≤ year → IsYearLength (is_leap_year year) (days_in_year year)
 length_of_year zero low = absurd (omega arith)

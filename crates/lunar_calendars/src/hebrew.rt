@@ -1,10 +1,9 @@
-ghost use Rattle.std.specs.Prelude.{◌≡◌, ◌≤◌, ◌<◌, ◌+◌, ◌-◌, ℤ, pos, ◌+ℤ◌, ◌-ℤ◌, ◌≤ℤ◌, ◌<ℤ◌, IsTrue, length, Contains};
-ghost use Rattle.day_numbers.specs.Rules.{total_days, are_months, IsDateOf, day_number_of, first_day_of};
+ghost use Rattle.std.specs.Prelude.{◌≡◌, ◌≤◌, ◌+◌, pos, ◌+ℤ◌, ◌-ℤ◌, ◌≤ℤ◌, ◌<ℤ◌, nat_le, if◌then◌else◌, IsTrue, length, Contains};
+ghost use Rattle.day_numbers.specs.Rules.{total_days, are_months, year_start, IsDateOf, day_number_of, first_day_of};
 ghost use Rattle.day_numbers.proofs.DateLemmas.{rules_one_date, rules_have_days};
-ghost use Rattle.lunar_calendars.specs.Hebrew.{is_leap_year, epoch, from_noon as from_noon_of, next_allowed as next_allowed_of, postponed, new_year_of, days_in_year, year_lengths, IsYearLength, months_by_length, hebrew_rules};
+ghost use Rattle.lunar_calendars.specs.Hebrew.{is_leap_year, epoch, postponed, new_year_of, days_in_year, year_lengths, IsYearLength, months_by_length, hebrew_rules};
 
-use day_numbers::from_year_one::{FromYearOne, YearsFromOne};
-use day_numbers::rules::{Month, date_by_rules, day_by_rules};
+use day_numbers::rules::{Month, RuledCalendar, Year, date_by_rules, day_by_rules};
 use day_numbers::{ArithmeticCalendar, DateFault, Day, Ymd};
 
 /// The Hebrew calendar, its months numbered from Nisan = 1.
@@ -43,25 +42,13 @@ fn is_leap(year: u32) -> bool
     (7 * year + 1) % 19 < 7
 }
 
-/// The day of a molad, or the day after it from noon on.
-fn from_noon(day: u32, time: u32) -> u32
-    requires { day ≤ 49_999_998 }
-    ensures value { epoch +ℤ pos result ≡ from_noon_of (epoch +ℤ pos day) time }
-    ensures near { result ≤ day + 1 }
+/// The day, or so many days later where the time is `from` or later.
+fn put_off(day: u32, days: u32, time: u32, from: u32) -> u32
+    requires in_range { day ≤ 49_999_998 }
+    requires few { days ≤ 2 }
+    ensures { result ≡ (if nat_le from time then day + days else day) }
 {
-    if time >= NOON { day + 1 } else { day }
-}
-
-/// The day, or the day after it where no year may open on it.
-fn next_allowed(day: u32) -> u32
-    requires { day ≤ 49_999_999 }
-    ensures value { epoch +ℤ pos result ≡ next_allowed_of (epoch +ℤ pos day) }
-    ensures near { result ≤ day + 1 }
-{
-    match (day + 1) % 7 {
-        SUNDAY | WEDNESDAY | FRIDAY => day + 1,
-        _ => day,
-    }
+    if time >= from { day + days } else { day }
 }
 
 /// The day that a year opens on, from the day and the time of its molad.
@@ -70,13 +57,12 @@ fn opening_day(leap: bool, after_leap: bool, day: u32, time: u32) -> u32
     ensures opens { epoch +ℤ pos result ≡ postponed leap after_leap (epoch +ℤ pos day) time }
     ensures near { result ≤ day + 2 }
 {
-    let weekday = (day + 1) % 7;
-    if weekday == TUESDAY && !leap && time >= 9_924 {
-        day + 2
-    } else if weekday == MONDAY && after_leap && time >= 16_789 {
-        day + 1
-    } else {
-        next_allowed(from_noon(day, time))
+    match (day + 1) % 7 {
+        SUNDAY | WEDNESDAY | FRIDAY => day + 1,
+        MONDAY if after_leap => put_off(day, 1, time, 16_789),
+        MONDAY => put_off(day, 1, time, NOON),
+        TUESDAY if !leap => put_off(day, 2, time, 9_924),
+        _ => put_off(day, 2, time, NOON),
     }
 }
 
@@ -95,20 +81,6 @@ fn new_year(year: u32) -> u32
         (molad / PARTS_OF_DAY) as u32,
         (molad % PARTS_OF_DAY) as u32,
     )
-}
-
-/// The year that the day lies in.
-#[tactic(auto, using(crate::proofs::YearLengths::estimate))]
-fn year_on(day: u32) -> u32
-    requires { day ≤ 6_000_000 }
-    ensures low { 1 ≤ result }
-    ensures near { result ≤ 99_999 }
-    ensures after { new_year_of result ≤ℤ (epoch +ℤ pos day) }
-    ensures before { (epoch +ℤ pos day) <ℤ new_year_of (result + 1) }
-{
-    // A mean year has 35975351 / 98496 days: the year found by it is right, or the one after.
-    let year = ((day as u64 + 29) * 98_496 / 35_975_351) as u32 + 1;
-    if day < new_year(year) { year - 1 } else { year }
 }
 
 /// The days of a year.
@@ -176,25 +148,71 @@ fn months_of_length(leap: bool, days: u16) -> &'static [Month]
     }
 }
 
-impl FromYearOne for Hebrew {
-    ghost epoch_day = { hebrew_rules.epoch };
+/// The year of this number, from its new year and the next.
+#[tactic(auto, using(crate::proofs::YearLengths::end_of_year))]
+fn year_between(number: u32, start: u32, end: u32) -> Year
+    requires low { 1 ≤ number }
+    requires high { number ≤ 99_999 }
+    requires near { start ≤ 50_000_000 }
+    requires opens { epoch +ℤ pos start ≡ new_year_of number }
+    requires ends { epoch +ℤ pos end ≡ new_year_of (number + 1) }
+    ensures number { result.number ≡ pos number }
+    ensures start { result.start ≡ epoch +ℤ pos start }
+    ensures first { result.start ≡ year_start hebrew_rules (pos number) }
+    ensures months { result.months.now ≡ hebrew_rules.months (pos number) }
+    ensures days { start + total_days result.months.now ≡ end }
 
-    ghost months_of = { hebrew_rules.months };
+    ensures few { length result.months.now ≤ 13 }
+    ensures numbered { IsTrue (are_months result.months.now) }
+{
+    Year {
+        number: number as i32,
+        start: EPOCH + start as i64,
+        months: months_of_length(is_leap(number), (end - start) as u16),
+    }
+}
 
-    fn epoch(&self) -> i64 {
-        EPOCH
+/// The year that the day lies in.
+#[tactic(auto, using(crate::proofs::YearLengths::estimate))]
+fn year_of_day(day: u32) -> Year
+    requires { day ≤ 6_000_000 }
+    ensures low { pos 1 ≤ℤ result.number }
+    ensures high { result.number ≤ℤ pos 99_999 }
+    ensures first { result.start ≡ year_start hebrew_rules result.number }
+    ensures months { result.months.now ≡ hebrew_rules.months result.number }
+    ensures after { result.start ≤ℤ (epoch +ℤ pos day) }
+    ensures before { (epoch +ℤ pos day) <ℤ (result.start +ℤ pos (total_days result.months.now)) }
+
+    ensures few { length result.months.now ≤ 13 }
+    ensures numbered { IsTrue (are_months result.months.now) }
+{
+    // A mean year has 35975351 / 98496 days: the year found by it is right, or the one after.
+    let number = ((day as u64 + 29) * 98_496 / 35_975_351) as u32 + 1;
+    let start = new_year(number);
+    if day < start {
+        return year_between(number - 1, new_year(number - 1), start);
+    }
+    year_between(number, start, new_year(number + 1))
+}
+
+impl RuledCalendar for Hebrew {
+    ghost rules = { hebrew_rules };
+
+    fn has_year(&self, year: i32) -> bool {
+        year >= 1
     }
 
-    fn days_of_years(&self, years: u32) -> u32 {
-        new_year(years + 1)
+    fn has_day(&self, day: i64) -> bool {
+        day >= EPOCH
     }
 
-    fn years_in(&self, days: u32) -> u32 {
-        year_on(days) - 1
+    fn year(&self, number: i32) -> Year {
+        let number = number as u32;
+        year_between(number, new_year(number), new_year(number + 1))
     }
 
-    fn months(&self, year: u32) -> &'static [Month] {
-        months_of_length(is_leap(year), days_of_year(year))
+    fn year_with(&self, day: i64) -> Year {
+        year_of_day((day - EPOCH) as u32)
     }
 }
 
@@ -210,11 +228,11 @@ impl ArithmeticCalendar for Hebrew {
     ghost dates_have_days = { rules_have_days hebrew_rules };
 
     fn day_of(&self, date: Ymd) -> Result<Day, DateFault> {
-        day_by_rules(&YearsFromOne(self), date)
+        day_by_rules(self, date)
     }
 
     fn date_on(&self, day: Day) -> Option<Ymd> {
-        date_by_rules(&YearsFromOne(self), day)
+        date_by_rules(self, day)
     }
 }
 

@@ -1,11 +1,12 @@
-ghost use Rattle.std.specs.Prelude.{◌≡◌, pos, neg_ℤ, ◌+ℤ◌, ◌-ℤ◌, ◌*ℤ◌, ◌↔◌, IsSome, IfSome};
+ghost use Rattle.std.specs.Prelude.{◌≡◌, pos, neg_ℤ, ◌+ℤ◌, ◌-ℤ◌, ◌*ℤ◌, ◌≤ℤ◌, ◌<ℤ◌, ◌↔◌, IsSome, IfSome};
 ghost use Rattle.day_numbers.specs.Days.{IsDayNumber, IsBetween};
-ghost use Rattle.day_numbers.specs.Rules.{IsDateOf, day_number_of, year_start as start, HasDayOf, first_day_of};
+ghost use Rattle.day_numbers.specs.Dates.{IsYear};
+ghost use Rattle.day_numbers.specs.Rules.{IsDateOf, day_number_of, year_start as start, year_length, HasDayOf, first_day_of};
 ghost use Rattle.day_numbers.proofs.DateLemmas.{rules_one_date, rules_have_days};
 ghost use Rattle.solar_calendars.specs.Gregorian.{gregorian_rules, is_gregorian_leap};
 
 use crate::twelve_months::twelve_months;
-use day_numbers::rules::{Month, RuledCalendar, day_by_rules};
+use day_numbers::rules::{RuledCalendar, Year, day_by_rules};
 use day_numbers::{ArithmeticCalendar, DateFault, Day, Ymd};
 use jiff::ToSpan;
 use jiff::civil::Date;
@@ -76,6 +77,16 @@ fn jiff_date_on(day: i64) -> Date
         .unwrap()
 }
 
+/// The year that the day with this fixed day number lies in.
+pub fn year_on(day: i64) -> i32
+    requires { IsDayNumber day }
+    ensures near { IsYear result }
+    ensures after { start gregorian_rules result ≤ℤ day }
+    ensures before { day <ℤ (start gregorian_rules result +ℤ pos (year_length gregorian_rules result)) }
+{
+    jiff_date_on(day).year() as i32
+}
+
 /// The date on a day, by jiff.
 fn ymd_on(day: Day) -> Option<Ymd>
     ensures dated { IsSome result ↔ HasDayOf gregorian_rules day.number }
@@ -97,16 +108,16 @@ impl RuledCalendar for Gregorian {
         true
     }
 
-    fn year_start(&self, year: i32) -> i64 {
-        first_of_year(year as i64)
+    fn year(&self, number: i32) -> Year {
+        Year {
+            number,
+            start: first_of_year(number as i64),
+            months: twelve_months(is_leap(number)),
+        }
     }
 
-    fn months(&self, year: i32) -> &'static [Month] {
-        twelve_months(is_leap(year))
-    }
-
-    fn year_on(&self, day: i64) -> i32 {
-        jiff_date_on(day).year() as i32
+    fn year_with(&self, day: i64) -> Year {
+        self.year(year_on(day))
     }
 }
 

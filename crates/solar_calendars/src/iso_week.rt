@@ -4,8 +4,7 @@ ghost use Rattle.day_numbers.specs.Dates.{IsYear};
 ghost use Rattle.solar_calendars.specs.IsoWeek.{monday_on_or_before as monday_of, week_year_start as start, week_day_number, IsWeekDate};
 ghost use Rattle.solar_calendars.specs.IsoWeekLaw.{one_week_date};
 
-use crate::gregorian::{Gregorian, first_of_year};
-use day_numbers::rules::RuledCalendar;
+use crate::gregorian::{first_of_year, year_on};
 use day_numbers::{ArithmeticCalendar, DateFault, Day, Ymd};
 
 /// Week dates (ISO 8601; Reingold and Dershowitz, *Calendrical Calculations*, "The ISO Calendar").
@@ -72,7 +71,7 @@ fn week_year_on(day: i64) -> i32
     ensures near { IsYear result }
 {
     let monday = monday_on_or_before(day);
-    Gregorian.year_on(monday + 3)
+    year_on(monday + 3)
 }
 
 /// How many days of a year of weeks lie before a day of it; `first` is the year's first day.

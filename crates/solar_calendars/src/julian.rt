@@ -1,12 +1,12 @@
-ghost use Rattle.std.specs.Prelude.{◌≡◌, pos, neg_ℤ};
-ghost use Rattle.day_numbers.specs.Days.{IsBetween};
+ghost use Rattle.std.specs.Prelude.{◌≡◌, pos, neg_ℤ, ◌+ℤ◌, ◌≤ℤ◌, ◌<ℤ◌};
+ghost use Rattle.day_numbers.specs.Days.{IsBetween, IsDayNumber};
 ghost use Rattle.day_numbers.specs.Dates.{IsYear};
-ghost use Rattle.day_numbers.specs.Rules.{HasYear, without_zero, IsDateOf, day_number_of, first_day_of};
+ghost use Rattle.day_numbers.specs.Rules.{HasYear, without_zero, year_start as start, year_length, IsDateOf, day_number_of, first_day_of};
 ghost use Rattle.day_numbers.proofs.DateLemmas.{rules_one_date, rules_have_days};
 ghost use Rattle.solar_calendars.specs.Julian.{julian_rules, is_julian_leap, years_before as count_before};
 
 use crate::twelve_months::twelve_months;
-use day_numbers::rules::{Month, RuledCalendar, date_by_rules, day_by_rules};
+use day_numbers::rules::{RuledCalendar, Year, date_by_rules, day_by_rules};
 use day_numbers::{ArithmeticCalendar, DateFault, Day, Ymd};
 
 /// The Julian calendar (Reingold and Dershowitz, *Calendrical Calculations*, "The Julian Calendar").
@@ -53,6 +53,28 @@ fn year_after(before: i64) -> i32
     }
 }
 
+/// The fixed day number of 1 January of the year.
+fn first_of_year(year: i32) -> i64
+    requires has { HasYear without_zero year }
+    requires near { IsYear year }
+    ensures value { result ≡ start julian_rules year }
+    ensures near { IsBetween (neg_ℤ (pos 100_000_000)) (pos 100_000_000) result }
+{
+    let before = years_before(year);
+    365 * before + before.div_euclid(4) - 1
+}
+
+/// The year that the day with this fixed day number lies in.
+fn year_on(day: i64) -> i32
+    requires { IsDayNumber day }
+    ensures has { HasYear without_zero result }
+    ensures near { IsYear result }
+    ensures after { start julian_rules result ≤ℤ day }
+    ensures before { day <ℤ (start julian_rules result +ℤ pos (year_length julian_rules result)) }
+{
+    year_after((4 * day + 7).div_euclid(1461))
+}
+
 impl RuledCalendar for Julian {
     ghost rules = { julian_rules };
 
@@ -64,17 +86,16 @@ impl RuledCalendar for Julian {
         true
     }
 
-    fn year_start(&self, year: i32) -> i64 {
-        let before = years_before(year);
-        365 * before + before.div_euclid(4) - 1
+    fn year(&self, number: i32) -> Year {
+        Year {
+            number,
+            start: first_of_year(number),
+            months: twelve_months(is_leap(number)),
+        }
     }
 
-    fn months(&self, year: i32) -> &'static [Month] {
-        twelve_months(is_leap(year))
-    }
-
-    fn year_on(&self, day: i64) -> i32 {
-        year_after((4 * day + 7).div_euclid(1461))
+    fn year_with(&self, day: i64) -> Year {
+        self.year(year_on(day))
     }
 }
 

@@ -1,7 +1,7 @@
 use Rattle.std.proofs.Common.{arith, rules, to_z-of_z, FitsSigned, w16, w32, w64}
 use Rattle.day_numbers.proofs.SignedArithmetic.{signed_arith}
 use Rattle.solar_calendars.proofs.GregorianLemmas.{jiff_in_year}
-use Rattle.solar_calendars.proofs.gregorian.GregorianRuledCalendar.year_on.Goals as goal
+use Rattle.solar_calendars.proofs.gregorian.year_on.Goals as goal
 
 pub returns-clause-before : goal.returns-clause-before
 returns-clause-before c =

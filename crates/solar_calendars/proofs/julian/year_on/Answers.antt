@@ -1,7 +1,7 @@
 use Rattle.std.proofs.Common.{arith, rules, to_z-of_z, FitsSigned, w32, w64}
 use Rattle.day_numbers.proofs.SignedArithmetic.{signed_arith}
 use Rattle.solar_calendars.proofs.JulianLemmas.{julian_year_on}
-use Rattle.solar_calendars.proofs.julian.JulianRuledCalendar.year_on.Goals as goal
+use Rattle.solar_calendars.proofs.julian.year_on.Goals as goal
 
 pub returns-clause-after : goal.returns-clause-after
 returns-clause-after c =

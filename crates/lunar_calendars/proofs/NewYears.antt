@@ -3,7 +3,7 @@ use Rattle.std.proofs.Common.{◌≡◌, ℕ, zero, suc, ◌+◌, ◌-◌, ◌*�
 use Rattle.std.proofs.lemmas.Bool.Decides.{nat_tests}
 use Rattle.day_numbers.specs.Days.{weekday_number}
 use Rattle.day_numbers.proofs.SignedArithmetic.{signed_arith}
-use Rattle.lunar_calendars.specs.Hebrew.{is_leap_year, months_before, epoch, next_allowed, from_noon, postponed, new_year_of}
+use Rattle.lunar_calendars.specs.Hebrew.{is_leap_year, months_before, epoch, next_allowed, postponed, new_year_of}
 use Rattle.lunar_calendars.proofs.MonthSums.{months_closed}
 
 weekday_after : (d : ℕ) → weekday_number (epoch +ℤ pos d) ≡ (d + 1) % 7

@@ -5,7 +5,7 @@ use Rattle.date_texts.specs.declared.calendar.Calendar.{Calendar}
 use Rattle.date_texts.specs.declared.calendar.Target.{Target}
 use Rattle.date_texts.specs.declared.date.Date.{Date}
 use Rattle.date_texts.specs.declared.calendar.TheConstants.Target.{ALL}
-use Rattle.date_texts.specs.Calendars.{calendar_name, all_targets}
+use Rattle.date_texts.specs.Calendars.{calendar_name, target_name, all_targets}
 use Rattle.date_texts.specs.Cells.{IsCell, is_plain}
 use Rattle.date_texts.specs.Dates.{calendar_of_date}
 use Rattle.date_texts.specs.DateText.{IsDateText, canonical_text}
@@ -14,6 +14,10 @@ use Rattle.date_texts.specs.Names.{IsNamed}
 -- a text names one calendar at most
 abbrev pub OneCalendar : Type 0
 OneCalendar = (text : List ℕ) (c e : Calendar) → IsNamed text (calendar_name c) → IsNamed text (calendar_name e) → c ≡ e
+
+-- a text names one target at most
+abbrev pub OneTarget : Type 0
+OneTarget = (text : List ℕ) (t u : Target) → IsNamed text (target_name t) → IsNamed text (target_name u) → t ≡ u
 
 -- a text says one date of a calendar at most
 abbrev pub OneDateText : Type 0

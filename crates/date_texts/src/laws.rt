@@ -1,10 +1,15 @@
 //! Laws of names, date texts, cells and lists of targets, for the proofs of what stands on them.
 
-ghost use Rattle.date_texts.specs.Laws.{CanonicalTextsReadBack, CellsArePlain, DefaultTargets, FewTargets, OneCalendar, OneCell, OneDateText};
+ghost use Rattle.date_texts.specs.Laws.{CanonicalTextsReadBack, CellsArePlain, DefaultTargets, FewTargets, OneCalendar, OneCell, OneDateText, OneTarget};
 
 /// A text names one calendar at most.
 pub fn one_calendar()
     ensures { OneCalendar }
+{}
+
+/// A text names one target at most.
+pub fn one_target()
+    ensures { OneTarget }
 {}
 
 /// A text says one date of a calendar at most.

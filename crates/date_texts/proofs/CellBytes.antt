@@ -1,16 +1,14 @@
 -- The bytes of cells.
-use Rattle.std.proofs.Common.{◌≡◌, ℕ, zero, suc, ◌+◌, ◌-◌, ◌≤◌, ◌%◌, ◌/◌, List, [], ◌∷◌, ◌++◌, Bool, true, ◌&&◌, IsTrue, ℤ, pos, ◌+ℤ◌, ◌-ℤ◌, refl, subst, arith}
+use Rattle.std.proofs.Common.{◌≡◌, ℕ, zero, suc, ◌-◌, ◌≤◌, List, [], ◌∷◌, ◌++◌, Bool, true, ◌&&◌, IsTrue, ℤ, refl, arith}
 use Rattle.std.specs.Prelude.{slice_get, unwrap_or}
 use Rattle.std.specs.Char.{is_ascii_digit}
 use Rattle.std.specs.Fmt.{decimal}
 use Rattle.std.specs.List.{list_all}
 use Rattle.std.proofs.lemmas.Bool.Decides.{nat_tests}
 use Rattle.std.proofs.lemmas.List.Folds.{list_all-append}
-use Rattle.maya_calendars.specs.Rounds.{epoch, round_number}
 use Rattle.maya_calendars.specs.HaabNames.{haab_of, month_names, month_name}
 use Rattle.maya_calendars.specs.TzolkinNames.{tzolkin_of, name_texts, name_text}
-use Rattle.maya_calendars.proofs.RoundLemmas.{place_below, round_number_is}
-use Rattle.maya_calendars.proofs.HaabLemmas.{haab_is}
+use Rattle.maya_calendars.specs.Laws.{HaabDaysInRange, TzolkinNumbersInRange}
 use Rattle.date_texts.specs.declared.calendar.Calendar.{Calendar}
 use Rattle.date_texts.specs.declared.calendar.Target.TheVariants.{Date as DateTarget, Haab, Tzolkin}
 use Rattle.date_texts.specs.declared.date.Date.{Date}
@@ -94,20 +92,8 @@ numbered_plain : (number : ℕ) (name : List ℕ) → number ≤ 99 → ArePlain
 numbered_plain number name small h =
     joined_plain (decimal number) (32 ∷ name) (numeral_plain (decimal_numeral 2 number (omega arith) (omega arith) (omega arith))) h
 
-haab_day_small : (n : ℤ) → (haab_of n).0 ≤ 99
-haab_day_small n =
-    let number = round_number 365 349 n in
-    let place = number - 1 in
-    let small : place % 20 ≤ 99 = omega arith in
-    subst (λ h. h.0 ≤ 99) (haab_is n number place (place % 20) (place / 20 + 1) refl refl refl refl) small
-
-tzolkin_number_small : (n : ℤ) → (tzolkin_of n).0 ≤ 99
-tzolkin_number_small n =
-    let below = place_below 13 ((n -ℤ epoch) +ℤ pos 3) (omega arith) in
-    subst (λ k. k ≤ 99) (round_number_is 13 3 4 n refl (omega arith)) (omega (arith, below))
-
 -- the bytes of a cell are digits and letters of ASCII, spaces, dashes and dots
-pub cells_are_plain : CellsArePlain
-cells_are_plain (DateTarget c) n text h = date_cell_plain c n text h
-cells_are_plain Haab n text h = rw h (numbered_plain (haab_of n).0 _ (haab_day_small n) (month_plain (haab_of n).1))
-cells_are_plain Tzolkin n text h = rw h (numbered_plain (tzolkin_of n).0 _ (tzolkin_number_small n) (name_plain (tzolkin_of n).1))
+pub cells_are_plain : HaabDaysInRange → TzolkinNumbersInRange → CellsArePlain
+cells_are_plain days numbers (DateTarget c) n text h = date_cell_plain c n text h
+cells_are_plain days numbers Haab n text h = rw h (numbered_plain (haab_of n).0 _ (omega (arith, days n)) (month_plain (haab_of n).1))
+cells_are_plain days numbers Tzolkin n text h = rw h (numbered_plain (tzolkin_of n).0 _ (omega (arith, numbers n)) (name_plain (tzolkin_of n).1))

@@ -2,6 +2,8 @@
 
 ghost use Rattle.date_texts.specs.Laws.{CanonicalTextsReadBack, CellsArePlain, DefaultTargets, FewTargets, OneCalendar, OneCell, OneDateText, OneTarget};
 
+use maya_calendars::laws::{haab_days_in_range, tzolkin_numbers_in_range};
+
 /// A text names one calendar at most.
 pub fn one_calendar()
     ensures { OneCalendar }
@@ -30,7 +32,10 @@ pub fn one_cell()
 /// The bytes of a cell are digits and letters of ASCII, spaces, dashes and dots.
 pub fn cells_are_plain()
     ensures { CellsArePlain }
-{}
+{
+    haab_days_in_range();
+    tzolkin_numbers_in_range();
+}
 
 /// Targets of which none stands at two places are thirteen at most.
 pub fn few_targets()

@@ -139,7 +139,7 @@ long_trimmed text p q r s t h =
 civil_reads_back : (weeks : Bool) (text : List ℕ) (z : ℤ) (m d : ℕ) → IsCivilText weeks text z m d → IsCivilText weeks (trimmed text) z m d
 civil_reads_back weeks text z m d is = rw (civil_trimmed weeks text z m d is) is
 
-canonical_is : (weeks : Bool) (d : Ymd) → IsCivilText weeks (cond weeks (canonical_week d.year d.month d.day) (canonical_civil d.year d.month d.day)) d.year d.month d.day
+pub canonical_is : (weeks : Bool) (d : Ymd) → IsCivilText weeks (cond weeks (canonical_week d.year d.month d.day) (canonical_civil d.year d.month d.day)) d.year d.month d.day
 canonical_is true d = canonical_week_is d.year d.month d.day d.year_in d.month_in d.day_in
 canonical_is false d = canonical_civil_is d.year d.month d.day d.year_in d.month_in d.day_in
 

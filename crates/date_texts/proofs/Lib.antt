@@ -5,3 +5,4 @@ pub mod CellLemmas
 pub mod TargetPlaces
 pub mod TargetCount
 pub mod TargetNames
+pub mod CellBytes

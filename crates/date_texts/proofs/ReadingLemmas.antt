@@ -263,6 +263,13 @@ long_joined text a x b y c z d w e h i j k l = rw (h, i, j, k, l) refl
 Places : Type 0
 Places = ℕ × ℕ × ℕ × ℕ × ℕ
 
+same_places : (a b c d e p q r s t : ℕ) → ◌≡◌ {A = Places} (a, b, c, d, e) (p, q, r, s, t) → (a ≡ p) × (b ≡ q) × (c ≡ r) × (d ≡ s) × (e ≡ t)
+unfolding Places
+same_places a b c d e p q r s t h = (ap (λ x. x.0) h, ap (λ x. x.1) h, ap (λ x. x.2) h, ap (λ x. x.3) h, ap (λ x. x.4) h)
+
+spelled : (ds : List ℕ) (n p : ℕ) → n ≡ p → IsNumeral 4 ds n → IsNumeral 4 ds p
+spelled ds n p h is = subst (IsNumeral 4 ds) h is
+
 pub long_read : (bytes : List ℕ) (p q r s t : ℕ) → long_at bytes ≡ Some (p, q, r, s, t) → IsLongText bytes p q r s t
 unfolding long_at Places
 long_read bytes p q r s t e =
@@ -272,17 +279,18 @@ long_read bytes p q r s t e =
     let c = place_read {B = Places} b.1 (λ u x3. number_at 3 x3 >>= λ v. after_byte 46 v.1 >>= λ x4. number_at 3 x4 >>= λ w. all_read w.1 (a.0, b.0, u, v.0, w.0)) y b.3 in
     let d = place_read {B = Places} c.1 (λ v x4. number_at 3 x4 >>= λ w. all_read w.1 (a.0, b.0, c.0, v, w.0)) y c.3 in
     let f = final_read {B = Places} d.1 (λ w. (a.0, b.0, c.0, d.0, w)) y d.3 in
+    let same = same_places a.0 b.0 c.0 d.0 f.0 p q r s t f.4 in
     record {
       baktun_text = a.2.ds;
       katun_text = b.2.ds;
       tun_text = c.2.ds;
       uinal_text = d.2.ds;
       kin_text = f.1;
-      is_baktun = subst (IsNumeral 4 a.2.ds) (ap (λ x. x.0) f.4) a.2.numeral;
-      is_katun = subst (IsNumeral 4 b.2.ds) (ap (λ x. x.1) f.4) b.2.numeral;
-      is_tun = subst (IsNumeral 4 c.2.ds) (ap (λ x. x.2) f.4) c.2.numeral;
-      is_uinal = subst (IsNumeral 4 d.2.ds) (ap (λ x. x.3) f.4) d.2.numeral;
-      is_kin = subst (IsNumeral 4 f.1) (ap (λ x. x.4) f.4) f.2;
+      is_baktun = spelled a.2.ds a.0 p same.0 a.2.numeral;
+      is_katun = spelled b.2.ds b.0 q same.1 b.2.numeral;
+      is_tun = spelled c.2.ds c.0 r same.2 c.2.numeral;
+      is_uinal = spelled d.2.ds d.0 s same.3 d.2.numeral;
+      is_kin = spelled f.1 f.0 t same.4 f.2;
       joined = long_joined bytes a.2.ds a.1 b.2.ds b.1 c.2.ds c.1 d.2.ds d.1 f.1 a.2.joined b.2.joined c.2.joined d.2.joined f.3;
     }
 

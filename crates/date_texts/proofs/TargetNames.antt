@@ -8,7 +8,7 @@ use Rattle.date_texts.specs.declared.calendar.Calendar.TheVariants.{Gregorian, I
 use Rattle.date_texts.specs.declared.calendar.Target.{Target}
 use Rattle.date_texts.specs.declared.calendar.Target.TheVariants.{Date, Haab, Tzolkin}
 use Rattle.date_texts.specs.Calendars.{calendar_name, target_name, all_targets}
-use Rattle.date_texts.specs.Laws.{OneCalendar}
+use Rattle.date_texts.specs.Laws.{OneCalendar, OneTarget}
 use Rattle.date_texts.specs.Names.{IsNamed}
 use Rattle.date_texts.specs.Trimmed.{trimmed}
 use Rattle.date_texts.proofs.ReadingLemmas.{some_inside}
@@ -102,8 +102,11 @@ is_date Tzolkin = false
 pub other_is_named : (o : Option Target) (text : List ℕ) (u : Target) → ((t : Target) → (o ≡ Some t) ↔ IsNamed text (target_name t)) → o ≡ Some u → is_date u ≡ false → (e : Calendar) → (◌≡◌ {A = Option Calendar} None (Some e)) ↔ IsNamed text (calendar_name e)
 other_is_named o text u h p other e = (λ q. absurd (no_some q), λ q. absurd (true_no_false (ap is_date (some_inside (sym ((h (Date e)).1 q) ∙ p)) ∙ other)))
 
-one_target : (t u : Target) → target_name t ≡ target_name u → t ≡ u
-one_target t u e = some_inside (sym (finds_own t) ∙ ap target_by_name e ∙ finds_own u)
+same_target : (t u : Target) → target_name t ≡ target_name u → t ≡ u
+same_target t u e = some_inside (sym (finds_own t) ∙ ap target_by_name e ∙ finds_own u)
+
+pub one_target : OneTarget
+one_target text t u h k = same_target t u (sym h ∙ k)
 
 pub one_calendar : OneCalendar
-one_calendar text c e h k = inside (one_target (Date c) (Date e) (sym h ∙ k))
+one_calendar text c e h k = inside (one_target text (Date c) (Date e) h k)

@@ -1,5 +1,6 @@
 -- The cell of a day in the column of a target: a definition of this project, over the calendars' own rules.
-use Rattle.std.specs.Prelude.{◌≡◌, ℕ, ℤ, List, [], ◌∷◌, ◌++◌}
+use Rattle.std.specs.Prelude.{◌≡◌, ◌==◌, ◌||◌, Bool, ℕ, ℤ, List, [], ◌∷◌, ◌++◌}
+use Rattle.std.specs.Char.{is_ascii_alphanumeric}
 use Rattle.std.specs.Fmt.{decimal}
 use Rattle.day_numbers.specs.Days.{IsSinceFirstDay}
 use Rattle.maya_calendars.specs.HaabNames.{haab_of, month_name}
@@ -35,3 +36,7 @@ abbrev pub IsCell : Target → ℤ → List ℕ → Type 0
 IsCell (DateTarget calendar) n text = IsDateCell calendar n text
 IsCell Haab n text = text ≡ haab_text (haab_of n)
 IsCell Tzolkin n text = text ≡ tzolkin_text (tzolkin_of n)
+
+-- a byte that cells are made of: a digit or a letter of ASCII, a space (32), a dash (45) or a dot (46)
+abbrev pub is_plain : ℕ → Bool
+is_plain c = is_ascii_alphanumeric c || ((c == 32) || ((c == 45) || (c == 46)))

@@ -1,10 +1,17 @@
 //! Laws of names, date texts, cells and lists of targets, for the proofs of what stands on them.
 
-ghost use Rattle.date_texts.specs.Laws.{CanonicalTextsReadBack, DefaultTargets, FewTargets, OneCalendar, OneCell, OneDateText};
+ghost use Rattle.date_texts.specs.Laws.{CanonicalTextsReadBack, CellsArePlain, DefaultTargets, FewTargets, OneCalendar, OneCell, OneDateText, OneTarget};
+
+use maya_calendars::laws::{haab_days_in_range, tzolkin_numbers_in_range};
 
 /// A text names one calendar at most.
 pub fn one_calendar()
     ensures { OneCalendar }
+{}
+
+/// A text names one target at most.
+pub fn one_target()
+    ensures { OneTarget }
 {}
 
 /// A text says one date of a calendar at most.
@@ -21,6 +28,14 @@ pub fn canonical_texts_read_back()
 pub fn one_cell()
     ensures { OneCell }
 {}
+
+/// The bytes of a cell are digits and letters of ASCII, spaces, dashes and dots.
+pub fn cells_are_plain()
+    ensures { CellsArePlain }
+{
+    haab_days_in_range();
+    tzolkin_numbers_in_range();
+}
 
 /// Targets of which none stands at two places are thirteen at most.
 pub fn few_targets()

@@ -7,6 +7,7 @@
 
 mod epoch;
 mod haab;
+pub mod laws;
 mod long_count;
 mod long_days;
 mod round;

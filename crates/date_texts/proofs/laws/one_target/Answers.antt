@@ -1,0 +1,5 @@
+use Rattle.date_texts.proofs.TargetNames.{one_target}
+use Rattle.date_texts.proofs.laws.one_target.Goals as goal
+
+pub returns : goal.returns
+returns c = one_target

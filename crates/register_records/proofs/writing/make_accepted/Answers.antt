@@ -25,8 +25,8 @@ push_plain-requires-in-cells c =
     let row = c.args.row.now in
     let here = rw c.cells-cell-items.ensures.value at c.cell-item.is in
     let plain = ∥∥₁_elim c.cells-cell-items.ensures.row (Bool-set _ _) (λ (is : IsRowOf (row_targets row) (entry_seen (row_entry row)) (row_seen row)).
-        plain-cell c.cells_are_plain.ensures (line_delimiter c.cells.line) c.cells.line.separated c.args.day.number (row_targets row) (row_cells row) c.cells.cell-index c.cell-item.result
-        (rw (← c.cells-cell-items.ensures.value) c.cells-test.true) (rw c.requires at is.cells)) in
+    plain-cell c.cells_are_plain.ensures (line_delimiter c.cells.line) c.cells.line.separated c.args.day.number (row_targets row) (row_cells row) c.cells.cell-index c.cell-item.result
+    (rw (← c.cells-cell-items.ensures.value) c.cells-test.true) (rw c.requires at is.cells)) in
     rw (c.as_bytes-in-cells.ensures.value, c.as_str.ensures.value) (rw (← here) at plain)
 
 pub cells-init : goal.cells-init

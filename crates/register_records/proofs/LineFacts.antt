@@ -3,10 +3,13 @@ use Rattle.std.proofs.Common.{◌≡◌, ◌<◌, ◌≤◌, ◌+◌, ◌^◌, �
 use Rattle.std.specs.Prelude.{ℤ, pos, negsuc, zero, suc, Ok, Err}
 use Rattle.std.specs.Fmt.{decimal, signed_decimal}
 use Rattle.std.proofs.lemmas.Int.{ints}
+use Rattle.std.proofs.lemmas.Bool.{and_parts}
 use Rattle.std.proofs.lemmas.Bool.Decides.{nat_tests}
 use Rattle.std.proofs.lemmas.Fmt.{decimal_by_steps}
 use Rattle.std.proofs.lemmas.List.{map-append, take_more}
 use Rattle.std.proofs.lemmas.List.Folds.{list_any-append}
+use Rattle.std.specs.List.{list_all}
+use Rattle.arrayvec.specs.ArrayString.{ArrayString}
 use Rattle.csv.specs.Writing.{field_text, fields_text, is_blank, needs_byte, needs_quotes, row_body}
 use Rattle.csv.proofs.WriteFacts.{fields-snoc}
 use Rattle.day_numbers.specs.Days.{IsDayNumber, weekday_name, weekday_number, weekday_place}
@@ -14,7 +17,10 @@ use Rattle.day_numbers.specs.declared.day.Weekday.{Weekday}
 use Rattle.day_numbers.specs.declared.day.Weekday.TheVariants.{Sunday, Monday, Tuesday, Wednesday, Thursday, Friday, Saturday}
 use Rattle.register_records.specs.Lines.{line_text, writing}
 use Rattle.register_records.specs.SetupRules.{is_delimiter}
-use Rattle.register_records.specs.Outcomes.{TableRow}
+use Rattle.register_records.specs.Outcomes.{AreCellsOn, TableRow}
+use Rattle.register_records.specs.Views.{cells_seen}
+use Rattle.date_texts.specs.Cells.{is_plain}
+use Rattle.date_texts.specs.Laws.{CellsArePlain}
 use Rattle.register_records.specs.Tables.{entry_fields, row_fields, weekday_at}
 use Rattle.date_texts.specs.Refusals.{refusal_number}
 use Rattle.date_texts.specs.declared.calendar.Target.{Target}
@@ -65,6 +71,23 @@ plain-decimal d h =
 pub plain-day : (d : ℕ) → is_delimiter d ≡ true → (z : ℤ) → IsDayNumber z → needs_quotes (writing d) (signed_decimal z) ≡ false
 plain-day d h (pos n) r = plain-decimal d h n (omega (arith, ints, r.0, r.1))
 plain-day d h (negsuc n) r = rw (plain-byte d 45 h (omega arith) (omega arith), plain-decimal d h (suc n) (omega (arith, ints, r.0, r.1))) refl
+
+-- the bytes of cells need no quotes
+plain-cell-byte : (d c : ℕ) → is_delimiter d ≡ true → is_plain c ≡ true → needs_byte (writing d) c ≡ false
+plain-cell-byte d c h p = grind (arith, nat_tests)
+
+plain-bytes : (d : ℕ) → is_delimiter d ≡ true → (text : List ℕ) → list_all is_plain text ≡ true → needs_quotes (writing d) text ≡ false
+plain-bytes d h [] p = refl
+plain-bytes d h (c ∷ text) p =
+    let both = and_parts (is_plain c) (list_all is_plain text) p in
+    rw (plain-cell-byte d c h both.0, plain-bytes d h text both.1) refl
+
+pub plain-cell : CellsArePlain → (d : ℕ) → is_delimiter d ≡ true → (n : ℤ) (targets : List Target) (cells : List ArrayString) (i : ℕ) (e : ArrayString) → i < length cells
+    → AreCellsOn n targets (cells_seen cells) → needs_quotes (writing d) (get_or cells i e).bytes ≡ false
+plain-cell law d h n targets [] i e lt are = absurd (omega arith)
+plain-cell law d h n [] (cell ∷ cells) i e lt are = absurd are
+plain-cell law d h n (target ∷ targets) (cell ∷ cells) zero e lt are = plain-bytes d h cell.bytes (law target n cell.bytes are.0)
+plain-cell law d h n (target ∷ targets) (cell ∷ cells) (suc i) e lt are = plain-cell law d h n targets cells i e (omega arith) are.1
 
 -- the name of a weekday, by its number
 pub weekday-name : (w : Weekday) (k : ℕ) → weekday_place w ≡ k → weekday_name w ≡ weekday_name (weekday_at k)

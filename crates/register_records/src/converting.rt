@@ -58,8 +58,8 @@ pub fn convert(entry: Entry, setup: &Setup) -> Row
     ensures targets { row_targets result ≡ targets_of setup.now }
     ensures row { IsRowOf (targets_of setup.now) (entry_seen entry) (row_seen result) }
 {
-    let outcome = day_of_body(entry.body());
     let mut cells = ShortList::new(ArrayString::new());
+    let outcome = day_of_body(entry.body());
     fill(&mut cells, setup.targets(), outcome);
     Row {
         entry,

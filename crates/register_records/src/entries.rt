@@ -149,12 +149,12 @@ fn read_body(row: &ByteRecord) -> Body
     if id.len() > ID_LIMIT || calendar.len() > CALENDAR_LIMIT || date.len() > DATE_LIMIT {
         return Body::Refused(Refusal::FieldTooLong);
     }
-    match (text(id), text(calendar), text(date)) {
-        (Some(id), Some(calendar), Some(date)) => Body::Fields {
-            id: copied(id),
-            calendar: copied(calendar),
-            date: copied(date),
-        },
-        _ => Body::Refused(Refusal::NotUtf8),
+    let (Some(id), Some(calendar), Some(date)) = (text(id), text(calendar), text(date)) else {
+        return Body::Refused(Refusal::NotUtf8);
+    };
+    Body::Fields {
+        id: copied(id),
+        calendar: copied(calendar),
+        date: copied(date),
     }
 }

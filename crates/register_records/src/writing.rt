@@ -15,6 +15,7 @@ use crate::lines::Line;
 use crate::outputs::{Output, OutputFault};
 use crate::rows::Row;
 use crate::setups::Setup;
+use date_texts::laws::cells_are_plain;
 use date_texts::{Refusal, Target};
 use day_numbers::Day;
 use itoa::Buffer;
@@ -94,8 +95,9 @@ fn make_accepted(line: &mut Line, row: &Row, day: Day) -> Result<(), AllocError>
     begin_line(line, row)?;
     line.push_plain(Buffer::new().format(day.number()).as_bytes())?;
     line.push_plain(day.weekday().name().as_bytes())?;
+    cells_are_plain();
     'cells: for cell in row.cells() {
-        line.push(cell.as_str().as_bytes())?;
+        line.push_plain(cell.as_str().as_bytes())?;
     }
     line.push_plain(b"")?;
     line.end()?;

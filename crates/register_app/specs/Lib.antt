@@ -1,3 +1,4 @@
+pub mod Faults
 pub mod OptionValues
 pub mod Requests
 pub mod Answers

@@ -1,12 +1,11 @@
 -- What the values of the options mean.
-use Rattle.std.specs.Prelude.{◌≡◌, ◌≢◌, ◌⊎◌, ◌==◌, ◌++◌, ℕ, List, [], ◌∷◌, codes, ⊤, Contains}
+use Rattle.std.specs.Prelude.{◌≡◌, ◌≢◌, ◌↔◌, ◌⊎◌, ◌==◌, ◌++◌, ℕ, List, [], ◌∷◌, codes, ⊤, Contains, Result, Ok, Err}
 use Rattle.std.specs.List.{slice_split}
 use Rattle.date_texts.specs.Calendars.{target_name}
 use Rattle.date_texts.specs.Names.{IsNamed}
 use Rattle.date_texts.specs.declared.calendar.Target.{Target}
 use Rattle.register_records.specs.SetupRules.{NamesTwice}
-use Rattle.register_app.specs.declared.refusals.Refusal.{Refusal}
-use Rattle.register_app.specs.declared.refusals.Refusal.TheVariants as refusal
+use Rattle.register_app.specs.Faults.{Fault, usage, unknown_target, target_twice, unknown_delimiter}
 
 -- the names in a list: what stands between its commas (44)
 abbrev pub names_in : List ℕ → List (List ℕ)
@@ -47,13 +46,21 @@ abbrev pub IsFirstTwice : List ℕ → Target → Type 0
 IsFirstTwice list target =
     (earlier : List Target) × (name : List ℕ) × StandsBehind list earlier name × IsNamed name (target_name target) × Contains earlier target
 
--- why a list is refused; want of memory says nothing of the list
-abbrev pub IsListFault : List ℕ → Refusal → Type 0
-IsListFault list refusal.OutOfMemory = ⊤
-IsListFault list (refusal.Usage error) = ⊥
-IsListFault list (refusal.UnknownTarget name) = IsFirstUnknown list name.now
-IsListFault list (refusal.TargetTwice target) = IsFirstTwice list target
-IsListFault list (refusal.UnknownDelimiter word) = ⊥
+-- what is wrong with a list
+abbrev pub IsListFault : List ℕ → Fault → Type 0
+IsListFault list (usage kind) = ⊥
+IsListFault list (unknown_target name) = IsFirstUnknown list name
+IsListFault list (target_twice target) = IsFirstTwice list target
+IsListFault list (unknown_delimiter word) = ⊥
+
+-- what a list means: the targets that it asks for, or what is wrong with it
+abbrev pub ListMeans : List ℕ → Result (List Target) Fault → Type 0
+ListMeans list (Ok targets) = AsksForTargets list targets
+ListMeans list (Err fault) = IsListFault list fault
+
+-- the list means this, and nothing else
+abbrev pub ListMeansJust : List ℕ → Result (List Target) Fault → Type 0
+ListMeansJust list meaning = (other : Result (List Target) Fault) → (other ≡ meaning) ↔ ListMeans list other
 
 -- the words for a comma (44), a semicolon (59) and a tab (9)
 abbrev pub IsDelimiterWord : List ℕ → ℕ → Type 0

@@ -1,10 +1,11 @@
 -- What the words after the program's name ask for.
-use Rattle.std.specs.Prelude.{◌≡◌, ◌≢◌, ℕ, List, [], codes, true, ⊤, Option, Some, None}
-use Rattle.clap.specs.Words.{App, IsAmong, Rule, Text, first_of, fault_of, kind_of, matches_of, new_app, new_rule, with_rule}
+use Rattle.std.specs.Prelude.{◌≡◌, ◌≢◌, ◌↔◌, ℕ, List, [], codes, true, Option, Some, None}
+use Rattle.clap.specs.Words.{App, IsAmong, Rule, Text, first_of, fault_of, matches_of, new_app, new_rule, with_rule}
 use Rattle.clap.specs.declared.error.kind.ErrorKind.TheVariants.{DisplayHelp}
 use Rattle.date_texts.specs.Calendars.{all_targets}
 use Rattle.date_texts.specs.declared.calendar.Target.{Target}
 use Rattle.register_records.specs.Setups.{delimiter_of, targets_of}
+use Rattle.register_app.specs.Faults.{Fault, usage, unknown_target, target_twice, unknown_delimiter}
 use Rattle.register_app.specs.OptionValues.{AsksForTargets, IsDelimiterWord, IsListFault}
 use Rattle.register_app.specs.declared.refusals.Refusal.{Refusal}
 use Rattle.register_app.specs.declared.refusals.Refusal.TheVariants as refusal
@@ -45,34 +46,48 @@ pub record AsksFor (words : List Text) (targets : List Target) (delimiter : ℕ)
 abbrev pub AskForHelp : List Text → Type 0
 AskForHelp words = IsAmong DisplayHelp (fault_of command_line words)
 
--- why the value of `--to` is refused; without it, only want of memory is
-abbrev pub IsTargetFault : Option Text → Refusal → Type 0
-IsTargetFault None r = r ≡ refusal.OutOfMemory
-IsTargetFault (Some list) r = IsListFault list r
-
--- why the value of `--delimiter` is refused: it is none of the words
-abbrev pub IsDelimiterFault : Option Text → Refusal → Type 0
-IsDelimiterFault value (refusal.UnknownDelimiter word) = (value ≡ Some word.now) × ((byte : ℕ) → ¬ IsDelimiterWord word.now byte)
-IsDelimiterFault value _ = ⊥
-
 -- the words are options as they are taken
 abbrev pub AreTaken : List Text → Type 0
 AreTaken words = fault_of command_line words ≡ []
 
--- this is why the words ask for nothing; want of memory says nothing of them
-abbrev pub IsRefusalOf : List Text → Refusal → Type 0
-IsRefusalOf words refusal.OutOfMemory = ⊤
-IsRefusalOf words (refusal.Usage error) = IsAmong (kind_of error) (fault_of command_line words) × (kind_of error ≢ DisplayHelp)
-IsRefusalOf words (refusal.UnknownTarget name) = AreTaken words × IsTargetFault (value_in words (codes "to")) (refusal.UnknownTarget name)
-IsRefusalOf words (refusal.TargetTwice target) = AreTaken words × IsTargetFault (value_in words (codes "to")) (refusal.TargetTwice target)
-IsRefusalOf words (refusal.UnknownDelimiter word) =
-    AreTaken words × ((targets : List Target) × AreTargetsOf (value_in words (codes "to")) targets)
-    × IsDelimiterFault (value_in words (codes "delimiter")) (refusal.UnknownDelimiter word)
+-- what is wrong with the value of `--to`; without it, nothing is
+abbrev pub IsTargetFault : Option Text → Fault → Type 0
+IsTargetFault None fault = ⊥
+IsTargetFault (Some list) fault = IsListFault list fault
 
--- the words ask for what was answered
-abbrev pub Asks : List Text → Request → Type 0
-Asks words request.Help = AskForHelp words
-Asks words (request.Convert setup) = AsksFor words (targets_of setup) (delimiter_of setup)
+-- what is wrong with the value of `--delimiter`: it is none of the words
+abbrev pub IsDelimiterFault : Option Text → Fault → Type 0
+IsDelimiterFault value (unknown_delimiter word) = (value ≡ Some word) × ((byte : ℕ) → ¬ IsDelimiterWord word byte)
+IsDelimiterFault value _ = ⊥
+
+-- what is wrong with the words: they are no options as they are taken; or they are, and the targets are at fault; or the targets are fine, and the delimiter is at fault
+abbrev pub IsFaultOf : List Text → Fault → Type 0
+IsFaultOf words (usage kind) = IsAmong kind (fault_of command_line words) × (kind ≢ DisplayHelp)
+IsFaultOf words (unknown_target name) = AreTaken words × IsTargetFault (value_in words (codes "to")) (unknown_target name)
+IsFaultOf words (target_twice target) = AreTaken words × IsTargetFault (value_in words (codes "to")) (target_twice target)
+IsFaultOf words (unknown_delimiter word) =
+    AreTaken words × ((targets : List Target) × AreTargetsOf (value_in words (codes "to")) targets)
+    × IsDelimiterFault (value_in words (codes "delimiter")) (unknown_delimiter word)
+
+-- what words can mean: they ask for help, or for a table of some targets with some delimiter, or something is wrong with them
+pub data Meaning : Type 0 where
+  help : Meaning
+  table : List Target → ℕ → Meaning
+  wrong : Fault → Meaning
+
+abbrev pub Mean : List Text → Meaning → Type 0
+Mean words help = AskForHelp words
+Mean words (table targets delimiter) = AsksFor words targets delimiter
+Mean words (wrong fault) = IsFaultOf words fault
+
+-- the words mean this, and nothing else
+abbrev pub MeanJust : List Text → Meaning → Type 0
+MeanJust words meaning = (other : Meaning) → (other ≡ meaning) ↔ Mean words other
+
+-- what an answered request stands for
+abbrev pub meaning_of : Request → Meaning
+meaning_of request.Help = help
+meaning_of (request.Convert setup) = table (targets_of setup) (delimiter_of setup)
 
 -- 3 for want of memory, and 2 for what is wrong with the words
 abbrev pub refusal_status : Refusal → ℕ

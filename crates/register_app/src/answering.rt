@@ -1,9 +1,9 @@
 // What the program answers.
 
-ghost use Rattle.std.specs.Prelude.{◌≡◌, ◌≢◌, ◌≤◌, ◌⊎◌, true, false, map};
+ghost use Rattle.std.specs.Prelude.{◌≡◌, ◌≢◌, ◌≤◌, ◌⊎◌, ◌↔◌, true, false, map};
 ghost use Rattle.std.specs.Io.KnownBytes.{Appends};
 ghost use Rattle.std.specs.String.{string_bytes};
-ghost use Rattle.register_app.specs.Answers.{GainsHelp, GainsPartAsked, GainsTableAsked, GainsWholeTable, IsRefused};
+ghost use Rattle.register_app.specs.Answers.{AreWrong, BreaksHelp, BreaksTableAsked, GainsHelp, GainsTableAsked, GainsWholeTable};
 ghost use Rattle.register_app.specs.Requests.{refusal_status};
 ghost use Rattle.register_records.specs.Setups.{delimiter_of, targets_of};
 ghost use Rattle.register_records.specs.Sources.{GainsPart};
@@ -129,12 +129,15 @@ pub fn answer<R: Read + Drop, W: Output, E: Output>(
         ⊎ GainsTableAsked (map string_bytes words.now) (R.remaining input) (W.contents output) (W.contents result.1) }
     ensures quiet { result.0 ≡ 0 → errors.new ≡ errors.old }
 
-    // Where the output has not failed it has gained a front of the table that the words ask for, or nothing.
-    ensures broken { result.0 ≡ 1 → W.has_failed result.1 ≡ false
-        → GainsPartAsked (map string_bytes words.now) (R.remaining input) (W.contents output) (W.contents result.1) }
+    // They ask for help and the output has failed, or they ask for a table and the output, where it has not
+    // failed, has gained a front of that table, or nothing.
+    ensures broken { result.0 ≡ 1
+        → BreaksHelp (map string_bytes words.now) (W.has_failed result.1)
+        ⊎ BreaksTableAsked (map string_bytes words.now) (R.remaining input) (W.has_failed result.1) (W.contents output) (W.contents result.1) }
 
-    ensures refused { result.0 ≡ 2 → IsRefused (map string_bytes words.now) × (result.1 ≡ output) }
-    ensures out_of_memory { result.0 ≡ 3 → result.1 ≡ output }
+    // Unless there was no memory, words are refused exactly where something is wrong with them.
+    ensures refused { result.0 ≢ 3 → (result.0 ≡ 2) ↔ AreWrong (map string_bytes words.now) }
+    ensures untouched { 2 ≤ result.0 → result.1 ≡ output }
     ensures statuses { result.0 ≤ 3 }
     ensures mark { W.own_mark result.1 ≡ W.own_mark output }
     ensures errors_mark { E.own_mark errors.new ≡ E.own_mark errors.old }

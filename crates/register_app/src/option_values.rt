@@ -1,9 +1,11 @@
 // The values of the options.
 
-ghost use Rattle.std.specs.Prelude.{◌≡◌, ◌↔◌, ℕ, Some, IfOk, IfErr};
-ghost use Rattle.register_app.specs.OptionValues.{AsksForTargets, IsDelimiterWord, IsListFault};
+ghost use Rattle.std.specs.Prelude.{◌≡◌, ◌↔◌, ℕ, Some, Ok, Err, IfOk, IfErr, IfSome};
+ghost use Rattle.register_app.specs.Faults.{fault_told};
+ghost use Rattle.register_app.specs.OptionValues.{IsDelimiterWord, ListMeansJust};
 
 use crate::refusals::Refusal;
+use date_texts::laws::one_target;
 use date_texts::{Target, target_named};
 use std::alloc::Global;
 
@@ -19,9 +21,10 @@ const NO_TARGET: &str = "none";
 /// `TargetTwice` for the first whose target was named before, whichever comes first. `OutOfMemory` where a
 /// growth of the targets is refused.
 pub fn read_targets(alloc: Global, list: &str) -> Result<Vec<Target>, Refusal<'_>>
-    ensures value { IfOk result (λ targets. AsksForTargets list.entry.now targets.items) }
-    ensures fault { IfErr result (λ refusal. IsListFault list.entry.now refusal) }
+    ensures value { IfOk result (λ targets. ListMeansJust list.entry.now (Ok targets.items)) }
+    ensures fault { IfErr result (λ refusal. IfSome (fault_told refusal) (λ fault. ListMeansJust list.entry.now (Err fault))) }
 {
+    one_target();
     let mut targets = Vec::new(alloc);
     if list == NO_TARGET {
         return Ok(targets);

@@ -1,17 +1,17 @@
 // What the words ask for.
 
-ghost use Rattle.std.specs.Prelude.{◌≡◌, IfOk, IfErr, map, codes, option_map, []};
+ghost use Rattle.std.specs.Prelude.{◌≡◌, IfOk, IfErr, IfSome, IsSomeAnd, map, codes, option_map, []};
 ghost use Rattle.std.specs.String.{string_bytes};
 ghost use Rattle.clap.specs.Words.{HasKind, app_of, fault_of};
-ghost use Rattle.register_app.specs.Requests.{AreTargetsOf, Asks, IsDelimiterFault, IsDelimiterOf, IsRefusalOf, IsTargetFault, command_line, value_in};
-ghost use Rattle.register_records.specs.Setups.{delimiter_of, targets_of};
+ghost use Rattle.register_app.specs.Faults.{fault_told};
+ghost use Rattle.register_app.specs.Requests.{AreTargetsOf, IsDelimiterFault, IsDelimiterOf, IsTargetFault, MeanJust, command_line, meaning_of, value_in, wrong};
 
 use crate::option_values::{delimiter_named, read_targets};
 use crate::refusals::Refusal;
 use clap::error::ErrorKind;
 use clap::{Arg, Command};
 use date_texts::Target;
-use date_texts::laws::default_targets;
+use date_texts::laws::{default_targets, one_target};
 use register_records::Setup;
 use std::alloc::{AllocError, Global};
 
@@ -70,7 +70,7 @@ fn read_options<'a>(alloc: Global, words: &'a [String]) -> Result<Options<'a>, c
 /// The targets that the value of `--to` asks for, or all of them where there is none.
 fn chosen_targets<'a>(alloc: Global, list: Option<&'a str>) -> Result<Vec<Target>, Refusal<'a>>
     ensures value { IfOk result (λ targets. AreTargetsOf (option_map (λ l. l.now) list.entry) targets.items) }
-    ensures fault { IfErr result (IsTargetFault (option_map (λ l. l.now) list.entry)) }
+    ensures fault { IfErr result (λ refusal. IfSome (fault_told refusal) (IsTargetFault (option_map (λ l. l.now) list.entry))) }
 {
     match list {
         Some(list) => read_targets(alloc, list),
@@ -87,7 +87,7 @@ fn chosen_targets<'a>(alloc: Global, list: Option<&'a str>) -> Result<Vec<Target
 /// The byte that the value of `--delimiter` names, or a comma where there is none.
 fn chosen_delimiter<'a>(word: Option<&'a str>) -> Result<u8, Refusal<'a>>
     ensures value { IfOk result (IsDelimiterOf (option_map (λ w. w.now) word.entry)) }
-    ensures fault { IfErr result (IsDelimiterFault (option_map (λ w. w.now) word.entry)) }
+    ensures fault { IfErr result (λ refusal. IsSomeAnd (fault_told refusal) (IsDelimiterFault (option_map (λ w. w.now) word.entry))) }
 {
     let Some(word) = word else {
         return Ok(b',');
@@ -106,18 +106,17 @@ fn chosen_delimiter<'a>(word: Option<&'a str>) -> Result<u8, Refusal<'a>>
 /// list of targets as [`read_targets`] has them, and `UnknownDelimiter`; and `OutOfMemory` where a growth of
 /// memory was refused on the way.
 pub fn read_request<'a>(alloc: Global, words: &'a [String]) -> Result<Request, Refusal<'a>>
-    ensures asked { IfOk result (Asks (map string_bytes words.entry.now)) }
-    ensures refused { IfErr result (IsRefusalOf (map string_bytes words.entry.now)) }
+    ensures asked { IfOk result (λ request. MeanJust (map string_bytes words.entry.now) (meaning_of request)) }
+    ensures refused { IfErr result (λ refusal. IfSome (fault_told refusal) (λ fault. MeanJust (map string_bytes words.entry.now) (wrong fault))) }
 {
+    one_target();
     let options = match read_options(alloc, words) {
         Ok(options) => options,
-        Err(error) => {
-            return match error.kind() {
-                ErrorKind::DisplayHelp => Ok(Request::Help),
-                ErrorKind::OutOfMemory => Err(Refusal::OutOfMemory),
-                _ => Err(Refusal::Usage(error)),
-            };
-        }
+        Err(error) => match error.kind() {
+            ErrorKind::DisplayHelp => return Ok(Request::Help),
+            ErrorKind::OutOfMemory => return Err(Refusal::OutOfMemory),
+            _ => return Err(Refusal::Usage(error)),
+        },
     };
     let targets = chosen_targets(alloc, options.to)?;
     let delimiter = chosen_delimiter(options.delimiter)?;

@@ -117,7 +117,7 @@ struct Line {
 /// The text that the command lines are run on.
 const TEXT: &[u8] = b"id,calendar,date\nb,julian,1582-10-05\n";
 
-const LINES: [Line; 25] = [
+const LINES: [Line; 17] = [
     // Every target, in the default order.
     Line {
         words: &[],
@@ -225,55 +225,6 @@ const LINES: [Line; 25] = [
         output: b"",
         errors: b"register: unknown target: x\n",
     },
-    // What clap refuses.
-    Line {
-        words: &["--bogus"],
-        status: 2,
-        output: b"",
-        errors: b"error: unexpected argument '--bogus' found\n\nUsage: register [OPTIONS]\n\nFor more information, try '--help'.\n",
-    },
-    Line {
-        words: &["parish.csv"],
-        status: 2,
-        output: b"",
-        errors: b"error: unexpected argument 'parish.csv' found\n\nUsage: register [OPTIONS]\n\nFor more information, try '--help'.\n",
-    },
-    Line {
-        words: &[""],
-        status: 2,
-        output: b"",
-        errors: b"error: unexpected argument '' found\n\nUsage: register [OPTIONS]\n\nFor more information, try '--help'.\n",
-    },
-    Line {
-        words: &["--ring", "4"],
-        status: 2,
-        output: b"",
-        errors: b"error: unexpected argument '--ring' found\n\nUsage: register [OPTIONS]\n\nFor more information, try '--help'.\n",
-    },
-    Line {
-        words: &["--to", "julian", "--to", "julian"],
-        status: 2,
-        output: b"",
-        errors: b"error: the argument '--to <LIST>' cannot be used multiple times\n\nUsage: register [OPTIONS]\n\nFor more information, try '--help'.\n",
-    },
-    Line {
-        words: &["--to"],
-        status: 2,
-        output: b"",
-        errors: b"error: a value is required for '--to <LIST>' but none was supplied\n\nFor more information, try '--help'.\n",
-    },
-    Line {
-        words: &["--to", "--delimiter", "tab"],
-        status: 2,
-        output: b"",
-        errors: b"error: a value is required for '--to <LIST>' but none was supplied\n\nFor more information, try '--help'.\n",
-    },
-    Line {
-        words: &["--to", "x", "--ring", "4"],
-        status: 2,
-        output: b"",
-        errors: b"error: unexpected argument '--ring' found\n\nUsage: register --to <LIST>\n\nFor more information, try '--help'.\n",
-    },
 ];
 
 #[test]
@@ -284,6 +235,63 @@ fn command_lines_get_their_answers(rt: HostRuntime) -> Result<(), Fail> {
         assert_eq!(rt; status, line.status);
         assert_eq!(rt; output.as_slice(), line.output);
         assert_eq!(rt; errors.as_slice(), line.errors);
+    }
+    Ok(())
+}
+
+/// A command line that is not written as the options are taken, and how the text about it begins.
+#[derive(Clone, Copy)]
+struct Misuse {
+    words: &'static [&'static str],
+    message: &'static [u8],
+}
+
+// The messages are clap's own.
+const MISUSES: [Misuse; 8] = [
+    Misuse {
+        words: &["--bogus"],
+        message: b"error: unexpected argument '--bogus' found\n",
+    },
+    Misuse {
+        words: &["parish.csv"],
+        message: b"error: unexpected argument 'parish.csv' found\n",
+    },
+    Misuse {
+        words: &[""],
+        message: b"error: unexpected argument '' found\n",
+    },
+    Misuse {
+        words: &["--ring", "4"],
+        message: b"error: unexpected argument '--ring' found\n",
+    },
+    Misuse {
+        words: &["--to", "julian", "--to", "julian"],
+        message: b"error: the argument '--to <LIST>' cannot be used multiple times\n",
+    },
+    Misuse {
+        words: &["--to"],
+        message: b"error: a value is required for '--to <LIST>' but none was supplied\n",
+    },
+    Misuse {
+        words: &["--to", "--delimiter", "tab"],
+        message: b"error: a value is required for '--to <LIST>' but none was supplied\n",
+    },
+    // What clap refuses is told before a fault of the targets.
+    Misuse {
+        words: &["--to", "x", "--ring", "4"],
+        message: b"error: unexpected argument '--ring' found\n",
+    },
+];
+
+#[test]
+fn misused_options_are_refused(rt: HostRuntime) -> Result<(), Fail> {
+    for misuse in &MISUSES {
+        let words = words_of(rt.alloc(), misuse.words)?;
+        let (status, output, errors) = run(rt.alloc(), words.as_slice(), TEXT);
+        assert_eq!(rt; status, 2);
+        assert!(rt; output.is_empty());
+        assert!(rt; errors.as_slice().starts_with(misuse.message));
+        assert!(rt; errors.as_slice().ends_with(b"\n"));
     }
     Ok(())
 }

@@ -263,8 +263,7 @@ long_joined text a x b y c z d w e h i j k l = rw (h, i, j, k, l) refl
 Places : Type 0
 Places = ℕ × ℕ × ℕ × ℕ × ℕ
 
-same_places : (a b c d e p q r s t : ℕ) → ◌≡◌ {A = Places} (a, b, c, d, e) (p, q, r, s, t) → (a ≡ p) × (b ≡ q) × (c ≡ r) × (d ≡ s) × (e ≡ t)
-unfolding Places
+same_places : (a b c d e p q r s t : ℕ) → ◌≡◌ {A = ℕ × ℕ × ℕ × ℕ × ℕ} (a, b, c, d, e) (p, q, r, s, t) → (a ≡ p) × (b ≡ q) × (c ≡ r) × (d ≡ s) × (e ≡ t)
 same_places a b c d e p q r s t h = (ap (λ x. x.0) h, ap (λ x. x.1) h, ap (λ x. x.2) h, ap (λ x. x.3) h, ap (λ x. x.4) h)
 
 spelled : (ds : List ℕ) (n p : ℕ) → n ≡ p → IsNumeral 4 ds n → IsNumeral 4 ds p

@@ -1,5 +1,5 @@
 -- A list means one thing at most.
-use Rattle.std.proofs.Common.{◌≡◌, ◌∙◌, ◌<◌, ◌+◌, ◌⊎◌, ℕ, List, [], ◌∷◌, ◌++◌, length, suc, zero, sym, ap, ap₂, refl, subst, arith, inl, inr, Option, Some, None, length-append, Result, Ok, Err}
+use Rattle.std.proofs.Common.{◌≡◌, ◌∙◌, ◌<◌, ◌⊎◌, ℕ, List, [], ◌∷◌, ◌++◌, length, suc, zero, sym, ap, ap₂, refl, subst, arith, inl, inr, Option, Some, None, length-append, Result, Ok, Err}
 use Rattle.std.specs.Prelude.{Contains, IfSome, slice_get, slice_index_or}
 use Rattle.date_texts.specs.Calendars.{target_name}
 use Rattle.date_texts.specs.Laws.{OneTarget}
@@ -7,7 +7,7 @@ use Rattle.date_texts.specs.Names.{IsNamed}
 use Rattle.date_texts.specs.declared.calendar.Target.{Target}
 use Rattle.register_records.specs.SetupRules.{NamesTwice}
 use Rattle.register_app.specs.Faults.{Fault, usage, unknown_target, target_twice, unknown_delimiter}
-use Rattle.register_app.specs.OptionValues.{AreNamesOf, AsksForTargets, IsListFault, ListMeans, ListMeansJust, StandsBehind, names_in}
+use Rattle.register_app.specs.OptionValues.{AreNamesOf, AsksForTargets, IsListFault, ListMeans, ListMeansJust, names_in}
 
 get_left : (earlier : List Target) (target : Target) (rest : List Target) (i : ℕ) → i < length earlier → slice_index_or earlier i target ≡ target
     → slice_get (earlier ++ target ∷ rest) i ≡ Some target
@@ -23,9 +23,13 @@ get_end (u ∷ us) target rest (suc i) is = get_end us target rest i (omega arit
 
 -- a target behind others that contain it is named twice
 twice_in : (earlier : List Target) (target : Target) (rest : List Target) → Contains earlier target → NamesTwice (earlier ++ target ∷ rest)
-twice_in earlier target rest among =
-    (among.0, length earlier, among.1, omega (arith, length-append earlier (target ∷ rest)),
-    get_left earlier target rest among.0 among.1 among.2 ∙ sym (get_end earlier target rest (length earlier) refl))
+twice_in earlier target rest among = (
+  among.0,
+  length earlier,
+  among.1,
+  omega (arith, length-append earlier (target ∷ rest)),
+  get_left earlier target rest among.0 among.1 among.2 ∙ sym (get_end earlier target rest (length earlier) refl),
+)
 
 -- names with a further one among them name a target there
 pub record NamedAt (before : List (List ℕ)) (name : List ℕ) (targets : List Target) : Type 0 where

@@ -1,5 +1,5 @@
 -- Words that ask for something have no fault beside it, and words that are refused have one.
-use Rattle.std.proofs.Common.{◌≡◌, rules, arith, inl, inr, map}
+use Rattle.std.proofs.Common.{rules, arith, inl, inr, map}
 use Rattle.std.specs.String.{string_bytes}
 use Rattle.register_app.specs.Requests.{MeanJust, help, table}
 use Rattle.register_records.specs.Setups.{delimiter_of, targets_of}
@@ -19,7 +19,7 @@ returns-in-Ok-Convert-clause-refused g c =
     let setup = c.in-Ok-Convert.setup in
     let just : MeanJust words (table (targets_of setup) (delimiter_of setup)) = search (rules, c.in-Ok-Convert.ensures.asked) in
     λ had. never_refused words (table (targets_of setup) (delimiter_of setup)) c.convert_text.result.0 just (λ fault e. cc)
-    (λ two. elim c.convert_text.ensures.statuses [ | inl zero ↦ absurd (omega (arith, two, zero)) | inr one ↦ absurd (omega (arith, two, one)) ])
+    (λ two. elim c.convert_text.ensures.statuses [ inl zero ↦ absurd (omega (arith, two, zero)) | inr one ↦ absurd (omega (arith, two, one)) ])
 
 pub returns-in-Err-clause-refused : goal.returns-in-Err-clause-refused
 returns-in-Err-clause-refused g c =

@@ -1,10 +1,10 @@
 -- What the words mean, and that it is all that they mean; it fits a setup.
-use Rattle.std.proofs.Common.{◌≡◌, ◌∙◌, rules, arith, refl, sym, subst, codes, map, List, ℕ, Option}
+use Rattle.std.proofs.Common.{◌∙◌, rules, refl, sym, subst, map, Option}
 use Rattle.std.specs.Prelude.{IfSome, IsSomeAnd}
 use Rattle.std.specs.String.{string_bytes}
 use Rattle.clap.proofs.TakesLemmas.{passed_up}
 use Rattle.clap.specs.Words.{Text}
-use Rattle.register_app.specs.Faults.{Fault, fault_told, usage}
+use Rattle.register_app.specs.Faults.{fault_told, usage}
 use Rattle.register_app.specs.Requests.{AreTargetsOf, AsksFor, IsDelimiterFault, IsTargetFault, MeanJust, help, table, wrong}
 use Rattle.register_app.specs.declared.refusals.Refusal.{Refusal}
 use Rattle.register_app.specs.declared.requests.Request.{Request}
@@ -24,7 +24,7 @@ returns-in_default c =
     record {
       asked = tt;
       refused = mean_just c.one_target.ensures words (wrong (usage _))
-      (misuses words c.in-Err.error c.in-Err.ensures.kinds (λ e. c.in_default.not-OutOfMemory (c.kind.ensures ∙ e)) (λ e. c.in_default.not-DisplayHelp (c.kind.ensures ∙ e)));
+          (misuses words c.in-Err.error c.in-Err.ensures.kinds (λ e. c.in_default.not-OutOfMemory (c.kind.ensures ∙ e)) (λ e. c.in_default.not-DisplayHelp (c.kind.ensures ∙ e)));
     }
 
 pub returns-in_err-targets-clause-refused : goal.returns-in_err-targets-clause-refused

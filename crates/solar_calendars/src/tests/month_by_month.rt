@@ -1,6 +1,7 @@
 //! Calendars month by month and week by week: each month begins on the day after the one before, and the
 //! first month of year 1 on the epoch. The lengths of the months are written out here a second time.
 
+use super::check;
 use crate::*;
 use day_numbers::{ArithmeticCalendar, DateFault, Day, Weekday, Ymd};
 use std::process::Abort;
@@ -19,11 +20,17 @@ trait MonthLengths: ArithmeticCalendar {
     fn lengths(&self, year: i32) -> &'static [u8];
 }
 
+fn is_gregorian_leap(year: i32) -> bool {
+    year.rem_euclid(4) == 0 && (year.rem_euclid(100) != 0 || year.rem_euclid(400) == 0)
+}
+
 impl MonthLengths for Gregorian {
     fn lengths(&self, year: i32) -> &'static [u8] {
-        let leap = year.rem_euclid(4) == 0
-            && (year.rem_euclid(100) != 0 || year.rem_euclid(400) == 0);
-        if leap { &ROMAN_LEAP } else { &ROMAN }
+        if is_gregorian_leap(year) {
+            &ROMAN_LEAP
+        } else {
+            &ROMAN
+        }
     }
 }
 
@@ -83,6 +90,28 @@ impl MonthLengths for French {
     }
 }
 
+/// The fixed day number of a date, from which a walk sets out.
+fn day_number<C: ArithmeticCalendar>(
+    calendar: &C,
+    year: i32,
+    month: u8,
+    day: u8,
+) -> Result<i64, Fail> {
+    let date = Ymd::new(year, month, day).ok_or("a date within its bounds")?;
+    Ok(calendar.day_of(date)?.number())
+}
+
+/// The date has this fixed day number, and is the date on that day; or there is no such date.
+fn check_number<C: ArithmeticCalendar>(
+    rt: &impl Abort,
+    calendar: &C,
+    (year, month, day): (i32, u8, u8),
+    number: Option<i64>,
+) -> Result<(), Fail> {
+    let date = Ymd::new(year, month, day).ok_or("a date within its bounds")?;
+    check(rt, calendar, date, number.ok_or(DateFault::NoSuchDate))
+}
+
 /// Walks through the months of the years from `first` to `last`: looks at the first and the last day of
 /// each, both ways, and at the days beside them, which are none of the month.
 fn walk<C: MonthLengths>(
@@ -95,30 +124,27 @@ fn walk<C: MonthLengths>(
     let mut expected = None;
     for year in first..=last {
         for (month, &length) in (1..=13).zip(calendar.lengths(year)) {
-            let date = Ymd::new(year, month, 1).ok_or("the first of a month")?;
-            let day = calendar.day_of(date)?;
-            assert_eq!(rt; calendar.date_on(day), Some(date));
+            let start = match expected {
+                Some(number) => number,
+                None => day_number(calendar, year, month, 1)?,
+            };
             if year == 1 && month == 1 {
-                assert_eq!(rt; day.number(), epoch);
+                assert_eq!(rt; start, epoch);
             }
-            if let Some(expected) = expected {
-                assert_eq!(rt; day.number(), expected, "at {year}-{month}");
-            }
-            let end = day.number() + length as i64 - 1;
-            let last_date = Ymd::new(year, month, length).ok_or("the last of a month")?;
-            let last_day = Day::new(end).ok_or("a day in range")?;
-            assert_eq!(rt; calendar.day_of(last_date), Ok(last_day));
-            assert_eq!(rt; calendar.date_on(last_day), Some(last_date));
-            expected = Some(last_day.number() + 1);
-            for none in [0, length.saturating_add(1)] {
-                let date = Ymd::new(year, month, none).ok_or("a day beside a month")?;
-                assert_eq!(rt; calendar.day_of(date), Err(DateFault::NoSuchDate));
-            }
+            let next = start.saturating_add(length as i64);
+            check_number(rt, calendar, (year, month, 0), None)?;
+            check_number(rt, calendar, (year, month, 1), Some(start))?;
+            check_number(
+                rt,
+                calendar,
+                (year, month, length),
+                Some(next.saturating_sub(1)),
+            )?;
+            check_number(rt, calendar, (year, month, length.saturating_add(1)), None)?;
+            expected = Some(next);
         }
-        for none in [0, 14] {
-            let date = Ymd::new(year, none, 1).ok_or("a month beside a year")?;
-            assert_eq!(rt; calendar.day_of(date), Err(DateFault::NoSuchDate));
-        }
+        check_number(rt, calendar, (year, 0, 1), None)?;
+        check_number(rt, calendar, (year, 14, 1), None)?;
     }
     Ok(())
 }
@@ -138,39 +164,34 @@ fn months_follow_each_other(rt: HostRuntime) -> Result<(), Fail> {
 /// A year of weeks has 53 of them where its 1 January is a Thursday, or a Wednesday of a leap year.
 fn weeks_of(year: i32) -> Result<u8, Fail> {
     let first = Ymd::new(year, 1, 1).ok_or("1 January")?;
-    let is_leap = Gregorian.lengths(year) == ROMAN_LEAP.as_slice();
     Ok(match Gregorian.day_of(first)?.weekday() {
         Weekday::Thursday => 53,
-        Weekday::Wednesday if is_leap => 53,
+        Weekday::Wednesday if is_gregorian_leap(year) => 53,
         _ => 52,
     })
 }
 
 /// Walks through the weeks: looks at the Monday and the Sunday of each, both ways, and at the week after
-/// the last.
+/// the last. Week 1 of year 1 begins on day 1.
 #[test]
 fn weeks_follow_each_other(rt: HostRuntime) -> Result<(), Fail> {
-    let mut expected = None;
+    let mut monday = day_number(&IsoWeek, -820, 1, 1)?;
     for year in -820..=820 {
+        if year == 1 {
+            assert_eq!(rt; monday, 1);
+        }
         let weeks = weeks_of(year)?;
         for week in 1..=weeks {
-            let monday = Ymd::new(year, week, 1).ok_or("a Monday")?;
-            let first = IsoWeek.day_of(monday)?;
-            assert_eq!(rt; IsoWeek.date_on(first), Some(monday));
-            if year == 1 && week == 1 {
-                assert_eq!(rt; first.number(), 1);
-            }
-            if let Some(expected) = expected {
-                assert_eq!(rt; first.number(), expected, "at {year}-W{week}");
-            }
-            let sunday = Ymd::new(year, week, 7).ok_or("a Sunday")?;
-            let last = Day::new(first.number() + 6).ok_or("a day in range")?;
-            assert_eq!(rt; IsoWeek.day_of(sunday), Ok(last));
-            assert_eq!(rt; IsoWeek.date_on(last), Some(sunday));
-            expected = Some(last.number() + 1);
+            check_number(&rt, &IsoWeek, (year, week, 1), Some(monday))?;
+            check_number(
+                &rt,
+                &IsoWeek,
+                (year, week, 7),
+                Some(monday.saturating_add(6)),
+            )?;
+            monday = monday.saturating_add(7);
         }
-        let none = Ymd::new(year, weeks.saturating_add(1), 1).ok_or("a week after the last")?;
-        assert_eq!(rt; IsoWeek.day_of(none), Err(DateFault::NoSuchDate));
+        check_number(&rt, &IsoWeek, (year, weeks.saturating_add(1), 1), None)?;
     }
     Ok(())
 }

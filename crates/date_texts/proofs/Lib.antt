@@ -6,3 +6,4 @@ pub mod TargetPlaces
 pub mod TargetCount
 pub mod TargetNames
 pub mod CellBytes
+pub mod WritingLemmas

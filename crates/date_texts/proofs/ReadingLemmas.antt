@@ -2,7 +2,7 @@
 use Rattle.std.proofs.Common.{◌≡◌, ℕ, zero, suc, ◌+◌, ◌-◌, ◌*◌, ◌^◌, ◌≤◌, ◌<◌, Bool, true, false, ◌&&◌, List, [], ◌∷◌, ◌++◌, length, ◌==◌, refl, sym, subst, ap, ◌∙◌, arith, IsTrue, cond, Option, Some, None, ℤ, pos, neg_ℤ}
 use Rattle.std.specs.Char.{is_ascii_digit}
 use Rattle.std.specs.Fmt.{decimal}
-use Rattle.std.proofs.Common.{rules, negsuc, replicate, length-append, append_assoc}
+use Rattle.std.proofs.Common.{rules, get_or, take, drop, negsuc, replicate, length-append, append_assoc}
 use Rattle.std.proofs.lemmas.List.{length-replicate}
 use Rattle.std.proofs.lemmas.Fmt.{digits_decimal, digits_value-decimal, length-decimal-le, decimal_nonempty}
 use Rattle.std.proofs.lemmas.Str.Parse.{IsNumeralModel, numerals_by_fold}
@@ -10,6 +10,7 @@ use Rattle.day_numbers.specs.Days.{IsBetween}
 use Rattle.maya_calendars.specs.Places.{ArePlaces}
 use Rattle.std.proofs.lemmas.Int.{ints}
 use Rattle.std.proofs.Common.{append-nil}
+use Rattle.std.proofs.Math.Seq.{take-length}
 use Rattle.std.proofs.lemmas.Bool.Decides.{nat_tests}
 use Rattle.date_texts.specs.DateText.{all_digits, value_after, IsNumeral, IsYearText, plain, minus, IsMark, of_month, capital_letter, small_letter, IsCivilText, IsLongText, padded, canonical_year, canonical_civil, canonical_week, canonical_long}
 use Rattle.date_texts.specs.Reading.{digits_at, number_at, after_byte, year_at, after_week_letter, after_mark, civil_at, long_at, all_read, as_year, as_year_before_zero, ◌>>=◌}
@@ -19,10 +20,24 @@ abbrev pub NoDigitFirst : List ℕ → Type 0
 NoDigitFirst [] = Unit {0}
 NoDigitFirst (c ∷ cs) = is_ascii_digit c ≡ false
 
-digits_stop : (k n : ℕ) (x : List ℕ) → NoDigitFirst x → digits_at k n x ≡ (n, x)
+pub digits_stop : (k n : ℕ) (x : List ℕ) → NoDigitFirst x → digits_at k n x ≡ (n, x)
 digits_stop zero n x h = refl
 digits_stop (suc k) n [] h = refl
 digits_stop (suc k) n (c ∷ cs) h = rw h
+
+-- a digit is read, and then the others
+pub digits_step : (k n : ℕ) (bytes : List ℕ) → 1 ≤ k → 1 ≤ length bytes → is_ascii_digit (get_or bytes 0 0) ≡ true
+    → digits_at (k - 1) (10 * n + (get_or bytes 0 0 - 48)) (take (length bytes - 1) (drop 1 bytes)) ≡ digits_at k n bytes
+digits_step k n [] some long e = absurd (omega arith)
+digits_step zero n (c ∷ cs) some long e = absurd (omega arith)
+digits_step (suc k) n (c ∷ cs) some long e =
+    let less : suc k - 1 ≡ k = omega arith in
+    let whole : length (c ∷ cs) - 1 ≡ length cs = omega arith in
+    rw (less, whole, take-length, e) refl
+
+pub no_digit_first : (bytes : List ℕ) → is_ascii_digit (get_or bytes 0 0) ≡ false → NoDigitFirst bytes
+no_digit_first [] e = tt
+no_digit_first (c ∷ cs) e = e
 
 pub both_true : (a b : Bool) → IsTrue (a && b) → (a ≡ true) × IsTrue b
 both_true true b h = (refl, h)

@@ -19,15 +19,21 @@ fn digits_at(more: u8, number: u32, bytes: &[u8]) -> (u32, &[u8])
     ensures value { (result.0, result.1.now) ≡ digits_spec more number bytes.now }
     ensures small { result.0 < (number + 1) * 10 ^ more }
 {
-    if more == 0 {
-        return (number, bytes);
-    }
-    match bytes {
-        [digit, rest @ ..] if digit.is_ascii_digit() => {
-            digits_at(more - 1, 10 * number + (*digit - b'0') as u32, rest)
+    let mut left = more;
+    let mut value = number;
+    let mut rest = bytes;
+    while left > 0 {
+        let [digit, after @ ..] = rest else {
+            return (value, rest);
+        };
+        if !digit.is_ascii_digit() {
+            return (value, rest);
         }
-        _ => (number, bytes),
+        value = 10 * value + (*digit - b'0') as u32;
+        rest = after;
+        left -= 1;
     }
+    (value, rest)
 }
 
 /// A number of one to `more + 1` digits at the front, and the bytes after it.

@@ -11,20 +11,15 @@ use arrayvec::ArrayString;
 use itoa::Buffer;
 use maya_calendars::LongCount;
 
-/// Appends a number in decimal, with zeros before it up to a width.
-fn push_padded(text: &mut ArrayString<24>, width: usize, number: u32)
-    requires room { array_string_len text.old ≤ 19 }
-    requires few { width ≤ 4 }
-    requires small { number < 100_000 }
-    ensures bytes { text.new.bytes ≡ text.old.bytes ++ padded width number }
-    ensures len { array_string_len text.new ≤ array_string_len text.old + 5 }
+/// Appends a number as two digits.
+fn push_two_digits(text: &mut ArrayString<24>, number: u8)
+    requires room { array_string_len text.old ≤ 22 }
+    requires small { number ≤ 99 }
+    ensures bytes { text.new.bytes ≡ text.old.bytes ++ padded 2 number }
+    ensures len { array_string_len text.new ≡ array_string_len text.old + 2 }
 {
-    let mut buffer = Buffer::new();
-    let digits = buffer.format(number);
-    for _ in digits.len()..width {
-        text.push_str("0");
-    }
-    text.push_str(digits);
+    // The last two of always three digits: a copy of a fixed length is cheap.
+    text.push_str(&Buffer::new().format(100 + number as u16)[1..3]);
 }
 
 /// Appends a number in decimal.
@@ -37,6 +32,21 @@ pub(crate) fn push_number(text: &mut ArrayString<24>, number: u16)
     text.push_str(Buffer::new().format(number));
 }
 
+/// Appends the digits of a year.
+fn push_year_digits(text: &mut ArrayString<24>, number: u32)
+    requires room { array_string_len text.old ≤ 19 }
+    requires small { number < 100_000 }
+    ensures bytes { text.new.bytes ≡ text.old.bytes ++ padded 4 number }
+    ensures len { array_string_len text.new ≤ array_string_len text.old + 5 }
+{
+    if number >= 10_000 {
+        text.push_str(Buffer::new().format(number));
+        return;
+    }
+    push_two_digits(text, (number / 100) as u8);
+    push_two_digits(text, (number % 100) as u8);
+}
+
 /// Appends a year.
 fn push_year(text: &mut ArrayString<24>, year: i32)
     requires empty { array_string_len text.old ≡ 0 }
@@ -47,7 +57,7 @@ fn push_year(text: &mut ArrayString<24>, year: i32)
     if year < 0 {
         text.push_str("-");
     }
-    push_padded(text, 4, year.unsigned_abs());
+    push_year_digits(text, year.unsigned_abs());
 }
 
 /// The canonical text of a year, a month and a day, or of a year, a week and a weekday.
@@ -59,14 +69,14 @@ fn civil_text(civil: CivilDate) -> ArrayString<24>
     push_year(&mut text, date.year());
     if civil.calendar().has_weeks() {
         text.push_str("-W");
-        push_padded(&mut text, 2, date.month() as u32);
+        push_two_digits(&mut text, date.month());
         text.push_str("-");
         push_number(&mut text, date.day() as u16);
     } else {
         text.push_str("-");
-        push_padded(&mut text, 2, date.month() as u32);
+        push_two_digits(&mut text, date.month());
         text.push_str("-");
-        push_padded(&mut text, 2, date.day() as u32);
+        push_two_digits(&mut text, date.day());
     }
     text
 }

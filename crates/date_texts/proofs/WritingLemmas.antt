@@ -1,0 +1,70 @@
+-- Digits two at a time.
+use Rattle.std.proofs.Common.{◌≡◌, ℕ, ◌+◌, ◌-◌, ◌<◌, ◌≤◌, ◌%◌, ◌/◌, List, [], ◌∷◌, ◌++◌, length, replicate, take, drop, refl, sym, ap, ◌∙◌, arith, append_assoc, inl, inr, eq-zero-or-pos}
+use Rattle.std.specs.Fmt.{decimal}
+use Rattle.std.proofs.lemmas.Fmt.{decimal_digit}
+use Rattle.itoa.proofs.Decimal.{pair, decimal_two, decimal_pair, length_one, length_pair, length_four}
+use Rattle.date_texts.specs.DateText.{padded}
+
+two_digits : (n : ℕ) → n ≤ 99 → padded 2 n ≡ pair n
+two_digits n h =
+    elim (eq-zero-or-pos (n / 10)) [
+      | inl z ↦
+          let one : decimal n ≡ (48 + n) ∷ [] = decimal_digit n (omega arith) in
+          let tens : 48 + n / 10 ≡ 48 = omega arith in
+          let ones : 48 + n % 10 ≡ 48 + n = omega arith in
+          rw (one, tens, ones) refl
+      | inr g ↦ rw (decimal_two n (omega arith) (omega arith)) refl
+    ]
+
+-- two digits after a digit one
+pub hundred_and : (n : ℕ) → n ≤ 99 → decimal (100 + n) ≡ 49 ∷ pair n
+hundred_and n h =
+    let hundreds : (100 + n) / 100 ≡ 1 = omega arith in
+    let rest : (100 + n) % 100 ≡ n = omega arith in
+    decimal_pair (100 + n) (omega arith) (omega arith) ∙ rw (hundreds, rest, decimal_digit 1 (omega arith)) refl
+
+pub after_one : (n : ℕ) (digits : List ℕ) → n ≤ 99 → digits ≡ decimal (100 + n) → digits ≡ 49 ∷ padded 2 n
+after_one n digits h e = e ∙ hundred_and n h ∙ ap (λ (ds : List ℕ). 49 ∷ ds) (sym (two_digits n h))
+
+-- a year of four digits or fewer
+small_year : (n : ℕ) → n < 100 → padded 4 n ≡ 48 ∷ 48 ∷ padded 2 n
+small_year n h =
+    elim (eq-zero-or-pos (n / 10)) [
+      | inl z ↦ let one : decimal n ≡ (48 + n) ∷ [] = decimal_digit n (omega arith) in rw one refl
+      | inr g ↦ rw (decimal_two n (omega arith) (omega arith)) refl
+    ]
+
+pub year_by_pairs : (n : ℕ) → n < 10_000 → padded 4 n ≡ padded 2 (n / 100) ++ padded 2 (n % 100)
+year_by_pairs n h =
+    elim (eq-zero-or-pos (n / 100)) [
+      | inl z ↦
+          let rest : n % 100 ≡ n = omega arith in
+          let none : padded 2 (n / 100) ≡ 48 ∷ 48 ∷ [] = rw (z, decimal_digit 0 (omega arith)) refl in
+          small_year n (omega arith) ∙ rw (none, rest) refl
+      | inr g ↦
+          let parts = decimal_pair n (omega arith) (omega arith) in
+          let zeros : 4 - length (decimal n) ≡ 2 - length (decimal (n / 100)) = omega (arith, length_pair n (omega arith) (omega arith)) in
+          ap (λ k. replicate k 48 ++ decimal n) zeros
+          ∙ ap (λ (ds : List ℕ). replicate (2 - length (decimal (n / 100))) 48 ++ ds) parts
+          ∙ sym (append_assoc (replicate (2 - length (decimal (n / 100))) 48) (decimal (n / 100)) (pair (n % 100)))
+          ∙ ap (λ (ds : List ℕ). padded 2 (n / 100) ++ ds) (sym (two_digits (n % 100) (omega arith)))
+    ]
+
+pub five_digits : (n : ℕ) → 10_000 ≤ n → n < 100_000 → length (decimal n) ≡ 5
+five_digits n g h = let first = length_one (n / 10000) (omega arith) in omega (arith, first, length_four n g (omega arith))
+
+-- and one of five
+pub long_year : (n : ℕ) → 10_000 ≤ n → n < 100_000 → padded 4 n ≡ decimal n
+long_year n g h =
+    let none : 4 - length (decimal n) ≡ 0 = omega (arith, five_digits n g h) in
+    ap (λ k. replicate k 48 ++ decimal n) none
+
+-- the last two of three digits
+pub last_two : (n : ℕ) (digits part : List ℕ) → n ≤ 99 → digits ≡ decimal (100 + n) → part ≡ take 2 (drop 1 digits) → part ≡ padded 2 n
+last_two n digits part h p e = e ∙ ap (λ (ds : List ℕ). take 2 (drop 1 ds)) (p ∙ hundred_and n h) ∙ sym (two_digits n h)
+
+pub three_long : (n : ℕ) (digits : List ℕ) → n ≤ 99 → digits ≡ decimal (100 + n) → length digits ≡ 3
+three_long n digits h p = ap length (p ∙ hundred_and n h)
+
+pub two_long : (n : ℕ) → n ≤ 99 → length (padded 2 n) ≡ 2
+two_long n h = ap length (two_digits n h)

@@ -2,7 +2,7 @@
 use Rattle.std.proofs.Common.{◌≡◌, ℕ, zero, suc, ◌+◌, ◌-◌, ◌*◌, ◌^◌, ◌≤◌, ◌<◌, Bool, true, false, ◌&&◌, List, [], ◌∷◌, ◌++◌, length, ◌==◌, refl, sym, subst, ap, ◌∙◌, arith, IsTrue, cond, Option, Some, None, ℤ, pos, neg_ℤ}
 use Rattle.std.specs.Char.{is_ascii_digit}
 use Rattle.std.specs.Fmt.{decimal}
-use Rattle.std.proofs.Common.{rules, get_or, take, drop, negsuc, replicate, length-append, append_assoc}
+use Rattle.std.proofs.Common.{rules, get_or, take, drop, negsuc, replicate, length-append}
 use Rattle.std.proofs.lemmas.List.{length-replicate}
 use Rattle.std.proofs.lemmas.Fmt.{digits_decimal, digits_value-decimal, length-decimal-le, decimal_nonempty}
 use Rattle.std.proofs.lemmas.Str.Parse.{IsNumeralModel, numerals_by_fold}
@@ -418,9 +418,3 @@ canonical_long_is p q r s t h = record {
   is_kin = place_numeral t h.4;
   joined = refl;
 }
-
--- what the writer appended
-pub padded_joined : (old out now digits : List ℕ) (k w n : ℕ) → out ≡ now ++ digits → now ≡ old ++ replicate k 48 → k ≡ w - length digits → digits ≡ decimal n → out ≡ old ++ padded w n
-padded_joined old out now digits k w n p q r s =
-    let tail : replicate k 48 ++ digits ≡ padded w n = rw (r, s) refl in
-    p ∙ ap (λ x. x ++ digits) q ∙ append_assoc old (replicate k 48) digits ∙ ap (λ x. old ++ x) tail

@@ -23,9 +23,6 @@ hundred_and n h =
     let rest : (100 + n) % 100 ≡ n = omega arith in
     decimal_pair (100 + n) (omega arith) (omega arith) ∙ rw (hundreds, rest, decimal_digit 1 (omega arith)) refl
 
-pub after_one : (n : ℕ) (digits : List ℕ) → n ≤ 99 → digits ≡ decimal (100 + n) → digits ≡ 49 ∷ padded 2 n
-after_one n digits h e = e ∙ hundred_and n h ∙ ap (λ (ds : List ℕ). 49 ∷ ds) (sym (two_digits n h))
-
 -- a year of four digits or fewer
 small_year : (n : ℕ) → n < 100 → padded 4 n ≡ 48 ∷ 48 ∷ padded 2 n
 small_year n h =

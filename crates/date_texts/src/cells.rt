@@ -1,33 +1,52 @@
-ghost use Rattle.std.specs.Prelude.{◌≡◌, ◌≤◌, ℕ, List, length};
+ghost use Rattle.std.specs.Prelude.{◌≡◌, ◌≤◌, [], ℕ, List, length};
 ghost use Rattle.date_texts.specs.Cells.{IsDateCell, IsCell, numbered_name};
 
 use super::calendar::{Calendar, Target};
 use super::days::date_on_day;
-use super::write::{push_number, write_date};
+use super::write::{push_date, push_number};
 use arrayvec::ArrayString;
 use day_numbers::Day;
 use maya_calendars::{haab_on, tzolkin_on};
 
-/// The canonical text of the one date that the calendar has on a day; empty before its first day.
-fn date_cell(calendar: Calendar, day: Day) -> ArrayString<24>
-    ensures { IsDateCell calendar day.number result.bytes }
+/// Writes the one date that the calendar has on a day into an empty text, which stays empty before the
+/// calendar's first day.
+fn push_date_cell(text: &mut ArrayString<24>, calendar: Calendar, day: Day)
+    requires { text.old.bytes ≡ [] }
+    ensures { IsDateCell calendar day.number text.new.bytes }
 {
     match date_on_day(calendar, day) {
-        Some(date) => write_date(&date),
-        None => ArrayString::new(),
+        Some(date) => push_date(text, date),
+        None => (),
     }
 }
 
-/// A number without leading zeros, one space and a name.
-fn numbered(number: u8, name: &str) -> ArrayString<24>
-    requires { length name.now ≤ 19 }
-    ensures { result.bytes ≡ numbered_name number name.now }
+/// Writes a number without leading zeros, one space and a name into an empty text.
+fn push_numbered(text: &mut ArrayString<24>, number: u8, name: &str)
+    requires empty { text.old.bytes ≡ [] }
+    requires short { length name.now ≤ 19 }
+    ensures { text.new.bytes ≡ numbered_name number name.now }
 {
-    let mut text = ArrayString::new();
-    push_number(&mut text, number as u16);
+    push_number(text, number as u16);
     text.push_str(" ");
     text.push_str(name);
-    text
+}
+
+/// Writes the cell of a day into an empty text.
+fn push_cell(text: &mut ArrayString<24>, target: Target, day: Day)
+    requires { text.old.bytes ≡ [] }
+    ensures { IsCell target day.number text.new.bytes }
+{
+    match target {
+        Target::Date(calendar) => push_date_cell(text, calendar, day),
+        Target::Haab => {
+            let haab = haab_on(day);
+            push_numbered(text, haab.day(), haab.month_name());
+        }
+        Target::Tzolkin => {
+            let tzolkin = tzolkin_on(day);
+            push_numbered(text, tzolkin.number(), tzolkin.name());
+        }
+    }
 }
 
 /// The cell of a day in the column of a target. For a calendar it is the canonical text of the one date
@@ -38,15 +57,7 @@ pub fn cell(target: Target, day: Day) -> ArrayString<24>
     ensures value { IsCell target day.number result.bytes }
     ensures only { (text : List ℕ) → IsCell target day.number text → text ≡ result.bytes }
 {
-    match target {
-        Target::Date(calendar) => date_cell(calendar, day),
-        Target::Haab => {
-            let haab = haab_on(day);
-            numbered(haab.day(), haab.month_name())
-        }
-        Target::Tzolkin => {
-            let tzolkin = tzolkin_on(day);
-            numbered(tzolkin.number(), tzolkin.name())
-        }
-    }
+    let mut text = ArrayString::new();
+    push_cell(&mut text, target, day);
+    text
 }

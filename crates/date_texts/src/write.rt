@@ -1,4 +1,4 @@
-ghost use Rattle.std.specs.Prelude.{◌≡◌, ◌≤◌, ◌<◌, ◌+◌, ◌∷◌, ◌++◌};
+ghost use Rattle.std.specs.Prelude.{◌≡◌, ◌≤◌, ◌<◌, ◌+◌, [], ◌∷◌, ◌++◌};
 ghost use Rattle.std.specs.Fmt.{decimal};
 ghost use Rattle.day_numbers.specs.Dates.{IsYear};
 ghost use Rattle.arrayvec.specs.ArrayString.{array_string_len};
@@ -47,7 +47,7 @@ fn push_year_digits(text: &mut ArrayString<24>, number: u32)
     push_two_digits(text, (number % 100) as u8);
 }
 
-/// Appends a year.
+/// Appends a year to an empty text.
 fn push_year(text: &mut ArrayString<24>, year: i32)
     requires empty { array_string_len text.old ≡ 0 }
     requires near { IsYear year }
@@ -60,25 +60,24 @@ fn push_year(text: &mut ArrayString<24>, year: i32)
     push_year_digits(text, year.unsigned_abs());
 }
 
-/// The canonical text of a year, a month and a day, or of a year, a week and a weekday.
-fn civil_text(civil: CivilDate) -> ArrayString<24>
-    ensures { result.bytes ≡ canonical_text (Date.Civil civil) }
+/// Writes a year, a month and a day, or a year, a week and a weekday, into an empty text.
+fn push_civil(text: &mut ArrayString<24>, civil: CivilDate)
+    requires empty { text.old.bytes ≡ [] }
+    ensures { text.new.bytes ≡ canonical_text (Date.Civil civil) }
 {
     let date = civil.ymd();
-    let mut text = ArrayString::new();
-    push_year(&mut text, date.year());
+    push_year(text, date.year());
     if civil.calendar().has_weeks() {
         text.push_str("-W");
-        push_two_digits(&mut text, date.month());
+        push_two_digits(text, date.month());
         text.push_str("-");
-        push_number(&mut text, date.day() as u16);
-    } else {
-        text.push_str("-");
-        push_two_digits(&mut text, date.month());
-        text.push_str("-");
-        push_two_digits(&mut text, date.day());
+        push_number(text, date.day() as u16);
+        return;
     }
-    text
+    text.push_str("-");
+    push_two_digits(text, date.month());
+    text.push_str("-");
+    push_two_digits(text, date.day());
 }
 
 /// Appends a dot and a place of a long count.
@@ -92,17 +91,27 @@ fn push_place(text: &mut ArrayString<24>, place: u16)
     push_number(text, place);
 }
 
-/// The canonical text of a long count.
-fn long_text(count: LongCount) -> ArrayString<24>
-    ensures { result.bytes ≡ canonical_text (Date.Long count) }
+/// Writes a long count into an empty text.
+fn push_long(text: &mut ArrayString<24>, count: LongCount)
+    requires empty { text.old.bytes ≡ [] }
+    ensures { text.new.bytes ≡ canonical_text (Date.Long count) }
 {
-    let mut text = ArrayString::new();
-    push_number(&mut text, count.baktun());
-    push_place(&mut text, count.katun());
-    push_place(&mut text, count.tun());
-    push_place(&mut text, count.uinal());
-    push_place(&mut text, count.kin());
-    text
+    push_number(text, count.baktun());
+    push_place(text, count.katun());
+    push_place(text, count.tun());
+    push_place(text, count.uinal());
+    push_place(text, count.kin());
+}
+
+/// Writes a date into an empty text. The text is lent, since a copy costs as much as its digits.
+pub(crate) fn push_date(text: &mut ArrayString<24>, date: Date)
+    requires empty { text.old.bytes ≡ [] }
+    ensures { text.new.bytes ≡ canonical_text date }
+{
+    match date {
+        Date::Civil(civil) => push_civil(text, civil),
+        Date::Long(count) => push_long(text, count),
+    }
 }
 
 /// The canonical text of a date. Read in the date's calendar, it is the same date again.
@@ -114,8 +123,7 @@ pub fn write_date(date: &Date) -> ArrayString<24>
     ensures canonical { result.bytes ≡ canonical_text date.now }
     ensures reads_back { IsDateText (calendar_of_date date.now) (canonical_text date.now) date.now }
 {
-    match *date {
-        Date::Civil(civil) => civil_text(civil),
-        Date::Long(count) => long_text(count),
-    }
+    let mut text = ArrayString::new();
+    push_date(&mut text, *date);
+    text
 }

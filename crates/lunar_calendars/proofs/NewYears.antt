@@ -1,5 +1,5 @@
 -- Hebrew new years in days from the Monday of the epoch.
-use Rattle.std.proofs.Common.{◌≡◌, ℕ, zero, suc, ◌+◌, ◌-◌, ◌*◌, ◌/◌, ◌%◌, ◌≤◌, Bool, true, false, not, ◌&&◌, ◌||◌, ◌==◌, nat_le, cond, if◌then◌else◌, refl, sym, ap, ◌∙◌, arith, ℤ, pos, ◌+ℤ◌}
+use Rattle.std.proofs.Common.{◌≡◌, ℕ, zero, suc, ◌+◌, ◌-◌, ◌*◌, ◌/◌, ◌%◌, ◌≤◌, Bool, true, false, not, ◌&&◌, ◌||◌, ◌==◌, nat_le, cond, if◌then◌else◌, refl, arith, ℤ, pos, ◌+ℤ◌}
 use Rattle.std.proofs.lemmas.Bool.Decides.{nat_tests}
 use Rattle.day_numbers.specs.Days.{weekday_number}
 use Rattle.day_numbers.proofs.SignedArithmetic.{signed_arith}
@@ -43,10 +43,6 @@ postponed_after leap after_leap d t =
     rw (late, weekday_after d)
     (chosen (not leap && falls_on_place 2 d && nat_le 9_924 t) _ _ _ _ (later d 2)
     (chosen (after_leap && falls_on_place 1 d && nat_le 16_789 t) _ _ _ _ (later d 1) (next_allowed_after noon)))
-
--- the same, for what the code finds
-pub opens_after : (leap after_leap : Bool) (d t r : ℕ) → r ≡ opening leap after_leap d t → epoch +ℤ pos r ≡ postponed leap after_leap (epoch +ℤ pos d) t
-opens_after leap after_leap d t r e = ap (λ n. epoch +ℤ pos n) e ∙ sym (postponed_after leap after_leap d t)
 
 -- the parts from that Monday to the molad of the year after n years, and the days to that new year
 abbrev pub parts_after : ℕ → ℕ

@@ -52,6 +52,13 @@ fn put_off(day: u32, days: u32, time: u32, from: u32) -> u32
 }
 
 /// The day that a year opens on, from the day and the time of its molad.
+///
+/// No year opens on a Sunday, a Wednesday or a Friday, and none on the day of a molad at noon or later, so
+/// each weekday of a molad has one time from which the year is put off. A molad of a day that is not allowed
+/// puts it off to the next day at any time. From noon, a Monday's puts it off to Tuesday, and a Tuesday's,
+/// Thursday's or Saturday's past the next day, which is not allowed. Two come earlier: a Tuesday's in a common
+/// year, which would have 356 days, from 9 hours and 204 parts, and a Monday's after a leap year, which would
+/// have had 382 days, from 15 hours and 589 parts.
 fn opening_day(leap: bool, after_leap: bool, day: u32, time: u32) -> u32
     requires { day ≤ 49_999_998 }
     ensures opens { epoch +ℤ pos result ≡ postponed leap after_leap (epoch +ℤ pos day) time }

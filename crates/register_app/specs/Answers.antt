@@ -1,12 +1,16 @@
 -- How the program answers: what its output has gained, and when its words are refused.
-use Rattle.std.specs.Prelude.{◌≡◌, ℕ, List, Option, Bool, true, false}
+use Rattle.std.specs.Prelude.{◌≡◌, ◌≢◌, ◌<◌, ℕ, List, [], ◌∷◌, ◌++◌, codes, length, Option, IfSome, Bool, true, false}
+use Rattle.std.specs.Fmt.{decimal}
 use Rattle.std.specs.Io.KnownBytes.{Appends}
 use Rattle.date_texts.specs.declared.calendar.Target.{Target}
-use Rattle.register_records.specs.Sources.{GainsPart, GainsWhole}
+use Rattle.register_records.specs.Entries.{Fields, HasRecords, record_limit}
+use Rattle.register_records.specs.Sources.{GainsPart, GainsWhole, cause_number}
+use Rattle.register_records.specs.declared.sources.Cause.{Cause}
+use Rattle.register_records.specs.declared.sources.Cause.TheVariants as cause
 use Rattle.register_records.specs.declared.sources.Note.{Note}
 use Rattle.register_app.specs.Faults.{Fault}
 use Rattle.register_app.specs.Requests.{IsFaultOf, MeanJust, help, table}
-use Rattle.register_app.specs.declared.help.TheConstants.{HELP}
+use Rattle.register_app.specs.declared.help.TheConstants.{HELP, HELP_FAULT}
 
 -- the output gained the whole table, whatever the counts of its rows
 abbrev pub GainsWholeTable : ℕ → List Target → Option (List ℕ) → Option (List ℕ) → Option (List ℕ) → Type 0
@@ -30,6 +34,33 @@ BreaksHelp words failed = MeanJust words help × (failed ≡ true)
 abbrev pub BreaksTableAsked : List (List ℕ) → Option (List ℕ) → Bool → Option (List ℕ) → Option (List ℕ) → Type 0
 BreaksTableAsked words text failed old new =
     (targets : List Target) × (delimiter : ℕ) × MeanJust words (table targets delimiter) × (failed ≡ false → GainsPart delimiter targets text old new)
+
+-- the line that tells a cause: source 1: cause 6
+abbrev pub cause_line : Cause → List ℕ
+cause_line cause = codes "source 1: cause " ++ (decimal (cause_number cause) ++ 10 ∷ [])
+
+-- a cause that a broken table may have: BadHeader only where the text, if its bytes are known, has no accepted header,
+-- and TooManyRecords only where it has too many records; SinkFault only where the output has failed, and another
+-- only where it has failed no more than before; and no thread was wanted
+pub record MayBreak (delimiter : ℕ) (text : Option (List ℕ)) (failed_before failed : Bool) (why : Cause) : Type 0 where
+  pub header : why ≡ cause.BadHeader → IfSome text (λ bytes. (records : List Fields) → HasRecords delimiter bytes records → ⊥)
+  pub records : why ≡ cause.TooManyRecords → IfSome text (λ bytes. (records : List Fields) × HasRecords delimiter bytes records × (record_limit < length records))
+  pub sink : why ≡ cause.SinkFault → failed ≡ true
+  pub others : why ≢ cause.SinkFault → failed ≡ failed_before
+  pub never : (why ≢ cause.NoThread) × (why ≢ cause.Unconfirmed)
+
+-- the line of such a cause was written
+abbrev pub TellsCause : ℕ → Option (List ℕ) → Bool → Bool → Option (List ℕ) → Option (List ℕ) → Type 0
+TellsCause delimiter text failed_before failed old new = (why : Cause) × MayBreak delimiter text failed_before failed why × Appends old new (cause_line why)
+
+-- the words ask for help, and the line was written that it could not be printed
+abbrev pub TellsHelpBroken : List (List ℕ) → Option (List ℕ) → Option (List ℕ) → Type 0
+TellsHelpBroken words old new = MeanJust words help × Appends old new HELP_FAULT.now
+
+-- the words ask for a table, and the line was written with the cause why it broke off
+abbrev pub TellsTableBroken : List (List ℕ) → Option (List ℕ) → Bool → Bool → Option (List ℕ) → Option (List ℕ) → Type 0
+TellsTableBroken words text failed_before failed old new =
+    (targets : List Target) × (delimiter : ℕ) × MeanJust words (table targets delimiter) × TellsCause delimiter text failed_before failed old new
 
 -- something is wrong with the words
 abbrev pub AreWrong : List (List ℕ) → Type 0

@@ -3,18 +3,18 @@
 ghost use Rattle.std.specs.Prelude.{◌≡◌, ◌≢◌, ◌≤◌, ◌⊎◌, ◌↔◌, true, false, map};
 ghost use Rattle.std.specs.Io.KnownBytes.{Appends};
 ghost use Rattle.std.specs.String.{string_bytes};
-ghost use Rattle.register_app.specs.Answers.{AreWrong, BreaksHelp, BreaksTableAsked, GainsHelp, GainsTableAsked, GainsWholeTable};
+ghost use Rattle.register_app.specs.Answers.{AreWrong, BreaksHelp, BreaksTableAsked, GainsHelp, GainsTableAsked, GainsWholeTable, TellsCause, TellsHelpBroken, TellsTableBroken, cause_line};
 ghost use Rattle.register_app.specs.Requests.{refusal_status};
 ghost use Rattle.register_records.specs.Setups.{delimiter_of, targets_of};
 ghost use Rattle.register_records.specs.Sources.{GainsPart};
 
-use crate::help::HELP;
+use crate::help::{HELP, HELP_FAULT};
 use crate::refusals::Refusal;
 use crate::requests::{Request, read_request};
 use arrayvec::ArrayString;
+use itoa::Buffer;
 use register_records::{Cause, Output, Setup, SourceEnd, convert_source, send};
 use std::alloc::Global;
-use std::fmt::Write;
 use std::io::Read;
 
 /// The whole text was converted, refused records included, or the help was printed.
@@ -26,16 +26,24 @@ const INCOMPLETE: u8 = 1;
 /// There was no memory before the run.
 const OUT_OF_MEMORY: u8 = 3;
 
+/// The line that tells the cause of a broken source.
+fn line_of_cause(cause: Cause) -> ArrayString<24>
+    ensures { result.bytes ≡ cause_line cause }
+{
+    let mut line = ArrayString::new();
+    line.push_str("source 1: cause ");
+    line.push_str(Buffer::new().format(cause.number()));
+    line.push_str("\n");
+    line
+}
+
 /// Writes the line with the cause of a broken source. A fault of `errors` is let go: there is nowhere else
 /// to tell it.
 fn tell_cause<E: Output>(errors: &mut E, cause: Cause)
-    ensures { E.own_mark errors.new ≡ E.own_mark errors.old }
+    ensures told { E.has_failed errors.new ≡ false → Appends (E.contents errors.old) (E.contents errors.new) (cause_line cause) }
+    ensures mark { E.own_mark errors.new ≡ E.own_mark errors.old }
 {
-    let mut line = ArrayString::<24>::new();
-    let number = cause.number();
-    if writeln!(line, "source 1: cause {number}").is_ok() {
-        let _ = send(errors, line.as_bytes());
-    }
+    let _ = send(errors, line_of_cause(cause).as_bytes());
 }
 
 /// Tells why the words ask for nothing, and gives the exit status. A fault of `errors` is let go: there is
@@ -65,12 +73,13 @@ fn print_help<W: Output, E: Output>(output: W, errors: &mut E) -> (u8, W)
     ensures printed { result.0 ≡ 0 → Appends (W.contents output) (W.contents result.1) HELP.now }
     ensures quiet { result.0 ≡ 0 → errors.new ≡ errors.old }
     ensures broken { result.0 ≢ 0 → (result.0 ≡ 1) × (W.has_failed result.1 ≡ true) }
+    ensures told { result.0 ≢ 0 → E.has_failed errors.new ≡ false → Appends (E.contents errors.old) (E.contents errors.new) HELP_FAULT.now }
     ensures mark { W.own_mark result.1 ≡ W.own_mark output }
     ensures errors_mark { E.own_mark errors.new ≡ E.own_mark errors.old }
 {
     let mut output = output;
     if send(&mut output, HELP.as_bytes()).is_err() {
-        let _ = send(errors, b"register: cannot print the help\n");
+        let _ = send(errors, HELP_FAULT.as_bytes());
         return (INCOMPLETE, output);
     }
     (COMPLETE, output)
@@ -89,6 +98,9 @@ fn convert_text<R: Read + Drop, W: Output, E: Output>(
     ensures quiet { result.0 ≡ 0 → errors.new ≡ errors.old }
     ensures broken { result.0 ≡ 1 → W.has_failed result.1 ≡ false → GainsPart (delimiter_of setup.now) (targets_of setup.now)
         (R.remaining input) (W.contents output) (W.contents result.1) }
+    ensures told { result.0 ≡ 1 → E.has_failed errors.new ≡ false
+        → TellsCause (delimiter_of setup.now) (R.remaining input) (W.has_failed output) (W.has_failed result.1)
+        (E.contents errors.old) (E.contents errors.new) }
     ensures statuses { (result.0 ≡ 0) ⊎ (result.0 ≡ 1) }
     ensures mark { W.own_mark result.1 ≡ W.own_mark output }
     ensures errors_mark { E.own_mark errors.new ≡ E.own_mark errors.old }
@@ -134,6 +146,12 @@ pub fn answer<R: Read + Drop, W: Output, E: Output>(
     ensures broken { result.0 ≡ 1
         → BreaksHelp (map string_bytes words.now) (W.has_failed result.1)
         ⊎ BreaksTableAsked (map string_bytes words.now) (R.remaining input) (W.has_failed result.1) (W.contents output) (W.contents result.1) }
+
+    // Unless it failed, `errors` has gained the one line that says so, with a cause that the break may have.
+    ensures told { result.0 ≡ 1 → E.has_failed errors.new ≡ false
+        → TellsHelpBroken (map string_bytes words.now) (E.contents errors.old) (E.contents errors.new)
+        ⊎ TellsTableBroken (map string_bytes words.now) (R.remaining input) (W.has_failed output) (W.has_failed result.1)
+        (E.contents errors.old) (E.contents errors.new) }
 
     // Unless there was no memory, words are refused exactly where something is wrong with them.
     ensures refused { result.0 ≢ 3 → (result.0 ≡ 2) ↔ AreWrong (map string_bytes words.now) }

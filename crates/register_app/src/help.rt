@@ -79,3 +79,6 @@ gives by register --to gregorian the table
     row,id,calendar,date,rd,weekday,gregorian,refusal
     1,b,julian,1582-10-05,577736,Friday,1582-10-15,
 ";
+
+/// The line that is told where the help could not be printed.
+pub const HELP_FAULT: &str = "register: cannot print the help\n";

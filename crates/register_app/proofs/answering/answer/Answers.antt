@@ -25,3 +25,10 @@ pub returns-in-Err-clause-refused : goal.returns-in-Err-clause-refused
 returns-in-Err-clause-refused g c =
     let words = map string_bytes c.args.words.now in
     λ had. is_refused words c.in-Err.refusal c.tell_refusal.result c.in-Err.ensures.refused c.tell_refusal.ensures.status had
+
+pub returns-in-Ok-Convert-clause-told : goal.returns-in-Ok-Convert-clause-told
+returns-in-Ok-Convert-clause-told g c =
+    let words = map string_bytes c.args.words.now in
+    let setup = c.in-Ok-Convert.setup in
+    let just : MeanJust words (table (targets_of setup) (delimiter_of setup)) = search (rules, c.in-Ok-Convert.ensures.asked) in
+    λ one good. inr (targets_of setup, delimiter_of setup, just, c.convert_text.ensures.told one good)

@@ -1,9 +1,10 @@
-//! Calendars month by month and week by week: each month begins on the day after the one before, and the
-//! first month of year 1 on the epoch. The lengths of the months are written out here a second time.
+//! Calendars month by month, and that of weeks week by week: each month begins on the day after the one
+//! before, and the first month of year 1 on the epoch. The lengths of the months are written out here a second
+//! time.
 
 use super::check;
 use crate::*;
-use day_numbers::{ArithmeticCalendar, DateFault, Day, Weekday, Ymd};
+use day_numbers::{ArithmeticCalendar, DateFault, Ymd};
 use std::process::Abort;
 use std::test::Fail;
 
@@ -15,7 +16,11 @@ const THIRTEEN: [u8; 13] = [30, 30, 30, 30, 30, 30, 30, 30, 30, 30, 30, 30, 5];
 
 const THIRTEEN_LEAP: [u8; 13] = [30, 30, 30, 30, 30, 30, 30, 30, 30, 30, 30, 30, 6];
 
-/// The lengths of a calendar's months in a year; no month where the calendar has no such year.
+const WEEKS: [u8; 52] = [7; 52];
+
+const MORE_WEEKS: [u8; 53] = [7; 53];
+
+/// The lengths of a calendar's months, or weeks, in a year; none where the calendar has no such year.
 trait MonthLengths: ArithmeticCalendar {
     fn lengths(&self, year: i32) -> &'static [u8];
 }
@@ -90,6 +95,24 @@ impl MonthLengths for French {
     }
 }
 
+/// The day of the week of 31 December, from Sunday = 0: each year moves it on by one, and a leap day by one
+/// more. It comes again every 400 years, which are a whole number of weeks.
+fn last_weekday(year: i32) -> u32 {
+    let year = year.rem_euclid(400) as u32;
+    (year + year / 4 - year / 100) % 7
+}
+
+/// A year has 53 weeks where it ends on a Thursday, or the year before on a Wednesday.
+impl MonthLengths for IsoWeek {
+    fn lengths(&self, year: i32) -> &'static [u8] {
+        if last_weekday(year) == 4 || last_weekday(year.saturating_sub(1)) == 3 {
+            &MORE_WEEKS
+        } else {
+            &WEEKS
+        }
+    }
+}
+
 /// The fixed day number of a date, from which a walk sets out.
 fn day_number<C: ArithmeticCalendar>(
     calendar: &C,
@@ -123,7 +146,10 @@ fn walk<C: MonthLengths>(
 ) -> Result<(), Fail> {
     let mut expected = None;
     for year in first..=last {
-        for (month, &length) in (1..=13).zip(calendar.lengths(year)) {
+        let mut month = 0u8;
+        check_number(rt, calendar, (year, month, 1), None)?;
+        for &length in calendar.lengths(year) {
+            month = month.saturating_add(1);
             let start = match expected {
                 Some(number) => number,
                 None => day_number(calendar, year, month, 1)?,
@@ -132,19 +158,14 @@ fn walk<C: MonthLengths>(
                 assert_eq!(rt; start, epoch);
             }
             let next = start.saturating_add(length as i64);
+            let end = next.saturating_sub(1);
             check_number(rt, calendar, (year, month, 0), None)?;
             check_number(rt, calendar, (year, month, 1), Some(start))?;
-            check_number(
-                rt,
-                calendar,
-                (year, month, length),
-                Some(next.saturating_sub(1)),
-            )?;
+            check_number(rt, calendar, (year, month, length), Some(end))?;
             check_number(rt, calendar, (year, month, length.saturating_add(1)), None)?;
             expected = Some(next);
         }
-        check_number(rt, calendar, (year, 0, 1), None)?;
-        check_number(rt, calendar, (year, 14, 1), None)?;
+        check_number(rt, calendar, (year, month.saturating_add(1), 1), None)?;
     }
     Ok(())
 }
@@ -152,46 +173,11 @@ fn walk<C: MonthLengths>(
 #[test]
 fn months_follow_each_other(rt: HostRuntime) -> Result<(), Fail> {
     walk(&rt, &Gregorian, 1, -820, 820)?;
+    walk(&rt, &IsoWeek, 1, -820, 820)?;
     walk(&rt, &Julian, -1, -820, 820)?;
     walk(&rt, &Coptic, 103_605, -2, 820)?;
     walk(&rt, &Ethiopic, 2_796, -2, 820)?;
     walk(&rt, &Egyptian, -272_787, -2, 820)?;
     walk(&rt, &Armenian, 201_443, -2, 820)?;
-    walk(&rt, &French, 654_415, -2, 8_100)?;
-    Ok(())
-}
-
-/// A year of weeks has 53 of them where its 1 January is a Thursday, or a Wednesday of a leap year.
-fn weeks_of(year: i32) -> Result<u8, Fail> {
-    let first = Ymd::new(year, 1, 1).ok_or("1 January")?;
-    Ok(match Gregorian.day_of(first)?.weekday() {
-        Weekday::Thursday => 53,
-        Weekday::Wednesday if is_gregorian_leap(year) => 53,
-        _ => 52,
-    })
-}
-
-/// Walks through the weeks: looks at the Monday and the Sunday of each, both ways, and at the week after
-/// the last. Week 1 of year 1 begins on day 1.
-#[test]
-fn weeks_follow_each_other(rt: HostRuntime) -> Result<(), Fail> {
-    let mut monday = day_number(&IsoWeek, -820, 1, 1)?;
-    for year in -820..=820 {
-        if year == 1 {
-            assert_eq!(rt; monday, 1);
-        }
-        let weeks = weeks_of(year)?;
-        for week in 1..=weeks {
-            check_number(&rt, &IsoWeek, (year, week, 1), Some(monday))?;
-            check_number(
-                &rt,
-                &IsoWeek,
-                (year, week, 7),
-                Some(monday.saturating_add(6)),
-            )?;
-            monday = monday.saturating_add(7);
-        }
-        check_number(&rt, &IsoWeek, (year, weeks.saturating_add(1), 1), None)?;
-    }
-    Ok(())
+    walk(&rt, &French, 654_415, -2, 8_100)
 }

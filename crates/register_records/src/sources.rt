@@ -179,11 +179,11 @@ pub fn convert_source<R: Read + Drop, W: Output>(
             }
             Err(fault) => return broken(cause_of_entry_fault(fault)),
         };
-        let row = &convert(entry, setup);
-        if push_note(&mut journal, row).is_err() {
+        let row = convert(entry, setup);
+        if push_note(&mut journal, &row).is_err() {
             return broken(Cause::NoMemory);
         }
-        if let Err(fault) = writer.put(output, row) {
+        if let Err(fault) = writer.put(output, &row) {
             return broken(cause_of_row_fault(fault));
         }
         rows = row.entry().number();

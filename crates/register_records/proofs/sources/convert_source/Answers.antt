@@ -54,11 +54,11 @@ entries-preserved g c =
     let gives = rw c.in-Ok-Some.field-0-is at c.in-Ok-Some.ensures.gives in
     let good : is_ok c.push_note.result ≡ true = search rules in
     let noted = ok-so _ good c.push_note.ensures in
-    let line = rw (inv.by, c.convert.ensures.targets) at c.in_default.ensures.ok in
+    let line = rw (inv.by, c.convert-row.ensures.targets) at c.in_default.ensures.ok in
     let given = number.1 ∙ number.0 in
     let same : c.number-rows.result ≡ entry_number c.in-Ok-Some.entry = cc in
     let room : given_by c.entries.entries < record_limit = omega (arith, number.0, number.2) in
-    let few = notes-few (row_seen c.convert.result).number (row_seen c.convert.result).outcome in
+    let few = notes-few (row_seen c.convert-row.result).number (row_seen c.convert-row.result).outcome in
     record {
       reads = c.in-Ok-Some.ensures.goes;
       counted = same ∙ sym number.1;
@@ -69,5 +69,5 @@ entries-preserved g c =
       flushed = c.in_default.ensures.flushed;
       good = c.in_default.ensures.goes.0 ∙ inv.good;
       mark = c.put.ensures.mark ∙ inv.mark;
-      come = rw (given, noted) (step _ _ _ _ _ _ _ _ _ _ _ _ inv.come gives number.0 room c.convert.ensures.row line);
+      come = rw (given, noted) (step _ _ _ _ _ _ _ _ _ _ _ _ inv.come gives number.0 room c.convert-row.ensures.row line);
     }

@@ -103,7 +103,7 @@ fn push_long(text: &mut ArrayString<24>, count: LongCount)
     push_place(text, count.kin());
 }
 
-/// Writes a date into an empty text. The text is lent, since a copy costs as much as its digits.
+/// Writes a date into an empty text, which is lent so that it is not copied on its way out.
 pub(crate) fn push_date(text: &mut ArrayString<24>, date: Date)
     requires empty { text.old.bytes ≡ [] }
     ensures { text.new.bytes ≡ canonical_text date }

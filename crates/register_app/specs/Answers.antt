@@ -1,9 +1,9 @@
 -- How the program answers: what its output has gained, and when its words are refused.
-use Rattle.std.specs.Prelude.{◌≡◌, ◌≢◌, ◌<◌, ℕ, List, [], ◌∷◌, ◌++◌, codes, length, Option, IfSome, Bool, true, false}
+use Rattle.std.specs.Prelude.{◌≡◌, ◌≢◌, ℕ, List, [], ◌∷◌, ◌++◌, codes, Option, IfSome, Bool, true, false}
 use Rattle.std.specs.Fmt.{decimal}
 use Rattle.std.specs.Io.KnownBytes.{Appends}
 use Rattle.date_texts.specs.declared.calendar.Target.{Target}
-use Rattle.register_records.specs.Entries.{Fields, HasRecords, record_limit}
+use Rattle.register_records.specs.Entries.{Fields, HasRecords, HasTooMany}
 use Rattle.register_records.specs.Sources.{GainsPart, GainsWhole, cause_number}
 use Rattle.register_records.specs.declared.sources.Cause.{Cause}
 use Rattle.register_records.specs.declared.sources.Cause.TheVariants as cause
@@ -15,7 +15,7 @@ use Rattle.register_app.specs.declared.help.TheConstants.{HELP, HELP_FAULT}
 -- the output gained the whole table, whatever the counts of its rows
 abbrev pub GainsWholeTable : ℕ → List Target → Option (List ℕ) → Option (List ℕ) → Option (List ℕ) → Type 0
 GainsWholeTable delimiter targets text old new =
-    (rows : ℕ) × (refused : ℕ) × (journal : List Note) × GainsWhole delimiter targets text old new rows refused journal
+    (rows : ℕ) × (refused : ℕ) × (journal : List Note) × ∥ GainsWhole delimiter targets text old new rows refused journal ∥₁
 
 -- the words ask for help, and the output gained its page
 abbrev pub GainsHelp : List (List ℕ) → Option (List ℕ) → Option (List ℕ) → Type 0
@@ -33,7 +33,7 @@ BreaksHelp words failed = MeanJust words help × (failed ≡ true)
 -- they ask for such a table, and where the output has not failed it gained a front of it, or nothing
 abbrev pub BreaksTableAsked : List (List ℕ) → Option (List ℕ) → Bool → Option (List ℕ) → Option (List ℕ) → Type 0
 BreaksTableAsked words text failed old new =
-    (targets : List Target) × (delimiter : ℕ) × MeanJust words (table targets delimiter) × (failed ≡ false → GainsPart delimiter targets text old new)
+    (targets : List Target) × (delimiter : ℕ) × MeanJust words (table targets delimiter) × (failed ≡ false → ∥ GainsPart delimiter targets text old new ∥₁)
 
 -- the line that tells a cause: source 1: cause 6
 abbrev pub cause_line : Cause → List ℕ
@@ -44,7 +44,7 @@ cause_line cause = codes "source 1: cause " ++ (decimal (cause_number cause) ++ 
 -- only where it has failed no more than before; and no thread was wanted
 pub record MayBreak (delimiter : ℕ) (text : Option (List ℕ)) (failed_before failed : Bool) (why : Cause) : Type 0 where
   pub header : why ≡ cause.BadHeader → IfSome text (λ bytes. (records : List Fields) → HasRecords delimiter bytes records → ⊥)
-  pub records : why ≡ cause.TooManyRecords → IfSome text (λ bytes. (records : List Fields) × HasRecords delimiter bytes records × (record_limit < length records))
+  pub records : why ≡ cause.TooManyRecords → ∥ IfSome text (λ bytes. HasTooMany delimiter bytes) ∥₁
   pub sink : why ≡ cause.SinkFault → failed ≡ true
   pub others : why ≢ cause.SinkFault → failed ≡ failed_before
   pub never : (why ≢ cause.NoThread) × (why ≢ cause.Unconfirmed)

@@ -96,8 +96,8 @@ fn convert_text<R: Read + Drop, W: Output, E: Output>(
     ensures whole { result.0 ≡ 0 → GainsWholeTable (delimiter_of setup.now) (targets_of setup.now) (R.remaining input)
         (W.contents output) (W.contents result.1) }
     ensures quiet { result.0 ≡ 0 → errors.new ≡ errors.old }
-    ensures broken { result.0 ≡ 1 → W.has_failed result.1 ≡ false → GainsPart (delimiter_of setup.now) (targets_of setup.now)
-        (R.remaining input) (W.contents output) (W.contents result.1) }
+    ensures broken { result.0 ≡ 1 → W.has_failed result.1 ≡ false → ∥ GainsPart (delimiter_of setup.now) (targets_of setup.now)
+        (R.remaining input) (W.contents output) (W.contents result.1) ∥₁ }
     ensures told { result.0 ≡ 1 → E.has_failed errors.new ≡ false
         → TellsCause (delimiter_of setup.now) (R.remaining input) (W.has_failed output) (W.has_failed result.1)
         (E.contents errors.old) (E.contents errors.new) }

@@ -1,5 +1,5 @@
 -- What a read of csv's reader does to the records that are left.
-use Rattle.std.proofs.Common.{◌≡◌, ◌<◌, ◌+◌, ℕ, List, [], ◌∷◌, length, Option, Some, None, true, false, refl, sym, ◌∙◌, arith}
+use Rattle.std.proofs.Common.{◌≡◌, ◌<◌, ℕ, List, [], ◌∷◌, length, Option, Some, None, true, false, refl, sym, ◌∙◌, arith}
 use Rattle.std.specs.Prelude.{⊤, IfSome, option_map}
 use Rattle.csv.specs.Reading.{ReadRecord, Reached, reader_config, reader_state, source_of, strip_bom}
 use Rattle.csv.specs.declared.reader.Reader.{Reader}
@@ -8,9 +8,8 @@ use Rattle.csv.specs.declared.parser.State.{State}
 use Rattle.csv.specs.declared.parser.State.TheVariants as st
 use Rattle.csv.proofs.ReadFacts.{rows-end, rows-more}
 use Rattle.register_records.specs.Headers.{IsHeader}
-use Rattle.register_records.specs.Entries.{HasRecords, Fields, all_after, body_of, body_seen, reading, text_records}
-use Rattle.register_records.specs.EntriesLeft.{Gives, Opens, entry_body, entry_number, records_left}
-use Rattle.register_records.specs.declared.entries.Entry.{Entry}
+use Rattle.register_records.specs.Entries.{HasRecords, Fields, all_after, reading, text_records}
+use Rattle.register_records.specs.Given.{records_left}
 use Rattle.register_records.proofs.RecordsLeft.{all-more, all-none}
 
 -- this record was the first of those that were left
@@ -47,15 +46,6 @@ read-none {R = R} rem a b f r = by (source_of rem a) refl
     by None e = tt
     by (Some y) e = all-none a.config a.state y (rows-end rem a b f a.config y refl e r)
 
-pub gives-entry : (x y : Option (List Fields)) (f : Fields) (k : ℕ) (e : Entry) → TakesFirst x y f → entry_number e ≡ k + 1 → body_seen (entry_body e) ≡ body_of f → Gives x y k (Some e)
-gives-entry None y f k e t n b = tt
-gives-entry (Some rows) None f k e t n b = t
-gives-entry (Some rows) (Some rest) f k e t n b = (f, t, rw (n, b) refl)
-
-pub gives-none : (x : Option (List Fields)) (k : ℕ) → IfSome x (λ rows. rows ≡ []) → Gives x (Some []) k None
-gives-none None k t = tt
-gives-none (Some rows) k t = (t, refl)
-
 pub some-left : (x y : Option (List Fields)) (f : Fields) → TakesFirst x y f → IfSome x (λ rows. 0 < length rows)
 some-left None y f t = tt
 some-left (Some rows) None f t = absurd t
@@ -66,12 +56,6 @@ pub at-start : {R : Type 0} (rem : R → Option (List ℕ)) (a : Reader R) (d : 
     → source_of rem a ≡ option_map strip_bom o → records_left rem a ≡ option_map (text_records d) o
 at-start rem a d None config state source = rw (source) refl
 at-start rem a d (Some text) config state source = rw (source, config, state) refl
-
--- a first record that is a header
-pub opens : (o : Option (List ℕ)) (y : Option (List Fields)) (d : ℕ) (f : Fields) → TakesFirst (option_map (text_records d) o) y f → IsHeader f → IfSome o (λ text. Opens d text y)
-opens None y d f t h = tt
-opens (Some text) None d f t h = t
-opens (Some text) (Some rest) d f t h = (f, t, h)
 
 -- a first record that is none
 pub refuses : (o : Option (List ℕ)) (y : Option (List Fields)) (d : ℕ) (f : Fields) → TakesFirst (option_map (text_records d) o) y f → (IsHeader f → ⊥)

@@ -2,6 +2,7 @@ pub mod FieldFacts
 pub mod HeaderFacts
 pub mod RecordsLeft
 pub mod EntrySteps
+pub mod GivenFacts
 pub mod LineFacts
 pub mod OutcomeFacts
 pub mod Progress

@@ -5,11 +5,10 @@ use Rattle.day_numbers.specs.Days.{IsDayNumber}
 use Rattle.date_texts.specs.Calendars.{calendar_name}
 use Rattle.date_texts.specs.Dates.{IsDateOfCalendar, day_number_of_date}
 use Rattle.date_texts.specs.DateText.{IsDateText}
-use Rattle.register_records.specs.Entries.{Numbered, Texts, entries_of}
+use Rattle.register_records.specs.Entries.{HasEntries, Numbered, Texts, entries_of}
 use Rattle.register_records.specs.Laws.{OneTable}
 use Rattle.date_texts.specs.Names.{IsNamed}
 use Rattle.register_records.specs.Outcomes.{AreCells, AreCellsOn, AreRowsOf, IsOutcome, IsRowOf, Says, TableRow, accepted, no_date_text, no_such_date, out_of_range, refused, unknown_calendar}
-use Rattle.register_records.specs.Sources.{HasEntries}
 use Rattle.date_texts.specs.declared.calendar.Calendar.{Calendar}
 use Rattle.date_texts.specs.declared.calendar.Target.{Target}
 use Rattle.date_texts.specs.declared.date.Date.{Date}

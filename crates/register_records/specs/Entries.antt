@@ -1,5 +1,5 @@
 -- The records and the entries of a text.
-use Rattle.std.specs.Prelude.{◌≡◌, ◌+◌, ◌&&◌, Bool, true, false, nat_le, nat_lt, ℕ, List, [], ◌∷◌, length, Result, Ok, Err, if◌then◌else◌}
+use Rattle.std.specs.Prelude.{◌≡◌, ◌≤◌, ◌<◌, ◌+◌, ◌++◌, ⊤, ◌&&◌, Bool, true, false, nat_le, nat_lt, ℕ, List, [], ◌∷◌, length, Result, Ok, Err, if◌then◌else◌}
 use Rattle.std.specs.Str.{is_utf8}
 use Rattle.csv.specs.declared.parser.Config.{Config}
 use Rattle.csv.specs.declared.parser.State.{State}
@@ -90,3 +90,22 @@ entries_from k (r ∷ rows) = if nat_lt k record_limit then record { number = k 
 -- the entries of a text, by the records after its header
 abbrev pub entries_of : List Fields → List Numbered
 entries_of rows = entries_from 0 rows
+
+-- the text is accepted, and these are its entries
+abbrev pub HasEntries : ℕ → List ℕ → List Numbered → Type 0
+HasEntries delimiter text entries =
+    (records : List Fields) × HasRecords delimiter text records × (length records ≤ record_limit) × (entries ≡ entries_of records)
+
+-- the text has an accepted header, and these are its first entries
+abbrev pub HasFirstEntries : ℕ → List ℕ → List Numbered → Type 0
+HasFirstEntries delimiter text entries =
+    (records : List Fields) × (rest : List Numbered) × HasRecords delimiter text records × (entries_of records ≡ entries ++ rest)
+
+-- these entries are numbered in order, the first with this number
+abbrev pub AreNumberedFrom : ℕ → List Numbered → Type 0
+AreNumberedFrom k [] = ⊤
+AreNumberedFrom k (entry ∷ entries) = (entry.number ≡ k) × AreNumberedFrom (k + 1) entries
+
+-- the text is accepted but for this: it has more records than a source may have
+abbrev pub HasTooMany : ℕ → List ℕ → Type 0
+HasTooMany delimiter text = (records : List Fields) × HasRecords delimiter text records × (record_limit < length records)

@@ -1,5 +1,5 @@
 -- Laws of tables.
-use Rattle.std.specs.Prelude.{◌≡◌, ◌≢◌, ℕ, ℤ, List, [], Ok}
+use Rattle.std.specs.Prelude.{◌≡◌, ◌≢◌, ◌++◌, ◌∷◌, ℕ, ℤ, List, [], Ok}
 use Rattle.day_numbers.specs.Days.{IsDayNumber}
 use Rattle.date_texts.specs.Calendars.{calendar_name}
 use Rattle.date_texts.specs.Cells.{IsCell}
@@ -7,9 +7,9 @@ use Rattle.date_texts.specs.Names.{IsNamed}
 use Rattle.date_texts.specs.declared.calendar.Calendar.{Calendar}
 use Rattle.date_texts.specs.declared.calendar.Target.{Target}
 use Rattle.date_texts.specs.declared.calendar.Target.TheVariants.{Date as DateTarget}
-use Rattle.register_records.specs.Entries.{Numbered, Texts}
+use Rattle.register_records.specs.Entries.{HasEntries, Numbered, Texts}
 use Rattle.register_records.specs.Outcomes.{AreRowsOf, IsOutcome, TableRow}
-use Rattle.register_records.specs.Sources.{HasEntries}
+use Rattle.register_records.specs.Tables.{journal_of, notes_of, row_line, table_text}
 
 -- a text has one list of entries at most, and entries have one list of rows at most: so a text has one
 -- table and one journal at most
@@ -24,3 +24,10 @@ abbrev pub CellsReadBack : Type 0
 CellsReadBack =
     (calendar : Calendar) (n : ℤ) (texts : Texts) → IsDayNumber n → IsNamed texts.calendar (calendar_name calendar)
     → IsCell (DateTarget calendar) n texts.date → texts.date ≢ [] → IsOutcome (Ok texts) (Ok n)
+
+-- one more row: the table gains its line at the end, and the journal its note
+abbrev pub TablesGrow : Type 0
+TablesGrow =
+    (delimiter : ℕ) (targets : List Target) (rows : List TableRow) (row : TableRow)
+    → (table_text delimiter targets (rows ++ row ∷ []) ≡ table_text delimiter targets rows ++ row_line delimiter targets row)
+    × (journal_of (rows ++ row ∷ []) ≡ journal_of rows ++ notes_of row.number row.outcome)

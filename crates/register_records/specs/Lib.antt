@@ -1,6 +1,8 @@
 pub mod Headers
 pub mod Entries
-pub mod EntriesLeft
+pub mod EntryViews
+pub mod Given
+pub mod EntryReaders
 pub mod EntryFaults
 pub mod ShortLists
 pub mod SetupRules

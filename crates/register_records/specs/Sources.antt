@@ -1,7 +1,7 @@
 -- How a source ends, and what its output has gained.
-use Rattle.std.specs.Prelude.{◌≡◌, ◌⊎◌, ◌++◌, ◌+◌, ◌≤◌, ℕ, List, [], ◌∷◌, length, Option, IfSome, ⊤}
+use Rattle.std.specs.Prelude.{◌≡◌, ◌⊎◌, ℕ, List, [], length, Option, IfSome, ⊤, Bool, true, false}
 use Rattle.std.specs.Io.KnownBytes.{Appends}
-use Rattle.register_records.specs.Entries.{Fields, HasRecords, Numbered, entries_of, record_limit}
+use Rattle.register_records.specs.Entries.{AreNumberedFrom, HasEntries, HasFirstEntries, Numbered}
 use Rattle.register_records.specs.Outcomes.{AreRowsOf, TableRow}
 use Rattle.register_records.specs.Tables.{journal_of, table_text}
 use Rattle.date_texts.specs.declared.calendar.Target.{Target}
@@ -19,20 +19,10 @@ abbrev pub IfBroken : SourceEnd → (Cause → Type 0) → Type 0
 IfBroken (end.Whole rows refused journal) P = ⊤
 IfBroken (end.Broken cause) P = P cause
 
--- the text is accepted, and these are its entries
-abbrev pub HasEntries : ℕ → List ℕ → List Numbered → Type 0
-HasEntries delimiter text entries =
-    (records : List Fields) × HasRecords delimiter text records × (length records ≤ record_limit) × (entries ≡ entries_of records)
-
--- the text has an accepted header, and these are its first entries
-abbrev pub HasFirstEntries : ℕ → List ℕ → List Numbered → Type 0
-HasFirstEntries delimiter text entries =
-    (records : List Fields) × (rest : List Numbered) × HasRecords delimiter text records × (entries_of records ≡ entries ++ rest)
-
--- these entries are numbered in order, the first with this number
-abbrev pub AreNumberedFrom : ℕ → List Numbered → Type 0
-AreNumberedFrom k [] = ⊤
-AreNumberedFrom k (entry ∷ entries) = (entry.number ≡ k) × AreNumberedFrom (k + 1) entries
+-- the source ended whole
+abbrev pub is_whole_end : SourceEnd → Bool
+is_whole_end (end.Whole rows refused journal) = true
+is_whole_end (end.Broken cause) = false
 
 -- the output gained the table of these rows, which are the rows of these entries, numbered from 1
 pub record GainsTable (delimiter : ℕ) (targets : List Target) (old new : Option (List ℕ)) (entries : List Numbered) (rows : List TableRow) : Type 0 where

@@ -2,7 +2,7 @@
 use Rattle.std.specs.Prelude.{ℤ, ℕ, List, map, Result, Ok, Err}
 use Rattle.arrayvec.specs.ArrayString.{ArrayString}
 use Rattle.day_numbers.specs.declared.day.Day.{Day}
-use Rattle.register_records.specs.EntriesLeft.{entry_seen}
+use Rattle.register_records.specs.EntryViews.{entry_seen}
 use Rattle.register_records.specs.Outcomes.{TableRow}
 use Rattle.date_texts.specs.declared.refusal.Refusal.{Refusal}
 use Rattle.register_records.specs.declared.entries.Entry.{Entry}

@@ -2,7 +2,7 @@
 
 ghost use Rattle.std.specs.Prelude.{◌≡◌, ◌≤◌, [], length};
 ghost use Rattle.register_records.specs.Entries.{body_seen};
-ghost use Rattle.register_records.specs.EntriesLeft.{entry_seen};
+ghost use Rattle.register_records.specs.EntryViews.{entry_seen};
 ghost use Rattle.register_records.specs.Outcomes.{AreCells, IsOutcome, IsRowOf};
 ghost use Rattle.register_records.specs.RowViews.{row_entry, row_seen, row_targets};
 ghost use Rattle.register_records.specs.Setups.{targets_of};

@@ -47,7 +47,7 @@ pub struct Entry {
 }
 
 impl Entry {
-    ghost use Rattle.register_records.specs.EntriesLeft.{entry_body, entry_number};
+    ghost use Rattle.register_records.specs.EntryViews.{entry_body, entry_number};
 
     /// The entry with this number and this body, or `None` exactly where the number is not from 1 to
     /// 1,000,000 or a refused body holds another refusal than `FieldCount`, `FieldTooLong` and

@@ -1,6 +1,6 @@
 //! Laws of tables.
 
-ghost use Rattle.register_records.specs.Laws.{CellsReadBack, OneTable};
+ghost use Rattle.register_records.specs.Laws.{CellsReadBack, OneTable, TablesGrow};
 
 use date_texts::laws::{canonical_texts_read_back, one_calendar, one_cell, one_date_text};
 
@@ -21,3 +21,9 @@ pub fn cells_read_back()
 {
     canonical_texts_read_back();
 }
+
+/// The table of rows and one more is the table of the rows and then the line of the last; and the journal
+/// gains its note.
+pub fn tables_grow()
+    ensures { TablesGrow }
+{}

@@ -5,6 +5,7 @@
 //! number of the refusal. [`convert_source`] makes the table of a text on the caller's thread.
 #![tactic(auto)]
 
+mod causes;
 mod converting;
 mod entries;
 mod header;

@@ -1,9 +1,11 @@
 // The entries of a text, in order.
 
-ghost use Rattle.std.specs.Prelude.{◌≡◌, ◌+◌, ◌≤◌, ◌<◌, true, false, ℕ, List, length, OnOk, OnErr, IfOk, IfErr, IfSome, IsErr, Ok, Err, Option, None};
+ghost use Rattle.std.specs.Prelude.{◌≡◌, ◌+◌, ◌++◌, ◌∷◌, [], ◌≤◌, true, false, List, length, OnOk, OnErr, IfOk, IfErr, IfSome, IsErr, Ok, Err, Option, None};
 ghost use Rattle.csv.specs.Reading.{error_kind, has_failed, is_flexible, reader_trim, stops_reader, took_first};
 ghost use Rattle.csv.specs.declared.reader.Trim.TheVariants as trim;
 ghost use Rattle.register_records.specs.EntryFaults.{fault_of};
+ghost use Rattle.register_records.specs.Entries.{HasFirstEntries, record_limit};
+ghost use Rattle.register_records.specs.Given.{Stands, entries_shown, rows_left};
 
 use crate::entries::{Entry, MAX_RECORDS};
 use crate::header::is_header;
@@ -11,6 +13,7 @@ use crate::setups::Setup;
 use csv::{ByteRecord, Error, ErrorKind, Reader, ReaderBuilder};
 use std::alloc::Global;
 use std::io::Read;
+use std::snapshot::Snapshot;
 use thiserror::Error as ErrorMessage;
 
 /// Why reading entries stopped.
@@ -35,14 +38,20 @@ pub enum EntryFault {
 
 /// The entries of a text, in order, each read when it is asked for.
 #[derive(Drop)]
-pub struct EntryReader<R> {
+pub struct EntryReader<R: Read> {
     rows: Reader<R>,
     row: ByteRecord,
-    given: u32,
+    delimiter: u8,
+    // The reader as it was given, and the entries given: both take no memory.
+    source: Snapshot<R>,
+    given: Vec<Snapshot<Entry>>,
     done: bool,
     failed: bool,
     ghost live: { failed ≡ false → (reader_trim rows ≡ trim.None) × (took_first rows ≡ true) × (is_flexible rows ≡ true) },
-    ghost count: { given ≤ 1000000 },
+    ghost few: { length given.items ≤ record_limit },
+    ghost stands: { ∥ IfSome (R.remaining source.value) (λ text. Stands delimiter text failed (rows_left R.remaining done rows) (entries_shown given.items)) ∥₁ },
+    // Where the reader tells its bytes, the entries given are the first of the text.
+    pub ghost first: { ∥ IfSome (R.remaining source.value) (λ text. HasFirstEntries delimiter text (entries_shown given.items)) ∥₁ },
 }
 
 /// What an error of csv's reader that stops it means.
@@ -58,8 +67,9 @@ fn fault(e: &Error) -> EntryFault
 }
 
 impl<R: Read + Drop> EntryReader<R> {
-    ghost use Rattle.register_records.specs.EntriesLeft.{Gives, Opens, entry_number, given_by, has_ended, has_faulted, is_stopped, rows_left};
-    ghost use Rattle.register_records.specs.Entries.{Fields, HasRecords};
+    ghost use Rattle.register_records.specs.Entries.{Fields, HasEntries, HasRecords, HasTooMany};
+    ghost use Rattle.register_records.specs.EntryReaders.{given_of, has_ended, has_faulted, is_stopped, reads_by, text_of};
+    ghost use Rattle.register_records.specs.EntryViews.{entry_number, entry_seen};
     ghost use Rattle.register_records.specs.Setups.{delimiter_of};
 
     /// Reads the header of a text: a first record of three fields that are `id`, `calendar` and `date`
@@ -71,13 +81,14 @@ impl<R: Read + Drop> EntryReader<R> {
     /// `BadHeader` where the first record is another or there is none, `ReadFault` where the reader
     /// answered a fault, and `OutOfMemory`. The reader is dropped with each.
     pub fn open(alloc: Global, reader: R, setup: &Setup) -> Result<EntryReader<R>, EntryFault>
-        // The header is accepted, and the records after it are left.
-        ensures accepts { IfOk result (λ r. IfSome (R.remaining reader) (λ text. Opens (delimiter_of setup.now) text (rows_left R.remaining r))) }
-        ensures none_given { IfOk result (λ r. given_by r ≡ 0) }
+        // It reads the text that the reader tells, and no entry was given yet.
+        ensures text { IfOk result (λ r. (text_of r ≡ R.remaining reader) × (reads_by r ≡ delimiter_of setup.now)) }
+        ensures none_given { IfOk result (λ r. given_of r ≡ []) }
         ensures goes { IfOk result (λ r. (has_faulted r ≡ false) × (has_ended r ≡ false)) }
         ensures bad { IfErr result (λ e. e ≡ EntryFault.BadHeader → IfSome (R.remaining reader) (λ text. (rows : List Fields) → HasRecords (delimiter_of setup.now) text rows → ⊥)) }
         ensures told { IfErr result (λ e. (e ≡ EntryFault.TooManyRecords → ⊥) × (e ≡ EntryFault.Failed → ⊥)) }
     {
+        let source = Snapshot::of(&reader);
         let mut rows = ReaderBuilder::new()
             .delimiter(setup.delimiter())
             .has_headers(false)
@@ -95,7 +106,9 @@ impl<R: Read + Drop> EntryReader<R> {
         Ok(EntryReader {
             rows,
             row,
-            given: 0,
+            delimiter: setup.delimiter(),
+            source,
+            given: Vec::new(alloc),
             done: false,
             failed: false,
         })
@@ -109,18 +122,19 @@ impl<R: Read + Drop> EntryReader<R> {
     /// given and one more record stands in the text, and `OutOfMemory`. After a fault each further
     /// call answers `Failed` and reads nothing.
     pub fn next(&mut self) -> Result<Option<Entry>, EntryFault>
-        // Where the reader tells its bytes: the next of the records that are left, or none of none.
-        ensures gives { IfOk result (λ o. Gives (rows_left R.remaining self.old) (rows_left R.remaining self.new) (given_by self.old) o) }
-        // The numbers go up from 1, whatever the reader tells.
-        ensures number { IfOk result (λ o. IfSome o (λ e. (entry_number e ≡ given_by self.old + 1) × (given_by self.new ≡ entry_number e) × (entry_number e ≤ 1000000))) }
+        // The entries given gain the entry, and nothing else.
+        ensures gives { IfOk result (λ o. IfSome o (λ e. given_of self.new ≡ given_of self.old ++ entry_seen e ∷ [])) }
+        ensures number { IfOk result (λ o. IfSome o (λ e. (entry_number e ≡ length (given_of self.old) + 1) × (entry_number e ≤ 1000000))) }
+        ensures kept { OnErr result (given_of self.new ≡ given_of self.old) }
+        ensures text { (text_of self.new ≡ text_of self.old) × (reads_by self.new ≡ reads_by self.old) }
+
+        // Where the reader tells its bytes, the entries given are at the end all of the text.
+        ensures all { result ≡ Ok None → ∥ IfSome (text_of self.new) (λ text. HasEntries (reads_by self.new) text (given_of self.new)) ∥₁ }
+        ensures many { IfErr result (λ e. e ≡ EntryFault.TooManyRecords → ∥ IfSome (text_of self.new) (λ text. HasTooMany (reads_by self.new) text) ∥₁) }
 
         // None comes only at the end, gives nothing, and comes again.
-        ensures ends { result ≡ Ok None → (has_ended self.new ≡ true) × (given_by self.new ≡ given_by self.old) }
+        ensures ends { result ≡ Ok None → (has_ended self.new ≡ true) × (given_of self.new ≡ given_of self.old) }
         ensures ended { has_faulted self.old ≡ false → has_ended self.old ≡ true → (result ≡ Ok None) × (self.new ≡ self.old) }
-
-        ensures many { IfErr result (λ e. e ≡ EntryFault.TooManyRecords → (given_by self.old ≡ 1000000)
-            × IfSome (rows_left R.remaining self.old) (λ rows. 0 < length rows)) }
-        ensures kept { OnErr result (given_by self.new ≡ given_by self.old) }
         ensures only_failed { has_faulted self.old ≡ false → IfErr result (λ e. e ≡ EntryFault.Failed → ⊥) }
         ensures no_header { IfErr result (λ e. e ≡ EntryFault.BadHeader → ⊥) }
         ensures failed { has_faulted self.old ≡ true → (result ≡ Err EntryFault.Failed) × (self.new ≡ self.old) }
@@ -146,11 +160,15 @@ impl<R: Read + Drop> EntryReader<R> {
                 return Err(fault(&e));
             }
         }
-        if self.given >= MAX_RECORDS {
+        if self.given.len() >= MAX_RECORDS as usize {
             self.failed = true;
             return Err(EntryFault::TooManyRecords);
         }
-        self.given += 1;
-        Ok(Some(Entry::read(self.given, &self.row)))
+        let entry = Entry::read(self.given.len() as u32 + 1, &self.row);
+        if self.given.push(Snapshot::of(&entry)).is_err() {
+            self.failed = true;
+            return Err(EntryFault::OutOfMemory);
+        }
+        Ok(Some(entry))
     }
 }

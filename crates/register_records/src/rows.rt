@@ -1,13 +1,15 @@
 // The row of an entry.
 
 ghost use Rattle.std.specs.Prelude.{◌≡◌, ◌≤◌, length};
-ghost use Rattle.register_records.specs.EntriesLeft.{entry_seen};
+ghost use Rattle.register_records.specs.EntryViews.{entry_seen};
 ghost use Rattle.register_records.specs.Outcomes.{IsRowOf};
 ghost use Rattle.register_records.specs.ShortLists.{items_in};
 ghost use Rattle.register_records.specs.Views.{row_made};
 
 use crate::entries::Entry;
+use crate::setups::Setup;
 use crate::short_lists::ShortList;
+use crate::sources::Note;
 use arrayvec::ArrayString;
 use date_texts::{Refusal, Target};
 use day_numbers::Day;
@@ -24,6 +26,9 @@ pub struct Row {
 }
 
 impl Row {
+    ghost use Rattle.std.specs.Prelude.{◌↔◌, ◌∷◌, [], true, MatchOption};
+    ghost use Rattle.register_records.specs.Setups.{targets_of};
+    ghost use Rattle.register_records.specs.Tables.{notes_of};
     ghost use Rattle.register_records.specs.RowViews.{row_cells, row_entry, row_outcome, row_seen, row_targets};
 
     /// The entry.
@@ -55,5 +60,25 @@ impl Row {
         ensures row { ∥ IsRowOf (row_targets self.now) (entry_seen (row_entry self.now)) (row_seen self.now) ∥₁ }
     {
         self.cells.as_slice()
+    }
+
+    /// Whether the row was made for the setup's targets.
+    pub fn is_for(&self, setup: &Setup) -> bool
+        ensures { (result ≡ true) ↔ (row_targets self.now ≡ targets_of setup.now) }
+    {
+        self.targets.as_slice() == setup.targets()
+    }
+
+    /// What the journal gains by the row: its number and its refusal, where it was refused.
+    pub fn note(&self) -> Option<Note>
+        ensures { MatchOption result (notes_of (row_seen self.now).number (row_seen self.now).outcome ≡ []) (λ n. notes_of (row_seen self.now).number (row_seen self.now).outcome ≡ n ∷ []) }
+    {
+        match self.outcome {
+            Ok(_) => None,
+            Err(refusal) => Some(Note {
+                number: self.entry.number(),
+                refusal,
+            }),
+        }
     }
 }

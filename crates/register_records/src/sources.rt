@@ -1,11 +1,11 @@
 // One source, on the caller's thread.
 
-ghost use Rattle.std.specs.Prelude.{◌≡◌, ◌≢◌, ◌≤◌, ◌<◌, true, List, length, IfSome, OnOk, ◌++◌};
+ghost use Rattle.std.specs.Prelude.{◌≡◌, ◌≢◌, ◌≤◌, true, List, length, IfSome, OnOk, ◌++◌};
 ghost use Rattle.register_records.specs.Causes.{IsCauseOfEntryFault, IsCauseOfRowFault};
-ghost use Rattle.register_records.specs.Entries.{Fields, HasRecords, record_limit};
+ghost use Rattle.register_records.specs.Entries.{Fields, HasRecords, HasTooMany};
 ghost use Rattle.register_records.specs.RowViews.{row_seen};
 ghost use Rattle.register_records.specs.Setups.{delimiter_of, targets_of};
-ghost use Rattle.register_records.specs.Sources.{GainsPart, GainsWhole, IfBroken, IfWhole, cause_number};
+ghost use Rattle.register_records.specs.Sources.{GainsPart, GainsWhole, IfBroken, IfWhole, cause_number, is_whole_end};
 ghost use Rattle.register_records.specs.Tables.{notes_of};
 
 use crate::converting::convert;
@@ -77,6 +77,15 @@ impl Cause {
     }
 }
 
+impl SourceEnd {
+    /// Whether the source ended whole.
+    pub fn is_whole(&self) -> bool
+        ensures { result ≡ is_whole_end self.now }
+    {
+        matches!(self, SourceEnd::Whole { .. })
+    }
+}
+
 /// The cause that a fault of reading entries becomes.
 fn cause_of_entry_fault(fault: EntryFault) -> Cause
     requires { fault ≡ EntryFault.Failed → ⊥ }
@@ -114,11 +123,8 @@ fn broken(cause: Cause) -> SourceEnd
 fn push_note(journal: &mut Vec<Note>, row: &Row) -> Result<(), AllocError>
     ensures { OnOk result (journal.new.items ≡ journal.old.items ++ notes_of (row_seen row.now).number (row_seen row.now).outcome) }
 {
-    if let Err(refusal) = row.outcome() {
-        journal.push(Note {
-            number: row.entry().number(),
-            refusal,
-        })?;
+    if let Some(note) = row.note() {
+        journal.push(note)?;
     }
     Ok(())
 }
@@ -137,18 +143,17 @@ pub fn convert_source<R: Read + Drop, W: Output>(
 ) -> SourceEnd
     // The output has gained the table, and nothing else; where the reader tells its bytes, these are
     // accepted and the table is theirs.
-    ensures whole { IfWhole result (λ rows refused journal. GainsWhole (delimiter_of setup.now) (targets_of setup.now) (R.remaining reader)
-        (W.contents output.old) (W.contents output.new) rows refused journal) }
+    ensures whole { IfWhole result (λ rows refused journal. ∥ GainsWhole (delimiter_of setup.now) (targets_of setup.now) (R.remaining reader)
+        (W.contents output.old) (W.contents output.new) rows refused journal ∥₁) }
     ensures numbers { IfWhole result (λ rows refused journal. (rows ≤ 1000000) × (refused ≤ rows) × (refused ≡ length journal)) }
     ensures handed_on { IfWhole result (λ rows refused journal. W.is_flushed output.new ≡ true) }
 
     // A source that is broken otherwise than by its output leaves a front of the table, or nothing.
-    ensures part { IfBroken result (λ c. (c ≢ Cause.SinkFault) → GainsPart (delimiter_of setup.now) (targets_of setup.now) (R.remaining reader)
-        (W.contents output.old) (W.contents output.new)) }
+    ensures part { IfBroken result (λ c. (c ≢ Cause.SinkFault) → ∥ GainsPart (delimiter_of setup.now) (targets_of setup.now) (R.remaining reader)
+        (W.contents output.old) (W.contents output.new) ∥₁) }
     ensures bad_header { IfBroken result (λ c. c ≡ Cause.BadHeader → (output.new ≡ output.old)
         × IfSome (R.remaining reader) (λ text. (records : List Fields) → HasRecords (delimiter_of setup.now) text records → ⊥)) }
-    ensures too_many { IfBroken result (λ c. c ≡ Cause.TooManyRecords → IfSome (R.remaining reader) (λ text. (records : List Fields)
-        × HasRecords (delimiter_of setup.now) text records × (record_limit < length records))) }
+    ensures too_many { IfBroken result (λ c. c ≡ Cause.TooManyRecords → ∥ IfSome (R.remaining reader) (λ text. HasTooMany (delimiter_of setup.now) text) ∥₁) }
     ensures never { IfBroken result (λ c. (c ≢ Cause.NoThread) × (c ≢ Cause.Unconfirmed)) }
 
     // The output has failed exactly where it had failed before or is the cause.

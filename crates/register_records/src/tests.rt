@@ -1,7 +1,7 @@
 // The tables that are wanted are worked by hand from the calendars' rules and from published day numbers.
 
 use crate::{
-    Body, Entry, EntryFault, EntryReader, Output, PlainOutput, RowFault, RowWriter, Setup,
+    Body, Cause, Entry, EntryFault, EntryReader, Output, PlainOutput, RowFault, RowWriter, Setup,
     SourceEnd, convert, convert_source,
 };
 use arrayvec::ArrayString;
@@ -491,6 +491,28 @@ fn entries_and_rows_tell_their_parts(rt: HostRuntime) -> Result<(), Fail> {
     assert_eq!(rt; row.targets().len(), 2);
     assert!(rt; row.outcome().is_ok_and(|day| day.number() == 577_736));
     assert_eq!(rt; row.cells().len(), 2);
+    assert!(rt; row.is_for(&setup));
+    assert!(rt; !row.is_for(&Setup::new(&[JULIAN, GREGORIAN], 16, b',')?));
+    assert!(rt; row.note().is_none());
+    assert_eq!(rt; RowFault::WriteFault.cause(), Some(Cause::SinkFault));
+    assert_eq!(rt; EntryFault::Failed.cause(), None);
+    Ok(())
+}
+
+#[test]
+fn lines_wait_until_they_are_sent(rt: HostRuntime) -> Result<(), Fail> {
+    let setup = both(b',')?;
+    let refused = Entry::new(1, Body::Refused(Refusal::NotUtf8)).ok_or("no entry")?;
+    let row = convert(refused, &setup);
+    let mut output = PlainOutput::new(Vec::new(rt.alloc()), 1);
+    let mut writer = RowWriter::open(rt.alloc(), &mut output, &setup)?;
+    writer.add(&row)?;
+    writer.add(&row)?;
+    writer.send(&mut output)?;
+    writer.send(&mut output)?;
+    writer.end()?;
+    let bytes = output.into_inner();
+    assert_eq!(rt; bytes.len(), HEADING.len() + 2 * b"1,,,,,,,,3\n".len());
     Ok(())
 }
 

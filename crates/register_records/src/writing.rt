@@ -1,9 +1,9 @@
 // Rows as lines, made whole before their first byte goes out.
 
-ghost use Rattle.std.specs.Prelude.{◌≡◌, ◌≤◌, ◌∷◌, [], true, false, length, OnOk, OnErr, IfOk, IfErr, Ok, Err, if◌then◌else◌};
+ghost use Rattle.std.specs.Prelude.{◌≡◌, ◌≤◌, ◌++◌, ◌∷◌, [], true, false, length, OnOk, OnErr, IfOk, IfErr, Ok, Err, if◌then◌else◌};
 ghost use Rattle.std.specs.Io.KnownBytes.{Appends};
 ghost use Rattle.register_records.specs.Entries.{body_seen};
-ghost use Rattle.register_records.specs.EntriesLeft.{entry_seen};
+ghost use Rattle.register_records.specs.EntryViews.{entry_seen};
 ghost use Rattle.register_records.specs.LineViews.{Begins, line_bytes, line_delimiter};
 ghost use Rattle.register_records.specs.Lines.{line_text};
 ghost use Rattle.register_records.specs.RowViews.{row_cells, row_entry, row_outcome, row_seen, row_targets};
@@ -36,12 +36,17 @@ pub enum RowFault {
     Failed,
 }
 
-/// Writes rows to an output that is lent to each call.
+/// Writes rows to an output that is lent to each call. Lines may wait until they are sent together.
 #[derive(Drop)]
 pub struct RowWriter {
     // The last line, whose memory serves again.
     line: Line,
+    // The lines that were not sent yet.
+    pending: Vec<u8>,
     failed: bool,
+    // The output failed.
+    sunk: bool,
+    ghost sinks: { failed ≡ false → sunk ≡ false },
 }
 
 /// The three texts of a body, which are empty where it was refused.
@@ -156,7 +161,7 @@ pub fn send<W: Output>(output: &mut W, bytes: &[u8]) -> Result<(), OutputFault>
 }
 
 impl RowWriter {
-    ghost use Rattle.register_records.specs.RowWriters.{has_faulted, writes_by};
+    ghost use Rattle.register_records.specs.RowWriters.{has_faulted, has_sunk, pending_of, writes_by};
 
     /// Writes the heading and flushes it.
     ///
@@ -171,7 +176,7 @@ impl RowWriter {
         ensures ok { OnOk result (Appends (W.contents output.old) (W.contents output.new)
             (line_text (delimiter_of setup.now) (heading (targets_of setup.now)))) }
         ensures flushed { OnOk result (W.is_flushed output.new ≡ true) }
-        ensures writer { IfOk result (λ w. (writes_by w ≡ delimiter_of setup.now) × (has_faulted w ≡ false)) }
+        ensures writer { IfOk result (λ w. (writes_by w ≡ delimiter_of setup.now) × (has_faulted w ≡ false) × (pending_of w ≡ [])) }
         ensures goes { OnOk result (W.has_failed output.new ≡ W.has_failed output.old) }
         ensures memory { IfErr result (λ e. e ≡ RowFault.OutOfMemory → output.new ≡ output.old) }
         ensures fault { IfErr result (λ e. e ≡ RowFault.WriteFault → W.has_failed output.new ≡ true) }
@@ -185,13 +190,80 @@ impl RowWriter {
         match send(output, line.as_slice()) {
             Ok(()) => Ok(RowWriter {
                 line,
+                pending: Vec::new(alloc),
                 failed: false,
+                sunk: false,
             }),
             Err(_) => Err(RowFault::WriteFault),
         }
     }
 
-    /// Writes the line of a row and flushes it.
+    /// Makes the line of a row, which waits behind those that wait already.
+    ///
+    /// # Errors
+    ///
+    /// `OutOfMemory`, and `Failed` after a fault; then the same lines wait as before.
+    pub fn add(&mut self, row: &Row) -> Result<(), RowFault>
+        ensures ok { OnOk result (pending_of self.new ≡ pending_of self.old ++ row_line (writes_by self.old) (row_targets row.now) (row_seen row.now)) }
+        ensures kept { OnErr result (pending_of self.new ≡ pending_of self.old) }
+        ensures by { writes_by self.new ≡ writes_by self.old }
+        ensures sunk { has_sunk self.new ≡ has_sunk self.old }
+        ensures goes { OnOk result ((has_faulted self.old ≡ false) × (has_faulted self.new ≡ false)) }
+        ensures fails { OnErr result (has_faulted self.new ≡ true) }
+        ensures told { IfErr result (λ e. e ≡ RowFault.WriteFault → ⊥) }
+        ensures only_failed { has_faulted self.old ≡ false → IfErr result (λ e. e ≡ RowFault.Failed → ⊥) }
+        ensures failed { has_faulted self.old ≡ true → (result ≡ Err RowFault.Failed) × (self.new ≡ self.old) }
+    {
+        if self.failed {
+            return Err(RowFault::Failed);
+        }
+        if make_row(&mut self.line, row).is_err() {
+            self.failed = true;
+            return Err(RowFault::OutOfMemory);
+        }
+        if self
+            .pending
+            .extend_from_slice(self.line.as_slice())
+            .is_err()
+        {
+            self.failed = true;
+            return Err(RowFault::OutOfMemory);
+        }
+        Ok(())
+    }
+
+    /// Writes the lines that wait and flushes them; then none waits. It does so after want of memory too.
+    ///
+    /// # Errors
+    ///
+    /// `WriteFault` where the output has failed, and `Failed` after it: then nothing is written.
+    pub fn send<W: Output>(&mut self, output: &mut W) -> Result<(), RowFault>
+        ensures ok { OnOk result (Appends (W.contents output.old) (W.contents output.new) (pending_of self.old)) }
+        ensures sent { OnOk result (pending_of self.new ≡ []) }
+        ensures flushed { OnOk result (W.is_flushed output.new ≡ true) }
+        ensures by { writes_by self.new ≡ writes_by self.old }
+        ensures goes { OnOk result ((W.has_failed output.new ≡ W.has_failed output.old) × (has_faulted self.new ≡ has_faulted self.old)
+            × (has_sunk self.old ≡ false) × (has_sunk self.new ≡ false)) }
+        ensures fails { OnErr result ((has_faulted self.new ≡ true) × (has_sunk self.new ≡ true)) }
+        ensures fault { IfErr result (λ e. e ≡ RowFault.WriteFault → W.has_failed output.new ≡ true) }
+        ensures told { IfErr result (λ e. e ≡ RowFault.OutOfMemory → ⊥) }
+        ensures only_failed { has_sunk self.old ≡ false → IfErr result (λ e. e ≡ RowFault.Failed → ⊥) }
+        ensures failed { has_sunk self.old ≡ true → (result ≡ Err RowFault.Failed) × (output.new ≡ output.old) × (self.new ≡ self.old) }
+        ensures mark { W.own_mark output.new ≡ W.own_mark output.old }
+    {
+        if self.sunk {
+            return Err(RowFault::Failed);
+        }
+        if send(output, self.pending.as_slice()).is_err() {
+            self.failed = true;
+            self.sunk = true;
+            return Err(RowFault::WriteFault);
+        }
+        self.pending.clear();
+        Ok(())
+    }
+
+    /// Writes the lines that wait and then the line of a row, and flushes them; then none waits.
     ///
     /// # Errors
     ///
@@ -199,7 +271,8 @@ impl RowWriter {
     /// after a fault: then nothing is written.
     pub fn put<W: Output>(&mut self, output: &mut W, row: &Row) -> Result<(), RowFault>
         ensures ok { OnOk result (Appends (W.contents output.old) (W.contents output.new)
-            (row_line (writes_by self.old) (row_targets row.now) (row_seen row.now))) }
+            (pending_of self.old ++ row_line (writes_by self.old) (row_targets row.now) (row_seen row.now))) }
+        ensures sent { OnOk result (pending_of self.new ≡ []) }
         ensures flushed { OnOk result (W.is_flushed output.new ≡ true) }
         ensures by { writes_by self.new ≡ writes_by self.old }
         ensures goes { OnOk result ((W.has_failed output.new ≡ W.has_failed output.old) × (has_faulted self.old ≡ false) × (has_faulted self.new ≡ false)) }
@@ -210,18 +283,10 @@ impl RowWriter {
         ensures failed { has_faulted self.old ≡ true → (result ≡ Err RowFault.Failed) × (output.new ≡ output.old) }
         ensures mark { W.own_mark output.new ≡ W.own_mark output.old }
     {
-        if self.failed {
-            return Err(RowFault::Failed);
+        match self.add(row) {
+            Ok(()) => self.send(output),
+            Err(fault) => Err(fault),
         }
-        if make_row(&mut self.line, row).is_err() {
-            self.failed = true;
-            return Err(RowFault::OutOfMemory);
-        }
-        if send(output, self.line.as_slice()).is_err() {
-            self.failed = true;
-            return Err(RowFault::WriteFault);
-        }
-        Ok(())
     }
 
     /// Ends the writing.

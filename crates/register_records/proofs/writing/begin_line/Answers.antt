@@ -1,7 +1,7 @@
 use Rattle.std.proofs.Common.{◌≡◌, ◌∷◌, [], ◌∙◌, ap, arith, sym}
 use Rattle.std.specs.Fmt.{decimal}
 use Rattle.register_records.specs.Entries.{body_seen}
-use Rattle.register_records.specs.EntriesLeft.{entry_body, entry_number}
+use Rattle.register_records.specs.EntryViews.{entry_body, entry_number}
 use Rattle.register_records.specs.LineViews.{line_delimiter}
 use Rattle.register_records.specs.RowViews.{row_entry, row_seen}
 use Rattle.register_records.specs.Tables.{entry_fields, text_fields}

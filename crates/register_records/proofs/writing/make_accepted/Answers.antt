@@ -8,7 +8,7 @@ use Rattle.arrayvec.specs.ArrayString.{ArrayString}
 use Rattle.day_numbers.specs.Days.{weekday_name, weekday_number}
 use Rattle.register_records.specs.LineViews.{line_delimiter}
 use Rattle.register_records.specs.RowViews.{row_cells, row_entry, row_seen, row_targets}
-use Rattle.register_records.specs.EntriesLeft.{entry_seen}
+use Rattle.register_records.specs.EntryViews.{entry_seen}
 use Rattle.register_records.specs.Outcomes.{IsRowOf}
 use Rattle.register_records.specs.Tables.{entry_fields, row_fields, weekday_at}
 use Rattle.register_records.specs.Views.{outcome_seen}

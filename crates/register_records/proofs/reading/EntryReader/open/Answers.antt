@@ -1,9 +1,12 @@
-use Rattle.std.proofs.Common.{◌≡◌, inr, rules, false}
+use Rattle.std.proofs.Common.{◌≡◌, ap, arith, inr, rules, false}
 use Rattle.csv.specs.Reading.{names_headers, reader_config, reader_trim}
 use Rattle.csv.specs.declared.reader.Trim.TheVariants as trim
 use Rattle.register_records.specs.Entries.{reading}
+use Rattle.csv.specs.Records.{fields_of}
+use Rattle.register_records.specs.Given.{entries_shown, records_left}
 use Rattle.register_records.specs.Setups.{delimiter_of}
-use Rattle.register_records.proofs.EntrySteps.{at-start, opens, read-more, read-none, refuses, refuses-none}
+use Rattle.register_records.proofs.EntrySteps.{at-start, read-more, read-none, refuses, refuses-none}
+use Rattle.register_records.proofs.GivenFacts.{first-step, may-first}
 use Rattle.register_records.proofs.reading.EntryReader.open.Goals as goal
 use Rattle.register_records.proofs.reading.EntryReader.open.Goals.{then-not-found-via-else-not-found+then-not-is_header, then-not-found-via-then-not-found}
 
@@ -26,14 +29,15 @@ returns-then-not-found-clause-bad g c _ =
           (λ h. cc (w.is_header.ensures.1 h, w.if-not-is_header.true))
     ]
 
-pub returns-clause-accepts : goal.returns-clause-accepts
-returns-clause-accepts g c =
+pub invariant_of-result : goal.invariant_of-result
+invariant_of-result g c =
     let fr = c.from_reader-rows.ensures in
     let config : reader_config c.from_reader-rows.result ≡ reading (delimiter_of c.args.setup.now) = search rules in
     let plain : reader_trim c.from_reader-rows.result ≡ trim.None = search rules in
     let named : names_headers c.from_reader-rows.result ≡ false = search rules in
     let some = rw c.if-not-found.false at (c.in-Ok.ensures.reads plain (inr (inr (named, fr.headers)))) in
     let start = at-start g.R.Read.remaining c.from_reader-rows.result (delimiter_of c.args.setup.now) (g.R.Read.remaining c.args.reader) config fr.state fr.source in
-    opens _ _ (delimiter_of c.args.setup.now) _
+    let stands = first-step (g.R.Read.remaining c.args.reader) (g.R.Read.remaining c.of-source.result.value) (records_left g.R.Read.remaining c.read_byte_record.new.self) (delimiter_of c.args.setup.now) c.delimiter-3.result (entries_shown c.new-2.result.items) (fields_of c.read_byte_record.new.row) (ap g.R.Read.remaining c.of-source.ensures) c.delimiter-3.ensures.value (ap entries_shown c.new-2.ensures.items)
     (rw start at (read-more g.R.Read.remaining c.from_reader-rows.result c.read_byte_record.new.self _ some))
-    (c.is_header.ensures.0 c.if-not-is_header.false)
+    (c.is_header.ensures.0 c.if-not-is_header.false) in
+    record { live = search rules; few = rw c.new-2.ensures.items (omega arith); stands = stands; first = may-first _ _ _ _ _ stands }

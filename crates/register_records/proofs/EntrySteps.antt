@@ -8,8 +8,8 @@ use Rattle.csv.specs.declared.parser.State.{State}
 use Rattle.csv.specs.declared.parser.State.TheVariants as st
 use Rattle.csv.proofs.ReadFacts.{rows-end, rows-more}
 use Rattle.register_records.specs.Headers.{IsHeader}
-use Rattle.register_records.specs.Entries.{HasRecords, Fields, all_after, reading, text_records}
-use Rattle.register_records.specs.Given.{records_left}
+use Rattle.register_records.specs.Entries.{HasNoHeader, HasRecords, Fields, reading, text_records}
+use Rattle.register_records.specs.ReadingState.{all_after, records_left}
 use Rattle.register_records.proofs.RecordsLeft.{all-more, all-none}
 
 -- this record was the first of those that were left
@@ -59,13 +59,13 @@ at-start rem a d (Some text) config state source = rw (source, config, state) re
 
 -- a first record that is none
 pub refuses : (o : Option (List ℕ)) (y : Option (List Fields)) (d : ℕ) (f : Fields) → TakesFirst (option_map (text_records d) o) y f → (IsHeader f → ⊥)
-    → IfSome o (λ text. (rows : List Fields) → HasRecords d text rows → ⊥)
+    → IfSome o (λ text. HasNoHeader d text)
 refuses None y d f t h = tt
 refuses (Some text) None d f t h = absurd t
 refuses (Some text) (Some rest) d f t h = λ rows a. let same : a.0 ≡ f = cc (t, a.1) in h (rw same at a.2)
 
 -- no record
 pub refuses-none : (o : Option (List ℕ)) (d : ℕ) → IfSome (option_map (text_records d) o) (λ rows. rows ≡ [])
-    → IfSome o (λ text. (rows : List Fields) → HasRecords d text rows → ⊥)
+    → IfSome o (λ text. HasNoHeader d text)
 refuses-none None d t = tt
 refuses-none (Some text) d t = λ rows a. let none : a.0 ∷ rows ≡ [] = sym a.1 ∙ t in cc

@@ -7,8 +7,9 @@ use Rattle.std.proofs.lemmas.List.{append-nil, length-append}
 use Rattle.std.specs.declared.snapshot.Snapshot.{Snapshot}
 use Rattle.register_records.specs.Headers.{IsHeader}
 use Rattle.register_records.specs.Entries.{Fields, HasEntries, HasFirstEntries, HasTooMany, Numbered, body_of, body_seen, entries_from, record_limit, text_records}
-use Rattle.register_records.specs.EntryViews.{entry_body, entry_number, entry_seen}
-use Rattle.register_records.specs.Given.{Stands, entries_shown}
+use Rattle.register_records.specs.Seen.{entry_body, entry_number, entry_seen}
+use Rattle.register_records.specs.ReadingState.{Stands}
+use Rattle.register_records.specs.Seen.{entries_shown}
 use Rattle.register_records.specs.declared.entries.Entry.{Entry}
 use Rattle.register_records.proofs.EntrySteps.{TakesFirst}
 

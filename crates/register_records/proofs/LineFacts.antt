@@ -18,7 +18,7 @@ use Rattle.day_numbers.specs.declared.day.Weekday.TheVariants.{Sunday, Monday, T
 use Rattle.register_records.specs.Lines.{line_text, writing}
 use Rattle.register_records.specs.SetupRules.{is_delimiter}
 use Rattle.register_records.specs.Outcomes.{AreCellsOn, TableRow}
-use Rattle.register_records.specs.Views.{cells_seen}
+use Rattle.register_records.specs.Seen.{cells_seen}
 use Rattle.date_texts.specs.Cells.{is_plain}
 use Rattle.date_texts.specs.Laws.{CellsArePlain}
 use Rattle.register_records.specs.Tables.{entry_fields, row_fields, weekday_at}

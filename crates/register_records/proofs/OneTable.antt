@@ -127,6 +127,6 @@ module _ (one-calendar : OneCalendar) (one_date_text : OneDateText) (one_cell : 
       made ∙ (ap entries_of same ∙ sym made2)
 
   pub one-table : OneTable
-  one-table d targets text entries others rows more h k a b =
-      let same = one-list d text entries others h k in
-      (same, one-rows targets others rows more (rw same at a) b)
+  one-table layout text entries others rows more h k a b =
+      let same = one-list layout.delimiter text entries others h k in
+      (same, one-rows layout.targets others rows more (rw same at a) b)

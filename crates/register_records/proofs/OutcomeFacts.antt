@@ -12,7 +12,7 @@ use Rattle.register_records.specs.Entries.{Texts}
 use Rattle.date_texts.specs.Names.{IsNamed}
 use Rattle.register_records.specs.Outcomes.{AreCellsOn, IsOutcome, Says}
 use Rattle.register_records.specs.Outcomes as outcome
-use Rattle.register_records.specs.Views.{cells_seen, outcome_seen}
+use Rattle.register_records.specs.Seen.{cells_seen, outcome_seen}
 use Rattle.date_texts.specs.declared.calendar.Calendar.{Calendar}
 use Rattle.date_texts.specs.declared.calendar.Target.{Target}
 use Rattle.date_texts.specs.declared.date.Date.{Date}

@@ -6,7 +6,8 @@ use Rattle.csv.specs.Reading.{AreRecords, Reached, records_from, records_next}
 use Rattle.csv.specs.declared.parser.Config.{Config}
 use Rattle.csv.specs.declared.parser.State.{State}
 use Rattle.csv.specs.declared.parser.State.TheVariants as st
-use Rattle.register_records.specs.Entries.{Fields, all_after}
+use Rattle.register_records.specs.Entries.{Fields}
+use Rattle.register_records.specs.ReadingState.{all_after}
 
 -- one of two ways to a record
 either-way : (b : Bool) (first : Read) (more : Option Read) (p : Read) (n : ℕ) → (if b then Some first else more) ≡ Some p → length first.2 ≤ n

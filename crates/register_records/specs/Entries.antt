@@ -2,8 +2,7 @@
 use Rattle.std.specs.Prelude.{◌≡◌, ◌≤◌, ◌<◌, ◌+◌, ◌++◌, ⊤, ◌&&◌, Bool, true, false, nat_le, nat_lt, ℕ, List, [], ◌∷◌, length, Result, Ok, Err, if◌then◌else◌}
 use Rattle.std.specs.Str.{is_utf8}
 use Rattle.csv.specs.declared.parser.Config.{Config}
-use Rattle.csv.specs.declared.parser.State.{State}
-use Rattle.csv.specs.Reading.{default_config, records, records_from, strip_bom}
+use Rattle.csv.specs.Reading.{default_config, records, strip_bom}
 use Rattle.register_records.specs.Headers.{IsHeader}
 use Rattle.date_texts.specs.declared.refusal.Refusal.{Refusal}
 use Rattle.date_texts.specs.declared.refusal.Refusal.TheVariants as refusal
@@ -22,13 +21,13 @@ reading delimiter = record default_config { delimiter = delimiter }
 abbrev pub text_records : ℕ → List ℕ → List Fields
 text_records delimiter text = records (reading delimiter) (strip_bom text)
 
--- every record of a text, from a state between two records
-abbrev pub all_after : Config → State → List ℕ → List Fields
-all_after config state bytes = records_from config (length bytes + 1) state bytes
-
 -- the first record of the text is an accepted header, and these records follow it
 abbrev pub HasRecords : ℕ → List ℕ → List Fields → Type 0
-HasRecords delimiter text rows = (header : Fields) × (text_records delimiter text ≡ header ∷ rows) × IsHeader header
+HasRecords delimiter text after = (header : Fields) × (text_records delimiter text ≡ header ∷ after) × IsHeader header
+
+-- the first record of the text is no accepted header, or there is none
+abbrev pub HasNoHeader : ℕ → List ℕ → Type 0
+HasNoHeader delimiter text = (after : List Fields) → HasRecords delimiter text after → ⊥
 
 -- the three texts of a record
 pub record Texts : Type 0 where
@@ -85,27 +84,28 @@ record_limit = 1000000
 -- the entries of these records, the first of which has the number after k; there is none past the limit
 unfoldable pub entries_from : ℕ → List Fields → List Numbered
 entries_from k [] = []
-entries_from k (r ∷ rows) = if nat_lt k record_limit then record { number = k + 1; body = body_of r } ∷ entries_from (k + 1) rows else []
+entries_from k (r ∷ rest) =
+    if nat_lt k record_limit then record { number = k + 1; body = body_of r } ∷ entries_from (k + 1) rest else []
 
 -- the entries of a text, by the records after its header
 abbrev pub entries_of : List Fields → List Numbered
-entries_of rows = entries_from 0 rows
+entries_of records = entries_from 0 records
 
 -- the text is accepted, and these are its entries
 abbrev pub HasEntries : ℕ → List ℕ → List Numbered → Type 0
 HasEntries delimiter text entries =
-    (records : List Fields) × HasRecords delimiter text records × (length records ≤ record_limit) × (entries ≡ entries_of records)
+    (after : List Fields) × HasRecords delimiter text after × (length after ≤ record_limit) × (entries ≡ entries_of after)
 
 -- the text has an accepted header, and these are its first entries
 abbrev pub HasFirstEntries : ℕ → List ℕ → List Numbered → Type 0
 HasFirstEntries delimiter text entries =
-    (records : List Fields) × (rest : List Numbered) × HasRecords delimiter text records × (entries_of records ≡ entries ++ rest)
+    (after : List Fields) × (rest : List Numbered) × HasRecords delimiter text after × (entries_of after ≡ entries ++ rest)
 
 -- these entries are numbered in order, the first with this number
 abbrev pub AreNumberedFrom : ℕ → List Numbered → Type 0
 AreNumberedFrom k [] = ⊤
 AreNumberedFrom k (entry ∷ entries) = (entry.number ≡ k) × AreNumberedFrom (k + 1) entries
 
--- the text is accepted but for this: it has more records than a source may have
+-- more records follow the accepted header of the text than a source may have
 abbrev pub HasTooMany : ℕ → List ℕ → Type 0
-HasTooMany delimiter text = (records : List Fields) × HasRecords delimiter text records × (record_limit < length records)
+HasTooMany delimiter text = (after : List Fields) × HasRecords delimiter text after × (record_limit < length after)

@@ -9,15 +9,15 @@ use Rattle.date_texts.specs.declared.calendar.Target.{Target}
 use Rattle.date_texts.specs.declared.calendar.Target.TheVariants.{Date as DateTarget}
 use Rattle.register_records.specs.Entries.{HasEntries, Numbered, Texts}
 use Rattle.register_records.specs.Outcomes.{AreRowsOf, IsOutcome, TableRow}
-use Rattle.register_records.specs.Tables.{journal_of, notes_of, row_line, table_text}
+use Rattle.register_records.specs.Tables.{Layout, journal_of, notes_of, row_line, table_text}
 
 -- a text has one list of entries at most, and entries have one list of rows at most: so a text has one
 -- table and one journal at most
 abbrev pub OneTable : Type 0
 OneTable =
-    (delimiter : ℕ) (targets : List Target) (text : List ℕ) (entries others : List Numbered) (rows more : List TableRow)
-    → HasEntries delimiter text entries → HasEntries delimiter text others → AreRowsOf targets entries rows → AreRowsOf targets others more
-    → (entries ≡ others) × (rows ≡ more)
+    (layout : Layout) (text : List ℕ) (entries others : List Numbered) (rows more : List TableRow)
+    → HasEntries layout.delimiter text entries → HasEntries layout.delimiter text others
+    → AreRowsOf layout.targets entries rows → AreRowsOf layout.targets others more → (entries ≡ others) × (rows ≡ more)
 
 -- a cell of a calendar that is not empty, read as a date of that calendar, gives the cell's day again
 abbrev pub CellsReadBack : Type 0
@@ -28,6 +28,6 @@ CellsReadBack =
 -- one more row: the table gains its line at the end, and the journal its note
 abbrev pub TablesGrow : Type 0
 TablesGrow =
-    (delimiter : ℕ) (targets : List Target) (rows : List TableRow) (row : TableRow)
-    → (table_text delimiter targets (rows ++ row ∷ []) ≡ table_text delimiter targets rows ++ row_line delimiter targets row)
+    (layout : Layout) (rows : List TableRow) (row : TableRow)
+    → (table_text layout (rows ++ row ∷ []) ≡ table_text layout rows ++ row_line layout row)
     × (journal_of (rows ++ row ∷ []) ≡ journal_of rows ++ notes_of row.number row.outcome)

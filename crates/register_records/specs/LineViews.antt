@@ -1,4 +1,4 @@
--- What a clause sees of a `Line`.
+-- What a clause sees of a `Line`. No public contract cites this file.
 use Rattle.std.specs.Prelude.{◌≡◌, ℕ, List}
 use Rattle.csv.specs.Writing.{row_body}
 use Rattle.register_records.specs.Lines.{writing}

@@ -1,5 +1,6 @@
 -- What becomes of an entry: its day and its cells, or the first refusal that applies.
-use Rattle.std.specs.Prelude.{◌≡◌, ℕ, ℤ, List, [], ◌∷◌, Result, Ok, Err, ⊤}
+use Rattle.std.specs.Prelude.{◌≡◌, ℕ, ℤ, List, [], Result, Ok, Err}
+use Rattle.std.specs.List.{AllZip}
 use Rattle.day_numbers.specs.Days.{IsDayNumber}
 use Rattle.date_texts.specs.Calendars.{calendar_name}
 use Rattle.date_texts.specs.Cells.{IsCell}
@@ -34,10 +35,7 @@ pub data IsOutcome : Result Texts Refusal → Result ℤ Refusal → Type 0 wher
 
 -- the cells of a day, one for each target in order
 abbrev pub AreCellsOn : ℤ → List Target → List (List ℕ) → Type 0
-AreCellsOn n [] [] = ⊤
-AreCellsOn n [] (cell ∷ cells) = ⊥
-AreCellsOn n (target ∷ targets) [] = ⊥
-AreCellsOn n (target ∷ targets) (cell ∷ cells) = IsCell target n cell × AreCellsOn n targets cells
+AreCellsOn n targets cells = AllZip (λ target cell. IsCell target n cell) targets cells
 
 -- the cells of an outcome: a refused row has none
 abbrev pub AreCells : List Target → Result ℤ Refusal → List (List ℕ) → Type 0
@@ -60,7 +58,4 @@ pub record IsRowOf (targets : List Target) (entry : Numbered) (row : TableRow) :
 
 -- the rows of these entries, one for each in order
 abbrev pub AreRowsOf : List Target → List Numbered → List TableRow → Type 0
-AreRowsOf targets [] [] = ⊤
-AreRowsOf targets [] (row ∷ rows) = ⊥
-AreRowsOf targets (entry ∷ entries) [] = ⊥
-AreRowsOf targets (entry ∷ entries) (row ∷ rows) = IsRowOf targets entry row × AreRowsOf targets entries rows
+AreRowsOf targets entries rows = AllZip (IsRowOf targets) entries rows

@@ -13,3 +13,7 @@ is_ring_size n = nat_le 1 n && nat_le n 4096
 -- a comma, a semicolon or a tab
 abbrev pub is_delimiter : ℕ → Bool
 is_delimiter b = (b == 44) || ((b == 59) || (b == 9))
+
+-- a source has 1 to 4 converters
+abbrev pub is_stripe_count : ℕ → Bool
+is_stripe_count n = nat_le 1 n && nat_le n 4

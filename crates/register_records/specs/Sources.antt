@@ -3,13 +3,46 @@ use Rattle.std.specs.Prelude.{◌≡◌, ◌⊎◌, ℕ, List, [], length, Optio
 use Rattle.std.specs.Io.KnownBytes.{Appends}
 use Rattle.register_records.specs.Entries.{AreNumberedFrom, HasEntries, HasFirstEntries, Numbered}
 use Rattle.register_records.specs.Outcomes.{AreRowsOf, TableRow}
-use Rattle.register_records.specs.Tables.{journal_of, table_text}
-use Rattle.date_texts.specs.declared.calendar.Target.{Target}
+use Rattle.register_records.specs.Tables.{Layout, journal_of, table_text}
 use Rattle.register_records.specs.declared.sources.Cause.{Cause}
 use Rattle.register_records.specs.declared.sources.Cause.TheVariants as cause
 use Rattle.register_records.specs.declared.sources.Note.{Note}
 use Rattle.register_records.specs.declared.sources.SourceEnd.{SourceEnd}
 use Rattle.register_records.specs.declared.sources.SourceEnd.TheVariants as end
+
+-- the output gained bytes that are as said, and nothing else
+abbrev pub Gains : Option (List ℕ) → Option (List ℕ) → (List ℕ → Type 0) → Type 0
+Gains old new AreAsSaid = (bytes : List ℕ) × AreAsSaid bytes × Appends old new bytes
+
+-- these bytes are the table of these entries, numbered from 1: the heading's line, and the line of each one's row
+pub record IsTableOf (layout : Layout) (entries : List Numbered) (rows : List TableRow) (bytes : List ℕ) : Type 0 where
+  pub numbered : AreNumberedFrom 1 entries
+  pub converted : AreRowsOf layout.targets entries rows
+  pub written : bytes ≡ table_text layout rows
+
+-- these bytes are the whole table, with so many rows and refused rows, and this journal; and where the text is known,
+-- it is accepted and the entries are its own
+pub record IsWholeTable (layout : Layout) (text : Option (List ℕ)) (count refused : ℕ) (journal : List Note)
+    (bytes : List ℕ) : Type 0 where
+  pub entries : List Numbered
+  pub rows : List TableRow
+  pub table : IsTableOf layout entries rows bytes
+  pub counted : count ≡ length rows
+  pub noted : journal ≡ journal_of rows
+  pub refused_counted : refused ≡ length journal
+  pub accepted : IfSome text (λ t. HasEntries layout.delimiter t entries)
+
+-- these bytes are a front of the table: its heading and its first rows, so many
+pub record IsFrontOfTable (layout : Layout) (text : Option (List ℕ)) (count : ℕ) (bytes : List ℕ) : Type 0 where
+  pub entries : List Numbered
+  pub rows : List TableRow
+  pub table : IsTableOf layout entries rows bytes
+  pub counted : count ≡ length rows
+  pub first : IfSome text (λ t. HasFirstEntries layout.delimiter t entries)
+
+-- these bytes are none, or a front of the table
+abbrev pub ArePartOfTable : Layout → Option (List ℕ) → List ℕ → Type 0
+ArePartOfTable layout text bytes = (bytes ≡ []) ⊎ ((count : ℕ) × IsFrontOfTable layout text count bytes)
 
 abbrev pub IfWhole : SourceEnd → (ℕ → ℕ → List Note → Type 0) → Type 0
 IfWhole (end.Whole rows refused journal) P = P rows refused journal.items
@@ -23,34 +56,6 @@ IfBroken (end.Broken cause) P = P cause
 abbrev pub is_whole_end : SourceEnd → Bool
 is_whole_end (end.Whole rows refused journal) = true
 is_whole_end (end.Broken cause) = false
-
--- the output gained the table of these rows, which are the rows of these entries, numbered from 1
-pub record GainsTable (delimiter : ℕ) (targets : List Target) (old new : Option (List ℕ)) (entries : List Numbered) (rows : List TableRow) : Type 0 where
-  pub numbered : AreNumberedFrom 1 entries
-  pub converted : AreRowsOf targets entries rows
-  pub gained : Appends old new (table_text delimiter targets rows)
-
--- the output gained the whole table, with so many rows and refused rows, and this journal; and where
--- the reader tells its bytes, they are accepted and the entries are theirs
-pub record GainsWhole (delimiter : ℕ) (targets : List Target) (text old new : Option (List ℕ)) (count refused : ℕ) (journal : List Note) : Type 0 where
-  pub entries : List Numbered
-  pub rows : List TableRow
-  pub table : GainsTable delimiter targets old new entries rows
-  pub counted : count ≡ length rows
-  pub noted : journal ≡ journal_of rows
-  pub refused_counted : refused ≡ length journal
-  pub accepted : IfSome text (λ t. HasEntries delimiter t entries)
-
--- the output gained a front of the table: its heading and its first rows
-pub record GainsFront (delimiter : ℕ) (targets : List Target) (text old new : Option (List ℕ)) : Type 0 where
-  pub entries : List Numbered
-  pub rows : List TableRow
-  pub table : GainsTable delimiter targets old new entries rows
-  pub first : IfSome text (λ t. HasFirstEntries delimiter t entries)
-
--- the output gained nothing, or a front of the table
-abbrev pub GainsPart : ℕ → List Target → Option (List ℕ) → Option (List ℕ) → Option (List ℕ) → Type 0
-GainsPart delimiter targets text old new = Appends old new [] ⊎ GainsFront delimiter targets text old new
 
 -- the number of a cause
 abbrev pub cause_number : Cause → ℕ

@@ -13,10 +13,16 @@ use Rattle.date_texts.specs.declared.calendar.Target.{Target}
 use Rattle.date_texts.specs.declared.refusal.Refusal.{Refusal}
 use Rattle.register_records.specs.declared.sources.Note.{Note}
 
+-- what a table is asked for: the byte between two fields, and the targets of its columns
+pub record Layout : Type 0 where
+  pub delimiter : ℕ
+  pub targets : List Target
+
 -- the heading: six columns, one for each target, and the refusal
 abbrev pub heading : List Target → List (List ℕ)
 heading targets =
-    (codes "row" ∷ codes "id" ∷ codes "calendar" ∷ codes "date" ∷ codes "rd" ∷ codes "weekday" ∷ map target_name targets) ++ (codes "refusal" ∷ [])
+    (codes "row" ∷ codes "id" ∷ codes "calendar" ∷ codes "date" ∷ codes "rd" ∷ codes "weekday" ∷ map target_name targets)
+    ++ (codes "refusal" ∷ [])
 
 -- the three texts as they stand in the record; a record that was refused before has none
 abbrev pub text_fields : Result Texts Refusal → List (List ℕ)
@@ -42,18 +48,22 @@ entry_fields row = decimal row.number ∷ text_fields row.body
 abbrev pub row_fields : List Target → TableRow → List (List ℕ)
 row_fields targets row = entry_fields row ++ outcome_fields targets row.outcome row.cells
 
+-- the line of the heading
+abbrev pub heading_line : Layout → List ℕ
+heading_line layout = line_text layout.delimiter (heading layout.targets)
+
 -- the line of a row
-abbrev pub row_line : ℕ → List Target → TableRow → List ℕ
-row_line delimiter targets row = line_text delimiter (row_fields targets row)
+abbrev pub row_line : Layout → TableRow → List ℕ
+row_line layout row = line_text layout.delimiter (row_fields layout.targets row)
 
 -- the lines of rows, in order
-unfoldable pub lines_text : ℕ → List Target → List TableRow → List ℕ
-lines_text delimiter targets [] = []
-lines_text delimiter targets (row ∷ rows) = row_line delimiter targets row ++ lines_text delimiter targets rows
+unfoldable pub lines_text : Layout → List TableRow → List ℕ
+lines_text layout [] = []
+lines_text layout (row ∷ rows) = row_line layout row ++ lines_text layout rows
 
 -- the table of rows: the heading's line and theirs
-abbrev pub table_text : ℕ → List Target → List TableRow → List ℕ
-table_text delimiter targets rows = line_text delimiter (heading targets) ++ lines_text delimiter targets rows
+abbrev pub table_text : Layout → List TableRow → List ℕ
+table_text layout rows = heading_line layout ++ lines_text layout rows
 
 -- what a row adds to the journal: its number and its refusal, where it was refused
 abbrev pub notes_of : ℕ → Result ℤ Refusal → List Note

@@ -1,4 +1,4 @@
-// The cause that a fault is.
+//! The cause that a fault is.
 
 ghost use Rattle.std.specs.Prelude.{◌≡◌};
 ghost use Rattle.register_records.specs.Causes.{entry_fault_cause, row_fault_cause};

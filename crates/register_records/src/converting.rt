@@ -1,13 +1,11 @@
-// The conversion of an entry.
+//! The conversion of an entry.
 
 ghost use Rattle.std.specs.Prelude.{◌≡◌, ◌≤◌, [], length};
-ghost use Rattle.register_records.specs.Entries.{body_seen};
-ghost use Rattle.register_records.specs.EntryViews.{entry_seen};
 ghost use Rattle.register_records.specs.Outcomes.{AreCells, IsOutcome, IsRowOf};
-ghost use Rattle.register_records.specs.RowViews.{row_entry, row_seen, row_targets};
-ghost use Rattle.register_records.specs.Setups.{targets_of};
+ghost use Rattle.register_records.specs.Entries.{body_seen};
+ghost use Rattle.register_records.specs.Seen.{cells_seen, entry_seen, outcome_seen};
 ghost use Rattle.register_records.specs.ShortLists.{items_in};
-ghost use Rattle.register_records.specs.Views.{cells_seen, outcome_seen};
+ghost use Rattle.register_records.specs.Views.{row_entry, row_seen, row_targets, targets_of};
 
 use crate::entries::{Body, Entry};
 use crate::rows::Row;

@@ -1,4 +1,4 @@
-// An entry, and how it is made of a record.
+//! An entry, and how it is made of a record.
 
 ghost use Rattle.std.specs.Prelude.{◌≡◌, ◌≢◌, ◌≤◌, ◌↔◌, [], ◌∷◌, length, MatchOption, IfSome, IsSome, IsTrue, Some, None};
 ghost use Rattle.std.specs.Prelude.{true, false};
@@ -47,13 +47,13 @@ pub struct Entry {
 }
 
 impl Entry {
-    ghost use Rattle.register_records.specs.EntryViews.{entry_body, entry_number};
+    ghost use Rattle.register_records.specs.Seen.{entry_body, entry_number};
 
     /// The entry with this number and this body, or `None` exactly where the number is not from 1 to
     /// 1,000,000 or a refused body holds another refusal than `FieldCount`, `FieldTooLong` and
     /// `NotUtf8`.
     pub fn new(number: u32, body: Body) -> Option<Entry>
-        ensures made { IsSome result ↔ ((1 ≤ number) × (number ≤ 1000000) × IsTrue (may_hold body)) }
+        ensures made { IsSome result ↔ ((1 ≤ number) × (number ≤ record_limit) × IsTrue (may_hold body)) }
         ensures value { IfSome result (λ e. (entry_number e ≡ number) × (entry_body e ≡ body)) }
     {
         if number == 0 || number > MAX_RECORDS || !is_allowed(&body) {
@@ -78,7 +78,7 @@ impl Entry {
     pub fn number(&self) -> u32
         ensures value { result ≡ entry_number self.now }
         ensures from_one { 1 ≤ result }
-        ensures limited { result ≤ 1000000 }
+        ensures limited { result ≤ record_limit }
     {
         self.number
     }

@@ -1,4 +1,4 @@
-// Whether a record is the header.
+//! Whether a record is the header.
 
 ghost use Rattle.std.specs.Prelude.{◌≡◌, ◌↔◌, IsTrue};
 ghost use Rattle.std.specs.Str.{str_to_ascii_lowercase};
@@ -29,7 +29,7 @@ fn without_mark(field: &[u8]) -> &[u8]
     }
 }
 
-/// Whether a record is the header.
+///! Whether a record is the header.
 pub(crate) fn is_header(row: &ByteRecord) -> bool
     ensures { IsTrue result ↔ IsHeader (fields_of row.now) }
 {

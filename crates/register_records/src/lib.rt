@@ -13,6 +13,8 @@ pub mod laws;
 mod lines;
 mod outputs;
 mod reading;
+mod retrying;
+mod row_lines;
 mod rows;
 mod setups;
 mod short_lists;
@@ -21,12 +23,12 @@ mod writing;
 
 pub use converting::convert;
 pub use entries::{Body, Entry};
-pub use outputs::{Output, OutputFault, PlainOutput};
+pub use outputs::{Output, OutputFault, PlainOutput, send};
 pub use reading::{EntryFault, EntryReader};
 pub use rows::Row;
 pub use setups::{Setup, SetupFault};
 pub use sources::{Cause, Note, SourceEnd, convert_source};
-pub use writing::{RowFault, RowWriter, send};
+pub use writing::{RowFault, RowWriter};
 
 #[cfg(test)]
 mod tests;

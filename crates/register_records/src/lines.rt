@@ -1,9 +1,9 @@
-// A line of a table, as csv's writer would write it.
-//
-// The writer of `csv` is made anew for each record and moves a buffer of 8 KiB several times, which
-// costs more than all else in a row. A line by hand into memory that is used again takes a twentieth.
+//! A line of a table, as csv's writer would write it.
+//!
+//! The writer of `csv` is made anew for each record and moves a buffer of 8 KiB several times, which
+//! costs more than all else in a row. A line by hand into memory that is used again takes a twentieth.
 
-ghost use Rattle.std.specs.Prelude.{◌≡◌, ◌≤◌, ◌++◌, ◌∷◌, [], ℕ, List, true, false, length, OnOk};
+ghost use Rattle.std.specs.Prelude.{◌≡◌, ◌≤◌, ◌++◌, ◌∷◌, [], ℕ, List, true, false, length, IfOk, OnOk};
 ghost use Rattle.csv.specs.Writing as Spec;
 ghost use Rattle.register_records.specs.Lines.{line_text, writing};
 ghost use Rattle.register_records.specs.SetupRules.{is_delimiter};
@@ -11,6 +11,9 @@ ghost use Rattle.register_records.specs.SetupRules.{is_delimiter};
 use std::alloc::{AllocError, Global};
 
 const QUOTE: u8 = b'"';
+
+/// Room for the longest line: the three texts quoted with a quote in each place, the cells and the rest.
+pub(crate) const LINE_ROOM: usize = 1024;
 
 /// A line while its fields are appended, in memory that serves again for the next line.
 #[derive(Drop)]
@@ -75,14 +78,12 @@ impl Line {
     ghost use Rattle.register_records.specs.LineViews.{Begins, line_bytes, line_delimiter};
 
     /// A line of no field, whose fields this delimiter will separate.
-    pub fn new(alloc: Global, delimiter: u8) -> Line
+    pub fn new(alloc: Global, delimiter: u8) -> Result<Line, AllocError>
         requires { is_delimiter delimiter ≡ true }
-        ensures { line_delimiter result ≡ delimiter }
+        ensures { IfOk result (λ line. line_delimiter line ≡ delimiter) }
     {
-        Line {
-            bytes: Vec::new(alloc),
-            delimiter,
-        }
+        let bytes = Vec::with_capacity(alloc, LINE_ROOM)?;
+        Ok(Line { bytes, delimiter })
     }
 
     /// The bytes so far.

@@ -1,6 +1,6 @@
-// Where the bytes of a table go.
+//! Where the bytes of a table go.
 
-ghost use Rattle.std.specs.Prelude.{◌≡◌, ◌≤◌, ◌||◌, true, false, ℕ, Bool, List, Option, length, take, IfOk, OnOk, is_err};
+ghost use Rattle.std.specs.Prelude.{◌≡◌, ◌≤◌, ◌||◌, true, false, ℕ, Bool, List, Option, length, take, IfOk, OnOk, OnErr, is_err};
 ghost use Rattle.std.specs.Io.KnownBytes.{Appends, Keeps};
 ghost use Rattle.register_records.specs.Outputs.{took_none};
 
@@ -54,6 +54,29 @@ pub trait Output {
         ensures { result ≡ own_mark self.now };
 }
 
+/// Offers bytes until all are taken, and flushes them.
+pub fn send<W: Output>(output: &mut W, bytes: &[u8]) -> Result<(), OutputFault>
+    ensures ok { OnOk result (Appends (W.contents output.old) (W.contents output.new) bytes.now) }
+    ensures flushed { OnOk result (W.is_flushed output.new ≡ true) }
+    ensures goes { OnOk result (W.has_failed output.new ≡ W.has_failed output.old) }
+    ensures fails { OnErr result (W.has_failed output.new ≡ true) }
+    ensures mark { W.own_mark output.new ≡ W.own_mark output.old }
+{
+    let mut sent = 0;
+    'offers: while sent < bytes.len() {
+        match output.offer(&bytes[sent..]) {
+            Ok(n) => {
+                if n == 0 {
+                    return Err(OutputFault);
+                }
+                sent += n;
+            }
+            Err(e) => return Err(e),
+        }
+    }
+    output.flush_out()
+}
+
 /// An output over a writer: it holds what the writer holds.
 #[derive(Drop)]
 pub struct PlainOutput<W> {
@@ -64,7 +87,7 @@ pub struct PlainOutput<W> {
 }
 
 impl<W: Write> PlainOutput<W> {
-    ghost use Rattle.register_records.specs.PlainOutputs.{inner_of, mark_of, plain_failed};
+    ghost use Rattle.register_records.specs.Views.{inner_of, mark_of, plain_failed};
 
     /// The output over `inner`, with the mark `mark`; it has not failed.
     pub fn new(inner: W, mark: u32) -> PlainOutput<W>

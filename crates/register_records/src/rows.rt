@@ -1,10 +1,9 @@
-// The row of an entry.
+//! The row of an entry.
 
 ghost use Rattle.std.specs.Prelude.{◌≡◌, ◌≤◌, length};
-ghost use Rattle.register_records.specs.EntryViews.{entry_seen};
 ghost use Rattle.register_records.specs.Outcomes.{IsRowOf};
 ghost use Rattle.register_records.specs.ShortLists.{items_in};
-ghost use Rattle.register_records.specs.Views.{row_made};
+ghost use Rattle.register_records.specs.Seen.{entry_seen, row_made};
 
 use crate::entries::Entry;
 use crate::setups::Setup;
@@ -27,9 +26,8 @@ pub struct Row {
 
 impl Row {
     ghost use Rattle.std.specs.Prelude.{◌↔◌, ◌∷◌, [], true, MatchOption};
-    ghost use Rattle.register_records.specs.Setups.{targets_of};
     ghost use Rattle.register_records.specs.Tables.{notes_of};
-    ghost use Rattle.register_records.specs.RowViews.{row_cells, row_entry, row_outcome, row_seen, row_targets};
+    ghost use Rattle.register_records.specs.Views.{row_cells, row_entry, row_outcome, row_seen, row_targets, targets_of};
 
     /// The entry.
     pub fn entry(&self) -> &Entry
@@ -71,7 +69,8 @@ impl Row {
 
     /// What the journal gains by the row: its number and its refusal, where it was refused.
     pub fn note(&self) -> Option<Note>
-        ensures { MatchOption result (notes_of (row_seen self.now).number (row_seen self.now).outcome ≡ []) (λ n. notes_of (row_seen self.now).number (row_seen self.now).outcome ≡ n ∷ []) }
+        ensures { MatchOption result (notes_of (row_seen self.now).number (row_seen self.now).outcome ≡ [])
+            (λ n. notes_of (row_seen self.now).number (row_seen self.now).outcome ≡ n ∷ []) }
     {
         match self.outcome {
             Ok(_) => None,

@@ -1,8 +1,8 @@
-// What a conversion is asked for.
+//! What a conversion is asked for.
 
 ghost use Rattle.std.specs.Prelude.{◌≡◌, ◌≤◌, ◌<◌, ◌↔◌, ◌≢◌, ℕ, length, IsTrue, IfOk, Err, true, false, slice_get};
 ghost use Rattle.register_records.specs.ShortLists.{items_in};
-ghost use Rattle.register_records.specs.SetupRules.{NamesTwice, is_delimiter, is_ring_size};
+ghost use Rattle.register_records.specs.SetupRules.{NamesTwice, is_delimiter, is_ring_size, is_stripe_count};
 
 use crate::short_lists::ShortList;
 use date_texts::laws::few_targets;
@@ -12,14 +12,19 @@ use thiserror::Error;
 /// The largest ring.
 const MAX_RING: usize = 4096;
 
-/// The targets, the size of the rings and the delimiter of a conversion.
+/// The most converters of a source.
+const MAX_STRIPES: usize = 4;
+
+/// The targets, the size of the rings, the delimiter and the number of converters of a conversion.
 #[derive(Clone, Copy)]
 pub struct Setup {
     targets: ShortList<Target>,
     ring: usize,
     delimiter: u8,
+    stripes: usize,
     ghost rings: { is_ring_size ring ≡ true },
     ghost separates: { is_delimiter delimiter ≡ true },
+    ghost striped: { is_stripe_count stripes ≡ true },
 }
 
 /// Why there is no such setup: the first of these that applies.
@@ -34,12 +39,15 @@ pub enum SetupFault {
     /// The delimiter is no comma, semicolon or tab.
     #[error("the delimiter is no comma, semicolon or tab")]
     Delimiter,
+    /// A source has not 1 to 4 converters.
+    #[error("the number of stripes is not from 1 to 4")]
+    Stripes,
 }
 
 impl SetupFault {
-    ghost use Rattle.register_records.specs.Setups.{setup_fault_number};
+    ghost use Rattle.register_records.specs.Views.{setup_fault_number};
 
-    /// The number of the fault, from 1 for `TargetTwice` to 3 for `Delimiter`.
+    /// The number of the fault, from 1 for `TargetTwice` to 4 for `Stripes`.
     pub fn number(&self) -> u8
         ensures { result ≡ setup_fault_number self.now }
     {
@@ -47,27 +55,34 @@ impl SetupFault {
             SetupFault::TargetTwice => 1,
             SetupFault::RingSize => 2,
             SetupFault::Delimiter => 3,
+            SetupFault::Stripes => 4,
         }
     }
 }
 
 impl Setup {
-    ghost use Rattle.register_records.specs.Setups.{delimiter_of, ring_of, targets_of};
+    ghost use Rattle.register_records.specs.Views.{delimiter_of, ring_of, stripes_of, targets_of};
 
     /// A setup for these targets, in this order; none is allowed. Each ring holds `ring` items, from 1
-    /// to 4096, and `delimiter`, a comma, a semicolon or a tab, stands between two fields of the input
-    /// and of the output.
+    /// to 4096; `delimiter`, a comma, a semicolon or a tab, stands between two fields of the input and of
+    /// the output; and each source of a run has `stripes` converters, from 1 to 4.
     ///
     /// # Errors
     ///
-    /// The first that applies of `TargetTwice`, `RingSize` and `Delimiter`.
-    pub fn new(targets: &[Target], ring: usize, delimiter: u8) -> Result<Setup, SetupFault>
-        ensures value { IfOk result (λ s. (targets_of s ≡ targets.now) × (ring_of s ≡ ring) × (delimiter_of s ≡ delimiter)) }
-        ensures fit { IfOk result (λ s. (¬ (NamesTwice targets.now)) × (is_ring_size ring ≡ true) × (is_delimiter delimiter ≡ true)) }
+    /// The first that applies of `TargetTwice`, `RingSize`, `Delimiter` and `Stripes`.
+    pub fn new(targets: &[Target], ring: usize, delimiter: u8, stripes: usize) -> Result<Setup, SetupFault>
+        ensures value { IfOk result (λ s. (targets_of s ≡ targets.now) × (ring_of s ≡ ring)
+            × (delimiter_of s ≡ delimiter) × (stripes_of s ≡ stripes)) }
+        ensures fit { IfOk result (λ s. (¬ (NamesTwice targets.now)) × (is_ring_size ring ≡ true)
+            × (is_delimiter delimiter ≡ true) × (is_stripe_count stripes ≡ true)) }
         ensures twice { (result ≡ Err SetupFault.TargetTwice) ↔ NamesTwice targets.now }
-        ensures ring_size { (result ≡ Err SetupFault.RingSize) ↔ ((¬ (NamesTwice targets.now)) × (is_ring_size ring ≡ false)) }
+        ensures ring_size { (result ≡ Err SetupFault.RingSize)
+            ↔ ((¬ (NamesTwice targets.now)) × (is_ring_size ring ≡ false)) }
         ensures delimiter { (result ≡ Err SetupFault.Delimiter)
             ↔ ((¬ (NamesTwice targets.now)) × (is_ring_size ring ≡ true) × (is_delimiter delimiter ≡ false)) }
+        ensures stripes { (result ≡ Err SetupFault.Stripes)
+            ↔ ((¬ (NamesTwice targets.now)) × (is_ring_size ring ≡ true) × (is_delimiter delimiter ≡ true)
+            × (is_stripe_count stripes ≡ false)) }
     {
         if names_twice(targets) {
             return Err(SetupFault::TargetTwice);
@@ -78,11 +93,15 @@ impl Setup {
         if delimiter != b',' && delimiter != b';' && delimiter != b'\t' {
             return Err(SetupFault::Delimiter);
         }
+        if stripes < 1 || stripes > MAX_STRIPES {
+            return Err(SetupFault::Stripes);
+        }
         few_targets();
         Ok(Setup {
             targets: listed(targets),
             ring,
             delimiter,
+            stripes,
         })
     }
 
@@ -115,6 +134,14 @@ impl Setup {
         ensures fits { is_delimiter result ≡ true }
     {
         self.delimiter
+    }
+
+    /// How many converters a source has, from 1 to 4.
+    pub fn stripes(&self) -> usize
+        ensures value { result ≡ stripes_of self.now }
+        ensures fits { is_stripe_count result ≡ true }
+    {
+        self.stripes
     }
 }
 

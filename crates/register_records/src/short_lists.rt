@@ -1,4 +1,4 @@
-// Lists of fixed room: the targets of a setup and of a row, and a row's cells.
+//! Lists of fixed room: the targets of a setup and of a row, and a row's cells.
 
 ghost use Rattle.std.specs.Prelude.{◌≡◌, ◌≤◌, ◌<◌, ◌∷◌, ◌++◌, [], ⊤, length};
 

@@ -1,19 +1,17 @@
-// One source, on the caller's thread.
+//! One source, on the caller's thread.
 
-ghost use Rattle.std.specs.Prelude.{◌≡◌, ◌≢◌, ◌≤◌, true, List, length, IfSome, OnOk, ◌++◌};
-ghost use Rattle.register_records.specs.Causes.{IsCauseOfEntryFault, IsCauseOfRowFault};
-ghost use Rattle.register_records.specs.Entries.{Fields, HasRecords, HasTooMany};
-ghost use Rattle.register_records.specs.RowViews.{row_seen};
-ghost use Rattle.register_records.specs.Setups.{delimiter_of, targets_of};
-ghost use Rattle.register_records.specs.Sources.{GainsPart, GainsWhole, IfBroken, IfWhole, cause_number, is_whole_end};
+ghost use Rattle.std.specs.Prelude.{◌≡◌, ◌≢◌, ◌≤◌, true, length, IfSome, IsSome, IsSomeAnd, OnOk, ◌++◌};
+ghost use Rattle.register_records.specs.Entries.{HasNoHeader, HasTooMany, record_limit};
+ghost use Rattle.register_records.specs.Sources.{ArePartOfTable, Gains, IfBroken, IfWhole, IsFrontOfTable, IsWholeTable, cause_number, is_whole_end};
 ghost use Rattle.register_records.specs.Tables.{notes_of};
+ghost use Rattle.register_records.specs.Views.{delimiter_of, layout_of, row_seen};
 
 use crate::converting::convert;
 use crate::outputs::Output;
-use crate::reading::{EntryFault, EntryReader};
+use crate::reading::EntryReader;
 use crate::rows::Row;
 use crate::setups::Setup;
-use crate::writing::{RowFault, RowWriter};
+use crate::writing::RowWriter;
 use date_texts::Refusal;
 use std::alloc::{AllocError, Global};
 use std::io::Read;
@@ -86,37 +84,15 @@ impl SourceEnd {
     }
 }
 
-/// The cause that a fault of reading entries becomes.
-fn cause_of_entry_fault(fault: EntryFault) -> Cause
-    requires { fault ≡ EntryFault.Failed → ⊥ }
-    ensures { IsCauseOfEntryFault fault result }
+/// The end of a source that broke off for this cause, which there is.
+fn broken(cause: Option<Cause>) -> SourceEnd
+    requires { IsSome cause }
+    ensures { IsSomeAnd cause (λ c. result ≡ SourceEnd.Broken c) }
 {
-    match fault {
-        EntryFault::OutOfMemory => Cause::NoMemory,
-        EntryFault::ReadFault => Cause::ReadFault,
-        EntryFault::BadHeader => Cause::BadHeader,
-        EntryFault::TooManyRecords => Cause::TooManyRecords,
-        EntryFault::Failed => unreachable!(),
+    match cause {
+        Some(cause) => SourceEnd::Broken { cause },
+        None => unreachable!(),
     }
-}
-
-/// The cause that a fault of writing rows becomes.
-fn cause_of_row_fault(fault: RowFault) -> Cause
-    requires { fault ≡ RowFault.Failed → ⊥ }
-    ensures { IsCauseOfRowFault fault result }
-{
-    match fault {
-        RowFault::OutOfMemory => Cause::NoMemory,
-        RowFault::WriteFault => Cause::SinkFault,
-        RowFault::Failed => unreachable!(),
-    }
-}
-
-/// The end of a source that broke off for this cause.
-fn broken(cause: Cause) -> SourceEnd
-    ensures { result ≡ SourceEnd.Broken cause }
-{
-    SourceEnd::Broken { cause }
 }
 
 /// Notes a row that was refused.
@@ -143,17 +119,22 @@ pub fn convert_source<R: Read + Drop, W: Output>(
 ) -> SourceEnd
     // The output has gained the table, and nothing else; where the reader tells its bytes, these are
     // accepted and the table is theirs.
-    ensures whole { IfWhole result (λ rows refused journal. ∥ GainsWhole (delimiter_of setup.now) (targets_of setup.now) (R.remaining reader)
-        (W.contents output.old) (W.contents output.new) rows refused journal ∥₁) }
-    ensures numbers { IfWhole result (λ rows refused journal. (rows ≤ 1000000) × (refused ≤ rows) × (refused ≡ length journal)) }
+    ensures whole { IfWhole result (λ rows refused journal. ∥ Gains (W.contents output.old) (W.contents output.new)
+        (IsWholeTable (layout_of setup.now) (R.remaining reader) rows refused journal) ∥₁) }
+    ensures numbers { IfWhole result (λ rows refused journal.
+        (rows ≤ record_limit) × (refused ≤ rows) × (refused ≡ length journal)) }
     ensures handed_on { IfWhole result (λ rows refused journal. W.is_flushed output.new ≡ true) }
 
     // A source that is broken otherwise than by its output leaves a front of the table, or nothing.
-    ensures part { IfBroken result (λ c. (c ≢ Cause.SinkFault) → ∥ GainsPart (delimiter_of setup.now) (targets_of setup.now) (R.remaining reader)
-        (W.contents output.old) (W.contents output.new) ∥₁) }
+    ensures part { IfBroken result (λ c. (c ≢ Cause.SinkFault) → ∥ Gains (W.contents output.old) (W.contents output.new)
+        (ArePartOfTable (layout_of setup.now) (R.remaining reader)) ∥₁) }
     ensures bad_header { IfBroken result (λ c. c ≡ Cause.BadHeader → (output.new ≡ output.old)
-        × IfSome (R.remaining reader) (λ text. (records : List Fields) → HasRecords (delimiter_of setup.now) text records → ⊥)) }
-    ensures too_many { IfBroken result (λ c. c ≡ Cause.TooManyRecords → ∥ IfSome (R.remaining reader) (λ text. HasTooMany (delimiter_of setup.now) text) ∥₁) }
+        × IfSome (R.remaining reader) (λ text. HasNoHeader (delimiter_of setup.now) text)) }
+    // All the records that a source may have were converted, and there are more.
+    ensures too_many { IfBroken result (λ c. c ≡ Cause.TooManyRecords
+        → ∥ IfSome (R.remaining reader) (λ text. HasTooMany (delimiter_of setup.now) text) ∥₁
+        × ∥ Gains (W.contents output.old) (W.contents output.new)
+        (IsFrontOfTable (layout_of setup.now) (R.remaining reader) record_limit) ∥₁) }
     ensures never { IfBroken result (λ c. (c ≢ Cause.NoThread) × (c ≢ Cause.Unconfirmed)) }
 
     // The output has failed exactly where it had failed before or is the cause.
@@ -164,11 +145,11 @@ pub fn convert_source<R: Read + Drop, W: Output>(
 {
     let mut entries = match EntryReader::open(alloc, reader, setup) {
         Ok(entries) => entries,
-        Err(fault) => return broken(cause_of_entry_fault(fault)),
+        Err(fault) => return broken(fault.cause()),
     };
     let mut writer = match RowWriter::open(alloc, output, setup) {
         Ok(writer) => writer,
-        Err(fault) => return broken(cause_of_row_fault(fault)),
+        Err(fault) => return broken(fault.cause()),
     };
     let mut journal = Vec::new(alloc);
     let mut rows = 0;
@@ -182,14 +163,16 @@ pub fn convert_source<R: Read + Drop, W: Output>(
                     journal,
                 };
             }
-            Err(fault) => return broken(cause_of_entry_fault(fault)),
+            Err(fault) => return broken(fault.cause()),
         };
         let row = convert(entry, setup);
         if push_note(&mut journal, &row).is_err() {
-            return broken(Cause::NoMemory);
+            return SourceEnd::Broken {
+                cause: Cause::NoMemory,
+            };
         }
         if let Err(fault) = writer.put(output, &row) {
-            return broken(cause_of_row_fault(fault));
+            return broken(fault.cause());
         }
         rows = row.entry().number();
     }

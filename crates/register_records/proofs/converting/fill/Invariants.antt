@@ -1,7 +1,7 @@
 use Rattle.std.proofs.Common.{◌≡◌, length, take}
 use Rattle.register_records.specs.Outcomes.{AreCellsOn}
 use Rattle.register_records.specs.ShortLists.{items_in}
-use Rattle.register_records.specs.Views.{cells_seen}
+use Rattle.register_records.specs.Seen.{cells_seen}
 use Rattle.register_records.proofs.converting.fill.Given as goal
 
 abbrev pub invariant-loop-target : goal.invariant-loop-target

@@ -1,5 +1,5 @@
-use Rattle.register_records.proofs.Progress.{tables-grow}
+use Rattle.register_records.proofs.Progress.{tables_grow}
 use Rattle.register_records.proofs.laws.tables_grow.Goals as goal
 
 pub returns : goal.returns
-returns c = tables-grow
+returns c = tables_grow

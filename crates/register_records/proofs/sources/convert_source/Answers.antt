@@ -1,12 +1,12 @@
-use Rattle.std.proofs.Common.{◌≡◌, ◌∷◌, [], ◌∙◌, refl, arith, rules, true, length-append}
+use Rattle.std.proofs.Common.{◌≡◌, ◌∷◌, [], ◌∙◌, refl, sym, arith, rules, true, length-append}
 use Rattle.std.specs.Result.{is_ok}
 use Rattle.csv.proofs.WriteFacts.{appends-none}
 use Rattle.register_records.specs.Entries.{Numbered}
-use Rattle.register_records.specs.EntryReaders.{given_of}
-use Rattle.register_records.specs.EntryViews.{entry_number, entry_seen}
-use Rattle.register_records.specs.RowViews.{row_seen}
+use Rattle.register_records.specs.Views.{given_of}
+use Rattle.register_records.specs.Seen.{entry_number, entry_seen}
+use Rattle.register_records.specs.Views.{row_seen}
 use Rattle.register_records.specs.declared.sources.Note.{Note}
-use Rattle.register_records.proofs.Progress.{finish, front, nothing, notes-few, ok-so, only-memory, start, step}
+use Rattle.register_records.proofs.Progress.{finish, first_rows, front, if_broken, nothing, notes_few, ok_so, only_memory, only_too_many, start, step, too_many_told}
 use Rattle.register_records.proofs.sources.convert_source.Goals as goal
 
 pub entries-init : goal.entries-init
@@ -24,35 +24,33 @@ entries-init g c =
       flushed = c.in-Ok-open.ensures.flushed;
       good = c.in-Ok-open.ensures.goes;
       mark = c.open-2.ensures.mark;
-      come = rw (c.in-Ok.ensures.none_given, c.new-journal.ensures.items) (start _ _ _ _ c.in-Ok-open.ensures.ok);
+      come = rw (c.in-Ok.ensures.none_given, c.new-journal.ensures.items) (start _ _ _ c.in-Ok-open.ensures.ok);
     }
 
 pub returns-in-Err-open-clause-part : goal.returns-in-Err-open-clause-part
 returns-in-Err-open-clause-part g c =
-    rw c.broken-in-Err-open.ensures (λ h.
-    let memory = only-memory _ _ c.cause_of_row_fault.ensures c.in-Err-open.ensures.told h in
-    let same = c.in-Err-open.ensures.memory memory in
-    rw same (nothing _ _ _ _ _ (appends-none _)))
+    if_broken _ _ _ c.broken-in-Err-open.ensures (λ cause is h.
+    let memory = only_memory _ cause (sym c.cause-in-Err-open.ensures ∙ is) h in
+    rw (c.in-Err-open.ensures.memory memory) (nothing _ _ _ _ (appends-none _)))
 
 pub returns-in-Ok-None-clause-whole : goal.returns-in-Ok-None-clause-whole
 returns-in-Ok-None-clause-whole g c =
     let inv = c.entries.invariant in
     let all = (rw c.in-Ok-None.field-0-is at c.in-Ok-None.ensures.all) refl in
     let kept = (rw c.in-Ok-None.field-0-is at c.in-Ok-None.ensures.ends) refl in
-    finish _ _ _ _ _ _ _ _ _ _ _ _ inv.come (c.next.ensures.text.0 ∙ inv.text) (c.next.ensures.text.1 ∙ inv.reads_by) kept.1 all inv.counted (search rules)
+    finish _ _ _ _ _ _ _ _ _ _ _ inv.come (c.next.ensures.text.0 ∙ inv.text) (c.next.ensures.text.1 ∙ inv.reads_by) kept.1 all inv.counted (search rules)
 
 pub returns-then-is_err-clause-part : goal.returns-then-is_err-clause-part
 returns-then-is_err-clause-part g c =
     let inv = c.entries.invariant in
-    rw c.broken-then-is_err.ensures (λ h. front _ _ _ _ _ _ _ _ _ inv.come inv.text inv.reads_by c.entries.entries.first)
+    λ h. front _ _ _ _ _ _ _ _ inv.come inv.text inv.reads_by c.entries.entries.first
 
 pub returns-in-Err-put-clause-part : goal.returns-in-Err-put-clause-part
 returns-in-Err-put-clause-part g c =
     let inv = c.entries.invariant in
-    rw c.broken-in-Err-put.ensures (λ h.
-    let memory = only-memory _ _ c.cause_of_row_fault-in-Err-put.ensures (c.in-Err-put.ensures.only_failed inv.writes) h in
-    let same = c.in-Err-put.ensures.memory memory in
-    rw same (front _ _ _ _ _ _ _ _ _ inv.come inv.text inv.reads_by c.entries.entries.first))
+    if_broken _ _ _ c.broken-in-Err-put.ensures (λ cause is h.
+    let memory = only_memory _ cause (sym c.cause-in-Err-put.ensures ∙ is) h in
+    rw (c.in-Err-put.ensures.memory memory) (front _ _ _ _ _ _ _ _ inv.come inv.text inv.reads_by c.entries.entries.first))
 
 pub entries-preserved : goal.entries-preserved
 entries-preserved g c =
@@ -60,10 +58,10 @@ entries-preserved g c =
     let number = rw c.in-Ok-Some.field-0-is at c.in-Ok-Some.ensures.number in
     let gives = rw c.in-Ok-Some.field-0-is at c.in-Ok-Some.ensures.gives in
     let good : is_ok c.push_note.result ≡ true = search rules in
-    let noted = ok-so _ good c.push_note.ensures in
+    let noted = ok_so _ good c.push_note.ensures in
     let line = rw (inv.none_waits, inv.by, c.convert-row.ensures.targets) at c.in_default.ensures.ok in
     let same : c.number-rows.result ≡ entry_number c.in-Ok-Some.entry = cc in
-    let few = notes-few (row_seen c.convert-row.result).number (row_seen c.convert-row.result).outcome in
+    let few = notes_few (row_seen c.convert-row.result).number (row_seen c.convert-row.result).outcome in
     let longer = length-append {A = Numbered} (given_of c.entries.entries) (entry_seen c.in-Ok-Some.entry ∷ []) in
     record {
       reads = c.in-Ok-Some.ensures.goes;
@@ -78,10 +76,20 @@ entries-preserved g c =
       flushed = c.in_default.ensures.flushed;
       good = c.in_default.ensures.goes.0 ∙ inv.good;
       mark = c.put.ensures.mark ∙ inv.mark;
-      come = rw (gives, noted) (step _ _ _ _ _ _ _ _ _ inv.come number.0 c.convert-row.ensures.row line);
+      come = rw (gives, noted) (step _ _ _ _ _ _ _ _ inv.come number.0 c.convert-row.ensures.row line);
     }
 
 pub returns-in-Err-next-clause-part : goal.returns-in-Err-next-clause-part
 returns-in-Err-next-clause-part g c =
     let inv = c.entries.invariant in
-    rw c.broken-in-Err-next.ensures (λ h. front _ _ _ _ _ _ _ _ _ inv.come inv.text inv.reads_by c.entries.entries.first)
+    if_broken _ _ _ c.broken-in-Err-next.ensures (λ cause is h.
+    front _ _ _ _ _ _ _ _ inv.come inv.text inv.reads_by c.entries.entries.first)
+
+pub returns-in-Err-next-clause-too_many : goal.returns-in-Err-next-clause-too_many
+returns-in-Err-next-clause-too_many g c =
+    let inv = c.entries.invariant in
+    if_broken _ _ _ c.broken-in-Err-next.ensures (λ cause is h.
+    let past = c.in-Err-next.ensures.many (only_too_many _ cause (sym c.cause-in-Err-next.ensures ∙ is) h) in (
+      too_many_told _ _ _ _ (c.next.ensures.text.0 ∙ inv.text) (c.next.ensures.text.1 ∙ inv.reads_by) past.1,
+      first_rows _ _ _ _ _ _ _ _ _ inv.come inv.text inv.reads_by c.entries.entries.first (sym past.0),
+    ))

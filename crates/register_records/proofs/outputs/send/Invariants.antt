@@ -1,6 +1,6 @@
 use Rattle.std.proofs.Common.{length, take, ◌-◌, ◌≡◌, ◌≤◌}
 use Rattle.std.specs.Io.KnownBytes.{Appends}
-use Rattle.register_records.proofs.writing.send.Given as goal
+use Rattle.register_records.proofs.outputs.send.Given as goal
 
 abbrev pub invariant-offers : goal.invariant-offers
 invariant-offers g l =

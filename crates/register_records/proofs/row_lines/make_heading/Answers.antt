@@ -4,7 +4,7 @@ use Rattle.date_texts.specs.Calendars.{target_name}
 use Rattle.register_records.specs.LineViews.{line_delimiter}
 use Rattle.register_records.specs.Tables.{heading}
 use Rattle.register_records.proofs.LineFacts.{one-item, same-line}
-use Rattle.register_records.proofs.writing.make_heading.Goals as goal
+use Rattle.register_records.proofs.row_lines.make_heading.Goals as goal
 
 pub targets-init : goal.targets-init
 targets-init c =

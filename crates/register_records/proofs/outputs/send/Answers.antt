@@ -3,7 +3,7 @@ use Rattle.std.specs.Prelude.{◌==◌, ◌&&◌, ◌||◌}
 use Rattle.std.proofs.lemmas.Bool.Decides.{nat_tests}
 use Rattle.std.proofs.KnownBytes.{Appends-trans}
 use Rattle.csv.proofs.WriteFacts.{slice-end}
-use Rattle.register_records.proofs.writing.send.Goals as goal
+use Rattle.register_records.proofs.outputs.send.Goals as goal
 
 -- an offer that took some did not fail
 took-some : (a : Bool) (n : ℕ) (b : Bool) → n ≢ 0 → (a || ((n == 0) && b)) ≡ a

@@ -1,8 +1,8 @@
 use Rattle.std.proofs.Common.{◌≡◌, ◌++◌, ◌∷◌, [], map, take}
 use Rattle.register_records.specs.LineViews.{Begins, line_delimiter}
-use Rattle.register_records.specs.RowViews.{row_seen, row_targets}
+use Rattle.register_records.specs.Views.{row_seen, row_targets}
 use Rattle.register_records.specs.Tables.{entry_fields}
-use Rattle.register_records.proofs.writing.make_refused.Given as goal
+use Rattle.register_records.proofs.row_lines.make_refused.Given as goal
 
 abbrev pub invariant-targets : goal.invariant-targets
 invariant-targets l =

@@ -7,13 +7,13 @@ use mathlib.Core.Bool.{Bool-set}
 use Rattle.arrayvec.specs.ArrayString.{ArrayString}
 use Rattle.day_numbers.specs.Days.{weekday_name, weekday_number}
 use Rattle.register_records.specs.LineViews.{line_delimiter}
-use Rattle.register_records.specs.RowViews.{row_cells, row_entry, row_seen, row_targets}
-use Rattle.register_records.specs.EntryViews.{entry_seen}
+use Rattle.register_records.specs.Views.{row_cells, row_entry, row_seen, row_targets}
+use Rattle.register_records.specs.Seen.{entry_seen}
 use Rattle.register_records.specs.Outcomes.{IsRowOf}
 use Rattle.register_records.specs.Tables.{entry_fields, row_fields, weekday_at}
-use Rattle.register_records.specs.Views.{outcome_seen}
+use Rattle.register_records.specs.Seen.{outcome_seen}
 use Rattle.register_records.proofs.LineFacts.{accepted-fields, one-item, plain-cell, plain-day, same-body, same-line, two-fields, two-more, weekday-name}
-use Rattle.register_records.proofs.writing.make_accepted.Goals as goal
+use Rattle.register_records.proofs.row_lines.make_accepted.Goals as goal
 
 pub push_plain-requires : goal.push_plain-requires
 push_plain-requires c =

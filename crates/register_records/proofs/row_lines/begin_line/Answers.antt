@@ -1,12 +1,12 @@
 use Rattle.std.proofs.Common.{◌≡◌, ◌∷◌, [], ◌∙◌, ap, arith, sym}
 use Rattle.std.specs.Fmt.{decimal}
 use Rattle.register_records.specs.Entries.{body_seen}
-use Rattle.register_records.specs.EntryViews.{entry_body, entry_number}
+use Rattle.register_records.specs.Seen.{entry_body, entry_number}
 use Rattle.register_records.specs.LineViews.{line_delimiter}
-use Rattle.register_records.specs.RowViews.{row_entry, row_seen}
+use Rattle.register_records.specs.Views.{row_entry, row_seen}
 use Rattle.register_records.specs.Tables.{entry_fields, text_fields}
 use Rattle.register_records.proofs.LineFacts.{plain-decimal, same-body}
-use Rattle.register_records.proofs.writing.begin_line.Goals as goal
+use Rattle.register_records.proofs.row_lines.begin_line.Goals as goal
 
 pub start-requires : goal.start-requires
 start-requires c =

@@ -2,9 +2,9 @@ use Rattle.std.proofs.Common.{◌≡◌, ◌++◌, ◌∷◌, [], map, take}
 use Rattle.std.specs.Fmt.{signed_decimal}
 use Rattle.day_numbers.specs.Days.{weekday_name, weekday_number}
 use Rattle.register_records.specs.LineViews.{Begins, line_delimiter}
-use Rattle.register_records.specs.RowViews.{row_cells, row_seen}
+use Rattle.register_records.specs.Views.{row_cells, row_seen}
 use Rattle.register_records.specs.Tables.{entry_fields, weekday_at}
-use Rattle.register_records.proofs.writing.make_accepted.Given as goal
+use Rattle.register_records.proofs.row_lines.make_accepted.Given as goal
 
 abbrev pub invariant-cells : goal.invariant-cells
 invariant-cells l =

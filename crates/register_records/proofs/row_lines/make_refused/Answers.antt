@@ -3,11 +3,11 @@ use Rattle.std.specs.Fmt.{decimal}
 use Rattle.std.proofs.lemmas.List.{take_all}
 use Rattle.date_texts.specs.declared.calendar.Target.{Target}
 use Rattle.register_records.specs.LineViews.{line_delimiter}
-use Rattle.register_records.specs.RowViews.{row_seen, row_targets}
+use Rattle.register_records.specs.Views.{row_seen, row_targets}
 use Rattle.register_records.specs.Tables.{entry_fields, row_fields}
-use Rattle.register_records.specs.Views.{outcome_seen}
+use Rattle.register_records.specs.Seen.{outcome_seen}
 use Rattle.register_records.proofs.LineFacts.{one-empty, plain-decimal, refused-fields, same-body, same-line, two-fields, two-more}
-use Rattle.register_records.proofs.writing.make_refused.Goals as goal
+use Rattle.register_records.proofs.row_lines.make_refused.Goals as goal
 
 pub targets-init : goal.targets-init
 targets-init c =

@@ -1,0 +1,11 @@
+-- What a clause sees of a `Retrying`. No public contract cites this file.
+use Rattle.std.specs.Prelude.{ℕ, List, Option}
+use Rattle.register_records.specs.declared.retrying.Retrying.{Retrying}
+
+-- the reader in it
+abbrev pub inner_reader : {R : Type 0} → Retrying R → R
+inner_reader r = r.inner
+
+-- what the reader in it tells of the bytes to come
+abbrev pub inner_remaining : {R : Type 0} → (R → Option (List ℕ)) → Retrying R → Option (List ℕ)
+inner_remaining remaining r = remaining r.inner

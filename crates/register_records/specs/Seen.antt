@@ -1,0 +1,38 @@
+-- What a clause sees of an `Entry` and of the parts of a `Row`.
+use Rattle.std.specs.Prelude.{ℤ, ℕ, List, map, Result, Ok, Err}
+use Rattle.std.specs.declared.snapshot.Snapshot.{Snapshot}
+use Rattle.arrayvec.specs.ArrayString.{ArrayString}
+use Rattle.day_numbers.specs.declared.day.Day.{Day}
+use Rattle.date_texts.specs.declared.refusal.Refusal.{Refusal}
+use Rattle.register_records.specs.Entries.{Numbered, body_seen}
+use Rattle.register_records.specs.Outcomes.{TableRow}
+use Rattle.register_records.specs.declared.entries.Body.{Body}
+use Rattle.register_records.specs.declared.entries.Entry.{Entry}
+
+abbrev pub entry_number : Entry → ℕ
+entry_number e = e.number
+
+abbrev pub entry_body : Entry → Body
+entry_body e = e.body
+
+-- the entry as a text has it
+abbrev pub entry_seen : Entry → Numbered
+entry_seen e = record { number = e.number; body = body_seen e.body }
+
+-- the entries that snapshots were taken of
+abbrev pub entries_shown : List (Snapshot Entry) → List Numbered
+entries_shown given = map (λ (s : Snapshot Entry). entry_seen s.value) given
+
+-- the number of the day, or the refusal
+abbrev pub outcome_seen : Result Day Refusal → Result ℤ Refusal
+outcome_seen (Ok day) = Ok day.number
+outcome_seen (Err r) = Err r
+
+-- the bytes of the cells
+abbrev pub cells_seen : List ArrayString → List (List ℕ)
+cells_seen cells = map (λ cell. cell.bytes) cells
+
+-- the row that an entry, an outcome and cells make
+abbrev pub row_made : Entry → Result Day Refusal → List ArrayString → TableRow
+row_made entry outcome cells =
+    record { number = entry.number; body = body_seen entry.body; outcome = outcome_seen outcome; cells = cells_seen cells }

@@ -1,0 +1,108 @@
+//! The lines of a table: its heading and its rows.
+
+ghost use Rattle.std.specs.Prelude.{◌≡◌, ◌∷◌, [], OnOk, Ok, Err};
+ghost use Rattle.register_records.specs.Entries.{body_seen};
+ghost use Rattle.register_records.specs.LineViews.{Begins, line_bytes, line_delimiter};
+ghost use Rattle.register_records.specs.Lines.{line_text};
+ghost use Rattle.register_records.specs.Tables.{entry_fields, heading, row_fields, text_fields};
+ghost use Rattle.register_records.specs.Views.{row_outcome, row_seen, row_targets};
+
+use crate::entries::Body;
+use crate::lines::Line;
+use crate::rows::Row;
+use date_texts::laws::cells_are_plain;
+use date_texts::{Refusal, Target};
+use day_numbers::Day;
+use itoa::Buffer;
+use std::alloc::AllocError;
+
+/// The three texts of a body, which are empty where it was refused.
+fn texts_of(body: &Body) -> (&str, &str, &str)
+    ensures { text_fields (body_seen body.now) ≡ result.0.now ∷ result.1.now ∷ result.2.now ∷ [] }
+{
+    match body {
+        Body::Fields { id, calendar, date } => (id.as_str(), calendar.as_str(), date.as_str()),
+        Body::Refused(_) => ("", "", ""),
+    }
+}
+
+/// Makes the line of the heading.
+pub(crate) fn make_heading(line: &mut Line, targets: &[Target]) -> Result<(), AllocError>
+    ensures value { OnOk result (line_bytes line.new ≡ line_text (line_delimiter line.old) (heading targets.now)) }
+    ensures kept { line_delimiter line.new ≡ line_delimiter line.old }
+{
+    line.start(b"row")?;
+    line.push_plain(b"id")?;
+    line.push_plain(b"calendar")?;
+    line.push_plain(b"date")?;
+    line.push_plain(b"rd")?;
+    line.push_plain(b"weekday")?;
+    'targets: for target in targets {
+        line.push(target.name().as_bytes())?;
+    }
+    line.push_plain(b"refusal")?;
+    line.end()?;
+    Ok(())
+}
+
+/// Begins the line of a row: its number and its three texts.
+fn begin_line(line: &mut Line, row: &Row) -> Result<(), AllocError>
+    ensures value { OnOk result (Begins (entry_fields (row_seen row.now)) line.new) }
+    ensures kept { line_delimiter line.new ≡ line_delimiter line.old }
+{
+    let (id, calendar, date) = texts_of(row.entry().body());
+    line.start(Buffer::new().format(row.entry().number()).as_bytes())?;
+    line.push(id.as_bytes())?;
+    line.push(calendar.as_bytes())?;
+    line.push(date.as_bytes())?;
+    Ok(())
+}
+
+/// Makes the line of an accepted row.
+fn make_accepted(line: &mut Line, row: &Row, day: Day) -> Result<(), AllocError>
+    requires { row_outcome row.now ≡ Ok day }
+    ensures value { OnOk result (line_bytes line.new ≡ line_text (line_delimiter line.old)
+        (row_fields (row_targets row.now) (row_seen row.now))) }
+    ensures kept { line_delimiter line.new ≡ line_delimiter line.old }
+{
+    begin_line(line, row)?;
+    line.push_plain(Buffer::new().format(day.number()).as_bytes())?;
+    line.push_plain(day.weekday().name().as_bytes())?;
+    cells_are_plain();
+    'cells: for cell in row.cells() {
+        line.push_plain(cell.as_str().as_bytes())?;
+    }
+    line.push_plain(b"")?;
+    line.end()?;
+    Ok(())
+}
+
+/// Makes the line of a refused row.
+fn make_refused(line: &mut Line, row: &Row, refusal: Refusal) -> Result<(), AllocError>
+    requires { row_outcome row.now ≡ Err refusal }
+    ensures value { OnOk result (line_bytes line.new ≡ line_text (line_delimiter line.old)
+        (row_fields (row_targets row.now) (row_seen row.now))) }
+    ensures kept { line_delimiter line.new ≡ line_delimiter line.old }
+{
+    begin_line(line, row)?;
+    line.push_plain(b"")?;
+    line.push_plain(b"")?;
+    'targets: for _target in row.targets() {
+        line.push_plain(b"")?;
+    }
+    line.push_plain(Buffer::new().format(refusal.number()).as_bytes())?;
+    line.end()?;
+    Ok(())
+}
+
+/// Makes the line of a row.
+pub(crate) fn make_row(line: &mut Line, row: &Row) -> Result<(), AllocError>
+    ensures value { OnOk result (line_bytes line.new ≡ line_text (line_delimiter line.old)
+        (row_fields (row_targets row.now) (row_seen row.now))) }
+    ensures kept { line_delimiter line.new ≡ line_delimiter line.old }
+{
+    match row.outcome() {
+        Ok(day) => make_accepted(line, row, day),
+        Err(refusal) => make_refused(line, row, refusal),
+    }
+}

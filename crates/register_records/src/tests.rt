@@ -41,7 +41,7 @@ struct Worked {
 const HEADING: &[u8] = b"row,id,calendar,date,rd,weekday,gregorian,julian,refusal\n";
 
 fn both(delimiter: u8) -> Result<Setup, Fail> {
-    Ok(Setup::new(&[GREGORIAN, JULIAN], 16, delimiter)?)
+    Ok(Setup::new(&[GREGORIAN, JULIAN], 16, delimiter, 1)?)
 }
 
 /// The output and the end of a source over memory.
@@ -105,7 +105,7 @@ fn tables_are_as_worked(rt: HostRuntime) -> Result<(), Fail> {
         },
     ];
     for case in &cases {
-        let setup = Setup::new(case.targets, 16, case.delimiter)?;
+        let setup = Setup::new(case.targets, 16, case.delimiter, 1)?;
         let (text, end) = converted(rt.alloc(), case.input, &setup);
         assert_eq!(rt; text.as_slice(), case.output);
         let lines = case.output.iter().filter(|byte| **byte == b'\n').count();
@@ -247,7 +247,7 @@ fn records_become_their_rows(rt: HostRuntime) -> Result<(), Fail> {
         },
     ];
     for table in &tables {
-        let setup = Setup::new(table.targets, 16, b',')?;
+        let setup = Setup::new(table.targets, 16, b',', 1)?;
         let mut input = Vec::new(rt.alloc());
         let mut output = Vec::new(rt.alloc());
         write!(input, "id,calendar,date\n")?;
@@ -365,7 +365,7 @@ fn a_read_fault_in_mid_text_leaves_the_rows_before_it(rt: HostRuntime) -> Result
     let reader = Chunk {
         rest: b"id,calendar,date\na,iso,1970-W01-4\n",
     };
-    let setup = Setup::new(&[], 16, b',')?;
+    let setup = Setup::new(&[], 16, b',', 1)?;
     let mut output = PlainOutput::new(Vec::new(rt.alloc()), 1);
     let end = convert_source(rt.alloc(), reader, &mut output, &setup);
     assert_eq!(rt; cause_of(&end), 5);
@@ -492,7 +492,7 @@ fn entries_and_rows_tell_their_parts(rt: HostRuntime) -> Result<(), Fail> {
     assert!(rt; row.outcome().is_ok_and(|day| day.number() == 577_736));
     assert_eq!(rt; row.cells().len(), 2);
     assert!(rt; row.is_for(&setup));
-    assert!(rt; !row.is_for(&Setup::new(&[JULIAN, GREGORIAN], 16, b',')?));
+    assert!(rt; !row.is_for(&Setup::new(&[JULIAN, GREGORIAN], 16, b',', 1)?));
     assert!(rt; row.note().is_none());
     assert_eq!(rt; RowFault::WriteFault.cause(), Some(Cause::SinkFault));
     assert_eq!(rt; EntryFault::Failed.cause(), None);

@@ -93,3 +93,6 @@ returns-in-Err-next-clause-too_many g c =
       too_many_told _ _ _ _ (c.next.ensures.text.0 ∙ inv.text) (c.next.ensures.text.1 ∙ inv.reads_by) past.1,
       first_rows _ _ _ _ _ _ _ _ _ inv.come inv.text inv.reads_by c.entries.entries.first (sym past.0),
     ))
+
+pub returns-in-Err-clause-part : goal.returns-in-Err-clause-part
+returns-in-Err-clause-part g c = if_broken _ _ _ c.broken.ensures (λ cause is h. nothing _ _ _ _ (appends-none _))

@@ -9,7 +9,7 @@ use std::thread;
 use std::thread::Threads;
 
 // As many looks as an end of a lane takes before it yields.
-const LOOKS_BEFORE_YIELD: u32 = 64;
+const LOOKS_BEFORE_YIELD: u32 = 8;
 
 // Waits for the other end of a plain ring as an end of a lane does.
 fn pause(looks: &mut u32) {

@@ -1,0 +1,3 @@
+pub mod ArmLemmas
+pub mod GivenLemmas
+pub mod PassageLemmas

@@ -1,0 +1,3 @@
+pub mod Passages
+pub mod Arms
+pub mod Links

@@ -35,6 +35,10 @@ pub took_tail : (given : List Numbered) (arms : List Arm) (arm : Arm) (rest : Li
 took_tail given arms arm rest row e here (inl a) = inl a
 took_tail given arms arm rest row e here (inr b) = elim (subst (λ l. AnyTook l row) e b) [ inl a ↦ inl (here a) | inr c ↦ inr c ]
 
+pub none_took : (arms : List Arm) (row : Row) → length arms ≡ 0 → AnyTook arms row → ⊥
+none_took [] row e h = h
+none_took (arm ∷ rest) row e h = absurd (omega arith)
+
 -- lanes that are closed one after the other
 pub begin_from : (senders left : List (Sender Entry)) (closed : List (Closed Entry)) → left ≡ senders → closed ≡ [] → (more : List (Closed Entry)) → AreOfLanes (map sender_lane left) more → AreOfLanes (map sender_lane senders) (closed ++ more)
 begin_from senders left closed el ec more h = subst (λ c. AreOfLanes (map sender_lane senders) (c ++ more)) (sym ec) (subst (λ l. AreOfLanes (map sender_lane l) more) el h)

@@ -1,3 +1,7 @@
 pub mod ArmLemmas
+pub mod FeedLemmas
+pub mod FrontLemmas
 pub mod GivenLemmas
 pub mod PassageLemmas
+pub mod SettledLemmas
+pub mod TableLemmas

@@ -6,8 +6,8 @@ use Rattle.std.proofs.lemmas.List.Elements.{Contains-append_cases, Contains-appe
 use Rattle.lane_rings.specs.declared.item.Item.{Item}
 use Rattle.lane_rings.specs.declared.item.Item.TheVariants as item
 use Rattle.register_records.specs.Entries.{Numbered}
-use Rattle.register_records.specs.EntryViews.{entry_seen}
-use Rattle.register_records.specs.RowViews.{row_entry}
+use Rattle.register_records.specs.Seen.{entry_seen}
+use Rattle.register_records.specs.Views.{row_entry}
 use Rattle.register_records.specs.declared.entries.Entry.{Entry}
 use Rattle.register_records.specs.declared.rows.Row.{Row}
 use Rattle.lane_rings.specs.declared.item.Gone.{Gone}
@@ -63,6 +63,12 @@ among_more given more items all e m is among x h =
 pub among_given : (given more : List Numbered) (items : List (Item Entry)) (n : Numbered) → more ≡ given ++ n ∷ [] → AreAmong given items → AreAmong more items
 among_given given more items n m among x h = subst (λ l. Contains l (entry_seen x)) (sym m) (Contains-append_left given (n ∷ []) (entry_seen x) (among x h))
 
+-- one more entry was given, and sent here if the converter was there
+pub among_send : (given more : List Numbered) (old new : List (Item Entry)) (e : Entry) (r : Result (Unit {0}) (Gone Entry)) → more ≡ given ++ entry_seen e ∷ []
+    → OnOk r (new ≡ old ++ item.Entry e ∷ []) → IfErr r (λ g. (g.value ≡ e) × (new ≡ old)) → AreAmong given old → AreAmong more new
+among_send given more old new e (Ok u) m ok gone among x h = among_more given more old new e m ok among x h
+among_send given more old new e (Err g) m ok gone among x h = among_given given more old (entry_seen e) m among x (subst (λ l. Contains l (item.Entry x)) gone.1 h)
+
 -- no entry was sent
 pub among_none : (given : List Numbered) (items : List (Item Entry)) → items ≡ [] → AreAmong given items
 among_none given items none e h = absurd (let k = subst (λ l. Contains l (item.Entry e)) none h in omega (arith, k.1))
@@ -93,7 +99,7 @@ gains_row old new made e is of row h = elim (Contains-append_cases old (item.Ent
 
 -- a send that went through, or did not
 pub gains_send : (old new : List (Item Row)) (made : Row) (e : Entry) (r : Result (Unit {0}) (Gone Row)) → OnOk r (new ≡ old ++ item.Entry made ∷ []) → IfErr r (λ g. (g.value ≡ made) × (new ≡ old)) → row_entry made ≡ e → GainsRowOf old new e
-gains_send old new made e (Ok u) ok gone of = gains_row old new made e ok of
+gains_send old new made e (Ok u) ok gone of row h = gains_row old new made e ok of row h
 gains_send old new made e (Err g) ok gone of row h = inl (subst (λ l. Contains l (item.Entry row)) gone.1 h)
 
 -- with both lanes of a converter confirmed, each row that was taken is of an entry that was given

@@ -1,3 +1,7 @@
 pub mod Passages
 pub mod Arms
 pub mod Links
+pub mod Feeds
+pub mod TablesWritten
+pub mod Written
+pub mod Headline

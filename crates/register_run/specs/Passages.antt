@@ -7,9 +7,9 @@ use Rattle.lane_rings.specs.declared.sender.Sender.{Sender}
 use Rattle.lane_rings.specs.declared.sender.Closed.{Closed}
 use Rattle.lane_rings.specs.Lane.{Lane, HasConfirmation, all_sent, closed_lane, receiver_lane, sent, taken}
 use Rattle.register_records.specs.Causes.{entry_fault_cause}
-use Rattle.register_records.specs.Entries.{AreNumberedFrom, Fields, HasEntries, HasFirstEntries, HasRecords, HasTooMany, Numbered}
-use Rattle.register_records.specs.EntryViews.{entry_seen}
-use Rattle.register_records.specs.RowViews.{row_entry}
+use Rattle.register_records.specs.Entries.{AreNumberedFrom, HasEntries, HasFirstEntries, HasNoHeader, HasTooMany, Numbered}
+use Rattle.register_records.specs.Seen.{entry_seen}
+use Rattle.register_records.specs.Views.{row_entry}
 use Rattle.register_records.specs.declared.entries.Entry.{Entry}
 use Rattle.register_records.specs.declared.reading.EntryFault.{EntryFault}
 use Rattle.register_records.specs.declared.rows.Row.{Row}
@@ -34,7 +34,7 @@ pub record IsGiven (text : Option (List ℕ)) (delimiter : ℕ) (outcome : Resul
   pub numbered : AreNumberedFrom 1 given
   pub first : (given ≡ []) ⊎ IfSome text (λ t. HasFirstEntries delimiter t given)
   pub all : IfOk outcome (λ n. (n ≡ length given) × IfSome text (λ t. HasEntries delimiter t given))
-  pub bad_header : IfErr outcome (λ c. c ≡ cause.BadHeader → (given ≡ []) × IfSome text (λ t. (records : List Fields) → HasRecords delimiter t records → ⊥))
+  pub bad_header : IfErr outcome (λ c. c ≡ cause.BadHeader → (given ≡ []) × IfSome text (λ t. HasNoHeader delimiter t))
   pub too_many : IfErr outcome (λ c. c ≡ cause.TooManyRecords → IfSome text (λ t. HasTooMany delimiter t))
 
 -- the output is not the cause
@@ -88,6 +88,10 @@ is_of_reading cause.SinkFault = false
 is_of_reading cause.ReadFault = true
 is_of_reading cause.BadHeader = true
 is_of_reading cause.TooManyRecords = true
+
+-- neither the reader nor the output gives this cause
+abbrev pub IsOfThreads : Cause → Type 0
+IsOfThreads c = (is_of_reading c ≡ false) × (c ≡ cause.SinkFault → ⊥)
 
 -- the answer of a source's threads speaks of its text
 abbrev pub tells_of_text : Result ℕ Cause → Bool

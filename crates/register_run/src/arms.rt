@@ -5,8 +5,9 @@ ghost use Rattle.lane_rings.specs.Lane.{receiver_lane, sender_lane, sent};
 
 use crate::converting::{Converting, convert_entries};
 use crate::gates::Gate;
+use crate::starting::StartFault;
 use lane_rings::{Closed, Item, Receiver, Sender, Unconfirmed, lane};
-use register_records::{Cause, Entry, Row, Setup};
+use register_records::{Entry, Row, Setup};
 use std::alloc::Global;
 use std::snapshot::Snapshot;
 use std::sync::Wait;
@@ -57,15 +58,15 @@ impl Arm {
         gate: &'e G,
         alloc: Global,
         setup: &'e Setup,
-    ) -> Result<(Sender<Entry>, Arm), Cause>
+    ) -> Result<(Sender<Entry>, Arm), StartFault>
         ensures lane { IfOk result (λ r. feeding_lane r.1 ≡ sender_lane r.0) }
         ensures fresh { IfOk result (λ r. sent r.0 ≡ []) }
     {
         let Ok((sender, entries)) = lane::<Entry>(alloc, setup.ring()) else {
-            return Err(Cause::NoMemory);
+            return Err(StartFault::NoMemory);
         };
         let Ok((row_sender, rows)) = lane::<Row>(alloc, setup.ring()) else {
-            return Err(Cause::NoMemory);
+            return Err(StartFault::NoMemory);
         };
         let feeding = Snapshot::of(&sender);
         let lanes = ConverterLanes {
@@ -80,7 +81,7 @@ impl Arm {
             { convert_entries(rt, gate, setup, entries, row_sender) },
         );
         let Ok(worker) = worker else {
-            return Err(Cause::NoThread);
+            return Err(StartFault::NoThread);
         };
         let arm = Arm {
             worker,

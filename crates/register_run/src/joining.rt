@@ -35,7 +35,7 @@ pub(crate) fn join_arms(
             unreachable!()
         };
         match arm.finish(rt, one) {
-            Ok(counted) => ended = ended && counted,
+            Ok(counted) => ended &= counted,
             Err(_) => confirmed = false,
         }
     }

@@ -3,9 +3,13 @@
 
 mod arms;
 mod converting;
+mod feeds;
 mod gates;
 mod joining;
 mod links;
 mod reading;
+mod settling;
+mod starting;
+mod tables;
 
 pub use gates::{Gate, Open};

@@ -1,14 +1,16 @@
 //! The threads of a source, and the ends of its last lanes.
 
-ghost use Rattle.std.specs.Prelude.{◌≡◌, ◌⊎◌, ◌<◌, ◌≤◌, [], All, IfOk, map, vec_capacity, vec_len};
+ghost use Rattle.std.specs.Prelude.{◌≡◌, ◌<◌, ◌≤◌, [], All, IfOk, map, vec_capacity, vec_len};
 ghost use Rattle.lane_rings.specs.Lane.{sender_lane, sent};
-ghost use Rattle.register_records.specs.Setups.{delimiter_of};
+ghost use Rattle.register_records.specs.Views.{delimiter_of, stripes_of};
 ghost use Rattle.register_run.specs.Arms.{feeding_lane};
+ghost use Rattle.register_run.specs.Passages.{IsOfThreads};
 
 use crate::arms::Arm;
 use crate::gates::Gate;
 use crate::joining::{call_off, join_arms, take_one};
 use crate::reading::{Reading, read_source};
+use crate::starting::StartFault;
 use lane_rings::{Item, Sender};
 use register_records::{Cause, Entry, Row, Setup};
 use std::alloc::Global;
@@ -16,9 +18,6 @@ use std::io::Read;
 use std::snapshot::Snapshot;
 use std::sync::Wait;
 use std::thread::{Promise, PromisedHandle, Scope, Threads};
-
-/// How many converters a source has.
-const STRIPES: usize = 3;
 
 /// What a look into the lanes of a source found.
 #[derive(Drop)]
@@ -79,14 +78,14 @@ impl<R: Read + Drop> Link<R> {
         alloc: Global,
         setup: &'e Setup,
         source: R,
-    ) -> Result<Link<R>, Cause>
+    ) -> Result<Link<R>, StartFault>
     where
         R: Send + 'e,
         ensures source { IfOk result (λ link. started_on link ≡ source) }
         ensures setup { IfOk result (λ link. started_by link ≡ setup.entry.now) }
     {
-        let Ok(closed) = Vec::with_capacity(alloc, STRIPES) else {
-            return Err(Cause::NoMemory);
+        let Ok(closed) = Vec::with_capacity(alloc, setup.stripes()) else {
+            return Err(StartFault::NoMemory);
         };
         let Fan { arms, senders } = Fan::start(scope, rt, gate, alloc, setup)?;
         let task = ReaderTask {
@@ -112,7 +111,7 @@ impl<R: Read + Drop> Link<R> {
                 // With the closure go the senders, which lets the converters end.
                 drop(refused);
                 call_off(rt, arms);
-                Err(Cause::NoThread)
+                Err(StartFault::NoThread)
             }
         }
     }
@@ -203,7 +202,7 @@ impl<R: Read + Drop> Link<R> {
 
 /// `Unconfirmed`, unless the reader met a lower cause.
 fn unconfirmed_or_lower(outcome: Result<u32, Cause>) -> Cause
-    ensures { (result ≡ Cause.Unconfirmed) ⊎ (result ≡ Cause.NoMemory) }
+    ensures { IsOfThreads result }
 {
     match outcome {
         Err(Cause::NoMemory) => Cause::NoMemory,
@@ -225,18 +224,19 @@ impl Fan {
         gate: &'e G,
         alloc: Global,
         setup: &'e Setup,
-    ) -> Result<Fan, Cause>
+    ) -> Result<Fan, StartFault>
         ensures fed { IfOk result (λ f. map feeding_lane f.arms.items ≡ map sender_lane f.senders.items) }
-        ensures count { IfOk result (λ f. (vec_len f.senders ≡ STRIPES) × (vec_len f.arms ≡ STRIPES)) }
+        ensures count { IfOk result (λ f. (vec_len f.senders ≡ stripes_of setup.entry.now) × (vec_len f.arms ≡ stripes_of setup.entry.now)) }
         ensures fresh { IfOk result (λ f. All (λ s. sent s ≡ []) f.senders.items) }
     {
-        let Ok(mut arms) = Vec::with_capacity(alloc, STRIPES) else {
-            return Err(Cause::NoMemory);
+        let stripes = setup.stripes();
+        let Ok(mut arms) = Vec::with_capacity(alloc, stripes) else {
+            return Err(StartFault::NoMemory);
         };
-        let Ok(mut senders) = Vec::with_capacity(alloc, STRIPES) else {
-            return Err(Cause::NoMemory);
+        let Ok(mut senders) = Vec::with_capacity(alloc, stripes) else {
+            return Err(StartFault::NoMemory);
         };
-        for _ in 0..STRIPES {
+        for _ in 0..stripes {
             match Arm::start(scope, rt, gate, alloc, setup) {
                 Ok((sender, arm)) => {
                     senders.push_reserved(sender);

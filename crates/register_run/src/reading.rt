@@ -3,7 +3,7 @@
 ghost use Rattle.std.specs.Prelude.{◌≡◌, ◌<◌, ◌≤◌, [], All, List, map, vec_capacity, vec_len};
 ghost use Rattle.lane_rings.specs.Lane.{HasConfirmation, all_sent, sender_lane, sent};
 ghost use Rattle.register_records.specs.Entries.{Numbered};
-ghost use Rattle.register_records.specs.Setups.{delimiter_of};
+ghost use Rattle.register_records.specs.Views.{delimiter_of};
 ghost use Rattle.register_run.specs.Passages.{AreAmong, AreOfLanes, IsCauseOf, IsNotSunk, IsOfLane, IsReading, Sends};
 
 use lane_rings::{Closed, Sender};

@@ -21,3 +21,6 @@ loop-sender-preserved g c =
 
 pub returns-clause-from : goal.returns-clause-from
 returns-clause-from g c = end_from (map sender_lane c.args.senders.items) (into_iter_items c.loop-sender.sender-iterator) c.loop-sender.closed.items (sym c.loop-sender.sender-iterator.rest.ok.0 ∙ c.in-None.ensures.steps.0) c.loop-sender.invariant.from
+
+pub returns-clause-sent : goal.returns-clause-sent
+returns-clause-sent g c = λ given among. (c.loop-sender.invariant.sent given among).1

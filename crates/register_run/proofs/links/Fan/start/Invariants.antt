@@ -6,8 +6,8 @@ use Rattle.register_run.proofs.links.Fan.start.Given as goal
 
 abbrev pub invariant-loop : goal.invariant-loop
 invariant-loop g l = record {
-  arms : (vec_len l.arms ≡ l.counter) × (3 ≤ vec_capacity l.arms);
-  senders : (vec_len l.senders ≡ l.counter) × (3 ≤ vec_capacity l.senders);
+  arms : (vec_len l.arms ≡ l.counter) × (l.stripes ≤ vec_capacity l.arms);
+  senders : (vec_len l.senders ≡ l.counter) × (l.stripes ≤ vec_capacity l.senders);
   fed : map feeding_lane l.arms.items ≡ map sender_lane l.senders.items;
   fresh : All (λ s. sent s ≡ []) l.senders.items;
 }

@@ -24,16 +24,16 @@ is_first k y ys z h e (suc i, below, is) = absurd (let m = later (k + 1) ys z h 
 
 pub front : (given xs : List Numbered) (k : ℕ) → AreNumberedFrom k given → AreNumberedFrom k xs → ((n : Numbered) → Contains xs n → Contains given n) → (rest : List Numbered) × (given ≡ xs ++ rest)
 front given [] k g n all = (given, refl)
-front [] (x ∷ xs) k g n all = absurd (let c = all x (0, lit< tt, refl) in omega (arith, c.1))
+front [] (x ∷ xs) k g n all = absurd (let c = all x (0, omega arith, refl) in omega (arith, c.1))
 front (y ∷ ys) (x ∷ xs) k g n all =
-    let same : y ≡ x = is_first k y ys x g.1 n.0 (all x (0, lit< tt, refl)) in
+    let same : y ≡ x = is_first k y ys x g.1 n.0 (all x (0, omega arith, refl)) in
     let more = front ys xs (k + 1) g.1 n.1 (λ z c. in_rest k y ys z g.0 (later (k + 1) xs z n.1 c) (all z (suc c.0, omega (arith, c.1), c.2))) in
     (more.0, ap (λ l. y ∷ l) more.1 ∙ ap (λ e. e ∷ (xs ++ more.0)) same)
 
 -- what holds of the entry of each row holds of each of the entries
 pub each_entry : (P : Numbered → Type 0) (rows : List Row) → ((row : Row) → Contains rows row → P (entry_seen (row_entry row))) → (n : Numbered) → Contains (entries_seen rows) n → P n
 each_entry P [] all n c = absurd (omega (arith, c.1))
-each_entry P (row ∷ rest) all n (zero, below, is) = subst P is (all row (0, lit< tt, refl))
+each_entry P (row ∷ rest) all n (zero, below, is) = subst P is (all row (0, omega arith, refl))
 each_entry P (row ∷ rest) all n (suc i, below, is) = each_entry P rest (λ r c. all r (suc c.0, omega (arith, c.1), c.2)) n (i, omega arith, is)
 
 -- the entries of rows that were taken, as a front of those given

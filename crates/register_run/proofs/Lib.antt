@@ -4,4 +4,5 @@ pub mod FrontLemmas
 pub mod GivenLemmas
 pub mod PassageLemmas
 pub mod SettledLemmas
+pub mod StationLemmas
 pub mod TableLemmas

@@ -5,3 +5,5 @@ pub mod Feeds
 pub mod TablesWritten
 pub mod Written
 pub mod Headline
+pub mod Cases
+pub mod Stations

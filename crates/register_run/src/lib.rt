@@ -10,6 +10,7 @@ mod links;
 mod reading;
 mod settling;
 mod starting;
+mod stations;
 mod tables;
 
 pub use gates::{Gate, Open};

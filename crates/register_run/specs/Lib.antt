@@ -7,3 +7,4 @@ pub mod Written
 pub mod Headline
 pub mod Cases
 pub mod Stations
+pub mod Reports

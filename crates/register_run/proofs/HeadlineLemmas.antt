@@ -7,6 +7,7 @@ use Rattle.std.proofs.Props.{props}
 use Rattle.std.specs.declared.io.traits.Read as reads
 use Rattle.register_records.specs.declared.outputs.Output as outputs
 use Rattle.register_records.specs.declared.setups.Setup.{Setup}
+use Rattle.register_records.specs.declared.sources.Cause.{Cause}
 use Rattle.register_records.specs.declared.sources.Cause.TheVariants as cause
 use Rattle.register_records.specs.declared.sources.SourceEnd.{SourceEnd}
 use Rattle.register_records.specs.declared.sources.SourceEnd.TheVariants as end
@@ -46,7 +47,8 @@ module _ {R W : Type 0} {o : outputs.Ghosts W} where
 
 -- what is known of the source at a place
 abbrev pub Known : {R W : Type 0} → reads.Ghosts R → outputs.Ghosts W → Setup → R → W → W → SourceEnd → Type 0
-Known r o setup source before after e = ∥ IsSettled o.contents o.has_failed o.is_flushed (layout_of setup) (r.remaining source) before after e ∥₁
+Known r o setup source before after e =
+    ∥ IsSettled o.contents o.has_failed o.is_flushed (layout_of setup) (r.remaining source) before after e ∥₁ × (e ≡ end.Broken cause.BadHeader → after ≡ before)
 
 module _ {R W : Type 0} {r : reads.Ghosts R} {o : outputs.Ghosts W} where
   known_here : (one : Settled R W r o) (setup : Setup) (s source : R) (w before after : W) (e : SourceEnd) → ended_case one ≡ case s w setup → s ≡ source → w ≡ before → one.output ≡ after → one.end ≡ e → Known r o setup source before after e
@@ -54,7 +56,7 @@ module _ {R W : Type 0} {r : reads.Ghosts R} {o : outputs.Ghosts W} where
       subst (λ v. Known r o setup source before after v) y (subst (λ v. Known r o setup source before v one.end) x
       (subst (λ v. Known r o setup source v one.output one.end) (ap (λ (k : Case R W). k.output) is ∙ q)
       (subst (λ v. Known r o setup v one.given.value one.output one.end) (ap (λ (k : Case R W). k.source) is ∙ p)
-      (subst (λ v. Known r o v one.source.value one.given.value one.output one.end) (ap (λ (k : Case R W). k.setup) is) one.settled))))
+      (subst (λ v. Known r o v one.source.value one.given.value one.output one.end) (ap (λ (k : Case R W). k.setup) is) (one.settled, one.untouched)))))
 
   pub places : (setup : Setup) (all : List (Settled R W r o)) (sources : List R) (given : List W) → map ended_case all ≡ cases setup sources given
       → AtEachPlace sources given (map output_of all) (map end_of all) (Known r o setup)
@@ -117,9 +119,9 @@ module _ {W : Type 0} (contents : W → Option (List ℕ)) (has_failed is_flushe
   no_header None h = tt
   no_header (Some bytes) h = λ after has. ∥∥₁_elim h (Prim.hlevel props) (λ none. none after has)
 
-  pub bad_header_of : IsProp (written ≡ given) → (e : SourceEnd) → Is e → IfBroken e (λ c. c ≡ cause.BadHeader → (written ≡ given) × IfSome text (λ t. HasNoHeader layout.delimiter t))
-  bad_header_of prop (end.Whole rows refused journal) h = tt
-  bad_header_of prop (end.Broken c) h = λ bad. (∥∥₁_elim h prop (λ s. (s.bad_header bad).0), no_header text (∥∥₁_map h (λ s. (s.bad_header bad).1)))
+  pub bad_header_of : (e : SourceEnd) → (e ≡ end.Broken cause.BadHeader → written ≡ given) → Is e → IfBroken e (λ c. c ≡ cause.BadHeader → (written ≡ given) × IfSome text (λ t. HasNoHeader layout.delimiter t))
+  bad_header_of (end.Whole rows refused journal) same h = tt
+  bad_header_of (end.Broken c) same h = λ bad. (same (ap (λ (d : Cause). end.Broken d) bad), no_header text (∥∥₁_map h (λ s. s.bad_header bad)))
 
   pub too_many_of : (e : SourceEnd) → Is e → IfBroken e (λ c. c ≡ cause.TooManyRecords → ∥ IfSome text (λ t. HasTooMany layout.delimiter t) ∥₁)
   too_many_of (end.Whole rows refused journal) h = tt

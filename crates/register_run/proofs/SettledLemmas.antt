@@ -6,6 +6,7 @@ use Rattle.std.specs.List.{Contains}
 use Rattle.std.specs.Io.KnownBytes.{Appends, append_known}
 use Rattle.std.proofs.lemmas.List.{length-map}
 use Rattle.std.proofs.lemmas.List.Elements.{Contains-append_right}
+use Rattle.std.proofs.Props.{props}
 use Rattle.std.proofs.Math.Logic.{∥∥₁_elim, ∥∥₁_map, ∥∥₁_prop}
 use Rattle.date_texts.specs.declared.calendar.Target.{Target}
 use Rattle.register_records.specs.declared.outputs.Output as outputs
@@ -113,7 +114,7 @@ module _ {W : Type 0} (o : outputs.Ghosts W) (text : Option (List ℕ)) (table :
           flushed = tt;
           good = tt;
           part = λ e. part_so given is all (is_some table.writer) refl dry fact.2 are;
-          bad_header = λ e. ((unwritten dry (not_true (is_some table.writer) (λ s. fact.2 (is_headed ∙ s) (none_given given is all (bad e).0)))).0, (bad e).1);
+          bad_header = λ e. (bad e).1;
           too_many = many;
           in_order = λ good. in_order_so (is_some table.writer) refl dry are;
           sink = λ e. absurd (let k : is_of_reading c ≡ false = ap is_of_reading e in cc);
@@ -138,6 +139,20 @@ module _ {W : Type 0} (o : outputs.Ghosts W) (text : Option (List ℕ)) (table :
       → (c ≡ cause.SinkFault → table.fault ≡ Some cause.SinkFault) → ∥ IsSettled o.contents o.has_failed o.is_flushed (layout_of table.setup) text table.given.value table.output (end.Broken c) ∥₁
   broken_so true c b reading sink = reading_so c b (reading b)
   broken_so false c b reading sink = threads_so c b sink
+
+  -- a source with another header has no table
+  pub headless : (e : SourceEnd) → IfBroken e (λ c. is_of_reading c ≡ true → (passed ≡ Err c) × (table.fault ≡ None) × (headed ≡ true → table.rows ≢ 0))
+      → e ≡ end.Broken cause.BadHeader → (is_some table.writer ≡ false) × (table.sunk ≡ false)
+  headless (end.Whole count refused journal) reading is = absurd (cc)
+  headless (end.Broken c) reading is =
+      let same : c ≡ cause.BadHeader = cc in
+      let fact = reading (ap is_of_reading same) in
+      let told : tells_of_text passed ≡ true = ap tells_of_text fact.0 ∙ ap is_of_reading same in (
+        not_true (is_some table.writer) (λ some. ∥∥₁_elim (has.rows told) (Prim.hlevel props) (λ (given, so, all).
+          let bad = subst (λ p. IfErr p (λ d. d ≡ cause.BadHeader → (given ≡ []) × IfSome text (λ t. HasNoHeader (delimiter_of table.setup) t))) fact.0 so.bad_header in
+          fact.2 (is_headed ∙ some) (none_given given so all (bad same).0))),
+        table.faultless fact.1,
+      )
 
   pub settled : (e : SourceEnd)
       → IfWhole e (λ count refused notes. (passed ≡ Ok count) × (table.fault ≡ None) × (headed ≡ true) × (count ≡ table.rows) × (refused ≡ length notes) × (notes ≡ table.journal.items))

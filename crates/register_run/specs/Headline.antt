@@ -26,7 +26,7 @@ pub record IsSettled {W : Type 0} (contents : W → Option (List ℕ)) (has_fail
   pub flushed : IfWhole end (λ rows refused journal. is_flushed written ≡ true)
   pub good : IfWhole end (λ rows refused journal. has_failed written ≡ has_failed given)
   pub part : IfBroken end (λ c. is_of_reading c ≡ true → Gains (contents given) (contents written) (ArePartOfTable layout text))
-  pub bad_header : IfBroken end (λ c. c ≡ cause.BadHeader → (written ≡ given) × IfSome text (λ t. HasNoHeader layout.delimiter t))
+  pub bad_header : IfBroken end (λ c. c ≡ cause.BadHeader → IfSome text (λ t. HasNoHeader layout.delimiter t))
   pub too_many : IfBroken end (λ c. c ≡ cause.TooManyRecords → IfSome text (λ t. HasTooMany layout.delimiter t))
   pub in_order : IfBroken end (λ c. has_failed written ≡ false → Gains (contents given) (contents written) (AreRowsInOrder layout))
   pub sink : IfBroken end (λ c. c ≡ cause.SinkFault → has_failed written ≡ true)

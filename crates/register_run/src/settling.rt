@@ -4,6 +4,7 @@ ghost use Rattle.std.specs.Prelude.{◌≡◌, ◌≢◌, ◌≤◌, ◌⊎◌, 
 ghost use Rattle.register_records.specs.Sources.{IfBroken, IfWhole, cause_number};
 ghost use Rattle.register_records.specs.Views.{layout_of};
 ghost use Rattle.register_records.specs.declared.sources.Cause.TheVariants as cause;
+ghost use Rattle.register_records.specs.declared.sources.SourceEnd.TheVariants as ended;
 ghost use Rattle.register_run.specs.Passages.{IsNotSunk, is_of_reading};
 ghost use Rattle.register_run.specs.Headline.{IsSettled};
 
@@ -20,6 +21,7 @@ pub(crate) struct Settled<R: Read, W: Output> {
     pub(crate) output: W,
     pub(crate) end: SourceEnd,
     pub ghost marked: { W.own_mark output ≡ W.own_mark given.value },
+    pub ghost untouched: { end ≡ ended.Broken cause.BadHeader → output ≡ given.value },
     pub ghost settled: { ∥ IsSettled W.contents W.has_failed W.is_flushed (layout_of setup.value) (R.remaining source.value) given.value output end ∥₁ },
 }
 

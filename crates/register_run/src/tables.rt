@@ -1,6 +1,7 @@
 //! The table of a source, as far as it was written.
 
 ghost use Rattle.std.specs.Prelude.{◌≡◌, ◌+◌, ◌<◌, ◌≤◌, ◌⊎◌, [], ◌∷◌, ◌++◌, None, Some, IfSome, true, false, vec_capacity, vec_len};
+ghost use Rattle.std.specs.Option.{is_some};
 ghost use Rattle.std.proofs.Props.{props};
 ghost use Rattle.register_records.specs.Entries.{record_limit};
 ghost use Rattle.register_records.specs.Tables.{notes_of};
@@ -38,6 +39,7 @@ pub(crate) struct Table<W: Output> {
     ghost failed: { sunk ≡ true → W.has_failed output ≡ true },
     ghost good: { sunk ≡ false → W.has_failed output ≡ W.has_failed given.value },
     ghost afloat: { sunk ≡ false → IfSome writer (λ w. has_sunk w ≡ false) } by { Prim.hlevel props },
+    ghost untouched: { is_some writer ≡ false → sunk ≡ false → output ≡ given.value },
     ghost faultless: { fault ≡ None → sunk ≡ false },
     ghost sink_told: { fault ≡ Some cause.SinkFault → sunk ≡ true },
     ghost not_reading: { IfSome fault (λ c. is_of_reading c ≡ false) } by { Prim.hlevel props },

@@ -8,7 +8,7 @@ use Rattle.register_records.specs.declared.sources.Cause.TheVariants as cause
 use Rattle.register_records.specs.declared.sources.SourceEnd.{SourceEnd}
 use Rattle.register_run.specs.Passages.{is_of_reading}
 
--- this holds at each place: of the source there, the output as it was handed in and as it is handed back, and the end
+-- this holds at each place: of the source there, of the output as it was handed in and as it is handed back, and of the end
 abbrev pub AtEachPlace : {R W : Type 0} → List R → List W → List W → List SourceEnd → (R → W → W → SourceEnd → Type 0) → Type 0
 AtEachPlace {R} {W} sources given written ends Holds =
     (i : ℕ) (source : R) (before after : W) (end : SourceEnd)

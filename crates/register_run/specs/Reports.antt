@@ -4,6 +4,7 @@ use Rattle.register_records.specs.Sources.{is_whole_end}
 use Rattle.register_records.specs.Tables.{Layout}
 use Rattle.register_records.specs.declared.sources.Cause.TheVariants as cause
 use Rattle.register_records.specs.declared.sources.SourceEnd.TheVariants as ended
+use Rattle.register_records.specs.declared.sources.SourceEnd.{SourceEnd}
 use Rattle.register_run.specs.declared.reports.Report.{Report}
 use Rattle.register_run.specs.declared.reports.RunFaultKind.{RunFaultKind}
 use Rattle.register_run.specs.declared.reports.RunFaultKind.TheVariants.{NoMemory, OutputCount, TooManySources}
@@ -16,10 +17,14 @@ run_fault_number TooManySources = 1
 run_fault_number OutputCount = 2
 run_fault_number NoMemory = 3
 
+-- this holds of each source: of it, of its output as it was handed in and as it is handed back, and of its end
+abbrev pub OfEachSource : {R W : Type 0} → List R → List W → Report W → (R → W → W → SourceEnd → Type 0) → Type 0
+OfEachSource sources given report Holds = AtEachPlace sources given report.outputs.items report.ends.items Holds
+
 -- each source has ended as it should, and the report says how
 pub record IsReport {R W : Type 0} (remaining : R → Option (List ℕ)) (contents : W → Option (List ℕ)) (has_failed is_flushed : W → Bool) (own_mark : W → ℕ)
     (layout : Layout) (sources : List R) (given : List W) (report : Report W) : Type 0 where
-  pub places : AtEachPlace sources given report.outputs.items report.ends.items (λ source before after end.
+  pub places : OfEachSource sources given report (λ source before after end.
       ∥ IsSettled contents has_failed is_flushed layout (remaining source) before after end ∥₁ × (end ≡ ended.Broken cause.BadHeader → after ≡ before))
   pub verdict : (report.verdict ≡ Complete) ↔ All (λ e. is_whole_end e ≡ true) report.ends.items
   pub marks : map own_mark report.outputs.items ≡ map own_mark given

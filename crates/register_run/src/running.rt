@@ -5,9 +5,9 @@ ghost use Rattle.register_records.specs.Entries.{HasNoHeader, HasTooMany};
 ghost use Rattle.register_records.specs.Sources.{ArePartOfTable, Gains, IfBroken, IfWhole, IsWholeTable, is_whole_end};
 ghost use Rattle.register_records.specs.Views.{delimiter_of, layout_of};
 ghost use Rattle.register_run.specs.Cases.{cases, end_of, ended_case, output_of};
-ghost use Rattle.register_run.specs.Headline.{AreRowsInOrder, AtEachPlace};
+ghost use Rattle.register_run.specs.Headline.{AreRowsInOrder};
 ghost use Rattle.register_run.specs.Passages.{is_of_reading};
-ghost use Rattle.register_run.specs.Reports.{IsReport};
+ghost use Rattle.register_run.specs.Reports.{IsReport, OfEachSource};
 ghost use Rattle.register_run.specs.Stations.{case_of};
 
 use crate::gates::{Gate, Open};
@@ -274,38 +274,38 @@ pub fn run_gated<T: Threads + Wait + Sync, R: Read + Send + Drop, W: Output + Dr
 ) -> Result<Report<W>, RunFault<R, W>>
     // The headline. A source that is whole has its table in its output: the output there has gained exactly the table
     // of the source's text, and nothing else.
-    ensures whole { IfOk result (λ r. AtEachPlace sources.items outputs.items r.outputs.items r.ends.items (λ source given written end.
+    ensures whole { IfOk result (λ r. OfEachSource sources.items outputs.items r (λ source given written end.
         IfWhole end (λ rows refused journal. ∥ Gains (W.contents given) (W.contents written)
         (IsWholeTable (layout_of setup.now) (R.remaining source) rows refused journal) ∥₁))) }
-    ensures handed_on { IfOk result (λ r. AtEachPlace sources.items outputs.items r.outputs.items r.ends.items (λ source given written end.
+    ensures handed_on { IfOk result (λ r. OfEachSource sources.items outputs.items r (λ source given written end.
         IfWhole end (λ rows refused journal. W.is_flushed written ≡ true))) }
     ensures verdict { IfOk result (λ r. (r.verdict ≡ Verdict.Complete) ↔ All (λ e. is_whole_end e ≡ true) r.ends.items) }
     ensures marks { IfOk result (λ r. map W.own_mark r.outputs.items ≡ map W.own_mark outputs.items) }
     ensures lengths { IfOk result (λ r. (vec_len r.outputs ≡ vec_len outputs) × (vec_len r.ends ≡ vec_len sources)) }
 
     // A source that is broken for a cause of reading leaves a front of its table, or nothing.
-    ensures part { IfOk result (λ r. AtEachPlace sources.items outputs.items r.outputs.items r.ends.items (λ source given written end.
+    ensures part { IfOk result (λ r. OfEachSource sources.items outputs.items r (λ source given written end.
         IfBroken end (λ c. is_of_reading c ≡ true → ∥ Gains (W.contents given) (W.contents written)
         (ArePartOfTable (layout_of setup.now) (R.remaining source)) ∥₁))) }
-    ensures bad_header { IfOk result (λ r. AtEachPlace sources.items outputs.items r.outputs.items r.ends.items (λ source given written end.
+    ensures bad_header { IfOk result (λ r. OfEachSource sources.items outputs.items r (λ source given written end.
         IfBroken end (λ c. c ≡ Cause.BadHeader → (written ≡ given)
         × IfSome (R.remaining source) (λ text. HasNoHeader (delimiter_of setup.now) text)))) }
-    ensures too_many_records { IfOk result (λ r. AtEachPlace sources.items outputs.items r.outputs.items r.ends.items (λ source given written end.
+    ensures too_many_records { IfOk result (λ r. OfEachSource sources.items outputs.items r (λ source given written end.
         IfBroken end (λ c. c ≡ Cause.TooManyRecords
         → ∥ IfSome (R.remaining source) (λ text. HasTooMany (delimiter_of setup.now) text) ∥₁))) }
 
     // Whatever the cause, an output that has not failed has gained rows in the order of their numbers, from 1.
-    ensures in_order { IfOk result (λ r. AtEachPlace sources.items outputs.items r.outputs.items r.ends.items (λ source given written end.
+    ensures in_order { IfOk result (λ r. OfEachSource sources.items outputs.items r (λ source given written end.
         IfBroken end (λ c. W.has_failed written ≡ false → ∥ Gains (W.contents given) (W.contents written)
         (AreRowsInOrder (layout_of setup.now)) ∥₁))) }
 
-    // An output is the cause only where it has failed, and has failed as little as before with a whole source and with
+    // An output is the cause only where it has failed, and it has failed no more than before with a whole source and with
     // the causes of reading.
-    ensures sink { IfOk result (λ r. AtEachPlace sources.items outputs.items r.outputs.items r.ends.items (λ source given written end.
+    ensures sink { IfOk result (λ r. OfEachSource sources.items outputs.items r (λ source given written end.
         IfBroken end (λ c. c ≡ Cause.SinkFault → W.has_failed written ≡ true))) }
-    ensures kept { IfOk result (λ r. AtEachPlace sources.items outputs.items r.outputs.items r.ends.items (λ source given written end.
+    ensures kept { IfOk result (λ r. OfEachSource sources.items outputs.items r (λ source given written end.
         IfBroken end (λ c. is_of_reading c ≡ true → W.has_failed written ≡ W.has_failed given))) }
-    ensures good { IfOk result (λ r. AtEachPlace sources.items outputs.items r.outputs.items r.ends.items (λ source given written end.
+    ensures good { IfOk result (λ r. OfEachSource sources.items outputs.items r (λ source given written end.
         IfWhole end (λ rows refused journal. W.has_failed written ≡ W.has_failed given))) }
 
     // A run that did not begin.
@@ -341,38 +341,38 @@ pub fn run<T: Threads + Wait + Sync, R: Read + Send + Drop, W: Output + Drop>(
 ) -> Result<Report<W>, RunFault<R, W>>
     // The headline. A source that is whole has its table in its output: the output there has gained exactly the table
     // of the source's text, and nothing else.
-    ensures whole { IfOk result (λ r. AtEachPlace sources.items outputs.items r.outputs.items r.ends.items (λ source given written end.
+    ensures whole { IfOk result (λ r. OfEachSource sources.items outputs.items r (λ source given written end.
         IfWhole end (λ rows refused journal. ∥ Gains (W.contents given) (W.contents written)
         (IsWholeTable (layout_of setup.now) (R.remaining source) rows refused journal) ∥₁))) }
-    ensures handed_on { IfOk result (λ r. AtEachPlace sources.items outputs.items r.outputs.items r.ends.items (λ source given written end.
+    ensures handed_on { IfOk result (λ r. OfEachSource sources.items outputs.items r (λ source given written end.
         IfWhole end (λ rows refused journal. W.is_flushed written ≡ true))) }
     ensures verdict { IfOk result (λ r. (r.verdict ≡ Verdict.Complete) ↔ All (λ e. is_whole_end e ≡ true) r.ends.items) }
     ensures marks { IfOk result (λ r. map W.own_mark r.outputs.items ≡ map W.own_mark outputs.items) }
     ensures lengths { IfOk result (λ r. (vec_len r.outputs ≡ vec_len outputs) × (vec_len r.ends ≡ vec_len sources)) }
 
     // A source that is broken for a cause of reading leaves a front of its table, or nothing.
-    ensures part { IfOk result (λ r. AtEachPlace sources.items outputs.items r.outputs.items r.ends.items (λ source given written end.
+    ensures part { IfOk result (λ r. OfEachSource sources.items outputs.items r (λ source given written end.
         IfBroken end (λ c. is_of_reading c ≡ true → ∥ Gains (W.contents given) (W.contents written)
         (ArePartOfTable (layout_of setup.now) (R.remaining source)) ∥₁))) }
-    ensures bad_header { IfOk result (λ r. AtEachPlace sources.items outputs.items r.outputs.items r.ends.items (λ source given written end.
+    ensures bad_header { IfOk result (λ r. OfEachSource sources.items outputs.items r (λ source given written end.
         IfBroken end (λ c. c ≡ Cause.BadHeader → (written ≡ given)
         × IfSome (R.remaining source) (λ text. HasNoHeader (delimiter_of setup.now) text)))) }
-    ensures too_many_records { IfOk result (λ r. AtEachPlace sources.items outputs.items r.outputs.items r.ends.items (λ source given written end.
+    ensures too_many_records { IfOk result (λ r. OfEachSource sources.items outputs.items r (λ source given written end.
         IfBroken end (λ c. c ≡ Cause.TooManyRecords
         → ∥ IfSome (R.remaining source) (λ text. HasTooMany (delimiter_of setup.now) text) ∥₁))) }
 
     // Whatever the cause, an output that has not failed has gained rows in the order of their numbers, from 1.
-    ensures in_order { IfOk result (λ r. AtEachPlace sources.items outputs.items r.outputs.items r.ends.items (λ source given written end.
+    ensures in_order { IfOk result (λ r. OfEachSource sources.items outputs.items r (λ source given written end.
         IfBroken end (λ c. W.has_failed written ≡ false → ∥ Gains (W.contents given) (W.contents written)
         (AreRowsInOrder (layout_of setup.now)) ∥₁))) }
 
-    // An output is the cause only where it has failed, and has failed as little as before with a whole source and with
+    // An output is the cause only where it has failed, and it has failed no more than before with a whole source and with
     // the causes of reading.
-    ensures sink { IfOk result (λ r. AtEachPlace sources.items outputs.items r.outputs.items r.ends.items (λ source given written end.
+    ensures sink { IfOk result (λ r. OfEachSource sources.items outputs.items r (λ source given written end.
         IfBroken end (λ c. c ≡ Cause.SinkFault → W.has_failed written ≡ true))) }
-    ensures kept { IfOk result (λ r. AtEachPlace sources.items outputs.items r.outputs.items r.ends.items (λ source given written end.
+    ensures kept { IfOk result (λ r. OfEachSource sources.items outputs.items r (λ source given written end.
         IfBroken end (λ c. is_of_reading c ≡ true → W.has_failed written ≡ W.has_failed given))) }
-    ensures good { IfOk result (λ r. AtEachPlace sources.items outputs.items r.outputs.items r.ends.items (λ source given written end.
+    ensures good { IfOk result (λ r. OfEachSource sources.items outputs.items r (λ source given written end.
         IfWhole end (λ rows refused journal. W.has_failed written ≡ W.has_failed given))) }
 
     // A run that did not begin.

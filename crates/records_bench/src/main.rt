@@ -30,7 +30,7 @@ const FEW: u32 = 1_000;
 /// The setup with every target, or with none.
 fn setup(every_target: bool) -> Option<Setup> {
     let targets: &[Target] = if every_target { &Target::ALL } else { &[] };
-    Setup::new(targets, 16, b',').ok()
+    Setup::new(targets, 16, b',', 1).ok()
 }
 
 /// Prints what a conversion took that began at `start` and gave so many rows.

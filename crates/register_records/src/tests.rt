@@ -345,6 +345,43 @@ impl Write for Paper {
     }
 }
 
+/// Gives its text a byte at a time, and is interrupted before each byte and before the end.
+#[derive(Drop)]
+struct Interrupted<'a> {
+    rest: &'a [u8],
+    interrupted: bool,
+}
+
+impl Read for Interrupted<'_> {
+    fn read(&mut self, buf: &mut [u8]) -> io::Result<usize> {
+        self.interrupted = !self.interrupted;
+        if self.interrupted {
+            return Err(io::Error::from(ErrorKind::Interrupted));
+        }
+        match (self.rest.split_first(), buf.first_mut()) {
+            (Some((byte, rest)), Some(place)) => {
+                *place = *byte;
+                self.rest = rest;
+                Ok(1)
+            }
+            _ => Ok(0),
+        }
+    }
+}
+
+#[test]
+fn interrupted_reads_are_tried_again(rt: HostRuntime) -> Result<(), Fail> {
+    let reader = Interrupted {
+        rest: INPUT,
+        interrupted: false,
+    };
+    let mut output = PlainOutput::new(Vec::new(rt.alloc()), 1);
+    let end = convert_source(rt.alloc(), reader, &mut output, &both(b',')?);
+    assert!(rt; end.is_whole());
+    assert!(rt; output.into_inner() == first_lines(rt.alloc(), 3)?);
+    Ok(())
+}
+
 /// Gives what it has, as much as is asked for, and then a fault.
 #[derive(Drop)]
 struct Chunk<'a> {
@@ -454,18 +491,23 @@ fn each_row_is_one_write_and_a_flush(rt: HostRuntime) -> Result<(), Fail> {
 
 #[test]
 fn setups_have_their_faults(rt: HostRuntime) {
-    let cases: [(&[Target], usize, u8, u8); 5] = [
-        (&[JULIAN, JULIAN], 0, b',', 1),
-        (&[], 0, b',', 2),
-        (&[], 4097, b'|', 2),
-        (&[], 1, b'|', 3),
-        (&[], 4096, b'\t', 0),
+    let cases: [(&[Target], usize, u8, usize, u8); 9] = [
+        (&[JULIAN, JULIAN], 0, b',', 1, 1),
+        (&[], 0, b',', 1, 2),
+        (&[], 4097, b'|', 1, 2),
+        (&[], 1, b'|', 1, 3),
+        (&[], 4096, b'\t', 1, 0),
+        (&[], 1, b'|', 0, 3),
+        (&[], 1, b',', 0, 4),
+        (&[], 1, b',', 5, 4),
+        (&[], 1, b',', 4, 0),
     ];
-    for (targets, ring, delimiter, fault) in cases {
-        let answer = match Setup::new(targets, ring, delimiter) {
+    for (targets, ring, delimiter, stripes, fault) in cases {
+        let answer = match Setup::new(targets, ring, delimiter, stripes) {
             Ok(setup) => {
                 assert_eq!(rt; setup.ring(), ring);
                 assert_eq!(rt; setup.delimiter(), delimiter);
+                assert_eq!(rt; setup.stripes(), stripes);
                 0
             }
             Err(fault) => fault.number(),
@@ -506,13 +548,20 @@ fn lines_wait_until_they_are_sent(rt: HostRuntime) -> Result<(), Fail> {
     let row = convert(refused, &setup);
     let mut output = PlainOutput::new(Vec::new(rt.alloc()), 1);
     let mut writer = RowWriter::open(rt.alloc(), &mut output, &setup)?;
+    let line = b"1,,,,,,,,3\n".as_slice();
     writer.add(&row)?;
     writer.add(&row)?;
+    assert_eq!(rt; writer.pending_len(), 2 * line.len());
     writer.send(&mut output)?;
+    assert_eq!(rt; writer.pending_len(), 0);
     writer.send(&mut output)?;
+    writer.add(&row)?;
+    writer.put(&mut output, &row)?;
     writer.end()?;
     let bytes = output.into_inner();
-    assert_eq!(rt; bytes.len(), HEADING.len() + 2 * b"1,,,,,,,,3\n".len());
+    let lines = bytes.as_slice().strip_prefix(HEADING).ok_or("no heading")?;
+    assert_eq!(rt; lines.len(), 4 * line.len());
+    assert!(rt; lines.chunks(line.len()).all(|one| one == line));
     Ok(())
 }
 

@@ -1,4 +1,5 @@
-// Items that go round on one thread: as many as the ring has room for are put in, and then all are taken out.
+//! Items that go round on one thread: as many as the ring has room for are put in, and then all are taken out.
+
 ghost use Rattle.std.specs.Prelude.{◌≤◌};
 
 use lane_rings::{Item, lane};
@@ -6,8 +7,8 @@ use rtrb::RingBuffer;
 use std::alloc::Global;
 use std::sync::Wait;
 
-// `None` where there was no memory, or an end did not answer as it should.
-pub fn ring_alone<T: Copy>(alloc: Global, capacity: usize, items: u64, item: T) -> Option<()>
+/// `None` where there was no memory, or an end did not answer as it should.
+pub(crate) fn ring_alone<T: Copy>(alloc: Global, capacity: usize, items: u64, item: T) -> Option<()>
     requires { (1 ≤ capacity) × (capacity ≤ 4096) }
 {
     let (mut producer, mut consumer) = RingBuffer::new(alloc, capacity).ok()?;
@@ -22,8 +23,8 @@ pub fn ring_alone<T: Copy>(alloc: Global, capacity: usize, items: u64, item: T) 
     Some(())
 }
 
-// `None` as above.
-pub fn lane_alone<T: Copy>(
+/// `None` as above.
+pub(crate) fn lane_alone<T: Copy>(
     rt: &impl Wait,
     alloc: Global,
     capacity: usize,

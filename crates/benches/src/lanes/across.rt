@@ -1,4 +1,5 @@
-// Items that go from one thread to another.
+//! Items that go from one thread to another.
+
 ghost use Rattle.std.specs.Prelude.{◌≤◌};
 
 use lane_rings::{Closed, Item, Receiver, Sender, lane};
@@ -8,10 +9,10 @@ use std::sync::Wait;
 use std::thread;
 use std::thread::Threads;
 
-// As many looks as an end of a lane takes before it yields.
-const LOOKS_BEFORE_YIELD: u32 = 64;
+/// As many looks as an end of a lane takes before it yields.
+const LOOKS_BEFORE_YIELD: u32 = 8;
 
-// Waits for the other end of a plain ring as an end of a lane does.
+/// Waits for the other end of a plain ring as an end of a lane does.
 fn pause(looks: &mut u32) {
     if *looks < LOOKS_BEFORE_YIELD {
         *looks += 1;
@@ -64,8 +65,8 @@ fn take_all<T: Copy>(rt: &impl Wait, mut receiver: Receiver<T>) -> Option<()> {
     None
 }
 
-// `None` where there was no memory or no thread.
-pub fn ring_across<R: Threads + Wait + Sync, T: Copy + Send>(
+/// `None` where there was no memory or no thread.
+pub(crate) fn ring_across<R: Threads + Wait + Sync, T: Copy + Send>(
     rt: &R,
     alloc: Global,
     capacity: usize,
@@ -84,8 +85,8 @@ pub fn ring_across<R: Threads + Wait + Sync, T: Copy + Send>(
     })
 }
 
-// `None` where there was no memory or no thread, or the lane did not end.
-pub fn lane_across<R: Threads + Wait + Sync, T: Copy + Send>(
+/// `None` where there was no memory or no thread, or the lane did not end.
+pub(crate) fn lane_across<R: Threads + Wait + Sync, T: Copy + Send>(
     rt: &R,
     alloc: Global,
     capacity: usize,

@@ -1,4 +1,4 @@
-// An output that keeps nothing.
+//! An output that keeps nothing.
 
 ghost use Rattle.std.specs.Prelude.{None, false, true};
 

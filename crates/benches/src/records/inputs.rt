@@ -1,4 +1,4 @@
-// Registers made from a seed.
+//! Registers made from a seed.
 
 use date_texts::{Calendar, Target, cell};
 use day_numbers::Day;

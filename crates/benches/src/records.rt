@@ -1,31 +1,21 @@
 //! What one source costs on one thread: from its text to its table.
-//!
-//! Without arguments a small register is converted, and no times are printed. With arguments:
-//!
-//! - `memory N`: registers of N records, over all calendars and of Gregorian dates alone, from memory to
-//!   an output that only counts, with every target and with none: records a second and nanoseconds a
-//!   record, without a system call.
-//! - `make mixed|gregorian N FILE`: writes such a register to a file.
-//! - `files all|none INPUT OUTPUT`: converts a file to a file.
-//! - `lines INPUT OUTPUT`: writes the lines of a file to another by one write for each, which is what any
-//!   program pays that hands on each row.
-#![tactic(auto)]
 
 mod counter;
-mod inputs;
+pub(crate) mod inputs;
 
 use counter::Counter;
 use date_texts::Target;
 use inputs::{Kind, register};
 use register_records::{Output, PlainOutput, Setup, SourceEnd, convert_source};
 use std::alloc::Global;
+use std::fs;
+use std::io;
 use std::io::{Read, Write};
 use std::rt::Files;
 use std::time::{Clock, Instant};
-use std::{env, fs, io};
 
 /// The records of a run without arguments.
-const FEW: u32 = 1_000;
+pub(crate) const FEW: u32 = 1_000;
 
 /// The setup with every target, or with none.
 fn setup(every_target: bool) -> Option<Setup> {
@@ -77,7 +67,7 @@ fn measure<R: Clock + Print>(
 }
 
 /// Measures both registers with every target and with none.
-fn from_memory<R: Clock + Print>(
+pub(crate) fn from_memory<R: Clock + Print>(
     rt: &R,
     alloc: Global,
     records: u32,
@@ -99,7 +89,7 @@ fn from_memory<R: Clock + Print>(
 }
 
 /// Converts a file to a file.
-fn over_files<R: Files + Clock + Print>(
+pub(crate) fn over_files<R: Files + Clock + Print>(
     rt: &R,
     alloc: Global,
     every_target: bool,
@@ -123,7 +113,7 @@ fn over_files<R: Files + Clock + Print>(
 }
 
 /// Writes each line of a file to another by one write.
-fn by_lines<R: Files + Clock + Print>(
+pub(crate) fn by_lines<R: Files + Clock + Print>(
     rt: &R,
     alloc: Global,
     from: &str,
@@ -141,41 +131,4 @@ fn by_lines<R: Files + Clock + Print>(
     }
     tell(rt, &start, "one write a line", lines)?;
     Ok(true)
-}
-
-/// Does what the words ask for.
-fn run<R: Files + Clock + Print>(rt: &R, alloc: Global, words: &[&str]) -> io::Result<bool> {
-    match words {
-        [] => from_memory(rt, alloc, FEW, false),
-        ["memory", count] => { from_memory(rt, alloc, count.parse().unwrap_or(FEW), true) }
-        ["make", kind, count, to] => {
-            let kind = if *kind == "mixed" {
-                Kind::Mixed
-            } else {
-                Kind::Gregorian
-            };
-            let text = register(alloc, kind, count.parse().unwrap_or(FEW))?;
-            fs::write(rt, *to, text.as_slice())?;
-            Ok(true)
-        }
-        ["files", targets, from, to] => over_files(rt, alloc, *targets == "all", from, to),
-        ["lines", from, to] => by_lines(rt, alloc, from, to),
-        _ => Ok(false),
-    }
-}
-
-fn main(rt: HostRuntime) -> io::Result<()> {
-    let alloc = rt.alloc();
-    let arguments: Vec<String> = env::args(&rt)?.skip(1).collect(alloc)?;
-    let mut words: Vec<&str> = Vec::new(alloc);
-    for argument in &arguments {
-        words.push(argument.as_str())?;
-    }
-    if !run(&rt, alloc, words.as_slice())? {
-        return println!(rt; "nothing measured");
-    }
-    if words.is_empty() {
-        println!(rt; "every register converted")?;
-    }
-    Ok(())
 }

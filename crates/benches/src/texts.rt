@@ -1,40 +1,17 @@
 //! What date texts cost: the nanoseconds of one `read_date`, `write_date`, `day_of_date` and
 //! `calendar_named`, and of one `cell` of each target.
-//!
-//! The argument is the number of rounds over a sample of days from R.D. 700000 to 3600000, on which every
-//! calendar has a date. Without an argument there is one round, and no times are printed.
-#![tactic(auto)]
 
+use crate::common::{DAYS, calls, cost, sample};
 use arrayvec::ArrayString;
 use date_texts::{
     Calendar, Date, Target, calendar_named, cell, day_of_date, read_date, write_date,
 };
-use day_numbers::Day;
 use std::alloc::Global;
+use std::io;
 use std::time::{Clock, Instant};
-use std::{env, io};
-
-/// The days of the sample.
-const DAYS: i64 = 4_096;
 
 /// Names as registers write them.
 const NAMES: [&str; 4] = ["gregorian", " Julian", "HEBREW", "french"];
-
-fn sample(alloc: Global) -> io::Result<Vec<Day>> {
-    let mut days = Vec::new(alloc);
-    for k in 0..DAYS {
-        if let Some(day) = Day::new(700_000 + k.wrapping_mul(7_919).rem_euclid(2_900_000)) {
-            days.push(day)?;
-        }
-    }
-    Ok(days)
-}
-
-/// Nanoseconds for each call since the start.
-fn cost(clock: &impl Clock, start: &Instant, rounds: u64) -> io::Result<u128> {
-    let calls = u128::from(rounds.max(1)) * DAYS as u128;
-    Ok(start.elapsed(clock)?.as_nanos() / calls.max(1))
-}
 
 /// Prints what the dates of a calendar cost, and sums of what the calls gave, so that no call is left out.
 fn measure_dates<R: Clock + Print>(
@@ -63,7 +40,7 @@ fn measure_dates<R: Clock + Print>(
             }
         }
     }
-    let read_cost = cost(rt, &start, times)?;
+    let read_cost = cost(rt, &start, calls(times))?;
 
     let mut written = 0u64;
     let start = Instant::now(rt)?;
@@ -72,7 +49,7 @@ fn measure_dates<R: Clock + Print>(
             written = written.wrapping_add(write_date(date).len() as u64);
         }
     }
-    let write_cost = cost(rt, &start, times)?;
+    let write_cost = cost(rt, &start, calls(times))?;
 
     let mut numbers = 0i64;
     let start = Instant::now(rt)?;
@@ -83,7 +60,7 @@ fn measure_dates<R: Clock + Print>(
             }
         }
     }
-    let day_cost = cost(rt, &start, times)?;
+    let day_cost = cost(rt, &start, calls(times))?;
     if rounds.is_some() {
         println!(rt;
             "{:<10} read {read_cost:>4} ns  write {write_cost:>4} ns  day {day_cost:>4} ns  ({read} {written} {numbers})",
@@ -109,7 +86,7 @@ fn measure_cells<R: Clock + Print>(
             bytes = bytes.wrapping_add(cell(target, *day).len() as u64);
         }
     }
-    let cell_cost = cost(rt, &start, times)?;
+    let cell_cost = cost(rt, &start, calls(times))?;
     if rounds.is_some() {
         println!(rt; "{:<10} cell {cell_cost:>4} ns  ({bytes})", target.name())?;
     }
@@ -129,7 +106,7 @@ fn measure_names<R: Clock + Print>(rt: &R, rounds: Option<u64>) -> io::Result<()
                 }
             }
         }
-        let name_cost = cost(rt, &start, times)?;
+        let name_cost = cost(rt, &start, calls(times))?;
         if rounds.is_some() {
             println!(rt; "{name:<10} named {name_cost:>4} ns  ({found})")?;
         }
@@ -137,18 +114,18 @@ fn measure_names<R: Clock + Print>(rt: &R, rounds: Option<u64>) -> io::Result<()
     Ok(())
 }
 
-fn main(rt: HostRuntime) -> io::Result<()> {
-    let alloc = rt.alloc();
-    let rounds = env::args(&rt)?.nth(1).and_then(|word| word.parse().ok());
+/// Measures date texts and cells over so many rounds; where there is no number, one round is made and no times are
+/// printed.
+pub(crate) fn measure_texts<R: Clock + Print>(
+    rt: &R,
+    alloc: Global,
+    rounds: Option<u64>,
+) -> io::Result<()> {
     for calendar in [Calendar::Gregorian, Calendar::Iso, Calendar::Longcount] {
-        measure_dates(&rt, alloc, rounds, calendar)?;
+        measure_dates(rt, alloc, rounds, calendar)?;
     }
     for target in Target::ALL {
-        measure_cells(&rt, alloc, rounds, target)?;
+        measure_cells(rt, alloc, rounds, target)?;
     }
-    measure_names(&rt, rounds)?;
-    if rounds.is_none() {
-        println!(rt; "every date text measured")?;
-    }
-    Ok(())
+    measure_names(rt, rounds)
 }

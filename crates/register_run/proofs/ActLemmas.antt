@@ -17,7 +17,7 @@ use Rattle.register_run.proofs.PartLemmas.{part, part_append, part_head, part_ot
 abbrev after_push : State → ℕ → Numbered → State
 after_push s i x =
     record (with_stripe s i (record (s.stripes i) { entry_lane = (s.stripes i).entry_lane ++ x ∷ [] })) {
-      pushed = s.pushed + 1
+      pushed = s.pushed + 1;
     }
 
 abbrev after_pop : State → ℕ → TableRow → List TableRow → State

@@ -81,7 +81,8 @@ module _ (w : World) (some_converters : 0 < w.converters) (some_room : 0 < w.rin
       let its_own : HasToMove w s k (Converter (stripe_of w k)) =
       in_converter (rw next_stripe (only_in_converter s k i stands some)) in
       let move : HasToMove w s k (Converter i) = rw next_stripe at its_own in
-      go_on (Converter i) move (pushing_converter_steps w some_converters s v i y hand_is (omega (arith, some_room, none)))
+      go_on (Converter i) move
+      (pushing_converter_steps w some_converters s v i y hand_is (omega (arith, some_room, none)))
   first_goes_on x rest [] None [] number stands converted_is hand_is lane_is e = cc e
   first_goes_on x rest [] None (y ∷ lane) number stands converted_is hand_is lane_is e =
       let k = length s.popped + 1 in
@@ -109,7 +110,9 @@ module _ (w : World) (some_converters : 0 < w.converters) (some_room : 0 < w.rin
       let (x, more, left_is) =
       not_empty v.left (omega (arith, none, popped_count w some_converters s v, all_count w some_converters s v)) in
       reader_goes_on x
-      (next_is ∙ (ap (λ (l : List Numbered). slice_get (l ++ v.left) 0) e ∙ ap (λ (l : List Numbered). slice_get l 0) left_is))
+      (next_is
+      ∙ (ap (λ (l : List Numbered). slice_get (l ++ v.left) 0) e
+      ∙ ap (λ (l : List Numbered). slice_get l 0) left_is))
       none
   by_between (x ∷ more) e more_rows =
       let c = w.converters in

@@ -1,6 +1,6 @@
 -- Each entry that is pushed stands in one place.
-use Rattle.std.proofs.Common.{◌≡◌, ◌≢◌, ◌<◌, ◌≤◌, ◌+◌, ◌-◌, ◌++◌, ℕ, zero, suc, List, length, inl, inr, refl, sym, ap, ◌∙◌, arith}
-use Rattle.std.proofs.Common.{append_assoc, length-append}
+use Rattle.std.proofs.Common.{◌≡◌, ◌≢◌, ◌<◌, ◌≤◌, ◌+◌, ◌-◌, ◌++◌, ℕ, zero, suc, List, length, inl, inr}
+use Rattle.std.proofs.Common.{refl, sym, ap, ◌∙◌, arith, append_assoc, length-append}
 use Rattle.std.specs.Prelude.{◌⊎◌, map, option_to_list}
 use Rattle.std.proofs.lemmas.Bool.{cases_eq}
 use Rattle.register_records.specs.Entries.{AreNumberedFrom, Numbered}
@@ -16,7 +16,9 @@ use Rattle.register_run.proofs.PartLemmas.{part}
 
 -- entry k stands once in stripe i or among those popped, and in no other stripe
 pub record StandsIn (s : State) (k i : ℕ) : Type 0 where
-  pub own : times_at s k (EntryLane i) + times_at s k (InConverter i) + times_at s k (RowLane i) + times_at s k Popped ≡ 1
+  pub own :
+      times_at s k (EntryLane i) + times_at s k (InConverter i) + times_at s k (RowLane i) + times_at s k Popped
+      ≡ 1
   pub others : (j : ℕ) → (j ≡ i → ⊥)
       → times_at s k (EntryLane j) + times_at s k (InConverter j) + times_at s k (RowLane j) ≡ 0
 
@@ -145,7 +147,8 @@ module _ (w : World) (s : State) (v : Kept w s) (numbered : AreNumberedFrom 1 w.
   each_stands_once k some pushed =
       let i = stripe_of w k in
       let h = stands_in k some pushed in
-      elim (one_of_four (times_at s k (EntryLane i)) (times_at s k (InConverter i)) (times_at s k (RowLane i)) (times_at s k Popped) h.own) [
+      let times = times_at s k in
+      elim (one_of_four (times (EntryLane i)) (times (InConverter i)) (times (RowLane i)) (times Popped) h.own) [
         | inl a ↦ (EntryLane i, (0, omega arith, refl), only_in_entry_lane s k i h a)
         | inr (inl b) ↦ (InConverter i, (1, omega arith, refl), only_in_converter s k i h b)
         | inr (inr (inl c)) ↦ (RowLane i, (2, omega arith, refl), only_in_row_lane s k i h c)

@@ -35,8 +35,9 @@ module _ (w : World) (some_converters : 0 < w.converters) (s : State) (v : Kept 
       let k = v.stripes i in
       let t = s.stripes i in
       let rows : length t.row_lane ≡ length k.converted = ap length k.rows ∙ length-map k.converted w.row_of in
-      let behind = option_to_list t.hand in
-      omega (arith, rows, ap length k.all, length-append k.converted (behind ++ t.entry_lane), length-append behind t.entry_lane)
+      let hand = option_to_list t.hand in
+      let behind = length-append hand t.entry_lane in
+      omega (arith, rows, ap length k.all, length-append k.converted (hand ++ t.entry_lane), behind)
 
   all_standing : standing w s ≡ length v.between
   all_standing =

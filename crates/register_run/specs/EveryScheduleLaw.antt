@@ -1,5 +1,6 @@
 -- The law of every schedule: what holds of the machine's state after any schedule.
-use Rattle.std.specs.Prelude.{◌≡◌, ◌≢◌, ℕ, ◌+◌, ◌-◌, ◌<◌, ◌≤◌, ◌==◌, List, [], ◌∷◌, length, map, take, option_to_list, count_by, Contains}
+use Rattle.std.specs.Prelude.{◌≡◌, ◌≢◌, ℕ, ◌+◌, ◌-◌, ◌<◌, ◌≤◌, ◌==◌, List, [], ◌∷◌, length, map, take}
+use Rattle.std.specs.Prelude.{option_to_list, count_by, Contains}
 use Rattle.date_texts.specs.declared.calendar.Target.{Target}
 use Rattle.register_records.specs.Entries.{HasFirstEntries, Numbered}
 use Rattle.register_records.specs.Outcomes.{AreRowsOf, TableRow}
@@ -14,7 +15,8 @@ table_rows w = map w.row_of w.entries
 abbrev pub ArePoppedInOrder : World → State → Type 0
 ArePoppedInOrder w s = s.popped ≡ take (length s.popped) (table_rows w)
 
--- where an entry may stand once it is pushed: by itself in an entry lane or a converter, as its row in a row lane or popped
+-- where an entry may stand once it is pushed: by itself in the entry lane or the converter of a stripe, and as its row
+-- in the row lane of a stripe or among the rows that are popped
 pub data Place : Type 0 where
   EntryLane : ℕ → Place
   InConverter : ℕ → Place
@@ -54,21 +56,23 @@ EachStandsOnce w s =
 abbrev pub AtMostChange : World → List Actor → ℕ → Type 0
 AtMostChange w schedule most = (count : ℕ) × HasChanges w schedule start count × (count ≤ most)
 
--- the actor that has to move entry k next: the reader where it is not pushed, its converter where it stands in the entry lane
--- or in the converter, the writer where its row stands in the row lane
+-- the actor that has to move entry k next: the reader where it is not yet pushed, its converter where it stands in the
+-- entry lane or in the converter, the writer where its row stands in the row lane
 pub data HasToMove (w : World) (s : State) (k : ℕ) : Actor → Type 0 where
   not_pushed : s.pushed < k → HasToMove w s k Reader
   in_entry_lane : StandsOnlyAt s k (EntryLane (stripe_of w k)) → HasToMove w s k (Converter (stripe_of w k))
   in_converter : StandsOnlyAt s k (InConverter (stripe_of w k)) → HasToMove w s k (Converter (stripe_of w k))
   in_row_lane : StandsOnlyAt s k (RowLane (stripe_of w k)) → HasToMove w s k Writer
 
--- unless all rows are popped, the act of the actor that has to move the entry of the next row changes something
+-- unless all rows are popped, the act of the actor that has to move the entry of the next row changes something: where
+-- p rows are popped, entry p + 1
 abbrev pub GoesOn : World → State → Type 0
 GoesOn w s =
     length s.popped < length w.entries
     → (actor : Actor) × HasToMove w s (length s.popped + 1) actor × Changes w actor s
 
--- a world of a text: its entries, or the first of them, and the row of each; there are converters, and a lane holds something
+-- a world of a text: its entries, or the first of them, and the row of each of them; there is a converter at least,
+-- and a lane holds an item at least
 pub record IsWorldOf (delimiter : ℕ) (targets : List Target) (text : List ℕ) (w : World) : Type 0 where
   pub entries : HasFirstEntries delimiter text w.entries
   pub rows : AreRowsOf targets w.entries (table_rows w)

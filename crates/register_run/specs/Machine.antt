@@ -1,5 +1,5 @@
--- The machine of striped lanes: a reader, a writer, and converters between them with two lanes each. It is a model that stands
--- by itself and has nothing of the run's code.
+-- The machine of striped lanes: a reader, a writer, and converters between them with two lanes each. It is a model that
+-- stands by itself and has nothing of the run's code. No contract of the run cites it.
 use Rattle.std.specs.Prelude.{ℕ, ◌+◌, ◌%◌, ◌==◌, if◌then◌else◌, nat_lt, Bool, List, [], ◌∷◌, ◌++◌, length}
 use Rattle.std.specs.Prelude.{Option, Some, None, slice_get}
 use Rattle.register_records.specs.Entries.{Numbered}
@@ -12,7 +12,8 @@ pub record World : Type 0 where
   pub converters : ℕ
   pub ring : ℕ
 
--- a converter and its two lanes: the entries that wait for it, the one in its hand, and the rows that wait for the writer
+-- a stripe, a converter and its two lanes: the entries that wait for it, the entry that it holds, and the rows that
+-- wait for the writer
 pub record Stripe : Type 0 where
   pub entry_lane : List Numbered
   pub hand : Option Numbered
@@ -48,7 +49,9 @@ abbrev pub push_entry : World → State → ℕ → Option Numbered → State
 push_entry w s i None = s
 push_entry w s i (Some entry) =
     if has_room w (s.stripes i).entry_lane
-    then record (with_stripe s i (record (s.stripes i) { entry_lane = (s.stripes i).entry_lane ++ entry ∷ [] })) { pushed = s.pushed + 1 }
+    then record (with_stripe s i (record (s.stripes i) { entry_lane = (s.stripes i).entry_lane ++ entry ∷ [] })) {
+      pushed = s.pushed + 1;
+    }
     else s
 
 -- converter i pops its entry lane, if there is something in it
@@ -74,7 +77,8 @@ pop_row s i [] = s
 pop_row s i (row ∷ lane) =
     record (with_stripe s i (record (s.stripes i) { row_lane = lane })) { popped = s.popped ++ row ∷ [] }
 
--- who may act. A converter whose number is not below the number of converters never finds anything in its lanes
+-- who may act. A converter whose number is not below the number of converters never finds anything in its lanes, so
+-- there are two actors more than converters
 pub data Actor : Type 0 where
   Reader : Actor
   Converter : ℕ → Actor

@@ -1,6 +1,6 @@
-// A plain program of its own for the machine of striped lanes. It runs every schedule of a few acts and looks at each state
-// that is reached: the law holds there, each wrong machine breaks the clause that its name means, and the states are those of
-// the definition, which adds up the same checksums in proofs/ScheduleExamples.antt.
+// A plain program of its own for the machine of striped lanes. It runs every schedule of a few acts and looks at the
+// state after it: the law holds there, and each wrong machine breaks it where its name says. The states are those of
+// the definition, which comes to the same checksums in proofs/ScheduleExamples.antt.
 
 use crate::laws::every_schedule;
 use std::test::Fail;
@@ -145,8 +145,7 @@ impl Machine {
         let Some(stripe) = self.stripes.get_mut(number) else {
             return;
         };
-        let pops_again =
-            world.rules == Rules::ConverterPopsTwice && stripe.entry_lane.len() > 0;
+        let pops_again = world.rules == Rules::ConverterPopsTwice && stripe.entry_lane.len() > 0;
         if stripe.hand.len() == 0 || pops_again {
             if let Some(entry) = stripe.entry_lane.pop() {
                 stripe.hand = NOTHING;
@@ -162,7 +161,11 @@ impl Machine {
     fn write(&mut self, world: &World) {
         let [_, last] = &self.stripes;
         let last_is_ready = world.rules == Rules::WriterPopsAsReady && last.row_lane.len() > 0;
-        let turn = if last_is_ready { 1 } else { world.turn(self.popped.len()) };
+        let turn = if last_is_ready {
+            1
+        } else {
+            world.turn(self.popped.len())
+        };
         if let Some(stripe) = self.stripes.get_mut(turn) {
             if let Some(row) = stripe.row_lane.pop() {
                 self.popped.push(row);
@@ -259,8 +262,8 @@ impl Findings {
     }
 }
 
-// Goes through every schedule with as many acts as there are turns, from that where the reader has each. Shorter ones are
-// among them, since the writer changes nothing at the start.
+// Goes through every schedule with as many acts as there are turns, all zeros at first. The shorter ones are among
+// them, since the writer changes nothing at the start.
 fn search(world: &World, turns: &mut [usize]) -> Findings {
     let mut findings = Findings {
         is_in_order: true,
@@ -385,11 +388,20 @@ fn short_schedules_lead_where_the_definition_leads(rt: HostRuntime) -> Result<()
         for (entries, sum) in (1..=3_u8).zip(wanted) {
             let world = right_world(entries, converters, ring);
             let mut middle = START;
-            for actor in [Actor::Reader, Actor::Converter(0), Actor::Converter(0), Actor::Reader] {
+            for actor in [
+                Actor::Reader,
+                Actor::Converter(0),
+                Actor::Converter(0),
+                Actor::Reader,
+            ] {
                 middle.act(&world, actor);
             }
             let found = checksum(&world, &middle, checksum(&world, &START, 0));
-            assert_eq!(rt; found, sum, "{entries} entries, {converters} converters, rings of {ring}");
+            assert_eq!(rt;
+                found,
+                sum,
+                "{entries} entries, {converters} converters, rings of {ring}"
+            );
         }
     }
     Ok(())

@@ -1,5 +1,5 @@
 -- Each act changes nothing, or takes one entry one place forward and keeps the invariant.
-use Rattle.std.proofs.Common.{◌≡◌, ◌<◌, ◌+◌, ◌*◌, ◌++◌, ℕ, suc, List, [], ◌∷◌, length, Option, Some, None}
+use Rattle.std.proofs.Common.{◌≡◌, ◌<◌, ◌+◌, ◌++◌, ℕ, suc, List, [], ◌∷◌, length, Option, Some, None}
 use Rattle.std.proofs.Common.{refl, sym, ap, ◌∙◌, inl, inr, arith, append_assoc}
 use Rattle.std.specs.Prelude.{map, option_to_list, nat_lt, ◌%◌, slice_get}
 use Rattle.std.proofs.lemmas.Bool.{ltb-true, lt-ltb}
@@ -8,7 +8,7 @@ use Rattle.std.proofs.lemmas.Nat.{mod_below}
 use Rattle.register_records.specs.Entries.{Numbered}
 use Rattle.register_records.specs.Outcomes.{TableRow}
 use Rattle.register_run.specs.Machine.{World, Stripe, State, Actor, Reader, Converter, Writer}
-use Rattle.register_run.specs.Machine.{act, convert, pop_entry, pop_row, push_entry, push_row, put, turn, with_stripe}
+use Rattle.register_run.specs.Machine.{act, convert, pop_entry, pop_row, push_entry, turn, with_stripe}
 use Rattle.register_run.proofs.InvariantLemmas.{Holds, Kept, Steps, StaysOrSteps, weight, put_holds, put_further}
 use Rattle.register_run.proofs.InvariantLemmas.{if_room, slice_get_rest, first_is, map_first}
 use Rattle.register_run.proofs.PartLemmas.{part, part_append, part_head, part_other, part_own, part_within}

@@ -1,10 +1,9 @@
 -- The actor that has to move the entry of the next row can.
-use Rattle.std.proofs.Common.{◌≡◌, ◌≢◌, ◌<◌, ◌≤◌, ◌+◌, ◌-◌, ◌++◌, ℕ, suc, List, [], ◌∷◌, length, Option, Some, None}
+use Rattle.std.proofs.Common.{◌≡◌, ◌<◌, ◌≤◌, ◌+◌, ◌++◌, ℕ, List, [], ◌∷◌, length, Option, Some, None}
 use Rattle.std.proofs.Common.{refl, sym, ap, ◌∙◌, arith}
 use Rattle.std.specs.Prelude.{◌%◌, map, option_to_list, slice_get}
 use Rattle.std.proofs.lemmas.List.{nil_from_length}
 use Rattle.register_records.specs.Entries.{AreNumberedFrom, Numbered}
-use Rattle.register_records.specs.Outcomes.{TableRow}
 use Rattle.register_run.specs.Machine.{World, State, Actor, Reader, Converter, Writer, act, turn}
 use Rattle.register_run.specs.Schedules.{Changes}
 use Rattle.register_run.specs.EveryScheduleLaw.{EntryLane, InConverter, RowLane, GoesOn, HasToMove, not_pushed}

@@ -1,15 +1,15 @@
 -- Each entry that is pushed stands in one place.
-use Rattle.std.proofs.Common.{◌≡◌, ◌≢◌, ◌<◌, ◌≤◌, ◌+◌, ◌-◌, ◌++◌, ℕ, zero, suc, List, length, inl, inr}
+use Rattle.std.proofs.Common.{◌≡◌, ◌≢◌, ◌<◌, ◌≤◌, ◌+◌, ◌++◌, ℕ, zero, suc, List, length, inl, inr}
 use Rattle.std.proofs.Common.{refl, sym, ap, ◌∙◌, arith, append_assoc, length-append}
 use Rattle.std.specs.Prelude.{◌⊎◌, map, option_to_list}
 use Rattle.std.proofs.lemmas.Bool.{cases_eq}
-use Rattle.register_records.specs.Entries.{AreNumberedFrom, Numbered}
+use Rattle.register_records.specs.Entries.{AreNumberedFrom}
 use Rattle.register_records.specs.Outcomes.{TableRow}
-use Rattle.register_run.specs.Machine.{World, State, turn}
+use Rattle.register_run.specs.Machine.{World, State}
 use Rattle.register_run.specs.EveryScheduleLaw.{Place, EntryLane, InConverter, RowLane, Popped, EachStandsOnce}
-use Rattle.register_run.specs.EveryScheduleLaw.{StandsOnlyAt, numbers_at, stripe_of, times_at}
+use Rattle.register_run.specs.EveryScheduleLaw.{StandsOnlyAt, stripe_of, times_at}
 use Rattle.register_run.proofs.InvariantLemmas.{Kept}
-use Rattle.register_run.proofs.NumberLemmas.{KeepNumbers, keep_front, keep_part, keep_rest, numbers, numbered_front}
+use Rattle.register_run.proofs.NumberLemmas.{KeepNumbers, keep_front, keep_part, keep_rest, numbered_front}
 use Rattle.register_run.proofs.NumberLemmas.{numbered_rest, row_numbers, times, times_append, times_in, times_once}
 use Rattle.register_run.proofs.NumberLemmas.{times_other_part, times_own_part}
 use Rattle.register_run.proofs.PartLemmas.{part}

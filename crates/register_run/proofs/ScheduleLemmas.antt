@@ -1,16 +1,16 @@
 -- The law, from what every act keeps.
-use Rattle.std.proofs.Common.{◌≡◌, ◌<◌, ◌≤◌, ◌+◌, ◌*◌, ◌++◌, ℕ, List, [], ◌∷◌, length, Bool, true, false, inl, inr}
-use Rattle.std.proofs.Common.{refl, sym, subst, ap, ◌∙◌, arith}
-use Rattle.std.specs.Prelude.{⊤, ◌==◌, if◌then◌else◌, map, nat_lt}
+use Rattle.std.proofs.Common.{◌≡◌, ◌<◌, ◌≤◌, ◌+◌, ◌*◌, ℕ, List, [], ◌∷◌, length, Bool, true, false, inl, inr}
+use Rattle.std.proofs.Common.{refl, sym, subst, ap, arith}
+use Rattle.std.specs.Prelude.{if◌then◌else◌, map, nat_lt}
 use Rattle.date_texts.specs.declared.calendar.Target.{Target}
-use Rattle.register_records.specs.Entries.{AreNumberedFrom, Fields, HasFirstEntries, Numbered, entries_from, entries_of}
+use Rattle.register_records.specs.Entries.{AreNumberedFrom, Fields, HasFirstEntries, Numbered, entries_from}
 use Rattle.register_records.specs.Entries.{body_of, record_limit}
 use Rattle.register_records.specs.Outcomes.{AreRowsOf}
-use Rattle.register_run.specs.Machine.{World, Stripe, State, Actor, act, start}
+use Rattle.register_run.specs.Machine.{World, State, Actor, act, start}
 use Rattle.register_run.specs.Schedules.{HasChanges, at_end, change, idle, run, standing}
 use Rattle.register_run.specs.EveryScheduleLaw.{ArePoppedInOrder, AtMostChange, EachStandsOnce, GoesOn, IsWorldOf}
 use Rattle.register_run.proofs.ActLemmas.{act_stays_or_steps}
-use Rattle.register_run.proofs.InvariantLemmas.{Kept, StaysOrSteps, progress, steps_change, weight}
+use Rattle.register_run.proofs.InvariantLemmas.{Kept, progress, steps_change, weight}
 use Rattle.register_run.proofs.NextActLemmas.{goes_on}
 use Rattle.register_run.proofs.NumberLemmas.{KeepNumbers, numbered_front}
 use Rattle.register_run.proofs.PlaceLemmas.{each_stands_once}

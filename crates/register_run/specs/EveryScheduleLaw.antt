@@ -2,9 +2,9 @@
 use Rattle.std.specs.Prelude.{◌≡◌, ◌≢◌, ℕ, ◌+◌, ◌-◌, ◌<◌, ◌≤◌, ◌==◌, List, [], ◌∷◌, length, map, take}
 use Rattle.std.specs.Prelude.{option_to_list, count_by, Contains}
 use Rattle.date_texts.specs.declared.calendar.Target.{Target}
-use Rattle.register_records.specs.Entries.{HasFirstEntries, Numbered}
+use Rattle.register_records.specs.Entries.{HasFirstEntries}
 use Rattle.register_records.specs.Outcomes.{AreRowsOf, TableRow}
-use Rattle.register_run.specs.Machine.{World, State, Actor, Reader, Converter, Writer, act, start, turn}
+use Rattle.register_run.specs.Machine.{World, State, Actor, Reader, Converter, Writer, start, turn}
 use Rattle.register_run.specs.Schedules.{run, Changes, HasChanges}
 
 -- the rows of the table: that of each entry, in order

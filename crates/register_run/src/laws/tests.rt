@@ -6,7 +6,7 @@ use crate::laws::every_schedule;
 use std::test::Fail;
 
 /// The numbers of the entries or rows in a lane, in order, and then zeros.
-#[derive(Clone, Copy, PartialEq, Eq)]
+#[derive(Clone, Copy, PartialEq)]
 struct Lane([u8; 4]);
 
 impl Lane {
@@ -38,7 +38,7 @@ impl Lane {
 }
 
 /// A converter and its two lanes.
-#[derive(Clone, Copy, PartialEq, Eq)]
+#[derive(Clone, Copy, PartialEq)]
 struct Stripe {
     entry_lane: Lane,
     hand: Lane,
@@ -46,7 +46,7 @@ struct Stripe {
 }
 
 /// What is right or wrong with a machine.
-#[derive(Clone, Copy, PartialEq, Eq, Debug)]
+#[derive(Clone, Copy, PartialEq)]
 enum Rules {
     Right,
     WriterPopsAsReady,
@@ -70,7 +70,7 @@ enum Actor {
     Writer,
 }
 
-#[derive(Clone, Copy, PartialEq, Eq)]
+#[derive(Clone, Copy, PartialEq)]
 struct Machine {
     pushed: u8,
     stripes: [Stripe; 2],
@@ -224,7 +224,7 @@ fn advance(turns: &mut [usize], actors: usize) -> bool {
 }
 
 /// What was found on the way through schedules.
-#[derive(Clone, Copy, PartialEq, Eq, Debug)]
+#[derive(Clone, Copy)]
 struct Findings {
     is_in_order: bool,
     is_in_one_place: bool,

@@ -44,14 +44,14 @@ without_writer = Reader ∷ Converter 0 ∷ Converter 0 ∷ Reader ∷ Converter
 full_stripe : standing (world 4 1 1) (run (world 4 1 1) without_writer start) ≡ 1 * (2 * 1 + 1)
 full_stripe = refl
 
--- a state as one number: the decimal digits of the numbers in each place, and a zero after each place
+-- a state as one number: how many entries are pushed, the numbers in each place, and a zero after each place
 abbrev places_of : Stripe → List ℕ
 places_of t =
     row_numbers t.row_lane ++ 0 ∷ entry_numbers (option_to_list t.hand) ++ 0 ∷ entry_numbers t.entry_lane ++ 0 ∷ []
 
 abbrev code_of : State → ℕ
 code_of s =
-    fold (λ n digit. n * 10 + digit) 0
+    fold (λ n digit. n * 10 + digit) s.pushed
     (row_numbers s.popped ++ 0 ∷ places_of (s.stripes 0) ++ places_of (s.stripes 1))
 
 -- the states that all schedules of so many acts lead to, added up in the order of their actors
@@ -74,14 +74,14 @@ checksum_of w = checksum w (actors_of w.converters) 5 (middle w) (checksum w (ac
 abbrev checksums : ℕ → ℕ → List ℕ
 checksums c r = checksum_of (world 1 c r) ∷ checksum_of (world 2 c r) ∷ checksum_of (world 3 c r) ∷ []
 
-one_converter_ring_of_one : checksums 1 1 ≡ 300692564 ∷ 786233675 ∷ 126737356 ∷ []
+one_converter_ring_of_one : checksums 1 1 ≡ 649007880 ∷ 491958217 ∷ 471638504 ∷ []
 one_converter_ring_of_one = refl
 
-one_converter_ring_of_two : checksums 1 2 ≡ 300692564 ∷ 225023557 ∷ 799068920 ∷ []
+one_converter_ring_of_two : checksums 1 2 ≡ 649007880 ∷ 898016036 ∷ 902811707 ∷ []
 one_converter_ring_of_two = refl
 
-two_converters_ring_of_one : checksums 2 1 ≡ 794531662 ∷ 989427199 ∷ 375844148 ∷ []
+two_converters_ring_of_one : checksums 2 1 ≡ 273886483 ∷ 847480565 ∷ 965071586 ∷ []
 two_converters_ring_of_one = refl
 
-two_converters_ring_of_two : checksums 2 2 ≡ 794531662 ∷ 989427199 ∷ 508641874 ∷ []
+two_converters_ring_of_two : checksums 2 2 ≡ 273886483 ∷ 847480565 ∷ 943158573 ∷ []
 two_converters_ring_of_two = refl

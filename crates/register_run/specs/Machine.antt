@@ -63,7 +63,10 @@ pop_entry s i (entry ∷ lane) = with_stripe s i (record (s.stripes i) { entry_l
 abbrev pub push_row : World → State → ℕ → Numbered → State
 push_row w s i entry =
     if has_room w (s.stripes i).row_lane
-    then with_stripe s i (record (s.stripes i) { hand = None; row_lane = (s.stripes i).row_lane ++ w.row_of entry ∷ [] })
+    then with_stripe s i (record (s.stripes i) {
+      hand = None;
+      row_lane = (s.stripes i).row_lane ++ w.row_of entry ∷ [];
+    })
     else s
 
 -- a converter with an empty hand pops an entry, and one that has an entry in its hand pushes that entry's row

@@ -6,7 +6,7 @@ use crate::laws::every_schedule;
 use std::test::Fail;
 
 /// The numbers of the entries or rows in a lane, in order, and then zeros.
-#[derive(Clone, Copy, PartialEq)]
+#[derive(Clone, Copy)]
 struct Lane([u8; 4]);
 
 impl Lane {
@@ -38,7 +38,7 @@ impl Lane {
 }
 
 /// A converter and its two lanes.
-#[derive(Clone, Copy, PartialEq)]
+#[derive(Clone, Copy)]
 struct Stripe {
     entry_lane: Lane,
     hand: Lane,
@@ -70,7 +70,7 @@ enum Actor {
     Writer,
 }
 
-#[derive(Clone, Copy, PartialEq)]
+#[derive(Clone, Copy)]
 struct Machine {
     pushed: u8,
     stripes: [Stripe; 2],
@@ -252,7 +252,7 @@ impl Findings {
                 if let Some(actor) = machine.mover_of(number) {
                     next.act(world, actor);
                 }
-                if next == *machine {
+                if code_of(&next) == code_of(machine) {
                     self.goes_on = false;
                 }
             }
@@ -280,7 +280,8 @@ fn search(world: &World, turns: &mut [usize]) -> Findings {
             if let Some(actor) = actors.get(*turn) {
                 let before = machine;
                 machine.act(world, *actor);
-                changes = changes.saturating_add(usize::from(machine != before));
+                let has_changed = code_of(&machine) != code_of(&before);
+                changes = changes.saturating_add(usize::from(has_changed));
             }
         }
         findings.look(world, &machine, changes);
@@ -302,9 +303,9 @@ fn with_digits(code: u64, lane: &Lane) -> u64 {
     code.wrapping_mul(10)
 }
 
-// A state as one number.
+// A state as one number, which no other state has: what is pushed, popped and in each place.
 fn code_of(machine: &Machine) -> u64 {
-    let mut code = with_digits(0, &machine.popped);
+    let mut code = with_digits(u64::from(machine.pushed), &machine.popped);
     for stripe in &machine.stripes {
         for lane in [&stripe.row_lane, &stripe.hand, &stripe.entry_lane] {
             code = with_digits(code, lane);
@@ -380,10 +381,10 @@ fn wrong_machines_break_the_law(rt: HostRuntime) {
 #[test]
 fn short_schedules_lead_where_the_definition_leads(rt: HostRuntime) -> Result<(), Fail> {
     for (converters, ring, wanted) in [
-        (1, 1, [300692564, 786233675, 126737356]),
-        (1, 2, [300692564, 225023557, 799068920]),
-        (2, 1, [794531662, 989427199, 375844148]),
-        (2, 2, [794531662, 989427199, 508641874]),
+        (1, 1, [649007880, 491958217, 471638504]),
+        (1, 2, [649007880, 898016036, 902811707]),
+        (2, 1, [273886483, 847480565, 965071586]),
+        (2, 2, [273886483, 847480565, 943158573]),
     ] {
         for (entries, sum) in (1..=3_u8).zip(wanted) {
             let world = right_world(entries, converters, ring);

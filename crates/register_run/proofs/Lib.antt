@@ -1,0 +1,10 @@
+pub mod TotalLemmas
+pub mod PartLemmas
+pub mod InvariantLemmas
+pub mod ActLemmas
+pub mod StateLemmas
+pub mod NumberLemmas
+pub mod PlaceLemmas
+pub mod NextActLemmas
+pub mod ScheduleLemmas
+pub mod ScheduleExamples

@@ -1,0 +1,4 @@
+//! Many registers at once, over threads.
+#![tactic(auto)]
+
+pub mod laws;

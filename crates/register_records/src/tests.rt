@@ -269,10 +269,13 @@ fn records_become_their_rows(rt: HostRuntime) -> Result<(), Fail> {
 
 #[test]
 fn other_headers_are_refused(rt: HostRuntime) -> Result<(), Fail> {
-    let headers: [&[u8]; 7] = [
+    let headers: [&[u8]; 10] = [
         b"",
         b"\n\n",
+        b"id\n",
         b"id,calendar\n",
+        b"id,calendar,date,note,place\n",
+        b"id,calendar,date,,,,,,,,,,,,,,,,,,,,,,,,,,,,,,,,,,,,,\n",
         b"id,calendar,date,\n",
         b"calendar,id,date\n",
         b"id,calendar,\xFF\n",

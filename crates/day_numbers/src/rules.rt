@@ -74,7 +74,7 @@ pub trait RuledCalendar {
 
 /// The days of the months before the month of this number, and that month's days; all the days and 0
 /// where no month has the number.
-fn month_by_number(months: &[Month], number: u8) -> (u16, u8)
+pub fn month_by_number(months: &[Month], number: u8) -> (u16, u8)
     requires { length months.now ≤ 13 }
     ensures before { result.0 ≡ days_before_month months.now number }
     ensures days { result.1 ≡ days_of_month months.now number }

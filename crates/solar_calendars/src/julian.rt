@@ -17,7 +17,8 @@ use day_numbers::{ArithmeticCalendar, DateFault, Day, Ymd};
 #[derive(Clone, Copy, Debug)]
 pub struct Julian;
 
-fn is_leap(year: i32) -> bool
+/// Whether the year is a leap year, of 366 days.
+pub fn is_leap(year: i32) -> bool
     ensures { result ≡ is_julian_leap year }
 {
     if year < 0 {

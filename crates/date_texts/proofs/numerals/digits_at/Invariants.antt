@@ -1,6 +1,6 @@
 use Rattle.std.proofs.Common.{◌≡◌, ◌+◌, ◌-◌, ◌*◌, ◌^◌, ◌<◌, ◌≤◌}
 use Rattle.date_texts.specs.Reading.{digits_at}
-use Rattle.date_texts.proofs.read.digits_at.Given as goal
+use Rattle.date_texts.proofs.numerals.digits_at.Given as goal
 
 abbrev pub invariant-loop-left : goal.invariant-loop-left
 invariant-loop-left l = record {

@@ -1,6 +1,6 @@
 use Rattle.std.proofs.Common.{length, ap, arith}
 use Rattle.std.proofs.lemmas.Fmt.{length-decimal-le}
-use Rattle.date_texts.proofs.write.push_number.Goals as goal
+use Rattle.date_texts.proofs.numerals.push_number.Goals as goal
 
 pub push_str-requires : goal.push_str-requires
 push_str-requires c =

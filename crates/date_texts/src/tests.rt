@@ -239,16 +239,17 @@ fn other_texts_are_refused(rt: HostRuntime) {
 /// Texts of one grammar that calendars of another do not read.
 #[test]
 fn each_calendar_has_its_grammar(rt: HostRuntime) {
-    let texts = ["1945-11-12", "1945-W11-2", "1.9.4.5.11", "1945-11-K2"];
     for calendar in Calendar::ALL {
-        let own = match calendar {
-            Calendar::Iso => "1945-W11-2",
-            Calendar::Longcount => "1.9.4.5.11",
-            Calendar::Roman => "1945-11-K2",
-            _ => "1945-11-12",
-        };
-        for text in texts {
-            assert_eq!(rt; read_date(calendar, text).is_ok(), text == own, "at {text}");
+        let weeks = calendar == Calendar::Iso;
+        let places = calendar == Calendar::Longcount;
+        let names = calendar == Calendar::Roman;
+        for (text, is_read) in [
+            ("1945-11-12", !weeks && !places && !names),
+            ("1945-W11-2", weeks),
+            ("1.9.4.5.11", places),
+            ("1945-11-K2", names),
+        ] {
+            assert_eq!(rt; read_date(calendar, text).is_ok(), is_read, "at {text}");
         }
     }
 }

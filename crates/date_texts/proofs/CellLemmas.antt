@@ -1,9 +1,7 @@
 -- A target and a day have one cell.
-use Rattle.std.proofs.Common.{◌≡◌, ℕ, zero, suc, ◌+◌, ◌*◌, ◌-◌, ◌≤◌, List, [], ◌∷◌, Bool, true, ◌&&◌, IsTrue, nat_le}
-use Rattle.std.proofs.Common.{length, ℤ, ◌≤ℤ◌, refl, sym, subst, ap, ◌∙◌, arith}
-use Rattle.std.specs.Prelude.{slice_get, unwrap_or}
+use Rattle.std.proofs.Common.{◌≡◌, ℕ, ◌+◌, ◌*◌, ◌≤◌, List}
+use Rattle.std.proofs.Common.{ℤ, ◌≤ℤ◌, sym, subst, ap, ◌∙◌, arith}
 use Rattle.std.proofs.lemmas.Int.{ints}
-use Rattle.std.proofs.lemmas.Bool.Decides.{nat_tests}
 use Rattle.day_numbers.specs.declared.ymd.Ymd.{Ymd}
 use Rattle.day_numbers.specs.Days.{IsSinceFirstDay}
 use Rattle.day_numbers.proofs.DateLemmas.{rules_one_date, rules_have_days}
@@ -11,11 +9,9 @@ use Rattle.solar_calendars.specs.IsoWeekLaw.{one_week_date}
 use Rattle.solar_calendars.specs.Laws.{OneRomanDate}
 use Rattle.maya_calendars.specs.Rounds.{epoch}
 use Rattle.maya_calendars.specs.LongCounts.{IsLongCount, long_day}
-use Rattle.maya_calendars.specs.HaabNames.{haab_of, month_names, month_name}
-use Rattle.maya_calendars.specs.TzolkinNames.{tzolkin_of, name_texts, name_text}
 use Rattle.maya_calendars.specs.declared.long_count.LongCount.{LongCount}
 use Rattle.date_texts.specs.declared.calendar.Calendar.{Calendar}
-use Rattle.date_texts.specs.declared.calendar.Calendar.TheVariants.{Longcount, Roman as RomanCalendar}
+use Rattle.date_texts.specs.declared.calendar.Calendar.TheVariants.{Longcount}
 use Rattle.date_texts.specs.declared.calendar.Target.{Target}
 use Rattle.date_texts.specs.declared.calendar.Target.TheVariants.{Date as DateTarget, Haab, Tzolkin}
 use Rattle.date_texts.specs.declared.date.Date.{Date}
@@ -24,11 +20,9 @@ use Rattle.date_texts.specs.Calendars.{Reckoning, by_rules, by_weeks, by_places,
 use Rattle.date_texts.specs.Calendars.{day_number_by, first_day_by, IsDateIn, day_number_in, first_day_in}
 use Rattle.date_texts.specs.Dates.{calendar_of_date, IsDateOfCalendar, day_number_of_date}
 use Rattle.date_texts.specs.DateText.{canonical_text}
-use Rattle.date_texts.specs.Cells.{IsDateCell, on_date, before_first_day, IsCell, haab_text, tzolkin_text}
-use Rattle.date_texts.specs.Cells.{numbered_name}
+use Rattle.date_texts.specs.Cells.{IsDateCell, on_date, before_first_day, IsCell}
 use Rattle.date_texts.specs.Laws.{OneCell}
 use Rattle.date_texts.proofs.DateParts.{CountParts, civil_same, count_same}
-use Rattle.date_texts.proofs.ReadingLemmas.{both_true}
 
 -- ---- a calendar has one date on a day, and none before its first day
 one_date_by : (r : Reckoning) (d e : Ymd) → IsDateBy r d → IsDateBy r e → day_number_by r d ≡ day_number_by r e → d ≡ e

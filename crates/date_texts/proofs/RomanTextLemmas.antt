@@ -1,22 +1,20 @@
 -- Roman dates as text: reading finds what the grammar relates to a text, and nothing else.
-use Rattle.std.proofs.Common.{◌≡◌, ℕ, zero, suc, ◌+◌, ◌-◌, ◌≤◌, ◌<◌, Bool, true, false, ◌&&◌, List, [], ◌∷◌, ◌++◌}
-use Rattle.std.proofs.Common.{length}
-use Rattle.std.proofs.Common.{◌==◌, refl, sym, subst, ap, ◌∙◌, arith, cond, Option, Some, None, ℤ, pos, neg_ℤ}
+use Rattle.std.proofs.Common.{◌≡◌, ℕ, ◌≤◌, Bool, true, false, List, [], ◌∷◌, ◌++◌}
+use Rattle.std.proofs.Common.{◌==◌, refl, sym, subst, ap, ◌∙◌, arith, cond, Option, Some, ℤ, pos, neg_ℤ}
 use Rattle.std.proofs.Common.{append-nil}
 use Rattle.std.specs.Prelude.{codes}
 use Rattle.std.specs.Char.{is_ascii_digit, to_ascii_lowercase}
-use Rattle.std.specs.Str.{str_to_ascii_lowercase, str_eq_ignore_ascii_case, bytes_eq}
-use Rattle.std.specs.Fmt.{decimal}
+use Rattle.std.specs.Str.{str_to_ascii_lowercase, str_eq_ignore_ascii_case}
 use Rattle.std.proofs.lemmas.Bool.Decides.{nat_tests}
 use Rattle.std.proofs.lemmas.Slice.Eq.{bytes_eq-Decides}
 use Rattle.day_numbers.specs.Days.{IsBetween}
 use Rattle.solar_calendars.specs.Roman.{count_of}
 use Rattle.solar_calendars.specs.declared.roman_date.RomanName.{RomanName}
 use Rattle.solar_calendars.specs.declared.roman_date.RomanName.TheVariants.{Kalends, Nones, Ides, SecondSixth}
-use Rattle.date_texts.specs.Numerals.{all_digits, IsNumeral, IsYearText, padded, canonical_year}
+use Rattle.date_texts.specs.Numerals.{IsNumeral, IsYearText, padded, canonical_year}
 use Rattle.date_texts.specs.RomanText.{IsNameText, of_kalends, of_nones, of_ides, of_second_sixth, IsRomanText}
 use Rattle.date_texts.specs.RomanText.{canonical_name, canonical_roman}
-use Rattle.date_texts.specs.Reading.{number_at, after_byte, year_at, all_read, count_at, counted_at, name_at}
+use Rattle.date_texts.specs.Reading.{number_at, after_byte, year_at, count_at, counted_at, name_at}
 use Rattle.date_texts.specs.Reading.{roman_at, ◌>>=◌}
 use Rattle.date_texts.proofs.ReadingLemmas.{both_true, some_inside, bind_some, byte_read, all_is_read, number_read}
 use Rattle.date_texts.proofs.ReadingLemmas.{number_take}

@@ -1,5 +1,5 @@
 -- How many targets there are at most, where none is named twice.
-use Rattle.std.proofs.Common.{◌≡◌, ◌≢◌, ◌<◌, ◌≤◌, ℕ, List, [], ◌∷◌, sym, ap, ◌∙◌, arith, inl, inr, length, map}
+use Rattle.std.proofs.Common.{◌≡◌, ◌≢◌, ◌<◌, ℕ, List, [], ◌∷◌, sym, ap, ◌∙◌, arith, inl, inr, length, map}
 use Rattle.std.proofs.Common.{get_or, Some, false, true, eqb}
 use Rattle.std.specs.Prelude.{slice_get}
 use Rattle.std.specs.List.{list_any}

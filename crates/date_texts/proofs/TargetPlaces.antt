@@ -1,7 +1,7 @@
 -- The targets by their place among all targets.
-use Rattle.std.proofs.Common.{◌≡◌, ◌<◌, ◌+◌, ℕ, zero, suc, List, [], ◌∷◌, Bool, true, false, cond, Option, Some, None}
+use Rattle.std.proofs.Common.{◌≡◌, ◌<◌, ℕ, suc, List, [], ◌∷◌, Bool, true, false, cond, Some}
 use Rattle.std.proofs.Common.{sym, ap, ◌∙◌}
-use Rattle.std.proofs.Common.{refl, arith, length}
+use Rattle.std.proofs.Common.{arith, length}
 use Rattle.std.specs.Prelude.{find, slice_get}
 use Rattle.date_texts.specs.Calendars.{target_name, all_targets}
 use Rattle.date_texts.specs.declared.calendar.TheConstants.{MAX_TARGETS}

@@ -2,7 +2,7 @@
 -- text of a date. Both are this project's own, after the calendar dates and week dates of ISO 8601 (the
 -- largest unit first, joined by dashes, W before a week), with shorter numbers and years before 0 allowed;
 -- the places of a long count are joined by dots, and a Roman date has the name of a day in the place of the day.
-use Rattle.std.specs.Prelude.{◌≡◌, ℕ, List, ℤ}
+use Rattle.std.specs.Prelude.{◌≡◌, ℕ, List}
 use Rattle.day_numbers.specs.declared.ymd.Ymd.{Ymd}
 use Rattle.date_texts.specs.declared.calendar.Calendar.{Calendar}
 use Rattle.date_texts.specs.declared.calendar.Calendar.TheVariants.{Longcount, Roman as RomanCalendar}

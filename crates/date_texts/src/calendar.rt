@@ -1,3 +1,5 @@
+//! The calendars, and what a table can show of a day.
+
 ghost use Rattle.std.specs.Prelude.{◌≡◌, ◌↔◌, IsOk, IsSome, IfOk, IfSome, Err, Some};
 ghost use Rattle.day_numbers.specs.Days.{IsDayNumber, IsSinceFirstDay};
 ghost use Rattle.day_numbers.specs.declared.ymd.Ymd.{Ymd};
@@ -128,7 +130,7 @@ impl Calendar {
     }
 }
 
-/// How many targets there are.
+/// How many targets there are, and so the most that a list can name of which none stands at two places.
 pub const MAX_TARGETS: usize = 14;
 
 /// What a table shows of each day: the date in a calendar, the haab or the tzolkin.

@@ -1,3 +1,5 @@
+//! The cells of a table.
+
 ghost use Rattle.std.specs.Prelude.{◌≡◌, ◌≤◌, [], ℕ, List, length};
 ghost use Rattle.date_texts.specs.Cells.{IsDateCell, IsCell, numbered_name};
 

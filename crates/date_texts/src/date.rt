@@ -1,3 +1,5 @@
+//! Dates as texts say them.
+
 ghost use Rattle.std.specs.Prelude.{◌≡◌, ◌↔◌, IsSome, IfSome};
 ghost use Rattle.date_texts.specs.Calendars.{IsCivil};
 

@@ -1,3 +1,5 @@
+//! The days of dates, and the dates on days.
+
 ghost use Rattle.std.specs.Prelude.{◌≡◌, ◌↔◌, IsOk, IsSome, IfOk, IfSome, Err};
 ghost use Rattle.day_numbers.specs.Days.{IsDayNumber, IsSinceFirstDay};
 ghost use Rattle.date_texts.specs.Calendars.{first_day_in};

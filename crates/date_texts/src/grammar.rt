@@ -1,3 +1,5 @@
+//! How the dates of each calendar are written.
+
 /// How the dates of a calendar are written.
 #[derive(Clone, Copy, PartialEq, Eq, Debug)]
 pub enum Grammar {

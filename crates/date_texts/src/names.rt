@@ -1,3 +1,5 @@
+//! The calendars and targets that texts name.
+
 ghost use Rattle.std.specs.Prelude.{◌≡◌, ◌↔◌, Some};
 ghost use Rattle.date_texts.specs.Names.{IsNamed};
 ghost use Rattle.date_texts.specs.Calendars.{calendar_name, target_name};

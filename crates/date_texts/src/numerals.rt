@@ -62,6 +62,7 @@ pub fn after_byte(byte: u8, bytes: &[u8]) -> Option<&[u8]>
 }
 
 /// A year at the front, and the bytes after it.
+#[inline(always)]
 #[tactic(auto, unfolding(crate::specs::Reading::year_at, crate::specs::Reading::number_at))]
 pub fn year_at(bytes: &[u8]) -> Option<(i32, &[u8])>
     ensures value { seen_year result ≡ year_spec bytes.now }
@@ -113,6 +114,7 @@ pub fn push_number(text: &mut ArrayString<24>, number: u16)
 }
 
 /// Appends the digits of a year.
+#[inline(always)]
 fn push_year_digits(text: &mut ArrayString<24>, number: u32)
     requires room { array_string_len text.old ≤ 19 }
     requires small { number < 100_000 }
@@ -128,6 +130,7 @@ fn push_year_digits(text: &mut ArrayString<24>, number: u32)
 }
 
 /// Appends a year to an empty text.
+#[inline(always)]
 pub fn push_year(text: &mut ArrayString<24>, year: i32)
     requires empty { array_string_len text.old ≡ 0 }
     requires near { IsYear year }

@@ -1,3 +1,5 @@
+//! Date texts, names and cells of known days.
+
 use crate::*;
 use day_numbers::{Day, Ymd};
 use std::test::Fail;

@@ -148,6 +148,7 @@ pub fn day_by_rules<C: RuledCalendar>(calendar: &C, date: Ymd) -> Result<Day, Da
 }
 
 /// A date on a day, where the calendar has one.
+#[inline(always)]
 fn some_date_by_rules<C: RuledCalendar>(calendar: &C, day: Day) -> Option<Ymd>
     ensures dated { IsSome result ↔ HasDayOf C.rules day.number }
     ensures value { IfSome result (λ date. IsDateOf C.rules date.year date.month date.day
@@ -165,6 +166,7 @@ fn some_date_by_rules<C: RuledCalendar>(calendar: &C, day: Day) -> Option<Ymd>
 
 /// `date_on` of a calendar that is given by rules: the one date whose day this is, or `None` exactly
 /// before the calendar's first day.
+#[inline(always)]
 pub fn date_by_rules<C: RuledCalendar>(calendar: &C, day: Day) -> Option<Ymd>
     ensures dated { IsSome result ↔ HasDayOf C.rules day.number }
     ensures value { IfSome result (λ date. IsDateOf C.rules date.year date.month date.day

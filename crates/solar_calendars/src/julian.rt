@@ -115,6 +115,7 @@ impl ArithmeticCalendar for Julian {
         day_by_rules(self, date)
     }
 
+    #[inline(always)]
     fn date_on(&self, day: Day) -> Option<Ymd> {
         date_by_rules(self, day)
     }

@@ -8,9 +8,7 @@ ghost use Rattle.std.specs.Prelude.{◌≡◌, ◌↔◌, ◌≤◌, ◌<◌, �
 ghost use Rattle.std.specs.Prelude.{IsTrue, IsOk, IsSome, IfOk, IfSome, Err};
 ghost use Rattle.day_numbers.specs.Days.{IsBetween, IsDayNumber};
 ghost use Rattle.day_numbers.specs.Dates.{IsYear};
-ghost use Rattle.day_numbers.specs.Rules.{HasYear, without_zero, days_of_month};
-ghost use Rattle.solar_calendars.specs.Julian.{is_julian_leap};
-ghost use Rattle.solar_calendars.specs.TwelveMonths.{twelve_months as twelve_months_of};
+ghost use Rattle.day_numbers.specs.Rules.{HasYear, without_zero};
 ghost use Rattle.solar_calendars.specs.Roman.{day_of_nones as nones_spec, day_of_ides as ides_spec};
 ghost use Rattle.solar_calendars.specs.Roman.{kalends as kalends_spec};
 ghost use Rattle.solar_calendars.specs.Roman.{has_two_sixths as two_sixths, days_back, count_of};
@@ -66,9 +64,10 @@ fn kalends(year: i32, month: u8) -> i64
 
 /// How many days the month has.
 fn length_of_month(year: i32, month: u8) -> u8
-    ensures { result ≡ days_of_month (twelve_months_of (is_julian_leap year)) month }
+    requires { (1 ≤ month) × (month ≤ 12) }
+    ensures { result ≡ month_length year month }
 {
-    month_by_number(twelve_months(is_leap(year)), month).1
+    twelve_months(is_leap(year))[month as usize - 1].days
 }
 
 /// How many days the month before a month has.

@@ -21,6 +21,8 @@ const ISLAMIC: Target = Target::Date(Calendar::Islamic);
 
 const LONGCOUNT: Target = Target::Date(Calendar::Longcount);
 
+const ROMAN: Target = Target::Date(Calendar::Roman);
+
 /// A text to be converted, the table that is wanted, and number and refusal of the rows in its journal.
 #[derive(Clone, Copy)]
 struct Case {
@@ -135,7 +137,7 @@ fn records_become_their_rows(rt: HostRuntime) -> Result<(), Fail> {
             targets: &Target::ALL,
             rows: &[(
                 "a,gregorian,1945-11-12",
-                "1,a,gregorian,1945-11-12,710347,Monday,1945-11-12,1945-W46-1,1945-10-30,1662-03-03,1938-03-03,2694-07-10,1395-04-05,1364-12-06,5706-09-07,12.16.11.16.9,0154-02-21,7 Zac,11 Muluc,",
+                "1,a,gregorian,1945-11-12,710347,Monday,1945-11-12,1945-W46-1,1945-10-30,1662-03-03,1938-03-03,2694-07-10,1395-04-05,1364-12-06,5706-09-07,12.16.11.16.9,0154-02-21,1945-11-K3,7 Zac,11 Muluc,",
             )],
         },
         Worked {
@@ -243,6 +245,32 @@ fn records_become_their_rows(rt: HostRuntime) -> Result<(), Fail> {
                 ),
                 ("d,ethiopic,0-1-1", "4,d,ethiopic,0-1-1,,,,,6"),
                 ("e,egyptian,1-13-6", "5,e,egyptian,1-13-6,,,,,6"),
+            ],
+        },
+        Worked {
+            targets: &[JULIAN, ROMAN],
+            rows: &[
+                (
+                    "a,roman,0801-01-K8",
+                    "1,a,roman,0801-01-K8,292192,Friday,0800-12-25,0801-01-K8,",
+                ),
+                (
+                    "b,roman,-44-03-i1",
+                    "2,b,roman,-44-03-i1,-15999,Wednesday,-0044-03-15,-0044-03-I1,",
+                ),
+                (
+                    "c,roman,-1-3-k6b",
+                    "3,c,roman,-1-3-k6b,-312,Wednesday,-0001-02-25,-0001-03-K6B,",
+                ),
+                ("d,roman,1-3-K6B", "4,d,roman,1-3-K6B,,,,,6"),
+                ("e,roman,0-1-K1", "5,e,roman,0-1-K1,,,,,6"),
+                ("f,roman,1-1-K20", "6,f,roman,1-1-K20,,,,,6"),
+                (
+                    "g,roman,1-1-K2",
+                    "7,g,roman,1-1-K2,-2,Friday,-0001-12-31,0001-01-K2,",
+                ),
+                ("h,roman,-99999-1-K2", "8,h,roman,-99999-1-K2,,,,,7"),
+                ("i,roman,1-1-X3", "9,i,roman,1-1-X3,,,,,5"),
             ],
         },
     ];

@@ -2,7 +2,7 @@
 use std::{hint, thread};
 
 // How often a waiting end looks again at once before it begins to yield.
-const LOOKS_BEFORE_YIELD: u32 = 64;
+const LOOKS_BEFORE_YIELD: u32 = 8;
 
 // What a waiting end does between two looks.
 #[derive(Drop)]

@@ -1,3 +1,12 @@
+pub mod ArmLemmas
+pub mod FeedLemmas
+pub mod FrontLemmas
+pub mod GivenLemmas
+pub mod HeadlineLemmas
+pub mod PassageLemmas
+pub mod SettledLemmas
+pub mod StationLemmas
+pub mod TableLemmas
 pub mod TotalLemmas
 pub mod PartLemmas
 pub mod InvariantLemmas

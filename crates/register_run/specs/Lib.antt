@@ -1,3 +1,13 @@
+pub mod Passages
+pub mod Arms
+pub mod Links
+pub mod Feeds
+pub mod TablesWritten
+pub mod Written
+pub mod Headline
+pub mod Cases
+pub mod Stations
+pub mod Reports
 pub mod Machine
 pub mod Schedules
 pub mod EveryScheduleLaw

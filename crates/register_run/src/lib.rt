@@ -1,4 +1,29 @@
-//! Many registers at once, over threads.
+//! Many registers converted at once, each by threads of its own.
+//!
+//! A source has a reader, one to four converters and a place at the calling thread, which writes. They are joined by
+//! lanes: the reader sends the entries to the converters by turns, each converter sends on the row of each entry, and
+//! the calling thread takes the rows by the same turns and writes them. When the threads have been joined, each lane
+//! is confirmed, and only then is a source called whole. [`run`] converts a list of sources.
 #![tactic(auto)]
 
+mod arms;
+mod converting;
+mod feeds;
+mod gates;
+mod joining;
 pub mod laws;
+mod links;
+mod reading;
+mod reports;
+mod running;
+mod settling;
+mod starting;
+mod stations;
+mod tables;
+
+pub use gates::{Gate, Open};
+pub use reports::{Report, RunFault, RunFaultKind, Verdict};
+pub use running::{run, run_gated};
+
+#[cfg(test)]
+mod tests;

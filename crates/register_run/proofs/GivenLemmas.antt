@@ -1,0 +1,135 @@
+-- What a reader gave of a text, by how it ended.
+use Rattle.std.proofs.Common.{◌≡◌, ◌∙◌, ap, sym, subst, refl, ℕ, ◌+◌, List, [], ◌∷◌, ◌++◌, length, Option, Some, None, ◌⊎◌, inl, inr, arith, ◌<◌, get_or, set, false}
+use Rattle.std.specs.Prelude.{All, Err, IfErr, IfSome, Ok, OnOk, Result}
+use Rattle.std.proofs.lemmas.List.Elements.{All-set}
+use Rattle.std.proofs.Math.Logic.{∥∥₁_elim, ∥∥₁_map, ∥∥₁_prop}
+use Rattle.register_records.specs.Entries.{AreNumberedFrom, HasEntries, HasFirstEntries, HasNoHeader, HasTooMany, Numbered}
+use Rattle.register_records.specs.declared.reading.EntryFault.{EntryFault}
+use Rattle.register_records.specs.declared.reading.EntryFault.TheVariants as fault
+use Rattle.register_records.specs.declared.sources.Cause.{Cause}
+use Rattle.register_records.specs.declared.sources.Cause.TheVariants as cause
+use Rattle.lane_rings.specs.declared.item.Gone.{Gone}
+use Rattle.lane_rings.specs.declared.item.Item.TheVariants as item
+use Rattle.lane_rings.specs.declared.sender.Sender.{Sender}
+use Rattle.lane_rings.specs.Lane.{sent}
+use Rattle.register_records.specs.Seen.{entry_seen}
+use Rattle.register_records.specs.declared.entries.Entry.{Entry}
+use Rattle.register_records.specs.declared.rows.Row.{Row}
+use Rattle.register_run.specs.Passages.{AreAmong, HasPassed, IsCauseOf, IsGiven, IsNotSunk, IsOfThreads, Sends, is_of_reading}
+use Rattle.register_run.proofs.PassageLemmas.{among_given, among_send}
+
+pub numbered_more : (k : ℕ) (given : List Numbered) (n : Numbered) → AreNumberedFrom k given → n.number ≡ k + length given → AreNumberedFrom k (given ++ n ∷ [])
+numbered_more k [] n h e = (omega arith, tt)
+numbered_more k (first ∷ rest) n h e = (h.0, numbered_more (k + 1) rest n h.1 (omega arith))
+
+pub not_sunk_by : (f : EntryFault) (c : Cause) → IsCauseOf f c → IsNotSunk (Err c)
+not_sunk_by fault.OutOfMemory c is e = cc
+not_sunk_by fault.ReadFault c is e = cc
+not_sunk_by fault.BadHeader c is e = cc
+not_sunk_by fault.TooManyRecords c is e = cc
+not_sunk_by fault.Failed c is e = cc
+
+-- the cause tells the fault
+header_told : (f : EntryFault) (c : Cause) → IsCauseOf f c → c ≡ cause.BadHeader → f ≡ fault.BadHeader
+header_told fault.OutOfMemory c is e = cc
+header_told fault.ReadFault c is e = cc
+header_told fault.BadHeader c is e = refl
+header_told fault.TooManyRecords c is e = cc
+header_told fault.Failed c is e = cc
+
+many_told : (f : EntryFault) (c : Cause) → IsCauseOf f c → c ≡ cause.TooManyRecords → f ≡ fault.TooManyRecords
+many_told fault.OutOfMemory c is e = cc
+many_told fault.ReadFault c is e = cc
+many_told fault.BadHeader c is e = cc
+many_told fault.TooManyRecords c is e = refl
+many_told fault.Failed c is e = cc
+
+module _ (text : Option (List ℕ)) (delimiter : ℕ) where
+  -- the text was not opened
+  pub given_none : (f : EntryFault) (c : Cause) → IsCauseOf f c
+      → (f ≡ fault.BadHeader → IfSome text (λ t. HasNoHeader delimiter t)) → (f ≡ fault.TooManyRecords → ⊥)
+      → IsGiven text delimiter (Err c) []
+  given_none f c is bad many = record {
+    numbered = tt;
+    first = inl refl;
+    all = tt;
+    bad_header = λ e. (refl, bad (header_told f c is e));
+    too_many = λ e. absurd (many (many_told f c is e));
+  }
+
+  stopped_so : (f : EntryFault) (c : Cause) (given : List Numbered) → IsCauseOf f c → (f ≡ fault.BadHeader → ⊥) → AreNumberedFrom 1 given
+      → IfSome text (λ t. HasFirstEntries delimiter t given) → (f ≡ fault.TooManyRecords → IfSome text (λ t. HasTooMany delimiter t))
+      → IsGiven text delimiter (Err c) given
+  stopped_so f c given is bad numbered first many = record {
+    numbered = numbered;
+    first = inr first;
+    all = tt;
+    bad_header = λ e. absurd (bad (header_told f c is e));
+    too_many = λ e. many (many_told f c is e);
+  }
+
+  -- the reading stopped after these entries
+  pub given_stopped : (f : EntryFault) (c : Cause) (given : List Numbered) → IsCauseOf f c → (f ≡ fault.BadHeader → ⊥)
+      → (f ≡ fault.TooManyRecords → ∥ IfSome text (λ t. HasTooMany delimiter t) ∥₁) → AreNumberedFrom 1 given
+      → ∥ IfSome text (λ t. HasFirstEntries delimiter t given) ∥₁ → ∥ IsGiven text delimiter (Err c) given ∥₁
+  given_stopped fault.TooManyRecords c given is bad many numbered first = ∥∥₁_elim first ∥∥₁_prop (λ s. ∥∥₁_map (many refl) (λ m. stopped_so fault.TooManyRecords c given is bad numbered s (λ e. m)))
+  given_stopped fault.OutOfMemory c given is bad many numbered first = ∥∥₁_map first (λ s. stopped_so fault.OutOfMemory c given is bad numbered s (λ e. cc))
+  given_stopped fault.ReadFault c given is bad many numbered first = ∥∥₁_map first (λ s. stopped_so fault.ReadFault c given is bad numbered s (λ e. cc))
+  given_stopped fault.BadHeader c given is bad many numbered first = absurd (bad refl)
+  given_stopped fault.Failed c given is bad many numbered first = ∥∥₁_map first (λ s. stopped_so fault.Failed c given is bad numbered s (λ e. cc))
+
+  -- a converter was gone after these entries
+  pub given_gone : (given : List Numbered) → AreNumberedFrom 1 given → ∥ IfSome text (λ t. HasFirstEntries delimiter t given) ∥₁ → ∥ IsGiven text delimiter (Err cause.Unconfirmed) given ∥₁
+  given_gone given numbered first = ∥∥₁_map first (λ f. record {
+    numbered = numbered;
+    first = inr f;
+    all = tt;
+    bad_header = λ e. cc;
+    too_many = λ e. cc;
+  })
+
+  -- these are all
+  pub given_all : (n : ℕ) (given : List Numbered) → n ≡ length given → AreNumberedFrom 1 given → ∥ IfSome text (λ t. HasFirstEntries delimiter t given) ∥₁ → ∥ IfSome text (λ t. HasEntries delimiter t given) ∥₁ → ∥ IsGiven text delimiter (Ok n) given ∥₁
+  given_all n given count numbered first all = ∥∥₁_elim first ∥∥₁_prop (λ f. ∥∥₁_map all (λ a. record {
+    numbered = numbered;
+    first = inr f;
+    all = (count, a);
+    bad_header = tt;
+    too_many = tt;
+  }))
+
+-- what holds of one text and delimiter holds of the same
+along : (P : Option (List ℕ) → ℕ → Type 0) (text text' : Option (List ℕ)) (d d' : ℕ) → text' ≡ text → d' ≡ d → P text' d' → P text d
+along P text text' d d' e f h = subst (λ t. P t d) e (subst (λ n. P text' n) f h)
+
+module _ (text text' : Option (List ℕ)) (d d' : ℕ) (same : text' ≡ text) (by : d' ≡ d) (given old : List Numbered) (kept : given ≡ old) (numbered : AreNumberedFrom 1 old)
+    (first : ∥ IfSome text' (λ t. HasFirstEntries d' t given) ∥₁) (senders : List (Sender Entry)) (among : All (λ s. AreAmong old (sent s)) senders) where
+  first' : ∥ IfSome text (λ t. HasFirstEntries d t old) ∥₁
+  first' = subst (λ g. ∥ IfSome text (λ t. HasFirstEntries d t g) ∥₁) kept (along (λ o n. ∥ IfSome o (λ t. HasFirstEntries n t given) ∥₁) text text' d d' same by first)
+
+  pub sends_all : (n : ℕ) → n ≡ length old → ∥ IfSome text' (λ t. HasEntries d' t given) ∥₁ → ∥ Sends text d (Ok n) senders ∥₁
+  sends_all n count all =
+      let all' = subst (λ g. ∥ IfSome text (λ t. HasEntries d t g) ∥₁) kept (along (λ o n. ∥ IfSome o (λ t. HasEntries n t given) ∥₁) text text' d d' same by all) in
+      ∥∥₁_map (given_all text d n old count numbered first' all') (λ is. (old, is, among))
+
+  pub sends_stopped : (f : EntryFault) (c : Cause) → IsCauseOf f c → (f ≡ fault.BadHeader → ⊥)
+      → (f ≡ fault.TooManyRecords → ∥ IfSome text' (λ t. HasTooMany d' t) ∥₁) → ∥ Sends text d (Err c) senders ∥₁
+  sends_stopped f c is bad many =
+      let many' = λ (e : f ≡ fault.TooManyRecords). along (λ o n. ∥ IfSome o (λ t. HasTooMany n t) ∥₁) text text' d d' same by (many e) in
+      ∥∥₁_map (given_stopped text d f c old is bad many' numbered first') (λ is'. (old, is', among))
+
+  pub sends_gone : ∥ Sends text d (Err cause.Unconfirmed) senders ∥₁
+  sends_gone = ∥∥₁_map (given_gone text d old numbered first') (λ is. (old, is, among))
+
+-- one more entry was given, and sent to one of the converters if it was there
+pub all_among : (given more : List Numbered) (senders : List (Sender Entry)) (at : ℕ) (old new : Sender Entry) (e : Entry) (r : Result (Unit {0}) (Gone Entry))
+    → old ≡ get_or senders at old → at < length senders → more ≡ given ++ entry_seen e ∷ []
+    → OnOk r (sent new ≡ sent old ++ item.Entry e ∷ []) → IfErr r (λ g. (g.value ≡ e) × (sent new ≡ sent old))
+    → All (λ s. AreAmong given (sent s)) senders → All (λ s. AreAmong more (sent s)) (set senders at new)
+all_among given more senders at old new e r is below m ok gone all =
+    let before : AreAmong given (sent old) = subst (λ s. AreAmong given (sent s)) (sym is) (all at old below) in
+    All-set (λ s. AreAmong more (sent s)) senders at new (among_send given more (sent old) (sent new) e r m ok gone before) (λ k d at'. among_given given more (sent (get_or senders k d)) (entry_seen e) m (all k d at'))
+
+-- an answer that does not speak of the text says nothing
+pub passed_not : (text : Option (List ℕ)) (d : ℕ) (c : Cause) (took : Row → Type 0) → IsOfThreads c → HasPassed text d (Err c) took
+passed_not text d c took is = record { not_sunk = is.1; rows = λ told. absurd (let k = is.0 in cc) }

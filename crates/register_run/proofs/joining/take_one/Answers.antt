@@ -1,0 +1,14 @@
+use Rattle.std.proofs.Common.{◌≡◌, ◌∙◌, ap, sym, subst, rules}
+use Rattle.std.proofs.Math.Seq.{map-set_same}
+use Rattle.register_run.specs.Arms.{ArmTook, feeding_lane}
+use Rattle.register_run.proofs.ArmLemmas.{any_here, any_set}
+use Rattle.register_run.proofs.joining.take_one.Goals as goal
+
+pub returns-clause-lanes : goal.returns-clause-lanes
+returns-clause-lanes c = map-set_same feeding_lane c.args.arms.now.items c.args.at c.try_take.new.self c.index_mut-arm.result.now (c.try_take.ensures.lane ∙ ap feeding_lane c.index_mut-arm.ensures.value)
+
+pub returns-clause-kept : goal.returns-clause-kept
+returns-clause-kept c = λ row h. any_set c.args.arms.now.items c.args.at c.try_take.new.self c.index_mut-arm.result.now row (λ a. c.try_take.ensures.kept row (subst (λ x. ArmTook x row) (sym c.index_mut-arm.ensures.value) a)) h
+
+pub returns-clause-took : goal.returns-clause-took
+returns-clause-took c = λ row is. any_here c.args.arms.now.items c.args.at c.try_take.new.self row (let b = c.requires in search rules) (c.try_take.ensures.took row is)

@@ -1,0 +1,13 @@
+use Rattle.std.proofs.Common.{◌≡◌, ◌+◌, ◌≤◌, ◌++◌, map, vec_len, vec_capacity}
+use Rattle.std.specs.Vec.Iter.{into_iter_items, into_iter_len}
+use Rattle.register_run.specs.Cases.{cases}
+use Rattle.register_run.specs.Stations.{case_of}
+use Rattle.register_run.proofs.running.start_all.Given as goal
+
+abbrev pub invariant-loop-source : goal.invariant-loop-source
+invariant-loop-source g l = record {
+  room : vec_len l.stations + into_iter_len l.source-iterator ≤ vec_capacity l.stations;
+  len : vec_len l.stations + into_iter_len l.source-iterator ≡ vec_len l.fn.sources;
+  same : into_iter_len l.source-iterator ≡ into_iter_len l.rest;
+  cases : map case_of l.stations.items ++ cases l.setup (into_iter_items l.source-iterator) (into_iter_items l.rest) ≡ cases l.setup l.fn.sources.items l.fn.outputs.items;
+}

@@ -1,0 +1,20 @@
+-- What a link sees of its arms.
+use Rattle.std.specs.Prelude.{List, [], ◌∷◌, ◌⊎◌}
+use Rattle.std.specs.List.{Contains}
+use Rattle.lane_rings.specs.declared.item.Item.TheVariants as item
+use Rattle.lane_rings.specs.Lane.{Lane, sender_lane, taken}
+use Rattle.register_records.specs.declared.rows.Row.{Row}
+use Rattle.register_run.specs.declared.arms.Arm.{Arm}
+
+-- the lane that feeds the converter
+abbrev pub feeding_lane : Arm → Lane
+feeding_lane arm = sender_lane arm.feeding.value
+
+-- the row was taken from this arm
+unfoldable pub ArmTook : Arm → Row → Type 0
+ArmTook arm row = Contains (taken arm.rows) (item.Entry row)
+
+-- the row was taken from one of these arms
+abbrev pub AnyTook : List Arm → Row → Type 0
+AnyTook [] row = ⊥
+AnyTook (arm ∷ rest) row = ArmTook arm row ⊎ AnyTook rest row

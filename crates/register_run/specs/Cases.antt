@@ -1,0 +1,33 @@
+-- The sources of a run, each with the output for it and the setup.
+use Rattle.std.specs.Prelude.{List, [], ◌∷◌}
+use Rattle.std.specs.declared.io.traits.Read as reads
+use Rattle.register_records.specs.declared.outputs.Output as outputs
+use Rattle.register_records.specs.declared.setups.Setup.{Setup}
+use Rattle.register_records.specs.declared.sources.SourceEnd.{SourceEnd}
+use Rattle.register_run.specs.declared.settling.Settled.{Settled}
+
+pub record Case (R W : Type 0) : Type 0 where
+  pub source : R
+  pub output : W
+  pub setup : Setup
+
+abbrev pub case : {R W : Type 0} → R → W → Setup → Case R W
+case source output setup = record { source = source; output = output; setup = setup }
+
+-- each source with the output at its place
+abbrev pub cases : {R W : Type 0} → Setup → List R → List W → List (Case R W)
+cases setup [] outputs = []
+cases setup (source ∷ sources) [] = []
+cases setup (source ∷ sources) (output ∷ outputs) = case source output setup ∷ cases setup sources outputs
+
+module _ {R W : Type 0} {r : reads.Ghosts R} {o : outputs.Ghosts W} where
+  -- what a source that has ended was made of
+  abbrev pub ended_case : Settled R W r o → Case R W
+  ended_case s = case s.source.value s.given.value s.setup.value
+
+  -- its output and its end
+  abbrev pub output_of : Settled R W r o → W
+  output_of s = s.output
+
+  abbrev pub end_of : Settled R W r o → SourceEnd
+  end_of s = s.end

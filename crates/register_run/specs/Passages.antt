@@ -1,0 +1,114 @@
+-- What the threads of a source owe, by the lanes that they were given.
+use Rattle.std.specs.Prelude.{◌≡◌, ◌⊎◌, ⊤, ℕ, List, [], ◌∷◌, length, All, Option, Some, IfSome, MatchOption, Result, Ok, Err, IfOk, IfErr, Bool, true, false}
+use Rattle.std.specs.List.{Contains}
+use Rattle.lane_rings.specs.declared.item.Item.{Item}
+use Rattle.lane_rings.specs.declared.item.Item.TheVariants as item
+use Rattle.lane_rings.specs.declared.sender.Sender.{Sender}
+use Rattle.lane_rings.specs.declared.sender.Closed.{Closed}
+use Rattle.lane_rings.specs.Lane.{Lane, HasConfirmation, all_sent, closed_lane, receiver_lane, sent, taken}
+use Rattle.register_records.specs.Causes.{entry_fault_cause}
+use Rattle.register_records.specs.Entries.{AreNumberedFrom, HasEntries, HasFirstEntries, HasNoHeader, HasTooMany, Numbered}
+use Rattle.register_records.specs.Seen.{entry_seen}
+use Rattle.register_records.specs.Views.{row_entry}
+use Rattle.register_records.specs.declared.entries.Entry.{Entry}
+use Rattle.register_records.specs.declared.reading.EntryFault.{EntryFault}
+use Rattle.register_records.specs.declared.rows.Row.{Row}
+use Rattle.register_records.specs.declared.sources.Cause.{Cause}
+use Rattle.register_records.specs.declared.sources.Cause.TheVariants as cause
+use Rattle.register_run.specs.declared.reading.Reading.{Reading}
+use Rattle.register_run.specs.declared.converting.Converting.{Converting}
+
+-- what is left of a sender is that of this lane
+abbrev pub IsOfLane : {T : Type 0} → Lane → Closed T → Type 0
+IsOfLane lane c = HasConfirmation c → closed_lane c ≡ Some lane
+
+-- what is left of these senders is that of these lanes, in order
+abbrev pub AreOfLanes : List Lane → List (Closed Entry) → Type 0
+AreOfLanes [] [] = ⊤
+AreOfLanes [] (c ∷ closed) = ⊥
+AreOfLanes (lane ∷ lanes) [] = ⊥
+AreOfLanes (lane ∷ lanes) (c ∷ closed) = IsOfLane lane c × AreOfLanes lanes closed
+
+-- the entries that a reader gave of a text, by how it ended: with their count, or for a cause
+pub record IsGiven (text : Option (List ℕ)) (delimiter : ℕ) (outcome : Result ℕ Cause) (given : List Numbered) : Type 0 where
+  pub numbered : AreNumberedFrom 1 given
+  pub first : (given ≡ []) ⊎ IfSome text (λ t. HasFirstEntries delimiter t given)
+  pub all : IfOk outcome (λ n. (n ≡ length given) × IfSome text (λ t. HasEntries delimiter t given))
+  pub bad_header : IfErr outcome (λ c. c ≡ cause.BadHeader → (given ≡ []) × IfSome text (λ t. HasNoHeader delimiter t))
+  pub too_many : IfErr outcome (λ c. c ≡ cause.TooManyRecords → IfSome text (λ t. HasTooMany delimiter t))
+
+-- the output is not the cause
+abbrev pub IsNotSunk : Result ℕ Cause → Type 0
+IsNotSunk outcome = IfErr outcome (λ c. c ≡ cause.SinkFault → ⊥)
+
+-- the cause that a fault of reading entries is
+abbrev pub IsCauseOf : EntryFault → Cause → Type 0
+IsCauseOf fault c = MatchOption (entry_fault_cause fault) (c ≡ cause.Unconfirmed) (λ is. c ≡ is)
+
+-- each entry among the items is one of those given
+abbrev pub AreAmong : List Numbered → List (Item Entry) → Type 0
+AreAmong given items = (e : Entry) → Contains items (item.Entry e) → Contains given (entry_seen e)
+
+-- a reader gave entries of the text, and sent no others
+abbrev pub Sends : Option (List ℕ) → ℕ → Result ℕ Cause → List (Sender Entry) → Type 0
+Sends text delimiter outcome senders =
+    (given : List Numbered) × IsGiven text delimiter outcome given × All (λ s. AreAmong given (sent s)) senders
+
+-- the same, of lanes that were ended
+abbrev pub HasSent : Option (List ℕ) → ℕ → Result ℕ Cause → List (Closed Entry) → Type 0
+HasSent text delimiter outcome closed =
+    (given : List Numbered) × IsGiven text delimiter outcome given × All (λ c. HasConfirmation c → AreAmong given (all_sent c)) closed
+
+-- a reader of this text, which was given the senders of these lanes, may answer so
+pub record IsReading (text : Option (List ℕ)) (delimiter : ℕ) (lanes : List Lane) (r : Reading) : Type 0 where
+  pub from : AreOfLanes lanes r.closed.items
+  pub entries : ∥ HasSent text delimiter r.outcome r.closed.items ∥₁
+  pub not_sunk : IsNotSunk r.outcome
+
+-- of the rows among the items, one at most is new: the row of this entry
+abbrev pub GainsRowOf : List (Item Row) → List (Item Row) → Entry → Type 0
+GainsRowOf old new entry = (row : Row) → Contains new (item.Entry row) → Contains old (item.Entry row) ⊎ (row_entry row ≡ entry)
+
+-- each row that was sent is the row of an entry that was taken
+abbrev pub AreOfTaken : List (Item Entry) → List (Item Row) → Type 0
+AreOfTaken entries rows = (row : Row) → Contains rows (item.Entry row) → Contains entries (item.Entry (row_entry row))
+
+-- a converter which was given these two lanes may answer so
+pub record IsConverting (from into : Lane) (r : Converting) : Type 0 where
+  pub handed : receiver_lane r.entries ≡ from
+  pub closed : IsOfLane into r.closed
+  pub rows : HasConfirmation r.closed → AreOfTaken (taken r.entries) (all_sent r.closed)
+
+-- the reader alone gives these causes
+abbrev pub is_of_reading : Cause → Bool
+is_of_reading cause.NoMemory = false
+is_of_reading cause.NoThread = false
+is_of_reading cause.Unconfirmed = false
+is_of_reading cause.SinkFault = false
+is_of_reading cause.ReadFault = true
+is_of_reading cause.BadHeader = true
+is_of_reading cause.TooManyRecords = true
+
+-- neither the reader nor the output gives this cause
+abbrev pub IsOfThreads : Cause → Type 0
+IsOfThreads c = (is_of_reading c ≡ false) × (c ≡ cause.SinkFault → ⊥)
+
+-- the answer of a source's threads speaks of its text
+abbrev pub tells_of_text : Result ℕ Cause → Bool
+tells_of_text (Ok count) = true
+tells_of_text (Err c) = is_of_reading c
+
+-- the row is of one of these entries
+abbrev pub IsOfGiven : List Numbered → Row → Type 0
+IsOfGiven given row = Contains given (entry_seen (row_entry row))
+
+-- each row that was taken is of an entry that the reader gave
+abbrev pub Passes : Option (List ℕ) → ℕ → Result ℕ Cause → (Row → Type 0) → Type 0
+Passes text delimiter outcome took =
+    (given : List Numbered) × IsGiven text delimiter outcome given × ((row : Row) → took row → IsOfGiven given row)
+
+-- the threads of a source have ended with this answer: where it speaks of the text, all that the reader
+-- sent has passed on
+pub record HasPassed (text : Option (List ℕ)) (delimiter : ℕ) (outcome : Result ℕ Cause) (took : Row → Type 0) : Type 0 where
+  pub not_sunk : IsNotSunk outcome
+  pub rows : tells_of_text outcome ≡ true → ∥ Passes text delimiter outcome took ∥₁

@@ -1,0 +1,26 @@
+-- What a run answers of its lists.
+use Rattle.std.specs.Prelude.{◌≡◌, ◌↔◌, ℕ, List, All, Bool, Option, length, map, true}
+use Rattle.register_records.specs.Sources.{is_whole_end}
+use Rattle.register_records.specs.Tables.{Layout}
+use Rattle.register_records.specs.declared.sources.Cause.TheVariants as cause
+use Rattle.register_records.specs.declared.sources.SourceEnd.TheVariants as ended
+use Rattle.register_run.specs.declared.reports.Report.{Report}
+use Rattle.register_run.specs.declared.reports.RunFaultKind.{RunFaultKind}
+use Rattle.register_run.specs.declared.reports.RunFaultKind.TheVariants.{NoMemory, OutputCount, TooManySources}
+use Rattle.register_run.specs.declared.reports.Verdict.TheVariants.{Complete}
+use Rattle.register_run.specs.Headline.{AtEachPlace, IsSettled}
+
+-- the number of a fault
+abbrev pub run_fault_number : RunFaultKind → ℕ
+run_fault_number TooManySources = 1
+run_fault_number OutputCount = 2
+run_fault_number NoMemory = 3
+
+-- each source has ended as it should, and the report says how
+pub record IsReport {R W : Type 0} (remaining : R → Option (List ℕ)) (contents : W → Option (List ℕ)) (has_failed is_flushed : W → Bool) (own_mark : W → ℕ)
+    (layout : Layout) (sources : List R) (given : List W) (report : Report W) : Type 0 where
+  pub places : AtEachPlace sources given report.outputs.items report.ends.items (λ source before after end.
+      ∥ IsSettled contents has_failed is_flushed layout (remaining source) before after end ∥₁ × (end ≡ ended.Broken cause.BadHeader → after ≡ before))
+  pub verdict : (report.verdict ≡ Complete) ↔ All (λ e. is_whole_end e ≡ true) report.ends.items
+  pub marks : map own_mark report.outputs.items ≡ map own_mark given
+  pub lengths : (length report.outputs.items ≡ length given) × (length report.ends.items ≡ length sources)

@@ -1,0 +1,166 @@
+//! A converter with its two lanes, as the writer has it.
+
+ghost use Rattle.std.specs.Prelude.{◌≡◌, [], List, Some, IfOk, OnOk};
+ghost use Rattle.lane_rings.specs.Lane.{receiver_lane, sender_lane, sent};
+
+use crate::converting::{Converting, convert_entries};
+use crate::gates::Gate;
+use crate::starting::StartFault;
+use lane_rings::{Closed, Item, Receiver, Sender, Unconfirmed, lane};
+use register_records::{Entry, Row, Setup};
+use std::alloc::Global;
+use std::snapshot::Snapshot;
+use std::sync::Wait;
+use std::thread::{Promise, PromisedHandle, Scope, Threads};
+
+/// The lanes that a converter was started with.
+#[derive(Drop)]
+pub(crate) struct ConverterLanes {
+    pub(crate) entries: Snapshot<Receiver<Entry>>,
+    pub(crate) rows: Snapshot<Sender<Row>>,
+}
+
+impl Promise<Converting> for ConverterLanes {
+    ghost use Rattle.register_run.specs.Passages.{IsConverting};
+
+    ghost kept_by = { λ p r. IsConverting (receiver_lane p.entries.value) (sender_lane p.rows.value) r };
+}
+
+/// A converter, the lane that it feeds and the one that feeds it.
+#[derive(Drop)]
+pub(crate) struct Arm {
+    worker: PromisedHandle<Converting, ConverterLanes>,
+    rows: Receiver<Row>,
+    feeding: Snapshot<Sender<Entry>>,
+    // How many rows were taken.
+    count: u64,
+    // Whether items may still come.
+    open: bool,
+    ghost fed: { sender_lane feeding.value ≡ receiver_lane worker.promise.entries.value },
+    ghost paired: { sender_lane worker.promise.rows.value ≡ receiver_lane rows },
+}
+
+impl Arm {
+    ghost use Rattle.lane_rings.specs.Lane.{HasConfirmation, all_sent};
+    ghost use Rattle.lane_rings.specs.declared.item.Item.TheVariants as item;
+    ghost use Rattle.register_records.specs.Entries.{Numbered};
+    ghost use Rattle.register_run.specs.Arms.{ArmTook, feeding_lane};
+    ghost use Rattle.register_run.specs.Passages.{AreAmong, IsConverting, IsOfGiven, IsOfLane};
+
+    /// Starts a converter, and gives the sender that feeds it.
+    ///
+    /// # Errors
+    ///
+    /// `NoMemory` where a lane is refused its memory, and `NoThread` where the thread does not start.
+    pub(crate) fn start<'s, 'e, T: Threads + Wait + Sync, G: Gate + Sync>(
+        scope: &'s Scope<'s, &'e ()>,
+        rt: &'e T,
+        gate: &'e G,
+        alloc: Global,
+        setup: &'e Setup,
+    ) -> Result<(Sender<Entry>, Arm), StartFault>
+        ensures lane { IfOk result (λ r. feeding_lane r.1 ≡ sender_lane r.0) }
+        ensures fresh { IfOk result (λ r. sent r.0 ≡ []) }
+    {
+        let Ok((sender, entries)) = lane::<Entry>(alloc, setup.ring()) else {
+            return Err(StartFault::NoMemory);
+        };
+        let Ok((row_sender, rows)) = lane::<Row>(alloc, setup.ring()) else {
+            return Err(StartFault::NoMemory);
+        };
+        let feeding = Snapshot::of(&sender);
+        let lanes = ConverterLanes {
+            entries: Snapshot::of(&entries),
+            rows: Snapshot::of(&row_sender),
+        };
+        let worker = scope.spawn_with(
+            lanes,
+            move || -> Converting
+                requires { sent row_sender ≡ [] }
+                ensures { IsConverting (receiver_lane entries) (sender_lane row_sender) result }
+            { convert_entries(rt, gate, setup, entries, row_sender) },
+        );
+        let Ok(worker) = worker else {
+            return Err(StartFault::NoThread);
+        };
+        let arm = Arm {
+            worker,
+            rows,
+            feeding,
+            count: 0,
+            open: true,
+        };
+        Ok((sender, arm))
+    }
+
+    /// Whether items may still come.
+    pub(crate) fn is_open(&self) -> bool {
+        self.open
+    }
+
+    /// The next item, where one is there now. A converter that is gone counts as one that stopped.
+    pub(crate) fn try_take(&mut self) -> Option<Item<Row>>
+        ensures lane { feeding_lane self.new ≡ feeding_lane self.old }
+        ensures kept { (row : Row) → ArmTook self.old row → ArmTook self.new row }
+        ensures took { (row : Row) → result ≡ Some (item.Entry row) → ArmTook self.new row }
+    {
+        match self.rows.try_take() {
+            Ok(None) => None,
+            Ok(Some(Item::Entry(row))) => {
+                self.count = self.count.saturating_add(1);
+                Some(Item::Entry(row))
+            }
+            Ok(Some(Item::End(count))) => {
+                self.open = false;
+                Some(Item::End(count))
+            }
+            Ok(Some(Item::Stop)) | Err(_) => {
+                self.open = false;
+                Some(Item::Stop)
+            }
+        }
+    }
+
+    /// Joins the thread and confirms both lanes. `closed` is what is left of the sender that fed the converter. The
+    /// answer is whether the second lane ended with the number of the rows that were taken from it.
+    ///
+    /// # Errors
+    ///
+    /// `Unconfirmed` where one of the lanes is not confirmed.
+    pub(crate) fn finish(
+        self,
+        rt: &impl Threads,
+        closed: Closed<Entry>,
+    ) -> Result<bool, Unconfirmed>
+        requires { IsOfLane (feeding_lane self) closed }
+        ensures passed { OnOk result ((given : List Numbered) → (HasConfirmation closed → AreAmong given (all_sent closed))
+            → (row : Row) → ArmTook self row → IsOfGiven given row) }
+    {
+        let Arm {
+            worker,
+            rows,
+            feeding: _,
+            count,
+            open: _,
+        } = self;
+        let Converting {
+            entries,
+            closed: rows_closed,
+        } = worker.join(rt);
+        entries.confirm(closed)?;
+        let confirmed = rows.confirm(rows_closed)?;
+        Ok(confirmed.ended() == Some(count))
+    }
+
+    /// Joins the thread of a converter that was never fed.
+    pub(crate) fn call_off(self, rt: &impl Threads) {
+        let Arm {
+            worker,
+            rows: _,
+            feeding: _,
+            count: _,
+            open: _,
+        } = self;
+        drop(worker.join(rt));
+    }
+}

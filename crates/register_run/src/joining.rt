@@ -1,0 +1,66 @@
+//! What a link does with all its arms.
+
+ghost use Rattle.std.specs.Prelude.{◌≡◌, ◌<◌, List, All, OnOk, Some, map, vec_len};
+ghost use Rattle.lane_rings.specs.Lane.{HasConfirmation, all_sent};
+ghost use Rattle.lane_rings.specs.declared.item.Item.TheVariants as item;
+ghost use Rattle.register_records.specs.Entries.{Numbered};
+ghost use Rattle.register_run.specs.Arms.{AnyTook, feeding_lane};
+ghost use Rattle.register_run.specs.Passages.{AreAmong, AreOfLanes, IsOfGiven};
+
+use crate::arms::Arm;
+use lane_rings::{Closed, Item, Unconfirmed};
+use register_records::{Entry, Row};
+use std::thread::Threads;
+
+/// Joins the threads of all arms and confirms all lanes. `closed` is what is left of the senders that fed them. The
+/// answer is whether each lane ended with the number of the rows that were taken from it.
+///
+/// # Errors
+///
+/// `Unconfirmed` where one of the lanes is not confirmed. All threads are joined all the same.
+pub(crate) fn join_arms(
+    rt: &impl Threads,
+    arms: Vec<Arm>,
+    closed: Vec<Closed<Entry>>,
+) -> Result<bool, Unconfirmed>
+    requires { AreOfLanes (map feeding_lane arms.items) closed.items }
+    ensures { OnOk result ((given : List Numbered) → All (λ c. HasConfirmation c → AreAmong given (all_sent c)) closed.items
+        → (row : Row) → AnyTook arms.items row → IsOfGiven given row) }
+{
+    let mut confirmed = true;
+    let mut ended = true;
+    let mut rest = closed.into_iter();
+    for arm in arms {
+        let Some(one) = rest.next() else {
+            unreachable!()
+        };
+        match arm.finish(rt, one) {
+            Ok(counted) => ended &= counted,
+            Err(_) => confirmed = false,
+        }
+    }
+    if confirmed {
+        Ok(ended)
+    } else {
+        Err(Unconfirmed)
+    }
+}
+
+/// Takes from one arm, where an item is there.
+pub(crate) fn take_one(arms: &mut Vec<Arm>, at: usize) -> Option<Item<Row>>
+    requires { at < vec_len arms.old }
+    ensures lanes { map feeding_lane arms.new.items ≡ map feeding_lane arms.old.items }
+    ensures len { vec_len arms.new ≡ vec_len arms.old }
+    ensures kept { (row : Row) → AnyTook arms.old.items row → AnyTook arms.new.items row }
+    ensures took { (row : Row) → result ≡ Some (item.Entry row) → AnyTook arms.new.items row }
+{
+    let arm = &mut arms[at];
+    arm.try_take()
+}
+
+/// Joins the threads of arms that were never fed.
+pub(crate) fn call_off(rt: &impl Threads, arms: Vec<Arm>) {
+    for arm in arms {
+        arm.call_off(rt);
+    }
+}

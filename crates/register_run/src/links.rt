@@ -1,0 +1,254 @@
+//! The threads of a source, and the ends of its last lanes.
+
+ghost use Rattle.std.specs.Prelude.{◌≡◌, ◌<◌, ◌≤◌, [], All, IfOk, map, vec_capacity, vec_len};
+ghost use Rattle.lane_rings.specs.Lane.{sender_lane, sent};
+ghost use Rattle.register_records.specs.Views.{delimiter_of, stripes_of};
+ghost use Rattle.register_run.specs.Arms.{feeding_lane};
+ghost use Rattle.register_run.specs.Passages.{IsOfThreads};
+
+use crate::arms::Arm;
+use crate::gates::Gate;
+use crate::joining::{call_off, join_arms, take_one};
+use crate::reading::{Reading, read_source};
+use crate::starting::StartFault;
+use lane_rings::{Item, Sender};
+use register_records::{Cause, Entry, Row, Setup};
+use std::alloc::Global;
+use std::io::Read;
+use std::snapshot::Snapshot;
+use std::sync::Wait;
+use std::thread::{Promise, PromisedHandle, Scope, Threads};
+
+/// What a look into the lanes of a source found.
+#[derive(Drop)]
+pub(crate) enum Found {
+    /// Nothing is there now.
+    Nothing,
+    /// The next row.
+    Row(Row),
+    /// Something that tells of no row: a lane ended and others did not, or a row came after a stop.
+    Other,
+    /// The last lane ended, and each with an end.
+    End,
+    /// The last lane ended, and not each with an end.
+    Stop,
+}
+
+/// What a reader was started with.
+#[derive(Drop)]
+pub(crate) struct ReaderTask<R> {
+    pub(crate) source: Snapshot<R>,
+    pub(crate) setup: Snapshot<Setup>,
+    pub(crate) senders: Snapshot<Vec<Sender<Entry>>>,
+}
+
+impl<R: Read> Promise<Reading> for ReaderTask<R> {
+    ghost use Rattle.register_run.specs.Passages.{IsReading};
+
+    ghost kept_by = { λ p r. IsReading (R.remaining p.source.value) (delimiter_of p.setup.value) (map sender_lane p.senders.value.items) r };
+}
+
+/// A reader and its arms.
+#[derive(Drop)]
+pub(crate) struct Link<R: Read> {
+    reader: PromisedHandle<Reading, ReaderTask<R>>,
+    arms: Vec<Arm>,
+    // The arm that is next.
+    turn: usize,
+    // A lane ended with a stop.
+    stopped: bool,
+    ghost fed: { map feeding_lane arms.items ≡ map sender_lane reader.promise.senders.value.items },
+    ghost in_turn: { turn < vec_len arms },
+}
+
+impl<R: Read + Drop> Link<R> {
+    ghost use Rattle.register_run.specs.Links.{Passed, started_on, started_by};
+    ghost use Rattle.register_run.specs.Passages.{HasPassed, IsReading};
+    ghost use Rattle.register_run.specs.declared.links.Found.TheVariants as found;
+
+    /// Starts the threads of a source, the converters before the reader. What was not started is dropped.
+    ///
+    /// # Errors
+    ///
+    /// `NoMemory` where a list or a lane is refused its memory, and `NoThread` where a thread does not start.
+    pub(crate) fn start<'s, 'e, T: Threads + Wait + Sync, G: Gate + Sync>(
+        scope: &'s Scope<'s, &'e ()>,
+        rt: &'e T,
+        gate: &'e G,
+        alloc: Global,
+        setup: &'e Setup,
+        source: R,
+    ) -> Result<Link<R>, StartFault>
+    where
+        R: Send + 'e,
+        ensures source { IfOk result (λ link. started_on link ≡ source) }
+        ensures setup { IfOk result (λ link. started_by link ≡ setup.entry.now) }
+    {
+        let Ok(closed) = Vec::with_capacity(alloc, setup.stripes()) else {
+            return Err(StartFault::NoMemory);
+        };
+        let Fan { arms, senders } = Fan::start(scope, rt, gate, alloc, setup)?;
+        let task = ReaderTask {
+            source: Snapshot::of(&source),
+            setup: Snapshot::of(setup),
+            senders: Snapshot::of(&senders),
+        };
+        let reader = scope.spawn_with(
+            task,
+            move || -> Reading
+                requires { (0 < vec_len senders) × (vec_len senders ≤ vec_capacity closed) × (closed.items ≡ []) × All (λ s. sent s ≡ []) senders.items }
+                ensures { IsReading (R.remaining source) (delimiter_of setup.entry.now) (map sender_lane senders.items) result }
+            { read_source(rt, alloc, source, setup, senders, closed) },
+        );
+        match reader {
+            Ok(reader) => Ok(Link {
+                reader,
+                arms,
+                turn: 0,
+                stopped: false,
+            }),
+            Err(refused) => {
+                // With the closure go the senders, which lets the converters end.
+                drop(refused);
+                call_off(rt, arms);
+                Err(StartFault::NoThread)
+            }
+        }
+    }
+
+    /// Takes the next item of the lane that has the turn, where one is there now.
+    pub(crate) fn try_take(&mut self) -> Found
+        ensures source { started_on self.new ≡ started_on self.old }
+        ensures setup { started_by self.new ≡ started_by self.old }
+        ensures kept { (row : Row) → Passed self.old row → Passed self.new row }
+        ensures took { (row : Row) → result ≡ found.Row row → Passed self.new row }
+    {
+        if !self.arms[self.turn].is_open() {
+            self.advance();
+            return Found::Other;
+        }
+        match take_one(&mut self.arms, self.turn) {
+            None => Found::Nothing,
+            Some(Item::Entry(row)) => {
+                self.advance();
+                if self.stopped {
+                    return Found::Other;
+                }
+                Found::Row(row)
+            }
+            Some(Item::End(_)) => self.end_of_lane(false),
+            Some(Item::Stop) => self.end_of_lane(true),
+        }
+    }
+
+    /// Gives the turn to the next arm.
+    fn advance(&mut self)
+        ensures source { started_on self.new ≡ started_on self.old }
+        ensures setup { started_by self.new ≡ started_by self.old }
+        ensures arms { self.new.arms ≡ self.old.arms }
+    {
+        if self.turn + 1 < self.arms.len() {
+            self.turn += 1;
+        } else {
+            self.turn = 0;
+        }
+    }
+
+    /// A lane has ended, by a stop or by an end. With the last one the source has.
+    fn end_of_lane(&mut self, by_stop: bool) -> Found
+        ensures source { started_on self.new ≡ started_on self.old }
+        ensures setup { started_by self.new ≡ started_by self.old }
+        ensures arms { self.new.arms ≡ self.old.arms }
+        ensures no_row { (row : Row) → result ≡ found.Row row → ⊥ }
+    {
+        self.advance();
+        self.stopped = self.stopped || by_stop;
+        if self.arms.iter().any(|arm| arm.is_open()) {
+            Found::Other
+        } else if self.stopped {
+            Found::Stop
+        } else {
+            Found::End
+        }
+    }
+
+    /// Joins the threads and confirms all lanes. The answer is the number of entries of the source.
+    ///
+    /// # Errors
+    ///
+    /// The lowest of the causes that were met: those of reading, and `Unconfirmed` where a lane is not confirmed, or
+    /// where the lanes ended otherwise than the reader did.
+    pub(crate) fn finish(self, rt: &impl Threads) -> Result<u32, Cause>
+        ensures { HasPassed (R.remaining (started_on self)) (delimiter_of (started_by self)) result (Passed self) }
+    {
+        let Link {
+            reader,
+            arms,
+            turn: _,
+            stopped: _,
+        } = self;
+        let Reading { closed, outcome } = reader.join(rt);
+        match join_arms(rt, arms, closed) {
+            Ok(ended) => {
+                if ended == outcome.is_ok() {
+                    return outcome;
+                }
+                Err(unconfirmed_or_lower(outcome))
+            }
+            Err(_) => Err(unconfirmed_or_lower(outcome)),
+        }
+    }
+}
+
+/// `Unconfirmed`, unless the reader met a lower cause.
+fn unconfirmed_or_lower(outcome: Result<u32, Cause>) -> Cause
+    ensures { IsOfThreads result }
+{
+    match outcome {
+        Err(Cause::NoMemory) => Cause::NoMemory,
+        _ => Cause::Unconfirmed,
+    }
+}
+
+/// The arms of a source, and the senders that feed them.
+struct Fan {
+    arms: Vec<Arm>,
+    senders: Vec<Sender<Entry>>,
+}
+
+impl Fan {
+    /// Starts the converters of a source.
+    fn start<'s, 'e, T: Threads + Wait + Sync, G: Gate + Sync>(
+        scope: &'s Scope<'s, &'e ()>,
+        rt: &'e T,
+        gate: &'e G,
+        alloc: Global,
+        setup: &'e Setup,
+    ) -> Result<Fan, StartFault>
+        ensures fed { IfOk result (λ f. map feeding_lane f.arms.items ≡ map sender_lane f.senders.items) }
+        ensures count { IfOk result (λ f. (vec_len f.senders ≡ stripes_of setup.entry.now) × (vec_len f.arms ≡ stripes_of setup.entry.now)) }
+        ensures fresh { IfOk result (λ f. All (λ s. sent s ≡ []) f.senders.items) }
+    {
+        let stripes = setup.stripes();
+        let Ok(mut arms) = Vec::with_capacity(alloc, stripes) else {
+            return Err(StartFault::NoMemory);
+        };
+        let Ok(mut senders) = Vec::with_capacity(alloc, stripes) else {
+            return Err(StartFault::NoMemory);
+        };
+        for _ in 0..stripes {
+            match Arm::start(scope, rt, gate, alloc, setup) {
+                Ok((sender, arm)) => {
+                    senders.push_reserved(sender);
+                    arms.push_reserved(arm);
+                }
+                Err(cause) => {
+                    drop(senders);
+                    call_off(rt, arms);
+                    return Err(cause);
+                }
+            }
+        }
+        Ok(Fan { arms, senders })
+    }
+}

@@ -1,0 +1,140 @@
+//! The work of the thread that reads a source.
+
+ghost use Rattle.std.specs.Prelude.{◌≡◌, ◌<◌, ◌≤◌, [], All, List, map, vec_capacity, vec_len};
+ghost use Rattle.lane_rings.specs.Lane.{HasConfirmation, all_sent, sender_lane, sent};
+ghost use Rattle.register_records.specs.Entries.{Numbered};
+ghost use Rattle.register_records.specs.Views.{delimiter_of};
+ghost use Rattle.register_run.specs.Passages.{AreAmong, AreOfLanes, IsCauseOf, IsNotSunk, IsOfLane, IsReading, Sends};
+
+use lane_rings::{Closed, Sender};
+use register_records::{Cause, Entry, EntryFault, EntryReader, Setup};
+use std::alloc::Global;
+use std::io::Read;
+use std::sync::Wait;
+
+/// What a reader hands back: what is left of its ends of the lanes, and the number of entries that it sent, or why it
+/// stopped.
+#[derive(Drop)]
+pub(crate) struct Reading {
+    pub(crate) closed: Vec<Closed<Entry>>,
+    pub(crate) outcome: Result<u32, Cause>,
+}
+
+/// Sends the entries of a source to the converters by turns, and ends their lanes.
+pub(crate) fn read_source<R: Read + Drop>(
+    rt: &impl Wait,
+    alloc: Global,
+    source: R,
+    setup: &Setup,
+    senders: Vec<Sender<Entry>>,
+    closed: Vec<Closed<Entry>>,
+) -> Reading
+    requires some { 0 < vec_len senders }
+    requires room { vec_len senders ≤ vec_capacity closed }
+    requires none { closed.items ≡ [] }
+    requires fresh { All (λ s. sent s ≡ []) senders.items }
+    ensures { IsReading (R.remaining source) (delimiter_of setup.now) (map sender_lane senders.items) result }
+{
+    let mut senders = senders;
+    let outcome = send_entries(rt, alloc, source, setup, &mut senders);
+    let closed = close_all(rt, senders, closed, outcome);
+    Reading { closed, outcome }
+}
+
+/// The cause that a fault of reading is.
+fn cause_of(fault: EntryFault) -> Cause
+    ensures { IsCauseOf fault result }
+{
+    match fault.cause() {
+        Some(cause) => cause,
+        None => Cause::Unconfirmed,
+    }
+}
+
+/// Sends each entry of a source, the first to the first converter, the next to the next one, and so on by turns. The
+/// answer is the number of entries.
+///
+/// # Errors
+///
+/// The cause of the fault of reading that was met, and `Unconfirmed` where a converter is gone.
+fn send_entries<R: Read + Drop>(
+    rt: &impl Wait,
+    alloc: Global,
+    source: R,
+    setup: &Setup,
+    senders: &mut Vec<Sender<Entry>>,
+) -> Result<u32, Cause>
+    requires some { 0 < vec_len senders.old }
+    requires fresh { All (λ s. sent s ≡ []) senders.old.items }
+    ensures lanes { map sender_lane senders.new.items ≡ map sender_lane senders.old.items }
+    ensures not_sunk { IsNotSunk result }
+    ensures sends { ∥ Sends (R.remaining source) (delimiter_of setup.now) result senders.new.items ∥₁ }
+{
+    let mut entries = match EntryReader::open(alloc, source, setup) {
+        Ok(entries) => entries,
+        Err(fault) => return Err(cause_of(fault)),
+    };
+    let mut count = 0;
+    for _ in rt.forever() {
+        let entry = match entries.next() {
+            Ok(Some(entry)) => entry,
+            Ok(None) => return Ok(count),
+            Err(fault) => return Err(cause_of(fault)),
+        };
+        count = entry.number();
+        let turn = (count - 1) as usize % senders.len();
+        let sender = &mut senders[turn];
+        if sender.send(rt, entry).is_err() {
+            return Err(Cause::Unconfirmed);
+        }
+    }
+    unreachable!()
+}
+
+/// Ends each lane: with the number of its entries where the source was read to its end, else with a stop.
+fn close_all(
+    rt: &impl Wait,
+    senders: Vec<Sender<Entry>>,
+    closed: Vec<Closed<Entry>>,
+    outcome: Result<u32, Cause>,
+) -> Vec<Closed<Entry>>
+    requires some { 0 < vec_len senders }
+    requires room { vec_len senders ≤ vec_capacity closed }
+    requires none { closed.items ≡ [] }
+    ensures from { AreOfLanes (map sender_lane senders.items) result.items }
+    ensures sent { (given : List Numbered) → All (λ s. AreAmong given (sent s)) senders.items
+        → All (λ c. HasConfirmation c → AreAmong given (all_sent c)) result.items }
+{
+    let stripes = senders.len();
+    let mut closed = closed;
+    let mut turn = 0usize;
+    for sender in senders {
+        let last = match outcome {
+            Ok(count) => Some(share_of(count, turn, stripes)),
+            Err(_) => None,
+        };
+        closed.push_reserved(close_one(rt, sender, last));
+        turn = turn.saturating_add(1);
+    }
+    closed
+}
+
+/// How many of so many entries go to the converter with this turn, from 0, among so many converters.
+fn share_of(count: u32, turn: usize, stripes: usize) -> u64
+    requires { 0 < stripes }
+{
+    let count = count as usize;
+    let one_more = turn < count % stripes;
+    (count / stripes) as u64 + u64::from(one_more)
+}
+
+/// Ends a lane with this count, or with a stop where there is none.
+fn close_one(rt: &impl Wait, sender: Sender<Entry>, count: Option<u64>) -> Closed<Entry>
+    ensures lane { IsOfLane (sender_lane sender) result }
+    ensures sent { (given : List Numbered) → AreAmong given (sent sender) → HasConfirmation result → AreAmong given (all_sent result) }
+{
+    match count {
+        Some(count) => sender.close(rt, count),
+        None => sender.stop(rt),
+    }
+}

@@ -1,0 +1,57 @@
+//! How a run ends.
+
+ghost use Rattle.std.specs.Prelude.{◌≡◌};
+
+use register_records::SourceEnd;
+
+/// Whether all sources of a run are whole.
+#[derive(Clone, Copy, PartialEq, Eq, Debug)]
+pub enum Verdict {
+    /// Every source is whole, also where there is none.
+    Complete,
+    /// A source is broken.
+    Incomplete,
+}
+
+/// The outputs and the ends of the sources of a run, each in the order of the sources.
+#[derive(Drop)]
+pub struct Report<W> {
+    pub outputs: Vec<W>,
+    pub ends: Vec<SourceEnd>,
+    pub verdict: Verdict,
+}
+
+/// Why a run did not begin: the first of these that applies.
+#[derive(Clone, Copy, PartialEq, Eq, Debug)]
+pub enum RunFaultKind {
+    /// There are more than 32 sources.
+    TooManySources,
+    /// There are not as many outputs as sources.
+    OutputCount,
+    /// A list that the run needs was refused its memory.
+    NoMemory,
+}
+
+/// A run that did not begin. The sources and the outputs are handed back: no thread was started, and nothing was read
+/// or written.
+#[derive(Drop)]
+pub struct RunFault<R, W> {
+    pub kind: RunFaultKind,
+    pub sources: Vec<R>,
+    pub outputs: Vec<W>,
+}
+
+impl RunFaultKind {
+    ghost use Rattle.register_run.specs.Reports.{run_fault_number};
+
+    /// The number of the fault, from 1 for `TooManySources` to 3 for `NoMemory`.
+    pub fn number(&self) -> u8
+        ensures { result ≡ run_fault_number self.now }
+    {
+        match self {
+            RunFaultKind::TooManySources => 1,
+            RunFaultKind::OutputCount => 2,
+            RunFaultKind::NoMemory => 3,
+        }
+    }
+}

@@ -1,0 +1,371 @@
+//! The run over a list of sources.
+
+ghost use Rattle.std.specs.Prelude.{◌≡◌, ◌≢◌, ◌<◌, ◌≤◌, ◌↔◌, [], All, IfErr, IfOk, IfSome, IsErrAnd, map, true, false, vec_capacity, vec_len};
+ghost use Rattle.register_records.specs.Entries.{HasNoHeader, HasTooMany};
+ghost use Rattle.register_records.specs.Sources.{ArePartOfTable, Gains, IfBroken, IfWhole, IsWholeTable, is_whole_end};
+ghost use Rattle.register_records.specs.Views.{delimiter_of, layout_of};
+ghost use Rattle.register_run.specs.Cases.{cases, end_of, ended_case, output_of};
+ghost use Rattle.register_run.specs.Headline.{AreRowsInOrder, AtEachPlace};
+ghost use Rattle.register_run.specs.Passages.{is_of_reading};
+ghost use Rattle.register_run.specs.Reports.{IsReport};
+ghost use Rattle.register_run.specs.Stations.{case_of};
+
+use crate::gates::{Gate, Open};
+use crate::reports::{Report, RunFault, RunFaultKind, Verdict};
+use crate::settling::Settled;
+use crate::stations::Station;
+use register_records::{Cause, Output, Setup, SourceEnd};
+use std::alloc::{AllocError, Global};
+use std::io::Read;
+use std::sync::Wait;
+use std::thread;
+use std::thread::{Scope, Threads};
+
+/// The most sources of a run.
+const MAX_SOURCES: usize = 32;
+
+/// Starts the threads of each source.
+fn start_all<'s, 'e, T: Threads + Wait + Sync, R: Read + Send + Drop + 'e, W: Output + Drop, G: Gate + Sync>(
+    scope: &'s Scope<'s, &'e ()>,
+    rt: &'e T,
+    gate: &'e G,
+    alloc: Global,
+    setup: &'e Setup,
+    sources: Vec<R>,
+    outputs: Vec<W>,
+    stations: Vec<Station<R, W>>,
+) -> Vec<Station<R, W>>
+    requires same { vec_len sources ≡ vec_len outputs }
+    requires room { vec_len sources ≤ vec_capacity stations }
+    requires none { stations.items ≡ [] }
+    ensures len { vec_len result ≡ vec_len sources }
+    ensures cases { map case_of result.items ≡ cases setup.entry.now sources.items outputs.items }
+{
+    let mut stations = stations;
+    let mut rest = outputs.into_iter();
+    for source in sources {
+        let Some(output) = rest.next() else {
+            unreachable!()
+        };
+        stations.push_reserved(Station::start(scope, rt, gate, alloc, setup, source, output));
+    }
+    stations
+}
+
+/// Visits each source once. The answer is whether there was an item at one of them.
+fn round<R: Read + Drop, W: Output + Drop>(stations: &mut Vec<Station<R, W>>) -> bool
+    ensures len { vec_len stations.new ≡ vec_len stations.old }
+    ensures cases { map case_of stations.new.items ≡ map case_of stations.old.items }
+{
+    let mut moved = false;
+    for i in 0..stations.len() {
+        let station = &mut stations[i];
+        if station.visit() {
+            moved = true;
+        }
+    }
+    moved
+}
+
+/// Takes from all sources and writes until each has ended. After a round that found nothing it yields at once.
+fn drive<R: Read + Drop, W: Output + Drop>(rt: &impl Wait, stations: &mut Vec<Station<R, W>>)
+    ensures len { vec_len stations.new ≡ vec_len stations.old }
+    ensures cases { map case_of stations.new.items ≡ map case_of stations.old.items }
+{
+    for _ in rt.forever() {
+        if !stations.iter().any(|station| station.is_open()) {
+            break;
+        }
+        if !round(stations) {
+            thread::yield_now();
+        }
+    }
+}
+
+/// Joins the threads of each source and settles how it ended.
+fn settle_all<R: Read + Drop, W: Output + Drop>(
+    rt: &impl Threads,
+    stations: Vec<Station<R, W>>,
+    settled: Vec<Settled<R, W>>,
+) -> Vec<Settled<R, W>>
+    requires room { vec_len stations ≤ vec_capacity settled }
+    requires none { settled.items ≡ [] }
+    ensures len { vec_len result ≡ vec_len stations }
+    ensures cases { map ended_case result.items ≡ map case_of stations.items }
+{
+    let mut settled = settled;
+    for station in stations {
+        settled.push_reserved(station.finish(rt));
+    }
+    settled
+}
+
+/// The outputs and the ends, in the order of the sources.
+fn report<R: Read + Drop, W: Output + Drop>(
+    settled: Vec<Settled<R, W>>,
+    outputs: Vec<W>,
+    ends: Vec<SourceEnd>,
+) -> Report<W>
+    requires room { (vec_len settled ≤ vec_capacity outputs) × (vec_len settled ≤ vec_capacity ends) }
+    requires none { (outputs.items ≡ []) × (ends.items ≡ []) }
+    ensures outputs { result.outputs.items ≡ map output_of settled.items }
+    ensures ends { result.ends.items ≡ map end_of settled.items }
+    ensures verdict { (result.verdict ≡ Verdict.Complete) ↔ All (λ e. is_whole_end e ≡ true) result.ends.items }
+{
+    let mut outputs = outputs;
+    let mut ends = ends;
+    for one in settled {
+        let Settled {
+            source: _,
+            given: _,
+            setup: _,
+            output,
+            end,
+        } = one;
+        outputs.push_reserved(output);
+        ends.push_reserved(end);
+    }
+    let verdict = verdict_of(&ends);
+    Report {
+        outputs,
+        ends,
+        verdict,
+    }
+}
+
+/// Complete exactly where every source is whole.
+fn verdict_of(ends: &[SourceEnd]) -> Verdict
+    ensures { (result ≡ Verdict.Complete) ↔ All (λ e. is_whole_end e ≡ true) ends.now }
+{
+    if ends.iter().all(|end| end.is_whole()) {
+        Verdict::Complete
+    } else {
+        Verdict::Incomplete
+    }
+}
+
+/// The lists that a run needs before any start.
+#[derive(Drop)]
+struct Lists<R: Read, W: Output> {
+    count: usize,
+    stations: Vec<Station<R, W>>,
+    settled: Vec<Settled<R, W>>,
+    outputs: Vec<W>,
+    ends: Vec<SourceEnd>,
+    ghost empty: { (stations.items ≡ []) × (settled.items ≡ []) × (outputs.items ≡ []) × (ends.items ≡ []) },
+    ghost room: { (count ≤ vec_capacity stations) × (count ≤ vec_capacity settled) × (count ≤ vec_capacity outputs) × (count ≤ vec_capacity ends) },
+}
+
+/// Makes the lists, with room for so many sources.
+fn reserve<R: Read + Drop, W: Output + Drop>(
+    alloc: Global,
+    count: usize,
+) -> Result<Lists<R, W>, AllocError>
+    ensures { IfOk result (λ l. l.count ≡ count) }
+{
+    let stations = Vec::with_capacity(alloc, count)?;
+    let settled = Vec::with_capacity(alloc, count)?;
+    let outputs = Vec::with_capacity(alloc, count)?;
+    let ends = Vec::with_capacity(alloc, count)?;
+    Ok(Lists {
+        count,
+        stations,
+        settled,
+        outputs,
+        ends,
+    })
+}
+
+/// Hands the lists back with a fault.
+fn refused<R, W>(kind: RunFaultKind, sources: Vec<R>, outputs: Vec<W>) -> RunFault<R, W>
+    ensures { (result.kind ≡ kind) × (result.sources ≡ sources) × (result.outputs ≡ outputs) }
+{
+    RunFault {
+        kind,
+        sources,
+        outputs,
+    }
+}
+
+/// The run, inside the scope of its threads.
+fn run_all<'s, 'e, T: Threads + Wait + Sync, R: Read + Send + Drop + 'e, W: Output + Drop, G: Gate + Sync>(
+    scope: &'s Scope<'s, &'e ()>,
+    rt: &'e T,
+    gate: &'e G,
+    alloc: Global,
+    setup: &'e Setup,
+    sources: Vec<R>,
+    outputs: Vec<W>,
+    lists: Lists<R, W>,
+) -> Report<W>
+    requires { (vec_len sources ≡ lists.count) × (vec_len outputs ≡ lists.count) }
+    ensures { IsReport R.remaining W.contents W.has_failed W.is_flushed W.own_mark (layout_of setup.entry.now) sources.items outputs.items result }
+{
+    let Lists {
+        count: _,
+        stations,
+        settled,
+        outputs: written,
+        ends,
+    } = lists;
+    let mut stations = start_all(scope, rt, gate, alloc, setup, sources, outputs, stations);
+    drive(rt, &mut stations);
+    let settled = settle_all(rt, stations, settled);
+    report(settled, written, ends)
+}
+
+/// The run, with threads that end before it answers.
+fn run_in_scope<T: Threads + Wait + Sync, R: Read + Send + Drop, W: Output + Drop, G: Gate + Sync>(
+    rt: &T,
+    gate: &G,
+    alloc: Global,
+    setup: &Setup,
+    sources: Vec<R>,
+    outputs: Vec<W>,
+    lists: Lists<R, W>,
+) -> Report<W>
+    requires { (vec_len sources ≡ lists.count) × (vec_len outputs ≡ lists.count) }
+    ensures { IsReport R.remaining W.contents W.has_failed W.is_flushed W.own_mark (layout_of setup.now) sources.items outputs.items result }
+{
+    thread::scope(
+        thread::scope_env(),
+        rt,
+        move |scope| -> Report<W>
+            requires { (vec_len sources ≡ lists.count) × (vec_len outputs ≡ lists.count) }
+            ensures { IsReport R.remaining W.contents W.has_failed W.is_flushed W.own_mark (layout_of setup.entry.now) sources.items outputs.items result }
+        { run_all(scope, rt, gate, alloc, setup, sources, outputs, lists) },
+    )
+}
+
+/// Converts many sources at once: each source is read on a thread of its own and converted on further ones, and this
+/// thread writes the tables, that of each source to the output at its place. `setup` says for which targets, with which
+/// delimiter, and with how many converters and how large rings for each source. Before the row of an entry is sent, its
+/// converter passes `gate`.
+///
+/// A source ends `Whole` where its table was written, and else `Broken` with the lowest of the causes that were met. The
+/// faults of one source leave the others alone.
+///
+/// # Errors
+///
+/// The first that applies of `TooManySources` with more than 32 sources, `OutputCount` where there are not as many
+/// outputs as sources, and `NoMemory` where a list that the run needs is refused its memory. The sources and the
+/// outputs are handed back as they were.
+pub fn run_gated<T: Threads + Wait + Sync, R: Read + Send + Drop, W: Output + Drop, G: Gate + Sync>(
+    rt: &T,
+    alloc: Global,
+    sources: Vec<R>,
+    outputs: Vec<W>,
+    setup: &Setup,
+    gate: &G,
+) -> Result<Report<W>, RunFault<R, W>>
+    // The headline. A source that is whole has its table in its output: the output there has gained exactly the table
+    // of the source's text, and nothing else.
+    ensures whole { IfOk result (λ r. AtEachPlace sources.items outputs.items r.outputs.items r.ends.items (λ source given written end.
+        IfWhole end (λ rows refused journal. ∥ Gains (W.contents given) (W.contents written)
+        (IsWholeTable (layout_of setup.now) (R.remaining source) rows refused journal) ∥₁))) }
+    ensures handed_on { IfOk result (λ r. AtEachPlace sources.items outputs.items r.outputs.items r.ends.items (λ source given written end.
+        IfWhole end (λ rows refused journal. W.is_flushed written ≡ true))) }
+    ensures verdict { IfOk result (λ r. (r.verdict ≡ Verdict.Complete) ↔ All (λ e. is_whole_end e ≡ true) r.ends.items) }
+    ensures marks { IfOk result (λ r. map W.own_mark r.outputs.items ≡ map W.own_mark outputs.items) }
+    ensures lengths { IfOk result (λ r. (vec_len r.outputs ≡ vec_len outputs) × (vec_len r.ends ≡ vec_len sources)) }
+
+    // A source that is broken for a cause of reading leaves a front of its table, or nothing.
+    ensures part { IfOk result (λ r. AtEachPlace sources.items outputs.items r.outputs.items r.ends.items (λ source given written end.
+        IfBroken end (λ c. is_of_reading c ≡ true → ∥ Gains (W.contents given) (W.contents written)
+        (ArePartOfTable (layout_of setup.now) (R.remaining source)) ∥₁))) }
+    ensures bad_header { IfOk result (λ r. AtEachPlace sources.items outputs.items r.outputs.items r.ends.items (λ source given written end.
+        IfBroken end (λ c. c ≡ Cause.BadHeader → (written ≡ given)
+        × IfSome (R.remaining source) (λ text. HasNoHeader (delimiter_of setup.now) text)))) }
+    ensures too_many_records { IfOk result (λ r. AtEachPlace sources.items outputs.items r.outputs.items r.ends.items (λ source given written end.
+        IfBroken end (λ c. c ≡ Cause.TooManyRecords
+        → ∥ IfSome (R.remaining source) (λ text. HasTooMany (delimiter_of setup.now) text) ∥₁))) }
+
+    // Whatever the cause, an output that has not failed has gained rows in the order of their numbers, from 1.
+    ensures in_order { IfOk result (λ r. AtEachPlace sources.items outputs.items r.outputs.items r.ends.items (λ source given written end.
+        IfBroken end (λ c. W.has_failed written ≡ false → ∥ Gains (W.contents given) (W.contents written)
+        (AreRowsInOrder (layout_of setup.now)) ∥₁))) }
+
+    // An output is the cause only where it has failed, and has failed as little as before with a whole source and with
+    // the causes of reading.
+    ensures sink { IfOk result (λ r. AtEachPlace sources.items outputs.items r.outputs.items r.ends.items (λ source given written end.
+        IfBroken end (λ c. c ≡ Cause.SinkFault → W.has_failed written ≡ true))) }
+    ensures kept { IfOk result (λ r. AtEachPlace sources.items outputs.items r.outputs.items r.ends.items (λ source given written end.
+        IfBroken end (λ c. is_of_reading c ≡ true → W.has_failed written ≡ W.has_failed given))) }
+    ensures good { IfOk result (λ r. AtEachPlace sources.items outputs.items r.outputs.items r.ends.items (λ source given written end.
+        IfWhole end (λ rows refused journal. W.has_failed written ≡ W.has_failed given))) }
+
+    // A run that did not begin.
+    ensures unchanged { IfErr result (λ e. (e.sources ≡ sources) × (e.outputs ≡ outputs)) }
+    ensures too_many_sources { IsErrAnd result (λ e. e.kind ≡ RunFaultKind.TooManySources) ↔ (MAX_SOURCES < vec_len sources) }
+    ensures output_count { IsErrAnd result (λ e. e.kind ≡ RunFaultKind.OutputCount)
+        ↔ ((vec_len sources ≤ MAX_SOURCES) × (vec_len outputs ≢ vec_len sources)) }
+{
+    let count = sources.len();
+    if count > MAX_SOURCES {
+        return Err(refused(RunFaultKind::TooManySources, sources, outputs));
+    }
+    if outputs.len() != count {
+        return Err(refused(RunFaultKind::OutputCount, sources, outputs));
+    }
+    let Ok(lists) = reserve(alloc, count) else {
+        return Err(refused(RunFaultKind::NoMemory, sources, outputs));
+    };
+    Ok(run_in_scope(rt, gate, alloc, setup, sources, outputs, lists))
+}
+
+/// Converts many sources at once, as [`run_gated`] does with the gate [`Open`].
+///
+/// # Errors
+///
+/// As those of [`run_gated`].
+pub fn run<T: Threads + Wait + Sync, R: Read + Send + Drop, W: Output + Drop>(
+    rt: &T,
+    alloc: Global,
+    sources: Vec<R>,
+    outputs: Vec<W>,
+    setup: &Setup,
+) -> Result<Report<W>, RunFault<R, W>>
+    // The headline. A source that is whole has its table in its output: the output there has gained exactly the table
+    // of the source's text, and nothing else.
+    ensures whole { IfOk result (λ r. AtEachPlace sources.items outputs.items r.outputs.items r.ends.items (λ source given written end.
+        IfWhole end (λ rows refused journal. ∥ Gains (W.contents given) (W.contents written)
+        (IsWholeTable (layout_of setup.now) (R.remaining source) rows refused journal) ∥₁))) }
+    ensures handed_on { IfOk result (λ r. AtEachPlace sources.items outputs.items r.outputs.items r.ends.items (λ source given written end.
+        IfWhole end (λ rows refused journal. W.is_flushed written ≡ true))) }
+    ensures verdict { IfOk result (λ r. (r.verdict ≡ Verdict.Complete) ↔ All (λ e. is_whole_end e ≡ true) r.ends.items) }
+    ensures marks { IfOk result (λ r. map W.own_mark r.outputs.items ≡ map W.own_mark outputs.items) }
+    ensures lengths { IfOk result (λ r. (vec_len r.outputs ≡ vec_len outputs) × (vec_len r.ends ≡ vec_len sources)) }
+
+    // A source that is broken for a cause of reading leaves a front of its table, or nothing.
+    ensures part { IfOk result (λ r. AtEachPlace sources.items outputs.items r.outputs.items r.ends.items (λ source given written end.
+        IfBroken end (λ c. is_of_reading c ≡ true → ∥ Gains (W.contents given) (W.contents written)
+        (ArePartOfTable (layout_of setup.now) (R.remaining source)) ∥₁))) }
+    ensures bad_header { IfOk result (λ r. AtEachPlace sources.items outputs.items r.outputs.items r.ends.items (λ source given written end.
+        IfBroken end (λ c. c ≡ Cause.BadHeader → (written ≡ given)
+        × IfSome (R.remaining source) (λ text. HasNoHeader (delimiter_of setup.now) text)))) }
+    ensures too_many_records { IfOk result (λ r. AtEachPlace sources.items outputs.items r.outputs.items r.ends.items (λ source given written end.
+        IfBroken end (λ c. c ≡ Cause.TooManyRecords
+        → ∥ IfSome (R.remaining source) (λ text. HasTooMany (delimiter_of setup.now) text) ∥₁))) }
+
+    // Whatever the cause, an output that has not failed has gained rows in the order of their numbers, from 1.
+    ensures in_order { IfOk result (λ r. AtEachPlace sources.items outputs.items r.outputs.items r.ends.items (λ source given written end.
+        IfBroken end (λ c. W.has_failed written ≡ false → ∥ Gains (W.contents given) (W.contents written)
+        (AreRowsInOrder (layout_of setup.now)) ∥₁))) }
+
+    // An output is the cause only where it has failed, and has failed as little as before with a whole source and with
+    // the causes of reading.
+    ensures sink { IfOk result (λ r. AtEachPlace sources.items outputs.items r.outputs.items r.ends.items (λ source given written end.
+        IfBroken end (λ c. c ≡ Cause.SinkFault → W.has_failed written ≡ true))) }
+    ensures kept { IfOk result (λ r. AtEachPlace sources.items outputs.items r.outputs.items r.ends.items (λ source given written end.
+        IfBroken end (λ c. is_of_reading c ≡ true → W.has_failed written ≡ W.has_failed given))) }
+    ensures good { IfOk result (λ r. AtEachPlace sources.items outputs.items r.outputs.items r.ends.items (λ source given written end.
+        IfWhole end (λ rows refused journal. W.has_failed written ≡ W.has_failed given))) }
+
+    // A run that did not begin.
+    ensures unchanged { IfErr result (λ e. (e.sources ≡ sources) × (e.outputs ≡ outputs)) }
+    ensures too_many_sources { IsErrAnd result (λ e. e.kind ≡ RunFaultKind.TooManySources) ↔ (MAX_SOURCES < vec_len sources) }
+    ensures output_count { IsErrAnd result (λ e. e.kind ≡ RunFaultKind.OutputCount)
+        ↔ ((vec_len sources ≤ MAX_SOURCES) × (vec_len outputs ≢ vec_len sources)) }
+{
+    run_gated(rt, alloc, sources, outputs, setup, &Open)
+}

@@ -1,0 +1,90 @@
+//! What is left of a source when its threads have been joined.
+
+ghost use Rattle.std.specs.Prelude.{◌≡◌, ◌≢◌, ◌≤◌, ◌⊎◌, None, Some, Ok, Err, IfSome, true, false, length, vec_len};
+ghost use Rattle.register_records.specs.Sources.{IfBroken, IfWhole, cause_number};
+ghost use Rattle.register_records.specs.Views.{layout_of};
+ghost use Rattle.register_records.specs.declared.sources.Cause.TheVariants as cause;
+ghost use Rattle.register_records.specs.declared.sources.SourceEnd.TheVariants as ended;
+ghost use Rattle.register_run.specs.Passages.{IsNotSunk, is_of_reading};
+ghost use Rattle.register_run.specs.Headline.{IsSettled};
+
+use register_records::{Cause, Note, Output, Setup, SourceEnd};
+use std::io::Read;
+use std::snapshot::Snapshot;
+
+/// A source that has ended: its output, and how it ended.
+#[derive(Drop)]
+pub(crate) struct Settled<R: Read, W: Output> {
+    pub(crate) source: Snapshot<R>,
+    pub(crate) given: Snapshot<W>,
+    pub(crate) setup: Snapshot<Setup>,
+    pub(crate) output: W,
+    pub(crate) end: SourceEnd,
+    pub ghost marked: { W.own_mark output ≡ W.own_mark given.value },
+    pub ghost untouched: { end ≡ ended.Broken cause.BadHeader → output ≡ given.value },
+    pub ghost settled: { ∥ IsSettled W.contents W.has_failed W.is_flushed (layout_of setup.value) (R.remaining source.value) given.value output end ∥₁ },
+}
+
+/// The lower of two causes, which is the one that is told.
+pub(crate) fn lower(one: Cause, other: Cause) -> Cause
+    ensures one_of { (result ≡ one) ⊎ (result ≡ other) }
+    ensures lowest { (cause_number result ≤ cause_number one) × (cause_number result ≤ cause_number other) }
+{
+    if one.number() <= other.number() {
+        one
+    } else {
+        other
+    }
+}
+
+/// How a source ended: by what its threads answered, by why no more was written, and by what was written: whether the
+/// heading was, how many rows, and their journal.
+pub(crate) fn end_of_source(
+    passed: Result<u32, Cause>,
+    fault: Option<Cause>,
+    headed: bool,
+    rows: u32,
+    journal: Vec<Note>,
+) -> SourceEnd
+    requires few { vec_len journal ≤ rows }
+    requires not_sunk { IsNotSunk passed }
+    requires not_reading { IfSome fault (λ c. is_of_reading c ≡ false) }
+    ensures whole { IfWhole result (λ count refused notes. (passed ≡ Ok count) × (fault ≡ None) × (headed ≡ true) × (count ≡ rows)
+        × (refused ≡ length notes) × (notes ≡ journal.items)) }
+    ensures reading { IfBroken result (λ c. is_of_reading c ≡ true → (passed ≡ Err c) × (fault ≡ None) × (headed ≡ true → rows ≢ 0)) }
+    ensures sink { IfBroken result (λ c. c ≡ cause.SinkFault → fault ≡ Some cause.SinkFault) }
+{
+    match passed {
+        Ok(count) => match fault {
+            None => {
+                if headed && rows == count {
+                    let refused = journal.len() as u32;
+                    return SourceEnd::Whole {
+                        rows,
+                        refused,
+                        journal,
+                    };
+                }
+                broken(Cause::Unconfirmed)
+            }
+            Some(cause) => broken(cause),
+        },
+        Err(cause) => match fault {
+            None => {
+                // A reader that gave up has sent no end, so no heading was written but before a row.
+                if headed && rows == 0 {
+                    return broken(lower(cause, Cause::Unconfirmed));
+                }
+                broken(cause)
+            }
+            Some(other) => broken(lower(cause, other)),
+        },
+    }
+}
+
+/// The end of a source that broke off for this cause.
+fn broken(cause: Cause) -> SourceEnd
+    ensures { result ≡ SourceEnd.Broken cause }
+{
+    SourceEnd::Broken { cause }
+}

@@ -1,0 +1,121 @@
+//! A source's place at the thread that writes.
+
+ghost use Rattle.std.specs.Prelude.{◌≡◌};
+ghost use Rattle.register_run.specs.Feeds.{fed_by};
+ghost use Rattle.register_run.specs.TablesWritten.{made_by};
+ghost use Rattle.register_run.specs.Written.{Wrote};
+
+use crate::feeds::Feed;
+use crate::gates::Gate;
+use crate::links::Found;
+use crate::settling::Settled;
+use crate::tables::Table;
+use register_records::{Output, Setup};
+use std::alloc::Global;
+use std::io::Read;
+use std::sync::Wait;
+use std::thread::{Scope, Threads};
+
+/// How many items are taken at most before a source's lines are written and the next source has its turn.
+const MOST_AT_ONCE: u32 = 1024;
+
+/// The threads of a source, and its table.
+#[derive(Drop)]
+pub(crate) struct Station<R: Read, W: Output> {
+    feed: Feed<R>,
+    table: Table<W>,
+    // Whether items may still come.
+    open: bool,
+    ghost by_one_setup: { fed_by feed ≡ made_by table },
+    ghost wrote: { ∥ Wrote feed table ∥₁ },
+}
+
+impl<R: Read + Drop, W: Output + Drop> Station<R, W> {
+    ghost use Rattle.register_run.specs.Cases.{case, ended_case};
+    ghost use Rattle.register_run.specs.Stations.{case_of};
+
+    /// Starts the threads of a source.
+    pub(crate) fn start<'s, 'e, T: Threads + Wait + Sync, G: Gate + Sync>(
+        scope: &'s Scope<'s, &'e ()>,
+        rt: &'e T,
+        gate: &'e G,
+        alloc: Global,
+        setup: &'e Setup,
+        source: R,
+        output: W,
+    ) -> Station<R, W>
+    where
+        R: Send + 'e,
+        ensures { case_of result ≡ case source output setup.entry.now }
+    {
+        let table = Table::new(alloc, output, setup);
+        Station {
+            feed: Feed::start(scope, rt, gate, alloc, setup, source),
+            table,
+            open: true,
+        }
+    }
+
+    /// Whether items may still come.
+    pub(crate) fn is_open(&self) -> bool {
+        self.open
+    }
+
+    /// Takes the rows that are there now and writes them in one call. The answer is whether there was an item.
+    pub(crate) fn visit(&mut self) -> bool
+        ensures { case_of self.new ≡ case_of self.old }
+    {
+        let mut moved = false;
+        for _ in 0..MOST_AT_ONCE {
+            if !self.step() {
+                break;
+            }
+            moved = true;
+            if self.table.is_full() {
+                break;
+            }
+        }
+        self.send();
+        moved
+    }
+
+    /// Takes one item, where one is there now, and adds it to the table if it is a row.
+    fn step(&mut self) -> bool
+        ensures { case_of self.new ≡ case_of self.old }
+    {
+        if !self.open {
+            return false;
+        }
+        match self.feed.try_take() {
+            Found::Nothing => return false,
+            Found::Row(row) => self.table.add(&row),
+            Found::Other => {}
+            Found::End => {
+                self.open = false;
+                self.table.head();
+            }
+            Found::Stop => self.open = false,
+        }
+        true
+    }
+
+    /// Writes the lines that wait.
+    fn send(&mut self)
+        ensures { case_of self.new ≡ case_of self.old }
+    {
+        self.table.send();
+    }
+
+    /// Joins the threads and settles how the source ended.
+    pub(crate) fn finish(self, rt: &impl Threads) -> Settled<R, W>
+        ensures { ended_case result ≡ case_of self }
+    {
+        let Station {
+            feed,
+            table,
+            open: _,
+        } = self;
+        let (source, passed) = feed.finish(rt);
+        table.conclude(source, passed)
+    }
+}

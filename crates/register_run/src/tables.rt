@@ -1,0 +1,217 @@
+//! The table of a source, as far as it was written.
+
+ghost use Rattle.std.specs.Prelude.{◌≡◌, ◌+◌, ◌<◌, ◌≤◌, ◌⊎◌, [], ◌∷◌, ◌++◌, None, Some, IfSome, true, false, vec_capacity, vec_len};
+ghost use Rattle.std.specs.Option.{is_some};
+ghost use Rattle.std.proofs.Props.{props};
+ghost use Rattle.register_records.specs.Entries.{record_limit};
+ghost use Rattle.register_records.specs.Tables.{notes_of};
+ghost use Rattle.register_records.specs.Views.{has_sunk, row_seen};
+ghost use Rattle.register_records.specs.declared.sources.Cause.TheVariants as cause;
+ghost use Rattle.register_run.specs.Passages.{is_of_reading};
+
+use crate::settling::{Settled, end_of_source};
+use register_records::laws::tables_grow;
+use register_records::{Cause, Note, Output, Row, RowFault, RowWriter, Setup};
+use std::alloc::Global;
+use std::io::Read;
+use std::snapshot::Snapshot;
+
+/// How many bytes of lines wait at most before they are written, but for the last line.
+const MOST_WAITING: usize = 16 * 1024;
+
+/// An output and what was written to it: the heading, and the lines of the rows that were taken so far, of which some
+/// may wait to be written together.
+#[derive(Drop)]
+pub(crate) struct Table<W: Output> {
+    alloc: Global,
+    setup: Setup,
+    given: Snapshot<W>,
+    output: W,
+    // There is one once the heading was written.
+    writer: Option<RowWriter>,
+    journal: Vec<Note>,
+    rows: u32,
+    // The output failed.
+    sunk: bool,
+    // Why no more is written.
+    fault: Option<Cause>,
+    ghost marked: { W.own_mark output ≡ W.own_mark given.value },
+    ghost failed: { sunk ≡ true → W.has_failed output ≡ true },
+    ghost good: { sunk ≡ false → W.has_failed output ≡ W.has_failed given.value },
+    ghost afloat: { sunk ≡ false → IfSome writer (λ w. has_sunk w ≡ false) } by { Prim.hlevel props },
+    ghost untouched: { is_some writer ≡ false → sunk ≡ false → output ≡ given.value },
+    ghost faultless: { fault ≡ None → sunk ≡ false },
+    ghost sink_told: { fault ≡ Some cause.SinkFault → sunk ≡ true },
+    ghost not_reading: { IfSome fault (λ c. is_of_reading c ≡ false) } by { Prim.hlevel props },
+    ghost limited: { rows ≤ record_limit },
+    ghost few_notes: { vec_len journal ≤ rows },
+}
+
+impl<W: Output + Drop> Table<W> {
+    ghost use Rattle.std.specs.Prelude.{List};
+    ghost use Rattle.register_records.specs.Seen.{entry_number};
+    ghost use Rattle.register_records.specs.Views.{row_entry, row_targets, targets_of};
+    ghost use Rattle.register_records.specs.declared.rows.Row.{Row};
+    ghost use Rattle.register_run.specs.Passages.{IsNotSunk};
+    ghost use Rattle.register_run.specs.TablesWritten.{AllSent, Holds, made_by, made_for};
+    ghost use Rattle.register_run.specs.Written.{Concludes};
+
+    /// The table of a source before its heading.
+    pub(crate) fn new(alloc: Global, output: W, setup: &Setup) -> Table<W>
+        ensures output { made_for result ≡ output }
+        ensures setup { made_by result ≡ setup.now }
+        ensures empty { Holds result [] }
+    {
+        Table {
+            alloc,
+            setup: *setup,
+            given: Snapshot::of(&output),
+            output,
+            writer: None,
+            journal: Vec::new(alloc),
+            rows: 0,
+            sunk: false,
+            fault: None,
+        }
+    }
+
+    /// Whether so many lines wait that they are to be written.
+    pub(crate) fn is_full(&self) -> bool {
+        match &self.writer {
+            Some(writer) => writer.pending_len() >= MOST_WAITING,
+            None => false,
+        }
+    }
+
+    /// Adds a row that was taken, where no fault was met: its line waits to be sent. A row with another number than the
+    /// next one or with other targets is `Unconfirmed`, and after a fault nothing is added.
+    pub(crate) fn add(&mut self, row: &Row)
+        ensures output { made_for self.new ≡ made_for self.old }
+        ensures setup { made_by self.new ≡ made_by self.old }
+        ensures rows { (rows : List Row) → Holds self.old rows → Holds self.new rows ⊎ Holds self.new (rows ++ row.now ∷ []) }
+    {
+        self.head();
+        if self.fault.is_some() {
+            return;
+        }
+        if row.entry().number() != self.rows + 1 || !row.is_for(&self.setup) {
+            self.fault = Some(Cause::Unconfirmed);
+            return;
+        }
+        self.append(row);
+    }
+
+    /// Writes the heading, where that was not done and no fault was met.
+    pub(crate) fn head(&mut self)
+        ensures output { made_for self.new ≡ made_for self.old }
+        ensures setup { made_by self.new ≡ made_by self.old }
+        ensures rows { (rows : List Row) → Holds self.old rows → Holds self.new rows }
+    {
+        if self.fault.is_some() || self.writer.is_some() {
+            return;
+        }
+        match RowWriter::open(self.alloc, &mut self.output, &self.setup) {
+            Ok(writer) => self.writer = Some(writer),
+            Err(RowFault::WriteFault) => {
+                self.sunk = true;
+                self.fault = Some(Cause::SinkFault);
+            }
+            Err(_) => self.fault = Some(Cause::NoMemory),
+        }
+    }
+
+    /// Appends the line of the next row to those that wait, and its note to the journal.
+    fn append(&mut self, row: &Row)
+        requires number { entry_number (row_entry row.now) ≡ self.old.rows + 1 }
+        requires targets { row_targets row.now ≡ targets_of (made_by self.old) }
+        ensures output { made_for self.new ≡ made_for self.old }
+        ensures setup { made_by self.new ≡ made_by self.old }
+        ensures rows { (rows : List Row) → Holds self.old rows → Holds self.new rows ⊎ Holds self.new (rows ++ row.now ∷ []) }
+    {
+        tables_grow();
+        let Some(writer) = &mut self.writer else {
+            return;
+        };
+        let Ok(()) = self.journal.reserve(1) else {
+            self.fault = Some(Cause::NoMemory);
+            return;
+        };
+        let Ok(()) = writer.add(row) else {
+            self.fault = Some(Cause::NoMemory);
+            return;
+        };
+        push_note(&mut self.journal, row);
+        self.rows = row.entry().number();
+    }
+
+    /// Writes the lines that wait in one call, where the output has not failed.
+    pub(crate) fn send(&mut self)
+        ensures output { made_for self.new ≡ made_for self.old }
+        ensures setup { made_by self.new ≡ made_by self.old }
+        ensures rows { (rows : List Row) → Holds self.old rows → Holds self.new rows }
+        ensures sent { AllSent self.new }
+    {
+        if self.sunk {
+            return;
+        }
+        let Some(writer) = &mut self.writer else {
+            return;
+        };
+        if writer.pending_len() == 0 {
+            return;
+        }
+        if writer.send(&mut self.output).is_err() {
+            self.sunk = true;
+            if self.fault.is_none() {
+                self.fault = Some(Cause::SinkFault);
+            }
+        }
+    }
+
+    /// What is left of the source, once its lines are written. `passed` is what its threads answered.
+    pub(crate) fn conclude<R: Read + Drop>(
+        self,
+        source: Snapshot<R>,
+        passed: Result<u32, Cause>,
+    ) -> Settled<R, W>
+        requires not_sunk { IsNotSunk passed }
+        requires passed { ∥ Concludes (R.remaining source.value) self passed ∥₁ }
+        ensures source { result.source.value ≡ source.value }
+        ensures output { result.given.value ≡ made_for self }
+        ensures setup { result.setup.value ≡ made_by self }
+    {
+        let mut table = self;
+        table.send();
+        let Table {
+            alloc: _,
+            setup,
+            given,
+            output,
+            writer,
+            journal,
+            rows,
+            sunk: _,
+            fault,
+        } = table;
+        let setup = Snapshot::of(&setup);
+        let end = end_of_source(passed, fault, writer.is_some(), rows, journal);
+        Settled {
+            source,
+            given,
+            setup,
+            output,
+            end,
+        }
+    }
+}
+
+/// Notes a row that was refused, in a journal with room for it.
+fn push_note(journal: &mut Vec<Note>, row: &Row)
+    requires { vec_len journal.old < vec_capacity journal.old }
+    ensures items { journal.new.items ≡ journal.old.items ++ notes_of (row_seen row.now).number (row_seen row.now).outcome }
+    ensures len { vec_len journal.new ≤ vec_len journal.old + 1 }
+{
+    if let Some(note) = row.note() {
+        journal.push_reserved(note);
+    }
+}

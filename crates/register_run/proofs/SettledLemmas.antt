@@ -108,18 +108,18 @@ module _ {W : Type 0} (o : outputs.Ghosts W) (text : Option (List ℕ)) (table :
       let dry = table.faultless fact.1 in
       let told : tells_of_text passed ≡ true = ap tells_of_text fact.0 ∙ reading in
       ∥∥₁_elim (has.rows told) ∥∥₁_prop (λ (given, is, all). ∥∥₁_map (rows_are (layout_of table.setup).targets rows holds.targets) (λ are.
-        let bad = subst (λ p. IfErr p (λ d. d ≡ cause.BadHeader → (given ≡ []) × IfSome text (λ t. HasNoHeader (delimiter_of table.setup) t))) fact.0 is.bad_header in
-        let many = subst (λ p. IfErr p (λ d. d ≡ cause.TooManyRecords → IfSome text (λ t. HasTooMany (delimiter_of table.setup) t))) fact.0 is.too_many in record {
-          whole = tt;
-          flushed = tt;
-          good = tt;
-          part = λ e. part_so given is all (is_some table.writer) refl dry fact.2 are;
-          bad_header = λ e. (bad e).1;
-          too_many = many;
-          in_order = λ good. in_order_so (is_some table.writer) refl dry are;
-          sink = λ e. absurd (let k : is_of_reading c ≡ false = ap is_of_reading e in cc);
-          kept = λ e. table.good dry;
-        }))
+      let bad = subst (λ p. IfErr p (λ d. d ≡ cause.BadHeader → (given ≡ []) × IfSome text (λ t. HasNoHeader (delimiter_of table.setup) t))) fact.0 is.bad_header in
+      let many = subst (λ p. IfErr p (λ d. d ≡ cause.TooManyRecords → IfSome text (λ t. HasTooMany (delimiter_of table.setup) t))) fact.0 is.too_many in record {
+        whole = tt;
+        flushed = tt;
+        good = tt;
+        part = λ e. part_so given is all (is_some table.writer) refl dry fact.2 are;
+        bad_header = λ e. (bad e).1;
+        too_many = many;
+        in_order = λ good. in_order_so (is_some table.writer) refl dry are;
+        sink = λ e. absurd (let k : is_of_reading c ≡ false = ap is_of_reading e in cc);
+        kept = λ e. table.good dry;
+      }))
 
   threads_so : (c : Cause) → is_of_reading c ≡ false → (c ≡ cause.SinkFault → table.fault ≡ Some cause.SinkFault)
       → ∥ IsSettled o.contents o.has_failed o.is_flushed (layout_of table.setup) text table.given.value table.output (end.Broken c) ∥₁
@@ -149,8 +149,8 @@ module _ {W : Type 0} (o : outputs.Ghosts W) (text : Option (List ℕ)) (table :
       let fact = reading (ap is_of_reading same) in
       let told : tells_of_text passed ≡ true = ap tells_of_text fact.0 ∙ ap is_of_reading same in (
         not_true (is_some table.writer) (λ some. ∥∥₁_elim (has.rows told) (Prim.hlevel props) (λ (given, so, all).
-          let bad = subst (λ p. IfErr p (λ d. d ≡ cause.BadHeader → (given ≡ []) × IfSome text (λ t. HasNoHeader (delimiter_of table.setup) t))) fact.0 so.bad_header in
-          fact.2 (is_headed ∙ some) (none_given given so all (bad same).0))),
+            let bad = subst (λ p. IfErr p (λ d. d ≡ cause.BadHeader → (given ≡ []) × IfSome text (λ t. HasNoHeader (delimiter_of table.setup) t))) fact.0 so.bad_header in
+            fact.2 (is_headed ∙ some) (none_given given so all (bad same).0))),
         table.faultless fact.1,
       )
 
@@ -164,30 +164,30 @@ module _ {W : Type 0} (o : outputs.Ghosts W) (text : Option (List ℕ)) (table :
       let dry = table.faultless whole.1 in
       let told : tells_of_text passed ≡ true = ap tells_of_text whole.0 in
       ∥∥₁_elim (has.rows told) ∥∥₁_prop (λ (given, is, all). ∥∥₁_map (rows_are (layout_of table.setup).targets rows holds.targets) (λ are.
-        let ended = subst (λ p. IfOk p (λ n. (n ≡ length given) × IfSome text (λ t. HasEntries (delimiter_of table.setup) t given))) whole.0 is.all in
-        let front = taken_front given is all in
-        let len : length given ≡ length (entries_seen rows) = sym ended.0 ∙ whole.3 ∙ sym entries_len in
-        let same = front_all given (entries_seen rows) front.0 front.1 len in
-        let bytes = written dry (sym is_headed ∙ whole.2) in record {
-          whole = (
-            table_text (layout_of table.setup) (rows_seen rows),
-            record {
-              entries = entries_seen rows;
-              rows = rows_seen rows;
-              table = table_is are;
-              counted = whole.3 ∙ sym holds.counted ∙ sym (length-map rows row_seen);
-              noted = whole.5 ∙ holds.noted;
-              refused_counted = whole.4;
-              accepted = subst (λ g. IfSome text (λ t. HasEntries (delimiter_of table.setup) t g)) same ended.1;
-            },
-            bytes.0,
-          );
-          flushed = bytes.1;
-          good = table.good dry;
-          part = tt;
-          bad_header = tt;
-          too_many = tt;
-          in_order = tt;
-          sink = tt;
-          kept = tt;
-        }))
+      let ended = subst (λ p. IfOk p (λ n. (n ≡ length given) × IfSome text (λ t. HasEntries (delimiter_of table.setup) t given))) whole.0 is.all in
+      let front = taken_front given is all in
+      let len : length given ≡ length (entries_seen rows) = sym ended.0 ∙ whole.3 ∙ sym entries_len in
+      let same = front_all given (entries_seen rows) front.0 front.1 len in
+      let bytes = written dry (sym is_headed ∙ whole.2) in record {
+        whole = (
+          table_text (layout_of table.setup) (rows_seen rows),
+          record {
+            entries = entries_seen rows;
+            rows = rows_seen rows;
+            table = table_is are;
+            counted = whole.3 ∙ sym holds.counted ∙ sym (length-map rows row_seen);
+            noted = whole.5 ∙ holds.noted;
+            refused_counted = whole.4;
+            accepted = subst (λ g. IfSome text (λ t. HasEntries (delimiter_of table.setup) t g)) same ended.1;
+          },
+          bytes.0,
+        );
+        flushed = bytes.1;
+        good = table.good dry;
+        part = tt;
+        bad_header = tt;
+        too_many = tt;
+        in_order = tt;
+        sink = tt;
+        kept = tt;
+      }))

@@ -38,11 +38,11 @@ module _ {R W : Type 0} {o : outputs.Ghosts W} where
   pub concludes : (feed : Feed R) (table : Table W o) (text : Option (List ℕ)) (outcome : Result ℕ Cause) → fed_by feed ≡ made_by table
       → HasPassed text (delimiter_of (fed_by feed)) outcome (Took feed) → ∥ Wrote feed table ∥₁ → ∥ Concludes text table outcome ∥₁
   concludes feed table text outcome same has h = ∥∥₁_map h (λ (rows, is, took).
-    let has' = subst (λ s. HasPassed text (delimiter_of s) outcome (Took feed)) same has in (
-      rows,
-      is,
-      record {
-        not_sunk = has'.not_sunk;
-        rows = λ told. ∥∥₁_map (has'.rows told) (λ (given, so, all). (given, so, λ row c. all row (took row c)));
-      },
-    ))
+      let has' = subst (λ s. HasPassed text (delimiter_of s) outcome (Took feed)) same has in (
+        rows,
+        is,
+        record {
+          not_sunk = has'.not_sunk;
+          rows = λ told. ∥∥₁_map (has'.rows told) (λ (given, so, all). (given, so, λ row c. all row (took row c)));
+        },
+      ))

@@ -57,7 +57,7 @@ module _ {W : Type 0} (o : outputs.Ghosts W) (layout : Layout) (given : W) where
       → o.is_flushed new ≡ true → writes_by w ≡ layout.delimiter → pending_of w ≡ [] → Stands o layout given new (Some w) rows
   stands_headed output new w rows h wrote flushed by none = (
     (let lines : lines_text layout (rows_seen rows) ≡ [] = ap (λ (r : List Row). lines_text layout (rows_seen r)) h.1 ∙ no_lines layout in
-    appends_heading (o.contents given) (o.contents output) (o.contents new) (pending_of w) (heading_line layout) (lines_text layout (rows_seen rows)) (ap o.contents h.0) wrote none lines),
+        appends_heading (o.contents given) (o.contents output) (o.contents new) (pending_of w) (heading_line layout) (lines_text layout (rows_seen rows)) (ap o.contents h.0) wrote none lines),
     flushed,
     by,
   )
@@ -70,8 +70,8 @@ module _ {W : Type 0} (o : outputs.Ghosts W) (layout : Layout) (given : W) where
       let table : table_text layout (rows_seen (rows ++ row ∷ [])) ≡ table_text layout (rows_seen rows) ++ row_line layout (row_seen row) = ap (table_text layout) (map-append row_seen rows (row ∷ [])) ∙ (grow layout (rows_seen rows) (row_seen row)).0 in
       let waits : pending_of new ≡ pending_of w ++ row_line layout (row_seen row) = more ∙ ap (λ b. pending_of w ++ b) line in (
         subst (λ t. Appends (o.contents given) (append_known (o.contents output) (pending_of new)) t) (sym table)
-          (subst (λ p. Appends (o.contents given) (append_known (o.contents output) p) (table_text layout (rows_seen rows) ++ row_line layout (row_seen row))) (sym waits)
-          (appends_more (o.contents given) (o.contents output) (pending_of w) (row_line layout (row_seen row)) (table_text layout (rows_seen rows)) h.0)),
+            (subst (λ p. Appends (o.contents given) (append_known (o.contents output) p) (table_text layout (rows_seen rows) ++ row_line layout (row_seen row))) (sym waits)
+            (appends_more (o.contents given) (o.contents output) (pending_of w) (row_line layout (row_seen row)) (table_text layout (rows_seen rows)) h.0)),
         h.1,
         by ∙ h.2,
       )
@@ -85,7 +85,7 @@ module _ {W : Type 0} (o : outputs.Ghosts W) (layout : Layout) (given : W) where
       → o.is_flushed after ≡ true → pending_of new ≡ [] → writes_by new ≡ writes_by w → Stands o layout given after (Some new) rows
   stands_sent output after w new rows h wrote flushed none by = (
     subst (λ p. Appends (o.contents given) (append_known (o.contents after) p) (table_text layout (rows_seen rows))) (sym none)
-      (appends_sent (o.contents given) (o.contents output) (o.contents after) (pending_of w) (table_text layout (rows_seen rows)) h.0 wrote),
+        (appends_sent (o.contents given) (o.contents output) (o.contents after) (pending_of w) (table_text layout (rows_seen rows)) h.0 wrote),
     flushed,
     by ∙ h.2,
   )

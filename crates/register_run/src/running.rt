@@ -25,7 +25,14 @@ use std::thread::{Scope, Threads};
 const MAX_SOURCES: usize = 32;
 
 /// Starts the threads of each source.
-fn start_all<'s, 'e, T: Threads + Wait + Sync, R: Read + Send + Drop + 'e, W: Output + Drop, G: Gate + Sync>(
+fn start_all<
+    's,
+    'e,
+    T: Threads + Wait + Sync,
+    R: Read + Send + Drop + 'e,
+    W: Output + Drop,
+    G: Gate + Sync,
+>(
     scope: &'s Scope<'s, &'e ()>,
     rt: &'e T,
     gate: &'e G,
@@ -188,7 +195,14 @@ fn refused<R, W>(kind: RunFaultKind, sources: Vec<R>, outputs: Vec<W>) -> RunFau
 }
 
 /// The run, inside the scope of its threads.
-fn run_all<'s, 'e, T: Threads + Wait + Sync, R: Read + Send + Drop + 'e, W: Output + Drop, G: Gate + Sync>(
+fn run_all<
+    's,
+    'e,
+    T: Threads + Wait + Sync,
+    R: Read + Send + Drop + 'e,
+    W: Output + Drop,
+    G: Gate + Sync,
+>(
     scope: &'s Scope<'s, &'e ()>,
     rt: &'e T,
     gate: &'e G,

@@ -19,14 +19,14 @@ returns-in-Ok-None-clause-sends g c =
     let all = (rw c.in-Ok-None.field-0-is at c.in-Ok-None.ensures.all) refl in
     let kept = (rw c.in-Ok-None.field-0-is at c.in-Ok-None.ensures.ends) refl in
     sends_all (g.R.Read.remaining c.args.source) (text_of new) (delimiter_of c.args.setup.now) (reads_by new) (c.next-in-loop.ensures.text.0 ∙ inv.text) (c.next-in-loop.ensures.text.1 ∙ inv.by)
-      (given_of new) (given_of c.loop.entries) kept.1 inv.numbered new.first c.loop.senders.items inv.sent c.loop.count inv.count all
+    (given_of new) (given_of c.loop.entries) kept.1 inv.numbered new.first c.loop.senders.items inv.sent c.loop.count inv.count all
 
 pub returns-in-Err-next-clause-sends : goal.returns-in-Err-next-clause-sends
 returns-in-Err-next-clause-sends g c =
     let inv = c.loop.invariant in let new = c.next-in-loop.new.self in
     sends_stopped (g.R.Read.remaining c.args.source) (text_of new) (delimiter_of c.args.setup.now) (reads_by new) (c.next-in-loop.ensures.text.0 ∙ inv.text) (c.next-in-loop.ensures.text.1 ∙ inv.by)
-      (given_of new) (given_of c.loop.entries) c.in-Err-next.ensures.kept inv.numbered new.first c.loop.senders.items inv.sent
-      c.in-Err-next.fault _ c.cause_of-in-Err-next.ensures c.in-Err-next.ensures.no_header (λ e. (c.in-Err-next.ensures.many e).1)
+    (given_of new) (given_of c.loop.entries) c.in-Err-next.ensures.kept inv.numbered new.first c.loop.senders.items inv.sent
+    c.in-Err-next.fault _ c.cause_of-in-Err-next.ensures c.in-Err-next.ensures.no_header (λ e. (c.in-Err-next.ensures.many e).1)
 
 pub returns-then-is_err-clause-lanes : goal.returns-then-is_err-clause-lanes
 returns-then-is_err-clause-lanes g c =
@@ -43,7 +43,7 @@ returns-then-is_err-clause-sends g c =
     let numbered = subst (λ l. AreNumberedFrom 1 l) (sym gives) (numbered_more 1 (given_of c.loop.entries) (entry_seen c.in-Ok-Some.entry) inv.numbered (let n = number.0 in omega arith)) in
     let among = all_among (given_of c.loop.entries) (given_of new) items at c.index_mut-sender.result.now c.send.new.self c.in-Ok-Some.entry c.send.result c.index_mut-sender.ensures.value below gives c.send.ensures.ok c.send.ensures.gone inv.sent in
     sends_gone (g.R.Read.remaining c.args.source) (text_of new) (delimiter_of c.args.setup.now) (reads_by new) (c.next-in-loop.ensures.text.0 ∙ inv.text) (c.next-in-loop.ensures.text.1 ∙ inv.by)
-      (given_of new) (given_of new) refl numbered new.first _ among
+    (given_of new) (given_of new) refl numbered new.first _ among
 
 pub loop-preserved : goal.loop-preserved
 loop-preserved g c =

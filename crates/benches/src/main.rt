@@ -48,7 +48,11 @@ fn run_all<R: Threads + Wait + Sync + Clock + Print>(rt: &R, alloc: Global) -> i
 
 /// Writes a register of so many records to a file.
 fn make<R: Files>(rt: &R, alloc: Global, kind: &str, count: &str, to: &str) -> io::Result<bool> {
-    let kind = if kind == "mixed" { Kind::Mixed } else { Kind::Gregorian };
+    let kind = if kind == "mixed" {
+        Kind::Mixed
+    } else {
+        Kind::Gregorian
+    };
     let text = register(alloc, kind, count.parse().unwrap_or(FEW))?;
     fs::write(rt, to, text.as_slice())?;
     Ok(true)

@@ -8,11 +8,10 @@ use date_texts::Target;
 use inputs::{Kind, register};
 use register_records::{Output, PlainOutput, Setup, SourceEnd, convert_source};
 use std::alloc::Global;
-use std::fs;
-use std::io;
 use std::io::{Read, Write};
 use std::rt::Files;
 use std::time::{Clock, Instant};
+use std::{fs, io};
 
 /// The records of a run without arguments.
 pub(crate) const FEW: u32 = 1_000;

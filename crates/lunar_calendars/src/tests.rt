@@ -157,7 +157,11 @@ fn opening_day(leap: bool, after_leap: bool, day: i64, time: u64) -> i64 {
     if after_leap && weekday == 1 && time >= 16_789 {
         return day.wrapping_add(1);
     }
-    let allowed = if time >= 19_440 { day.wrapping_add(1) } else { day };
+    let allowed = if time >= 19_440 {
+        day.wrapping_add(1)
+    } else {
+        day
+    };
     if [0, 3, 5].contains(&allowed.rem_euclid(7)) {
         return allowed.wrapping_add(1);
     }

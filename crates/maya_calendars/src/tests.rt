@@ -171,7 +171,10 @@ fn tzolkin_steps_through_a_round(rt: HostRuntime) {
     let mut earlier = (4, 19);
     for days in 0..261u32 {
         assert!(rt; has_tzolkin(EPOCH + days as i64, later), "{days} days on");
-        assert!(rt; has_tzolkin(EPOCH - days as i64, earlier), "{days} days back");
+        assert!(rt;
+            has_tzolkin(EPOCH - days as i64, earlier),
+            "{days} days back"
+        );
         later = tzolkin_after(later);
         earlier = tzolkin_before(earlier);
     }

@@ -70,7 +70,12 @@ impl Setup {
     /// # Errors
     ///
     /// The first that applies of `TargetTwice`, `RingSize`, `Delimiter` and `Stripes`.
-    pub fn new(targets: &[Target], ring: usize, delimiter: u8, stripes: usize) -> Result<Setup, SetupFault>
+    pub fn new(
+        targets: &[Target],
+        ring: usize,
+        delimiter: u8,
+        stripes: usize,
+    ) -> Result<Setup, SetupFault>
         ensures value { IfOk result (λ s. (targets_of s ≡ targets.now) × (ring_of s ≡ ring)
             × (delimiter_of s ≡ delimiter) × (stripes_of s ≡ stripes)) }
         ensures fit { IfOk result (λ s. (¬ (NamesTwice targets.now)) × (is_ring_size ring ≡ true)

@@ -12,6 +12,7 @@ use crate::roman_text::push_roman;
 use arrayvec::ArrayString;
 
 /// Writes a date into an empty text, which is lent so that it is not copied on its way out.
+#[inline(always)]
 pub fn push_date(text: &mut ArrayString<24>, date: Date)
     requires empty { text.old.bytes ≡ [] }
     ensures { text.new.bytes ≡ canonical_text date }

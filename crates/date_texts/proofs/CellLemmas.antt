@@ -1,43 +1,46 @@
 -- A target and a day have one cell.
-use Rattle.std.proofs.Common.{◌≡◌, ℕ, zero, suc, ◌+◌, ◌*◌, ◌-◌, ◌≤◌, List, [], ◌∷◌, Bool, true, ◌&&◌, IsTrue, nat_le, length, ℤ, ◌≤ℤ◌, refl, sym, subst, ap, ◌∙◌, arith}
-use Rattle.std.specs.Prelude.{slice_get, unwrap_or}
+use Rattle.std.proofs.Common.{◌≡◌, ℕ, ◌+◌, ◌*◌, ◌≤◌, List}
+use Rattle.std.proofs.Common.{ℤ, ◌≤ℤ◌, sym, subst, ap, ◌∙◌, arith}
 use Rattle.std.proofs.lemmas.Int.{ints}
-use Rattle.std.proofs.lemmas.Bool.Decides.{nat_tests}
 use Rattle.day_numbers.specs.declared.ymd.Ymd.{Ymd}
 use Rattle.day_numbers.specs.Days.{IsSinceFirstDay}
 use Rattle.day_numbers.proofs.DateLemmas.{rules_one_date, rules_have_days}
 use Rattle.solar_calendars.specs.IsoWeekLaw.{one_week_date}
+use Rattle.solar_calendars.specs.Laws.{OneRomanDate}
 use Rattle.maya_calendars.specs.Rounds.{epoch}
 use Rattle.maya_calendars.specs.LongCounts.{IsLongCount, long_day}
-use Rattle.maya_calendars.specs.HaabNames.{haab_of, month_names, month_name}
-use Rattle.maya_calendars.specs.TzolkinNames.{tzolkin_of, name_texts, name_text}
 use Rattle.maya_calendars.specs.declared.long_count.LongCount.{LongCount}
 use Rattle.date_texts.specs.declared.calendar.Calendar.{Calendar}
 use Rattle.date_texts.specs.declared.calendar.Calendar.TheVariants.{Longcount}
 use Rattle.date_texts.specs.declared.calendar.Target.{Target}
 use Rattle.date_texts.specs.declared.calendar.Target.TheVariants.{Date as DateTarget, Haab, Tzolkin}
 use Rattle.date_texts.specs.declared.date.Date.{Date}
-use Rattle.date_texts.specs.declared.date.Date.TheVariants.{Civil, Long}
-use Rattle.date_texts.specs.Calendars.{Reckoning, by_rules, by_weeks, by_places, reckoning, IsDateBy, day_number_by, first_day_by, IsDateIn, day_number_in, first_day_in}
+use Rattle.date_texts.specs.declared.date.Date.TheVariants.{Civil, Long, Roman}
+use Rattle.date_texts.specs.Calendars.{Reckoning, by_rules, by_weeks, by_places, by_names, reckoning, IsDateBy}
+use Rattle.date_texts.specs.Calendars.{day_number_by, first_day_by, IsDateIn, day_number_in, first_day_in}
 use Rattle.date_texts.specs.Dates.{calendar_of_date, IsDateOfCalendar, day_number_of_date}
 use Rattle.date_texts.specs.DateText.{canonical_text}
-use Rattle.date_texts.specs.Cells.{IsDateCell, on_date, before_first_day, IsCell, haab_text, tzolkin_text, numbered_name}
+use Rattle.date_texts.specs.Cells.{IsDateCell, on_date, before_first_day, IsCell}
+use Rattle.date_texts.specs.Laws.{OneCell}
 use Rattle.date_texts.proofs.DateParts.{CountParts, civil_same, count_same}
-use Rattle.date_texts.proofs.ReadingLemmas.{both_true}
 
 -- ---- a calendar has one date on a day, and none before its first day
 one_date_by : (r : Reckoning) (d e : Ymd) → IsDateBy r d → IsDateBy r e → day_number_by r d ≡ day_number_by r e → d ≡ e
 one_date_by (by_rules rules) d e = rules_one_date rules d e
 one_date_by by_weeks d e = one_week_date d e
 one_date_by by_places d e = λ h. elim h [ ]
+one_date_by by_names d e = λ h. elim h [ ]
 
 since_first_day : (r : Reckoning) (d : Ymd) → IsDateBy r d → IsSinceFirstDay (first_day_by r) (day_number_by r d)
 since_first_day (by_rules rules) d = rules_have_days rules d
 since_first_day by_weeks d = λ h. tt
 since_first_day by_places d = λ h. elim h [ ]
+since_first_day by_names d = λ h. elim h [ ]
 
 -- the places of a number of days are the only ones
-same_places : (b k t u n b' k' t' u' n' : ℕ) → k ≤ 19 → t ≤ 19 → u ≤ 17 → n ≤ 19 → k' ≤ 19 → t' ≤ 19 → u' ≤ 17 → n' ≤ 19 → 144_000 * b + 7_200 * k + 360 * t + 20 * u + n ≡ 144_000 * b' + 7_200 * k' + 360 * t' + 20 * u' + n' → ◌≡◌ {A = CountParts} (b, k, t, u, n) (b', k', t', u', n')
+same_places : (b k t u n b' k' t' u' n' : ℕ) → k ≤ 19 → t ≤ 19 → u ≤ 17 → n ≤ 19 → k' ≤ 19 → t' ≤ 19 → u' ≤ 17
+    → n' ≤ 19 → 144_000 * b + 7_200 * k + 360 * t + 20 * u + n ≡ 144_000 * b' + 7_200 * k' + 360 * t' + 20 * u' + n'
+    → ◌≡◌ {A = CountParts} (b, k, t, u, n) (b', k', t', u', n')
 same_places b k t u n b' k' t' u' n' i j l m i' j' l' m' e =
     let kin : n ≡ n' = omega arith in
     let uinal : u ≡ u' = omega arith in
@@ -48,63 +51,52 @@ same_places b k t u n b' k' t' u' n' i j l m i' j' l' m' e =
 
 one_long_count : (c d : LongCount) → IsLongCount c → IsLongCount d → long_day c ≡ long_day d → c ≡ d
 one_long_count c d h g e =
-    count_same c d (same_places c.baktun c.katun c.tun c.uinal c.kin d.baktun d.katun d.tun d.uinal d.kin h.0 h.1 h.2 h.3 g.0 g.1 g.2 g.3 (omega (arith, ints, e)))
+    count_same c d (same_places c.baktun c.katun c.tun c.uinal c.kin d.baktun d.katun d.tun d.uinal d.kin h.0 h.1 h.2
+    h.3 g.0 g.1 g.2 g.3 (omega (arith, ints, e)))
 
 since_epoch : (c : LongCount) → epoch ≤ℤ long_day c
 since_epoch c = omega (arith, ints)
 
-one_date_on_day : (n : ℤ) (d e : Date) → calendar_of_date d ≡ calendar_of_date e → IsDateOfCalendar d → day_number_of_date d ≡ n → IsDateOfCalendar e → day_number_of_date e ≡ n → d ≡ e
-one_date_on_day n (Civil d) (Civil e) same h i g j =
+one_date_on_day : OneRomanDate → (n : ℤ) (d e : Date) → calendar_of_date d ≡ calendar_of_date e
+    → IsDateOfCalendar d → day_number_of_date d ≡ n → IsDateOfCalendar e → day_number_of_date e ≡ n → d ≡ e
+one_date_on_day one n (Civil d) (Civil e) same h i g j =
     let h' : IsDateIn e.calendar d.ymd = subst (λ x. IsDateIn x d.ymd) same h in
     let i' : day_number_in e.calendar d.ymd ≡ n = subst (λ x. day_number_in x d.ymd ≡ n) same i in
     ap Civil (civil_same d e same (one_date_by (reckoning e.calendar) d.ymd e.ymd h' g (i' ∙ sym j)))
-one_date_on_day n (Long d) (Long e) same h i g j = ap Long (one_long_count d e h g (i ∙ sym j))
-one_date_on_day n (Civil d) (Long e) same h i g j = absurd (d.civil same)
-one_date_on_day n (Long d) (Civil e) same h i g j = absurd (e.civil (sym same))
+one_date_on_day one n (Long d) (Long e) same h i g j = ap Long (one_long_count d e h g (i ∙ sym j))
+one_date_on_day one n (Roman d) (Roman e) same h i g j = ap Roman (one d e h g (i ∙ sym j))
+one_date_on_day one n (Civil d) (Long e) same h i g j = absurd (d.civil.0 same)
+one_date_on_day one n (Civil d) (Roman e) same h i g j = absurd (d.civil.1 same)
+one_date_on_day one n (Long d) (Civil e) same h i g j = absurd (e.civil.0 (sym same))
+one_date_on_day one n (Long d) (Roman e) same h i g j = absurd (cc)
+one_date_on_day one n (Roman d) (Civil e) same h i g j = absurd (e.civil.1 (sym same))
+one_date_on_day one n (Roman d) (Long e) same h i g j = absurd (cc)
 
-since_first : (n : ℤ) (d : Date) → IsDateOfCalendar d → day_number_of_date d ≡ n → IsSinceFirstDay (first_day_in (calendar_of_date d)) n
-since_first n (Civil d) h i = subst (IsSinceFirstDay (first_day_in d.calendar)) i (since_first_day (reckoning d.calendar) d.ymd h)
+since_first : (n : ℤ) (d : Date) → IsDateOfCalendar d → day_number_of_date d ≡ n
+    → IsSinceFirstDay (first_day_in (calendar_of_date d)) n
+since_first n (Civil d) h i =
+    subst (IsSinceFirstDay (first_day_in d.calendar)) i (since_first_day (reckoning d.calendar) d.ymd h)
 since_first n (Long d) h i = subst (IsSinceFirstDay (first_day_in Longcount)) i (since_epoch d)
+since_first n (Roman d) h i = tt
 
-since_first_in : (c : Calendar) (n : ℤ) (d : Date) → calendar_of_date d ≡ c → IsDateOfCalendar d → day_number_of_date d ≡ n → IsSinceFirstDay (first_day_in c) n
+since_first_in : (c : Calendar) (n : ℤ) (d : Date) → calendar_of_date d ≡ c → IsDateOfCalendar d
+    → day_number_of_date d ≡ n → IsSinceFirstDay (first_day_in c) n
 since_first_in c n d p h i = subst (λ x. IsSinceFirstDay (first_day_in x) n) p (since_first n d h i)
 
-one_date_cell : (c : Calendar) (n : ℤ) (x y : List ℕ) → IsDateCell c n x → IsDateCell c n y → x ≡ y
-one_date_cell c n x y (on_date d p h i e) (on_date d' p' h' i' e') = e ∙ ap canonical_text (one_date_on_day n d d' (p ∙ sym p') h i h' i') ∙ sym e'
-one_date_cell c n x y (on_date d p h i e) (before_first_day before e') = absurd (before (since_first_in c n d p h i))
-one_date_cell c n x y (before_first_day before e) (on_date d' p' h' i' e') = absurd (before (since_first_in c n d' p' h' i'))
-one_date_cell c n x y (before_first_day before e) (before_first_day before' e') = e ∙ sym e'
+one_date_cell : OneRomanDate → (c : Calendar) (n : ℤ) (x y : List ℕ) → IsDateCell c n x → IsDateCell c n y → x ≡ y
+one_date_cell one c n x y (on_date d p h i e) (on_date d' p' h' i' e') =
+    e ∙ ap canonical_text (one_date_on_day one n d d' (p ∙ sym p') h i h' i') ∙ sym e'
+one_date_cell one c n x y (on_date d p h i e) (before_first_day before e') =
+    absurd (before (since_first_in c n d p h i))
+one_date_cell one c n x y (before_first_day before e) (on_date d' p' h' i' e') =
+    absurd (before (since_first_in c n d' p' h' i'))
+one_date_cell one c n x y (before_first_day before e) (before_first_day before' e') = e ∙ sym e'
 
 -- a target and a day have at most one cell
-pub one_cell : (t : Target) (n : ℤ) (x y : List ℕ) → IsCell t n x → IsCell t n y → x ≡ y
-one_cell (DateTarget c) n x y = one_date_cell c n x y
-one_cell Haab n x y = λ e f. e ∙ sym f
-one_cell Tzolkin n x y = λ e f. e ∙ sym f
+pub one_cell : OneRomanDate → OneCell
+one_cell one (DateTarget c) n x y = one_date_cell one c n x y
+one_cell one Haab n x y = λ e f. e ∙ sym f
+one_cell one Tzolkin n x y = λ e f. e ∙ sym f
 
 pub date_cell_is : (t : Target) (c : Calendar) (n : ℤ) (x : List ℕ) → t ≡ DateTarget c → IsDateCell c n x → IsCell t n x
 date_cell_is t c n x e h = rw e h
-
--- ---- the names are short
-all_short : List (List ℕ) → Bool
-all_short [] = true
-all_short (x ∷ xs) = nat_le (length x) 19 && all_short xs
-
-short_at : (names : List (List ℕ)) (i : ℕ) → IsTrue (all_short names) → length (unwrap_or (slice_get names i) []) ≤ 19
-unfolding all_short
-short_at [] i h = omega arith
-short_at (x ∷ xs) zero h = grind (arith, nat_tests)
-short_at (x ∷ xs) (suc i) h = short_at xs i (both_true (nat_le (length x) 19) (all_short xs) h).1
-
-pub short_month : (month : ℕ) → length (month_name month) ≤ 19
-unfolding all_short
-short_month month = short_at month_names (month - 1) refl
-
-pub short_name : (place : ℕ) → length (name_text place) ≤ 19
-unfolding all_short
-short_name place = short_at name_texts (place - 1) refl
-
-pub haab_cell_is : (text name : List ℕ) (day month : ℕ) (n : ℤ) → text ≡ numbered_name day name → name ≡ month_name month → (day, month) ≡ haab_of n → text ≡ haab_text (haab_of n)
-haab_cell_is text name day month n p q r = p ∙ ap (numbered_name day) q ∙ ap haab_text r
-
-pub tzolkin_cell_is : (text name : List ℕ) (number place : ℕ) (n : ℤ) → text ≡ numbered_name number name → name ≡ name_text place → (number, place) ≡ tzolkin_of n → text ≡ tzolkin_text (tzolkin_of n)
-tzolkin_cell_is text name number place n p q r = p ∙ ap (numbered_name number) q ∙ ap tzolkin_text r

@@ -1,12 +1,15 @@
 -- Dates with the same parts are one value.
-use Rattle.std.proofs.Common.{◌≡◌, ◌≢◌, ℕ, ◌≤◌, ℤ, subst, ap}
+use Rattle.std.proofs.Common.{◌≡◌, ℕ, ◌≤◌, ℤ, subst, ap}
 use Rattle.std.proofs.Props.{props}
 use Rattle.day_numbers.specs.Dates.{IsYear}
 use Rattle.day_numbers.specs.declared.ymd.Ymd.{Ymd}
 use Rattle.maya_calendars.specs.Places.{ArePlaces}
 use Rattle.maya_calendars.specs.declared.long_count.LongCount.{LongCount}
 use Rattle.date_texts.specs.declared.calendar.Calendar.{Calendar}
-use Rattle.date_texts.specs.declared.calendar.Calendar.TheVariants.{Longcount}
+use Rattle.date_texts.specs.Calendars.{IsCivil}
+use Rattle.solar_calendars.specs.Roman.{count_of}
+use Rattle.solar_calendars.specs.declared.roman_date.RomanName.{RomanName}
+use Rattle.solar_calendars.specs.declared.roman_date.RomanDate.{RomanDate}
 use Rattle.date_texts.specs.declared.date.CivilDate.{CivilDate}
 
 abbrev YmdParts : Type 0
@@ -27,19 +30,21 @@ ymd_made x y e h = subst (λ z. (g : AreYmd z) → make_ymd x h ≡ make_ymd z g
 pub ymd_same : (d e : Ymd) → ◌≡◌ {A = YmdParts} (d.year, d.month, d.day) (e.year, e.month, e.day) → d ≡ e
 unfolding make_ymd
 ymd_same d e same =
-    ymd_made (d.year, d.month, d.day) (e.year, e.month, e.day) same (d.year_in, d.month_in, d.day_in) (e.year_in, e.month_in, e.day_in)
+    ymd_made (d.year, d.month, d.day) (e.year, e.month, e.day) same (d.year_in, d.month_in, d.day_in)
+    (e.year_in, e.month_in, e.day_in)
 
 abbrev CivilParts : Type 0
 CivilParts = Calendar × Ymd
 
-make_civil : (x : CivilParts) → x.0 ≢ Longcount → CivilDate
+make_civil : (x : CivilParts) → IsCivil x.0 → CivilDate
 make_civil x h = record { calendar = x.0; ymd = x.1; civil = h }
 
-civil_prop : (c : Calendar) → IsProp (c ≢ Longcount)
+civil_prop : (c : Calendar) → IsProp (IsCivil c)
 civil_prop c = hlevel props
 
-civil_made : (x y : CivilParts) → x ≡ y → (h : x.0 ≢ Longcount) (g : y.0 ≢ Longcount) → make_civil x h ≡ make_civil y g
-civil_made x y e h = subst (λ z. (g : z.0 ≢ Longcount) → make_civil x h ≡ make_civil z g) e (λ g. ap (make_civil x) (civil_prop x.0 h g))
+civil_made : (x y : CivilParts) → x ≡ y → (h : IsCivil x.0) (g : IsCivil y.0) → make_civil x h ≡ make_civil y g
+civil_made x y e h = subst (λ z. (g : IsCivil z.0) → make_civil x h ≡ make_civil z g) e
+    (λ g. ap (make_civil x) (civil_prop x.0 h g))
 
 pub civil_same : (d e : CivilDate) → d.calendar ≡ e.calendar → d.ymd ≡ e.ymd → d ≡ e
 unfolding make_civil
@@ -62,9 +67,36 @@ count_prop : (x : CountParts) → IsProp (AreCount x)
 count_prop x = hlevel props
 
 count_made : (x y : CountParts) → x ≡ y → (h : AreCount x) (g : AreCount y) → make_count x h ≡ make_count y g
-count_made x y e h = subst (λ z. (g : AreCount z) → make_count x h ≡ make_count z g) e (λ g. ap (make_count x) (count_prop x h g))
+count_made x y e h = subst (λ z. (g : AreCount z) → make_count x h ≡ make_count z g) e
+    (λ g. ap (make_count x) (count_prop x h g))
 
-pub count_same : (n m : LongCount) → ◌≡◌ {A = CountParts} (n.baktun, n.katun, n.tun, n.uinal, n.kin) (m.baktun, m.katun, m.tun, m.uinal, m.kin) → n ≡ m
+pub count_same : (n m : LongCount)
+    → ◌≡◌ {A = CountParts} (n.baktun, n.katun, n.tun, n.uinal, n.kin) (m.baktun, m.katun, m.tun, m.uinal, m.kin)
+    → n ≡ m
 unfolding make_count
 count_same n m same =
-    count_made (n.baktun, n.katun, n.tun, n.uinal, n.kin) (m.baktun, m.katun, m.tun, m.uinal, m.kin) same n.places m.places
+    count_made (n.baktun, n.katun, n.tun, n.uinal, n.kin) (m.baktun, m.katun, m.tun, m.uinal, m.kin) same n.places
+    m.places
+
+abbrev pub RomanParts : Type 0
+RomanParts = ℤ × ℕ × RomanName
+
+abbrev AreRoman : RomanParts → Type 0
+AreRoman x = IsYear x.0 × (x.1 ≤ 99) × (count_of x.2 ≤ 99)
+
+make_roman : (x : RomanParts) → AreRoman x → RomanDate
+make_roman x h = record { year = x.0; month = x.1; name = x.2; year_in = h.0; month_in = h.1; count_in = h.2 }
+
+roman_prop : (x : RomanParts) → IsProp (AreRoman x)
+roman_prop x = hlevel props
+
+roman_made : (x y : RomanParts) → x ≡ y → (h : AreRoman x) (g : AreRoman y) → make_roman x h ≡ make_roman y g
+roman_made x y e h =
+    subst (λ z. (g : AreRoman z) → make_roman x h ≡ make_roman z g) e (λ g. ap (make_roman x) (roman_prop x h g))
+
+pub roman_same : (d e : RomanDate)
+    → ◌≡◌ {A = RomanParts} (d.year, d.month, d.name) (e.year, e.month, e.name) → d ≡ e
+unfolding make_roman
+roman_same d e same =
+    roman_made (d.year, d.month, d.name) (e.year, e.month, e.name) same (d.year_in, d.month_in, d.count_in)
+    (e.year_in, e.month_in, e.count_in)

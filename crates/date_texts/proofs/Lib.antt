@@ -1,5 +1,6 @@
 pub mod ReadingLemmas
 pub mod DateParts
+pub mod RomanTextLemmas
 pub mod DateTextLemmas
 pub mod CellLemmas
 pub mod TargetPlaces

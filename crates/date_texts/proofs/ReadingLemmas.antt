@@ -1,5 +1,7 @@
 -- Reading finds what the grammar relates to a text, and nothing else.
-use Rattle.std.proofs.Common.{◌≡◌, ℕ, zero, suc, ◌+◌, ◌-◌, ◌*◌, ◌^◌, ◌≤◌, ◌<◌, Bool, true, false, ◌&&◌, List, [], ◌∷◌, ◌++◌, length, ◌==◌, refl, sym, subst, ap, ◌∙◌, arith, IsTrue, cond, Option, Some, None, ℤ, pos, neg_ℤ}
+use Rattle.std.proofs.Common.{◌≡◌, ℕ, zero, suc, ◌+◌, ◌-◌, ◌*◌, ◌^◌, ◌≤◌, ◌<◌, Bool, true, false, ◌&&◌, List, [], ◌∷◌}
+use Rattle.std.proofs.Common.{◌++◌, length, ◌==◌, refl, sym, subst, ap, ◌∙◌, arith, IsTrue, cond, Option, Some, None}
+use Rattle.std.proofs.Common.{ℤ, pos, neg_ℤ}
 use Rattle.std.specs.Char.{is_ascii_digit}
 use Rattle.std.specs.Fmt.{decimal}
 use Rattle.std.proofs.Common.{rules, get_or, take, drop, negsuc, replicate, length-append}
@@ -12,8 +14,15 @@ use Rattle.std.proofs.lemmas.Int.{ints}
 use Rattle.std.proofs.Common.{append-nil}
 use Rattle.std.proofs.Math.Seq.{take-length}
 use Rattle.std.proofs.lemmas.Bool.Decides.{nat_tests}
-use Rattle.date_texts.specs.DateText.{all_digits, value_after, IsNumeral, IsYearText, plain, minus, IsMark, of_month, capital_letter, small_letter, IsCivilText, IsLongText, padded, canonical_year, canonical_civil, canonical_week, canonical_long}
-use Rattle.date_texts.specs.Reading.{digits_at, number_at, after_byte, year_at, after_week_letter, after_mark, civil_at, long_at, all_read, as_year, as_year_before_zero, ◌>>=◌}
+use Rattle.date_texts.specs.declared.grammar.Grammar.{Grammar}
+use Rattle.date_texts.specs.declared.grammar.Grammar.TheVariants.{Civil, Week, LongCount, Roman}
+use Rattle.date_texts.specs.Numerals.{all_digits, value_after, IsNumeral, IsYearText, plain, minus, padded}
+use Rattle.date_texts.specs.Numerals.{canonical_year}
+use Rattle.date_texts.specs.CivilText.{IsMark, of_month, capital_letter, small_letter, IsCivilText}
+use Rattle.date_texts.specs.CivilText.{canonical_civil, canonical_week}
+use Rattle.date_texts.specs.LongText.{IsLongText, canonical_long}
+use Rattle.date_texts.specs.Reading.{digits_at, number_at, after_byte, year_at, after_week_letter, after_mark}
+use Rattle.date_texts.specs.Reading.{civil_at, long_at, all_read, as_year, as_year_before_zero, ◌>>=◌}
 
 -- a text that does not begin with a digit
 abbrev pub NoDigitFirst : List ℕ → Type 0
@@ -27,7 +36,8 @@ digits_stop (suc k) n (c ∷ cs) h = rw h
 
 -- a digit is read, and then the others
 pub digits_step : (k n : ℕ) (bytes : List ℕ) → 1 ≤ k → 1 ≤ length bytes → is_ascii_digit (get_or bytes 0 0) ≡ true
-    → digits_at (k - 1) (10 * n + (get_or bytes 0 0 - 48)) (take (length bytes - 1) (drop 1 bytes)) ≡ digits_at k n bytes
+    → digits_at (k - 1) (10 * n + (get_or bytes 0 0 - 48)) (take (length bytes - 1) (drop 1 bytes)) ≡ digits_at k n
+    bytes
 digits_step k n [] some long e = absurd (omega arith)
 digits_step zero n (c ∷ cs) some long e = absurd (omega arith)
 digits_step (suc k) n (c ∷ cs) some long e =
@@ -44,7 +54,8 @@ both_true true b h = (refl, h)
 both_true false b h = absurd (cc)
 
 -- digits and then no digit are read to the last digit
-digits_take : (k n : ℕ) (ds x : List ℕ) → IsTrue (all_digits ds) → length ds ≤ k → NoDigitFirst x → digits_at k n (ds ++ x) ≡ (value_after n ds, x)
+digits_take : (k n : ℕ) (ds x : List ℕ) → IsTrue (all_digits ds) → length ds ≤ k → NoDigitFirst x
+    → digits_at k n (ds ++ x) ≡ (value_after n ds, x)
 digits_take k n [] x h few stop = digits_stop k n x stop
 digits_take zero n (c ∷ cs) x h few stop = absurd (omega arith)
 digits_take (suc k) n (c ∷ cs) x h few stop =
@@ -59,12 +70,23 @@ pub record Reads (k n : ℕ) (bytes : List ℕ) (r : ℕ × List ℕ) : Type 0 w
   pub joined : bytes ≡ ds ++ r.1
   pub value : r.0 ≡ value_after n ds
 
-reads_more : (k n c : ℕ) (cs : List ℕ) (r : ℕ × List ℕ) → is_ascii_digit c ≡ true → Reads k (10 * n + (c - 48)) cs r → Reads (suc k) n (c ∷ cs) r
-reads_more k n c cs r e h = record { ds = c ∷ h.ds; digits = rw e h.digits; few = omega (arith, h.few); joined = ap (λ t. c ∷ t) h.joined; value = h.value }
+reads_more : (k n c : ℕ) (cs : List ℕ) (r : ℕ × List ℕ) → is_ascii_digit c ≡ true → Reads k (10 * n + (c - 48)) cs r
+    → Reads (suc k) n (c ∷ cs) r
+reads_more k n c cs r e h = record {
+  ds = c ∷ h.ds;
+  digits = rw e h.digits;
+  few = omega (arith, h.few);
+  joined =
+      ap (λ t. c ∷ t) h.joined;
+  value = h.value;
+}
 
-digits_read_by : (k n c : ℕ) (cs : List ℕ) (b : Bool) → is_ascii_digit c ≡ b → Reads k (10 * n + (c - 48)) cs (digits_at k (10 * n + (c - 48)) cs) → Reads (suc k) n (c ∷ cs) (digits_at (suc k) n (c ∷ cs))
+digits_read_by : (k n c : ℕ) (cs : List ℕ) (b : Bool) → is_ascii_digit c ≡ b
+    → Reads k (10 * n + (c - 48)) cs (digits_at k (10 * n + (c - 48)) cs)
+    → Reads (suc k) n (c ∷ cs) (digits_at (suc k) n (c ∷ cs))
 digits_read_by k n c cs true e h = rw e (reads_more k n c cs _ e h)
-digits_read_by k n c cs false e h = rw e (record { ds = []; digits = refl; few = omega arith; joined = refl; value = refl })
+digits_read_by k n c cs false e h =
+    rw e (record { ds = []; digits = refl; few = omega arith; joined = refl; value = refl })
 
 pub digits_read : (k n : ℕ) (bytes : List ℕ) → Reads k n bytes (digits_at k n bytes)
 digits_read zero n bytes = record { ds = []; digits = refl; few = omega arith; joined = refl; value = refl }
@@ -72,7 +94,8 @@ digits_read (suc k) n [] = record { ds = []; digits = refl; few = omega arith; j
 digits_read (suc k) n (c ∷ cs) = digits_read_by k n c cs (is_ascii_digit c) refl (digits_read k (10 * n + (c - 48)) cs)
 
 -- the same of a number
-pub number_take : (more : ℕ) (ds x : List ℕ) (n : ℕ) → IsNumeral (suc more) ds n → NoDigitFirst x → number_at more (ds ++ x) ≡ Some (n, x)
+pub number_take : (more : ℕ) (ds x : List ℕ) (n : ℕ) → IsNumeral (suc more) ds n → NoDigitFirst x
+    → number_at more (ds ++ x) ≡ Some (n, x)
 unfolding number_at
 number_take more [] x n h stop = absurd (omega (arith, h.some))
 number_take more (c ∷ cs) x n h stop =
@@ -105,7 +128,8 @@ at_least_ten (suc (suc (suc (suc (suc m))))) high = absurd (omega arith)
 pub digit_value_small : (c : ℕ) (b : Bool) → b ≡ true → b ≡ is_ascii_digit c → c - 48 ≤ 9
 digit_value_small c b t e = grind (arith, nat_tests)
 
-pub fits_more : (m n c : ℕ) (b : Bool) → 1 ≤ m → m ≤ 4 → n < 10 ^ (5 - m) → b ≡ true → b ≡ is_ascii_digit c → 10 * n + (c - 48) < 10 ^ (5 - (m - 1))
+pub fits_more : (m n c : ℕ) (b : Bool) → 1 ≤ m → m ≤ 4 → n < 10 ^ (5 - m) → b ≡ true → b ≡ is_ascii_digit c
+    → 10 * n + (c - 48) < 10 ^ (5 - (m - 1))
 fits_more m n c b low high h t e = omega (arith, ten_more m low high, digit_value_small c b t e)
 
 pub fits_first : (m c : ℕ) (b : Bool) → m ≤ 4 → b ≡ true → b ≡ is_ascii_digit c → c - 48 < 10 ^ (5 - m)
@@ -129,13 +153,15 @@ below_places (suc (suc (suc (suc zero)))) n high = omega arith
 below_places (suc (suc (suc (suc (suc m))))) n high = absurd (omega arith)
 
 -- ---- what is read is in the grammar
-number_read_by : (more c n : ℕ) (cs rest : List ℕ) (b : Bool) → is_ascii_digit c ≡ b → cond b (Some (digits_at more (c - 48) cs)) None ≡ Some (n, rest) → ReadsNumber more (c ∷ cs) n rest
+number_read_by : (more c n : ℕ) (cs rest : List ℕ) (b : Bool) → is_ascii_digit c ≡ b
+    → cond b (Some (digits_at more (c - 48) cs)) None ≡ Some (n, rest) → ReadsNumber more (c ∷ cs) n rest
 number_read_by more c n cs rest true eb e =
     let p : digits_at more (c - 48) cs ≡ (n, rest) = cc in
     let r = digits_read more (c - 48) cs in
     let from_zero : c - 48 ≡ 10 * 0 + (c - 48) = omega arith in
     let joined : cs ≡ r.ds ++ rest = r.joined ∙ ap (λ x. r.ds ++ x.1) p in
-    let value : n ≡ value_after (10 * 0 + (c - 48)) r.ds = sym (ap (λ x. x.0) p) ∙ r.value ∙ ap (λ k. value_after k r.ds) from_zero in
+    let value : n ≡ value_after (10 * 0 + (c - 48)) r.ds = sym (ap (λ x. x.0) p) ∙ r.value
+    ∙ ap (λ k. value_after k r.ds) from_zero in
     record {
       ds = c ∷ r.ds;
       numeral = record { some = omega arith; few = omega (arith, r.few); digits = rw eb r.digits; value = value };
@@ -143,16 +169,19 @@ number_read_by more c n cs rest true eb e =
     }
 number_read_by more c n cs rest false eb e = absurd (cc)
 
-pub number_read : (more : ℕ) (bytes : List ℕ) (n : ℕ) (rest : List ℕ) → number_at more bytes ≡ Some (n, rest) → ReadsNumber more bytes n rest
+pub number_read : (more : ℕ) (bytes : List ℕ) (n : ℕ) (rest : List ℕ) → number_at more bytes ≡ Some (n, rest)
+    → ReadsNumber more bytes n rest
 unfolding number_at
 number_read more [] n rest e = absurd (cc)
 number_read more (c ∷ cs) n rest e = number_read_by more c n cs rest (is_ascii_digit c) refl e
 
-bind_some : {A B : Type 0} (o : Option A) (f : A → Option B) (y : B) → (o >>= f) ≡ Some y → (x : A) × (o ≡ Some x) × (f x ≡ Some y)
+pub bind_some : {A B : Type 0} (o : Option A) (f : A → Option B) (y : B) → (o >>= f) ≡ Some y
+    → (x : A) × (o ≡ Some x) × (f x ≡ Some y)
 bind_some (Some x) f y e = (x, refl, e)
 bind_some None f y e = absurd (cc)
 
-byte_read_by : (b c : ℕ) (cs rest : List ℕ) (t : Bool) → (c == b) ≡ t → cond t (Some cs) None ≡ Some rest → c ∷ cs ≡ b ∷ rest
+byte_read_by : (b c : ℕ) (cs rest : List ℕ) (t : Bool) → (c == b) ≡ t → cond t (Some cs) None ≡ Some rest
+    → c ∷ cs ≡ b ∷ rest
 byte_read_by b c cs rest true eb e = let same : c ≡ b = grind (arith, nat_tests) in cc
 byte_read_by b c cs rest false eb e = absurd (cc)
 
@@ -162,12 +191,12 @@ dash_then c cs ds rest eb e = let dash : c ≡ 45 = grind (arith, nat_tests) in 
 pub some_inside : {A : Type 0} {x y : A} → Some x ≡ Some y → x ≡ y
 some_inside e = cc
 
-byte_read : (b : ℕ) (bytes rest : List ℕ) → after_byte b bytes ≡ Some rest → bytes ≡ b ∷ rest
+pub byte_read : (b : ℕ) (bytes rest : List ℕ) → after_byte b bytes ≡ Some rest → bytes ≡ b ∷ rest
 unfolding after_byte
 byte_read b [] rest e = absurd (cc)
 byte_read b (c ∷ cs) rest e = byte_read_by b c cs rest (c == b) refl e
 
-all_is_read : {A : Type 0} (bytes : List ℕ) (x y : A) → all_read bytes x ≡ Some y → (bytes ≡ []) × (x ≡ y)
+pub all_is_read : {A : Type 0} (bytes : List ℕ) (x y : A) → all_read bytes x ≡ Some y → (bytes ≡ []) × (x ≡ y)
 all_is_read [] x y e = (refl, cc)
 all_is_read (c ∷ cs) x y e = absurd (cc)
 
@@ -176,64 +205,87 @@ pub record ReadsYear (bytes : List ℕ) (z : ℤ) (rest : List ℕ) : Type 0 whe
   pub is_year : IsYearText text z
   pub joined : bytes ≡ text ++ rest
 
-year_read_by : (c : ℕ) (cs : List ℕ) (z : ℤ) (rest : List ℕ) (b : Bool) → (c == 45) ≡ b → cond b (number_at 4 cs >>= λ n. Some (as_year_before_zero n)) (number_at 4 (c ∷ cs) >>= λ n. Some (as_year n)) ≡ Some (z, rest) → ReadsYear (c ∷ cs) z rest
+year_read_by : (c : ℕ) (cs : List ℕ) (z : ℤ) (rest : List ℕ) (b : Bool) → (c == 45) ≡ b
+    → cond b (number_at 4 cs >>= λ n. Some (as_year_before_zero n)) (number_at 4 (c ∷ cs) >>= λ n. Some (as_year n))
+    ≡ Some (z, rest)
+    → ReadsYear (c ∷ cs) z rest
 year_read_by c cs z rest true eb e =
     let x = bind_some (number_at 4 cs) (λ n. Some (as_year_before_zero n)) (z, rest) e in
     let r = number_read 4 cs x.0.0 x.0.1 x.1 in
     let same : as_year_before_zero x.0 ≡ (z, rest) = some_inside x.2 in
-    record { text = 45 ∷ r.ds; is_year = subst (IsYearText (45 ∷ r.ds)) (ap (λ p. p.0) same) (minus r.numeral); joined = dash_then c cs r.ds rest eb (r.joined ∙ ap (λ p. r.ds ++ p.1) same) }
+    record {
+      text = 45 ∷ r.ds;
+      is_year = subst (IsYearText (45 ∷ r.ds)) (ap (λ p. p.0) same) (minus r.numeral);
+      joined = dash_then c cs r.ds rest eb (r.joined ∙ ap (λ p. r.ds ++ p.1) same);
+    }
 year_read_by c cs z rest false eb e =
     let x = bind_some (number_at 4 (c ∷ cs)) (λ n. Some (as_year n)) (z, rest) e in
     let r = number_read 4 (c ∷ cs) x.0.0 x.0.1 x.1 in
     let same : as_year x.0 ≡ (z, rest) = some_inside x.2 in
-    record { text = r.ds; is_year = subst (IsYearText r.ds) (ap (λ p. p.0) same) (plain r.numeral); joined = r.joined ∙ ap (λ p. r.ds ++ p.1) same }
+    record {
+      text = r.ds;
+      is_year = subst (IsYearText r.ds) (ap (λ p. p.0) same) (plain r.numeral);
+      joined = r.joined
+          ∙ ap (λ p. r.ds ++ p.1) same;
+    }
 
-year_read : (bytes : List ℕ) (z : ℤ) (rest : List ℕ) → year_at bytes ≡ Some (z, rest) → ReadsYear bytes z rest
+pub year_read : (bytes : List ℕ) (z : ℤ) (rest : List ℕ) → year_at bytes ≡ Some (z, rest) → ReadsYear bytes z rest
 unfolding year_at
 year_read [] z rest e = absurd (cc)
 year_read (c ∷ cs) z rest e = year_read_by c cs z rest (c == 45) refl e
 
 -- the letter before a week
-record ReadsMark (weeks : Bool) (bytes rest : List ℕ) : Type 0 where
+record ReadsMark (grammar : Grammar) (bytes rest : List ℕ) : Type 0 where
   mark : List ℕ
-  is_mark : IsMark weeks mark
+  is_mark : IsMark grammar mark
   joined : bytes ≡ mark ++ rest
 
-small_read_by : (c : ℕ) (cs rest : List ℕ) (t : Bool) → (c == 119) ≡ t → cond t (Some cs) None ≡ Some rest → ReadsMark true (c ∷ cs) rest
-small_read_by c cs rest t e h = record { mark = 119 ∷ []; is_mark = small_letter; joined = byte_read_by 119 c cs rest t e h }
+small_read_by : (c : ℕ) (cs rest : List ℕ) (t : Bool) → (c == 119) ≡ t → cond t (Some cs) None ≡ Some rest
+    → ReadsMark Week (c ∷ cs) rest
+small_read_by c cs rest t e h =
+    record { mark = 119 ∷ []; is_mark = small_letter; joined = byte_read_by 119 c cs rest t e h }
 
-letter_read_by : (c : ℕ) (cs rest : List ℕ) (t : Bool) → (c == 87) ≡ t → cond t (Some cs) (cond (c == 119) (Some cs) None) ≡ Some rest → ReadsMark true (c ∷ cs) rest
-letter_read_by c cs rest true e h = record { mark = 87 ∷ []; is_mark = capital_letter; joined = byte_read_by 87 c cs rest true e h }
+letter_read_by : (c : ℕ) (cs rest : List ℕ) (t : Bool) → (c == 87) ≡ t
+    → cond t (Some cs) (cond (c == 119) (Some cs) None) ≡ Some rest → ReadsMark Week (c ∷ cs) rest
+letter_read_by c cs rest true e h =
+    record { mark = 87 ∷ []; is_mark = capital_letter; joined = byte_read_by 87 c cs rest true e h }
 letter_read_by c cs rest false e h = small_read_by c cs rest (c == 119) refl h
 
-mark_read : (weeks : Bool) (bytes rest : List ℕ) → after_mark weeks bytes ≡ Some rest → ReadsMark weeks bytes rest
+mark_read : (grammar : Grammar) (bytes rest : List ℕ) → after_mark grammar bytes ≡ Some rest
+    → ReadsMark grammar bytes rest
 unfolding after_mark after_week_letter
-mark_read true [] rest e = absurd (cc)
-mark_read true (c ∷ cs) rest e = letter_read_by c cs rest (c == 87) refl e
-mark_read false bytes rest e = record { mark = []; is_mark = of_month; joined = some_inside e }
+mark_read Civil bytes rest e = record { mark = []; is_mark = of_month; joined = some_inside e }
+mark_read Week [] rest e = absurd (cc)
+mark_read Week (c ∷ cs) rest e = letter_read_by c cs rest (c == 87) refl e
+mark_read LongCount bytes rest e = absurd (cc)
+mark_read Roman bytes rest e = absurd (cc)
 
-mark_take : (weeks : Bool) (mark x : List ℕ) → IsMark weeks mark → after_mark weeks (mark ++ x) ≡ Some x
+mark_take : (grammar : Grammar) (mark x : List ℕ) → IsMark grammar mark → after_mark grammar (mark ++ x) ≡ Some x
 unfolding after_mark after_week_letter
 mark_take _ _ x of_month = refl
 mark_take _ _ x capital_letter = refl
 mark_take _ _ x small_letter = refl
 
 -- the parts of a date text, one after the other
-civil_joined : (text y after_year marked mark month_on m after_month day_on d after_day : List ℕ) → text ≡ y ++ after_year → after_year ≡ 45 ∷ marked → marked ≡ mark ++ month_on → month_on ≡ m ++ after_month → after_month ≡ 45 ∷ day_on → day_on ≡ d ++ after_day → after_day ≡ [] → text ≡ y ++ 45 ∷ (mark ++ (m ++ 45 ∷ d))
-civil_joined text y after_year marked mark month_on m after_month day_on d after_day a b h c e f g = rw (a, b, h, c, e, f, g, append-nil) refl
+civil_joined : (text y after_year marked mark month_on m after_month day_on d after_day : List ℕ)
+    → text ≡ y ++ after_year → after_year ≡ 45 ∷ marked → marked ≡ mark ++ month_on → month_on ≡ m ++ after_month
+    → after_month ≡ 45 ∷ day_on → day_on ≡ d ++ after_day → after_day ≡ [] → text ≡ y ++ 45 ∷ (mark ++ (m ++ 45 ∷ d))
+civil_joined text y after_year marked mark month_on m after_month day_on d after_day a b h c e f g =
+    rw (a, b, h, c, e, f, g, append-nil) refl
 
-pub civil_read : (weeks : Bool) (bytes : List ℕ) (z : ℤ) (m d : ℕ) → civil_at weeks bytes ≡ Some (z, m, d) → IsCivilText weeks bytes z m d
+pub civil_read : (grammar : Grammar) (bytes : List ℕ) (z : ℤ) (m d : ℕ) → civil_at grammar bytes ≡ Some (z, m, d)
+    → IsCivilText grammar bytes z m d
 unfolding civil_at
-civil_read weeks bytes z m d e =
+civil_read grammar bytes z m d e =
     let a = bind_some (year_at bytes) _ (z, m, d) e in
     let b = bind_some (after_byte 45 a.0.1) _ (z, m, d) a.2 in
-    let l = bind_some (after_mark weeks b.0) _ (z, m, d) b.2 in
+    let l = bind_some (after_mark grammar b.0) _ (z, m, d) b.2 in
     let c = bind_some (number_at 1 l.0) _ (z, m, d) l.2 in
     let s = bind_some (after_byte 45 c.0.1) _ (z, m, d) c.2 in
     let k = bind_some (number_at 1 s.0) _ (z, m, d) s.2 in
     let whole = all_is_read k.0.1 (a.0.0, c.0.0, k.0.0) (z, m, d) k.2 in
     let year = year_read bytes a.0.0 a.0.1 a.1 in
-    let mark = mark_read weeks b.0 l.0 l.1 in
+    let mark = mark_read grammar b.0 l.0 l.1 in
     let month = number_read 1 l.0 c.0.0 c.0.1 c.1 in
     let day = number_read 1 s.0 k.0.0 k.0.1 k.1 in
     record {
@@ -245,7 +297,8 @@ civil_read weeks bytes z m d e =
       is_mark = mark.is_mark;
       is_month = subst (IsNumeral 2 month.ds) (ap (λ p. p.1) whole.1) month.numeral;
       is_day = subst (IsNumeral 2 day.ds) (ap (λ p. p.2) whole.1) day.numeral;
-      joined = civil_joined bytes year.text a.0.1 b.0 mark.mark l.0 month.ds c.0.1 s.0 day.ds k.0.1 year.joined (byte_read 45 a.0.1 b.0 b.1) mark.joined month.joined (byte_read 45 c.0.1 s.0 s.1) day.joined whole.0;
+      joined = civil_joined bytes year.text a.0.1 b.0 mark.mark l.0 month.ds c.0.1 s.0 day.ds k.0.1 year.joined
+          (byte_read 45 a.0.1 b.0 b.1) mark.joined month.joined (byte_read 45 c.0.1 s.0 s.1) day.joined whole.0;
     }
 
 -- the places of a long count, one after the other
@@ -258,28 +311,44 @@ record ReadsPlace (bytes : List ℕ) (n : ℕ) (rest : List ℕ) : Type 0 where
   numeral : IsNumeral 4 ds n
   joined : bytes ≡ ds ++ 46 ∷ rest
 
-place_read : {B : Type 0} (bytes : List ℕ) (f : ℕ → List ℕ → Option B) (y : B) → (number_at 3 bytes >>= λ r. after_byte 46 r.1 >>= λ rest. f r.0 rest) ≡ Some y → (n : ℕ) × (rest : List ℕ) × ReadsPlace bytes n rest × (f n rest ≡ Some y)
+place_read : {B : Type 0} (bytes : List ℕ) (f : ℕ → List ℕ → Option B) (y : B)
+    → (number_at 3 bytes >>= λ r. after_byte 46 r.1 >>= λ rest. f r.0 rest) ≡ Some y
+    → (n : ℕ) × (rest : List ℕ) × ReadsPlace bytes n rest × (f n rest ≡ Some y)
 place_read bytes f y e =
     let a = bind_some (number_at 3 bytes) (λ r. after_byte 46 r.1 >>= λ rest. f r.0 rest) y e in
     let b = bind_some (after_byte 46 a.0.1) (λ rest. f a.0.0 rest) y a.2 in
-    let number = number_read 3 bytes a.0.0 a.0.1 a.1 in
-    (a.0.0, b.0, record { ds = number.ds; numeral = number.numeral; joined = number.joined ∙ ap (λ x. number.ds ++ x) (byte_read 46 a.0.1 b.0 b.1) }, b.2)
+    let number = number_read 3 bytes a.0.0 a.0.1 a.1 in (
+      a.0.0,
+      b.0,
+      record {
+        ds = number.ds;
+        numeral = number.numeral;
+        joined = number.joined
+            ∙ ap (λ x. number.ds ++ x) (byte_read 46 a.0.1 b.0 b.1);
+      },
+      b.2,
+    )
 
-final_read : {B : Type 0} (bytes : List ℕ) (f : ℕ → B) (y : B) → (number_at 3 bytes >>= λ r. all_read r.1 (f r.0)) ≡ Some y → (n : ℕ) × (ds : List ℕ) × IsNumeral 4 ds n × (bytes ≡ ds) × (f n ≡ y)
+final_read : {B : Type 0} (bytes : List ℕ) (f : ℕ → B) (y : B)
+    → (number_at 3 bytes >>= λ r. all_read r.1 (f r.0)) ≡ Some y
+    → (n : ℕ) × (ds : List ℕ) × IsNumeral 4 ds n × (bytes ≡ ds) × (f n ≡ y)
 final_read bytes f y e =
     let a = bind_some (number_at 3 bytes) (λ r. all_read r.1 (f r.0)) y e in
     let number = number_read 3 bytes a.0.0 a.0.1 a.1 in
     let whole = all_is_read a.0.1 (f a.0.0) y a.2 in
     (a.0.0, number.ds, number.numeral, last_place bytes number.ds a.0.1 number.joined whole.0, whole.1)
 
-long_joined : (text a x b y c z d w e : List ℕ) → text ≡ a ++ 46 ∷ x → x ≡ b ++ 46 ∷ y → y ≡ c ++ 46 ∷ z → z ≡ d ++ 46 ∷ w → w ≡ e → text ≡ a ++ 46 ∷ (b ++ 46 ∷ (c ++ 46 ∷ (d ++ 46 ∷ e)))
+long_joined : (text a x b y c z d w e : List ℕ) → text ≡ a ++ 46 ∷ x → x ≡ b ++ 46 ∷ y → y ≡ c ++ 46 ∷ z
+    → z ≡ d ++ 46 ∷ w → w ≡ e → text ≡ a ++ 46 ∷ (b ++ 46 ∷ (c ++ 46 ∷ (d ++ 46 ∷ e)))
 long_joined text a x b y c z d w e h i j k l = rw (h, i, j, k, l) refl
 
 Places : Type 0
 Places = ℕ × ℕ × ℕ × ℕ × ℕ
 
-same_places : (a b c d e p q r s t : ℕ) → ◌≡◌ {A = ℕ × ℕ × ℕ × ℕ × ℕ} (a, b, c, d, e) (p, q, r, s, t) → (a ≡ p) × (b ≡ q) × (c ≡ r) × (d ≡ s) × (e ≡ t)
-same_places a b c d e p q r s t h = (ap (λ x. x.0) h, ap (λ x. x.1) h, ap (λ x. x.2) h, ap (λ x. x.3) h, ap (λ x. x.4) h)
+same_places : (a b c d e p q r s t : ℕ) → ◌≡◌ {A = ℕ × ℕ × ℕ × ℕ × ℕ} (a, b, c, d, e) (p, q, r, s, t)
+    → (a ≡ p) × (b ≡ q) × (c ≡ r) × (d ≡ s) × (e ≡ t)
+same_places a b c d e p q r s t h =
+    (ap (λ x. x.0) h, ap (λ x. x.1) h, ap (λ x. x.2) h, ap (λ x. x.3) h, ap (λ x. x.4) h)
 
 spelled : (ds : List ℕ) (n p : ℕ) → n ≡ p → IsNumeral 4 ds n → IsNumeral 4 ds p
 spelled ds n p h is = subst (IsNumeral 4 ds) h is
@@ -288,9 +357,16 @@ pub long_read : (bytes : List ℕ) (p q r s t : ℕ) → long_at bytes ≡ Some 
 unfolding long_at Places
 long_read bytes p q r s t e =
     let y : Places = (p, q, r, s, t) in
-    let a = place_read {B = Places} bytes (λ b x. number_at 3 x >>= λ k. after_byte 46 k.1 >>= λ x2. number_at 3 x2 >>= λ u. after_byte 46 u.1 >>= λ x3. number_at 3 x3 >>= λ v. after_byte 46 v.1 >>= λ x4. number_at 3 x4 >>= λ w. all_read w.1 (b, k.0, u.0, v.0, w.0)) y e in
-    let b = place_read {B = Places} a.1 (λ k x2. number_at 3 x2 >>= λ u. after_byte 46 u.1 >>= λ x3. number_at 3 x3 >>= λ v. after_byte 46 v.1 >>= λ x4. number_at 3 x4 >>= λ w. all_read w.1 (a.0, k, u.0, v.0, w.0)) y a.3 in
-    let c = place_read {B = Places} b.1 (λ u x3. number_at 3 x3 >>= λ v. after_byte 46 v.1 >>= λ x4. number_at 3 x4 >>= λ w. all_read w.1 (a.0, b.0, u, v.0, w.0)) y b.3 in
+    let a = place_read {B = Places} bytes
+    (λ b x. number_at 3 x >>= λ k. after_byte 46 k.1 >>= λ x2. number_at 3 x2 >>= λ u. after_byte 46 u.1 >>=
+    λ x3. number_at 3 x3 >>= λ v. after_byte 46 v.1 >>= λ x4. number_at 3 x4 >>= λ w. all_read w.1
+    (b, k.0, u.0, v.0, w.0)) y e in
+    let b = place_read {B = Places} a.1
+    (λ k x2. number_at 3 x2 >>= λ u. after_byte 46 u.1 >>= λ x3. number_at 3 x3 >>= λ v. after_byte 46 v.1 >>=
+    λ x4. number_at 3 x4 >>= λ w. all_read w.1 (a.0, k, u.0, v.0, w.0)) y a.3 in
+    let c = place_read {B = Places} b.1
+    (λ u x3. number_at 3 x3 >>= λ v. after_byte 46 v.1 >>= λ x4. number_at 3 x4 >>= λ w. all_read w.1
+    (a.0, b.0, u, v.0, w.0)) y b.3 in
     let d = place_read {B = Places} c.1 (λ v x4. number_at 3 x4 >>= λ w. all_read w.1 (a.0, b.0, c.0, v, w.0)) y c.3 in
     let f = final_read {B = Places} d.1 (λ w. (a.0, b.0, c.0, d.0, w)) y d.3 in
     let same = same_places a.0 b.0 c.0 d.0 f.0 p q r s t f.4 in
@@ -305,14 +381,16 @@ long_read bytes p q r s t e =
       is_tun = spelled c.2.ds c.0 r same.2 c.2.numeral;
       is_uinal = spelled d.2.ds d.0 s same.3 d.2.numeral;
       is_kin = spelled f.1 f.0 t same.4 f.2;
-      joined = long_joined bytes a.2.ds a.1 b.2.ds b.1 c.2.ds c.1 d.2.ds d.1 f.1 a.2.joined b.2.joined c.2.joined d.2.joined f.3;
+      joined = long_joined bytes a.2.ds a.1 b.2.ds b.1 c.2.ds c.1 d.2.ds d.1 f.1 a.2.joined b.2.joined c.2.joined
+          d.2.joined f.3;
     }
 
 -- ---- and what is in the grammar is read
 digit_no_dash : (c : ℕ) → is_ascii_digit c ≡ true → (c == 45) ≡ false
 digit_no_dash c h = grind (arith, nat_tests)
 
-year_take : (text : List ℕ) (z : ℤ) (x : List ℕ) → IsYearText text z → NoDigitFirst x → year_at (text ++ x) ≡ Some (z, x)
+pub year_take : (text : List ℕ) (z : ℤ) (x : List ℕ) → IsYearText text z → NoDigitFirst x
+    → year_at (text ++ x) ≡ Some (z, x)
 unfolding year_at
 year_take [] z x (plain {n = n} h) stop = absurd (omega (arith, h.some))
 year_take (c ∷ cs) z x (plain {n = n} h) stop =
@@ -320,12 +398,13 @@ year_take (c ∷ cs) z x (plain {n = n} h) stop =
     rw (digit_no_dash c both.0, number_take 4 (c ∷ cs) x n h stop)
 year_take text z x (minus {text = ds} {n = n} h) stop = rw (number_take 4 ds x n h stop)
 
-pub civil_take : (weeks : Bool) (text : List ℕ) (z : ℤ) (m d : ℕ) → IsCivilText weeks text z m d → civil_at weeks text ≡ Some (z, m, d)
+pub civil_take : (grammar : Grammar) (text : List ℕ) (z : ℤ) (m d : ℕ) → IsCivilText grammar text z m d
+    → civil_at grammar text ≡ Some (z, m, d)
 unfolding civil_at after_byte
-civil_take weeks text z m d h =
+civil_take grammar text z m d h =
     let day = number_take 1 h.day_text [] d h.is_day tt in
     let month = number_take 1 h.month_text (45 ∷ h.day_text) m h.is_month refl in
-    let mark = mark_take weeks h.mark (h.month_text ++ 45 ∷ h.day_text) h.is_mark in
+    let mark = mark_take grammar h.mark (h.month_text ++ 45 ∷ h.day_text) h.is_mark in
     let year = year_take h.year_text z (45 ∷ (h.mark ++ (h.month_text ++ 45 ∷ h.day_text))) h.is_year refl in
     rw (h.joined, year, mark, month, rw append-nil at day)
 
@@ -354,7 +433,8 @@ zeros_digits : (k : ℕ) (ds : List ℕ) → IsTrue (all_digits ds) → IsTrue (
 zeros_digits zero ds h = h
 zeros_digits (suc k) ds h = zeros_digits k ds h
 
-pub padded_numeral : (width most n : ℕ) → width ≤ most → n < 10 ^ most → n < 100_000 → 1 ≤ most → IsNumeral most (padded width n) n
+pub padded_numeral : (width most n : ℕ) → width ≤ most → n < 10 ^ most → n < 100_000 → 1 ≤ most
+    → IsNumeral most (padded width n) n
 padded_numeral width most n fits small less one =
     let short : length (decimal n) ≤ most = length-decimal-le most n one small (omega arith) in
     let some : 0 < length (decimal n) = decimal_nonempty n (omega arith) in
@@ -365,17 +445,21 @@ padded_numeral width most n fits small less one =
       value = sym (zeros_value (width - length (decimal n)) (decimal n) ∙ digits_value-decimal own n (omega arith));
     }
 
-year_is_year : (z : ℤ) → IsBetween (neg_ℤ (pos 99_999)) (pos 99_999) z → IsYearText (canonical_year z) z
-year_is_year (pos n) h = plain (padded_numeral 4 5 n (omega arith) (omega (arith, ints, h)) (omega (arith, ints, h)) (omega arith))
-year_is_year (negsuc n) h = minus (padded_numeral 4 5 (suc n) (omega arith) (omega (arith, ints, h)) (omega (arith, ints, h)) (omega arith))
+pub year_is_year : (z : ℤ) → IsBetween (neg_ℤ (pos 99_999)) (pos 99_999) z → IsYearText (canonical_year z) z
+year_is_year (pos n) h =
+    plain (padded_numeral 4 5 n (omega arith) (omega (arith, ints, h)) (omega (arith, ints, h)) (omega arith))
+year_is_year (negsuc n) h =
+    minus (padded_numeral 4 5 (suc n) (omega arith) (omega (arith, ints, h)) (omega (arith, ints, h)) (omega arith))
 
 pub decimal_numeral : (most n : ℕ) → n < 10 ^ most → n < 100_000 → 1 ≤ most → IsNumeral most (decimal n) n
 decimal_numeral most n small less one =
     let none : 0 - length (decimal n) ≡ 0 = omega arith in
-    subst (λ ds. IsNumeral most ds n) (ap (λ k. replicate k 48 ++ decimal n) none) (padded_numeral 0 most n (omega arith) small less one)
+    subst (λ ds. IsNumeral most ds n) (ap (λ k. replicate k 48 ++ decimal n) none)
+    (padded_numeral 0 most n (omega arith) small less one)
 
 -- so it is read back to what it was written for
-pub canonical_civil_is : (z : ℤ) (m d : ℕ) → IsBetween (neg_ℤ (pos 99_999)) (pos 99_999) z → m ≤ 99 → d ≤ 99 → IsCivilText false (canonical_civil z m d) z m d
+pub canonical_civil_is : (z : ℤ) (m d : ℕ) → IsBetween (neg_ℤ (pos 99_999)) (pos 99_999) z → m ≤ 99 → d ≤ 99
+    → IsCivilText Civil (canonical_civil z m d) z m d
 canonical_civil_is z m d h i j = record {
   year_text = canonical_year z;
   mark = [];
@@ -388,7 +472,8 @@ canonical_civil_is z m d h i j = record {
   joined = refl;
 }
 
-pub canonical_week_is : (z : ℤ) (w d : ℕ) → IsBetween (neg_ℤ (pos 99_999)) (pos 99_999) z → w ≤ 99 → d ≤ 99 → IsCivilText true (canonical_week z w d) z w d
+pub canonical_week_is : (z : ℤ) (w d : ℕ) → IsBetween (neg_ℤ (pos 99_999)) (pos 99_999) z → w ≤ 99 → d ≤ 99
+    → IsCivilText Week (canonical_week z w d) z w d
 canonical_week_is z w d h i j = record {
   year_text = canonical_year z;
   mark = 87 ∷ [];

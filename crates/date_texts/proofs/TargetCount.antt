@@ -1,5 +1,6 @@
 -- How many targets there are at most, where none is named twice.
-use Rattle.std.proofs.Common.{◌≡◌, ◌≢◌, ◌<◌, ◌≤◌, ℕ, List, [], ◌∷◌, sym, ap, ◌∙◌, arith, inl, inr, length, map, get_or, Some, false, true, eqb}
+use Rattle.std.proofs.Common.{◌≡◌, ◌≢◌, ◌<◌, ℕ, List, [], ◌∷◌, sym, ap, ◌∙◌, arith, inl, inr, length, map}
+use Rattle.std.proofs.Common.{get_or, Some, false, true, eqb}
 use Rattle.std.specs.Prelude.{slice_get}
 use Rattle.std.specs.List.{list_any}
 use Rattle.std.proofs.lemmas.Bool.Decides.{eqb_tells}
@@ -9,9 +10,11 @@ use Rattle.std.proofs.lemmas.Map.Steps.{length-le_from_distinct_below}
 use Rattle.std.proofs.lemmas.Option.{slice_get-get_or}
 use Rattle.date_texts.specs.declared.calendar.Target.{Target}
 use Rattle.date_texts.specs.declared.calendar.Target.TheVariants.{Haab}
+use Rattle.date_texts.specs.declared.calendar.TheConstants.{MAX_TARGETS}
+use Rattle.date_texts.specs.Laws.{FewTargets}
 use Rattle.date_texts.proofs.TargetPlaces.{target_place, place_below, place_same}
 
-below : (ts : List Target) (q : ℕ) → list_any (eqb q) (map target_place ts) ≡ true → q < 13
+below : (ts : List Target) (q : ℕ) → list_any (eqb q) (map target_place ts) ≡ true → q < MAX_TARGETS
 below [] q e = cc
 below (t ∷ ts) q e =
     elim (eqb_tells q (target_place t)) [
@@ -20,7 +23,8 @@ below (t ∷ ts) q e =
     ]
 
 apart : (ts : List Target) → ((i j : ℕ) → i < j → j < length ts → slice_get ts i ≢ slice_get ts j)
-    → (i j d : ℕ) → i < j → j < length (map target_place ts) → eqb (get_or (map target_place ts) i d) (get_or (map target_place ts) j d) ≡ false
+    → (i j d : ℕ) → i < j → j < length (map target_place ts) → eqb (get_or (map target_place ts) i d)
+    (get_or (map target_place ts) j d) ≡ false
 apart ts h i j d lt le =
     let long = length-map ts target_place in
     let near : j < length ts = omega (arith, long, le) in
@@ -28,13 +32,16 @@ apart ts h i j d lt le =
     let there = get_or-map target_place ts i Haab d first in
     let here = get_or-map target_place ts j Haab d near in
     rw (there, here) (elim (eqb_tells (target_place (get_or ts i Haab)) (target_place (get_or ts j Haab))) [
-      | inl same ↦ absurd (h i j lt near (slice_get-get_or ts i Haab first ∙ (ap Some (place_same _ _ same.1) ∙ sym (slice_get-get_or ts j Haab near))))
+      | inl same ↦ absurd (h i j lt near
+          (slice_get-get_or ts i Haab first
+          ∙ (ap Some (place_same _ _ same.1) ∙ sym (slice_get-get_or ts j Haab near))))
       | inr other ↦ other.0
     ])
 
--- targets of which none is named twice are thirteen at most
-pub few : (ts : List Target) → ((i j : ℕ) → i < j → j < length ts → slice_get ts i ≢ slice_get ts j) → length ts ≤ 13
+-- targets of which none is named twice are no more than there are targets
+pub few : FewTargets
 few ts h =
     let long = length-map ts target_place in
-    let short = length-le_from_distinct_below (map target_place ts) 13 (IsDistinct-from_apart eqb (map target_place ts) (apart ts h)) (below ts) in
+    let short = length-le_from_distinct_below (map target_place ts) MAX_TARGETS
+    (IsDistinct-from_apart eqb (map target_place ts) (apart ts h)) (below ts) in
     omega (arith, long, short)

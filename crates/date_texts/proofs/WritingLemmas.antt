@@ -1,9 +1,10 @@
 -- Digits two at a time.
-use Rattle.std.proofs.Common.{◌≡◌, ℕ, ◌+◌, ◌-◌, ◌<◌, ◌≤◌, ◌%◌, ◌/◌, List, [], ◌∷◌, ◌++◌, length, replicate, take, drop, refl, sym, ap, ◌∙◌, arith, append_assoc, inl, inr, eq-zero-or-pos}
+use Rattle.std.proofs.Common.{◌≡◌, ℕ, ◌+◌, ◌-◌, ◌<◌, ◌≤◌, ◌%◌, ◌/◌, List, [], ◌∷◌, ◌++◌, length, replicate, take}
+use Rattle.std.proofs.Common.{drop, refl, sym, ap, ◌∙◌, arith, append_assoc, inl, inr, eq-zero-or-pos}
 use Rattle.std.specs.Fmt.{decimal}
 use Rattle.std.proofs.lemmas.Fmt.{decimal_digit}
 use Rattle.itoa.proofs.Decimal.{pair, decimal_two, decimal_pair, length_one, length_pair, length_four}
-use Rattle.date_texts.specs.DateText.{padded}
+use Rattle.date_texts.specs.Numerals.{padded}
 
 two_digits : (n : ℕ) → n ≤ 99 → padded 2 n ≡ pair n
 two_digits n h =
@@ -40,7 +41,8 @@ year_by_pairs n h =
           small_year n (omega arith) ∙ rw (none, rest) refl
       | inr g ↦
           let parts = decimal_pair n (omega arith) (omega arith) in
-          let zeros : 4 - length (decimal n) ≡ 2 - length (decimal (n / 100)) = omega (arith, length_pair n (omega arith) (omega arith)) in
+          let zeros : 4 - length (decimal n) ≡ 2 - length (decimal (n / 100)) =
+          omega (arith, length_pair n (omega arith) (omega arith)) in
           ap (λ k. replicate k 48 ++ decimal n) zeros
           ∙ ap (λ (ds : List ℕ). replicate (2 - length (decimal (n / 100))) 48 ++ ds) parts
           ∙ sym (append_assoc (replicate (2 - length (decimal (n / 100))) 48) (decimal (n / 100)) (pair (n % 100)))
@@ -48,7 +50,8 @@ year_by_pairs n h =
     ]
 
 pub five_digits : (n : ℕ) → 10_000 ≤ n → n < 100_000 → length (decimal n) ≡ 5
-five_digits n g h = let first = length_one (n / 10000) (omega arith) in omega (arith, first, length_four n g (omega arith))
+five_digits n g h = let first = length_one (n / 10000) (omega arith) in omega
+    (arith, first, length_four n g (omega arith))
 
 -- and one of five
 pub long_year : (n : ℕ) → 10_000 ≤ n → n < 100_000 → padded 4 n ≡ decimal n
@@ -57,7 +60,8 @@ long_year n g h =
     ap (λ k. replicate k 48 ++ decimal n) none
 
 -- the last two of three digits
-pub last_two : (n : ℕ) (digits part : List ℕ) → n ≤ 99 → digits ≡ decimal (100 + n) → part ≡ take 2 (drop 1 digits) → part ≡ padded 2 n
+pub last_two : (n : ℕ) (digits part : List ℕ) → n ≤ 99 → digits ≡ decimal (100 + n) → part ≡ take 2 (drop 1 digits)
+    → part ≡ padded 2 n
 last_two n digits part h p e = e ∙ ap (λ (ds : List ℕ). take 2 (drop 1 ds)) (p ∙ hundred_and n h) ∙ sym (two_digits n h)
 
 pub three_long : (n : ℕ) (digits : List ℕ) → n ≤ 99 → digits ≡ decimal (100 + n) → length digits ≡ 3

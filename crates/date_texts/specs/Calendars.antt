@@ -1,6 +1,6 @@
 -- The calendars: their names, which are this project's own, and their dates, day numbers and first days,
 -- by each calendar's own rules (Reingold and Dershowitz, Calendrical Calculations; for week dates ISO 8601).
-use Rattle.std.specs.Prelude.{ℕ, ℤ, Option, Some, None, Bool, true, false, List, [], ◌∷◌, codes}
+use Rattle.std.specs.Prelude.{◌≢◌, ℕ, ℤ, pos, Option, Some, None, List, [], ◌∷◌, ◌++◌, map, codes}
 use Rattle.day_numbers.specs.declared.ymd.Ymd.{Ymd}
 use Rattle.day_numbers.specs.Rules.{Rules, IsDateOf, day_number_of, first_day_of}
 use Rattle.solar_calendars.specs.Gregorian.{gregorian_rules}
@@ -12,8 +12,11 @@ use Rattle.lunar_calendars.specs.Islamic.{islamic_rules}
 use Rattle.lunar_calendars.specs.Hebrew.{hebrew_rules}
 use Rattle.maya_calendars.specs.Rounds.{epoch as long_count_epoch}
 use Rattle.date_texts.specs.declared.calendar.Calendar.{Calendar}
-use Rattle.date_texts.specs.declared.calendar.Calendar.TheVariants.{Gregorian, Iso, Julian, Coptic, Ethiopic, Egyptian, Armenian, Islamic, Hebrew, Longcount, French}
+use Rattle.date_texts.specs.declared.calendar.Calendar.TheVariants.{Gregorian, Iso, Julian, Coptic, Ethiopic, Egyptian}
+use Rattle.date_texts.specs.declared.calendar.Calendar.TheVariants.{Armenian, Islamic, Hebrew, Longcount, French, Roman}
 use Rattle.date_texts.specs.declared.calendar.Target.{Target}
+use Rattle.date_texts.specs.declared.grammar.Grammar.{Grammar}
+use Rattle.date_texts.specs.declared.grammar.Grammar.TheVariants as grammars
 use Rattle.date_texts.specs.declared.calendar.Target.TheVariants.{Date as DateTarget, Haab, Tzolkin}
 
 abbrev pub calendar_name : Calendar → List ℕ
@@ -28,6 +31,7 @@ calendar_name Islamic = codes "islamic"
 calendar_name Hebrew = codes "hebrew"
 calendar_name Longcount = codes "longcount"
 calendar_name French = codes "french"
+calendar_name Roman = codes "roman"
 
 abbrev pub target_name : Target → List ℕ
 target_name (DateTarget calendar) = calendar_name calendar
@@ -36,17 +40,20 @@ target_name Tzolkin = codes "tzolkin"
 
 -- every calendar, in the order of the default targets
 abbrev pub all_calendars : List Calendar
-all_calendars = Gregorian ∷ Iso ∷ Julian ∷ Coptic ∷ Ethiopic ∷ Egyptian ∷ Armenian ∷ Islamic ∷ Hebrew ∷ Longcount ∷ French ∷ []
+all_calendars =
+    Gregorian ∷ Iso ∷ Julian ∷ Coptic ∷ Ethiopic ∷ Egyptian ∷ Armenian ∷ Islamic ∷ Hebrew ∷ Longcount ∷ French ∷ Roman
+    ∷ []
 
 -- the default targets: the dates of every calendar, the haab and the tzolkin
 abbrev pub all_targets : List Target
-all_targets = DateTarget Gregorian ∷ DateTarget Iso ∷ DateTarget Julian ∷ DateTarget Coptic ∷ DateTarget Ethiopic ∷ DateTarget Egyptian ∷ DateTarget Armenian ∷ DateTarget Islamic ∷ DateTarget Hebrew ∷ DateTarget Longcount ∷ DateTarget French ∷ Haab ∷ Tzolkin ∷ []
+all_targets = map DateTarget all_calendars ++ Haab ∷ Tzolkin ∷ []
 
--- how a calendar tells days: by rules for its years and months, by years of weeks, or by a count in places
+-- how a calendar tells days: by rules for its years and months, by years of weeks, by a count in places, or by names
 pub data Reckoning : Type 0 where
   by_rules : Rules → Reckoning
   by_weeks : Reckoning
   by_places : Reckoning
+  by_names : Reckoning
 
 abbrev pub reckoning : Calendar → Reckoning
 reckoning Gregorian = by_rules gregorian_rules
@@ -60,25 +67,44 @@ reckoning Islamic = by_rules islamic_rules
 reckoning Hebrew = by_rules hebrew_rules
 reckoning Longcount = by_places
 reckoning French = by_rules french_rules
+reckoning Roman = by_names
 
--- the numbers are a date: a year, a month and a day, or a year, a week and a weekday; no long count is
--- written so
+-- how the dates of a calendar are written
+abbrev pub grammar_by : Reckoning → Grammar
+grammar_by (by_rules rules) = grammars.Civil
+grammar_by by_weeks = grammars.Week
+grammar_by by_places = grammars.LongCount
+grammar_by by_names = grammars.Roman
+
+abbrev pub grammar : Calendar → Grammar
+grammar calendar = grammar_by (reckoning calendar)
+
+-- a date of the calendar is a year, a month and a day, or a year, a week and a weekday
+abbrev pub IsCivil : Calendar → Type 0
+IsCivil calendar = (calendar ≢ Longcount) × (calendar ≢ Roman)
+
+-- the numbers are a date: a year, a month and a day, or a year, a week and a weekday; no long count and no Roman date
+-- is written so
 abbrev pub IsDateBy : Reckoning → Ymd → Type 0
 IsDateBy (by_rules rules) d = IsDateOf rules d.year d.month d.day
 IsDateBy by_weeks d = IsWeekDate d.year d.month d.day
 IsDateBy by_places d = ⊥
+IsDateBy by_names d = ⊥
 
--- the fixed day number of a date; where no numbers are a date, the count's beginning
+-- the fixed day number of a date; 0, on which nothing rests, where no numbers are a date
 abbrev pub day_number_by : Reckoning → Ymd → ℤ
 day_number_by (by_rules rules) d = day_number_of rules d.year d.month d.day
 day_number_by by_weeks d = week_day_number d.year d.month d.day
-day_number_by by_places d = long_count_epoch
+day_number_by by_places d = pos 0
+day_number_by by_names d = pos 0
 
--- the first day where there is one: years of weeks go back without end, and 0.0.0.0.0 begins the long count
+-- the first day where there is one: years of weeks and Roman names go back without end, and 0.0.0.0.0 begins the long
+-- count
 abbrev pub first_day_by : Reckoning → Option ℤ
 first_day_by (by_rules rules) = first_day_of rules
 first_day_by by_weeks = None
 first_day_by by_places = Some long_count_epoch
+first_day_by by_names = None
 
 -- the calendar has this date
 abbrev pub IsDateIn : Calendar → Ymd → Type 0
@@ -91,13 +117,3 @@ day_number_in calendar d = day_number_by (reckoning calendar) d
 -- the first day of a calendar that has one
 abbrev pub first_day_in : Calendar → Option ℤ
 first_day_in calendar = first_day_by (reckoning calendar)
-
--- years are divided into weeks
-abbrev pub are_weeks : Reckoning → Bool
-are_weeks (by_rules rules) = false
-are_weeks by_weeks = true
-are_weeks by_places = false
-
--- a date of the calendar is a year, a week and a weekday
-abbrev pub has_weeks : Calendar → Bool
-has_weeks calendar = are_weeks (reckoning calendar)

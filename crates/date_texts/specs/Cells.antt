@@ -16,7 +16,8 @@ use Rattle.date_texts.specs.declared.date.Date.{Date}
 -- the text is the canonical text of a date that the calendar has and whose day is n, or it is empty
 -- and day n is before the calendar's first day
 pub data IsDateCell (calendar : Calendar) (n : ℤ) (text : List ℕ) : Type 0 where
-  on_date : (date : Date) → calendar_of_date date ≡ calendar → IsDateOfCalendar date → day_number_of_date date ≡ n → text ≡ canonical_text date → IsDateCell calendar n text
+  on_date : (date : Date) → calendar_of_date date ≡ calendar → IsDateOfCalendar date → day_number_of_date date ≡ n
+      → text ≡ canonical_text date → IsDateCell calendar n text
   before_first_day : ¬ (IsSinceFirstDay (first_day_in calendar) n) → text ≡ [] → IsDateCell calendar n text
 
 -- a number without leading zeros, one space (32) and a name

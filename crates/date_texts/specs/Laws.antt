@@ -4,6 +4,7 @@ use Rattle.std.specs.List.{list_all}
 use Rattle.date_texts.specs.declared.calendar.Calendar.{Calendar}
 use Rattle.date_texts.specs.declared.calendar.Target.{Target}
 use Rattle.date_texts.specs.declared.date.Date.{Date}
+use Rattle.date_texts.specs.declared.calendar.TheConstants.{MAX_TARGETS}
 use Rattle.date_texts.specs.declared.calendar.TheConstants.Target.{ALL}
 use Rattle.date_texts.specs.Calendars.{calendar_name, target_name, all_targets}
 use Rattle.date_texts.specs.Cells.{IsCell, is_plain}
@@ -21,7 +22,8 @@ OneTarget = (text : List ℕ) (t u : Target) → IsNamed text (target_name t) �
 
 -- a text says one date of a calendar at most
 abbrev pub OneDateText : Type 0
-OneDateText = (calendar : Calendar) (text : List ℕ) (d e : Date) → IsDateText calendar text d → IsDateText calendar text e → d ≡ e
+OneDateText = (calendar : Calendar) (text : List ℕ) (d e : Date) → IsDateText calendar text d
+    → IsDateText calendar text e → d ≡ e
 
 -- the canonical text of a date says that date in its calendar
 abbrev pub CanonicalTextsReadBack : Type 0
@@ -35,9 +37,11 @@ OneCell = (target : Target) (n : ℤ) (x y : List ℕ) → IsCell target n x →
 abbrev pub CellsArePlain : Type 0
 CellsArePlain = (target : Target) (n : ℤ) (text : List ℕ) → IsCell target n text → IsTrue (list_all is_plain text)
 
--- targets of which none stands at two places are thirteen at most
+-- targets of which none stands at two places are no more than there are targets
 abbrev pub FewTargets : Type 0
-FewTargets = (targets : List Target) → ((i j : ℕ) → i < j → j < length targets → slice_get targets i ≢ slice_get targets j) → length targets ≤ 13
+FewTargets = (targets : List Target)
+    → ((i j : ℕ) → i < j → j < length targets → slice_get targets i ≢ slice_get targets j)
+    → length targets ≤ MAX_TARGETS
 
 -- the constant `Target::ALL` is every calendar's dates, the haab and the tzolkin, in the order of their list
 abbrev pub DefaultTargets : Type 0

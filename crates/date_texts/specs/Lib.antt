@@ -3,6 +3,10 @@ pub mod Calendars
 pub mod Dates
 pub mod Trimmed
 pub mod Names
+pub mod Numerals
+pub mod CivilText
+pub mod LongText
+pub mod RomanText
 pub mod DateText
 pub mod Reading
 pub mod Cells

@@ -1,9 +1,11 @@
 -- Why records are refused, by number. Both are this project's own.
 use Rattle.std.specs.Prelude.{ℕ}
 use Rattle.day_numbers.specs.declared.calendar.DateFault.{DateFault}
-use Rattle.day_numbers.specs.declared.calendar.DateFault.TheVariants.{NoSuchDate as NoSuchDateFault, OutOfRange as OutOfRangeFault}
+use Rattle.day_numbers.specs.declared.calendar.DateFault.TheVariants.{NoSuchDate as NoSuchDateFault}
+use Rattle.day_numbers.specs.declared.calendar.DateFault.TheVariants.{OutOfRange as OutOfRangeFault}
 use Rattle.date_texts.specs.declared.refusal.Refusal.{Refusal}
-use Rattle.date_texts.specs.declared.refusal.Refusal.TheVariants.{FieldCount, FieldTooLong, NotUtf8, UnknownCalendar, DateText, NoSuchDate, OutOfRange}
+use Rattle.date_texts.specs.declared.refusal.Refusal.TheVariants.{FieldCount, FieldTooLong, NotUtf8, UnknownCalendar}
+use Rattle.date_texts.specs.declared.refusal.Refusal.TheVariants.{DateText, NoSuchDate, OutOfRange}
 
 abbrev pub refusal_number : Refusal → ℕ
 refusal_number FieldCount = 1

@@ -1,7 +1,10 @@
-ghost use Rattle.std.specs.Prelude.{◌≡◌, ◌≢◌, ◌↔◌, IsOk, IsSome, IfOk, IfSome, Err, Some};
+//! The calendars, and what a table can show of a day.
+
+ghost use Rattle.std.specs.Prelude.{◌≡◌, ◌↔◌, IsOk, IsSome, IfOk, IfSome, Err, Some};
 ghost use Rattle.day_numbers.specs.Days.{IsDayNumber, IsSinceFirstDay};
 ghost use Rattle.day_numbers.specs.declared.ymd.Ymd.{Ymd};
 
+use crate::grammar::Grammar;
 use day_numbers::{ArithmeticCalendar, DateFault, Day, Ymd};
 use lunar_calendars::{Hebrew, Islamic};
 use solar_calendars::{Armenian, Coptic, Egyptian, Ethiopic, French, Gregorian, IsoWeek, Julian};
@@ -20,13 +23,16 @@ pub enum Calendar {
     Hebrew,
     Longcount,
     French,
+    /// The Roman names of the days of the Julian calendar.
+    Roman,
 }
 
 impl Calendar {
-    ghost use Rattle.date_texts.specs.Calendars.{calendar_name, IsDateIn, day_number_in, first_day_in, has_weeks as has_weeks_spec};
+    ghost use Rattle.date_texts.specs.Calendars.{calendar_name, IsDateIn, day_number_in, first_day_in, IsCivil};
+    ghost use Rattle.date_texts.specs.Calendars.{grammar as grammar_spec};
 
     /// Every calendar once, in the order of the default targets.
-    pub const ALL: [Calendar; 11] = [
+    pub const ALL: [Calendar; 12] = [
         Calendar::Gregorian,
         Calendar::Iso,
         Calendar::Julian,
@@ -38,6 +44,7 @@ impl Calendar {
         Calendar::Hebrew,
         Calendar::Longcount,
         Calendar::French,
+        Calendar::Roman,
     ];
 
     /// The name in small letters, as registers and the headings of tables have it.
@@ -56,16 +63,19 @@ impl Calendar {
             Calendar::Hebrew => "hebrew",
             Calendar::Longcount => "longcount",
             Calendar::French => "french",
+            Calendar::Roman => "roman",
         }
     }
 
-    /// Whether a date of the calendar is a year, a week and a weekday.
-    pub(crate) fn has_weeks(self) -> bool
-        ensures { result ≡ has_weeks_spec self }
+    /// How the dates of the calendar are written.
+    pub(crate) fn grammar(self) -> Grammar
+        ensures { result ≡ grammar_spec self }
     {
         match self {
-            Calendar::Iso => true,
-            _ => false,
+            Calendar::Iso => Grammar::Week,
+            Calendar::Longcount => Grammar::LongCount,
+            Calendar::Roman => Grammar::Roman,
+            _ => Grammar::Civil,
         }
     }
 
@@ -92,15 +102,15 @@ impl Calendar {
             Calendar::Armenian => Armenian.day_of(date),
             Calendar::Islamic => Islamic.day_of(date),
             Calendar::Hebrew => Hebrew.day_of(date),
-            Calendar::Longcount => Err(DateFault::NoSuchDate),
             Calendar::French => French.day_of(date),
+            Calendar::Longcount | Calendar::Roman => Err(DateFault::NoSuchDate),
         }
     }
 
-    /// The one date of the calendar whose day this is, or `None` exactly before its first day. The
-    /// calendar is not the long count.
+    /// The one date of the calendar whose day this is, or `None` exactly before its first day. Its dates are years,
+    /// months and days, or years, weeks and weekdays.
     pub(crate) fn date_on(self, day: Day) -> Option<Ymd>
-        requires { self ≢ Calendar.Longcount }
+        requires { IsCivil self }
         ensures dated { IsSome result ↔ IsSinceFirstDay (first_day_in self) day.number }
         ensures value { IfSome result (λ date. IsDateIn self date × (day_number_in self date ≡ day.number)) }
     {
@@ -114,11 +124,14 @@ impl Calendar {
             Calendar::Armenian => Armenian.date_on(day),
             Calendar::Islamic => Islamic.date_on(day),
             Calendar::Hebrew => Hebrew.date_on(day),
-            Calendar::Longcount => unreachable!(),
             Calendar::French => French.date_on(day),
+            Calendar::Longcount | Calendar::Roman => unreachable!(),
         }
     }
 }
+
+/// How many targets there are, and so the most that a list can name of which none stands at two places.
+pub const MAX_TARGETS: usize = 14;
 
 /// What a table shows of each day: the date in a calendar, the haab or the tzolkin.
 #[derive(Clone, Copy, PartialEq, Eq, Debug)]
@@ -133,7 +146,7 @@ impl Target {
 
     /// Every target once, in the order in which a table has them by default: the calendars, the haab and
     /// the tzolkin.
-    pub const ALL: [Target; 13] = [
+    pub const ALL: [Target; MAX_TARGETS] = [
         Target::Date(Calendar::Gregorian),
         Target::Date(Calendar::Iso),
         Target::Date(Calendar::Julian),
@@ -145,6 +158,7 @@ impl Target {
         Target::Date(Calendar::Hebrew),
         Target::Date(Calendar::Longcount),
         Target::Date(Calendar::French),
+        Target::Date(Calendar::Roman),
         Target::Haab,
         Target::Tzolkin,
     ];

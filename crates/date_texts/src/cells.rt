@@ -1,9 +1,13 @@
+//! The cells of a table.
+
 ghost use Rattle.std.specs.Prelude.{◌≡◌, ◌≤◌, [], ℕ, List, length};
 ghost use Rattle.date_texts.specs.Cells.{IsDateCell, IsCell, numbered_name};
 
-use super::calendar::{Calendar, Target};
-use super::days::date_on_day;
-use super::write::{push_date, push_number};
+use crate::calendar::{Calendar, Target};
+use crate::days::date_on_day;
+use crate::laws::one_cell;
+use crate::numerals::push_number;
+use crate::write::push_date;
 use arrayvec::ArrayString;
 use day_numbers::Day;
 use maya_calendars::{haab_on, tzolkin_on};
@@ -57,6 +61,7 @@ pub fn cell(target: Target, day: Day) -> ArrayString<24>
     ensures value { IsCell target day.number result.bytes }
     ensures only { (text : List ℕ) → IsCell target day.number text → text ≡ result.bytes }
 {
+    one_cell();
     let mut text = ArrayString::new();
     push_cell(&mut text, target, day);
     text

@@ -1,13 +1,17 @@
+//! The days of dates, and the dates on days.
+
 ghost use Rattle.std.specs.Prelude.{◌≡◌, ◌↔◌, IsOk, IsSome, IfOk, IfSome, Err};
 ghost use Rattle.day_numbers.specs.Days.{IsDayNumber, IsSinceFirstDay};
 ghost use Rattle.date_texts.specs.Calendars.{first_day_in};
 ghost use Rattle.date_texts.specs.Dates.{calendar_of_date, IsDateOfCalendar, day_number_of_date};
 
-use super::calendar::Calendar;
-use super::date::{CivilDate, Date};
-use super::refusal::Refusal;
+use crate::calendar::Calendar;
+use crate::date::{CivilDate, Date};
+use crate::grammar::Grammar;
+use crate::refusal::Refusal;
 use day_numbers::Day;
 use maya_calendars::{long_day_of, long_on};
+use solar_calendars::{roman_day_of, roman_on};
 
 /// The day of a date.
 ///
@@ -25,6 +29,7 @@ pub fn day_of_date(date: &Date) -> Result<Day, Refusal>
     match *date {
         Date::Civil(civil) => Ok(civil.calendar().day_of(civil.ymd())?),
         Date::Long(count) => Ok(long_day_of(count)?),
+        Date::Roman(date) => Ok(roman_day_of(&date)?),
     }
 }
 
@@ -34,8 +39,11 @@ pub(crate) fn date_on_day(calendar: Calendar, day: Day) -> Option<Date>
     ensures value { IfSome result (λ date. (calendar_of_date date ≡ calendar)
         × IsDateOfCalendar date × (day_number_of_date date ≡ day.number)) }
 {
-    match calendar {
-        Calendar::Longcount => Some(Date::Long(long_on(day)?)),
-        _ => Some(Date::Civil(CivilDate::new(calendar, calendar.date_on(day)?)?)),
+    match calendar.grammar() {
+        Grammar::Civil | Grammar::Week => {
+            Some(Date::Civil(CivilDate::new(calendar, calendar.date_on(day)?)?))
+        }
+        Grammar::LongCount => Some(Date::Long(long_on(day)?)),
+        Grammar::Roman => Some(Date::Roman(roman_on(day))),
     }
 }

@@ -1,8 +1,10 @@
 //! Laws of names, date texts, cells and lists of targets, for the proofs of what stands on them.
 
-ghost use Rattle.date_texts.specs.Laws.{CanonicalTextsReadBack, CellsArePlain, DefaultTargets, FewTargets, OneCalendar, OneCell, OneDateText, OneTarget};
+ghost use Rattle.date_texts.specs.Laws.{CanonicalTextsReadBack, CellsArePlain, DefaultTargets, FewTargets};
+ghost use Rattle.date_texts.specs.Laws.{OneCalendar, OneCell, OneDateText, OneTarget};
 
 use maya_calendars::laws::{haab_days_in_range, tzolkin_numbers_in_range};
+use solar_calendars::laws::one_roman_date;
 
 /// A text names one calendar at most.
 pub fn one_calendar()
@@ -27,7 +29,9 @@ pub fn canonical_texts_read_back()
 /// A target and a day have one cell at most.
 pub fn one_cell()
     ensures { OneCell }
-{}
+{
+    one_roman_date();
+}
 
 /// The bytes of a cell are digits and letters of ASCII, spaces, dashes and dots.
 pub fn cells_are_plain()
@@ -37,7 +41,7 @@ pub fn cells_are_plain()
     tzolkin_numbers_in_range();
 }
 
-/// Targets of which none stands at two places are thirteen at most.
+/// Targets of which none stands at two places are [`MAX_TARGETS`](crate::MAX_TARGETS) at most.
 pub fn few_targets()
     ensures { FewTargets }
 {}

@@ -7,16 +7,21 @@
 
 mod calendar;
 mod cells;
+mod civil_text;
 mod date;
 mod days;
+mod grammar;
 pub mod laws;
+mod long_text;
 mod names;
+mod numerals;
 mod read;
 mod refusal;
+mod roman_text;
 mod trim;
 mod write;
 
-pub use calendar::{Calendar, Target};
+pub use calendar::{Calendar, MAX_TARGETS, Target};
 pub use cells::cell;
 pub use date::{CivilDate, Date};
 pub use days::day_of_date;
@@ -24,6 +29,7 @@ pub use maya_calendars::LongCount;
 pub use names::{calendar_named, target_named};
 pub use read::read_date;
 pub use refusal::Refusal;
+pub use solar_calendars::{RomanDate, RomanName};
 pub use trim::trimmed;
 pub use write::write_date;
 

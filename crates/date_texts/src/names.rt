@@ -1,11 +1,13 @@
+//! The calendars and targets that texts name.
+
 ghost use Rattle.std.specs.Prelude.{◌≡◌, ◌↔◌, Some};
 ghost use Rattle.date_texts.specs.Names.{IsNamed};
 ghost use Rattle.date_texts.specs.Calendars.{calendar_name, target_name};
 ghost use Rattle.date_texts.specs.declared.calendar.Calendar.{Calendar};
 ghost use Rattle.date_texts.specs.declared.calendar.Target.{Target};
 
-use super::calendar::{Calendar, Target};
-use super::trim::trimmed;
+use crate::calendar::{Calendar, Target};
+use crate::trim::trimmed;
 
 /// The target that a text names: the target's name in letters of either ASCII case, with any spaces and
 /// tabs before and after it. `None` exactly where the text names no target.

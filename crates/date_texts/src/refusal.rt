@@ -1,3 +1,5 @@
+//! Why records are refused.
+
 ghost use Rattle.std.specs.Prelude.{◌≡◌};
 
 use day_numbers::DateFault;

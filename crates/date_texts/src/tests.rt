@@ -1,4 +1,6 @@
-use super::*;
+//! Date texts, names and cells of known days.
+
+use crate::*;
 use day_numbers::{Day, Ymd};
 use std::test::Fail;
 
@@ -136,6 +138,19 @@ fn date_texts_name_days(rt: HostRuntime) -> Result<(), Fail> {
         ),
         (Calendar::French, "4000-13-6", "4000-13-06", no_such_date),
         (Calendar::French, "4-13-6", "0004-13-06", Ok(655_875)),
+        (Calendar::Roman, "0801-01-K8", "0801-01-K8", Ok(292_192)),
+        (Calendar::Roman, "-44-03-i1", "-0044-03-I1", Ok(-15_999)),
+        (Calendar::Roman, "-1-3-k6b", "-0001-03-K6B", Ok(-312)),
+        (Calendar::Roman, "-1-3-K6", "-0001-03-K6", Ok(-313)),
+        (Calendar::Roman, "1-3-K6B", "0001-03-K6B", no_such_date),
+        (Calendar::Roman, "0-1-K1", "0000-01-K1", no_such_date),
+        (Calendar::Roman, "1-1-K20", "0001-01-K20", no_such_date),
+        (Calendar::Roman, "1-1-K2", "0001-01-K2", Ok(-2)),
+        (Calendar::Roman, "1-1-k00", "0001-01-K0", no_such_date),
+        (Calendar::Roman, "1-1-n04", "0001-01-N4", Ok(0)),
+        (Calendar::Roman, "1-99-I99", "0001-99-I99", no_such_date),
+        (Calendar::Roman, "-99999-1-K2", "-99999-01-K2", out_of_range),
+        (Calendar::Roman, "\t1945-11-K3 ", "1945-11-K3", Ok(710_347)),
     ] {
         let date = read_date(calendar, text).ok().ok_or("a date text")?;
         assert_eq!(rt; write_date(&date).as_str(), written, "at {text}");
@@ -197,6 +212,24 @@ fn other_texts_are_refused(rt: HostRuntime) {
         "12,16,11,16,9",
         "7 Zac",
         "11 Muluc",
+        "1-1-X3",
+        "1-1-K",
+        "1-1-KK3",
+        "1-1-K003",
+        "1-1-K+3",
+        "1-1-K 3",
+        "1-1-III",
+        "1-1-K3A",
+        "1-3-K06B",
+        "1-3-K6BB",
+        "1-3-N6B",
+        "1-3-6B",
+        "1-3-K6\u{df}",
+        "1-3-\u{212a}6",
+        "1-003-K6",
+        "1--K6",
+        "3-K6",
+        "K6B",
     ] {
         for calendar in Calendar::ALL {
             let refusal = read_date(calendar, text).err();
@@ -205,16 +238,18 @@ fn other_texts_are_refused(rt: HostRuntime) {
     }
 }
 
-/// Texts of one grammar that other calendars do not read.
+/// Texts of one grammar that calendars of another do not read.
 #[test]
 fn each_calendar_has_its_grammar(rt: HostRuntime) {
     for calendar in Calendar::ALL {
         let weeks = calendar == Calendar::Iso;
         let places = calendar == Calendar::Longcount;
+        let names = calendar == Calendar::Roman;
         for (text, is_read) in [
-            ("1945-11-12", !weeks && !places),
+            ("1945-11-12", !weeks && !places && !names),
             ("1945-W11-2", weeks),
             ("1.9.4.5.11", places),
+            ("1945-11-K2", names),
         ] {
             assert_eq!(rt; read_date(calendar, text).is_ok(), is_read, "at {text}");
         }
@@ -235,6 +270,7 @@ fn calendars_and_targets_have_names(rt: HostRuntime) {
         "hebrew",
         "longcount",
         "french",
+        "roman",
         "haab",
         "tzolkin",
     ]) {
@@ -261,7 +297,8 @@ fn calendars_and_targets_have_names(rt: HostRuntime) {
         ("jul ian", None),
         ("long count", None),
         ("mayan", None),
-        ("roman", None),
+        ("ROMAN ", Some(Target::Date(Calendar::Roman))),
+        ("romans", None),
         ("julia", None),
         ("\u{a0}julian", None),
         ("\u{212a}ulian", None),
@@ -272,7 +309,7 @@ fn calendars_and_targets_have_names(rt: HostRuntime) {
     }
 }
 
-/// One day in all thirteen targets, and the day 0.0.0.0.0 and the day before it, on which some calendars
+/// One day in all fourteen targets, and the day 0.0.0.0.0 and the day before it, on which some calendars
 /// have no date yet.
 #[test]
 fn days_have_cells_in_each_target(rt: HostRuntime) -> Result<(), Fail> {
@@ -291,6 +328,7 @@ fn days_have_cells_in_each_target(rt: HostRuntime) -> Result<(), Fail> {
                 "5706-09-07",
                 "12.16.11.16.9",
                 "0154-02-21",
+                "1945-11-K3",
                 "7 Zac",
                 "11 Muluc",
             ],
@@ -309,6 +347,7 @@ fn days_have_cells_in_each_target(rt: HostRuntime) -> Result<(), Fail> {
                 "0647-06-11",
                 "0.0.0.0.0",
                 "",
+                "-3114-09-I8",
                 "8 Cumku",
                 "4 Ahau",
             ],
@@ -327,6 +366,7 @@ fn days_have_cells_in_each_target(rt: HostRuntime) -> Result<(), Fail> {
                 "0647-06-10",
                 "",
                 "",
+                "-3114-09-N1",
                 "7 Cumku",
                 "3 Cauac",
             ],
@@ -340,55 +380,56 @@ fn days_have_cells_in_each_target(rt: HostRuntime) -> Result<(), Fail> {
     Ok(())
 }
 
-/// Days in every target's column, as another program has them: the calendar of GNU Emacs, and for the
-/// Egyptian and Armenian columns a division of the days since the epoch by 365.
+/// Days in every target's column, as another program has them: the calendar of GNU Emacs, for the Egyptian and
+/// Armenian columns a division of the days since the epoch by 365, and for the Roman column a table of the days of a
+/// month, looked up at the Julian date.
 #[test]
 fn days_have_the_cells_of_another_program(rt: HostRuntime) -> Result<(), Fail> {
     for (number, cells) in [
         (
             227_015,
             "0622-07-19,0622-W29-5,0622-07-16,0338-11-22,0614-11-22,1370-04-28,0071-01-23,\
-             0001-01-01,4382-05-03,9.9.9.5.17,,15 Yaxkin,6 Caban",
+             0001-01-01,4382-05-03,9.9.9.5.17,,0622-08-K17,15 Yaxkin,6 Caban",
         ),
         (
             334_455,
             "0916-09-15,0916-W38-2,0916-09-10,0633-01-13,0909-01-13,1664-09-08,0365-06-03,\
-             0304-03-09,4677-07-11,10.4.7.13.17,,5 Kankin,1 Caban",
+             0304-03-09,4677-07-11,10.4.7.13.17,,0916-09-I4,5 Kankin,1 Caban",
         ),
         (
             456_789,
             "1251-08-24,1251-W34-4,1251-08-17,0967-12-24,1243-12-24,1999-11-07,0700-08-02,\
-             0649-05-27,5011-05-28,11.1.7.10.11,,4 Kayab,5 Chuen",
+             0649-05-27,5011-05-28,11.1.7.10.11,,1251-09-K16,4 Kayab,5 Chuen",
         ),
         (
             601_716,
             "1648-06-10,1648-W24-3,1648-05-31,1364-10-06,1640-10-06,2396-11-29,1097-08-24,\
-             1058-05-18,5408-03-20,12.1.10.2.18,,6 Cumku,8 Etznab",
+             1058-05-18,5408-03-20,12.1.10.2.18,,1648-06-K2,6 Cumku,8 Etznab",
         ),
         (
             654_415,
             "1792-09-22,1792-W38-6,1792-09-11,1509-01-14,1785-01-14,2541-04-13,1242-01-08,\
-             1207-02-05,5553-07-06,12.8.16.9.17,0001-01-01,0 Yaxkin,5 Caban",
+             1207-02-05,5553-07-06,12.8.16.9.17,0001-01-01,1792-09-I3,0 Yaxkin,5 Caban",
         ),
         (
             693_596,
             "1900-01-01,1900-W01-1,1899-12-20,1616-04-23,1892-04-23,2648-08-19,1349-05-14,\
-             1317-08-28,5660-11-01,12.14.5.6.18,0108-04-12,6 Mac,4 Etznab",
+             1317-08-28,5660-11-01,12.14.5.6.18,0108-04-12,1900-01-K13,6 Mac,4 Etznab",
         ),
         (
             737_000,
             "2018-11-02,2018-W44-5,2018-10-20,1735-02-23,2011-02-23,2767-07-18,1468-04-13,\
-             1440-02-22,5779-08-24,13.0.5.17.2,0227-02-12,15 Zac,1 Ik",
+             1440-02-22,5779-08-24,13.0.5.17.2,0227-02-12,2018-11-K13,15 Zac,1 Ik",
         ),
         (
             764_652,
             "2094-07-18,2094-W28-7,2094-07-05,1810-11-11,2086-11-11,2843-04-20,1544-01-15,\
-             1518-03-05,5854-05-05,13.4.2.13.14,0302-11-01,7 Yaxkin,2 Ix",
+             1518-03-05,5854-05-05,13.4.2.13.14,0302-11-01,2094-07-N3,7 Yaxkin,2 Ix",
         ),
         (
             1_000_000,
             "2738-11-28,2738-W48-1,2738-11-09,2455-03-13,2731-03-13,3488-02-03,2188-11-03,\
-             2182-04-23,6499-08-24,14.16.16.9.2,0947-03-07,10 Zip,11 Ik",
+             2182-04-23,6499-08-24,14.16.16.9.2,0947-03-07,2738-11-I5,10 Zip,11 Ik",
         ),
     ] {
         let day = Day::new(number).ok_or("a day in range")?;
@@ -420,23 +461,25 @@ fn cells_begin_on_first_days(rt: HostRuntime) -> Result<(), Fail> {
     Ok(())
 }
 
-/// Cells of known days of the Gregorian and Julian calendars, among them the ends of the range.
+/// Cells of known days of the calendars that have no first day, among them the ends of the range.
 #[test]
 fn days_have_cells_from_end_to_end(rt: HostRuntime) -> Result<(), Fail> {
-    for (number, gregorian, julian) in [
-        (577_736, "1582-10-15", "1582-10-05"),
-        (639_797, "1752-09-14", "1752-09-03"),
-        (-308, "0000-02-27", "-0001-02-29"),
-        (-15_999, "-0043-03-13", "-0044-03-15"),
-        (3_652_059, "9999-12-31", "9999-10-19"),
-        (-3_652_424, "-9999-01-01", "-10000-03-19"),
+    for (number, gregorian, julian, roman) in [
+        (577_736, "1582-10-15", "1582-10-05", "1582-10-N3"),
+        (639_797, "1752-09-14", "1752-09-03", "1752-09-N3"),
+        (-308, "0000-02-27", "-0001-02-29", "-0001-03-K2"),
+        (-15_999, "-0043-03-13", "-0044-03-15", "-0044-03-I1"),
+        (3_652_059, "9999-12-31", "9999-10-19", "9999-11-K14"),
+        (-3_652_424, "-9999-01-01", "-10000-03-19", "-10000-04-K14"),
     ] {
         let day = Day::new(number).ok_or("a day in range")?;
-        assert_eq!(rt;
-            cell(Target::Date(Calendar::Gregorian), day).as_str(),
-            gregorian
-        );
-        assert_eq!(rt; cell(Target::Date(Calendar::Julian), day).as_str(), julian);
+        for (calendar, text) in [
+            (Calendar::Gregorian, gregorian),
+            (Calendar::Julian, julian),
+            (Calendar::Roman, roman),
+        ] {
+            assert_eq!(rt; cell(Target::Date(calendar), day).as_str(), text);
+        }
     }
     Ok(())
 }
@@ -446,13 +489,16 @@ fn dates_keep_their_parts(rt: HostRuntime) -> Result<(), Fail> {
     let ymd = Ymd::new(1752, 9, 3).ok_or("a date within the bounds")?;
     for calendar in Calendar::ALL {
         let date = CivilDate::new(calendar, ymd);
-        assert_eq!(rt; date.is_none(), calendar == Calendar::Longcount);
+        let is_other = calendar == Calendar::Longcount || calendar == Calendar::Roman;
+        assert_eq!(rt; date.is_none(), is_other);
         if let Some(date) = date {
             assert_eq!(rt; (date.calendar(), date.ymd()), (calendar, ymd));
         }
     }
     let count = LongCount::new(12, 16, 11, 16, 9).ok_or("places within the bounds")?;
     assert_eq!(rt; write_date(&Date::Long(count)).as_str(), "12.16.11.16.9");
+    let roman = RomanDate::new(1752, 9, RomanName::Nones(3)).ok_or("a name within the bounds")?;
+    assert_eq!(rt; write_date(&Date::Roman(roman)).as_str(), "1752-09-N3");
     Ok(())
 }
 

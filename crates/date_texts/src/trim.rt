@@ -1,3 +1,5 @@
+//! Texts without blanks at their ends.
+
 ghost use Rattle.std.specs.Prelude.{◌≡◌};
 ghost use Rattle.date_texts.specs.Trimmed.{trimmed as trimmed_text};
 

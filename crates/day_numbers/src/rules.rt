@@ -74,7 +74,7 @@ pub trait RuledCalendar {
 
 /// The days of the months before the month of this number, and that month's days; all the days and 0
 /// where no month has the number.
-fn month_by_number(months: &[Month], number: u8) -> (u16, u8)
+pub fn month_by_number(months: &[Month], number: u8) -> (u16, u8)
     requires { length months.now ≤ 13 }
     ensures before { result.0 ≡ days_before_month months.now number }
     ensures days { result.1 ≡ days_of_month months.now number }
@@ -148,6 +148,7 @@ pub fn day_by_rules<C: RuledCalendar>(calendar: &C, date: Ymd) -> Result<Day, Da
 }
 
 /// A date on a day, where the calendar has one.
+#[inline(always)]
 fn some_date_by_rules<C: RuledCalendar>(calendar: &C, day: Day) -> Option<Ymd>
     ensures dated { IsSome result ↔ HasDayOf C.rules day.number }
     ensures value { IfSome result (λ date. IsDateOf C.rules date.year date.month date.day
@@ -165,6 +166,7 @@ fn some_date_by_rules<C: RuledCalendar>(calendar: &C, day: Day) -> Option<Ymd>
 
 /// `date_on` of a calendar that is given by rules: the one date whose day this is, or `None` exactly
 /// before the calendar's first day.
+#[inline(always)]
 pub fn date_by_rules<C: RuledCalendar>(calendar: &C, day: Day) -> Option<Ymd>
     ensures dated { IsSome result ↔ HasDayOf C.rules day.number }
     ensures value { IfSome result (λ date. IsDateOf C.rules date.year date.month date.day

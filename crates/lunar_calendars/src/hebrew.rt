@@ -248,11 +248,14 @@ impl ArithmeticCalendar for Hebrew {
 /// A year opens on the day of its molad, the mean new moon of Tishri, or later by four postponements: the
 /// next day where the molad is at noon or later; the day after where that would be a Sunday, a Wednesday or a
 /// Friday; Thursday where the molad of a common year is on a Tuesday at 9 hours and 204 parts or later; and
-/// Tuesday where the molad of a year after a leap year is on a Monday at 15 hours and 589 parts or later.
+/// Tuesday where the molad of a year after a leap year is on a Monday at 15 hours and 589 parts or later. It
+/// lies as many days after the first day of year 1 as the years before it have together.
+#[tactic(auto, using(crate::proofs::YearLengths::year_start_is))]
 pub fn hebrew_new_year(year: u32) -> i64
     requires low { 1 ≤ year }
     requires high { year ≤ 100_000 }
-    ensures { result ≡ new_year_of year }
+    ensures value { result ≡ new_year_of year }
+    ensures start { result ≡ year_start hebrew_rules (pos year) }
 {
     EPOCH + new_year(year) as i64
 }

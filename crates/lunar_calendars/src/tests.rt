@@ -143,6 +143,31 @@ fn hebrew_years(rt: HostRuntime) {
     assert_eq!(rt; hebrew_new_year(100_000), 35_150_868);
 }
 
+/// Whether a Hebrew year has thirteen months, by its place in nineteen years.
+fn has_thirteen_months(year: u32) -> bool {
+    [0, 3, 6, 8, 11, 14, 17].contains(&(year % 19))
+}
+
+/// The day that a year opens on, by the three cases in their order.
+fn opening_day(leap: bool, after_leap: bool, day: i64, time: u64) -> i64 {
+    let weekday = day.rem_euclid(7);
+    if !leap && weekday == 2 && time >= 9_924 {
+        return day.wrapping_add(2);
+    }
+    if after_leap && weekday == 1 && time >= 16_789 {
+        return day.wrapping_add(1);
+    }
+    let allowed = if time >= 19_440 {
+        day.wrapping_add(1)
+    } else {
+        day
+    };
+    if [0, 3, 5].contains(&allowed.rem_euclid(7)) {
+        return allowed.wrapping_add(1);
+    }
+    allowed
+}
+
 /// The new years found plainly: the months of one year after another are added up, and the molad that
 /// they lead to is put off by the three cases in their order.
 #[test]
@@ -150,23 +175,12 @@ fn hebrew_new_years_by_the_molad(rt: HostRuntime) {
     let mut months: u64 = 0;
     let mut after_leap = true;
     for year in 1..=600 {
-        let leap = matches!(year % 19, 0 | 3 | 6 | 8 | 11 | 14 | 17);
-        let molad = 5_604 + 765_433 * months;
-        let day = (molad / 25_920) as i64 - 1_373_427;
-        let time = molad % 25_920;
-        let weekday = day.rem_euclid(7);
-        let allowed = if time >= 19_440 { day + 1 } else { day };
-        let new_year = if !leap && weekday == 2 && time >= 9_924 {
-            day + 2
-        } else if after_leap && weekday == 1 && time >= 16_789 {
-            day + 1
-        } else if matches!(allowed.rem_euclid(7), 0 | 3 | 5) {
-            allowed + 1
-        } else {
-            allowed
-        };
+        let leap = has_thirteen_months(year);
+        let molad = months.wrapping_mul(765_433).wrapping_add(5_604);
+        let day = ((molad / 25_920) as i64).wrapping_sub(1_373_427);
+        let new_year = opening_day(leap, after_leap, day, molad % 25_920);
         assert_eq!(rt; hebrew_new_year(year), new_year, "in {year}");
-        months += if leap { 13 } else { 12 };
+        months = months.wrapping_add(if leap { 13 } else { 12 });
         after_leap = leap;
     }
 }
@@ -174,13 +188,13 @@ fn hebrew_new_years_by_the_molad(rt: HostRuntime) {
 /// The first days of Islamic years found plainly: the lengths of one year after another are added up.
 #[test]
 fn islamic_years_by_their_lengths(rt: HostRuntime) -> Result<(), Fail> {
-    let mut days: u32 = 0;
-    for year in 1..=600u32 {
-        let date = Ymd::new(year as i32, 1, 1).ok_or("a date within the bounds")?;
-        let day = Day::new(227_015 + days as i64).ok_or("a day in range")?;
+    let mut first = 227_015i64;
+    for year in 1..=600 {
+        let date = Ymd::new(year, 1, 1).ok_or("a date within the bounds")?;
+        let day = Day::new(first).ok_or("a day in range")?;
         assert_eq!(rt; Islamic.day_of(date), Ok(day), "in {year}");
-        let leap = matches!(year % 30, 2 | 5 | 7 | 10 | 13 | 16 | 18 | 21 | 24 | 26 | 29);
-        days += if leap { 355 } else { 354 };
+        let leap = [2, 5, 7, 10, 13, 16, 18, 21, 24, 26, 29].contains(&(year % 30));
+        first = first.wrapping_add(if leap { 355 } else { 354 });
     }
     Ok(())
 }

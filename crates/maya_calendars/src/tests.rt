@@ -147,34 +147,35 @@ fn haab_steps_through_a_year(rt: HostRuntime) -> Result<(), Fail> {
     Ok(())
 }
 
+fn tzolkin_after((number, place): (u8, usize)) -> (u8, usize) {
+    (number % 13 + 1, (place % 20 + 1) % 20)
+}
+
+fn tzolkin_before((number, place): (u8, usize)) -> (u8, usize) {
+    ((number % 13 + 11) % 13 + 1, (place % 20 + 19) % 20)
+}
+
+/// Whether the tzolkin of a day has this number and the name at this place.
+fn has_tzolkin(number: i64, (count, place): (u8, usize)) -> bool {
+    let Some(day) = Day::new(number) else {
+        return false;
+    };
+    let tzolkin = tzolkin_on(day);
+    tzolkin.number() == count && NAMES.get(place) == Some(&tzolkin.name())
+}
+
 /// The round of 260 days on from the epoch and back, one place a day.
 #[test]
-fn tzolkin_steps_through_a_round(rt: HostRuntime) -> Result<(), Fail> {
+fn tzolkin_steps_through_a_round(rt: HostRuntime) {
     let mut later = (4, 19);
     let mut earlier = (4, 19);
     for days in 0..261u32 {
-        let tzolkin = tzolkin_on(Day::new(EPOCH + days as i64).ok_or("a day in range")?);
-        let (number, place) = later;
-        assert_eq!(rt;
-            (tzolkin.number(), Some(&tzolkin.name())),
-            (number, NAMES.get(place)),
-            "{days} days on"
-        );
-        let tzolkin = tzolkin_on(Day::new(EPOCH - days as i64).ok_or("a day in range")?);
-        let (number, place) = earlier;
-        assert_eq!(rt;
-            (tzolkin.number(), Some(&tzolkin.name())),
-            (number, NAMES.get(place)),
+        assert!(rt; has_tzolkin(EPOCH + days as i64, later), "{days} days on");
+        assert!(rt;
+            has_tzolkin(EPOCH - days as i64, earlier),
             "{days} days back"
         );
-        later = (
-            if later.0 < 13 { later.0 + 1 } else { 1 },
-            if later.1 < 19 { later.1 + 1 } else { 0 },
-        );
-        earlier = (
-            if earlier.0 > 1 { earlier.0 - 1 } else { 13 },
-            if earlier.1 > 0 { earlier.1 - 1 } else { 19 },
-        );
+        later = tzolkin_after(later);
+        earlier = tzolkin_before(earlier);
     }
-    Ok(())
 }

@@ -7,10 +7,10 @@ use Rattle.std.proofs.lemmas.Slice.Eq.{bytes_eq-Decides}
 use Rattle.clap.proofs.WalkLemmas.{both}
 use Rattle.date_texts.specs.Calendars.{all_targets, target_name}
 use Rattle.date_texts.specs.declared.calendar.Target.{Target}
-use Rattle.register_records.specs.SetupRules.{NamesTwice, is_delimiter, is_ring_size}
+use Rattle.register_records.specs.SetupRules.{NamesTwice, is_delimiter, is_ring_size, is_stripe_count}
 use Rattle.register_records.specs.declared.setups.Setup.{Setup}
 use Rattle.register_records.specs.declared.setups.SetupFault.{SetupFault}
-use Rattle.register_records.specs.declared.setups.SetupFault.TheVariants.{TargetTwice, RingSize, Delimiter}
+use Rattle.register_records.specs.declared.setups.SetupFault.TheVariants.{TargetTwice, RingSize, Delimiter, Stripes}
 use Rattle.register_app.proofs.NameFacts.{never_twice}
 use Rattle.register_app.specs.Requests.{AreTargetsOf, IsDelimiterOf}
 
@@ -57,9 +57,11 @@ asked_delimiter (Some word) byte (inr (inl semicolon)) = rw semicolon.1 refl
 asked_delimiter (Some word) byte (inr (inr tab)) = rw tab.1 refl
 
 -- so there is such a setup
-pub no_fault : (made : Result Setup SetupFault) (fault : SetupFault) (targets : List Target) (ring byte : ℕ) → made ≡ Err fault → (¬ NamesTwice targets)
+pub no_fault : (made : Result Setup SetupFault) (fault : SetupFault) (targets : List Target) (ring byte stripes : ℕ) → made ≡ Err fault → (¬ NamesTwice targets)
     → is_ring_size ring ≡ true → is_delimiter byte ≡ true → (made ≡ Err TargetTwice → NamesTwice targets) → (made ≡ Err RingSize → is_ring_size ring ≡ false)
-    → (made ≡ Err Delimiter → is_delimiter byte ≡ false) → ⊥
-no_fault made TargetTwice targets ring byte is once fits cuts twice size other = once (twice is)
-no_fault made RingSize targets ring byte is once fits cuts twice size other = true≢false (sym fits ∙ size is)
-no_fault made Delimiter targets ring byte is once fits cuts twice size other = true≢false (sym cuts ∙ other is)
+    → (made ≡ Err Delimiter → is_delimiter byte ≡ false) → is_stripe_count stripes ≡ true
+    → (made ≡ Err Stripes → is_stripe_count stripes ≡ false) → ⊥
+no_fault made TargetTwice targets ring byte stripes is once fits cuts twice size other few many = once (twice is)
+no_fault made RingSize targets ring byte stripes is once fits cuts twice size other few many = true≢false (sym fits ∙ size is)
+no_fault made Delimiter targets ring byte stripes is once fits cuts twice size other few many = true≢false (sym cuts ∙ other is)
+no_fault made Stripes targets ring byte stripes is once fits cuts twice size other few many = true≢false (sym few ∙ many is)

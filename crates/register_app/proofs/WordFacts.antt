@@ -11,6 +11,7 @@ use Rattle.date_texts.specs.declared.calendar.Target.{Target}
 use Rattle.register_app.specs.Answers.{AreWrong}
 use Rattle.register_app.specs.Faults.{Fault, fault_told, usage, unknown_target, target_twice, unknown_delimiter}
 use Rattle.register_app.specs.OptionValues.{IsDelimiterWord}
+use Rattle.register_records.specs.Tables.{Layout}
 use Rattle.register_app.specs.Requests.{AreTaken, AreTargetsOf, AskForHelp, AsksFor, IsDelimiterFault, IsDelimiterOf, IsFaultOf, IsTargetFault, Mean, MeanJust, Meaning, command_line, refusal_status, value_in, help, table, wrong}
 use Rattle.register_app.specs.declared.refusals.Refusal.{Refusal}
 use Rattle.register_app.specs.declared.refusals.Refusal.TheVariants as refusal
@@ -62,16 +63,17 @@ module _ (one : OneTarget) (words : List Text) where
   help_no_fault (target_twice target) asks is = not_taken DisplayHelp is.0 asks
   help_no_fault (unknown_delimiter word) asks is = not_taken DisplayHelp is.0 asks
 
-  table_no_fault : (targets : List Target) (delimiter : ℕ) (fault : Fault) → AsksFor words targets delimiter → IsFaultOf words fault → ⊥
-  table_no_fault targets delimiter (usage kind) asks is = not_taken kind asks.taken is.0
-  table_no_fault targets delimiter (unknown_target name) asks is = no_target_fault one (value_in words (codes "to")) targets (unknown_target name) asks.targets_asked is.1
-  table_no_fault targets delimiter (target_twice target) asks is = no_target_fault one (value_in words (codes "to")) targets (target_twice target) asks.targets_asked is.1
-  table_no_fault targets delimiter (unknown_delimiter word) asks is = no_delimiter (value_in words (codes "delimiter")) word delimiter asks.delimiter_asked is.2.0 is.2.1
+  table_no_fault : (layout : Layout) (fault : Fault) → AsksFor words layout → IsFaultOf words fault → ⊥
+  table_no_fault layout (usage kind) asks is = not_taken kind asks.taken is.0
+  table_no_fault layout (unknown_target name) asks is = no_target_fault one (value_in words (codes "to")) layout.targets (unknown_target name) asks.targets_asked is.1
+  table_no_fault layout (target_twice target) asks is = no_target_fault one (value_in words (codes "to")) layout.targets (target_twice target) asks.targets_asked is.1
+  table_no_fault layout (unknown_delimiter word) asks is = no_delimiter (value_in words (codes "delimiter")) word layout.delimiter asks.delimiter_asked is.2.0 is.2.1
 
-  one_table : (targets others : List Target) (delimiter other : ℕ) → AsksFor words targets delimiter → AsksFor words others other → table targets delimiter ≡ table others other
-  one_table targets others delimiter other asks same =
-      ap₂ table (one_list one (value_in words (codes "to")) targets others asks.targets_asked same.targets_asked)
-      (one_delimiter (value_in words (codes "delimiter")) delimiter other asks.delimiter_asked same.delimiter_asked)
+  one_table : (layout other : Layout) → AsksFor words layout → AsksFor words other → table layout ≡ table other
+  one_table layout other asks same =
+      ap₂ (λ (targets : List Target) (delimiter : ℕ). table (record { delimiter = delimiter; targets = targets }))
+      (one_list one (value_in words (codes "to")) layout.targets other.targets asks.targets_asked same.targets_asked)
+      (one_delimiter (value_in words (codes "delimiter")) layout.delimiter other.delimiter asks.delimiter_asked same.delimiter_asked)
 
   one_fault_of : (fault other : Fault) → IsFaultOf words fault → IsFaultOf words other → fault ≡ other
   one_fault_of (usage kind) (usage other) is same = ap usage (one_kind words kind other is.0 same.0)
@@ -93,13 +95,13 @@ module _ (one : OneTarget) (words : List Text) where
 
   one_meaning : (meaning other : Meaning) → Mean words meaning → Mean words other → other ≡ meaning
   one_meaning help help x y = refl
-  one_meaning help (table targets delimiter) x y = absurd (not_taken DisplayHelp y.taken x)
+  one_meaning help (table layout) x y = absurd (not_taken DisplayHelp y.taken x)
   one_meaning help (wrong fault) x y = absurd (help_no_fault fault x y)
-  one_meaning (table targets delimiter) help x y = absurd (not_taken DisplayHelp x.taken y)
-  one_meaning (table targets delimiter) (table others other) x y = one_table others targets other delimiter y x
-  one_meaning (table targets delimiter) (wrong fault) x y = absurd (table_no_fault targets delimiter fault x y)
+  one_meaning (table layout) help x y = absurd (not_taken DisplayHelp x.taken y)
+  one_meaning (table layout) (table other) x y = one_table other layout y x
+  one_meaning (table layout) (wrong fault) x y = absurd (table_no_fault layout fault x y)
   one_meaning (wrong fault) help x y = absurd (help_no_fault fault y x)
-  one_meaning (wrong fault) (table targets delimiter) x y = absurd (table_no_fault targets delimiter fault y x)
+  one_meaning (wrong fault) (table layout) x y = absurd (table_no_fault layout fault y x)
   one_meaning (wrong fault) (wrong other) x y = ap wrong (one_fault_of other fault y x)
 
   -- what the words mean is all that they mean

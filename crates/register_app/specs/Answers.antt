@@ -2,9 +2,9 @@
 use Rattle.std.specs.Prelude.{◌≡◌, ◌≢◌, ℕ, List, [], ◌∷◌, ◌++◌, codes, Option, IfSome, Bool, true, false}
 use Rattle.std.specs.Fmt.{decimal}
 use Rattle.std.specs.Io.KnownBytes.{Appends}
-use Rattle.date_texts.specs.declared.calendar.Target.{Target}
-use Rattle.register_records.specs.Entries.{Fields, HasRecords, HasTooMany}
-use Rattle.register_records.specs.Sources.{GainsPart, GainsWhole, cause_number}
+use Rattle.register_records.specs.Entries.{HasNoHeader, HasTooMany}
+use Rattle.register_records.specs.Sources.{ArePartOfTable, Gains, IsWholeTable, cause_number}
+use Rattle.register_records.specs.Tables.{Layout}
 use Rattle.register_records.specs.declared.sources.Cause.{Cause}
 use Rattle.register_records.specs.declared.sources.Cause.TheVariants as cause
 use Rattle.register_records.specs.declared.sources.Note.{Note}
@@ -13,18 +13,17 @@ use Rattle.register_app.specs.Requests.{IsFaultOf, MeanJust, help, table}
 use Rattle.register_app.specs.declared.help.TheConstants.{HELP, HELP_FAULT}
 
 -- the output gained the whole table, whatever the counts of its rows
-abbrev pub GainsWholeTable : ℕ → List Target → Option (List ℕ) → Option (List ℕ) → Option (List ℕ) → Type 0
-GainsWholeTable delimiter targets text old new =
-    (rows : ℕ) × (refused : ℕ) × (journal : List Note) × ∥ GainsWhole delimiter targets text old new rows refused journal ∥₁
+abbrev pub GainsWholeTable : Layout → Option (List ℕ) → Option (List ℕ) → Option (List ℕ) → Type 0
+GainsWholeTable layout text old new =
+    (rows : ℕ) × (refused : ℕ) × (journal : List Note) × ∥ Gains old new (IsWholeTable layout text rows refused journal) ∥₁
 
 -- the words ask for help, and the output gained its page
 abbrev pub GainsHelp : List (List ℕ) → Option (List ℕ) → Option (List ℕ) → Type 0
 GainsHelp words old new = MeanJust words help × Appends old new HELP.now
 
--- the words ask for a table of these targets with this delimiter, and the output gained that of the text
+-- the words ask for a table with some layout, and the output gained that of the text
 abbrev pub GainsTableAsked : List (List ℕ) → Option (List ℕ) → Option (List ℕ) → Option (List ℕ) → Type 0
-GainsTableAsked words text old new =
-    (targets : List Target) × (delimiter : ℕ) × MeanJust words (table targets delimiter) × GainsWholeTable delimiter targets text old new
+GainsTableAsked words text old new = (layout : Layout) × MeanJust words (table layout) × GainsWholeTable layout text old new
 
 -- the words ask for help, and the output failed
 abbrev pub BreaksHelp : List (List ℕ) → Bool → Type 0
@@ -33,7 +32,7 @@ BreaksHelp words failed = MeanJust words help × (failed ≡ true)
 -- they ask for such a table, and where the output has not failed it gained a front of it, or nothing
 abbrev pub BreaksTableAsked : List (List ℕ) → Option (List ℕ) → Bool → Option (List ℕ) → Option (List ℕ) → Type 0
 BreaksTableAsked words text failed old new =
-    (targets : List Target) × (delimiter : ℕ) × MeanJust words (table targets delimiter) × (failed ≡ false → ∥ GainsPart delimiter targets text old new ∥₁)
+    (layout : Layout) × MeanJust words (table layout) × (failed ≡ false → ∥ Gains old new (ArePartOfTable layout text) ∥₁)
 
 -- the line that tells a cause: source 1: cause 6
 abbrev pub cause_line : Cause → List ℕ
@@ -43,7 +42,7 @@ cause_line cause = codes "source 1: cause " ++ (decimal (cause_number cause) ++ 
 -- and TooManyRecords only where it has too many records; SinkFault only where the output has failed, and another
 -- only where it has failed no more than before; and no thread was wanted
 pub record MayBreak (delimiter : ℕ) (text : Option (List ℕ)) (failed_before failed : Bool) (why : Cause) : Type 0 where
-  pub header : why ≡ cause.BadHeader → IfSome text (λ bytes. (records : List Fields) → HasRecords delimiter bytes records → ⊥)
+  pub header : why ≡ cause.BadHeader → IfSome text (λ bytes. HasNoHeader delimiter bytes)
   pub records : why ≡ cause.TooManyRecords → ∥ IfSome text (λ bytes. HasTooMany delimiter bytes) ∥₁
   pub sink : why ≡ cause.SinkFault → failed ≡ true
   pub others : why ≢ cause.SinkFault → failed ≡ failed_before
@@ -51,7 +50,8 @@ pub record MayBreak (delimiter : ℕ) (text : Option (List ℕ)) (failed_before 
 
 -- the line of such a cause was written
 abbrev pub TellsCause : ℕ → Option (List ℕ) → Bool → Bool → Option (List ℕ) → Option (List ℕ) → Type 0
-TellsCause delimiter text failed_before failed old new = (why : Cause) × MayBreak delimiter text failed_before failed why × Appends old new (cause_line why)
+TellsCause delimiter text failed_before failed old new =
+    (why : Cause) × MayBreak delimiter text failed_before failed why × Appends old new (cause_line why)
 
 -- the words ask for help, and the line was written that it could not be printed
 abbrev pub TellsHelpBroken : List (List ℕ) → Option (List ℕ) → Option (List ℕ) → Type 0
@@ -60,7 +60,7 @@ TellsHelpBroken words old new = MeanJust words help × Appends old new HELP_FAUL
 -- the words ask for a table, and the line was written with the cause why it broke off
 abbrev pub TellsTableBroken : List (List ℕ) → Option (List ℕ) → Bool → Bool → Option (List ℕ) → Option (List ℕ) → Type 0
 TellsTableBroken words text failed_before failed old new =
-    (targets : List Target) × (delimiter : ℕ) × MeanJust words (table targets delimiter) × TellsCause delimiter text failed_before failed old new
+    (layout : Layout) × MeanJust words (table layout) × TellsCause layout.delimiter text failed_before failed old new
 
 -- something is wrong with the words
 abbrev pub AreWrong : List (List ℕ) → Type 0

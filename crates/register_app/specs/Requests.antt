@@ -4,7 +4,8 @@ use Rattle.clap.specs.Words.{App, IsAmong, Rule, Text, first_of, fault_of, match
 use Rattle.clap.specs.declared.error.kind.ErrorKind.TheVariants.{DisplayHelp}
 use Rattle.date_texts.specs.Calendars.{all_targets}
 use Rattle.date_texts.specs.declared.calendar.Target.{Target}
-use Rattle.register_records.specs.Setups.{delimiter_of, targets_of}
+use Rattle.register_records.specs.Tables.{Layout}
+use Rattle.register_records.specs.Views.{layout_of}
 use Rattle.register_app.specs.Faults.{Fault, usage, unknown_target, target_twice, unknown_delimiter}
 use Rattle.register_app.specs.OptionValues.{AsksForTargets, IsDelimiterWord, IsListFault}
 use Rattle.register_app.specs.declared.refusals.Refusal.{Refusal}
@@ -36,11 +37,11 @@ abbrev pub IsDelimiterOf : Option Text → ℕ → Type 0
 IsDelimiterOf None byte = byte ≡ 44
 IsDelimiterOf (Some word) byte = IsDelimiterWord word byte
 
--- the words are options as they are taken, and ask for a table of these targets with this delimiter
-pub record AsksFor (words : List Text) (targets : List Target) (delimiter : ℕ) : Type 0 where
+-- the words are options as they are taken, and ask for a table with this layout
+pub record AsksFor (words : List Text) (layout : Layout) : Type 0 where
   pub taken : fault_of command_line words ≡ []
-  pub targets_asked : AreTargetsOf (value_in words (codes "to")) targets
-  pub delimiter_asked : IsDelimiterOf (value_in words (codes "delimiter")) delimiter
+  pub targets_asked : AreTargetsOf (value_in words (codes "to")) layout.targets
+  pub delimiter_asked : IsDelimiterOf (value_in words (codes "delimiter")) layout.delimiter
 
 -- the words ask for help before anything is wrong with them
 abbrev pub AskForHelp : List Text → Type 0
@@ -69,15 +70,15 @@ IsFaultOf words (unknown_delimiter word) =
     AreTaken words × ((targets : List Target) × AreTargetsOf (value_in words (codes "to")) targets)
     × IsDelimiterFault (value_in words (codes "delimiter")) (unknown_delimiter word)
 
--- what words can mean: they ask for help, or for a table of some targets with some delimiter, or something is wrong with them
+-- what words can mean: they ask for help, or for a table with some layout, or something is wrong with them
 pub data Meaning : Type 0 where
   help : Meaning
-  table : List Target → ℕ → Meaning
+  table : Layout → Meaning
   wrong : Fault → Meaning
 
 abbrev pub Mean : List Text → Meaning → Type 0
 Mean words help = AskForHelp words
-Mean words (table targets delimiter) = AsksFor words targets delimiter
+Mean words (table layout) = AsksFor words layout
 Mean words (wrong fault) = IsFaultOf words fault
 
 -- the words mean this, and nothing else
@@ -87,7 +88,7 @@ MeanJust words meaning = (other : Meaning) → (other ≡ meaning) ↔ Mean word
 -- what an answered request stands for
 abbrev pub meaning_of : Request → Meaning
 meaning_of request.Help = help
-meaning_of (request.Convert setup) = table (targets_of setup) (delimiter_of setup)
+meaning_of (request.Convert setup) = table (layout_of setup)
 
 -- 3 for want of memory, and 2 for what is wrong with the words
 abbrev pub refusal_status : Refusal → ℕ

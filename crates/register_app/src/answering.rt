@@ -1,12 +1,12 @@
-// What the program answers.
+//! What the program answers.
 
 ghost use Rattle.std.specs.Prelude.{◌≡◌, ◌≢◌, ◌≤◌, ◌⊎◌, ◌↔◌, true, false, map};
 ghost use Rattle.std.specs.Io.KnownBytes.{Appends};
 ghost use Rattle.std.specs.String.{string_bytes};
 ghost use Rattle.register_app.specs.Answers.{AreWrong, BreaksHelp, BreaksTableAsked, GainsHelp, GainsTableAsked, GainsWholeTable, TellsCause, TellsHelpBroken, TellsTableBroken, cause_line};
 ghost use Rattle.register_app.specs.Requests.{refusal_status};
-ghost use Rattle.register_records.specs.Setups.{delimiter_of, targets_of};
-ghost use Rattle.register_records.specs.Sources.{GainsPart};
+ghost use Rattle.register_records.specs.Views.{delimiter_of, layout_of};
+ghost use Rattle.register_records.specs.Sources.{ArePartOfTable, Gains};
 
 use crate::help::{HELP, HELP_FAULT};
 use crate::refusals::Refusal;
@@ -93,11 +93,11 @@ fn convert_text<R: Read + Drop, W: Output, E: Output>(
     errors: &mut E,
     setup: &Setup,
 ) -> (u8, W)
-    ensures whole { result.0 ≡ 0 → GainsWholeTable (delimiter_of setup.now) (targets_of setup.now) (R.remaining input)
+    ensures whole { result.0 ≡ 0 → GainsWholeTable (layout_of setup.now) (R.remaining input)
         (W.contents output) (W.contents result.1) }
     ensures quiet { result.0 ≡ 0 → errors.new ≡ errors.old }
-    ensures broken { result.0 ≡ 1 → W.has_failed result.1 ≡ false → ∥ GainsPart (delimiter_of setup.now) (targets_of setup.now)
-        (R.remaining input) (W.contents output) (W.contents result.1) ∥₁ }
+    ensures broken { result.0 ≡ 1 → W.has_failed result.1 ≡ false → ∥ Gains (W.contents output) (W.contents result.1)
+        (ArePartOfTable (layout_of setup.now) (R.remaining input)) ∥₁ }
     ensures told { result.0 ≡ 1 → E.has_failed errors.new ≡ false
         → TellsCause (delimiter_of setup.now) (R.remaining input) (W.has_failed output) (W.has_failed result.1)
         (E.contents errors.old) (E.contents errors.new) }

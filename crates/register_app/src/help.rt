@@ -20,11 +20,13 @@ names do not matter.
 Calendars and how their dates are written:
 
     gregorian  iso  julian  coptic  ethiopic  egyptian  armenian  islamic
-    hebrew  longcount  french
+    hebrew  longcount  french  roman
 
     year-month-day, as 1945-11-12 or -44-3-15; for iso year-Wweek-weekday,
-    as 2004-W53-6; for longcount five numbers, as 12.16.11.16.9. Gregorian
-    and iso years have a year 0; the Julian year before 1 is -1; the others
+    as 2004-W53-6; for longcount five numbers, as 12.16.11.16.9; for roman
+    year-month-name, the name K, N or I with a count of days back from those
+    Kalends, Nones or Ides, or K6B, as 1945-11-K3. Gregorian and iso years
+    have a year 0; the Julian and Roman year before 1 is -1; the others
     begin with year 1. Hebrew months are numbered from Nisan.
 
 What comes out: for each record its row number, its three fields, the fixed

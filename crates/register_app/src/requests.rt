@@ -1,4 +1,4 @@
-// What the words ask for.
+//! What the words ask for.
 
 ghost use Rattle.std.specs.Prelude.{◌≡◌, IfOk, IfErr, IfSome, IsSomeAnd, map, codes, option_map, []};
 ghost use Rattle.std.specs.String.{string_bytes};
@@ -17,6 +17,9 @@ use std::alloc::{AllocError, Global};
 
 /// How many items a ring would hold; one source on one thread has none.
 const RING: usize = 16;
+
+/// How many converters a source would have; on one thread it has none.
+const STRIPES: usize = 1;
 
 /// What the words ask for.
 #[derive(Clone, Copy)]
@@ -120,7 +123,7 @@ pub fn read_request<'a>(alloc: Global, words: &'a [String]) -> Result<Request, R
     };
     let targets = chosen_targets(alloc, options.to)?;
     let delimiter = chosen_delimiter(options.delimiter)?;
-    match Setup::new(targets.as_slice(), RING, delimiter) {
+    match Setup::new(targets.as_slice(), RING, delimiter, STRIPES) {
         Ok(setup) => Ok(Request::Convert(setup)),
         Err(_) => unreachable!(),
     }

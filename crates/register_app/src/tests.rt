@@ -122,7 +122,7 @@ const LINES: [Line; 17] = [
     Line {
         words: &[],
         status: 0,
-        output: b"row,id,calendar,date,rd,weekday,gregorian,iso,julian,coptic,ethiopic,egyptian,armenian,islamic,hebrew,longcount,french,haab,tzolkin,refusal\n1,b,julian,1582-10-05,577736,Friday,1582-10-15,1582-W41-5,1582-10-05,1299-02-08,1575-02-08,2331-03-14,1031-12-14,0990-09-17,5343-07-19,11.18.3.9.18,,11 Tzec,13 Etznab,\n",
+        output: b"row,id,calendar,date,rd,weekday,gregorian,iso,julian,coptic,ethiopic,egyptian,armenian,islamic,hebrew,longcount,french,roman,haab,tzolkin,refusal\n1,b,julian,1582-10-05,577736,Friday,1582-10-15,1582-W41-5,1582-10-05,1299-02-08,1575-02-08,2331-03-14,1031-12-14,0990-09-17,5343-07-19,11.18.3.9.18,,1582-10-N3,11 Tzec,13 Etznab,\n",
         errors: b"",
     },
     // The targets that are named, in their order, in either letter case and with blanks.

@@ -12,7 +12,7 @@ use crate::rows::Row;
 use crate::setups::Setup;
 use crate::short_lists::ShortList;
 use arrayvec::ArrayString;
-use date_texts::{Refusal, Target, calendar_named, cell, day_of_date, read_date};
+use date_texts::{MAX_TARGETS, Refusal, Target, calendar_named, cell, day_of_date, read_date};
 use day_numbers::Day;
 
 /// The day of a body, or the first refusal that applies.
@@ -38,7 +38,7 @@ fn day_of_body(body: &Body) -> Result<Day, Refusal>
 /// refusal. The list is lent, since it is large.
 fn fill(cells: &mut ShortList<ArrayString<24>>, targets: &[Target], outcome: Result<Day, Refusal>)
     requires empty { items_in cells.old ≡ [] }
-    requires few { length targets.now ≤ 13 }
+    requires few { length targets.now ≤ MAX_TARGETS }
     ensures { AreCells targets.now (outcome_seen outcome) (cells_seen (items_in cells.new)) }
 {
     let Ok(day) = outcome else {

@@ -10,7 +10,7 @@ use crate::setups::Setup;
 use crate::short_lists::ShortList;
 use crate::sources::Note;
 use arrayvec::ArrayString;
-use date_texts::{Refusal, Target};
+use date_texts::{MAX_TARGETS, Refusal, Target};
 use day_numbers::Day;
 
 /// An entry converted: its day, and the cells of that day for the targets that the row was made for;
@@ -39,7 +39,7 @@ impl Row {
     /// The targets that the row was made for, in the order of its cells.
     pub fn targets(&self) -> &[Target]
         ensures value { result.now ≡ row_targets self.now }
-        ensures few { length result.now ≤ 13 }
+        ensures few { length result.now ≤ MAX_TARGETS }
     {
         self.targets.as_slice()
     }
@@ -54,7 +54,7 @@ impl Row {
     /// The cells, one for each target; a refused row has none.
     pub fn cells(&self) -> &[ArrayString<24>]
         ensures value { result.now ≡ row_cells self.now }
-        ensures few { length result.now ≤ 13 }
+        ensures few { length result.now ≤ MAX_TARGETS }
         ensures row { ∥ IsRowOf (row_targets self.now) (entry_seen (row_entry self.now)) (row_seen self.now) ∥₁ }
     {
         self.cells.as_slice()

@@ -6,7 +6,7 @@ ghost use Rattle.register_records.specs.SetupRules.{NamesTwice, is_delimiter, is
 
 use crate::short_lists::ShortList;
 use date_texts::laws::few_targets;
-use date_texts::{Calendar, Target};
+use date_texts::{Calendar, MAX_TARGETS, Target};
 use thiserror::Error;
 
 /// The largest ring.
@@ -70,7 +70,12 @@ impl Setup {
     /// # Errors
     ///
     /// The first that applies of `TargetTwice`, `RingSize`, `Delimiter` and `Stripes`.
-    pub fn new(targets: &[Target], ring: usize, delimiter: u8, stripes: usize) -> Result<Setup, SetupFault>
+    pub fn new(
+        targets: &[Target],
+        ring: usize,
+        delimiter: u8,
+        stripes: usize,
+    ) -> Result<Setup, SetupFault>
         ensures value { IfOk result (λ s. (targets_of s ≡ targets.now) × (ring_of s ≡ ring)
             × (delimiter_of s ≡ delimiter) × (stripes_of s ≡ stripes)) }
         ensures fit { IfOk result (λ s. (¬ (NamesTwice targets.now)) × (is_ring_size ring ≡ true)
@@ -108,7 +113,7 @@ impl Setup {
     /// The targets, in the order of the columns.
     pub fn targets(&self) -> &[Target]
         ensures value { result.now ≡ targets_of self.now }
-        ensures few { length result.now ≤ 13 }
+        ensures few { length result.now ≤ MAX_TARGETS }
     {
         self.targets.as_slice()
     }
@@ -147,7 +152,7 @@ impl Setup {
 
 /// The list of these targets.
 fn listed(targets: &[Target]) -> ShortList<Target>
-    requires { length targets.now ≤ 13 }
+    requires { length targets.now ≤ MAX_TARGETS }
     ensures { items_in result ≡ targets.now }
 {
     let mut list = ShortList::new(Target::Date(Calendar::Gregorian));

@@ -1,17 +1,16 @@
 //! Lists of fixed room: the targets of a setup and of a row, and a row's cells.
 
 ghost use Rattle.std.specs.Prelude.{◌≡◌, ◌≤◌, ◌<◌, ◌∷◌, ◌++◌, [], ⊤, length};
+ghost use Rattle.date_texts.specs.declared.calendar.TheConstants.{MAX_TARGETS};
 
+use date_texts::MAX_TARGETS;
 use std::alloc::AllocError;
 
-/// The most targets: each is named once at most.
-pub const MAX_TARGETS: usize = 13;
-
-/// At most thirteen items, in order. A place that holds none yet holds a blank.
+/// At most as many items as there are targets, in order. A place that holds none yet holds a blank.
 pub struct ShortList<T: Copy> {
     places: [T; MAX_TARGETS],
     count: usize,
-    ghost few: { count ≤ 13 },
+    ghost few: { count ≤ MAX_TARGETS },
 }
 
 impl<T: Copy> Copy for ShortList<T> {}
@@ -42,14 +41,14 @@ impl<T: Copy> ShortList<T> {
     /// The items.
     pub fn as_slice(&self) -> &[T]
         ensures value { result.now ≡ items_in self.now }
-        ensures few { length result.now ≤ 13 }
+        ensures few { length result.now ≤ MAX_TARGETS }
     {
         &self.places[..self.count]
     }
 
     /// Appends an item.
     pub fn push(&mut self, item: T)
-        requires { length (items_in self.old) < 13 }
+        requires { length (items_in self.old) < MAX_TARGETS }
         ensures { items_in self.new ≡ items_in self.old ++ item ∷ [] }
     {
         self.places[self.count] = item;

@@ -21,6 +21,8 @@ const ISLAMIC: Target = Target::Date(Calendar::Islamic);
 
 const LONGCOUNT: Target = Target::Date(Calendar::Longcount);
 
+const ROMAN: Target = Target::Date(Calendar::Roman);
+
 /// A text to be converted, the table that is wanted, and number and refusal of the rows in its journal.
 #[derive(Clone, Copy)]
 struct Case {
@@ -135,7 +137,7 @@ fn records_become_their_rows(rt: HostRuntime) -> Result<(), Fail> {
             targets: &Target::ALL,
             rows: &[(
                 "a,gregorian,1945-11-12",
-                "1,a,gregorian,1945-11-12,710347,Monday,1945-11-12,1945-W46-1,1945-10-30,1662-03-03,1938-03-03,2694-07-10,1395-04-05,1364-12-06,5706-09-07,12.16.11.16.9,0154-02-21,7 Zac,11 Muluc,",
+                "1,a,gregorian,1945-11-12,710347,Monday,1945-11-12,1945-W46-1,1945-10-30,1662-03-03,1938-03-03,2694-07-10,1395-04-05,1364-12-06,5706-09-07,12.16.11.16.9,0154-02-21,1945-11-K3,7 Zac,11 Muluc,",
             )],
         },
         Worked {
@@ -245,6 +247,32 @@ fn records_become_their_rows(rt: HostRuntime) -> Result<(), Fail> {
                 ("e,egyptian,1-13-6", "5,e,egyptian,1-13-6,,,,,6"),
             ],
         },
+        Worked {
+            targets: &[JULIAN, ROMAN],
+            rows: &[
+                (
+                    "a,roman,0801-01-K8",
+                    "1,a,roman,0801-01-K8,292192,Friday,0800-12-25,0801-01-K8,",
+                ),
+                (
+                    "b,roman,-44-03-i1",
+                    "2,b,roman,-44-03-i1,-15999,Wednesday,-0044-03-15,-0044-03-I1,",
+                ),
+                (
+                    "c,roman,-1-3-k6b",
+                    "3,c,roman,-1-3-k6b,-312,Wednesday,-0001-02-25,-0001-03-K6B,",
+                ),
+                ("d,roman,1-3-K6B", "4,d,roman,1-3-K6B,,,,,6"),
+                ("e,roman,0-1-K1", "5,e,roman,0-1-K1,,,,,6"),
+                ("f,roman,1-1-K20", "6,f,roman,1-1-K20,,,,,6"),
+                (
+                    "g,roman,1-1-K2",
+                    "7,g,roman,1-1-K2,-2,Friday,-0001-12-31,0001-01-K2,",
+                ),
+                ("h,roman,-99999-1-K2", "8,h,roman,-99999-1-K2,,,,,7"),
+                ("i,roman,1-1-X3", "9,i,roman,1-1-X3,,,,,5"),
+            ],
+        },
     ];
     for table in &tables {
         let setup = Setup::new(table.targets, 16, b',', 1)?;
@@ -269,10 +297,13 @@ fn records_become_their_rows(rt: HostRuntime) -> Result<(), Fail> {
 
 #[test]
 fn other_headers_are_refused(rt: HostRuntime) -> Result<(), Fail> {
-    let headers: [&[u8]; 7] = [
+    let headers: [&[u8]; 10] = [
         b"",
         b"\n\n",
+        b"id\n",
         b"id,calendar\n",
+        b"id,calendar,date,note,place\n",
+        b"id,calendar,date,,,,,,,,,,,,,,,,,,,,,,,,,,,,,,,,,,,,,\n",
         b"id,calendar,date,\n",
         b"calendar,id,date\n",
         b"id,calendar,\xFF\n",
@@ -343,6 +374,43 @@ impl Write for Paper {
         self.flushes = self.flushes.saturating_add(1);
         Ok(())
     }
+}
+
+/// Gives its text a byte at a time, and is interrupted before each byte and before the end.
+#[derive(Drop)]
+struct Interrupted<'a> {
+    rest: &'a [u8],
+    interrupted: bool,
+}
+
+impl Read for Interrupted<'_> {
+    fn read(&mut self, buf: &mut [u8]) -> io::Result<usize> {
+        self.interrupted = !self.interrupted;
+        if self.interrupted {
+            return Err(io::Error::from(ErrorKind::Interrupted));
+        }
+        match (self.rest.split_first(), buf.first_mut()) {
+            (Some((byte, rest)), Some(place)) => {
+                *place = *byte;
+                self.rest = rest;
+                Ok(1)
+            }
+            _ => Ok(0),
+        }
+    }
+}
+
+#[test]
+fn interrupted_reads_are_tried_again(rt: HostRuntime) -> Result<(), Fail> {
+    let reader = Interrupted {
+        rest: INPUT,
+        interrupted: false,
+    };
+    let mut output = PlainOutput::new(Vec::new(rt.alloc()), 1);
+    let end = convert_source(rt.alloc(), reader, &mut output, &both(b',')?);
+    assert!(rt; end.is_whole());
+    assert!(rt; output.into_inner() == first_lines(rt.alloc(), 3)?);
+    Ok(())
 }
 
 /// Gives what it has, as much as is asked for, and then a fault.
@@ -454,18 +522,23 @@ fn each_row_is_one_write_and_a_flush(rt: HostRuntime) -> Result<(), Fail> {
 
 #[test]
 fn setups_have_their_faults(rt: HostRuntime) {
-    let cases: [(&[Target], usize, u8, u8); 5] = [
-        (&[JULIAN, JULIAN], 0, b',', 1),
-        (&[], 0, b',', 2),
-        (&[], 4097, b'|', 2),
-        (&[], 1, b'|', 3),
-        (&[], 4096, b'\t', 0),
+    let cases: [(&[Target], usize, u8, usize, u8); 9] = [
+        (&[JULIAN, JULIAN], 0, b',', 1, 1),
+        (&[], 0, b',', 1, 2),
+        (&[], 4097, b'|', 1, 2),
+        (&[], 1, b'|', 1, 3),
+        (&[], 4096, b'\t', 1, 0),
+        (&[], 1, b'|', 0, 3),
+        (&[], 1, b',', 0, 4),
+        (&[], 1, b',', 5, 4),
+        (&[], 1, b',', 4, 0),
     ];
-    for (targets, ring, delimiter, fault) in cases {
-        let answer = match Setup::new(targets, ring, delimiter) {
+    for (targets, ring, delimiter, stripes, fault) in cases {
+        let answer = match Setup::new(targets, ring, delimiter, stripes) {
             Ok(setup) => {
                 assert_eq!(rt; setup.ring(), ring);
                 assert_eq!(rt; setup.delimiter(), delimiter);
+                assert_eq!(rt; setup.stripes(), stripes);
                 0
             }
             Err(fault) => fault.number(),
@@ -506,13 +579,20 @@ fn lines_wait_until_they_are_sent(rt: HostRuntime) -> Result<(), Fail> {
     let row = convert(refused, &setup);
     let mut output = PlainOutput::new(Vec::new(rt.alloc()), 1);
     let mut writer = RowWriter::open(rt.alloc(), &mut output, &setup)?;
+    let line = b"1,,,,,,,,3\n".as_slice();
     writer.add(&row)?;
     writer.add(&row)?;
+    assert_eq!(rt; writer.pending_len(), 2 * line.len());
     writer.send(&mut output)?;
+    assert_eq!(rt; writer.pending_len(), 0);
     writer.send(&mut output)?;
+    writer.add(&row)?;
+    writer.put(&mut output, &row)?;
     writer.end()?;
     let bytes = output.into_inner();
-    assert_eq!(rt; bytes.len(), HEADING.len() + 2 * b"1,,,,,,,,3\n".len());
+    let lines = bytes.as_slice().strip_prefix(HEADING).ok_or("no heading")?;
+    assert_eq!(rt; lines.len(), 4 * line.len());
+    assert!(rt; lines.chunks(line.len()).all(|one| one == line));
     Ok(())
 }
 

@@ -68,7 +68,10 @@ impl RowWriter {
         ensures told { IfErr result (λ e. e ≡ RowFault.Failed → ⊥) }
         ensures mark { W.own_mark output.new ≡ W.own_mark output.old }
     {
-        let (Ok(mut line), Ok(pending)) = (Line::new(alloc, setup.delimiter()), Vec::with_capacity(alloc, ROOM)) else {
+        let (Ok(mut line), Ok(pending)) = (
+            Line::new(alloc, setup.delimiter()),
+            Vec::with_capacity(alloc, ROOM),
+        ) else {
             return Err(RowFault::OutOfMemory);
         };
         if make_heading(&mut line, setup.targets()).is_err() {
@@ -124,7 +127,11 @@ impl RowWriter {
         ensures failed { writing_failed self.old ≡ true → (result ≡ Err RowFault.Failed) × (self.new ≡ self.old) }
     {
         self.complete(row)?;
-        if self.pending.extend_from_slice(self.line.as_slice()).is_err() {
+        if self
+            .pending
+            .extend_from_slice(self.line.as_slice())
+            .is_err()
+        {
             self.failed = true;
             return Err(RowFault::OutOfMemory);
         }

@@ -7,3 +7,13 @@ pub mod PassageLemmas
 pub mod SettledLemmas
 pub mod StationLemmas
 pub mod TableLemmas
+pub mod TotalLemmas
+pub mod PartLemmas
+pub mod InvariantLemmas
+pub mod ActLemmas
+pub mod StateLemmas
+pub mod NumberLemmas
+pub mod PlaceLemmas
+pub mod NextActLemmas
+pub mod ScheduleLemmas
+pub mod ScheduleExamples

@@ -8,3 +8,6 @@ pub mod Headline
 pub mod Cases
 pub mod Stations
 pub mod Reports
+pub mod Machine
+pub mod Schedules
+pub mod EveryScheduleLaw

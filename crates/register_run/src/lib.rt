@@ -11,6 +11,7 @@ mod converting;
 mod feeds;
 mod gates;
 mod joining;
+pub mod laws;
 mod links;
 mod reading;
 mod reports;

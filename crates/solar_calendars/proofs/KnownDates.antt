@@ -5,6 +5,8 @@ use Rattle.solar_calendars.specs.Gregorian.{gregorian_rules}
 use Rattle.solar_calendars.specs.Julian.{julian_rules}
 use Rattle.solar_calendars.specs.IsoWeek.{week_year_start, week_day_number}
 use Rattle.solar_calendars.specs.ThirteenMonths.{coptic_rules, ethiopic_rules, egyptian_rules, armenian_rules}
+use Rattle.solar_calendars.specs.Roman.{roman_day_number}
+use Rattle.solar_calendars.specs.declared.roman_date.RomanName.TheVariants.{Kalends, SecondSixth}
 use Rattle.solar_calendars.specs.French.{french_rules}
 
 -- 29 February of year 0, and the day of the Ethiopic epoch
@@ -63,3 +65,12 @@ french_leap_day = refl
 
 french_common_4000 : ¬ (IsDateOf french_rules (pos 4_000) 13 6)
 french_common_4000 h = omega (arith, h.2)
+
+-- Roman dates of the year -1, which is a leap year
+second_sixth : roman_day_number (neg_ℤ (pos 1)) 3 SecondSixth ≡ neg_ℤ (pos 312)
+unfolding start_of_year days_of_years days_of_years_before
+second_sixth = refl
+
+sixth : roman_day_number (neg_ℤ (pos 1)) 3 (Kalends 6) ≡ neg_ℤ (pos 313)
+unfolding start_of_year days_of_years days_of_years_before
+sixth = refl

@@ -6,3 +6,6 @@ pub mod Julian
 pub mod IsoWeek
 pub mod IsoWeekLaw
 pub mod French
+pub mod Roman
+pub mod RomanPlaces
+pub mod Laws

@@ -17,7 +17,8 @@ use day_numbers::{ArithmeticCalendar, DateFault, Day, Ymd};
 #[derive(Clone, Copy, Debug)]
 pub struct Julian;
 
-fn is_leap(year: i32) -> bool
+/// Whether the year is a leap year, of 366 days.
+pub fn is_leap(year: i32) -> bool
     ensures { result ≡ is_julian_leap year }
 {
     if year < 0 {
@@ -114,6 +115,7 @@ impl ArithmeticCalendar for Julian {
         day_by_rules(self, date)
     }
 
+    #[inline(always)]
     fn date_on(&self, day: Day) -> Option<Ymd> {
         date_by_rules(self, day)
     }

@@ -1,8 +1,10 @@
-//! Calendars of the sun: Gregorian, ISO week, Julian, Coptic, Ethiopic, Egyptian, Armenian and French.
+//! Calendars of the sun: Gregorian, ISO week, Julian, Coptic, Ethiopic, Egyptian, Armenian and French, and the Roman
+//! names of the days of the Julian calendar.
 //!
-//! Each is a unit type with [`day_numbers::ArithmeticCalendar`], by the rules of Reingold and
+//! Each calendar is a unit type with [`day_numbers::ArithmeticCalendar`], by the rules of Reingold and
 //! Dershowitz, *Calendrical Calculations*, and for the week date of ISO 8601. The Gregorian calendar is
-//! computed by `jiff` where it has the year.
+//! computed by `jiff` where it has the year. A [`RomanDate`] is not a year, a month and a day; [`roman_day_of`] and
+//! [`roman_on`] do for it what the trait does for the others.
 #![tactic(auto)]
 
 mod armenian;
@@ -13,6 +15,9 @@ mod french;
 mod gregorian;
 mod iso_week;
 mod julian;
+pub mod laws;
+mod roman;
+mod roman_date;
 mod thirteen_months;
 mod twelve_months;
 
@@ -24,6 +29,8 @@ pub use french::French;
 pub use gregorian::Gregorian;
 pub use iso_week::IsoWeek;
 pub use julian::Julian;
+pub use roman::{roman_day_of, roman_on};
+pub use roman_date::{RomanDate, RomanName};
 
 #[cfg(test)]
 mod tests;

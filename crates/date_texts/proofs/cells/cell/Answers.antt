@@ -1,5 +1,4 @@
-use Rattle.date_texts.proofs.CellLemmas.{one_cell}
 use Rattle.date_texts.proofs.cells.cell.Goals as goal
 
 pub returns-clause-only : goal.returns-clause-only
-returns-clause-only c = λ text is. one_cell c.args.target c.args.day.number text _ is c.push_cell.ensures
+returns-clause-only c = λ text is. c.one_cell.ensures c.args.target c.args.day.number text _ is c.push_cell.ensures

@@ -2,7 +2,7 @@
 use Rattle.std.proofs.Common.{rules, arith, inl, inr, map}
 use Rattle.std.specs.String.{string_bytes}
 use Rattle.register_app.specs.Requests.{MeanJust, help, table}
-use Rattle.register_records.specs.Setups.{delimiter_of, targets_of}
+use Rattle.register_records.specs.Views.{layout_of}
 use Rattle.register_app.proofs.WordFacts.{is_refused, never_refused}
 use Rattle.register_app.proofs.answering.answer.Goals as goal
 
@@ -17,8 +17,8 @@ pub returns-in-Ok-Convert-clause-refused : goal.returns-in-Ok-Convert-clause-ref
 returns-in-Ok-Convert-clause-refused g c =
     let words = map string_bytes c.args.words.now in
     let setup = c.in-Ok-Convert.setup in
-    let just : MeanJust words (table (targets_of setup) (delimiter_of setup)) = search (rules, c.in-Ok-Convert.ensures.asked) in
-    λ had. never_refused words (table (targets_of setup) (delimiter_of setup)) c.convert_text.result.0 just (λ fault e. cc)
+    let just : MeanJust words (table (layout_of setup)) = search (rules, c.in-Ok-Convert.ensures.asked) in
+    λ had. never_refused words (table (layout_of setup)) c.convert_text.result.0 just (λ fault e. cc)
     (λ two. elim c.convert_text.ensures.statuses [ inl zero ↦ absurd (omega (arith, two, zero)) | inr one ↦ absurd (omega (arith, two, one)) ])
 
 pub returns-in-Err-clause-refused : goal.returns-in-Err-clause-refused
@@ -30,5 +30,5 @@ pub returns-in-Ok-Convert-clause-told : goal.returns-in-Ok-Convert-clause-told
 returns-in-Ok-Convert-clause-told g c =
     let words = map string_bytes c.args.words.now in
     let setup = c.in-Ok-Convert.setup in
-    let just : MeanJust words (table (targets_of setup) (delimiter_of setup)) = search (rules, c.in-Ok-Convert.ensures.asked) in
-    λ one good. inr (targets_of setup, delimiter_of setup, just, c.convert_text.ensures.told one good)
+    let just : MeanJust words (table (layout_of setup)) = search (rules, c.in-Ok-Convert.ensures.asked) in
+    λ one good. inr (layout_of setup, just, c.convert_text.ensures.told one good)

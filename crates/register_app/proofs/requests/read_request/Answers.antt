@@ -8,7 +8,7 @@ use Rattle.register_app.specs.Faults.{fault_told, usage}
 use Rattle.register_app.specs.Requests.{AreTargetsOf, AsksFor, IsDelimiterFault, IsTargetFault, MeanJust, help, table, wrong}
 use Rattle.register_app.specs.declared.refusals.Refusal.{Refusal}
 use Rattle.register_app.specs.declared.requests.Request.{Request}
-use Rattle.register_records.specs.Setups.{delimiter_of, targets_of}
+use Rattle.register_records.specs.Views.{layout_of}
 use Rattle.register_app.proofs.SetupFacts.{asked_delimiter, asked_once, no_fault}
 use Rattle.register_app.proofs.WordFacts.{asks_help, mean_just, misuses, told_just, told_of_delimiter, told_of_targets}
 use Rattle.register_app.proofs.requests.read_request.Goals as goal
@@ -52,12 +52,12 @@ returns-in_err-delimiter-clause-refused c =
 pub returns-clause-asked : goal.returns-clause-asked
 returns-clause-asked c =
     let words = map string_bytes c.args.words.now in
-    let asks : AsksFor words (targets_of c.in-Ok-new.setup) (delimiter_of c.in-Ok-new.setup) = search rules in
-    mean_just c.one_target.ensures words (table (targets_of c.in-Ok-new.setup) (delimiter_of c.in-Ok-new.setup)) asks
+    let asks : AsksFor words (layout_of c.in-Ok-new.setup) = search rules in
+    mean_just c.one_target.ensures words (table (layout_of c.in-Ok-new.setup)) asks
 
 pub unreachable-requires : goal.unreachable-requires
 unreachable-requires c =
     let once = rw (sym c.as_slice.ensures.value) at (asked_once _ _ c.in_ok-targets.ensures.value) in
     let cuts = asked_delimiter _ _ c.in_ok-delimiter.ensures.value in
-    no_fault c.new.result c.in-Err-new.field-0 _ 16 c.in_ok-delimiter.delimiter c.in-Err-new.is once refl cuts c.new.ensures.twice.0 (λ e. (c.new.ensures.ring_size.0 e).1)
-    (λ e. (c.new.ensures.delimiter.0 e).2)
+    no_fault c.new.result c.in-Err-new.field-0 _ 16 c.in_ok-delimiter.delimiter 1 c.in-Err-new.is once refl cuts c.new.ensures.twice.0 (λ e. (c.new.ensures.ring_size.0 e).1)
+    (λ e. (c.new.ensures.delimiter.0 e).2) refl (λ e. (c.new.ensures.stripes.0 e).3)

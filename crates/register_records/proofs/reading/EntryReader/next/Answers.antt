@@ -52,9 +52,11 @@ returns-then-len-clause-many g c _ =
     let live = self.live c.if-self.false in
     let some : c.in-Ok.found ≡ true = search rules in
     let r = rw some at (c.in-Ok.ensures.reads live.0 (inl live.1)) in
-    let full : length (given_of self) ≡ record_limit = shown-length self.given.items ∙ omega (arith, self.few, c.if-len.true, c.len.ensures) in
-    (full, may-many (g.R.Read.remaining self.source.value) self.delimiter self.failed (left_until_end (inner_remaining g.R.Read.remaining) self.done self.records) (given_of self) c.if-self.false self.stands
-    (rw c.if-self-2.false (some-left _ _ _ (read-more (inner_remaining g.R.Read.remaining) self.records c.read_byte_record.new.self _ r))) full)
+    let full : length (given_of self) ≡ record_limit = shown-length self.given.items ∙ omega (arith, self.few, c.if-len.true, c.len.ensures) in (
+      full,
+      may-many (g.R.Read.remaining self.source.value) self.delimiter self.failed (left_until_end (inner_remaining g.R.Read.remaining) self.done self.records) (given_of self) c.if-self.false self.stands
+          (rw c.if-self-2.false (some-left _ _ _ (read-more (inner_remaining g.R.Read.remaining) self.records c.read_byte_record.new.self _ r))) full,
+    )
 
 pub invariant_of-self-then-is_err : goal.invariant_of-self-then-is_err
 invariant_of-self-then-is_err g c =

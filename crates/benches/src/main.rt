@@ -1,0 +1,97 @@
+//! What calls cost. Without arguments each part is run for a moment and no times are printed. With arguments:
+//!
+//! - `calendars N`: for each calendar the nanoseconds of one `date_on` and one `day_of`, over N rounds of a sample of days;
+//! - `texts N`: those of reading and writing a date, of finding a calendar's name, and of a cell of each target;
+//! - `lanes N`: those of an item on its way through a lane and through a plain ring, over N items;
+//! - `memory N`: registers of N records, over all calendars and of Gregorian dates alone, from memory to an output that
+//!   only counts, with every target and with none: records a second and nanoseconds a record, without a system call;
+//! - `make mixed|gregorian N FILE`: writes such a register to a file;
+//! - `files all|none INPUT OUTPUT`: converts a file to a file;
+//! - `lines INPUT OUTPUT`: writes the lines of a file to another by one write for each, which is what any program pays that
+//!   hands on each row.
+#![tactic(auto)]
+
+mod calendars;
+mod common;
+mod lanes;
+mod records;
+mod texts;
+
+use calendars::measure_calendars;
+use lanes::measure_lanes;
+use records::inputs::{Kind, register};
+use records::{FEW, by_lines, from_memory, over_files};
+use std::alloc::Global;
+use std::rt::Files;
+use std::sync::Wait;
+use std::thread::Threads;
+use std::time::Clock;
+use std::{env, fs, io};
+use texts::measure_texts;
+
+/// Runs every part for a moment.
+fn run_all<R: Threads + Wait + Sync + Clock + Print>(rt: &R, alloc: Global) -> io::Result<bool> {
+    measure_calendars(rt, alloc, None)?;
+    println!(rt; "every calendar measured")?;
+    measure_texts(rt, alloc, None)?;
+    println!(rt; "every date text measured")?;
+    let mut whole = measure_lanes(rt, alloc, None)?;
+    if whole {
+        println!(rt; "every item moved")?;
+    }
+    whole &= from_memory(rt, alloc, FEW, false)?;
+    if whole {
+        println!(rt; "every register converted")?;
+    }
+    Ok(whole)
+}
+
+/// Writes a register of so many records to a file.
+fn make<R: Files>(rt: &R, alloc: Global, kind: &str, count: &str, to: &str) -> io::Result<bool> {
+    let kind = if kind == "mixed" {
+        Kind::Mixed
+    } else {
+        Kind::Gregorian
+    };
+    let text = register(alloc, kind, count.parse().unwrap_or(FEW))?;
+    fs::write(rt, to, text.as_slice())?;
+    Ok(true)
+}
+
+/// Does what the words ask for.
+fn run<R: Threads + Wait + Sync + Files + Clock + Print>(
+    rt: &R,
+    alloc: Global,
+    words: &[&str],
+) -> io::Result<bool> {
+    match words {
+        [] => run_all(rt, alloc),
+        ["calendars", count] => {
+            measure_calendars(rt, alloc, count.parse().ok())?;
+            Ok(true)
+        }
+        ["texts", count] => {
+            measure_texts(rt, alloc, count.parse().ok())?;
+            Ok(true)
+        }
+        ["lanes", count] => measure_lanes(rt, alloc, count.parse().ok()),
+        ["memory", count] => from_memory(rt, alloc, count.parse().unwrap_or(FEW), true),
+        ["make", kind, count, to] => make(rt, alloc, kind, count, to),
+        ["files", targets, from, to] => over_files(rt, alloc, *targets == "all", from, to),
+        ["lines", from, to] => by_lines(rt, alloc, from, to),
+        _ => Ok(false),
+    }
+}
+
+fn main(rt: HostRuntime) -> io::Result<()> {
+    let alloc = rt.alloc();
+    let arguments: Vec<String> = env::args(&rt)?.skip(1).collect(alloc)?;
+    let mut words: Vec<&str> = Vec::new(alloc);
+    for argument in &arguments {
+        words.push(argument.as_str())?;
+    }
+    if !run(&rt, alloc, words.as_slice())? {
+        println!(rt; "nothing measured")?;
+    }
+    Ok(())
+}

@@ -1,0 +1,131 @@
+//! What date texts cost: the nanoseconds of one `read_date`, `write_date`, `day_of_date` and
+//! `calendar_named`, and of one `cell` of each target.
+
+use crate::common::{DAYS, calls, cost, sample};
+use arrayvec::ArrayString;
+use date_texts::{
+    Calendar, Date, Target, calendar_named, cell, day_of_date, read_date, write_date,
+};
+use std::alloc::Global;
+use std::io;
+use std::time::{Clock, Instant};
+
+/// Names as registers write them.
+const NAMES: [&str; 4] = ["gregorian", " Julian", "HEBREW", "french"];
+
+/// Prints what the dates of a calendar cost, and sums of what the calls gave, so that no call is left out.
+fn measure_dates<R: Clock + Print>(
+    rt: &R,
+    alloc: Global,
+    rounds: Option<u64>,
+    calendar: Calendar,
+) -> io::Result<()> {
+    let mut texts: Vec<ArrayString<24>> = Vec::new(alloc);
+    let mut dates: Vec<Date> = Vec::new(alloc);
+    for day in &sample(alloc)? {
+        let text = cell(Target::Date(calendar), *day);
+        if let Ok(date) = read_date(calendar, text.as_str()) {
+            texts.push(text)?;
+            dates.push(date)?;
+        }
+    }
+    let times = rounds.unwrap_or(1);
+
+    let mut read = 0u64;
+    let start = Instant::now(rt)?;
+    for _ in 0..times {
+        for text in &texts {
+            if let Ok(Date::Civil(date)) = read_date(calendar, text.as_str()) {
+                read = read.wrapping_add(date.ymd().day() as u64);
+            }
+        }
+    }
+    let read_cost = cost(rt, &start, calls(times))?;
+
+    let mut written = 0u64;
+    let start = Instant::now(rt)?;
+    for _ in 0..times {
+        for date in &dates {
+            written = written.wrapping_add(write_date(date).len() as u64);
+        }
+    }
+    let write_cost = cost(rt, &start, calls(times))?;
+
+    let mut numbers = 0i64;
+    let start = Instant::now(rt)?;
+    for _ in 0..times {
+        for date in &dates {
+            if let Ok(day) = day_of_date(date) {
+                numbers = numbers.wrapping_add(day.number());
+            }
+        }
+    }
+    let day_cost = cost(rt, &start, calls(times))?;
+    if rounds.is_some() {
+        println!(rt;
+            "{:<10} read {read_cost:>4} ns  write {write_cost:>4} ns  day {day_cost:>4} ns  ({read} {written} {numbers})",
+            calendar.name()
+        )?;
+    }
+    Ok(())
+}
+
+/// Prints what the cells of a target cost.
+fn measure_cells<R: Clock + Print>(
+    rt: &R,
+    alloc: Global,
+    rounds: Option<u64>,
+    target: Target,
+) -> io::Result<()> {
+    let days = sample(alloc)?;
+    let times = rounds.unwrap_or(1);
+    let mut bytes = 0u64;
+    let start = Instant::now(rt)?;
+    for _ in 0..times {
+        for day in &days {
+            bytes = bytes.wrapping_add(cell(target, *day).len() as u64);
+        }
+    }
+    let cell_cost = cost(rt, &start, calls(times))?;
+    if rounds.is_some() {
+        println!(rt; "{:<10} cell {cell_cost:>4} ns  ({bytes})", target.name())?;
+    }
+    Ok(())
+}
+
+/// Prints what it costs to find the calendar of a name.
+fn measure_names<R: Clock + Print>(rt: &R, rounds: Option<u64>) -> io::Result<()> {
+    let times = rounds.unwrap_or(1);
+    for name in NAMES {
+        let mut found = 0u64;
+        let start = Instant::now(rt)?;
+        for _ in 0..times {
+            for _ in 0..DAYS {
+                if calendar_named(name).is_some() {
+                    found = found.wrapping_add(1);
+                }
+            }
+        }
+        let name_cost = cost(rt, &start, calls(times))?;
+        if rounds.is_some() {
+            println!(rt; "{name:<10} named {name_cost:>4} ns  ({found})")?;
+        }
+    }
+    Ok(())
+}
+
+/// Measures date texts and cells over so many rounds; where there is no number, one round is made and no times are
+/// printed.
+pub(crate) fn measure_texts<R: Clock + Print>(
+    rt: &R,
+    alloc: Global,
+    rounds: Option<u64>,
+) -> io::Result<()> {
+    for calendar in [Calendar::Gregorian, Calendar::Iso, Calendar::Longcount] {
+        measure_dates(rt, alloc, rounds, calendar)?;
+    }
+    for target in Target::ALL {
+        measure_cells(rt, alloc, rounds, target)?;
+    }
+    measure_names(rt, rounds)
+}

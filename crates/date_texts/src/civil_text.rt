@@ -1,0 +1,83 @@
+//! Civil dates and week dates as text: a year, a month and a day, or a year, a week and a weekday.
+
+ghost use Rattle.std.specs.Prelude.{◌≡◌, ◌↔◌, [], IfSome, Some};
+ghost use Rattle.day_numbers.specs.Dates.{IsYmd};
+ghost use Rattle.date_texts.specs.declared.date.Date.{Date};
+ghost use Rattle.date_texts.specs.Calendars.{IsCivil};
+ghost use Rattle.date_texts.specs.DateText.{SaysDate, canonical_text};
+ghost use Rattle.date_texts.specs.Reading.{after_week_letter as after_letter_spec, after_mark as after_mark_spec};
+ghost use Rattle.date_texts.specs.Reading.{civil_at as civil_spec, seen_rest};
+
+use crate::calendar::Calendar;
+use crate::date::{CivilDate, Date};
+use crate::grammar::Grammar;
+use crate::numerals::{
+    after_byte, at_end, number_at, push_number, push_two_digits, push_year, year_at,
+};
+use arrayvec::ArrayString;
+use day_numbers::Ymd;
+
+/// The bytes after the letter W, of either case, at the front.
+#[tactic(auto, unfolding(crate::specs::Reading::after_week_letter))]
+fn after_week_letter(bytes: &[u8]) -> Option<&[u8]>
+    ensures { seen_rest result ≡ after_letter_spec bytes.now }
+{
+    match bytes {
+        [b'W' | b'w', rest @ ..] => Some(rest),
+        _ => None,
+    }
+}
+
+/// The bytes after what stands before a week, the letter W, and before a month, nothing.
+#[tactic(auto, unfolding(crate::specs::Reading::after_mark))]
+fn after_mark(grammar: Grammar, bytes: &[u8]) -> Option<&[u8]>
+    ensures { seen_rest result ≡ after_mark_spec grammar bytes.now }
+{
+    match grammar {
+        Grammar::Civil => Some(bytes),
+        Grammar::Week => after_week_letter(bytes),
+        Grammar::LongCount | Grammar::Roman => None,
+    }
+}
+
+/// The year, month and day that the bytes spell, or the year, week and weekday.
+#[tactic(auto, unfolding(crate::specs::Reading::civil_at))]
+fn civil_at(grammar: Grammar, bytes: &[u8]) -> Option<(i32, u8, u8)>
+    ensures value { result ≡ civil_spec grammar bytes.now }
+    ensures near { IfSome result (λ d. IsYmd d.0 d.1 d.2) }
+{
+    let (year, rest) = year_at(bytes)?;
+    let (month, rest) = number_at(1, after_mark(grammar, after_byte(b'-', rest)?)?)?;
+    let (day, rest) = number_at(1, after_byte(b'-', rest)?)?;
+    at_end(rest, (year, month as u8, day as u8))
+}
+
+/// The date that a text without blanks at its ends says in a calendar of civil or week dates.
+pub fn civil_date_at(calendar: Calendar, text: &[u8]) -> Option<Date>
+    requires { IsCivil calendar }
+    ensures { (date : Date) → (result ≡ Some date) ↔ SaysDate calendar text.now date }
+{
+    let (year, month, day) = civil_at(calendar.grammar(), text)?;
+    let date = CivilDate::new(calendar, Ymd::new(year, month, day)?)?;
+    Some(Date::Civil(date))
+}
+
+/// Writes a year, a month and a day, or a year, a week and a weekday, into an empty text.
+pub fn push_civil(text: &mut ArrayString<24>, civil: CivilDate)
+    requires empty { text.old.bytes ≡ [] }
+    ensures { text.new.bytes ≡ canonical_text (Date.Civil civil) }
+{
+    let date = civil.ymd();
+    push_year(text, date.year());
+    if civil.calendar().grammar() == Grammar::Week {
+        text.push_str("-W");
+        push_two_digits(text, date.month());
+        text.push_str("-");
+        push_number(text, date.day() as u16);
+        return;
+    }
+    text.push_str("-");
+    push_two_digits(text, date.month());
+    text.push_str("-");
+    push_two_digits(text, date.day());
+}

@@ -1,0 +1,70 @@
+//! Long counts as text: five places, joined by dots.
+
+ghost use Rattle.std.specs.Prelude.{◌≡◌, ◌↔◌, ◌≤◌, ◌+◌, [], ◌∷◌, ◌++◌, IfSome, Some};
+ghost use Rattle.std.specs.Fmt.{decimal};
+ghost use Rattle.arrayvec.specs.ArrayString.{array_string_len};
+ghost use Rattle.maya_calendars.specs.Places.{ArePlaces};
+ghost use Rattle.date_texts.specs.declared.calendar.Calendar.TheVariants.{Longcount};
+ghost use Rattle.date_texts.specs.declared.date.Date.{Date};
+ghost use Rattle.date_texts.specs.DateText.{SaysDate, canonical_text};
+ghost use Rattle.date_texts.specs.Reading.{long_at as long_spec};
+
+use crate::date::Date;
+use crate::numerals::{after_byte, at_end, number_at, push_number};
+use arrayvec::ArrayString;
+use maya_calendars::LongCount;
+
+/// The five places of a long count that the bytes spell.
+#[tactic(auto, unfolding(crate::specs::Reading::long_at))]
+fn long_at(bytes: &[u8]) -> Option<(u16, u16, u16, u16, u16)>
+    ensures value { result ≡ long_spec bytes.now }
+    ensures near { IfSome result (λ c. ArePlaces c.0 c.1 c.2 c.3 c.4) }
+{
+    let (baktun, rest) = number_at(3, bytes)?;
+    let (katun, rest) = number_at(3, after_byte(b'.', rest)?)?;
+    let (tun, rest) = number_at(3, after_byte(b'.', rest)?)?;
+    let (uinal, rest) = number_at(3, after_byte(b'.', rest)?)?;
+    let (kin, rest) = number_at(3, after_byte(b'.', rest)?)?;
+    at_end(
+        rest,
+        (
+            baktun as u16,
+            katun as u16,
+            tun as u16,
+            uinal as u16,
+            kin as u16,
+        ),
+    )
+}
+
+/// The long count that a text without blanks at its ends says.
+pub fn long_date_at(text: &[u8]) -> Option<Date>
+    ensures { (date : Date) → (result ≡ Some date) ↔ SaysDate Longcount text.now date }
+{
+    let (baktun, katun, tun, uinal, kin) = long_at(text)?;
+    let count = LongCount::new(baktun, katun, tun, uinal, kin)?;
+    Some(Date::Long(count))
+}
+
+/// Appends a dot and a place of a long count.
+fn push_place(text: &mut ArrayString<24>, place: u16)
+    requires room { array_string_len text.old ≤ 19 }
+    requires small { place ≤ 9_999 }
+    ensures bytes { text.new.bytes ≡ text.old.bytes ++ 46 ∷ decimal place }
+    ensures len { array_string_len text.new ≤ array_string_len text.old + 5 }
+{
+    text.push_str(".");
+    push_number(text, place);
+}
+
+/// Writes a long count into an empty text.
+pub fn push_long(text: &mut ArrayString<24>, count: LongCount)
+    requires empty { text.old.bytes ≡ [] }
+    ensures { text.new.bytes ≡ canonical_text (Date.Long count) }
+{
+    push_number(text, count.baktun());
+    push_place(text, count.katun());
+    push_place(text, count.tun());
+    push_place(text, count.uinal());
+    push_place(text, count.kin());
+}

@@ -1,2 +1,0 @@
-pub mod ConversionLemmas
-pub mod PassageLemmas

@@ -1,0 +1,108 @@
+-- Months one after the other, and their Kalends.
+use Rattle.std.proofs.Common.{inl, inr, ◌≡◌, ℕ, zero, suc, ◌+◌, ◌-◌, ◌≤◌, Bool, true, false, refl, subst, arith, ℤ}
+use Rattle.std.proofs.Common.{pos, negsuc, ◌+ℤ◌, List, [], ◌∷◌}
+use Rattle.std.specs.Prelude.{if◌then◌else◌, ◌==◌, ◌&&◌}
+use Rattle.std.proofs.lemmas.Bool.{cases_eq, ne_eqb}
+use Rattle.std.proofs.lemmas.Bool.Decides.{nat_tests}
+use Rattle.day_numbers.specs.Rules.{without_zero, HasYear, numbered_from, days_before_month, days_of_month}
+use Rattle.day_numbers.specs.Rules.{total_days, year_start, year_length}
+use Rattle.day_numbers.proofs.RulesLemmas.{next_year, start-next}
+use Rattle.day_numbers.proofs.SignedArithmetic.{signed_arith}
+use Rattle.solar_calendars.specs.Julian.{julian_rules, is_julian_leap}
+use Rattle.solar_calendars.specs.TwelveMonths.{twelve_months}
+use Rattle.solar_calendars.specs.RomanPlaces.{month_length, next_month, year_of_next_month}
+use Rattle.solar_calendars.specs.Roman.{day_of_ides, kalends, year_before, month_before, year_of_month_before}
+use Rattle.solar_calendars.specs.Roman.{has_two_sixths}
+
+first_before : (ds : List ℕ) (k : ℕ) → days_before_month (numbered_from k ds) k ≡ 0
+first_before [] k = refl
+first_before (d ∷ ds) k = grind (arith, nat_tests)
+
+-- each month runs after the one of the number before
+follow : (ds : List ℕ) (k j : ℕ) → k ≤ j
+    → days_before_month (numbered_from k ds) (suc j) ≡ days_before_month (numbered_from k ds) j + days_of_month
+    (numbered_from k ds) j
+follow [] k j h = omega arith
+follow (d ∷ ds) k j h = grind (arith, nat_tests, first_before ds (suc k), follow ds (suc k) j)
+
+abbrev lengths : Bool → List ℕ
+lengths leap = 31 ∷ (if leap then 29 else 28) ∷ 31 ∷ 30 ∷ 31 ∷ 30 ∷ 31 ∷ 31 ∷ 30 ∷ 31 ∷ 30 ∷ 31 ∷ []
+
+year_length_is : (leap : Bool) → total_days (twelve_months leap) ≡ days_before_month (twelve_months leap) 12 + 31
+year_length_is true = refl
+year_length_is false = refl
+
+-- the months' lengths, by their number
+pub months_small : (leap : Bool) (m : ℕ) → 1 ≤ m → m ≤ 12
+    → (28 ≤ days_of_month (twelve_months leap) m) × (days_of_month (twelve_months leap) m ≤ 31)
+months_small leap m a b = grind (arith, nat_tests)
+
+pub months_follow : (leap : Bool) (m : ℕ) → 2 ≤ m → m ≤ 12
+    → days_before_month (twelve_months leap) m ≡ days_before_month (twelve_months leap) (m - 1) + days_of_month
+    (twelve_months leap) (m - 1)
+months_follow leap m a b =
+    let e : suc (m - 1) ≡ m = omega arith in
+    subst (λ n. days_before_month (twelve_months leap) n ≡ days_before_month (twelve_months leap)
+    (m - 1) + days_of_month (twelve_months leap) (m - 1)) e (follow (lengths leap) 1 (m - 1) (omega arith))
+
+before_is : (y : ℤ) → HasYear without_zero y
+    → HasYear without_zero (year_before y) × (next_year without_zero (year_before y) ≡ y)
+before_is (pos zero) h = absurd h
+before_is (pos (suc zero)) h = (tt, refl)
+before_is (pos (suc (suc n))) h = (tt, refl)
+before_is (negsuc n) h = (tt, refl)
+
+-- January follows December
+january : (y : ℤ) → HasYear without_zero y → kalends y 1 ≡ kalends (year_before y) 12 +ℤ pos 31
+january y h =
+    let b = before_is y h in
+    let start : year_start julian_rules y ≡ year_start julian_rules (year_before y) +ℤ pos
+    (year_length julian_rules (year_before y)) =
+    subst (λ z. year_start julian_rules z ≡ year_start julian_rules (year_before y) +ℤ pos
+    (year_length julian_rules (year_before y))) b.1
+    (start-next without_zero _ (year_length julian_rules) (year_before y) b.0) in
+    omega (arith, signed_arith, start, year_length_is (is_julian_leap (year_before y)))
+
+-- the Ides, in bounds
+pub ides_small : (m : ℕ) → (13 ≤ day_of_ides m) × (day_of_ides m ≤ 15)
+ides_small m = grind (arith, nat_tests)
+
+-- the month before a month: there and back, and how far the Kalends lie apart
+pub record Follows (y : ℤ) (m : ℕ) (py : ℤ) (pm : ℕ) : Type 0 where
+  pub has : HasYear without_zero py
+  pub first : 1 ≤ pm
+  pub last : pm ≤ 12
+  pub year_back : year_of_month_before y m ≡ py
+  pub month_back : month_before m ≡ pm
+  pub year_on : year_of_next_month py pm ≡ y
+  pub month_on : next_month pm ≡ m
+  pub starts : kalends y m ≡ kalends py pm +ℤ pos (month_length py pm)
+  pub leaps : has_two_sixths y m ≡ ((pm == 2) && is_julian_leap py)
+
+pub follows : (y : ℤ) (m : ℕ) → HasYear without_zero y → 1 ≤ m → m ≤ 12
+    → Follows y m (year_of_month_before y m) (month_before m)
+follows y m h a b =
+    elim (cases_eq m 1) [
+      | inl e ↦ rw e (record {
+        has = (before_is y h).0;
+        first = omega arith;
+        last = omega arith;
+        year_back = refl;
+        month_back = refl;
+        year_on = (before_is y h).1;
+        month_on = refl;
+        starts = january y h;
+        leaps = refl;
+      })
+      | inr n ↦ rw (ne_eqb m 1 n) (record {
+        has = h;
+        first = omega arith;
+        last = omega arith;
+        year_back = rw (ne_eqb m 1 n) refl;
+        month_back = rw (ne_eqb m 1 n) refl;
+        year_on = rw (ne_eqb (m - 1) 12 (λ q. omega arith)) refl;
+        month_on = rw (ne_eqb (m - 1) 12 (λ q. omega arith)) (omega arith);
+        starts = omega (arith, signed_arith, months_follow (is_julian_leap y) m (omega arith) b);
+        leaps = grind (arith, nat_tests);
+      })
+    ]

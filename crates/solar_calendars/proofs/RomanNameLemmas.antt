@@ -1,0 +1,289 @@
+-- Each valid Roman date is the name of one Julian date, and each Julian date has one.
+use Rattle.std.proofs.Common.{inl, inr, ◌≡◌, ℕ, zero, suc, ◌+◌, ◌-◌, ◌<◌, ◌≤◌, Bool, true, false, refl, sym, subst}
+use Rattle.std.proofs.Common.{ap, ◌∙◌, arith, ℤ, pos, negsuc, ◌+ℤ◌, ◌-ℤ◌}
+use Rattle.std.specs.Prelude.{◌==◌, ◌&&◌}
+use Rattle.std.proofs.lemmas.Bool.{cases_eq, cases_lt, ne_eqb, le-leb, lt-leb}
+use Rattle.std.proofs.lemmas.Bool.Decides.{nat_tests}
+use Rattle.day_numbers.specs.Rules.{without_zero, HasYear, IsDateOf, day_number_of}
+use Rattle.day_numbers.proofs.RulesLemmas.{next_year, date_unique}
+use Rattle.day_numbers.proofs.SignedArithmetic.{signed_arith}
+use Rattle.solar_calendars.specs.Julian.{julian_rules, is_julian_leap}
+use Rattle.solar_calendars.specs.Roman.{day_of_ides, kalends, month_before, year_before, year_of_month_before}
+use Rattle.solar_calendars.specs.Roman.{has_two_sixths, days_back, roman_day_number, IsRomanDate}
+use Rattle.solar_calendars.specs.declared.roman_date.RomanName.{RomanName}
+use Rattle.solar_calendars.specs.declared.roman_date.RomanName.TheVariants.{Kalends, Nones, Ides, SecondSixth}
+use Rattle.solar_calendars.specs.RomanPlaces.{month_length, next_month, year_of_next_month, IsPlaced, HasPlace, place}
+use Rattle.solar_calendars.specs.RomanPlaces.{prior_length, prior_ides, name_within, name_after, RomanParts, parts_on}
+use Rattle.solar_calendars.proofs.RomanMonthLemmas.{follows, ides_small, months_small}
+use Rattle.solar_calendars.proofs.RomanPlaceLemmas.{placed, number, small_prior, sixths_length}
+
+-- a day's name to the Ides has the day's place, and no other name has it
+first_placed : (two : Bool) (i l p : ℕ) → p + 13 ≤ l
+    → IsPlaced two i l p (Kalends 1) × (place two i (Kalends 1) ≡ pos 1 -ℤ pos 1)
+first_placed true i l p c = ((omega arith, omega arith), refl)
+first_placed false i l p c = ((omega arith, omega arith), refl)
+
+Standing : Bool → ℕ → ℕ → ℕ → ℕ → RomanName → Type 0
+Standing two i l p d x = IsPlaced two i l p x × (place two i x ≡ pos d -ℤ pos 1)
+
+within_placed : (two : Bool) (i l p d : ℕ) → 13 ≤ i → i ≤ 15 → p + 13 ≤ l → 1 ≤ d → d ≤ i
+    → IsPlaced two i l p (name_within i d) × (place two i (name_within i d) ≡ pos d -ℤ pos 1)
+unfolding Standing
+within_placed two i l p d a b c e f =
+    elim (cases_eq d 1) [
+      | inl q ↦ rw q (first_placed two i l p c)
+      | inr n ↦ elim (cases_lt (i - 8) d) [
+        | inl more ↦
+            let name : name_within i d ≡ Ides (i + 1 - d) = rw (ne_eqb d 1 n, lt-leb d (i - 8) more) refl in
+            subst (Standing two i l p d) (sym name) ((omega arith, omega arith), omega (arith, signed_arith))
+        | inr less ↦
+            let name : name_within i d ≡ Nones (i - 8 + 1 - d) = rw (ne_eqb d 1 n, le-leb d (i - 8) less) refl in
+            let more : 1 < d = omega arith in
+            subst (Standing two i l p d) (sym name) ((omega arith, omega arith), omega (arith, signed_arith))
+      ]
+    ]
+
+within_same : (two : Bool) (i l p d : ℕ) (name : RomanName) → 13 ≤ i → IsPlaced two i l p name → 1 ≤ d → d ≤ i
+    → place two i name ≡ pos d -ℤ pos 1 → name_within i d ≡ name
+within_same two i l p d (Kalends k) g h a b e =
+    let back : days_back two (Kalends k) ≡ 0 = omega (arith, signed_arith, e) in
+    let one : k ≡ 1 = grind (arith, nat_tests) in
+    let first : d ≡ 1 = omega (arith, signed_arith, e) in
+    rw (one, first) refl
+within_same two i l p d (Nones k) g h a b e =
+    let k_is : k ≡ i - 8 + 1 - d = omega (arith, signed_arith, e, h) in
+    let more : 1 < d = omega (arith, signed_arith, e, h) in
+    let less : d ≤ i - 8 = omega (arith, signed_arith, e, h) in
+    rw k_is (grind (arith, nat_tests))
+within_same two i l p d (Ides k) g h a b e =
+    let k_is : k ≡ i + 1 - d = omega (arith, signed_arith, e, h) in
+    let more : i - 8 < d = omega (arith, signed_arith, e, h) in
+    rw k_is (grind (arith, nat_tests))
+within_same two i l p d SecondSixth g h a b e = absurd (omega (arith, signed_arith, e))
+
+after_same : (two : Bool) (i l p d : ℕ) (name : RomanName) → 13 ≤ i → IsPlaced two i l p name → p < d → d ≤ l
+    → (two ≡ true → l ≡ 29)
+    → place two i name ≡ pos d -ℤ pos 1 -ℤ pos l → name_after two l d ≡ name
+after_same true i l p d (Kalends k) g h a b t e =
+    elim (cases_lt k 6) [
+      | inl less ↦
+          let back : days_back true (Kalends k) ≡ k - 1 = rw (lt-leb 6 k less) refl in
+          let k_is : k ≡ 31 - d = omega (arith, signed_arith, e, h, back, t refl) in
+          let far : 25 < d = omega (arith, signed_arith, e, h, back, t refl) in
+          let name : name_after true l d ≡ Kalends (31 - d) =
+          rw (lt-leb d 24 (omega arith), ne_eqb d 25 (λ q. omega arith)) refl in
+          name ∙ ap Kalends (sym k_is)
+      | inr more ↦
+          let back : days_back true (Kalends k) ≡ k = rw (le-leb 6 k more) refl in
+          let k_is : k ≡ 30 - d = omega (arith, signed_arith, e, h, back, t refl) in
+          let near : d ≤ 24 = omega (arith, signed_arith, e, h, back, t refl) in
+          let name : name_after true l d ≡ Kalends (30 - d) = rw (le-leb d 24 near) refl in
+          name ∙ ap Kalends (sym k_is)
+    ]
+after_same false i l p d (Kalends k) g h a b t e =
+    let k_is : k ≡ l + 2 - d = omega (arith, signed_arith, e, h) in
+    rw k_is refl
+after_same two i l p d (Nones k) g h a b t e = absurd (omega (arith, signed_arith, e, h))
+after_same two i l p d (Ides k) g h a b t e = absurd (omega (arith, signed_arith, e, h))
+after_same two i l p d SecondSixth g h a b t e =
+    let d_is : d ≡ 25 = omega (arith, signed_arith, e, t h) in
+    rw (h, d_is) refl
+
+-- the same after the Ides, by the length of the month
+After : Bool → ℕ → ℕ → ℕ → ℕ → RomanName → Type 0
+After two i l p d x = IsPlaced two i l p x × (place two i x ≡ pos d -ℤ pos 1 -ℤ pos l)
+
+leap_placed : (i l p d : ℕ) → l ≡ 29 → p ≡ 13 → p < d → d ≤ l
+    → IsPlaced true i l p (name_after true l d) × (place true i (name_after true l d) ≡ pos d -ℤ pos 1 -ℤ pos l)
+unfolding After
+leap_placed i l p d x y a b =
+    elim (cases_lt 24 d) [
+      | inl more ↦ elim (cases_eq d 25) [
+        | inl q ↦ rw q (refl, omega (arith, signed_arith, x))
+        | inr n ↦
+            let name : name_after true l d ≡ Kalends (31 - d) = rw (lt-leb d 24 more, ne_eqb d 25 n) refl in
+            let back : days_back true (Kalends (31 - d)) ≡ 31 - d - 1 = rw (lt-leb 6 (31 - d) (omega arith)) refl in
+            subst (After true i l p d) (sym name)
+            ((omega arith, omega (arith, back)), omega (arith, signed_arith, back))
+      ]
+      | inr less ↦
+          let name : name_after true l d ≡ Kalends (30 - d) = rw (le-leb d 24 less) refl in
+          let back : days_back true (Kalends (30 - d)) ≡ 30 - d = rw (le-leb 6 (30 - d) (omega arith)) refl in
+          subst (After true i l p d) (sym name) ((omega arith, omega (arith, back)), omega (arith, signed_arith, back))
+    ]
+
+after_placed : (two : Bool) (i l p d : ℕ) → (two ≡ true → (l ≡ 29) × (p ≡ 13)) → p < d → d ≤ l
+    → IsPlaced two i l p (name_after two l d) × (place two i (name_after two l d) ≡ pos d -ℤ pos 1 -ℤ pos l)
+after_placed false i l p d t a b = ((omega arith, omega arith), omega (arith, signed_arith))
+after_placed true i l p d t a b = leap_placed i l p d (t refl).0 (t refl).1 a b
+
+-- each valid Roman date is the name of a Julian date
+pub record Stands (y : ℤ) (m : ℕ) (name : RomanName) : Type 0 where
+  pub year : ℤ
+  pub month : ℕ
+  pub day : ℕ
+  pub is_date : IsDateOf julian_rules year month day
+  pub number : day_number_of julian_rules year month day ≡ roman_day_number y m name
+  pub same : parts_on year month day ≡ record { year = y; month = m; name = name }
+
+this_month : (y : ℤ) (m : ℕ) (name : RomanName) (d : ℕ) → HasYear without_zero y → 1 ≤ m → m ≤ 12 → HasPlace y m name
+    → 1 ≤ d → d ≤ day_of_ides m → place (has_two_sixths y m) (day_of_ides m) name ≡ pos d -ℤ pos 1 → Stands y m name
+this_month y m name d h a b p one less at =
+    let long = months_small (is_julian_leap y) m a b in
+    let n = number y m name p in
+    let x = within_same (has_two_sixths y m) (day_of_ides m) (prior_length y m) (prior_ides m) d name (ides_small m).0
+    p one less at in
+    record {
+      year = y;
+      month = m;
+      day = d;
+      is_date = (h, one, omega (arith, long, ides_small m));
+      number = omega (arith, signed_arith, n, at);
+      same = rw (le-leb d (day_of_ides m) less) (ap (λ (z : RomanName). record { year = y; month = m; name = z }) x);
+    }
+
+same_parts : {y z : ℤ} {m n : ℕ} {a b : RomanName} → y ≡ z → m ≡ n → a ≡ b
+    → ◌≡◌ {A = RomanParts} (record { year = y; month = m; name = a }) (record { year = z; month = n; name = b })
+same_parts e f g = rw (e, f, g) refl
+
+after_ides : (py y : ℤ) (pm m d : ℕ) (two : Bool) (name : RomanName) → day_of_ides pm < d
+    → year_of_next_month py pm ≡ y → next_month pm ≡ m
+    → two ≡ ((pm == 2) && is_julian_leap py) → name_after two (month_length py pm) d ≡ name
+    → parts_on py pm d ≡ record { year = y; month = m; name = name }
+after_ides py y pm m d two name more e f t x =
+    rw (lt-leb d (day_of_ides pm) more) (same_parts e f (ap (λ (b : Bool). name_after b (month_length py pm) d) (sym t) ∙ x))
+
+last_month : (y : ℤ) (m : ℕ) (name : RomanName) (d : ℕ) → HasYear without_zero y → 1 ≤ m → m ≤ 12 → HasPlace y m name
+    → prior_ides m < d → d ≤ prior_length y m → place (has_two_sixths y m) (day_of_ides m) name ≡ pos d -ℤ pos 1 -ℤ pos
+    (prior_length y m) → Stands y m name
+last_month y m name d h a b p more less at =
+    let f = follows y m h a b in
+    let n = number y m name p in
+    let x = after_same (has_two_sixths y m) (day_of_ides m) (prior_length y m) (prior_ides m) d name (ides_small m).0 p
+    more less (λ t. (sixths_length y m t).0) at in
+    record {
+      year = year_of_month_before y m;
+      month = month_before m;
+      day = d;
+      is_date = (f.has, omega arith, less);
+      number = omega (arith, signed_arith, n, at, f.starts);
+      same = after_ides (year_of_month_before y m) y (month_before m) m d (has_two_sixths y m) name more f.year_on
+          f.month_on f.leaps x;
+    }
+
+back_one : (two : Bool) (k : ℕ) → k ≡ 1 → days_back two (Kalends k) ≡ 0
+back_one true k e = rw e refl
+back_one false k e = rw e refl
+
+back_more : (two : Bool) (k : ℕ) → 2 ≤ k → 1 ≤ days_back two (Kalends k)
+back_more two k h = grind (arith, nat_tests)
+
+pub stands : (y : ℤ) (m : ℕ) (name : RomanName) → IsRomanDate y m name → Stands y m name
+stands y m (Nones k) r =
+    let p = (placed y m (Nones k) r.0 r.1 r.2).0 r in
+    this_month y m (Nones k) (day_of_ides m - 8 + 1 - k) r.0 r.1 r.2 p (omega (arith, p, ides_small m))
+    (omega (arith, p, ides_small m)) (omega (arith, signed_arith, p, ides_small m))
+stands y m (Ides k) r =
+    let p = (placed y m (Ides k) r.0 r.1 r.2).0 r in
+    this_month y m (Ides k) (day_of_ides m + 1 - k) r.0 r.1 r.2 p (omega (arith, p, ides_small m))
+    (omega (arith, p, ides_small m)) (omega (arith, signed_arith, p, ides_small m))
+stands y m (Kalends k) r =
+    let p = (placed y m (Kalends k) r.0 r.1 r.2).0 r in
+    elim (cases_eq k 1) [
+      | inl q ↦ this_month y m (Kalends k) 1 r.0 r.1 r.2 p (omega arith) (omega (arith, ides_small m))
+          (omega (arith, signed_arith, back_one (has_two_sixths y m) k q))
+      | inr n ↦
+          let far = back_more (has_two_sixths y m) k (omega (arith, p)) in
+          last_month y m (Kalends k) (prior_length y m + 1 - days_back (has_two_sixths y m) (Kalends k)) r.0 r.1 r.2 p
+          (omega (arith, p, far)) (omega (arith, p, far)) (omega (arith, signed_arith, p, far))
+    ]
+stands y m SecondSixth r =
+    let p = (placed y m SecondSixth r.0 r.1 r.2).0 r in
+    let l = sixths_length y m p in
+    last_month y m SecondSixth 25 r.0 r.1 r.2 p (omega (arith, l)) (omega (arith, l)) (omega (arith, signed_arith, l))
+
+-- a Roman date is the name of each Julian date with its day number
+pub only_name : (y jy : ℤ) (m jm jd : ℕ) (name : RomanName) → IsRomanDate y m name → IsDateOf julian_rules jy jm jd
+    → roman_day_number y m name ≡ day_number_of julian_rules jy jm jd
+    → parts_on jy jm jd ≡ record { year = y; month = m; name = name }
+only_name y jy m jm jd name r h e =
+    let s = stands y m name r in
+    let same = date_unique julian_rules jy s.year jm s.month jd s.day h s.is_date (sym (s.number ∙ e)) in
+    rw (same.0, same.1, same.2) s.same
+
+-- the month after a month
+year_after : (y : ℤ) → HasYear without_zero y
+    → HasYear without_zero (next_year without_zero y) × (year_before (next_year without_zero y) ≡ y)
+year_after (pos zero) h = absurd h
+year_after (pos (suc n)) h = (tt, refl)
+year_after (negsuc zero) h = (tt, refl)
+year_after (negsuc (suc n)) h = (tt, refl)
+
+record Next (y : ℤ) (m : ℕ) (ny : ℤ) (nm : ℕ) : Type 0 where
+  has : HasYear without_zero ny
+  first : 1 ≤ nm
+  last : nm ≤ 12
+  year_back : year_of_month_before ny nm ≡ y
+  month_back : month_before nm ≡ m
+
+next : (y : ℤ) (m : ℕ) → HasYear without_zero y → 1 ≤ m → m ≤ 12 → Next y m (year_of_next_month y m) (next_month m)
+next y m h a b =
+    elim (cases_eq m 12) [
+      | inl e ↦ rw e (record {
+        has = (year_after y h).0;
+        first = omega arith;
+        last = omega arith;
+        year_back =
+            (year_after y h).1;
+        month_back = refl;
+      })
+      | inr n ↦ rw (ne_eqb m 12 n) (record {
+        has = h;
+        first = omega arith;
+        last = omega arith;
+        year_back = rw (ne_eqb (m + 1) 1 (λ q. omega arith)) refl;
+        month_back = rw (ne_eqb (m + 1) 1 (λ q. omega arith)) (omega arith);
+      })
+    ]
+
+-- the name of a Julian date is valid, and names its day
+NamesDay : ℤ → RomanParts → Type 0
+NamesDay n r = IsRomanDate r.year r.month r.name × (roman_day_number r.year r.month r.name ≡ n)
+
+pub named_is : (y : ℤ) (m d : ℕ) → HasYear without_zero y → 1 ≤ m → m ≤ 12 → 1 ≤ d → d ≤ month_length y m
+    → IsRomanDate (parts_on y m d).year (parts_on y m d).month (parts_on y m d).name
+    × (roman_day_number (parts_on y m d).year (parts_on y m d).month (parts_on y m d).name ≡ day_number_of julian_rules
+    y m d)
+unfolding NamesDay
+named_is y m d h a b one long =
+    elim (cases_lt (day_of_ides m) d) [
+      | inl more ↦
+          let ny = year_of_next_month y m in
+          let nm = next_month m in
+          let x = next y m h a b in
+          let f = follows ny nm x.has x.first x.last in
+          let length : prior_length ny nm ≡ month_length y m = rw (x.year_back, x.month_back) refl in
+          let two : has_two_sixths ny nm ≡ ((m == 2) && is_julian_leap y) = rw (x.year_back, x.month_back) at f.leaps in
+          let starts : kalends ny nm ≡ kalends y m +ℤ pos (month_length y m) = rw (x.year_back, x.month_back)
+          at f.starts in
+          let before : prior_ides nm ≡ day_of_ides m = rw x.month_back refl in
+          let name = name_after (has_two_sixths ny nm) (prior_length ny nm) d in
+          let w = after_placed (has_two_sixths ny nm) (day_of_ides nm) (prior_length ny nm) (prior_ides nm) d
+          (sixths_length ny nm) (omega (arith, before)) (omega (arith, length)) in
+          let v = (placed ny nm name x.has x.first x.last).1 w.0 in
+          let n = number ny nm name w.0 in
+          let e = after_ides y ny m nm d (has_two_sixths ny nm) name more refl refl two
+          (ap (λ (z : ℕ). name_after (has_two_sixths ny nm) z d) (sym length)) in
+          subst (NamesDay (day_number_of julian_rules y m d)) (sym e)
+          (v, omega (arith, signed_arith, n, w.1, starts, length))
+      | inr less ↦
+          let name = name_within (day_of_ides m) d in
+          let small = small_prior y m h a b in
+          let w = within_placed (has_two_sixths y m) (day_of_ides m) (prior_length y m) (prior_ides m) d
+          (ides_small m).0 (ides_small m).1 small.1 one less in
+          let v = (placed y m name h a b).1 w.0 in
+          let n = number y m name w.0 in
+          let e : parts_on y m d ≡ record { year = y; month = m; name = name } = rw (le-leb d (day_of_ides m) less)
+          refl in
+          subst (NamesDay (day_number_of julian_rules y m d)) (sym e) (v, omega (arith, signed_arith, n, w.1))
+    ]

@@ -1,0 +1,5 @@
+use Rattle.solar_calendars.proofs.RomanDateLemmas.{one_roman_date}
+use Rattle.solar_calendars.proofs.laws.one_roman_date.Goals as goal
+
+pub returns : goal.returns
+returns c = one_roman_date

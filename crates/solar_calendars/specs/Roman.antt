@@ -1,0 +1,96 @@
+-- Roman day names: a day of the Julian calendar is counted back from the next Kalends, Nones or Ides, which has the
+-- count 1 itself (Reingold and Dershowitz, Calendrical Calculations, "Roman Nomenclature"). These three are the
+-- principal days of a month.
+use Rattle.std.specs.Prelude.{◌≡◌, ℕ, zero, suc, ◌-◌, ◌≤◌, Bool, IsTrue, ◌==◌, ◌&&◌, ◌||◌, nat_le, if◌then◌else◌}
+use Rattle.std.specs.Prelude.{ℤ, pos, negsuc, ◌-ℤ◌, ◌<ℤ◌, ◌⊎◌}
+use Rattle.day_numbers.specs.Rules.{without_zero, HasYear, day_number_of}
+use Rattle.solar_calendars.specs.Julian.{julian_rules, is_julian_leap}
+use Rattle.solar_calendars.specs.declared.roman_date.RomanName.{RomanName}
+use Rattle.solar_calendars.specs.declared.roman_date.RomanName.TheVariants.{Kalends, Nones, Ides, SecondSixth}
+
+-- the Ides are the 15th of March, May, July and October and the 13th of the other months
+abbrev pub day_of_ides : ℕ → ℕ
+day_of_ides month = if (month == 3) || (month == 5) || (month == 7) || (month == 10) then 15 else 13
+
+-- the Nones stand 8 days before the Ides
+abbrev pub day_of_nones : ℕ → ℕ
+day_of_nones month = day_of_ides month - 8
+
+-- the day numbers of the principal days of a month
+abbrev pub kalends : ℤ → ℕ → ℤ
+kalends year month = day_number_of julian_rules year month 1
+
+abbrev pub nones : ℤ → ℕ → ℤ
+nones year month = day_number_of julian_rules year month (day_of_nones month)
+
+abbrev pub ides : ℤ → ℕ → ℤ
+ides year month = day_number_of julian_rules year month (day_of_ides month)
+
+-- the year before a year: -1 lies before 1
+abbrev pub year_before : ℤ → ℤ
+year_before (pos zero) = negsuc 0
+year_before (pos (suc zero)) = negsuc 0
+year_before (pos (suc (suc n))) = pos (suc n)
+year_before (negsuc n) = negsuc (suc n)
+
+-- the month before a month, and its year
+abbrev pub month_before : ℕ → ℕ
+month_before month = if month == 1 then 12 else month - 1
+
+abbrev pub year_of_month_before : ℤ → ℕ → ℤ
+year_of_month_before year month = if month == 1 then year_before year else year
+
+-- the Ides of the month before
+abbrev pub ides_before : ℤ → ℕ → ℤ
+ides_before year month = ides (year_of_month_before year month) (month_before month)
+
+-- the principal day that a name counts back from
+abbrev pub principal_day : ℤ → ℕ → RomanName → ℤ
+principal_day year month (Kalends count) = kalends year month
+principal_day year month (Nones count) = nones year month
+principal_day year month (Ides count) = ides year month
+principal_day year month SecondSixth = kalends year month
+
+-- the principal day that precedes it
+abbrev pub preceding_day : ℤ → ℕ → RomanName → ℤ
+preceding_day year month (Kalends count) = ides_before year month
+preceding_day year month (Nones count) = kalends year month
+preceding_day year month (Ides count) = nones year month
+preceding_day year month SecondSixth = ides_before year month
+
+-- before the Kalends of March of a leap year two days are the sixth
+abbrev pub has_two_sixths : ℤ → ℕ → Bool
+has_two_sixths year month = (month == 3) && is_julian_leap year
+
+-- how many days a name lies before its principal day: one less than its count; the second sixth lies 5 days before,
+-- and the first sixth and all that are counted before it one day more
+abbrev pub days_back : Bool → RomanName → ℕ
+days_back two_sixths (Kalends count) = if two_sixths && nat_le 6 count then count else count - 1
+days_back two_sixths (Nones count) = count - 1
+days_back two_sixths (Ides count) = count - 1
+days_back two_sixths SecondSixth = 5
+
+-- the count of a name
+abbrev pub count_of : RomanName → ℕ
+count_of (Kalends count) = count
+count_of (Nones count) = count
+count_of (Ides count) = count
+count_of SecondSixth = 6
+
+-- counts begin with 1, and a second sixth is named only where there are two
+abbrev pub IsCounted : Bool → RomanName → Type 0
+IsCounted two_sixths (Kalends count) = 1 ≤ count
+IsCounted two_sixths (Nones count) = 1 ≤ count
+IsCounted two_sixths (Ides count) = 1 ≤ count
+IsCounted two_sixths SecondSixth = IsTrue two_sixths
+
+-- the day number of a Roman date; the year and the month are those of its principal day
+abbrev pub roman_day_number : ℤ → ℕ → RomanName → ℤ
+roman_day_number year month name = principal_day year month name -ℤ pos (days_back (has_two_sixths year month) name)
+
+-- a Roman date is valid: its day is the principal day, or lies after the one that precedes it
+abbrev pub IsRomanDate : ℤ → ℕ → RomanName → Type 0
+IsRomanDate year month name =
+    HasYear without_zero year × (1 ≤ month) × (month ≤ 12) × IsCounted (has_two_sixths year month) name
+    × ((roman_day_number year month name ≡ principal_day year month name)
+    ⊎ (preceding_day year month name <ℤ roman_day_number year month name))

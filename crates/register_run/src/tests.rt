@@ -55,10 +55,12 @@ fn cause_of(end: &SourceEnd) -> u8 {
 }
 
 /// Outputs over memory, marked from 7 on.
-fn outputs_of(alloc: Global, count: u32) -> Result<Vec<PlainOutput<Vec<u8>>>, AllocError> {
+fn outputs_of(alloc: Global, count: usize) -> Result<Vec<PlainOutput<Vec<u8>>>, AllocError> {
     let mut outputs = Vec::new(alloc);
-    for place in 0..count {
-        outputs.push(PlainOutput::new(Vec::new(alloc), place.saturating_add(7)))?;
+    let mut mark = 7u32;
+    for _ in 0..count {
+        outputs.push(PlainOutput::new(Vec::new(alloc), mark))?;
+        mark = mark.saturating_add(1);
     }
     Ok(outputs)
 }
@@ -78,7 +80,7 @@ fn run_counts(
     for text in &texts {
         sources.push(text.as_slice())?;
     }
-    let outputs = outputs_of(alloc, counts.len() as u32)?;
+    let outputs = outputs_of(alloc, counts.len())?;
     let Ok(report) = run(rt, alloc, sources, outputs, setup) else {
         panic!(rt; "the run did not begin");
     };

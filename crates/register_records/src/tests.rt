@@ -1,14 +1,15 @@
 // The tables that are wanted are worked by hand from the calendars' rules and from published day numbers.
 
 use crate::{
-    Body, Cause, Entry, EntryFault, EntryReader, Output, PlainOutput, RowFault, RowWriter, Setup,
-    SourceEnd, convert, convert_source,
+    Body, Cause, Entry, EntryFault, EntryReader, Note, Output, PlainOutput, RowFault, RowWriter,
+    Setup, SourceEnd, convert, convert_source,
 };
 use arrayvec::ArrayString;
 use date_texts::{Calendar, Refusal, Target};
 use std::alloc::Global;
 use std::io;
 use std::io::{ErrorKind, Read, Write};
+use std::process::Abort;
 use std::test::Fail;
 
 const GREGORIAN: Target = Target::Date(Calendar::Gregorian);
@@ -23,24 +24,7 @@ const LONGCOUNT: Target = Target::Date(Calendar::Longcount);
 
 const ROMAN: Target = Target::Date(Calendar::Roman);
 
-/// A text to be converted, the table that is wanted, and number and refusal of the rows in its journal.
-#[derive(Clone, Copy)]
-struct Case {
-    targets: &'static [Target],
-    delimiter: u8,
-    input: &'static [u8],
-    output: &'static [u8],
-    journal: &'static [(u32, u8)],
-}
-
-/// Records of a register, each with its row for these targets.
-#[derive(Clone, Copy)]
-struct Worked {
-    targets: &'static [Target],
-    rows: &'static [(&'static str, &'static str)],
-}
-
-const HEADING: &[u8] = b"row,id,calendar,date,rd,weekday,gregorian,julian,refusal\n";
+static HEADING: &str = "row,id,calendar,date,rd,weekday,gregorian,julian,refusal\n";
 
 fn both(delimiter: u8) -> Result<Setup, Fail> {
     Ok(Setup::new(&[GREGORIAN, JULIAN], 16, delimiter, 1)?)
@@ -60,267 +44,298 @@ fn cause_of(end: &SourceEnd) -> u8 {
     }
 }
 
-#[test]
-fn tables_are_as_worked(rt: HostRuntime) -> Result<(), Fail> {
-    let cases = [
-        Case {
-            targets: &[GREGORIAN, JULIAN],
-            delimiter: b',',
-            input: b"id,calendar,date\na,julian,1582-10-05\nb,gregorian,1582-10-15\nc,julian,0-1-1\nd,mayan,1",
-            output: b"row,id,calendar,date,rd,weekday,gregorian,julian,refusal\n1,a,julian,1582-10-05,577736,Friday,1582-10-15,1582-10-05,\n2,b,gregorian,1582-10-15,577736,Friday,1582-10-15,1582-10-05,\n3,c,julian,0-1-1,,,,,6\n4,d,mayan,1,,,,,4\n",
-            journal: &[(3, 6), (4, 4)],
-        },
-        Case {
-            targets: &[JULIAN],
-            delimiter: b';',
-            input: b"\xEF\xBB\xBFID; Calendar ;DATE\r\n\r\n\"Smith; J.\";Gregorian; 1752-9-14\r\n",
-            output: b"row;id;calendar;date;rd;weekday;julian;refusal\n1;\"Smith; J.\";Gregorian; 1752-9-14;639797;Thursday;1752-09-03;\n",
-            journal: &[],
-        },
-        Case {
-            targets: &[],
-            delimiter: b',',
-            input: b"id,calendar,date\na,gregorian\naaaaaaaaaaaaaaaaaaaaaaaaaaaaaaaaaaaaaaaaa,gregorian,1945-11-12\n\xFF,gregorian,1945-11-12\nd,mayan,1945-11-12\ne,gregorian,1945/11/12\n",
-            output: b"row,id,calendar,date,rd,weekday,refusal\n1,,,,,,1\n2,,,,,,2\n3,,,,,,3\n4,d,mayan,1945-11-12,,,4\n5,e,gregorian,1945/11/12,,,5\n",
-            journal: &[(1, 1), (2, 2), (3, 3), (4, 4), (5, 5)],
-        },
-        Case {
-            targets: &[],
-            delimiter: b',',
-            input: b"\n\"\xEF\xBB\xBFId\",calendar,date\n\"say \"\"so\"\"\",gregorian,1970-01-01\n",
-            output: b"row,id,calendar,date,rd,weekday,refusal\n1,\"say \"\"so\"\"\",gregorian,1970-01-01,719163,Thursday,\n",
-            journal: &[],
-        },
-        Case {
-            targets: &[],
-            delimiter: b',',
-            input: b"id,calendar,date\n",
-            output: b"row,id,calendar,date,rd,weekday,refusal\n",
-            journal: &[],
-        },
-        Case {
-            targets: &[],
-            delimiter: b'\t',
-            input: b"id\tcalendar\tdate\n",
-            output: b"row\tid\tcalendar\tdate\trd\tweekday\trefusal\n",
-            journal: &[],
-        },
-    ];
-    for case in &cases {
-        let setup = Setup::new(case.targets, 16, case.delimiter, 1)?;
-        let (text, end) = converted(rt.alloc(), case.input, &setup);
-        assert_eq!(rt; text.as_slice(), case.output);
-        let lines = case.output.iter().filter(|byte| **byte == b'\n').count();
-        let SourceEnd::Whole {
-            rows,
-            refused,
-            journal,
-        } = end
-        else {
-            return Err(Fail::from("broken"));
-        };
-        assert_eq!(rt; (rows as usize).saturating_add(1), lines);
-        assert_eq!(rt; refused as usize, case.journal.len());
-        assert_eq!(rt; journal.len(), case.journal.len());
-        for (note, (number, refusal)) in journal.iter().zip(case.journal) {
-            assert_eq!(rt; note.number, *number);
-            assert_eq!(rt; note.refusal.number(), *refusal);
-        }
+static REFORM: &str = "\
+id,calendar,date\n\
+a,julian,1582-10-05\n\
+b,gregorian,1582-10-15\n\
+c,julian,0-1-1\n\
+d,mayan,1";
+
+static REFORM_TABLE: &str = "\
+row,id,calendar,date,rd,weekday,gregorian,julian,refusal\n\
+1,a,julian,1582-10-05,577736,Friday,1582-10-15,1582-10-05,\n\
+2,b,gregorian,1582-10-15,577736,Friday,1582-10-15,1582-10-05,\n\
+3,c,julian,0-1-1,,,,,6\n\
+4,d,mayan,1,,,,,4\n";
+
+static SEMICOLONS: &str = "\
+\u{feff}ID; Calendar ;DATE\r\n\
+\r\n\
+\"Smith; J.\";Gregorian; 1752-9-14\r\n";
+
+static SEMICOLONS_TABLE: &str = "\
+row;id;calendar;date;rd;weekday;julian;refusal\n\
+1;\"Smith; J.\";Gregorian; 1752-9-14;639797;Thursday;1752-09-03;\n";
+
+static REFUSALS: &str = "\
+id,calendar,date\n\
+a,gregorian\n\
+aaaaaaaaaaaaaaaaaaaaaaaaaaaaaaaaaaaaaaaaa,gregorian,1945-11-12\n\
+\u{1a},gregorian,1945-11-12\n\
+d,mayan,1945-11-12\n\
+e,gregorian,1945/11/12\n";
+
+static REFUSALS_TABLE: &str = "\
+row,id,calendar,date,rd,weekday,refusal\n\
+1,,,,,,1\n\
+2,,,,,,2\n\
+3,,,,,,3\n\
+4,d,mayan,1945-11-12,,,4\n\
+5,e,gregorian,1945/11/12,,,5\n";
+
+static QUOTES: &str = "\
+\n\"\u{feff}Id\",calendar,date\n\
+\"say \"\"so\"\"\",gregorian,1970-01-01\n";
+
+static QUOTES_TABLE: &str = "\
+row,id,calendar,date,rd,weekday,refusal\n\
+1,\"say \"\"so\"\"\",gregorian,1970-01-01,719163,Thursday,\n";
+
+static HEADER_ALONE: &str = "id,calendar,date\n";
+
+static HEADER_ALONE_TABLE: &str = "row,id,calendar,date,rd,weekday,refusal\n";
+
+static TABS: &str = "id\tcalendar\tdate\n";
+
+static TABS_TABLE: &str = "row\tid\tcalendar\tdate\trd\tweekday\trefusal\n";
+
+/// The bytes of a text, in which the substitute U+001A stands for the byte FF, which is nowhere in UTF-8.
+fn bytes_of(alloc: Global, text: &str) -> Result<Vec<u8>, Fail> {
+    let mut bytes = Vec::new(alloc);
+    for &byte in text.as_bytes() {
+        bytes.push(if byte == 0x1A { 0xFF } else { byte })?;
     }
+    Ok(bytes)
+}
+
+/// The numbers and the refusals of the rows in a journal are these.
+fn check_journal(rt: &impl Abort, journal: &[Note], wanted: &[(u32, u8)]) {
+    assert_eq!(rt; journal.len(), wanted.len());
+    for (note, (number, refusal)) in journal.iter().zip(wanted) {
+        assert_eq!(rt; note.number, *number);
+        assert_eq!(rt; note.refusal.number(), *refusal);
+    }
+}
+
+/// The text becomes the table, and the journal has these numbers and refusals of rows.
+fn check_table(
+    rt: &impl Abort,
+    alloc: Global,
+    setup: &Setup,
+    (text, table): (&str, &str),
+    wanted: &[(u32, u8)],
+) -> Result<(), Fail> {
+    let input = bytes_of(alloc, text)?;
+    let (output, end) = converted(alloc, input.as_slice(), setup);
+    assert_eq!(rt; output.as_slice(), table.as_bytes());
+    let SourceEnd::Whole {
+        rows,
+        refused,
+        journal,
+    } = end
+    else {
+        return Err(Fail::from("broken"));
+    };
+    assert_eq!(rt; (rows as usize).saturating_add(1), table.lines().count());
+    assert_eq!(rt; refused as usize, wanted.len());
+    check_journal(rt, journal.as_slice(), wanted);
+    Ok(())
+}
+
+#[test]
+fn a_refused_row_stands_in_the_table_and_the_journal(rt: HostRuntime) -> Result<(), Fail> {
+    let setup = Setup::new(&[GREGORIAN, JULIAN], 16, b',', 1)?;
+    check_table(
+        &rt,
+        rt.alloc(),
+        &setup,
+        (REFORM, REFORM_TABLE),
+        &[(3, 6), (4, 4)],
+    )
+}
+
+#[test]
+fn semicolons_divide_a_table(rt: HostRuntime) -> Result<(), Fail> {
+    let setup = Setup::new(&[JULIAN], 16, b';', 1)?;
+    check_table(&rt, rt.alloc(), &setup, (SEMICOLONS, SEMICOLONS_TABLE), &[])
+}
+
+#[test]
+fn each_refusal_of_a_record_has_its_row(rt: HostRuntime) -> Result<(), Fail> {
+    let setup = Setup::new(&[], 16, b',', 1)?;
+    check_table(
+        &rt,
+        rt.alloc(),
+        &setup,
+        (REFUSALS, REFUSALS_TABLE),
+        &[(1, 1), (2, 2), (3, 3), (4, 4), (5, 5)],
+    )
+}
+
+#[test]
+fn a_quoted_header_and_a_quoted_field(rt: HostRuntime) -> Result<(), Fail> {
+    let setup = Setup::new(&[], 16, b',', 1)?;
+    check_table(&rt, rt.alloc(), &setup, (QUOTES, QUOTES_TABLE), &[])
+}
+
+#[test]
+fn a_header_alone_becomes_a_heading(rt: HostRuntime) -> Result<(), Fail> {
+    let setup = Setup::new(&[], 16, b',', 1)?;
+    check_table(
+        &rt,
+        rt.alloc(),
+        &setup,
+        (HEADER_ALONE, HEADER_ALONE_TABLE),
+        &[],
+    )
+}
+
+#[test]
+fn tabs_divide_a_table(rt: HostRuntime) -> Result<(), Fail> {
+    let setup = Setup::new(&[], 16, b'\t', 1)?;
+    check_table(&rt, rt.alloc(), &setup, (TABS, TABS_TABLE), &[])
+}
+
+static TO_EVERY_TARGET: &str = "\
+a,gregorian,1945-11-12|1,a,gregorian,1945-11-12,710347,Monday,1945-11-12,\
+1945-W46-1,1945-10-30,1662-03-03,1938-03-03,2694-07-10,1395-04-05,1364-12-06,\
+5706-09-07,12.16.11.16.9,0154-02-21,1945-11-K3,7 Zac,11 Muluc,
+";
+
+static TO_GREGORIAN: &str = "\
+b,julian,1582-10-05|1,b,julian,1582-10-05,577736,Friday,1582-10-15,
+d,julian,0-1-1|2,d,julian,0-1-1,,,,6
+e,julian,-1-2-29|3,e,julian,-1-2-29,-308,Sunday,0000-02-27,
+g,hebrew,5745-07-01|4,g,hebrew,5745-07-01,724546,Thursday,1984-09-27,
+h,hebrew,5766-07-01|5,h,hebrew,5766-07-01,732223,Tuesday,2005-10-04,
+k,french,4000-13-6|6,k,french,4000-13-6,,,,6
+l,french,4-13-6|7,l,french,4-13-6,655875,Wednesday,1796-09-21,
+m,islamic,1-1-1|8,m,islamic,1-1-1,227015,Friday,0622-07-19,
+n,islamic,1-12-30|9,n,islamic,1-12-30,,,,6
+o,islamic,2-12-30|10,o,islamic,2-12-30,227723,Saturday,0624-06-26,
+";
+
+static TO_GREGORIAN_AND_ISLAMIC: &str = "\
+c,julian,-44-3-15|1,c,julian,-44-3-15,-15999,Wednesday,-0043-03-13,,
+";
+
+static TO_GREGORIAN_AND_ISO: &str = "\
+f,iso,2004-w53-6|1,f,iso,2004-w53-6,731947,Saturday,2005-01-01,2004-W53-6,
+";
+
+static TO_NO_TARGET: &str = "\
+i,hebrew,5706-08-30|1,i,hebrew,5706-08-30,,,6
+j,hebrew,5707-13-01|2,j,hebrew,5707-13-01,,,6
+";
+
+static TO_MAYA_TARGETS: &str = "\
+p,longcount,0.0.0.0.0|1,p,longcount,0.0.0.0.0,-1137142,Monday,0.0.0.0.0,8 Cumku,4 Ahau,
+q,longcount,0.0.0.0.12|2,q,longcount,0.0.0.0.12,-1137130,Saturday,0.0.0.0.12,0 Uayeb,3 Eb,
+r,longcount,0.0.0.18.0|3,r,longcount,0.0.0.18.0,,,,,,6
+s,gregorian,-3113-08-10|4,s,gregorian,-3113-08-10,-1137143,Sunday,,7 Cumku,3 Cauac,
+";
+
+static TO_JULIAN: &str = "\
+t,gregorian,9999-12-31|1,t,gregorian,9999-12-31,3652059,Friday,9999-10-19,
+u,gregorian,10000-01-01|2,u,gregorian,10000-01-01,,,,7
+v,gregorian,10000-02-30|3,v,gregorian,10000-02-30,,,,6
+w,iso,9999-W52-6|4,w,iso,9999-W52-6,,,,7
+x,gregorian,-9999-01-01|5,x,gregorian,-9999-01-01,-3652424,Monday,-10000-03-19,
+";
+
+static TO_GREGORIAN_AND_JULIAN: &str = "\
+a,coptic,3-13-6|1,a,coptic,3-13-6,104700,Monday,0287-08-29,0287-08-29,
+b,coptic,4-13-6|2,b,coptic,4-13-6,,,,,6
+c,ethiopic,1-1-1|3,c,ethiopic,1-1-1,2796,Wednesday,0008-08-27,0008-08-29,
+d,ethiopic,0-1-1|4,d,ethiopic,0-1-1,,,,,6
+e,egyptian,1-13-6|5,e,egyptian,1-13-6,,,,,6
+";
+
+static TO_JULIAN_AND_ROMAN: &str = "\
+a,roman,0801-01-K8|1,a,roman,0801-01-K8,292192,Friday,0800-12-25,0801-01-K8,
+b,roman,-44-03-i1|2,b,roman,-44-03-i1,-15999,Wednesday,-0044-03-15,-0044-03-I1,
+c,roman,-1-3-k6b|3,c,roman,-1-3-k6b,-312,Wednesday,-0001-02-25,-0001-03-K6B,
+d,roman,1-3-K6B|4,d,roman,1-3-K6B,,,,,6
+e,roman,0-1-K1|5,e,roman,0-1-K1,,,,,6
+f,roman,1-1-K20|6,f,roman,1-1-K20,,,,,6
+g,roman,1-1-K2|7,g,roman,1-1-K2,-2,Friday,-0001-12-31,0001-01-K2,
+h,roman,-99999-1-K2|8,h,roman,-99999-1-K2,,,,,7
+i,roman,1-1-X3|9,i,roman,1-1-X3,,,,,5
+";
+
+/// The records before the bars become the rows after them, below the heading for these targets.
+fn check_rows(rt: &impl Abort, alloc: Global, targets: &[Target], lines: &str) -> Result<(), Fail> {
+    let setup = Setup::new(targets, 16, b',', 1)?;
+    let mut input = Vec::new(alloc);
+    let mut output = Vec::new(alloc);
+    write!(input, "id,calendar,date\n")?;
+    write!(output, "row,id,calendar,date,rd,weekday")?;
+    for target in targets {
+        write!(output, ",{}", target.name())?;
+    }
+    write!(output, ",refusal\n")?;
+    for line in lines.lines() {
+        let (record, row) = line.split_once('|').ok_or("a record and its row")?;
+        write!(input, "{record}\n")?;
+        write!(output, "{row}\n")?;
+    }
+    let (text, end) = converted(alloc, input.as_slice(), &setup);
+    assert_eq!(rt; cause_of(&end), 0);
+    assert_eq!(rt; text.as_slice(), output.as_slice());
     Ok(())
 }
 
 #[test]
 fn records_become_their_rows(rt: HostRuntime) -> Result<(), Fail> {
-    let tables = [
-        Worked {
-            targets: &Target::ALL,
-            rows: &[(
-                "a,gregorian,1945-11-12",
-                "1,a,gregorian,1945-11-12,710347,Monday,1945-11-12,1945-W46-1,1945-10-30,1662-03-03,1938-03-03,2694-07-10,1395-04-05,1364-12-06,5706-09-07,12.16.11.16.9,0154-02-21,1945-11-K3,7 Zac,11 Muluc,",
-            )],
-        },
-        Worked {
-            targets: &[GREGORIAN],
-            rows: &[
-                (
-                    "b,julian,1582-10-05",
-                    "1,b,julian,1582-10-05,577736,Friday,1582-10-15,",
-                ),
-                ("d,julian,0-1-1", "2,d,julian,0-1-1,,,,6"),
-                (
-                    "e,julian,-1-2-29",
-                    "3,e,julian,-1-2-29,-308,Sunday,0000-02-27,",
-                ),
-                (
-                    "g,hebrew,5745-07-01",
-                    "4,g,hebrew,5745-07-01,724546,Thursday,1984-09-27,",
-                ),
-                (
-                    "h,hebrew,5766-07-01",
-                    "5,h,hebrew,5766-07-01,732223,Tuesday,2005-10-04,",
-                ),
-                ("k,french,4000-13-6", "6,k,french,4000-13-6,,,,6"),
-                (
-                    "l,french,4-13-6",
-                    "7,l,french,4-13-6,655875,Wednesday,1796-09-21,",
-                ),
-                (
-                    "m,islamic,1-1-1",
-                    "8,m,islamic,1-1-1,227015,Friday,0622-07-19,",
-                ),
-                ("n,islamic,1-12-30", "9,n,islamic,1-12-30,,,,6"),
-                (
-                    "o,islamic,2-12-30",
-                    "10,o,islamic,2-12-30,227723,Saturday,0624-06-26,",
-                ),
-            ],
-        },
-        Worked {
-            targets: &[GREGORIAN, ISLAMIC],
-            rows: &[(
-                "c,julian,-44-3-15",
-                "1,c,julian,-44-3-15,-15999,Wednesday,-0043-03-13,,",
-            )],
-        },
-        Worked {
-            targets: &[GREGORIAN, ISO],
-            rows: &[(
-                "f,iso,2004-w53-6",
-                "1,f,iso,2004-w53-6,731947,Saturday,2005-01-01,2004-W53-6,",
-            )],
-        },
-        Worked {
-            targets: &[],
-            rows: &[
-                ("i,hebrew,5706-08-30", "1,i,hebrew,5706-08-30,,,6"),
-                ("j,hebrew,5707-13-01", "2,j,hebrew,5707-13-01,,,6"),
-            ],
-        },
-        Worked {
-            targets: &[LONGCOUNT, Target::Haab, Target::Tzolkin],
-            rows: &[
-                (
-                    "p,longcount,0.0.0.0.0",
-                    "1,p,longcount,0.0.0.0.0,-1137142,Monday,0.0.0.0.0,8 Cumku,4 Ahau,",
-                ),
-                (
-                    "q,longcount,0.0.0.0.12",
-                    "2,q,longcount,0.0.0.0.12,-1137130,Saturday,0.0.0.0.12,0 Uayeb,3 Eb,",
-                ),
-                ("r,longcount,0.0.0.18.0", "3,r,longcount,0.0.0.18.0,,,,,,6"),
-                (
-                    "s,gregorian,-3113-08-10",
-                    "4,s,gregorian,-3113-08-10,-1137143,Sunday,,7 Cumku,3 Cauac,",
-                ),
-            ],
-        },
-        Worked {
-            targets: &[JULIAN],
-            rows: &[
-                (
-                    "t,gregorian,9999-12-31",
-                    "1,t,gregorian,9999-12-31,3652059,Friday,9999-10-19,",
-                ),
-                ("u,gregorian,10000-01-01", "2,u,gregorian,10000-01-01,,,,7"),
-                ("v,gregorian,10000-02-30", "3,v,gregorian,10000-02-30,,,,6"),
-                ("w,iso,9999-W52-6", "4,w,iso,9999-W52-6,,,,7"),
-                (
-                    "x,gregorian,-9999-01-01",
-                    "5,x,gregorian,-9999-01-01,-3652424,Monday,-10000-03-19,",
-                ),
-            ],
-        },
-        Worked {
-            targets: &[GREGORIAN, JULIAN],
-            rows: &[
-                (
-                    "a,coptic,3-13-6",
-                    "1,a,coptic,3-13-6,104700,Monday,0287-08-29,0287-08-29,",
-                ),
-                ("b,coptic,4-13-6", "2,b,coptic,4-13-6,,,,,6"),
-                (
-                    "c,ethiopic,1-1-1",
-                    "3,c,ethiopic,1-1-1,2796,Wednesday,0008-08-27,0008-08-29,",
-                ),
-                ("d,ethiopic,0-1-1", "4,d,ethiopic,0-1-1,,,,,6"),
-                ("e,egyptian,1-13-6", "5,e,egyptian,1-13-6,,,,,6"),
-            ],
-        },
-        Worked {
-            targets: &[JULIAN, ROMAN],
-            rows: &[
-                (
-                    "a,roman,0801-01-K8",
-                    "1,a,roman,0801-01-K8,292192,Friday,0800-12-25,0801-01-K8,",
-                ),
-                (
-                    "b,roman,-44-03-i1",
-                    "2,b,roman,-44-03-i1,-15999,Wednesday,-0044-03-15,-0044-03-I1,",
-                ),
-                (
-                    "c,roman,-1-3-k6b",
-                    "3,c,roman,-1-3-k6b,-312,Wednesday,-0001-02-25,-0001-03-K6B,",
-                ),
-                ("d,roman,1-3-K6B", "4,d,roman,1-3-K6B,,,,,6"),
-                ("e,roman,0-1-K1", "5,e,roman,0-1-K1,,,,,6"),
-                ("f,roman,1-1-K20", "6,f,roman,1-1-K20,,,,,6"),
-                (
-                    "g,roman,1-1-K2",
-                    "7,g,roman,1-1-K2,-2,Friday,-0001-12-31,0001-01-K2,",
-                ),
-                ("h,roman,-99999-1-K2", "8,h,roman,-99999-1-K2,,,,,7"),
-                ("i,roman,1-1-X3", "9,i,roman,1-1-X3,,,,,5"),
-            ],
-        },
-    ];
-    for table in &tables {
-        let setup = Setup::new(table.targets, 16, b',', 1)?;
-        let mut input = Vec::new(rt.alloc());
-        let mut output = Vec::new(rt.alloc());
-        write!(input, "id,calendar,date\n")?;
-        write!(output, "row,id,calendar,date,rd,weekday")?;
-        for target in table.targets {
-            write!(output, ",{}", target.name())?;
-        }
-        write!(output, ",refusal\n")?;
-        for (record, row) in table.rows {
-            write!(input, "{record}\n")?;
-            write!(output, "{row}\n")?;
-        }
+    check_rows(&rt, rt.alloc(), &Target::ALL, TO_EVERY_TARGET)?;
+    check_rows(&rt, rt.alloc(), &[GREGORIAN], TO_GREGORIAN)?;
+    check_rows(
+        &rt,
+        rt.alloc(),
+        &[GREGORIAN, ISLAMIC],
+        TO_GREGORIAN_AND_ISLAMIC,
+    )?;
+    check_rows(&rt, rt.alloc(), &[GREGORIAN, ISO], TO_GREGORIAN_AND_ISO)?;
+    check_rows(&rt, rt.alloc(), &[], TO_NO_TARGET)?;
+    check_rows(
+        &rt,
+        rt.alloc(),
+        &[LONGCOUNT, Target::Haab, Target::Tzolkin],
+        TO_MAYA_TARGETS,
+    )?;
+    check_rows(&rt, rt.alloc(), &[JULIAN], TO_JULIAN)?;
+    check_rows(
+        &rt,
+        rt.alloc(),
+        &[GREGORIAN, JULIAN],
+        TO_GREGORIAN_AND_JULIAN,
+    )?;
+    check_rows(&rt, rt.alloc(), &[JULIAN, ROMAN], TO_JULIAN_AND_ROMAN)
+}
+
+/// Texts between bars whose header is refused.
+static OTHER_HEADERS: &str = "|\n\n|id\n|id,calendar\n|id,calendar,date,note,place\n|\
+id,calendar,date,,,,,,,,,,,,,,,,,,,,,,,,,,,,,,,,,,,,,\n|id,calendar,date,\n|calendar,id,date\n|\
+id,calendar,\u{1a}\n|\u{feff}\u{feff}\u{feff}id,calendar,date\n";
+
+#[test]
+fn other_headers_are_refused(rt: HostRuntime) -> Result<(), Fail> {
+    let setup = both(b',')?;
+    for header in OTHER_HEADERS.split('|') {
+        let input = bytes_of(rt.alloc(), header)?;
         let (text, end) = converted(rt.alloc(), input.as_slice(), &setup);
-        assert_eq!(rt; cause_of(&end), 0);
-        assert_eq!(rt; text.as_slice(), output.as_slice());
+        assert_eq!(rt; cause_of(&end), 6, "at {header:?}");
+        assert!(rt; text.is_empty(), "at {header:?}");
     }
     Ok(())
 }
 
 #[test]
-fn other_headers_are_refused(rt: HostRuntime) -> Result<(), Fail> {
-    let headers: [&[u8]; 10] = [
-        b"",
-        b"\n\n",
-        b"id\n",
-        b"id,calendar\n",
-        b"id,calendar,date,note,place\n",
-        b"id,calendar,date,,,,,,,,,,,,,,,,,,,,,,,,,,,,,,,,,,,,,\n",
-        b"id,calendar,date,\n",
-        b"calendar,id,date\n",
-        b"id,calendar,\xFF\n",
-        b"\xEF\xBB\xBF\xEF\xBB\xBF\xEF\xBB\xBFid,calendar,date\n",
-    ];
-    for header in headers {
-        let (text, end) = converted(rt.alloc(), header, &both(b',')?);
-        assert_eq!(rt; cause_of(&end), 6);
-        assert!(rt; text.is_empty());
-    }
-    let (text, end) = converted(
-        rt.alloc(),
-        b"\xEF\xBB\xBF\xEF\xBB\xBF id ,CALENDAR,date\n",
-        &both(b',')?,
-    );
+fn a_header_may_have_two_marks_blanks_and_capitals(rt: HostRuntime) -> Result<(), Fail> {
+    let header = "\u{feff}\u{feff} id ,CALENDAR,date\n";
+    let (text, end) = converted(rt.alloc(), header.as_bytes(), &both(b',')?);
     assert_eq!(rt; cause_of(&end), 0);
-    assert_eq!(rt; text.as_slice(), HEADING);
+    assert_eq!(rt; text.as_slice(), HEADING.as_bytes());
     Ok(())
 }
 
@@ -403,7 +418,7 @@ impl Read for Interrupted<'_> {
 #[test]
 fn interrupted_reads_are_tried_again(rt: HostRuntime) -> Result<(), Fail> {
     let reader = Interrupted {
-        rest: INPUT,
+        rest: INPUT.as_bytes(),
         interrupted: false,
     };
     let mut output = PlainOutput::new(Vec::new(rt.alloc()), 1);
@@ -412,6 +427,13 @@ fn interrupted_reads_are_tried_again(rt: HostRuntime) -> Result<(), Fail> {
     assert!(rt; output.into_inner() == first_lines(rt.alloc(), 3)?);
     Ok(())
 }
+
+static WEEK_DATE: &str = "id,calendar,date\na,iso,1970-W01-4\n";
+
+static WEEK_DATE_TABLE: &str = "\
+row,id,calendar,date,rd,weekday,refusal
+1,a,iso,1970-W01-4,719163,Thursday,
+";
 
 /// Gives what it has, as much as is asked for, and then a fault.
 #[derive(Drop)]
@@ -431,14 +453,13 @@ impl Read for Chunk<'_> {
 #[test]
 fn a_read_fault_in_mid_text_leaves_the_rows_before_it(rt: HostRuntime) -> Result<(), Fail> {
     let reader = Chunk {
-        rest: b"id,calendar,date\na,iso,1970-W01-4\n",
+        rest: WEEK_DATE.as_bytes(),
     };
     let setup = Setup::new(&[], 16, b',', 1)?;
     let mut output = PlainOutput::new(Vec::new(rt.alloc()), 1);
     let end = convert_source(rt.alloc(), reader, &mut output, &setup);
     assert_eq!(rt; cause_of(&end), 5);
-    let table = b"row,id,calendar,date,rd,weekday,refusal\n1,a,iso,1970-W01-4,719163,Thursday,\n";
-    assert_eq!(rt; output.into_inner().as_slice(), table.as_slice());
+    assert_eq!(rt; output.into_inner().as_slice(), WEEK_DATE_TABLE.as_bytes());
     Ok(())
 }
 
@@ -453,18 +474,19 @@ fn new_paper(alloc: Global, most: usize, bad_call: usize) -> PlainOutput<Paper> 
     PlainOutput::new(paper, 7)
 }
 
-const INPUT: &[u8] = b"id,calendar,date\na,julian,1582-10-05\nb,gregorian\n";
+static INPUT: &str = "id,calendar,date\na,julian,1582-10-05\nb,gregorian\n";
 
-const LINES: [&[u8]; 3] = [
-    b"row,id,calendar,date,rd,weekday,gregorian,julian,refusal\n",
-    b"1,a,julian,1582-10-05,577736,Friday,1582-10-15,1582-10-05,\n",
-    b"2,,,,,,,,1\n",
-];
+static TABLE: &str = "\
+row,id,calendar,date,rd,weekday,gregorian,julian,refusal
+1,a,julian,1582-10-05,577736,Friday,1582-10-15,1582-10-05,
+2,,,,,,,,1
+";
 
 fn first_lines(alloc: Global, n: usize) -> Result<Vec<u8>, Fail> {
     let mut text = Vec::new(alloc);
-    for line in LINES.iter().take(n) {
-        text.extend_from_slice(line)?;
+    for line in TABLE.lines().take(n) {
+        text.extend_from_slice(line.as_bytes())?;
+        text.push(b'\n')?;
     }
     Ok(text)
 }
@@ -472,14 +494,15 @@ fn first_lines(alloc: Global, n: usize) -> Result<Vec<u8>, Fail> {
 #[test]
 fn a_failing_read_loses_nothing_before_it(rt: HostRuntime) -> Result<(), Fail> {
     let setup = both(b',')?;
-    for cut in 0..INPUT.len() {
-        let lines = INPUT
+    let input = INPUT.as_bytes();
+    for cut in 0..input.len() {
+        let lines = input
             .iter()
             .take(cut)
             .filter(|byte| **byte == b'\n')
             .count();
         let reader = CutText {
-            text: INPUT,
+            text: input,
             at: 0,
             cut,
         };
@@ -499,7 +522,7 @@ fn each_row_is_one_write_and_a_flush(rt: HostRuntime) -> Result<(), Fail> {
     let setup = both(b',')?;
     for bad_call in 0..4 {
         let mut output = new_paper(rt.alloc(), usize::MAX, bad_call);
-        let end = convert_source(rt.alloc(), INPUT, &mut output, &setup);
+        let end = convert_source(rt.alloc(), INPUT.as_bytes(), &mut output, &setup);
         assert_eq!(rt; cause_of(&end), if bad_call == 3 { 0 } else { 4 });
         assert_eq!(rt; output.mark(), 7);
         let paper = output.into_inner();
@@ -511,40 +534,45 @@ fn each_row_is_one_write_and_a_flush(rt: HostRuntime) -> Result<(), Fail> {
         );
     }
     let mut short = new_paper(rt.alloc(), 5, usize::MAX);
-    let end = convert_source(rt.alloc(), INPUT, &mut short, &setup);
+    let end = convert_source(rt.alloc(), INPUT.as_bytes(), &mut short, &setup);
     assert_eq!(rt; cause_of(&end), 0);
     assert!(rt; short.into_inner().text == first_lines(rt.alloc(), 3)?);
     let mut full = new_paper(rt.alloc(), 0, usize::MAX);
-    let end = convert_source(rt.alloc(), INPUT, &mut full, &setup);
+    let end = convert_source(rt.alloc(), INPUT.as_bytes(), &mut full, &setup);
     assert_eq!(rt; cause_of(&end), 4);
     Ok(())
 }
 
+/// The setup of these targets, ring, delimiter and stripes has the fault of this number, or for 0 keeps its parts.
+fn check_setup(
+    rt: &impl Abort,
+    targets: &[Target],
+    (ring, delimiter, stripes): (usize, u8, usize),
+    fault: u8,
+) {
+    let answer = match Setup::new(targets, ring, delimiter, stripes) {
+        Ok(setup) => {
+            assert_eq!(rt; setup.ring(), ring);
+            assert_eq!(rt; setup.delimiter(), delimiter);
+            assert_eq!(rt; setup.stripes(), stripes);
+            0
+        }
+        Err(fault) => fault.number(),
+    };
+    assert_eq!(rt; answer, fault);
+}
+
 #[test]
 fn setups_have_their_faults(rt: HostRuntime) {
-    let cases: [(&[Target], usize, u8, usize, u8); 9] = [
-        (&[JULIAN, JULIAN], 0, b',', 1, 1),
-        (&[], 0, b',', 1, 2),
-        (&[], 4097, b'|', 1, 2),
-        (&[], 1, b'|', 1, 3),
-        (&[], 4096, b'\t', 1, 0),
-        (&[], 1, b'|', 0, 3),
-        (&[], 1, b',', 0, 4),
-        (&[], 1, b',', 5, 4),
-        (&[], 1, b',', 4, 0),
-    ];
-    for (targets, ring, delimiter, stripes, fault) in cases {
-        let answer = match Setup::new(targets, ring, delimiter, stripes) {
-            Ok(setup) => {
-                assert_eq!(rt; setup.ring(), ring);
-                assert_eq!(rt; setup.delimiter(), delimiter);
-                assert_eq!(rt; setup.stripes(), stripes);
-                0
-            }
-            Err(fault) => fault.number(),
-        };
-        assert_eq!(rt; answer, fault);
-    }
+    check_setup(&rt, &[JULIAN, JULIAN], (0, b',', 1), 1);
+    check_setup(&rt, &[], (0, b',', 1), 2);
+    check_setup(&rt, &[], (4097, b'|', 1), 2);
+    check_setup(&rt, &[], (1, b'|', 1), 3);
+    check_setup(&rt, &[], (4096, b'\t', 1), 0);
+    check_setup(&rt, &[], (1, b'|', 0), 3);
+    check_setup(&rt, &[], (1, b',', 0), 4);
+    check_setup(&rt, &[], (1, b',', 5), 4);
+    check_setup(&rt, &[], (1, b',', 4), 0);
 }
 
 #[test]
@@ -579,7 +607,7 @@ fn lines_wait_until_they_are_sent(rt: HostRuntime) -> Result<(), Fail> {
     let row = convert(refused, &setup);
     let mut output = PlainOutput::new(Vec::new(rt.alloc()), 1);
     let mut writer = RowWriter::open(rt.alloc(), &mut output, &setup)?;
-    let line = b"1,,,,,,,,3\n".as_slice();
+    let line = "1,,,,,,,,3\n".as_bytes();
     writer.add(&row)?;
     writer.add(&row)?;
     assert_eq!(rt; writer.pending_len(), 2 * line.len());
@@ -590,7 +618,10 @@ fn lines_wait_until_they_are_sent(rt: HostRuntime) -> Result<(), Fail> {
     writer.put(&mut output, &row)?;
     writer.end()?;
     let bytes = output.into_inner();
-    let lines = bytes.as_slice().strip_prefix(HEADING).ok_or("no heading")?;
+    let lines = bytes
+        .as_slice()
+        .strip_prefix(HEADING.as_bytes())
+        .ok_or("no heading")?;
     assert_eq!(rt; lines.len(), 4 * line.len());
     assert!(rt; lines.chunks(line.len()).all(|one| one == line));
     Ok(())
@@ -600,7 +631,7 @@ fn lines_wait_until_they_are_sent(rt: HostRuntime) -> Result<(), Fail> {
 fn readers_and_writers_fail_from_a_fault_on(rt: HostRuntime) -> Result<(), Fail> {
     let setup = both(b',')?;
     let reader = Chunk {
-        rest: b"id,calendar,date\na,iso,1970-W01-4\n",
+        rest: WEEK_DATE.as_bytes(),
     };
     let mut entries = EntryReader::open(rt.alloc(), reader, &setup)?;
     let entry = entries.next()?.ok_or("no entry")?;

@@ -73,8 +73,8 @@ fn the_lowest_cause_is_told_and_other_sources_are_left_alone(rt: HostRuntime) ->
         let Ok(report) = run(&rt, rt.alloc(), sources, outputs, &setup) else {
             return Err(Fail::from("the run did not begin"));
         };
-        let mut ends = report.ends.iter();
         let mut outputs = report.outputs.into_iter();
+        let mut ends = report.ends.iter();
         for (_, torn, cause) in CASES {
             let (Some(end), Some(output)) = (ends.next(), outputs.next()) else {
                 return Err(Fail::from("an end or an output is missing"));

@@ -5,6 +5,8 @@
 //! - `lanes N`: those of an item on its way through a lane and through a plain ring, over N items;
 //! - `memory N`: registers of N records, over all calendars and of Gregorian dates alone, from memory to an output that
 //!   only counts, with every target and with none: records a second and nanoseconds a record, without a system call;
+//! - `runs N`: one source and four, of N records each, converted by a run over threads and on one thread, with none of the
+//!   targets;
 //! - `make mixed|gregorian N FILE`: writes such a register to a file;
 //! - `files all|none INPUT OUTPUT`: converts a file to a file;
 //! - `lines INPUT OUTPUT`: writes the lines of a file to another by one write for each, which is what any program pays that
@@ -15,12 +17,14 @@ mod calendars;
 mod common;
 mod lanes;
 mod records;
+mod runs;
 mod texts;
 
 use calendars::measure_calendars;
 use lanes::measure_lanes;
 use records::inputs::{Kind, register};
 use records::{FEW, by_lines, from_memory, over_files};
+use runs::measure_runs;
 use std::alloc::Global;
 use std::rt::Files;
 use std::sync::Wait;
@@ -42,6 +46,10 @@ fn run_all<R: Threads + Wait + Sync + Clock + Print>(rt: &R, alloc: Global) -> i
     whole &= from_memory(rt, alloc, FEW, false)?;
     if whole {
         println!(rt; "every register converted")?;
+    }
+    whole &= measure_runs(rt, alloc, None)?;
+    if whole {
+        println!(rt; "every run complete")?;
     }
     Ok(whole)
 }
@@ -76,6 +84,7 @@ fn run<R: Threads + Wait + Sync + Files + Clock + Print>(
         }
         ["lanes", count] => measure_lanes(rt, alloc, count.parse().ok()),
         ["memory", count] => from_memory(rt, alloc, count.parse().unwrap_or(FEW), true),
+        ["runs", count] => measure_runs(rt, alloc, count.parse().ok()),
         ["make", kind, count, to] => make(rt, alloc, kind, count, to),
         ["files", targets, from, to] => over_files(rt, alloc, *targets == "all", from, to),
         ["lines", from, to] => by_lines(rt, alloc, from, to),

@@ -1,6 +1,6 @@
 //! What one source costs on one thread: from its text to its table.
 
-mod counter;
+pub(crate) mod counter;
 pub(crate) mod inputs;
 
 use counter::Counter;

@@ -1,6 +1,6 @@
 //! The threads of a source, and the ends of its last lanes.
 
-ghost use Rattle.std.specs.Prelude.{◌≡◌, ◌<◌, ◌≤◌, [], All, IfOk, map, vec_capacity, vec_len};
+ghost use Rattle.std.specs.Prelude.{◌≡◌, ◌<◌, ◌≤◌, [], All, IfOk, length, map, vec_capacity, vec_len};
 ghost use Rattle.lane_rings.specs.Lane.{sender_lane, sent};
 ghost use Rattle.register_records.specs.Views.{delimiter_of, stripes_of};
 ghost use Rattle.register_run.specs.Arms.{feeding_lane};
@@ -26,7 +26,7 @@ pub(crate) enum Found {
     Nothing,
     /// The next row.
     Row(Row),
-    /// Something that tells of no row: a lane ended and others did not, or a row came after a stop.
+    /// An item that tells of no row: a lane ended and others did not, or a row came after a stop.
     Other,
     /// The last lane ended, and each with an end.
     End,
@@ -116,17 +116,13 @@ impl<R: Read + Drop> Link<R> {
         }
     }
 
-    /// Takes the next item of the lane that has the turn, where one is there now.
+    /// Takes the next item of the lane that has the turn, where one is there now. Lanes that have ended have no turn.
     pub(crate) fn try_take(&mut self) -> Found
         ensures source { started_on self.new ≡ started_on self.old }
         ensures setup { started_by self.new ≡ started_by self.old }
         ensures kept { (row : Row) → Passed self.old row → Passed self.new row }
         ensures took { (row : Row) → result ≡ found.Row row → Passed self.new row }
     {
-        if !self.arms[self.turn].is_open() {
-            self.advance();
-            return Found::Other;
-        }
         match take_one(&mut self.arms, self.turn) {
             None => Found::Nothing,
             Some(Item::Entry(row)) => {
@@ -141,17 +137,13 @@ impl<R: Read + Drop> Link<R> {
         }
     }
 
-    /// Gives the turn to the next arm.
+    /// Gives the turn to the next arm whose lane has not ended, if there is one.
     fn advance(&mut self)
         ensures source { started_on self.new ≡ started_on self.old }
         ensures setup { started_by self.new ≡ started_by self.old }
         ensures arms { self.new.arms ≡ self.old.arms }
     {
-        if self.turn + 1 < self.arms.len() {
-            self.turn += 1;
-        } else {
-            self.turn = 0;
-        }
+        self.turn = next_open(&self.arms, self.turn);
     }
 
     /// A lane has ended, by a stop or by an end. With the last one the source has.
@@ -198,6 +190,21 @@ impl<R: Read + Drop> Link<R> {
             Err(_) => Err(unconfirmed_or_lower(outcome)),
         }
     }
+}
+
+/// The next arm after the one at `turn`, going round, whose lane has not ended. Where all have, any.
+fn next_open(arms: &[Arm], turn: usize) -> usize
+    requires { turn < length arms.now }
+    ensures { result < length arms.now }
+{
+    let mut next = turn;
+    for _ in 0..arms.len() {
+        next = if next + 1 < arms.len() { next + 1 } else { 0 };
+        if arms[next].is_open() {
+            break;
+        }
+    }
+    next
 }
 
 /// `Unconfirmed`, unless the reader met a lower cause.

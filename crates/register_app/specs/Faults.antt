@@ -16,6 +16,8 @@ pub data Fault : Type 0 where
 -- the fault that a refusal tells; want of memory is none
 abbrev pub fault_told : Refusal → Option Fault
 fault_told refusal.OutOfMemory = None
+fault_told (refusal.CannotOpen file) = None
+fault_told (refusal.CannotMake file) = None
 fault_told (refusal.Usage error) = Some (usage (kind_of error))
 fault_told (refusal.UnknownTarget name) = Some (unknown_target name.now)
 fault_told (refusal.TargetTwice target) = Some (target_twice target)

@@ -82,5 +82,5 @@ gives by register --to gregorian the table
     1,b,julian,1582-10-05,577736,Friday,1582-10-15,
 ";
 
-/// The line that is told where the help could not be printed.
-pub const HELP_FAULT: &str = "register: cannot print the help\n";
+/// The line that is told where a page could not be printed.
+pub const PRINT_FAULT: &str = "register: cannot write to standard output\n";

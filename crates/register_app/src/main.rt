@@ -1,16 +1,21 @@
-//! The program `register`: converts the dates of a historical register.
+//! The program `register`: converts the dates of historical registers.
 //!
-//! It reads a CSV text from standard input and writes its table to standard output, with the day of each
-//! record in the calendars that the words ask for.
+//! It reads CSV texts, from files or from standard input, and writes a table of each, with the day of each record in the
+//! calendars that the words ask for.
 #![tactic(auto)]
 
 mod answering;
+mod disk;
 mod help;
+mod opening;
 mod option_values;
+mod places;
 mod refusals;
 mod requests;
+mod telling;
 
 use answering::answer;
+use disk::{Disk, Sink, Source};
 use register_records::PlainOutput;
 use std::process::ExitCode;
 use std::rt::Env;
@@ -37,16 +42,19 @@ fn main(rt: HostRuntime) -> ExitCode {
         Ok(words) => words,
         Err(error) => return unread_words(&rt, &error),
     };
-    let output = PlainOutput::new(rt.stdout(), 1);
+    let input = Source::Input(rt.stdin());
+    let output = PlainOutput::new(Sink::Output(rt.stdout()), 1);
     let mut errors = PlainOutput::new(rt.stderr(), 0);
-    let (status, _output) = answer(
+    let answered = answer(
+        &rt,
         rt.alloc(),
         words.as_slice(),
-        rt.stdin(),
+        input,
         output,
+        &Disk::new(&rt),
         &mut errors,
     );
-    ExitCode::from(status)
+    ExitCode::from(answered.status)
 }
 
 #[cfg(test)]

@@ -23,6 +23,12 @@ pub enum Refusal<'a> {
     /// A delimiter that is none of the three words, as it was given.
     #[error("unknown delimiter: {0}")]
     UnknownDelimiter(&'a str),
+    /// A file that could not be opened to be read.
+    #[error("cannot open {0}")]
+    CannotOpen(&'a str),
+    /// A file whose output could not be made.
+    #[error("cannot make {0}.out.csv")]
+    CannotMake(&'a str),
 }
 
 impl Refusal<'_> {
@@ -33,7 +39,7 @@ impl Refusal<'_> {
         ensures { result ≡ refusal_status self.now }
     {
         match self {
-            Refusal::OutOfMemory => 3,
+            Refusal::OutOfMemory | Refusal::CannotOpen(_) | Refusal::CannotMake(_) => 3,
             _ => 2,
         }
     }

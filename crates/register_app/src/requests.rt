@@ -22,13 +22,25 @@ const RING: usize = 16;
 const STRIPES: usize = 1;
 
 /// What the words ask for.
-#[derive(Clone, Copy)]
-pub enum Request {
+#[derive(Drop)]
+pub enum Request<'a> {
     /// The page of help.
     Help,
-    /// The table of a text, made by this setup.
-    Convert(Setup),
+    /// The line of the version.
+    Version,
+    /// Tables.
+    Convert(Job<'a>),
 }
+
+#[derive(Drop)]
+pub struct Job<'a> {
+    pub setup: Setup,
+    pub summary: bool,
+    pub files: Vec<&'a str>,
+}
+
+/// Version
+pub const VERSION: &str = "1.0.0";
 
 /// The values of the options, where the words have them.
 #[derive(Clone, Copy)]
@@ -108,7 +120,7 @@ fn chosen_delimiter<'a>(word: Option<&'a str>) -> Result<u8, Refusal<'a>>
 /// The first that applies: `Usage` where the words are not options as they are taken, the faults of the
 /// list of targets as [`read_targets`] has them, and `UnknownDelimiter`; and `OutOfMemory` where a growth of
 /// memory was refused on the way.
-pub fn read_request<'a>(alloc: Global, words: &'a [String]) -> Result<Request, Refusal<'a>>
+pub fn read_request<'a>(alloc: Global, words: &'a [String]) -> Result<Request<'a>, Refusal<'a>>
     ensures asked { IfOk result (λ request. MeanJust (map string_bytes words.entry.now) (meaning_of request)) }
     ensures refused { IfErr result (λ refusal. IfSome (fault_told refusal) (λ fault. MeanJust (map string_bytes words.entry.now) (wrong fault))) }
 {
@@ -124,7 +136,7 @@ pub fn read_request<'a>(alloc: Global, words: &'a [String]) -> Result<Request, R
     let targets = chosen_targets(alloc, options.to)?;
     let delimiter = chosen_delimiter(options.delimiter)?;
     match Setup::new(targets.as_slice(), RING, delimiter, STRIPES) {
-        Ok(setup) => Ok(Request::Convert(setup)),
+        Ok(setup) => Ok(Request::Convert(Job { setup, summary: false, files: Vec::new(alloc) })),
         Err(_) => unreachable!(),
     }
 }

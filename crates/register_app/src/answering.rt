@@ -1,9 +1,11 @@
 //! What the program answers.
 
-ghost use Rattle.std.specs.Prelude.{◌≡◌, ◌≢◌, ◌≤◌, ◌⊎◌, ◌↔◌, [], ◌∷◌, ◌++◌, ∥◌∥₁, true, false, map, length};
+ghost use Rattle.std.specs.Prelude.{◌≡◌, ◌≢◌, ◌≤◌, ◌⊎◌, ◌↔◌, ℕ, List, [], ◌∷◌, All, true, false, map, length, vec_len};
 ghost use Rattle.std.specs.Io.KnownBytes.{Appends};
 ghost use Rattle.std.specs.String.{string_bytes};
 ghost use Rattle.register_app.specs.Answers.{AreConverted, AreWrong, AskForPage, IsConverted, IsPrinted, version_line};
+ghost use Rattle.register_records.specs.Sources.{is_whole_end};
+ghost use Rattle.register_app.specs.Reports.{lines_from};
 ghost use Rattle.register_app.specs.Requests.{MeanJust, Task, refusal_status, table, task_of};
 
 use crate::help::{HELP, PRINT_FAULT};
@@ -14,7 +16,7 @@ use crate::requests::{Job, Request, VERSION, read_request};
 use crate::telling::tell_ends;
 use arrayvec::ArrayString;
 use register_records::{Output, send};
-use register_run::{Verdict, run};
+use register_run::{Report, Verdict, run};
 use std::alloc::Global;
 use std::io::Read;
 use std::sync::Wait;
@@ -31,7 +33,7 @@ const OUT_OF_MEMORY: u8 = 3;
 
 /// What the program answers.
 #[derive(Drop)]
-pub struct Answer<W> {
+pub struct Answered<W> {
     /// The exit status.
     pub status: u8,
     /// Standard output, as it was left.
@@ -87,13 +89,13 @@ fn tell_refusal<E: Output>(alloc: Global, errors: &mut E, refusal: &Refusal<'_>)
 }
 
 /// Answers that nothing is done.
-fn refuse<W: Output, E: Output>(alloc: Global, output: W, errors: &mut E, refusal: &Refusal<'_>) -> Answer<W>
+fn refuse<W: Output, E: Output>(alloc: Global, output: W, errors: &mut E, refusal: &Refusal<'_>) -> Answered<W>
     ensures status { (result.status ≡ 3) ⊎ (result.status ≡ refusal_status refusal.now) }
     ensures untouched { result.output ≡ output }
     ensures none { result.outputs.items ≡ [] }
     ensures mark { E.own_mark errors.new ≡ E.own_mark errors.old }
 {
-    Answer {
+    Answered {
         status: tell_refusal(alloc, errors, refusal),
         output,
         outputs: Vec::new(alloc),
@@ -101,7 +103,7 @@ fn refuse<W: Output, E: Output>(alloc: Global, output: W, errors: &mut E, refusa
 }
 
 /// Prints a page.
-fn print_page<W: Output, E: Output>(alloc: Global, page: &str, output: W, errors: &mut E) -> Answer<W>
+fn print_page<W: Output, E: Output>(alloc: Global, page: &str, output: W, errors: &mut E) -> Answered<W>
     ensures printed { IsPrinted W.contents W.has_failed E.contents E.has_failed page.now result.status output result.output errors.old errors.new }
     ensures statuses { (result.status ≡ 0) ⊎ (result.status ≡ 1) }
     ensures none { result.outputs.items ≡ [] }
@@ -115,10 +117,35 @@ fn print_page<W: Output, E: Output>(alloc: Global, page: &str, output: W, errors
         let _ = send(errors, PRINT_FAULT.as_bytes());
         INCOMPLETE
     };
-    Answer {
+    Answered {
         status,
         output,
         outputs: Vec::new(alloc),
+    }
+}
+
+/// Tells how the sources of a run have ended, and gives the status. Where all are whole and no summary is asked for,
+/// there is nothing to tell.
+fn tell_report<W, E: Output>(errors: &mut E, summary: bool, report: &Report<W>) -> u8
+    requires verdict { (report.now.verdict ≡ Verdict.Complete) ↔ All (λ e. is_whole_end e ≡ true) report.now.ends.items }
+    ensures complete { (result ≡ 0) ↔ (report.now.verdict ≡ Verdict.Complete) }
+    ensures lines { E.has_failed errors.new ≡ false
+        → Appends (E.contents errors.old) (E.contents errors.new) (lines_from summary 1 report.now.ends.items) }
+    ensures quiet { result ≡ 0 → summary ≡ false → errors.new ≡ errors.old }
+    ensures statuses { (result ≡ 0) ⊎ (result ≡ 1) }
+    ensures mark { E.own_mark errors.new ≡ E.own_mark errors.old }
+{
+    match report.verdict {
+        Verdict::Incomplete => {
+            tell_ends(errors, summary, report.ends.as_slice());
+            INCOMPLETE
+        }
+        Verdict::Complete => {
+            if summary {
+                tell_ends(errors, summary, report.ends.as_slice());
+            }
+            COMPLETE
+        }
     }
 }
 
@@ -135,26 +162,25 @@ fn convert<T: Threads + Wait + Sync, R: Read + Send + Drop, W: Output + Drop, E:
     ensures converted { result.status ≢ 3 → IsConverted R.remaining W.contents W.has_failed W.is_flushed W.own_mark E.contents E.has_failed
         (task_of job.now) result.status sources.items outputs.items result.outputs.items errors.old errors.new }
     ensures untouched { result.status ≡ 3 → result.outputs.items ≡ outputs.items }
+    ensures len { vec_len result.outputs ≡ vec_len outputs }
     ensures statuses { (result.status ≡ 0) ⊎ (result.status ≡ 1) ⊎ (result.status ≡ 3) }
     ensures mark { E.own_mark errors.new ≡ E.own_mark errors.old }
 {
-    let report = match run(rt, alloc, sources, outputs, &job.setup) {
-        Ok(report) => report,
+    match run(rt, alloc, sources, outputs, &job.setup) {
+        Ok(report) => {
+            let status = tell_report(errors, job.summary, &report);
+            Ran {
+                status,
+                outputs: report.outputs,
+            }
+        }
         Err(fault) => {
             tell_out_of_memory(errors);
-            return Ran {
+            Ran {
                 status: OUT_OF_MEMORY,
                 outputs: fault.outputs,
-            };
+            }
         }
-    };
-    let complete = report.verdict == Verdict::Complete;
-    if !complete || job.summary {
-        tell_ends(errors, job.summary, report.ends.as_slice());
-    }
-    Ran {
-        status: if complete { COMPLETE } else { INCOMPLETE },
-        outputs: report.outputs,
     }
 }
 
@@ -166,7 +192,7 @@ fn convert_input<T: Threads + Wait + Sync, R: Read + Send + Drop, W: Output + Dr
     output: W,
     errors: &mut E,
     job: &Job<'_>,
-) -> Answer<W>
+) -> Answered<W>
     ensures converted { result.status ≢ 3 → IsConverted R.remaining W.contents W.has_failed W.is_flushed W.own_mark E.contents E.has_failed
         (task_of job.now) result.status (input ∷ []) (output ∷ []) (result.output ∷ []) errors.old errors.new }
     ensures untouched { result.status ≡ 3 → result.output ≡ output }
@@ -190,7 +216,7 @@ fn convert_input<T: Threads + Wait + Sync, R: Read + Send + Drop, W: Output + Dr
     let Some(output) = outputs.pop() else {
         unreachable!()
     };
-    Answer {
+    Answered {
         status,
         output,
         outputs,
@@ -205,7 +231,7 @@ fn convert_files<T: Threads + Wait + Sync, R: Read + Send + Drop, W: Output + Dr
     places: &P,
     errors: &mut E,
     job: &Job<'_>,
-) -> Answer<W>
+) -> Answered<W>
     requires few { length job.now.files.items ≤ 32 }
     ensures converted { result.status ≢ 3 → AreConverted R.remaining W.contents W.has_failed W.is_flushed W.own_mark E.contents E.has_failed
         (P.is_opened places.now) (P.is_made places.now) (task_of job.now) result.status result.outputs.items errors.old errors.new }
@@ -218,7 +244,7 @@ fn convert_files<T: Threads + Wait + Sync, R: Read + Send + Drop, W: Output + Dr
         Err(refusal) => return refuse(alloc, output, errors, &refusal),
     };
     let Ran { status, outputs } = convert(rt, alloc, sources, outputs, errors, job);
-    Answer {
+    Answered {
         status,
         output,
         outputs,
@@ -246,7 +272,7 @@ pub fn answer<T: Threads + Wait + Sync, R: Read + Send + Drop, W: Output + Drop,
     output: W,
     places: &P,
     errors: &mut E,
-) -> Answer<W>
+) -> Answered<W>
     // The words ask for a page, which was printed; or for the table of standard input; or for those of files.
     ensures answered { result.status ≤ 1
         → ((page : List ℕ) × AskForPage (map string_bytes words.now) page

@@ -1,7 +1,6 @@
 //! The files of the system, and the standard streams beside them.
 
-ghost use Rattle.std.specs.Prelude.{◌≡◌};
-ghost use Rattle.std.specs.Unit.{Unit};
+ghost use Rattle.std.specs.Prelude.{◌≡◌, ⊤};
 
 use crate::places::Places;
 use register_records::PlainOutput;
@@ -68,7 +67,7 @@ impl<'a, F: Files, I: Read, O: Write> Places<Source<I, F::File>, PlainOutput<Sin
 {
     ghost use Rattle.register_records.specs.Views.{mark_of};
 
-    ghost is_opened = { λ _ _ _. Unit };
+    ghost is_opened = { λ _ _ _. ⊤ };
 
     ghost is_made = { λ _ _ mark output. mark_of output ≡ mark };
 

@@ -1,8 +1,8 @@
 //! Opens the files of a command line.
 
-ghost use Rattle.std.specs.Prelude.{◌≡◌, ◌≤◌, ◌++◌, length, IfOk, map};
+ghost use Rattle.std.specs.Prelude.{◌≡◌, ◌≤◌, ◌++◌, length, IfErr, IfOk, map};
 ghost use Rattle.std.specs.String.{string_bytes};
-ghost use Rattle.register_app.specs.Faults.{is_of_places};
+ghost use Rattle.register_app.specs.Requests.{refusal_status};
 ghost use Rattle.register_app.specs.Openings.{AreMade, AreOpened};
 
 use crate::places::Places;
@@ -28,16 +28,16 @@ fn output_name(alloc: Global, file: &str) -> Result<String, AllocError>
 }
 
 /// Opens each file.
-fn open_sources<'a, R, W, P: Places<R, W>>(
+fn open_sources<'a, R: Drop, W, P: Places<R, W>>(
     alloc: Global,
     places: &P,
     files: &[&'a str],
 ) -> Result<Vec<R>, Refusal<'a>>
     ensures opened { IfOk result (λ sources. AreOpened (P.is_opened places.now) (map (λ file. file.now) files.now) sources.items) }
+    ensures status { IfErr result (λ refusal. refusal_status refusal ≡ 3) }
 {
     let mut sources = Vec::new(alloc);
-    'files: for i in 0..files.len() {
-        let file = files[i];
+    'files: for &file in files {
         let Ok(source) = places.open(file) else {
             return Err(Refusal::CannotOpen(file));
         };
@@ -54,22 +54,24 @@ fn is_taken<R, W, P: Places<R, W>>(places: &P, names: &[String], name: &str) -> 
 }
 
 /// Makes the output of each file.
-fn make_outputs<'a, R, W, P: Places<R, W>>(
+fn make_outputs<'a, R, W: Drop, P: Places<R, W>>(
     alloc: Global,
     places: &P,
     files: &[&'a str],
 ) -> Result<Vec<W>, Refusal<'a>>
     requires few { length files.now ≤ 32 }
     ensures made { IfOk result (λ outputs. AreMade (P.is_made places.now) (map (λ file. file.now) files.now) outputs.items) }
+    ensures status { IfErr result (λ refusal. refusal_status refusal ≡ 3) }
 {
     let mut outputs = Vec::new(alloc);
     let mut names = Vec::new(alloc);
-    'files: for i in 0..files.len() {
-        let file = files[i];
+    let mut mark = 0;
+    'files: for &file in files {
         let Ok(name) = output_name(alloc, file) else {
             return Err(Refusal::OutOfMemory);
         };
-        let Ok(output) = places.make(name.as_str(), i as u32 + 1) else {
+        mark += 1;
+        let Ok(output) = places.make(name.as_str(), mark) else {
             return Err(Refusal::CannotMake(file));
         };
         if is_taken(places, names.as_slice(), name.as_str()) {
@@ -88,7 +90,7 @@ fn make_outputs<'a, R, W, P: Places<R, W>>(
 ///
 /// `CannotOpen` for the first file that cannot be opened, before any output is made; `CannotMake` for the first whose
 /// output cannot be made or goes to the file of an earlier one; `OutOfMemory` where a growth of memory was refused.
-pub fn open_files<'a, R, W, P: Places<R, W>>(
+pub fn open_files<'a, R: Drop, W: Drop, P: Places<R, W>>(
     alloc: Global,
     places: &P,
     files: &[&'a str],

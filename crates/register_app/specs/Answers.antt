@@ -9,7 +9,7 @@ use Rattle.register_records.specs.declared.sources.Cause.{Cause}
 use Rattle.register_records.specs.declared.sources.Cause.TheVariants as cause
 use Rattle.register_records.specs.declared.sources.Note.{Note}
 use Rattle.register_app.specs.Faults.{Fault}
-use Rattle.register_app.specs.Requests.{IsFaultOf, MeanJust, help, table}
+use Rattle.register_app.specs.Requests.{IsFaultOf, MeanJust, Task, help, version, table}
 use Rattle.register_app.specs.declared.help.TheConstants.{HELP, HELP_FAULT}
 
 -- the output gained the whole table, whatever the counts of its rows
@@ -21,9 +21,13 @@ GainsWholeTable layout text old new =
 abbrev pub GainsHelp : List (List ℕ) → Option (List ℕ) → Option (List ℕ) → Type 0
 GainsHelp words old new = MeanJust words help × Appends old new HELP.now
 
+-- the words ask for the version
+abbrev pub AsksVersion : List (List ℕ) → Type 0
+AsksVersion words = MeanJust words version
+
 -- the words ask for a table with some layout, and the output gained that of the text
 abbrev pub GainsTableAsked : List (List ℕ) → Option (List ℕ) → Option (List ℕ) → Option (List ℕ) → Type 0
-GainsTableAsked words text old new = (layout : Layout) × MeanJust words (table layout) × GainsWholeTable layout text old new
+GainsTableAsked words text old new = (task : Task) × MeanJust words (table task) × GainsWholeTable task.layout text old new
 
 -- the words ask for help, and the output failed
 abbrev pub BreaksHelp : List (List ℕ) → Bool → Type 0
@@ -32,7 +36,7 @@ BreaksHelp words failed = MeanJust words help × (failed ≡ true)
 -- they ask for such a table, and where the output has not failed it gained a front of it, or nothing
 abbrev pub BreaksTableAsked : List (List ℕ) → Option (List ℕ) → Bool → Option (List ℕ) → Option (List ℕ) → Type 0
 BreaksTableAsked words text failed old new =
-    (layout : Layout) × MeanJust words (table layout) × (failed ≡ false → ∥ Gains old new (ArePartOfTable layout text) ∥₁)
+    (task : Task) × MeanJust words (table task) × (failed ≡ false → ∥ Gains old new (ArePartOfTable task.layout text) ∥₁)
 
 -- the line that tells a cause: source 1: cause 6
 abbrev pub cause_line : Cause → List ℕ
@@ -60,7 +64,7 @@ TellsHelpBroken words old new = MeanJust words help × Appends old new HELP_FAUL
 -- the words ask for a table, and the line was written with the cause why it broke off
 abbrev pub TellsTableBroken : List (List ℕ) → Option (List ℕ) → Bool → Bool → Option (List ℕ) → Option (List ℕ) → Type 0
 TellsTableBroken words text failed_before failed old new =
-    (layout : Layout) × MeanJust words (table layout) × TellsCause layout.delimiter text failed_before failed old new
+    (task : Task) × MeanJust words (table task) × TellsCause task.layout.delimiter text failed_before failed old new
 
 -- something is wrong with the words
 abbrev pub AreWrong : List (List ℕ) → Type 0

@@ -3,7 +3,7 @@
 ghost use Rattle.std.specs.Prelude.{◌≡◌, ◌≢◌, ◌≤◌, ◌⊎◌, ◌↔◌, true, false, map};
 ghost use Rattle.std.specs.Io.KnownBytes.{Appends};
 ghost use Rattle.std.specs.String.{string_bytes};
-ghost use Rattle.register_app.specs.Answers.{AreWrong, BreaksHelp, BreaksTableAsked, GainsHelp, GainsTableAsked, GainsWholeTable, TellsCause, TellsHelpBroken, TellsTableBroken, cause_line};
+ghost use Rattle.register_app.specs.Answers.{AreWrong, AsksVersion, BreaksHelp, BreaksTableAsked, GainsHelp, GainsTableAsked, GainsWholeTable, TellsCause, TellsHelpBroken, TellsTableBroken, cause_line};
 ghost use Rattle.register_app.specs.Requests.{refusal_status};
 ghost use Rattle.register_records.specs.Views.{delimiter_of, layout_of};
 ghost use Rattle.register_records.specs.Sources.{ArePartOfTable, Gains};
@@ -138,7 +138,8 @@ pub fn answer<R: Read + Drop, W: Output, E: Output>(
     // the table of the text by the targets and the delimiter asked, and nothing else.
     ensures whole { result.0 ≡ 0
         → GainsHelp (map string_bytes words.now) (W.contents output) (W.contents result.1)
-        ⊎ GainsTableAsked (map string_bytes words.now) (R.remaining input) (W.contents output) (W.contents result.1) }
+        ⊎ GainsTableAsked (map string_bytes words.now) (R.remaining input) (W.contents output) (W.contents result.1)
+        ⊎ AsksVersion (map string_bytes words.now) }
     ensures quiet { result.0 ≡ 0 → errors.new ≡ errors.old }
 
     // They ask for help and the output has failed, or they ask for a table and the output, where it has not
@@ -162,7 +163,8 @@ pub fn answer<R: Read + Drop, W: Output, E: Output>(
 {
     match read_request(alloc, words) {
         Ok(Request::Help) => print_help(output, errors),
-        Ok(Request::Convert(setup)) => convert_text(alloc, input, output, errors, &setup),
+        Ok(Request::Version) => (COMPLETE, output),
+        Ok(Request::Convert(job)) => convert_text(alloc, input, output, errors, &job.setup),
         Err(refusal) => (tell_refusal(alloc, errors, &refusal), output),
     }
 }

@@ -17,8 +17,9 @@ mod telling;
 use answering::answer;
 use disk::{Disk, Sink, Source};
 use register_records::PlainOutput;
+use std::fs::OpenOptions;
 use std::process::ExitCode;
-use std::rt::Env;
+use std::rt::{Env, Files};
 use std::{env, io};
 
 /// The words after the program's name.
@@ -37,7 +38,15 @@ fn unread_words(rt: &impl Eprint, error: &io::Error) -> ExitCode {
     ExitCode::from(2)
 }
 
+/// Opens a file that has no bytes. The system gives it the first free number.
+fn open_nothing<R: Files>(rt: &R) -> Option<R::File> {
+    OpenOptions::new().read(true).open(rt, "/dev/null").ok()
+}
+
 fn main(rt: HostRuntime) -> ExitCode {
+    // A standard stream that is closed leaves its number, 0, 1 or 2, free. It is taken here, so that no file that the
+    // words name gets it: else what is meant for standard error could be written into a table.
+    let _streams = [open_nothing(&rt), open_nothing(&rt), open_nothing(&rt)];
     let words = match words_of(&rt) {
         Ok(words) => words,
         Err(error) => return unread_words(&rt, &error),

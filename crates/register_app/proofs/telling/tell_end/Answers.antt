@@ -1,8 +1,13 @@
 -- A line that was told while standard error had not failed.
-use Rattle.std.proofs.Common.{◌≡◌, rules, true}
+use Rattle.std.proofs.Common.{◌≡◌, ◌∙◌, ap, rules, subst, sym, true, false, is_ok}
+use Rattle.std.specs.Io.KnownBytes.{Appends}
+use Rattle.register_app.specs.Reports.{line_of_end}
 use Rattle.register_app.proofs.telling.tell_end.Goals as goal
 
 pub returns-then-summary-clause-told : goal.returns-then-summary-clause-told
 returns-then-summary-clause-told g c = λ good.
-    let asked : c.args.summary ≡ true = search rules in
-    rw (asked, c.in-Whole.is) (?)
+    let ok : is_ok c.send-then-summary.result ≡ true = search rules in
+    let line = c.as_bytes-then-summary.ensures.value ∙ c.deref-then-summary.ensures.0 ∙ c.line_of_whole-line.ensures in
+    let text : c.as_bytes-then-summary.result.now ≡ line_of_end c.args.summary c.args.place c.args.end.now
+    = rw (c.if-summary.true, c.in-Whole.is, ← c.as_slice.ensures.value) line in
+    (?, ?)

@@ -28,12 +28,17 @@ convert_files-requires-clause-few g c =
     let asks = (just (table (task_of job))).0 refl in
     omega (arith, asks.files_fit.0, ap length asks.files_asked, length-map job.files.items (λ f. f.now))
 
+none_of : {A : Type 0} (xs : List A) → length xs ≡ 0 → xs ≡ []
+none_of [] e = refl
+none_of (x ∷ xs) e = absurd (omega (arith, e))
+
 pub returns-then-is_empty-clause-answered : goal.returns-then-is_empty-clause-answered
 returns-then-is_empty-clause-answered g c = λ low.
     let words = map string_bytes c.args.words.now in
     let job = c.in-Ok-Convert.job in
     let just : MeanJust words (table (task_of job)) = search (rules, c.in-Ok-Convert.ensures.asked) in
-    let none : job.files.items ≡ [] = search rules in
+    let zero : length job.files.items ≡ 0 = search rules in
+    let none : job.files.items ≡ [] = none_of job.files.items zero in
     inr (inl (task_of job, just, ap (λ l. map (λ f. f.now) l) none, c.convert_input.ensures.converted (λ three. absurd (omega (arith, low, three)))))
 
 pub returns-then-is_empty-clause-refused : goal.returns-then-is_empty-clause-refused

@@ -1,12 +1,12 @@
 -- A list of files has one fault at most.
 use Rattle.std.proofs.Common.{◌≡◌, ◌∙◌, ◌+◌, ◌||◌, ℕ, zero, suc, Bool, true, false, true≢false, Bor, List, [], ◌∷◌, ◌++◌, length, map, take, drop, sym, ap, refl, arith, inl, inr, length-append, subst}
-use Rattle.std.specs.Prelude.{◌⊎◌, ◌≤◌, ◌<◌, Contains, slice_index_or}
+use Rattle.std.specs.Prelude.{◌<◌, Contains, slice_index_or}
 use Rattle.std.specs.List.{list_any}
 use Rattle.std.specs.Str.{bytes_eq}
 use Rattle.std.proofs.lemmas.List.{map_more, take-map}
 use Rattle.std.proofs.lemmas.Slice.Eq.{bytes_eq-Decides}
 use Rattle.clap.specs.Words.{Text}
-use Rattle.register_app.specs.Faults.{Fault, too_many_files, file_twice}
+use Rattle.register_app.specs.Faults.{Fault, file_twice}
 use Rattle.register_app.specs.Requests.{AreFilesToConvert, IsFileFault, IsFirstTwice, IsNamedTwice}
 use Rattle.register_app.proofs.ListFacts.{Meet, meet}
 

@@ -1,7 +1,7 @@
 //! Command lines: what they ask for, and why they are refused.
 
 use crate::refusals::Refusal;
-use crate::requests::{Request, read_request};
+use crate::requests::{Job, Request, read_request};
 use std::alloc::{AllocError, Global};
 use std::test::Fail;
 
@@ -159,12 +159,10 @@ const REFUSED: [Refused; 26] = [
     },
 ];
 
-/// Compares a refusal with the status and the text that are wanted.
-fn has(rt: &HostRuntime, refusal: &Refusal<'_>, status: u8, wanted: &str) -> Result<(), Fail> {
-    let text = format!(in rt.alloc(); "{refusal}")?;
-    assert_eq!(rt; text.as_str(), wanted);
-    assert_eq!(rt; refusal.status(), status);
-    Ok(())
+/// The exit status and the text of a refusal.
+fn told(alloc: Global, refusal: &Refusal<'_>) -> Result<(u8, String), AllocError> {
+    let text = format!(in alloc; "{refusal}")?;
+    Ok((refusal.status(), text))
 }
 
 #[test]
@@ -173,16 +171,25 @@ fn words_are_refused_by_the_first_fault(rt: HostRuntime) -> Result<(), Fail> {
         let words = words_of(rt.alloc(), line.words)?;
         match read_request(rt.alloc(), words.as_slice()) {
             Ok(_) => assert!(rt; false),
-            Err(refusal) => has(&rt, &refusal, line.status, line.text)?,
+            Err(refusal) => {
+                let (status, text) = told(rt.alloc(), &refusal)?;
+                assert_eq!(rt; status, line.status);
+                assert_eq!(rt; text.as_str(), line.text);
+            }
         }
     }
-    has(&rt, &Refusal::CannotOpen("a.csv"), 3, "cannot open a.csv")?;
-    has(
-        &rt,
-        &Refusal::CannotMake("a.csv"),
-        3,
-        "cannot make a.csv.out.csv",
-    )
+    Ok(())
+}
+
+#[test]
+fn files_that_are_missing_are_told(rt: HostRuntime) -> Result<(), Fail> {
+    let (status, text) = told(rt.alloc(), &Refusal::CannotOpen("a.csv"))?;
+    assert_eq!(rt; status, 3);
+    assert_eq!(rt; text.as_str(), "cannot open a.csv");
+    let (status, text) = told(rt.alloc(), &Refusal::CannotMake("a.csv"))?;
+    assert_eq!(rt; status, 3);
+    assert_eq!(rt; text.as_str(), "cannot make a.csv.out.csv");
+    Ok(())
 }
 
 /// A command line that clap refuses, and how the text about it begins.
@@ -232,9 +239,9 @@ fn misused_words_are_refused(rt: HostRuntime) -> Result<(), Fail> {
         match read_request(rt.alloc(), words.as_slice()) {
             Ok(_) => assert!(rt; false),
             Err(refusal) => {
-                let text = format!(in rt.alloc(); "{refusal}")?;
+                let (status, text) = told(rt.alloc(), &refusal)?;
+                assert_eq!(rt; status, 2);
                 assert!(rt; text.as_str().starts_with(misuse.message));
-                assert_eq!(rt; refusal.status(), 2);
             }
         }
     }
@@ -250,7 +257,7 @@ struct Asked {
     delimiter: u8,
     targets: usize,
     summary: bool,
-    files: &'static [&'static str],
+    files: &'static str,
 }
 
 const ASKED: [Asked; 5] = [
@@ -261,7 +268,7 @@ const ASKED: [Asked; 5] = [
         delimiter: b',',
         targets: 14,
         summary: false,
-        files: &[],
+        files: "",
     },
     Asked {
         words: &["--ring", "00016", "--stripes=00004", "--to", "none"],
@@ -270,7 +277,7 @@ const ASKED: [Asked; 5] = [
         delimiter: b',',
         targets: 0,
         summary: false,
-        files: &[],
+        files: "",
     },
     Asked {
         words: &[
@@ -286,7 +293,7 @@ const ASKED: [Asked; 5] = [
         delimiter: b'\t',
         targets: 14,
         summary: true,
-        files: &[],
+        files: "",
     },
     // Files stand anywhere; names that differ in letter case differ.
     Asked {
@@ -298,7 +305,7 @@ const ASKED: [Asked; 5] = [
         delimiter: b',',
         targets: 2,
         summary: false,
-        files: &["b.csv", "a.csv", "B.csv", "-", ""],
+        files: "b.csv|a.csv|B.csv|-||",
     },
     // The options end at two dashes.
     Asked {
@@ -308,25 +315,44 @@ const ASKED: [Asked; 5] = [
         delimiter: b',',
         targets: 14,
         summary: true,
-        files: &["-x.csv", "--ring", "0", "--help"],
+        files: "-x.csv|--ring|0|--help|",
     },
 ];
+
+/// The conversion that the words ask for.
+fn job_of<'a>(alloc: Global, words: &'a [String]) -> Option<Job<'a>> {
+    let Ok(request) = read_request(alloc, words) else {
+        return None;
+    };
+    match request {
+        Request::Convert(job) => Some(job),
+        Request::Help => None,
+        Request::Version => None,
+    }
+}
+
+/// Files in one text, with a bar behind each.
+fn listed(alloc: Global, files: &[&str]) -> Result<String, AllocError> {
+    let mut text = String::new(alloc);
+    for file in files {
+        text.push_str(file)?;
+        text.push_str("|")?;
+    }
+    Ok(text)
+}
 
 #[test]
 fn words_ask_for_conversions(rt: HostRuntime) -> Result<(), Fail> {
     for line in &ASKED {
         let words = words_of(rt.alloc(), line.words)?;
-        match read_request(rt.alloc(), words.as_slice()) {
-            Ok(Request::Convert(job)) => {
-                assert_eq!(rt; job.setup.ring(), line.ring);
-                assert_eq!(rt; job.setup.stripes(), line.stripes);
-                assert_eq!(rt; job.setup.delimiter(), line.delimiter);
-                assert_eq!(rt; job.setup.targets().len(), line.targets);
-                assert_eq!(rt; job.summary, line.summary);
-                assert_eq!(rt; job.files.as_slice(), line.files);
-            }
-            _ => assert!(rt; false),
-        }
+        let job = job_of(rt.alloc(), words.as_slice()).expect(&rt, "a conversion");
+        assert_eq!(rt; job.setup.ring(), line.ring);
+        assert_eq!(rt; job.setup.stripes(), line.stripes);
+        assert_eq!(rt; job.setup.delimiter(), line.delimiter);
+        assert_eq!(rt; job.setup.targets().len(), line.targets);
+        assert_eq!(rt; job.summary, line.summary);
+        let files = listed(rt.alloc(), job.files.as_slice())?;
+        assert_eq!(rt; files.as_str(), line.files);
     }
     Ok(())
 }
@@ -341,17 +367,24 @@ fn many_files(alloc: Global, count: usize) -> Result<Vec<String>, AllocError> {
 }
 
 #[test]
-fn files_are_at_most_32(rt: HostRuntime) -> Result<(), Fail> {
+fn files_may_be_32(rt: HostRuntime) -> Result<(), Fail> {
     let words = many_files(rt.alloc(), 32)?;
-    match read_request(rt.alloc(), words.as_slice()) {
-        Ok(Request::Convert(job)) => assert_eq!(rt; job.files.len(), 32),
-        _ => assert!(rt; false),
-    }
+    let job = job_of(rt.alloc(), words.as_slice()).expect(&rt, "a conversion");
+    assert_eq!(rt; job.files.len(), 32);
+    Ok(())
+}
+
+#[test]
+fn files_are_no_more_than_32(rt: HostRuntime) -> Result<(), Fail> {
     let mut words = many_files(rt.alloc(), 32)?;
     words.push(String::from_str(rt.alloc(), "0.csv")?)?;
     match read_request(rt.alloc(), words.as_slice()) {
         Ok(_) => assert!(rt; false),
-        Err(refusal) => has(&rt, &refusal, 2, "more than 32 files")?,
+        Err(refusal) => {
+            let (status, text) = told(rt.alloc(), &refusal)?;
+            assert_eq!(rt; status, 2);
+            assert_eq!(rt; text.as_str(), "more than 32 files");
+        }
     }
     Ok(())
 }

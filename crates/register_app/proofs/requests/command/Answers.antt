@@ -1,8 +1,7 @@
 -- Each argument is added to those before it.
-use Rattle.std.proofs.Common.{ap₂, ◌≡◌, ◌∙◌, codes}
+use Rattle.std.proofs.Common.{ap₂, ◌∙◌}
 use Rattle.std.proofs.lemmas.Result.{IfOk-weaker}
-use Rattle.clap.specs.Words.{App, Rule, app_of, rule_of, with_rule}
-use Rattle.register_app.specs.Requests.{bare_command, flag_rule, option_rule, word_rule}
+use Rattle.clap.specs.Words.{with_rule}
 use Rattle.register_app.proofs.requests.command.Goals as goal
 
 pub returns : goal.returns

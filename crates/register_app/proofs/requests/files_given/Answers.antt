@@ -1,9 +1,9 @@
 -- The list has the values that clap found.
-use Rattle.std.proofs.Common.{◌≡◌, ◌∙◌, [], List, ap, codes, map}
+use Rattle.std.proofs.Common.{◌∙◌, [], ap, codes, map}
 use Rattle.std.specs.Prelude.{unwrap_or}
 use Rattle.std.proofs.lemmas.Result.{IfOk-weaker}
 use Rattle.clap.proofs.WalkLemmas.{raw_values-rows}
-use Rattle.clap.specs.Words.{Text, found_of}
+use Rattle.clap.specs.Words.{found_of}
 use Rattle.register_app.proofs.requests.files_given.Goals as goal
 
 pub returns-in-Some : goal.returns-in-Some

@@ -1,5 +1,5 @@
 -- The flag's text is `true`, or none or another.
-use Rattle.std.proofs.Common.{◌≡◌, ◌∙◌, Bool, true, false, Option, Some, None, List, ap, arith, codes, length, refl, sym, subst}
+use Rattle.std.proofs.Common.{◌≡◌, ◌∙◌, Bool, true, false, Option, Some, None, ap, arith, codes, length, refl, sym}
 use Rattle.std.specs.Prelude.{◌↔◌, unwrap_or}
 use Rattle.std.specs.Str.Parse.{ParsesBool}
 use Rattle.clap.proofs.WalkLemmas.{one_text-rows}

@@ -27,6 +27,7 @@ struct Case {
 }
 
 /// Files in memory: a text for each name, and an output for each that is made.
+#[derive(Clone, Copy)]
 struct Shelf {
     alloc: Global,
 }
@@ -188,7 +189,10 @@ fn answer_on_disk<T: Threads + Wait + Sync + Files>(
     rt: &T,
     alloc: Global,
     words: &[&str],
-) -> Result<(u8, Vec<u8>), AllocError> {
+) -> Result<(u8, Vec<u8>), AllocError>
+where
+    T::File: Send,
+{
     let words = words_of(alloc, words)?;
     let mut errors = PlainOutput::new(Vec::new(alloc), 0);
     let input: Source<&'static [u8], T::File> = Source::Input(b"");
@@ -200,7 +204,7 @@ fn answer_on_disk<T: Threads + Wait + Sync + Files>(
 #[test]
 fn files_on_disk_get_their_tables(rt: HostRuntime) -> Result<(), Fail> {
     let alloc = rt.alloc();
-    let _ = fs::remove_dir_all(&(&rt, alloc), FOLDER);
+    let _ = fs::remove_dir_all(&rt, FOLDER);
     fs::create_dir(&rt, FOLDER)?;
     fs::write(&rt, REGISTER, FIRST_TEXT)?;
     // What stood in the table's file is gone.
@@ -208,7 +212,7 @@ fn files_on_disk_get_their_tables(rt: HostRuntime) -> Result<(), Fail> {
     let (status, errors) = answer_on_disk(&rt, alloc, &["--to", "gregorian", REGISTER])?;
     assert_eq!(rt; status, 0);
     assert!(rt; errors.is_empty());
-    assert_eq!(rt; fs::read(&(&rt, alloc), TABLE)?.as_slice(), A_TABLE);
+    assert_eq!(rt; fs::read(&rt, TABLE)?.as_slice(), A_TABLE);
 
     // A folder, a file that is not there, and two names of one file.
     let (status, errors) = answer_on_disk(&rt, alloc, &[FOLDER])?;
@@ -220,7 +224,7 @@ fn files_on_disk_get_their_tables(rt: HostRuntime) -> Result<(), Fail> {
     let (status, errors) = answer_on_disk(&rt, alloc, &[REGISTER, SAME_REGISTER])?;
     assert_eq!(rt; status, 3);
     assert_eq!(rt; errors.as_slice(), b"register: cannot make files_of_the_test/./register.csv.out.csv\n".as_slice());
-    fs::remove_dir_all(&(&rt, alloc), FOLDER)?;
+    fs::remove_dir_all(&rt, FOLDER)?;
     Ok(())
 }
 

@@ -6,8 +6,8 @@ use Rattle.date_texts.specs.Laws.{OneTarget}
 use Rattle.date_texts.specs.Names.{IsNamed}
 use Rattle.date_texts.specs.declared.calendar.Target.{Target}
 use Rattle.register_records.specs.SetupRules.{NamesTwice}
-use Rattle.register_app.specs.Faults.{Fault, usage, unknown_target, target_twice, unknown_delimiter}
-use Rattle.register_app.specs.OptionValues.{AreNamesOf, AsksForTargets, IsListFault, ListMeans, ListMeansJust, names_in}
+use Rattle.register_app.specs.Faults.{Fault, usage, unknown_target, target_twice, bad_ring, unknown_delimiter, bad_stripes, too_many_files, file_twice}
+use Rattle.register_app.specs.OptionValues.{AreNamesOf, AsksForTargets, IsFirstTwice, IsFirstUnknown, IsListFault, ListMeans, ListMeansJust, names_in}
 
 get_left : (earlier : List Target) (target : Target) (rest : List Target) (i : ℕ) → i < length earlier → slice_index_or earlier i target ≡ target
     → slice_get (earlier ++ target ∷ rest) i ≡ Some target
@@ -71,11 +71,11 @@ past_unknown : (before : List (List ℕ)) (name : List ℕ) (after : List (List 
 past_unknown before name after targets named unknown = let at = named_at before name after targets named in unknown at.target at.is
 
 -- two places in one list are the same, or one of them comes first
-abbrev Meet : List (List ℕ) → List ℕ → List (List ℕ) → List ℕ → Type 0
+abbrev pub Meet : List (List ℕ) → List ℕ → List (List ℕ) → List ℕ → Type 0
 Meet before name front other =
     ((before ≡ front) × (name ≡ other)) ⊎ ((mid : List (List ℕ)) × (front ≡ before ++ name ∷ mid)) ⊎ ((mid : List (List ℕ)) × (before ≡ front ++ other ∷ mid))
 
-meet : (before : List (List ℕ)) (name : List ℕ) (after front : List (List ℕ)) (other : List ℕ) (back : List (List ℕ)) → before ++ name ∷ after ≡ front ++ other ∷ back
+pub meet : (before : List (List ℕ)) (name : List ℕ) (after front : List (List ℕ)) (other : List ℕ) (back : List (List ℕ)) → before ++ name ∷ after ≡ front ++ other ∷ back
     → Meet before name front other
 meet [] name after [] other back e = inl (refl, cc)
 meet [] name after (f ∷ fs) other back e = let same : f ≡ name = cc in inr (inl (fs, ap (λ x. x ∷ fs) same))
@@ -90,18 +90,39 @@ meet (b ∷ bs) name after (f ∷ fs) other back e =
     grow same (inr (inl before)) = inr (inl (before.0, ap₂ (λ (x : List ℕ) (xs : List (List ℕ)). x ∷ xs) (sym same) before.1))
     grow same (inr (inr behind)) = inr (inr (behind.0, ap₂ (λ (x : List ℕ) (xs : List (List ℕ)). x ∷ xs) same behind.1))
 
+-- a fault of a list is an unknown name, or a target named twice
+abbrev ListFault : List ℕ → Fault → Type 0
+ListFault list fault =
+    ((name : List ℕ) × (fault ≡ unknown_target name) × IsFirstUnknown list name) ⊎ ((target : Target) × (fault ≡ target_twice target) × IsFirstTwice list target)
+
+list_fault : (list : List ℕ) (fault : Fault) → IsListFault list fault → ListFault list fault
+list_fault list (usage kind) is = absurd is
+list_fault list (unknown_target name) is = inl (name, refl, is)
+list_fault list (target_twice target) is = inr (target, refl, is)
+list_fault list (bad_ring word) is = absurd is
+list_fault list (unknown_delimiter word) is = absurd is
+list_fault list (bad_stripes word) is = absurd is
+list_fault list too_many_files is = absurd is
+list_fault list (file_twice file) is = absurd is
+
 module _ (one : OneTarget) (list : List ℕ) where
-  -- a list that asks for targets has no fault
-  pub asks_no_fault : (targets : List Target) (fault : Fault) → AsksForTargets list targets → IsListFault list fault → ⊥
-  asks_no_fault targets (usage kind) asks fault = fault
-  asks_no_fault targets (unknown_delimiter word) asks fault = fault
-  asks_no_fault targets (unknown_target name) (inl none) fault = fault.1.names_some none.0
-  asks_no_fault targets (unknown_target name) (inr asks) fault =
+  no_unknown : (targets : List Target) (name : List ℕ) → AsksForTargets list targets → IsFirstUnknown list name → ⊥
+  no_unknown targets name (inl none) fault = fault.1.names_some none.0
+  no_unknown targets name (inr asks) fault =
       past_unknown fault.1.before name fault.1.after targets (subst (λ names. AreNamesOf names targets) fault.1.cut asks.1) fault.2
-  asks_no_fault targets (target_twice target) (inl none) fault = fault.2.names_some none.0
-  asks_no_fault targets (target_twice target) (inr asks) fault =
+
+  no_twice : (targets : List Target) (target : Target) → AsksForTargets list targets → IsFirstTwice list target → ⊥
+  no_twice targets target (inl none) fault = fault.2.names_some none.0
+  no_twice targets target (inr asks) fault =
       let stands = fault.2 in
       asks.2 (past_twice one stands.before fault.1 stands.after fault.0 targets target (subst (λ names. AreNamesOf names targets) stands.cut asks.1) stands.named fault.3 fault.4)
+
+  -- a list that asks for targets has no fault
+  pub asks_no_fault : (targets : List Target) (fault : Fault) → AsksForTargets list targets → IsListFault list fault → ⊥
+  asks_no_fault targets fault asks is = elim (list_fault list fault is) [
+    | inl unknown ↦ no_unknown targets unknown.0 asks unknown.2
+    | inr twice ↦ no_twice targets twice.0 asks twice.2
+  ]
 
   -- it asks for one list of targets
   pub asks_one : (targets others : List Target) → AsksForTargets list targets → AsksForTargets list others → targets ≡ others
@@ -139,16 +160,13 @@ module _ (one : OneTarget) (list : List ℕ) where
 
   -- it has one fault
   pub one_fault : (fault other : Fault) → IsListFault list fault → IsListFault list other → fault ≡ other
-  one_fault (usage kind) other x y = absurd x
-  one_fault (unknown_delimiter word) other x y = absurd x
-  one_fault (unknown_target name) (usage kind) x y = absurd y
-  one_fault (unknown_target name) (unknown_delimiter word) x y = absurd y
-  one_fault (unknown_target name) (unknown_target other) x y = ap unknown_target (two_unknown name other x y)
-  one_fault (unknown_target name) (target_twice target) x y = absurd (unknown_and_twice name target x y)
-  one_fault (target_twice target) (usage kind) x y = absurd y
-  one_fault (target_twice target) (unknown_delimiter word) x y = absurd y
-  one_fault (target_twice target) (unknown_target name) x y = absurd (unknown_and_twice name target y x)
-  one_fault (target_twice target) (target_twice other) x y = ap target_twice (two_twice target other x y)
+  one_fault fault other x y = decide (list_fault list fault x) (list_fault list other y)
+    where
+      decide : ListFault list fault → ListFault list other → fault ≡ other
+      decide (inl a) (inl b) = a.1 ∙ ap unknown_target (two_unknown a.0 b.0 a.2 b.2) ∙ sym b.1
+      decide (inl a) (inr b) = absurd (unknown_and_twice a.0 b.0 a.2 b.2)
+      decide (inr a) (inl b) = absurd (unknown_and_twice b.0 a.0 b.2 a.2)
+      decide (inr a) (inr b) = a.1 ∙ ap target_twice (two_twice a.0 b.0 a.2 b.2) ∙ sym b.1
 
   one_meaning : (meaning other : Result (List Target) Fault) → ListMeans list meaning → ListMeans list other → other ≡ meaning
   one_meaning (Ok targets) (Ok others) x y = ap (λ (ts : List Target). Ok ts) (asks_one others targets y x)

@@ -1,6 +1,8 @@
--- What the words ask for fits a setup: each target once, the default ones too, since their names differ, and a delimiter that there is.
+-- What the words ask for fits a setup: each target once, the default ones too, since their names differ, and a ring, a
+-- delimiter and stripes that there are.
 use Rattle.std.proofs.Common.{◌≡◌, ◌∙◌, ◌<◌, ◌&&◌, ◌||◌, ℕ, Bool, true, false, not, List, [], ◌∷◌, length, map, sym, ap, refl, arith, zero, suc, Some, None, Option, Result, Err, inl, inr, true≢false}
-use Rattle.std.specs.Prelude.{slice_get}
+use Rattle.std.specs.Prelude.{◌≤◌, nat_le, slice_get}
+use Rattle.std.proofs.lemmas.Bool.{le-leb}
 use Rattle.std.specs.List.{list_any}
 use Rattle.std.specs.Str.{bytes_eq}
 use Rattle.std.proofs.lemmas.Slice.Eq.{bytes_eq-Decides}
@@ -12,7 +14,7 @@ use Rattle.register_records.specs.declared.setups.Setup.{Setup}
 use Rattle.register_records.specs.declared.setups.SetupFault.{SetupFault}
 use Rattle.register_records.specs.declared.setups.SetupFault.TheVariants.{TargetTwice, RingSize, Delimiter, Stripes}
 use Rattle.register_app.proofs.NameFacts.{never_twice}
-use Rattle.register_app.specs.Requests.{AreTargetsOf, IsDelimiterOf}
+use Rattle.register_app.specs.Requests.{AreTargetsOf, IsDelimiterOf, IsRingOf, IsStripesOf}
 
 -- no name stands at two places
 abbrev differ : List (List ℕ) → Bool
@@ -55,6 +57,18 @@ asked_delimiter None byte is = rw is refl
 asked_delimiter (Some word) byte (inl comma) = rw comma.1 refl
 asked_delimiter (Some word) byte (inr (inl semicolon)) = rw semicolon.1 refl
 asked_delimiter (Some word) byte (inr (inr tab)) = rw tab.1 refl
+
+-- the size asked for is that of a ring, and the number that of converters
+within : (low high n : ℕ) → low ≤ n → n ≤ high → (nat_le low n && nat_le n high) ≡ true
+within low high n over under = rw (le-leb low n over, le-leb n high under) refl
+
+pub asked_ring : (value : Option (List ℕ)) (ring : ℕ) → IsRingOf value ring → is_ring_size ring ≡ true
+asked_ring None ring is = rw is refl
+asked_ring (Some word) ring is = within 1 4096 ring is.some is.no_more
+
+pub asked_stripes : (value : Option (List ℕ)) (stripes : ℕ) → IsStripesOf value stripes → is_stripe_count stripes ≡ true
+asked_stripes None stripes is = rw is refl
+asked_stripes (Some word) stripes is = within 1 4 stripes is.some is.no_more
 
 -- so there is such a setup
 pub no_fault : (made : Result Setup SetupFault) (fault : SetupFault) (targets : List Target) (ring byte stripes : ℕ) → made ≡ Err fault → (¬ NamesTwice targets)

@@ -1,20 +1,21 @@
 -- Words mean one thing at most.
-use Rattle.std.proofs.Common.{◌≡◌, ◌∙◌, ℕ, List, length, codes, sym, ap, ap₂, refl, subst, arith, inl, inr, Option, Some, None}
+use Rattle.std.proofs.Common.{◌≡◌, ◌∙◌, ℕ, Bool, true, false, List, length, codes, sym, ap, ap₂, refl, subst, arith, inl, inr, Option, Some, None}
 use Rattle.std.specs.Prelude.{◌≢◌, ◌↔◌, ◌⊎◌, IfSome, IsSomeAnd}
 use Rattle.clap.specs.Values.{kind_of}
 use Rattle.clap.specs.Words.{HasKind, IsAmong, Text, fault_of}
 use Rattle.clap.specs.declared.error.Error.{Error}
 use Rattle.clap.specs.declared.error.kind.ErrorKind.{ErrorKind}
-use Rattle.clap.specs.declared.error.kind.ErrorKind.TheVariants.{DisplayHelp, OutOfMemory}
+use Rattle.clap.specs.declared.error.kind.ErrorKind.TheVariants.{DisplayHelp, DisplayVersion, OutOfMemory}
 use Rattle.date_texts.specs.Laws.{OneTarget}
 use Rattle.date_texts.specs.declared.calendar.Target.{Target}
 use Rattle.register_app.specs.Answers.{AreWrong}
-use Rattle.register_app.specs.Faults.{Fault, fault_told, usage, unknown_target, target_twice, unknown_delimiter}
-use Rattle.register_app.specs.OptionValues.{IsDelimiterWord}
+use Rattle.register_app.specs.Faults.{Fault, fault_told, usage, bad_ring, unknown_delimiter, bad_stripes, unknown_target, target_twice, too_many_files, file_twice}
+use Rattle.register_app.specs.OptionValues.{IsDelimiterWord, IsNumberWord}
 use Rattle.register_records.specs.Tables.{Layout}
-use Rattle.register_app.specs.Requests.{AreTaken, AreTargetsOf, AskForHelp, AsksFor, IsDelimiterFault, IsDelimiterOf, IsFaultOf, IsTargetFault, Mean, MeanJust, Meaning, command_line, refusal_status, value_in, help, table, wrong}
+use Rattle.register_app.specs.Requests.{AreTaken, AreTargetsOf, AskForHelp, AskForVersion, AsksFor, FailsFirst, HaveDelimiter, HaveRing, HaveStripes, HaveTargets, IsDelimiterFault, IsDelimiterOf, IsFaultFromDelimiter, IsFaultFromRing, IsFaultFromStripes, IsFaultFromTargets, IsFaultOf, IsFileFault, IsRingFault, IsRingOf, IsStripesFault, IsStripesOf, IsTargetFault, IsUsageFault, Mean, MeanJust, Meaning, Task, command_line, files_in, refusal_status, value_in, help, version, table, wrong}
 use Rattle.register_app.specs.declared.refusals.Refusal.{Refusal}
 use Rattle.register_app.specs.declared.refusals.Refusal.TheVariants as refusal
+use Rattle.register_app.proofs.FileFacts.{fit_no_fault, one_file_fault}
 use Rattle.register_app.proofs.KindFacts.{one_kind}
 use Rattle.register_app.proofs.ListFacts.{asks_no_fault, asks_one, one_fault}
 
@@ -30,15 +31,44 @@ one_byte word byte other (inr (inr tab)) (inl comma) = let e = ap length (sym co
 one_byte word byte other (inr (inr tab)) (inr (inl semicolon)) = let e = ap length (sym semicolon.0 ∙ tab.0) in absurd (omega (arith, e))
 one_byte word byte other (inr (inr tab)) (inr (inr same)) = tab.1 ∙ sym same.1
 
+-- and one number
+one_number : (most : ℕ) (word : Text) (n other : ℕ) → IsNumberWord most word n → IsNumberWord most word other → n ≡ other
+one_number most word n other is same = is.value ∙ sym same.value
+
 one_delimiter : (value : Option Text) (byte other : ℕ) → IsDelimiterOf value byte → IsDelimiterOf value other → byte ≡ other
 one_delimiter None byte other is same = is ∙ sym same
 one_delimiter (Some word) byte other is same = one_byte word byte other is same
 
-no_delimiter : (value : Option Text) (word : Text) (byte : ℕ) → IsDelimiterOf value byte → value ≡ Some word → ((b : ℕ) → ¬ IsDelimiterWord word b) → ⊥
-no_delimiter value word byte is e never = never byte (subst (λ (v : Option Text). IsDelimiterOf v byte) e is)
+one_ring : (value : Option Text) (ring other : ℕ) → IsRingOf value ring → IsRingOf value other → ring ≡ other
+one_ring None ring other is same = is ∙ sym same
+one_ring (Some word) ring other is same = one_number 4096 word ring other is same
 
+one_stripes : (value : Option Text) (stripes other : ℕ) → IsStripesOf value stripes → IsStripesOf value other → stripes ≡ other
+one_stripes None stripes other is same = is ∙ sym same
+one_stripes (Some word) stripes other is same = one_number 4 word stripes other is same
+
+-- a value that asks for something has no fault
+no_delimiter_fault : (value : Option Text) (byte : ℕ) (fault : Fault) → IsDelimiterOf value byte → IsDelimiterFault value fault → ⊥
+no_delimiter_fault value byte fault is at = at.3 byte (subst (λ (v : Option Text). IsDelimiterOf v byte) at.2 is)
+
+no_ring_fault : (value : Option Text) (ring : ℕ) (fault : Fault) → IsRingOf value ring → IsRingFault value fault → ⊥
+no_ring_fault value ring fault is at = at.3 ring (subst (λ (v : Option Text). IsRingOf v ring) at.2 is)
+
+no_stripes_fault : (value : Option Text) (stripes : ℕ) (fault : Fault) → IsStripesOf value stripes → IsStripesFault value fault → ⊥
+no_stripes_fault value stripes fault is at = at.3 stripes (subst (λ (v : Option Text). IsStripesOf v stripes) at.2 is)
+
+-- a fault of one value is one fault
 same_word : (value : Option Text) (word other : Text) → value ≡ Some word → value ≡ Some other → word ≡ other
 same_word value word other e f = cc
+
+one_delimiter_fault : (value : Option Text) (fault other : Fault) → IsDelimiterFault value fault → IsDelimiterFault value other → fault ≡ other
+one_delimiter_fault value fault other is same = is.1 ∙ ap unknown_delimiter (same_word value is.0 same.0 is.2 same.2) ∙ sym same.1
+
+one_ring_fault : (value : Option Text) (fault other : Fault) → IsRingFault value fault → IsRingFault value other → fault ≡ other
+one_ring_fault value fault other is same = is.1 ∙ ap bad_ring (same_word value is.0 same.0 is.2 same.2) ∙ sym same.1
+
+one_stripes_fault : (value : Option Text) (fault other : Fault) → IsStripesFault value fault → IsStripesFault value other → fault ≡ other
+one_stripes_fault value fault other is same = is.1 ∙ ap bad_stripes (same_word value is.0 same.0 is.2 same.2) ∙ sym same.1
 
 module _ (one : OneTarget) where
   one_list : (value : Option Text) (targets others : List Target) → AreTargetsOf value targets → AreTargetsOf value others → targets ≡ others
@@ -53,108 +83,161 @@ module _ (one : OneTarget) where
   one_target_fault None fault other is same = absurd is
   one_target_fault (Some list) fault other is same = one_fault one list fault other is same
 
+-- a check that fails with one fault, where it does not pass, and later ones that do
+module _ (fails : Fault → Type 0) (passes : Type 0) (later : Fault → Type 0) where
+  first_fault : ((f g : Fault) → fails f → fails g → f ≡ g) → ((f : Fault) → passes → fails f → ⊥) → ((f g : Fault) → later f → later g → f ≡ g)
+      → (f g : Fault) → FailsFirst fails passes later f → FailsFirst fails passes later g → f ≡ g
+  first_fault same clash on f g (inl x) (inl y) = same f g x y
+  first_fault same clash on f g (inl x) (inr y) = absurd (clash f y.0 x)
+  first_fault same clash on f g (inr x) (inl y) = absurd (clash g x.0 y)
+  first_fault same clash on f g (inr x) (inr y) = on f g x.1 y.1
+
+  passed : (f : Fault) → ¬ fails f → ¬ later f → ¬ FailsFirst fails passes later f
+  passed f fine on (inl x) = fine x
+  passed f fine on (inr x) = on x.1
+
+one_summary : (P : Type 0) (a b : Bool) → (a ≡ true) ↔ P → (b ≡ true) ↔ P → a ≡ b
+one_summary P true true x y = refl
+one_summary P true false x y = sym (y.1 (x.0 refl))
+one_summary P false true x y = x.1 (y.0 refl)
+one_summary P false false x y = refl
+
 module _ (one : OneTarget) (words : List Text) where
   not_taken : (kind : ErrorKind) → AreTaken words → IsAmong kind (fault_of command_line words) → ⊥
   not_taken kind taken among = subst (IsAmong kind) taken among
 
   help_no_fault : (fault : Fault) → AskForHelp words → IsFaultOf words fault → ⊥
-  help_no_fault (usage kind) asks is = is.1 (one_kind words kind DisplayHelp is.0 asks)
-  help_no_fault (unknown_target name) asks is = not_taken DisplayHelp is.0 asks
-  help_no_fault (target_twice target) asks is = not_taken DisplayHelp is.0 asks
-  help_no_fault (unknown_delimiter word) asks is = not_taken DisplayHelp is.0 asks
+  help_no_fault fault asks (inl is) = is.3 (one_kind words is.0 DisplayHelp is.2 asks)
+  help_no_fault fault asks (inr is) = not_taken DisplayHelp is.0 asks
 
-  table_no_fault : (layout : Layout) (fault : Fault) → AsksFor words layout → IsFaultOf words fault → ⊥
-  table_no_fault layout (usage kind) asks is = not_taken kind asks.taken is.0
-  table_no_fault layout (unknown_target name) asks is = no_target_fault one (value_in words (codes "to")) layout.targets (unknown_target name) asks.targets_asked is.1
-  table_no_fault layout (target_twice target) asks is = no_target_fault one (value_in words (codes "to")) layout.targets (target_twice target) asks.targets_asked is.1
-  table_no_fault layout (unknown_delimiter word) asks is = no_delimiter (value_in words (codes "delimiter")) word layout.delimiter asks.delimiter_asked is.2.0 is.2.1
+  version_no_fault : (fault : Fault) → AskForVersion words → IsFaultOf words fault → ⊥
+  version_no_fault fault asks (inl is) = is.4 (one_kind words is.0 DisplayVersion is.2 asks)
+  version_no_fault fault asks (inr is) = not_taken DisplayVersion is.0 asks
 
-  one_table : (layout other : Layout) → AsksFor words layout → AsksFor words other → table layout ≡ table other
-  one_table layout other asks same =
-      ap₂ (λ (targets : List Target) (delimiter : ℕ). table (record { delimiter = delimiter; targets = targets }))
-      (one_list one (value_in words (codes "to")) layout.targets other.targets asks.targets_asked same.targets_asked)
-      (one_delimiter (value_in words (codes "delimiter")) layout.delimiter other.delimiter asks.delimiter_asked same.delimiter_asked)
+  help_no_version : AskForHelp words → AskForVersion words → ⊥
+  help_no_version asks other = differ (one_kind words DisplayHelp DisplayVersion asks other)
+    where
+      differ : DisplayHelp ≡ DisplayVersion → ⊥
+      differ e = absurd (cc)
+
+  table_no_fault : (task : Task) (fault : Fault) → AsksFor words task → ¬ IsFaultOf words fault
+  table_no_fault task fault asks =
+      passed (IsUsageFault words) (AreTaken words) (IsFaultFromTargets words) fault (λ is. not_taken is.0 asks.taken is.2)
+      (passed (IsTargetFault (value_in words (codes "to"))) (HaveTargets words) (IsFaultFromRing words) fault
+      (no_target_fault one (value_in words (codes "to")) task.layout.targets fault asks.targets_asked)
+      (passed (IsRingFault (value_in words (codes "ring"))) (HaveRing words) (IsFaultFromDelimiter words) fault
+      (no_ring_fault (value_in words (codes "ring")) task.ring fault asks.ring_asked)
+      (passed (IsDelimiterFault (value_in words (codes "delimiter"))) (HaveDelimiter words) (IsFaultFromStripes words) fault
+      (no_delimiter_fault (value_in words (codes "delimiter")) task.layout.delimiter fault asks.delimiter_asked)
+      (passed (IsStripesFault (value_in words (codes "stripes"))) (HaveStripes words) (IsFileFault (files_in words)) fault
+      (no_stripes_fault (value_in words (codes "stripes")) task.stripes fault asks.stripes_asked)
+      (fit_no_fault (files_in words) fault asks.files_fit)))))
+
+  one_table : (task other : Task) → AsksFor words task → AsksFor words other → table task ≡ table other
+  one_table task other asks same =
+      let targets = one_list one (value_in words (codes "to")) task.layout.targets other.layout.targets asks.targets_asked same.targets_asked in
+      let ring = one_ring (value_in words (codes "ring")) task.ring other.ring asks.ring_asked same.ring_asked in
+      let delimiter = one_delimiter (value_in words (codes "delimiter")) task.layout.delimiter other.layout.delimiter asks.delimiter_asked same.delimiter_asked in
+      let stripes = one_stripes (value_in words (codes "stripes")) task.stripes other.stripes asks.stripes_asked same.stripes_asked in
+      let summary = one_summary _ task.summary other.summary asks.summary_asked same.summary_asked in
+      let files = asks.files_asked ∙ sym same.files_asked in
+      ap table (same_task task other targets ring delimiter stripes summary files)
+    where
+      same_layout : (a b : Layout) → a.targets ≡ b.targets → a.delimiter ≡ b.delimiter → a ≡ b
+      same_layout a b targets delimiter =
+          ap₂ (λ (ts : List Target) (d : ℕ). record { delimiter = d; targets = ts }) targets delimiter
+
+      same_task : (a b : Task) → a.layout.targets ≡ b.layout.targets → a.ring ≡ b.ring → a.layout.delimiter ≡ b.layout.delimiter → a.stripes ≡ b.stripes
+          → a.summary ≡ b.summary → a.files ≡ b.files → a ≡ b
+      same_task a b targets ring delimiter stripes summary files =
+          let layout = same_layout a.layout b.layout targets delimiter in
+          ap₂ (λ (l : Layout) (n : ℕ). record a { layout = l; ring = n }) layout ring
+          ∙ ap₂ (λ (n : ℕ) (s : Bool). record a { layout = b.layout; ring = b.ring; stripes = n; summary = s }) stripes summary
+          ∙ ap (λ (fs : List Text). record b { files = fs }) files
+
+  one_usage_fault : (fault other : Fault) → IsUsageFault words fault → IsUsageFault words other → fault ≡ other
+  one_usage_fault fault other is same = is.1 ∙ ap usage (one_kind words is.0 same.0 is.2 same.2) ∙ sym same.1
 
   one_fault_of : (fault other : Fault) → IsFaultOf words fault → IsFaultOf words other → fault ≡ other
-  one_fault_of (usage kind) (usage other) is same = ap usage (one_kind words kind other is.0 same.0)
-  one_fault_of (usage kind) (unknown_target name) is same = absurd (not_taken kind same.0 is.0)
-  one_fault_of (usage kind) (target_twice target) is same = absurd (not_taken kind same.0 is.0)
-  one_fault_of (usage kind) (unknown_delimiter word) is same = absurd (not_taken kind same.0 is.0)
-  one_fault_of (unknown_target name) (usage kind) is same = absurd (not_taken kind is.0 same.0)
-  one_fault_of (target_twice target) (usage kind) is same = absurd (not_taken kind is.0 same.0)
-  one_fault_of (unknown_delimiter word) (usage kind) is same = absurd (not_taken kind is.0 same.0)
-  one_fault_of (unknown_target name) (unknown_target other) is same = one_target_fault one (value_in words (codes "to")) (unknown_target name) (unknown_target other) is.1 same.1
-  one_fault_of (unknown_target name) (target_twice target) is same = one_target_fault one (value_in words (codes "to")) (unknown_target name) (target_twice target) is.1 same.1
-  one_fault_of (target_twice target) (unknown_target name) is same = one_target_fault one (value_in words (codes "to")) (target_twice target) (unknown_target name) is.1 same.1
-  one_fault_of (target_twice target) (target_twice other) is same = one_target_fault one (value_in words (codes "to")) (target_twice target) (target_twice other) is.1 same.1
-  one_fault_of (unknown_target name) (unknown_delimiter word) is same = absurd (no_target_fault one (value_in words (codes "to")) same.1.0 (unknown_target name) same.1.1 is.1)
-  one_fault_of (target_twice target) (unknown_delimiter word) is same = absurd (no_target_fault one (value_in words (codes "to")) same.1.0 (target_twice target) same.1.1 is.1)
-  one_fault_of (unknown_delimiter word) (unknown_target name) is same = absurd (no_target_fault one (value_in words (codes "to")) is.1.0 (unknown_target name) is.1.1 same.1)
-  one_fault_of (unknown_delimiter word) (target_twice target) is same = absurd (no_target_fault one (value_in words (codes "to")) is.1.0 (target_twice target) is.1.1 same.1)
-  one_fault_of (unknown_delimiter word) (unknown_delimiter other) is same = ap unknown_delimiter (same_word (value_in words (codes "delimiter")) word other is.2.0 same.2.0)
+  one_fault_of =
+      first_fault (IsUsageFault words) (AreTaken words) (IsFaultFromTargets words) one_usage_fault (λ fault taken is. not_taken is.0 taken is.2)
+      (first_fault (IsTargetFault (value_in words (codes "to"))) (HaveTargets words) (IsFaultFromRing words)
+      (one_target_fault one (value_in words (codes "to"))) (λ fault fine. no_target_fault one (value_in words (codes "to")) fine.0 fault fine.1)
+      (first_fault (IsRingFault (value_in words (codes "ring"))) (HaveRing words) (IsFaultFromDelimiter words)
+      (one_ring_fault (value_in words (codes "ring"))) (λ fault fine. no_ring_fault (value_in words (codes "ring")) fine.0 fault fine.1)
+      (first_fault (IsDelimiterFault (value_in words (codes "delimiter"))) (HaveDelimiter words) (IsFaultFromStripes words)
+      (one_delimiter_fault (value_in words (codes "delimiter"))) (λ fault fine. no_delimiter_fault (value_in words (codes "delimiter")) fine.0 fault fine.1)
+      (first_fault (IsStripesFault (value_in words (codes "stripes"))) (HaveStripes words) (IsFileFault (files_in words))
+      (one_stripes_fault (value_in words (codes "stripes"))) (λ fault fine. no_stripes_fault (value_in words (codes "stripes")) fine.0 fault fine.1)
+      (one_file_fault (files_in words))))))
 
   one_meaning : (meaning other : Meaning) → Mean words meaning → Mean words other → other ≡ meaning
   one_meaning help help x y = refl
-  one_meaning help (table layout) x y = absurd (not_taken DisplayHelp y.taken x)
+  one_meaning help version x y = absurd (help_no_version x y)
+  one_meaning help (table task) x y = absurd (not_taken DisplayHelp y.taken x)
   one_meaning help (wrong fault) x y = absurd (help_no_fault fault x y)
-  one_meaning (table layout) help x y = absurd (not_taken DisplayHelp x.taken y)
-  one_meaning (table layout) (table other) x y = one_table other layout y x
-  one_meaning (table layout) (wrong fault) x y = absurd (table_no_fault layout fault x y)
+  one_meaning version help x y = absurd (help_no_version y x)
+  one_meaning version version x y = refl
+  one_meaning version (table task) x y = absurd (not_taken DisplayVersion y.taken x)
+  one_meaning version (wrong fault) x y = absurd (version_no_fault fault x y)
+  one_meaning (table task) help x y = absurd (not_taken DisplayHelp x.taken y)
+  one_meaning (table task) version x y = absurd (not_taken DisplayVersion x.taken y)
+  one_meaning (table task) (table other) x y = one_table other task y x
+  one_meaning (table task) (wrong fault) x y = absurd (table_no_fault task fault x y)
   one_meaning (wrong fault) help x y = absurd (help_no_fault fault y x)
-  one_meaning (wrong fault) (table layout) x y = absurd (table_no_fault layout fault y x)
+  one_meaning (wrong fault) version x y = absurd (version_no_fault fault y x)
+  one_meaning (wrong fault) (table task) x y = absurd (table_no_fault task fault y x)
   one_meaning (wrong fault) (wrong other) x y = ap wrong (one_fault_of other fault y x)
 
   -- what the words mean is all that they mean
   pub mean_just : (meaning : Meaning) → Mean words meaning → MeanJust words meaning
   mean_just meaning means other = (λ e. subst (Mean words) (sym e) means, λ m. one_meaning meaning other means m)
 
--- an error is a request for help, want of memory, or a fault of usage
+-- an error is a request for help or for the version, want of memory, or a fault of usage
 pub asks_help : (words : List Text) (error : Error) → HasKind (fault_of command_line words) error → kind_of error ≡ DisplayHelp → AskForHelp words
 asks_help words error (inl memory) is = absurd (cc)
 asks_help words error (inr among) is = subst (λ (k : ErrorKind). IsAmong k (fault_of command_line words)) is among
 
+pub asks_version : (words : List Text) (error : Error) → HasKind (fault_of command_line words) error → kind_of error ≡ DisplayVersion → AskForVersion words
+asks_version words error (inl memory) is = absurd (cc)
+asks_version words error (inr among) is = subst (λ (k : ErrorKind). IsAmong k (fault_of command_line words)) is among
+
 pub misuses : (words : List Text) (error : Error) → HasKind (fault_of command_line words) error → kind_of error ≢ OutOfMemory → kind_of error ≢ DisplayHelp
-    → IsFaultOf words (usage (kind_of error))
-misuses words error (inl memory) has helps = absurd (has memory)
-misuses words error (inr among) has helps = (among, helps)
+    → kind_of error ≢ DisplayVersion → IsFaultOf words (usage (kind_of error))
+misuses words error (inl memory) has helps versions = absurd (has memory)
+misuses words error (inr among) has helps versions = inl (kind_of error, refl, among, helps, versions)
 
--- a fault of the list of targets
-pub told_of_targets : (words : List Text) (told : Option Fault) → AreTaken words → IfSome told (IsTargetFault (value_in words (codes "to"))) → IfSome told (IsFaultOf words)
-told_of_targets words None taken is = tt
-told_of_targets words (Some fault) taken is = at_value (value_in words (codes "to")) fault refl is
-  where
-    at_value : (value : Option Text) (f : Fault) → value ≡ value_in words (codes "to") → IsTargetFault value f → IsFaultOf words f
-    at_value None f e h = absurd h
-    at_value (Some list) (usage kind) e h = absurd h
-    at_value (Some list) (unknown_target name) e h = (taken, subst (λ (v : Option Text). IsTargetFault v (unknown_target name)) e h)
-    at_value (Some list) (target_twice target) e h = (taken, subst (λ (v : Option Text). IsTargetFault v (target_twice target)) e h)
-    at_value (Some list) (unknown_delimiter word) e h = absurd h
+-- a fault of a check that comes to be told is all that the words mean
+pub told_just : (words : List Text) (told : Option Fault) (fails : Fault → Type 0) → OneTarget → IfSome told fails → ((fault : Fault) → fails fault → IsFaultOf words fault)
+    → IfSome told (λ fault. MeanJust words (wrong fault))
+told_just words None fails one is first = tt
+told_just words (Some fault) fails one is first = mean_just one words (wrong fault) (first fault is)
 
--- a fault of the delimiter, where the targets are fine
-pub told_of_delimiter : (words : List Text) (told : Option Fault) (targets : List Target) → AreTaken words → AreTargetsOf (value_in words (codes "to")) targets
-    → IsSomeAnd told (IsDelimiterFault (value_in words (codes "delimiter"))) → IfSome told (IsFaultOf words)
-told_of_delimiter words None targets taken fine is = tt
-told_of_delimiter words (Some (usage kind)) targets taken fine is = absurd is
-told_of_delimiter words (Some (unknown_target name)) targets taken fine is = absurd is
-told_of_delimiter words (Some (target_twice target)) targets taken fine is = absurd is
-told_of_delimiter words (Some (unknown_delimiter word)) targets taken fine is = (taken, (targets, fine), is)
-
--- a fault of the words is all that they mean
-pub told_just : (words : List Text) (told : Option Fault) → OneTarget → IfSome told (IsFaultOf words) → IfSome told (λ fault. MeanJust words (wrong fault))
-told_just words None one is = tt
-told_just words (Some fault) one is = mean_just one words (wrong fault) is
+-- a fault that is told is told
+pub if_some : (told : Option Fault) (fails : Fault → Type 0) → IsSomeAnd told fails → IfSome told fails
+if_some None fails is = tt
+if_some (Some fault) fails is = is
 
 -- words that ask for something are not refused
 pub never_refused : (words : List Text) (meaning : Meaning) (status : ℕ) → MeanJust words meaning → ((fault : Fault) → wrong fault ≢ meaning) → status ≢ 2
     → (status ≡ 2) ↔ AreWrong words
 never_refused words meaning status just differs other = (λ e. absurd (other e), λ is. absurd (differs is.0 ((just (wrong is.0)).1 is.1)))
 
--- words that are refused are, unless there was no memory
+at_fault : (words : List Text) (fault : Fault) (status : ℕ) → MeanJust words (wrong fault) → status ≡ 2 → (status ≡ 2) ↔ AreWrong words
+at_fault words fault status just two = (λ e. (fault, (just (wrong fault)).0 refl), λ is. two)
+
+-- words that are refused are, unless there was no memory or a file was missing
 pub is_refused : (words : List Text) (told : Refusal) (status : ℕ) → IfSome (fault_told told) (λ fault. MeanJust words (wrong fault))
     → (status ≡ 3) ⊎ (status ≡ refusal_status told) → status ≢ 3 → (status ≡ 2) ↔ AreWrong words
 is_refused words told status just (inl memory) had = absurd (had memory)
 is_refused words refusal.OutOfMemory status just (inr memory) had = absurd (had memory)
-is_refused words (refusal.Usage error) status just (inr two) had = (λ e. (usage (kind_of error), (just (wrong (usage (kind_of error)))).0 refl), λ is. two)
-is_refused words (refusal.UnknownTarget name) status just (inr two) had = (λ e. (unknown_target name.now, (just (wrong (unknown_target name.now))).0 refl), λ is. two)
-is_refused words (refusal.TargetTwice target) status just (inr two) had = (λ e. (target_twice target, (just (wrong (target_twice target))).0 refl), λ is. two)
-is_refused words (refusal.UnknownDelimiter word) status just (inr two) had = (λ e. (unknown_delimiter word.now, (just (wrong (unknown_delimiter word.now))).0 refl), λ is. two)
+is_refused words (refusal.CannotOpen file) status just (inr files) had = absurd (had files)
+is_refused words (refusal.CannotMake file) status just (inr files) had = absurd (had files)
+is_refused words (refusal.Usage error) status just (inr two) had = at_fault words (usage (kind_of error)) status just two
+is_refused words (refusal.UnknownTarget name) status just (inr two) had = at_fault words (unknown_target name.now) status just two
+is_refused words (refusal.TargetTwice target) status just (inr two) had = at_fault words (target_twice target) status just two
+is_refused words (refusal.BadRing word) status just (inr two) had = at_fault words (bad_ring word.now) status just two
+is_refused words (refusal.UnknownDelimiter word) status just (inr two) had = at_fault words (unknown_delimiter word.now) status just two
+is_refused words (refusal.BadStripes word) status just (inr two) had = at_fault words (bad_stripes word.now) status just two
+is_refused words refusal.TooManyFiles status just (inr two) had = at_fault words too_many_files status just two
+is_refused words (refusal.FileTwice file) status just (inr two) had = at_fault words (file_twice file.now) status just two

@@ -1,66 +1,52 @@
--- How the program answers: what its output has gained, and when its words are refused.
-use Rattle.std.specs.Prelude.{◌≡◌, ◌≢◌, ℕ, List, [], ◌∷◌, ◌++◌, codes, Option, IfSome, Bool, true, false}
-use Rattle.std.specs.Fmt.{decimal}
+-- How the program answers: what its outputs have gained, and when its words are refused.
+use Rattle.std.specs.Prelude.{◌≡◌, ◌≢◌, ◌⊎◌, ◌↔◌, ℕ, List, [], ◌∷◌, ◌++◌, codes, Option, Bool, true, false}
 use Rattle.std.specs.Io.KnownBytes.{Appends}
-use Rattle.register_records.specs.Entries.{HasNoHeader, HasTooMany}
-use Rattle.register_records.specs.Sources.{ArePartOfTable, Gains, IsWholeTable, cause_number}
-use Rattle.register_records.specs.Tables.{Layout}
-use Rattle.register_records.specs.declared.sources.Cause.{Cause}
-use Rattle.register_records.specs.declared.sources.Cause.TheVariants as cause
-use Rattle.register_records.specs.declared.sources.Note.{Note}
+use Rattle.register_run.specs.Reports.{IsReport}
+use Rattle.register_run.specs.declared.reports.Report.{Report}
+use Rattle.register_run.specs.declared.reports.Verdict.TheVariants.{Complete}
 use Rattle.register_app.specs.Faults.{Fault}
-use Rattle.register_app.specs.Requests.{IsFaultOf, MeanJust, help, table}
-use Rattle.register_app.specs.declared.help.TheConstants.{HELP, HELP_FAULT}
+use Rattle.register_app.specs.Openings.{AreMade, AreOpened}
+use Rattle.register_app.specs.Reports.{lines_from}
+use Rattle.register_app.specs.Requests.{IsFaultOf, MeanJust, Task, help, table, version}
+use Rattle.register_app.specs.declared.help.TheConstants.{HELP, PRINT_FAULT}
+use Rattle.register_app.specs.declared.requests.TheConstants.{VERSION}
 
--- the output gained the whole table, whatever the counts of its rows
-abbrev pub GainsWholeTable : Layout → Option (List ℕ) → Option (List ℕ) → Option (List ℕ) → Type 0
-GainsWholeTable layout text old new =
-    (rows : ℕ) × (refused : ℕ) × (journal : List Note) × ∥ Gains old new (IsWholeTable layout text rows refused journal) ∥₁
+-- the line that tells the version
+abbrev pub version_line : List ℕ
+version_line = codes "register " ++ (VERSION.now ++ 10 ∷ [])
 
--- the words ask for help, and the output gained its page
-abbrev pub GainsHelp : List (List ℕ) → Option (List ℕ) → Option (List ℕ) → Type 0
-GainsHelp words old new = MeanJust words help × Appends old new HELP.now
+-- the words ask for this page
+abbrev pub AskForPage : List (List ℕ) → List ℕ → Type 0
+AskForPage words page = (MeanJust words help × (page ≡ HELP.now)) ⊎ (MeanJust words version × (page ≡ version_line))
 
--- the words ask for a table with some layout, and the output gained that of the text
-abbrev pub GainsTableAsked : List (List ℕ) → Option (List ℕ) → Option (List ℕ) → Option (List ℕ) → Type 0
-GainsTableAsked words text old new = (layout : Layout) × MeanJust words (table layout) × GainsWholeTable layout text old new
+-- a page was printed: with status 0 the output has gained it, and nothing was told; else the output has failed, and
+-- one line was told, unless that failed too
+pub record IsPrinted {W E : Type 0} (contents : W → Option (List ℕ)) (has_failed : W → Bool) (told : E → Option (List ℕ)) (unheard : E → Bool)
+    (page : List ℕ) (status : ℕ) (given written : W) (before after : E) : Type 0 where
+  pub printed : status ≡ 0 → Appends (contents given) (contents written) page × (after ≡ before)
+  pub failed : status ≢ 0 → (has_failed written ≡ true) × (unheard after ≡ false → Appends (told before) (told after) PRINT_FAULT.now)
 
--- the words ask for help, and the output failed
-abbrev pub BreaksHelp : List (List ℕ) → Bool → Type 0
-BreaksHelp words failed = MeanJust words help × (failed ≡ true)
+-- tables were made: each source has ended as it should, the status is 0 exactly where all are whole, and standard error
+-- has gained the lines on them, unless it failed, and nothing where there are none
+pub record IsConverted {R W E : Type 0} (remaining : R → Option (List ℕ)) (contents : W → Option (List ℕ)) (has_failed is_flushed : W → Bool)
+    (own_mark : W → ℕ) (told : E → Option (List ℕ)) (unheard : E → Bool)
+    (task : Task) (status : ℕ) (sources : List R) (given written : List W) (before after : E) : Type 0 where
+  pub report : Report W
+  pub settled : IsReport remaining contents has_failed is_flushed own_mark task.layout sources given report
+  pub outputs : written ≡ report.outputs.items
+  pub complete : (status ≡ 0) ↔ (report.verdict ≡ Complete)
+  pub lines : unheard after ≡ false → Appends (told before) (told after) (lines_from task.summary 1 report.ends.items)
+  pub quiet : status ≡ 0 → task.summary ≡ false → after ≡ before
 
--- they ask for such a table, and where the output has not failed it gained a front of it, or nothing
-abbrev pub BreaksTableAsked : List (List ℕ) → Option (List ℕ) → Bool → Option (List ℕ) → Option (List ℕ) → Type 0
-BreaksTableAsked words text failed old new =
-    (layout : Layout) × MeanJust words (table layout) × (failed ≡ false → ∥ Gains old new (ArePartOfTable layout text) ∥₁)
-
--- the line that tells a cause: source 1: cause 6
-abbrev pub cause_line : Cause → List ℕ
-cause_line cause = codes "source 1: cause " ++ (decimal (cause_number cause) ++ 10 ∷ [])
-
--- a cause that a broken table may have: BadHeader only where the text, if its bytes are known, has no accepted header,
--- and TooManyRecords only where it has too many records; SinkFault only where the output has failed, and another
--- only where it has failed no more than before; and no thread was wanted
-pub record MayBreak (delimiter : ℕ) (text : Option (List ℕ)) (failed_before failed : Bool) (why : Cause) : Type 0 where
-  pub header : why ≡ cause.BadHeader → IfSome text (λ bytes. HasNoHeader delimiter bytes)
-  pub records : why ≡ cause.TooManyRecords → ∥ IfSome text (λ bytes. HasTooMany delimiter bytes) ∥₁
-  pub sink : why ≡ cause.SinkFault → failed ≡ true
-  pub others : why ≢ cause.SinkFault → failed ≡ failed_before
-  pub never : (why ≢ cause.NoThread) × (why ≢ cause.Unconfirmed)
-
--- the line of such a cause was written
-abbrev pub TellsCause : ℕ → Option (List ℕ) → Bool → Bool → Option (List ℕ) → Option (List ℕ) → Type 0
-TellsCause delimiter text failed_before failed old new =
-    (why : Cause) × MayBreak delimiter text failed_before failed why × Appends old new (cause_line why)
-
--- the words ask for help, and the line was written that it could not be printed
-abbrev pub TellsHelpBroken : List (List ℕ) → Option (List ℕ) → Option (List ℕ) → Type 0
-TellsHelpBroken words old new = MeanJust words help × Appends old new HELP_FAULT.now
-
--- the words ask for a table, and the line was written with the cause why it broke off
-abbrev pub TellsTableBroken : List (List ℕ) → Option (List ℕ) → Bool → Bool → Option (List ℕ) → Option (List ℕ) → Type 0
-TellsTableBroken words text failed_before failed old new =
-    (layout : Layout) × MeanJust words (table layout) × TellsCause layout.delimiter text failed_before failed old new
+-- the words ask for the tables of files: these were opened and made, and then converted
+pub record AreConverted {R W E : Type 0} (remaining : R → Option (List ℕ)) (contents : W → Option (List ℕ)) (has_failed is_flushed : W → Bool)
+    (own_mark : W → ℕ) (told : E → Option (List ℕ)) (unheard : E → Bool) (IsOpened : List ℕ → R → Type 0) (IsMade : List ℕ → ℕ → W → Type 0)
+    (task : Task) (status : ℕ) (written : List W) (before after : E) : Type 0 where
+  pub sources : List R
+  pub given : List W
+  pub opened : AreOpened IsOpened task.files sources
+  pub made : AreMade IsMade task.files given
+  pub converted : IsConverted remaining contents has_failed is_flushed own_mark told unheard task status sources given written before after
 
 -- something is wrong with the words
 abbrev pub AreWrong : List (List ℕ) → Type 0

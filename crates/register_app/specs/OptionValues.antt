@@ -1,11 +1,12 @@
 -- What the values of the options mean.
-use Rattle.std.specs.Prelude.{◌≡◌, ◌≢◌, ◌↔◌, ◌⊎◌, ◌==◌, ◌++◌, ℕ, List, [], ◌∷◌, codes, ⊤, Contains, Result, Ok, Err}
+use Rattle.std.specs.Prelude.{◌≡◌, ◌≢◌, ◌↔◌, ◌⊎◌, ◌==◌, ◌++◌, ◌≤◌, ℕ, List, [], ◌∷◌, codes, length, ⊤, Contains, Result, Ok, Err}
 use Rattle.std.specs.List.{slice_split}
+use Rattle.std.specs.Str.Parse.{IsNumeral, digits_value}
 use Rattle.date_texts.specs.Calendars.{target_name}
 use Rattle.date_texts.specs.Names.{IsNamed}
 use Rattle.date_texts.specs.declared.calendar.Target.{Target}
 use Rattle.register_records.specs.SetupRules.{NamesTwice}
-use Rattle.register_app.specs.Faults.{Fault, usage, unknown_target, target_twice, unknown_delimiter}
+use Rattle.register_app.specs.Faults.{Fault, unknown_target, target_twice}
 
 -- the names in a list: what stands between its commas (44)
 abbrev pub names_in : List ℕ → List (List ℕ)
@@ -48,10 +49,9 @@ IsFirstTwice list target =
 
 -- what is wrong with a list
 abbrev pub IsListFault : List ℕ → Fault → Type 0
-IsListFault list (usage kind) = ⊥
 IsListFault list (unknown_target name) = IsFirstUnknown list name
 IsListFault list (target_twice target) = IsFirstTwice list target
-IsListFault list (unknown_delimiter word) = ⊥
+IsListFault list _ = ⊥
 
 -- what a list means: the targets that it asks for, or what is wrong with it
 abbrev pub ListMeans : List ℕ → Result (List Target) Fault → Type 0
@@ -66,3 +66,11 @@ ListMeansJust list meaning = (other : Result (List Target) Fault) → (other ≡
 abbrev pub IsDelimiterWord : List ℕ → ℕ → Type 0
 IsDelimiterWord word byte =
     ((word ≡ codes "comma") × (byte ≡ 44)) ⊎ ((word ≡ codes "semicolon") × (byte ≡ 59)) ⊎ ((word ≡ codes "tab") × (byte ≡ 9))
+
+-- the word is one to five decimal digits, which write the number n, and n is from 1 to `most`
+pub record IsNumberWord (most : ℕ) (word : List ℕ) (n : ℕ) : Type 0 where
+  pub few : length word ≤ 5
+  pub digits : IsNumeral 10 word
+  pub value : n ≡ digits_value 10 word
+  pub some : 1 ≤ n
+  pub no_more : n ≤ most

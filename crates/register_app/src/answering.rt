@@ -1,53 +1,73 @@
 //! What the program answers.
 
-ghost use Rattle.std.specs.Prelude.{◌≡◌, ◌≢◌, ◌≤◌, ◌⊎◌, ◌↔◌, true, false, map};
+ghost use Rattle.std.specs.Prelude.{◌≡◌, ◌≢◌, ◌≤◌, ◌⊎◌, ◌↔◌, ℕ, List, [], ◌∷◌, All, true, false, map, length, vec_len};
 ghost use Rattle.std.specs.Io.KnownBytes.{Appends};
 ghost use Rattle.std.specs.String.{string_bytes};
-ghost use Rattle.register_app.specs.Answers.{AreWrong, BreaksHelp, BreaksTableAsked, GainsHelp, GainsTableAsked, GainsWholeTable, TellsCause, TellsHelpBroken, TellsTableBroken, cause_line};
-ghost use Rattle.register_app.specs.Requests.{refusal_status};
-ghost use Rattle.register_records.specs.Views.{delimiter_of, layout_of};
-ghost use Rattle.register_records.specs.Sources.{ArePartOfTable, Gains};
+ghost use Rattle.register_app.specs.Answers.{AreConverted, AreWrong, AskForPage, IsConverted, IsPrinted, version_line};
+ghost use Rattle.register_records.specs.Sources.{is_whole_end};
+ghost use Rattle.register_app.specs.Reports.{lines_from};
+ghost use Rattle.register_app.specs.Requests.{MeanJust, Task, refusal_status, table, task_of};
 
-use crate::help::{HELP, HELP_FAULT};
+use crate::help::{HELP, PRINT_FAULT};
+use crate::opening::{Opened, open_files};
+use crate::places::Places;
 use crate::refusals::Refusal;
-use crate::requests::{Request, read_request};
+use crate::requests::{Job, Request, VERSION, read_request};
+use crate::telling::tell_ends;
 use arrayvec::ArrayString;
-use itoa::Buffer;
-use register_records::{Cause, Output, Setup, SourceEnd, convert_source, send};
+use register_records::{Output, send};
+use register_run::{Report, Verdict, run};
 use std::alloc::Global;
 use std::io::Read;
+use std::sync::Wait;
+use std::thread::Threads;
 
-/// The whole text was converted, refused records included, or the help was printed.
+/// All texts were converted, refused records included, or a page was printed.
 const COMPLETE: u8 = 0;
 
-/// The conversion broke off, or the help could not be printed.
+/// The conversion of a text broke off, or a page could not be printed.
 const INCOMPLETE: u8 = 1;
 
 /// There was no memory before the run.
 const OUT_OF_MEMORY: u8 = 3;
 
-/// The line that tells the cause of a broken source.
-fn line_of_cause(cause: Cause) -> ArrayString<24>
-    ensures { result.bytes ≡ cause_line cause }
+/// What the program answers.
+#[derive(Drop)]
+pub struct Answered<W> {
+    /// The exit status.
+    pub status: u8,
+    /// Standard output, as it was left.
+    pub output: W,
+    /// The outputs of the files, as they were left.
+    pub outputs: Vec<W>,
+}
+
+/// How a run has ended: the status, and the outputs in the order of the sources.
+#[derive(Drop)]
+struct Ran<W> {
+    status: u8,
+    outputs: Vec<W>,
+}
+
+/// The line that tells the version.
+fn version_line_text() -> ArrayString<32>
+    ensures { result.bytes ≡ version_line }
 {
     let mut line = ArrayString::new();
-    line.push_str("source 1: cause ");
-    line.push_str(Buffer::new().format(cause.number()));
+    line.push_str("register ");
+    line.push_str(VERSION);
     line.push_str("\n");
     line
 }
 
-/// Writes the line with the cause of a broken source. A fault of `errors` is let go: there is nowhere else
-/// to tell it.
-fn tell_cause<E: Output>(errors: &mut E, cause: Cause)
-    ensures told { E.has_failed errors.new ≡ false → Appends (E.contents errors.old) (E.contents errors.new) (cause_line cause) }
+/// Tells that there was no memory. A fault of `errors` is let go: there is nowhere else to tell it.
+fn tell_out_of_memory<E: Output>(errors: &mut E)
     ensures mark { E.own_mark errors.new ≡ E.own_mark errors.old }
 {
-    let _ = send(errors, line_of_cause(cause).as_bytes());
+    let _ = send(errors, b"register: out of memory\n");
 }
 
-/// Tells why the words ask for nothing, and gives the exit status. A fault of `errors` is let go: there is
-/// nowhere else to tell it.
+/// Tells why nothing is done, and gives the exit status. A fault of `errors` is let go, as above.
 fn tell_refusal<E: Output>(alloc: Global, errors: &mut E, refusal: &Refusal<'_>) -> u8
     ensures status { (result ≡ 3) ⊎ (result ≡ refusal_status refusal.now) }
     ensures mark { E.own_mark errors.new ≡ E.own_mark errors.old }
@@ -62,107 +82,225 @@ fn tell_refusal<E: Output>(alloc: Global, errors: &mut E, refusal: &Refusal<'_>)
             refusal.status()
         }
         Err(_) => {
-            let _ = send(errors, b"register: out of memory\n");
+            tell_out_of_memory(errors);
             OUT_OF_MEMORY
         }
     }
 }
 
-/// Prints the help.
-fn print_help<W: Output, E: Output>(output: W, errors: &mut E) -> (u8, W)
-    ensures printed { result.0 ≡ 0 → Appends (W.contents output) (W.contents result.1) HELP.now }
-    ensures quiet { result.0 ≡ 0 → errors.new ≡ errors.old }
-    ensures broken { result.0 ≢ 0 → (result.0 ≡ 1) × (W.has_failed result.1 ≡ true) }
-    ensures told { result.0 ≢ 0 → E.has_failed errors.new ≡ false → Appends (E.contents errors.old) (E.contents errors.new) HELP_FAULT.now }
-    ensures mark { W.own_mark result.1 ≡ W.own_mark output }
-    ensures errors_mark { E.own_mark errors.new ≡ E.own_mark errors.old }
+/// Answers that nothing is done.
+fn refuse<W: Output, E: Output>(alloc: Global, output: W, errors: &mut E, refusal: &Refusal<'_>) -> Answered<W>
+    ensures status { (result.status ≡ 3) ⊎ (result.status ≡ refusal_status refusal.now) }
+    ensures untouched { result.output ≡ output }
+    ensures none { result.outputs.items ≡ [] }
+    ensures mark { E.own_mark errors.new ≡ E.own_mark errors.old }
 {
-    let mut output = output;
-    if send(&mut output, HELP.as_bytes()).is_err() {
-        let _ = send(errors, HELP_FAULT.as_bytes());
-        return (INCOMPLETE, output);
+    Answered {
+        status: tell_refusal(alloc, errors, refusal),
+        output,
+        outputs: Vec::new(alloc),
     }
-    (COMPLETE, output)
 }
 
-/// Converts the text that `input` gives.
-fn convert_text<R: Read + Drop, W: Output, E: Output>(
-    alloc: Global,
-    input: R,
-    output: W,
-    errors: &mut E,
-    setup: &Setup,
-) -> (u8, W)
-    ensures whole { result.0 ≡ 0 → GainsWholeTable (layout_of setup.now) (R.remaining input)
-        (W.contents output) (W.contents result.1) }
-    ensures quiet { result.0 ≡ 0 → errors.new ≡ errors.old }
-    ensures broken { result.0 ≡ 1 → W.has_failed result.1 ≡ false → ∥ Gains (W.contents output) (W.contents result.1)
-        (ArePartOfTable (layout_of setup.now) (R.remaining input)) ∥₁ }
-    ensures told { result.0 ≡ 1 → E.has_failed errors.new ≡ false
-        → TellsCause (delimiter_of setup.now) (R.remaining input) (W.has_failed output) (W.has_failed result.1)
-        (E.contents errors.old) (E.contents errors.new) }
-    ensures statuses { (result.0 ≡ 0) ⊎ (result.0 ≡ 1) }
-    ensures mark { W.own_mark result.1 ≡ W.own_mark output }
+/// Prints a page.
+fn print_page<W: Output, E: Output>(alloc: Global, page: &str, output: W, errors: &mut E) -> Answered<W>
+    ensures printed { IsPrinted W.contents W.has_failed E.contents E.has_failed page.now result.status output result.output errors.old errors.new }
+    ensures statuses { (result.status ≡ 0) ⊎ (result.status ≡ 1) }
+    ensures none { result.outputs.items ≡ [] }
+    ensures mark { W.own_mark result.output ≡ W.own_mark output }
     ensures errors_mark { E.own_mark errors.new ≡ E.own_mark errors.old }
 {
     let mut output = output;
-    match convert_source(alloc, input, &mut output, setup) {
-        SourceEnd::Whole { .. } => (COMPLETE, output),
-        SourceEnd::Broken { cause } => {
-            tell_cause(errors, cause);
-            (INCOMPLETE, output)
+    let status = if send(&mut output, page.as_bytes()).is_ok() {
+        COMPLETE
+    } else {
+        let _ = send(errors, PRINT_FAULT.as_bytes());
+        INCOMPLETE
+    };
+    Answered {
+        status,
+        output,
+        outputs: Vec::new(alloc),
+    }
+}
+
+/// Tells how the sources of a run have ended, and gives the status. Where all are whole and no summary is asked for,
+/// there is nothing to tell.
+fn tell_report<W, E: Output>(errors: &mut E, summary: bool, report: &Report<W>) -> u8
+    requires verdict { (report.now.verdict ≡ Verdict.Complete) ↔ All (λ e. is_whole_end e ≡ true) report.now.ends.items }
+    ensures complete { (result ≡ 0) ↔ (report.now.verdict ≡ Verdict.Complete) }
+    ensures lines { E.has_failed errors.new ≡ false
+        → Appends (E.contents errors.old) (E.contents errors.new) (lines_from summary 1 report.now.ends.items) }
+    ensures quiet { result ≡ 0 → summary ≡ false → errors.new ≡ errors.old }
+    ensures statuses { (result ≡ 0) ⊎ (result ≡ 1) }
+    ensures mark { E.own_mark errors.new ≡ E.own_mark errors.old }
+{
+    match report.verdict {
+        Verdict::Incomplete => {
+            tell_ends(errors, summary, report.ends.as_slice());
+            INCOMPLETE
+        }
+        Verdict::Complete => {
+            if summary {
+                tell_ends(errors, summary, report.ends.as_slice());
+            }
+            COMPLETE
         }
     }
 }
 
-/// Answers the program's words: prints the help, or reads a text from `input` and writes its table to
-/// `output`; writes to `errors` what went wrong; and gives the exit status and the output back.
+/// Converts the sources, each to the output at its place, and tells how they have ended. There are no more sources
+/// than a run takes, and as many outputs, so that only want of memory keeps a run from its beginning.
+fn convert<T: Threads + Wait + Sync, R: Read + Send + Drop, W: Output + Drop, E: Output>(
+    rt: &T,
+    alloc: Global,
+    sources: Vec<R>,
+    outputs: Vec<W>,
+    errors: &mut E,
+    job: &Job<'_>,
+) -> Ran<W>
+    ensures converted { result.status ≢ 3 → IsConverted R.remaining W.contents W.has_failed W.is_flushed W.own_mark E.contents E.has_failed
+        (task_of job.now) result.status sources.items outputs.items result.outputs.items errors.old errors.new }
+    ensures untouched { result.status ≡ 3 → result.outputs.items ≡ outputs.items }
+    ensures len { vec_len result.outputs ≡ vec_len outputs }
+    ensures statuses { (result.status ≡ 0) ⊎ (result.status ≡ 1) ⊎ (result.status ≡ 3) }
+    ensures mark { E.own_mark errors.new ≡ E.own_mark errors.old }
+{
+    match run(rt, alloc, sources, outputs, &job.setup) {
+        Ok(report) => {
+            let status = tell_report(errors, job.summary, &report);
+            Ran {
+                status,
+                outputs: report.outputs,
+            }
+        }
+        Err(fault) => {
+            tell_out_of_memory(errors);
+            Ran {
+                status: OUT_OF_MEMORY,
+                outputs: fault.outputs,
+            }
+        }
+    }
+}
+
+/// Converts the text that standard input gives.
+fn convert_input<T: Threads + Wait + Sync, R: Read + Send + Drop, W: Output + Drop, E: Output>(
+    rt: &T,
+    alloc: Global,
+    input: R,
+    output: W,
+    errors: &mut E,
+    job: &Job<'_>,
+) -> Answered<W>
+    ensures converted { result.status ≢ 3 → IsConverted R.remaining W.contents W.has_failed W.is_flushed W.own_mark E.contents E.has_failed
+        (task_of job.now) result.status (input ∷ []) (output ∷ []) (result.output ∷ []) errors.old errors.new }
+    ensures untouched { result.status ≡ 3 → result.output ≡ output }
+    ensures none { result.outputs.items ≡ [] }
+    ensures statuses { (result.status ≡ 0) ⊎ (result.status ≡ 1) ⊎ (result.status ≡ 3) }
+    ensures mark { W.own_mark result.output ≡ W.own_mark output }
+    ensures errors_mark { E.own_mark errors.new ≡ E.own_mark errors.old }
+{
+    let Ok(mut sources) = Vec::with_capacity(alloc, 1) else {
+        return refuse(alloc, output, errors, &Refusal::OutOfMemory);
+    };
+    let Ok(mut outputs) = Vec::with_capacity(alloc, 1) else {
+        return refuse(alloc, output, errors, &Refusal::OutOfMemory);
+    };
+    sources.push_reserved(input);
+    outputs.push_reserved(output);
+    let Ran {
+        status,
+        mut outputs,
+    } = convert(rt, alloc, sources, outputs, errors, job);
+    let Some(output) = outputs.pop() else {
+        unreachable!()
+    };
+    Answered {
+        status,
+        output,
+        outputs,
+    }
+}
+
+/// Converts files.
+fn convert_files<T: Threads + Wait + Sync, R: Read + Send + Drop, W: Output + Drop, P: Places<R, W>, E: Output>(
+    rt: &T,
+    alloc: Global,
+    output: W,
+    places: &P,
+    errors: &mut E,
+    job: &Job<'_>,
+) -> Answered<W>
+    requires few { length job.now.files.items ≤ 32 }
+    ensures converted { result.status ≢ 3 → AreConverted R.remaining W.contents W.has_failed W.is_flushed W.own_mark E.contents E.has_failed
+        (P.is_opened places.now) (P.is_made places.now) (task_of job.now) result.status result.outputs.items errors.old errors.new }
+    ensures untouched { result.output ≡ output }
+    ensures statuses { (result.status ≡ 0) ⊎ (result.status ≡ 1) ⊎ (result.status ≡ 3) }
+    ensures errors_mark { E.own_mark errors.new ≡ E.own_mark errors.old }
+{
+    let Opened { sources, outputs } = match open_files(alloc, places, job.files.as_slice()) {
+        Ok(opened) => opened,
+        Err(refusal) => return refuse(alloc, output, errors, &refusal),
+    };
+    let Ran { status, outputs } = convert(rt, alloc, sources, outputs, errors, job);
+    Answered {
+        status,
+        output,
+        outputs,
+    }
+}
+
+/// Answers the program's words: prints a page, or converts the text that `input` gives to `output`, or converts each
+/// file named to its own output; tells `errors` what went wrong; and gives the exit status and the outputs back.
 ///
 /// The status is
 ///
-/// - 0 where the whole text was converted, refused records included, or the help was printed;
-/// - 1 where the conversion broke off, with the line `source 1: cause C`, or the help could not be printed;
+/// - 0 where all texts were converted, refused records included, or a page was printed;
+/// - 1 where a conversion broke off, with the line `source N: cause C` for each such source in order, or the page
+///   could not be printed;
 /// - 2 where the words were refused, with one line of the program's own or the text of clap;
-/// - 3 where there was no memory before the run, with the line `register: out of memory`.
+/// - 3 where a file could not be opened or made, or there was no memory before the run, with one line.
 ///
-/// Nothing is read where the status is 2 or 3, or where the words ask for help. A fault of `errors` changes
-/// neither the status nor the output.
-pub fn answer<R: Read + Drop, W: Output, E: Output>(
+/// Nothing is read where the status is 2 or 3, or where the words ask for a page. A fault of `errors` changes
+/// neither the status nor the outputs.
+pub fn answer<T: Threads + Wait + Sync, R: Read + Send + Drop, W: Output + Drop, P: Places<R, W>, E: Output>(
+    rt: &T,
     alloc: Global,
     words: &[String],
     input: R,
     output: W,
+    places: &P,
     errors: &mut E,
-) -> (u8, W)
-    // The words ask for help and the output has gained it, or they ask for a table and the output has gained
-    // the table of the text by the targets and the delimiter asked, and nothing else.
-    ensures whole { result.0 ≡ 0
-        → GainsHelp (map string_bytes words.now) (W.contents output) (W.contents result.1)
-        ⊎ GainsTableAsked (map string_bytes words.now) (R.remaining input) (W.contents output) (W.contents result.1) }
-    ensures quiet { result.0 ≡ 0 → errors.new ≡ errors.old }
+) -> Answered<W>
+    // The words ask for a page, which was printed; or for the table of standard input; or for those of files.
+    ensures answered { result.status ≤ 1
+        → ((page : List ℕ) × AskForPage (map string_bytes words.now) page
+            × IsPrinted W.contents W.has_failed E.contents E.has_failed page result.status output result.output errors.old errors.new)
+        ⊎ ((task : Task) × MeanJust (map string_bytes words.now) (table task) × (task.files ≡ [])
+            × IsConverted R.remaining W.contents W.has_failed W.is_flushed W.own_mark E.contents E.has_failed
+            task result.status (input ∷ []) (output ∷ []) (result.output ∷ []) errors.old errors.new)
+        ⊎ ((task : Task) × MeanJust (map string_bytes words.now) (table task) × (task.files ≢ []) × (result.output ≡ output)
+            × AreConverted R.remaining W.contents W.has_failed W.is_flushed W.own_mark E.contents E.has_failed
+            (P.is_opened places.now) (P.is_made places.now) task result.status result.outputs.items errors.old errors.new) }
 
-    // They ask for help and the output has failed, or they ask for a table and the output, where it has not
-    // failed, has gained a front of that table, or nothing.
-    ensures broken { result.0 ≡ 1
-        → BreaksHelp (map string_bytes words.now) (W.has_failed result.1)
-        ⊎ BreaksTableAsked (map string_bytes words.now) (R.remaining input) (W.has_failed result.1) (W.contents output) (W.contents result.1) }
-
-    // Unless it failed, `errors` has gained the one line that says so, with a cause that the break may have.
-    ensures told { result.0 ≡ 1 → E.has_failed errors.new ≡ false
-        → TellsHelpBroken (map string_bytes words.now) (E.contents errors.old) (E.contents errors.new)
-        ⊎ TellsTableBroken (map string_bytes words.now) (R.remaining input) (W.has_failed output) (W.has_failed result.1)
-        (E.contents errors.old) (E.contents errors.new) }
-
-    // Unless there was no memory, words are refused exactly where something is wrong with them.
-    ensures refused { result.0 ≢ 3 → (result.0 ≡ 2) ↔ AreWrong (map string_bytes words.now) }
-    ensures untouched { 2 ≤ result.0 → result.1 ≡ output }
-    ensures statuses { result.0 ≤ 3 }
-    ensures mark { W.own_mark result.1 ≡ W.own_mark output }
+    // Unless the status is 3, words are refused exactly where something is wrong with them.
+    ensures refused { result.status ≢ 3 → (result.status ≡ 2) ↔ AreWrong (map string_bytes words.now) }
+    ensures untouched { 2 ≤ result.status → result.output ≡ output }
+    ensures statuses { result.status ≤ 3 }
+    ensures mark { W.own_mark result.output ≡ W.own_mark output }
     ensures errors_mark { E.own_mark errors.new ≡ E.own_mark errors.old }
 {
     match read_request(alloc, words) {
-        Ok(Request::Help) => print_help(output, errors),
-        Ok(Request::Convert(setup)) => convert_text(alloc, input, output, errors, &setup),
-        Err(refusal) => (tell_refusal(alloc, errors, &refusal), output),
+        Ok(Request::Help) => print_page(alloc, HELP, output, errors),
+        Ok(Request::Version) => print_page(alloc, version_line_text().as_str(), output, errors),
+        Ok(Request::Convert(job)) => {
+            if job.files.is_empty() {
+                convert_input(rt, alloc, input, output, errors, &job)
+            } else {
+                convert_files(rt, alloc, output, places, errors, &job)
+            }
+        }
+        Err(refusal) => refuse(alloc, output, errors, &refusal),
     }
 }

@@ -1,13 +1,15 @@
-// The page of help.
+//! The page of help.
 
 /// What `--help` prints: what goes in, what comes out, the calendars, the options, the refusals and how a
 /// run ends.
 pub const HELP: &str = "register converts the dates of historical registers.
 
-Usage: register [--to LIST] [--delimiter comma|semicolon|tab] < TEXT > TABLE
+Usage: register [OPTIONS] [FILE..]
 
-It reads a CSV text from standard input and writes a CSV table to standard
-output, one row for each record, in order.
+It reads a CSV text, converts the date of each record, and writes a CSV table
+with one row for each record, in order. Each FILE, up to 32, is a register;
+its table is FILE with .out.csv at the end, and replaces a file of that name.
+Without FILE it reads standard input and writes standard output.
 
 What goes in: UTF-8 text. Its first record is the header
 
@@ -15,39 +17,27 @@ What goes in: UTF-8 text. Its first record is the header
 
 and each further record has an id of your own of up to 40 bytes, the name of
 a calendar, and a date in that calendar. Letter case and spaces round the
-names do not matter.
+names do not matter. How dates are written:
 
-Calendars and how their dates are written:
+    1945-11-12     gregorian, julian, coptic, ethiopic, egyptian, armenian,
+                   islamic, hebrew, french: year, month, day; or -44-3-15
+    2004-W53-6     iso: year, week, weekday from 1 for Monday
+    12.16.11.16.9  longcount: five numbers
+    1945-11-K3     roman: year, month and name
 
-    gregorian  iso  julian  coptic  ethiopic  egyptian  armenian  islamic
-    hebrew  longcount  french  roman
-
-    year-month-day, as 1945-11-12 or -44-3-15; for iso year-Wweek-weekday,
-    as 2004-W53-6; for longcount five numbers, as 12.16.11.16.9; for roman
-    year-month-name, the name K, N or I with a count of days back from those
-    Kalends, Nones or Ides, or K6B, as 1945-11-K3. Gregorian and iso years
-    have a year 0; the Julian and Roman year before 1 is -1; the others
-    begin with year 1. Hebrew months are numbered from Nisan.
+Gregorian and iso years have a year 0; in julian and roman the year before 1
+is -1; the others begin with year 1. Hebrew month 1 is Nisan. A Roman name is
+K, N or I and a count of days back from those Kalends, Nones or Ides, or K6B.
+French and Islamic dates go by arithmetic: against the calendar as it was
+used, French years 4, 8, 12 are a day early, Islamic days may be 1 or 2 off.
 
 What comes out: for each record its row number, its three fields, the fixed
 day number (rd; day 1 is Monday, 1 January of the Gregorian year 1), the
-weekday, the same day in each calendar asked for, and the refusal. A day
-before a calendar's first day has an empty field there.
+weekday, and the same day in each calendar asked for; a day before the first
+day of a calendar has an empty field there. The last column is empty where
+the date was converted. Else it has the first reason why it was not:
 
-Options:
-
-    --to LIST         the columns: calendars of the list above, haab and
-                      tzolkin, separated by commas, in the order wanted; or
-                      the word none. Without it: all of them, in the order
-                      above, then haab and tzolkin.
-    --delimiter WORD  what stands between two fields, in the text and in the
-                      table: comma, semicolon or tab. Without it: comma.
-    -h, --help        print this page and read nothing.
-
-The last column is empty where the record was accepted. Else it has the
-number of the first reason that applies why the record was refused:
-
-    1  it has not three fields
+    1  the record has not three fields
     2  its id is over 40 bytes, its calendar over 16 or its date over 32
     3  a field is not UTF-8
     4  no calendar has the name
@@ -55,20 +45,41 @@ number of the first reason that applies why the record was refused:
     6  the calendar has no such date
     7  the day lies outside the Gregorian years -9999 to 9999
 
+Options:
+
+    --to LIST         the columns, in the order wanted, separated by commas:
+                      gregorian, iso, julian, coptic, ethiopic, egyptian,
+                      armenian, islamic, hebrew, longcount, french, roman,
+                      haab, tzolkin; or the word none. Without it: all.
+    --delimiter WORD  what stands between two fields, in text and table:
+                      comma, semicolon or tab. Without it: comma.
+    --summary         report on standard error, for each whole table, its
+                      rows and how many were refused by each number.
+    --ring N          how many records may wait between two threads, 1 to
+                      4096. Without it: 16.
+    --stripes N       how many threads convert each register, 1 to 4.
+                      Without it: 1. Neither N changes a table.
+    -h, --help        print this page and read nothing.
+    -V, --version     print the version and read nothing.
+
 Exit status:
 
-    0  the whole text was converted, refused records included
-    1  the conversion broke off; standard error has the line
-       source 1: cause C
+    0  every register was converted to its end, refused records included
+    1  a register broke off: for each, standard error has the line
+       source N: cause C
     2  the command line was refused; standard error says why
-    3  there was no memory to begin with
+    3  a file could not be opened or made, or out of memory at the start
 
-What stands in the table after status 1 is right as far as it goes. Causes:
+What stands in a table after status 1 is right as far as it goes; after
+cause 4 its last line may be cut. Causes:
 
-    1  there was no memory left
-    4  the output could not be written
-    5  the input could not be read
-    6  the header is missing or another one; nothing is written
+    1  out of memory
+    2  a thread could not be started
+    3  not every row could be confirmed, which should never happen
+    4  the table could not be written
+    5  the register could not be read
+    6  the header is missing or is not id,calendar,date; nothing is written.
+       It may be another delimiter, UTF-16, a title line or more columns.
     7  there are more than 1,000,000 records; the first 1,000,000 are there
 
 Example: the text
@@ -82,5 +93,5 @@ gives by register --to gregorian the table
     1,b,julian,1582-10-05,577736,Friday,1582-10-15,
 ";
 
-/// The line that is told where the help could not be printed.
-pub const HELP_FAULT: &str = "register: cannot print the help\n";
+/// The line that is told where a page could not be printed.
+pub const PRINT_FAULT: &str = "register: cannot write to standard output\n";

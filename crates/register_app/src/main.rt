@@ -1,19 +1,25 @@
-//! The program `register`: converts the dates of a historical register.
+//! The program `register`: converts the dates of historical registers.
 //!
-//! It reads a CSV text from standard input and writes its table to standard output, with the day of each
-//! record in the calendars that the words ask for.
+//! It reads CSV texts, from files or from standard input, and writes a table of each, with the day of each record in the
+//! calendars that the words ask for.
 #![tactic(auto)]
 
 mod answering;
+mod disk;
 mod help;
+mod opening;
 mod option_values;
+mod places;
 mod refusals;
 mod requests;
+mod telling;
 
 use answering::answer;
+use disk::{Disk, Sink, Source};
 use register_records::PlainOutput;
+use std::fs::OpenOptions;
 use std::process::ExitCode;
-use std::rt::Env;
+use std::rt::{Env, Files};
 use std::{env, io};
 
 /// The words after the program's name.
@@ -32,21 +38,32 @@ fn unread_words(rt: &impl Eprint, error: &io::Error) -> ExitCode {
     ExitCode::from(2)
 }
 
+/// Opens a file that has no bytes. The system gives it the first free number.
+fn open_nothing<R: Files>(rt: &R) -> Option<R::File> {
+    OpenOptions::new().read(true).open(rt, "/dev/null").ok()
+}
+
 fn main(rt: HostRuntime) -> ExitCode {
+    // A standard stream that is closed leaves its number, 0, 1 or 2, free. It is taken here, so that no file that the
+    // words name gets it: else what is meant for standard error could be written into a table.
+    let _streams = [open_nothing(&rt), open_nothing(&rt), open_nothing(&rt)];
     let words = match words_of(&rt) {
         Ok(words) => words,
         Err(error) => return unread_words(&rt, &error),
     };
-    let output = PlainOutput::new(rt.stdout(), 1);
+    let input = Source::Input(rt.stdin());
+    let output = PlainOutput::new(Sink::Output(rt.stdout()), 1);
     let mut errors = PlainOutput::new(rt.stderr(), 0);
-    let (status, _output) = answer(
+    let answered = answer(
+        &rt,
         rt.alloc(),
         words.as_slice(),
-        rt.stdin(),
+        input,
         output,
+        &Disk::new(&rt),
         &mut errors,
     );
-    ExitCode::from(status)
+    ExitCode::from(answered.status)
 }
 
 #[cfg(test)]

@@ -1,8 +1,8 @@
-// The values of the options.
+//! The values of the options.
 
 ghost use Rattle.std.specs.Prelude.{◌≡◌, ◌↔◌, ℕ, Some, Ok, Err, IfOk, IfErr, IfSome};
 ghost use Rattle.register_app.specs.Faults.{fault_told};
-ghost use Rattle.register_app.specs.OptionValues.{IsDelimiterWord, ListMeansJust};
+ghost use Rattle.register_app.specs.OptionValues.{IsDelimiterWord, IsNumberWord, ListMeansJust};
 
 use crate::refusals::Refusal;
 use date_texts::laws::one_target;
@@ -41,6 +41,23 @@ pub fn read_targets(alloc: Global, list: &str) -> Result<Vec<Target>, Refusal<'_
         }
     }
     Ok(targets)
+}
+
+/// The most digits of a number.
+const MAX_DIGITS: usize = 5;
+
+/// The number from 1 to `most` that a word of one to five decimal digits names, or `None` where it names
+/// none.
+pub fn number_named(word: &str, most: usize) -> Option<usize>
+    ensures { (n : ℕ) → (result ≡ Some n) ↔ IsNumberWord most word.now n }
+{
+    if word.len() > MAX_DIGITS || word.starts_with('+') {
+        return None;
+    }
+    match word.parse::<usize>() {
+        Ok(number) if 1 <= number && number <= most => Some(number),
+        _ => None,
+    }
 }
 
 /// The byte that a delimiter's word names, or `None` exactly where it is none of `comma`, `semicolon` and

@@ -1,11 +1,11 @@
-// Why the words ask for nothing.
+//! Why the words ask for nothing that is done.
 
 ghost use Rattle.std.specs.Prelude.{◌≡◌};
 
 use date_texts::Target;
 use thiserror::Error;
 
-/// Why the words ask for nothing that can be done: the first of these that applies.
+/// Why nothing is done: what is wrong with the words, or what was missing before the run.
 #[derive(Debug, Drop, Error)]
 pub enum Refusal<'a> {
     /// A growth of memory was refused.
@@ -20,20 +20,38 @@ pub enum Refusal<'a> {
     /// A target that is named at two places of the list.
     #[error("target named twice: {}", .0.name())]
     TargetTwice(Target),
+    /// A ring size that is no number from 1 to 4096 in one to five digits, as it was given.
+    #[error("bad ring size: {0}")]
+    BadRing(&'a str),
     /// A delimiter that is none of the three words, as it was given.
     #[error("unknown delimiter: {0}")]
     UnknownDelimiter(&'a str),
+    /// A number of stripes that is none from 1 to 4 in one to five digits, as it was given.
+    #[error("bad stripes: {0}")]
+    BadStripes(&'a str),
+    /// More than 32 files are named.
+    #[error("more than 32 files")]
+    TooManyFiles,
+    /// A file that is named at two places.
+    #[error("file named twice: {0}")]
+    FileTwice(&'a str),
+    /// A file that could not be opened.
+    #[error("cannot open {0}")]
+    CannotOpen(&'a str),
+    /// A file whose output could not be made.
+    #[error("cannot make {0}.out.csv")]
+    CannotMake(&'a str),
 }
 
 impl Refusal<'_> {
     ghost use Rattle.register_app.specs.Requests.{refusal_status};
 
-    /// The exit status: 3 for want of memory, and 2 for what is wrong with the words.
+    /// The exit status: 3 for want of memory and for files, and 2 for what is wrong with the words.
     pub fn status(&self) -> u8
         ensures { result ≡ refusal_status self.now }
     {
         match self {
-            Refusal::OutOfMemory => 3,
+            Refusal::OutOfMemory | Refusal::CannotOpen(_) | Refusal::CannotMake(_) => 3,
             _ => 2,
         }
     }

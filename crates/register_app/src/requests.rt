@@ -1,72 +1,164 @@
 //! What the words ask for.
 
-ghost use Rattle.std.specs.Prelude.{◌≡◌, IfOk, IfErr, IfSome, IsSomeAnd, map, codes, option_map, []};
+ghost use Rattle.std.specs.Prelude.{◌≡◌, ◌↔◌, ℕ, List, IfOk, IfErr, IfSome, IfNone, IsSomeAnd, OnOk, map, codes, option_map, unwrap_or, [], Some, true, false};
 ghost use Rattle.std.specs.String.{string_bytes};
-ghost use Rattle.clap.specs.Words.{HasKind, app_of, fault_of};
+ghost use Rattle.clap.specs.Words.{HasKind, all_of, app_of, fault_of, found_of, one_of, rows_of, rule_of};
 ghost use Rattle.register_app.specs.Faults.{fault_told};
-ghost use Rattle.register_app.specs.Requests.{AreTargetsOf, IsDelimiterFault, IsDelimiterOf, IsTargetFault, MeanJust, command_line, meaning_of, value_in, wrong};
+ghost use Rattle.register_app.specs.Requests.{AreFilesToConvert, AreTargetsOf, IsDelimiterFault, IsDelimiterOf, IsFileFault, IsFirstTwice, IsNamedTwice, IsRingFault, IsRingOf, IsStripesFault, IsStripesOf, IsSummaryAsked, IsTargetFault, MeanJust, bare_command, command_line, files_in, flag_rule, meaning_of, option_rule, value_in, word_rule, wrong};
 
-use crate::option_values::{delimiter_named, read_targets};
+use crate::option_values::{delimiter_named, number_named, read_targets};
 use crate::refusals::Refusal;
 use clap::error::ErrorKind;
-use clap::{Arg, Command};
+use clap::{Arg, ArgAction, ArgMatches, Command};
 use date_texts::Target;
 use date_texts::laws::{default_targets, one_target};
 use register_records::Setup;
 use std::alloc::{AllocError, Global};
 
-/// How many items a ring would hold; one source on one thread has none.
+/// The version of the program.
+pub const VERSION: &str = "1.0.0";
+
+/// How many items a ring holds where the words do not say.
 const RING: usize = 16;
 
-/// How many converters a source would have; on one thread it has none.
+/// The largest ring.
+const MAX_RING: usize = 4096;
+
+/// How many converters a source has where the words do not say.
 const STRIPES: usize = 1;
 
-/// What the words ask for.
-#[derive(Clone, Copy)]
-pub enum Request {
-    /// The page of help.
-    Help,
-    /// The table of a text, made by this setup.
-    Convert(Setup),
+/// The most converters of a source.
+const MAX_STRIPES: usize = 4;
+
+/// The most files of a command line.
+const MAX_FILES: usize = 32;
+
+/// A conversion that the words ask for.
+#[derive(Drop)]
+pub struct Job<'a> {
+    /// What is asked of each table and of the run.
+    pub setup: Setup,
+    /// Whether a summary is asked for.
+    pub summary: bool,
+    /// The files to convert, in order; with none, one text from standard input.
+    pub files: Vec<&'a str>,
 }
 
-/// The values of the options, where the words have them.
-#[derive(Clone, Copy)]
+/// What the words ask for.
+#[derive(Drop)]
+pub enum Request<'a> {
+    /// The page of help.
+    Help,
+    /// The version of the program.
+    Version,
+    /// A conversion.
+    Convert(Job<'a>),
+}
+
+/// The values of the options and the files, as the words have them.
+#[derive(Drop)]
 struct Options<'a> {
     to: Option<&'a str>,
+    ring: Option<&'a str>,
+    stripes: Option<&'a str>,
     delimiter: Option<&'a str>,
+    summary: bool,
+    files: Vec<&'a str>,
+}
+
+/// An option that takes a value.
+fn option<'a>(alloc: Global, name: &'a str, value: &'a str) -> Arg<'a>
+    ensures rule { rule_of result ≡ option_rule name.entry.now }
+    ensures local { result.global ≡ false }
+{
+    Arg::new(alloc, name).long(name).value_name(value)
+}
+
+/// A flag.
+fn flag<'a>(alloc: Global, name: &'a str) -> Arg<'a>
+    ensures rule { rule_of result ≡ flag_rule name.entry.now }
+    ensures local { result.global ≡ false }
+{
+    Arg::new(alloc, name).long(name).action(ArgAction::SetTrue)
+}
+
+/// Words that are no options, as many as there are.
+fn words_alone<'a>(alloc: Global, name: &'a str, value: &'a str) -> Arg<'a>
+    ensures rule { rule_of result ≡ word_rule name.entry.now }
+    ensures local { result.global ≡ false }
+{
+    Arg::new(alloc, name)
+        .value_name(value)
+        .action(ArgAction::Append)
+}
+
+/// The command with none of its options.
+fn bare<'a>(alloc: Global) -> Command<'a>
+    ensures { app_of result ≡ bare_command }
+{
+    Command::new(alloc, "register")
+        .version(VERSION)
+        .no_binary_name(true)
 }
 
 /// The command line, as clap reads it.
 fn command<'a>(alloc: Global) -> Result<Command<'a>, AllocError>
     ensures { IfOk result (λ c. app_of c ≡ command_line) }
 {
-    let to = Arg::new(alloc, "to").long("to").value_name("LIST");
-    let delimiter = Arg::new(alloc, "delimiter")
-        .long("delimiter")
-        .value_name("comma|semicolon|tab");
-    Command::new(alloc, "register")
-        .no_binary_name(true)
-        .arg(to)?
-        .arg(delimiter)
+    bare(alloc)
+        .arg(option(alloc, "to", "LIST"))?
+        .arg(option(alloc, "ring", "N"))?
+        .arg(option(alloc, "stripes", "N"))?
+        .arg(option(alloc, "delimiter", "comma|semicolon|tab"))?
+        .arg(flag(alloc, "summary"))?
+        .arg(words_alone(alloc, "file", "FILE"))
 }
 
-/// The values of the options that the words give.
+/// Whether the words give a flag.
+fn is_given(matches: &ArgMatches<'_>, name: &str) -> bool
+    ensures { (result ≡ true) ↔ (one_of name.now (rows_of (found_of matches.now)) ≡ Some (codes "true")) }
+{
+    matches.get_one::<bool>(name).unwrap_or(false)
+}
+
+/// The words that are no options, as a list to be kept.
+fn files_given<'a>(alloc: Global, matches: &ArgMatches<'a>) -> Result<Vec<&'a str>, AllocError>
+    ensures { IfOk result (λ files. map (λ f. f.now) files.items
+        ≡ unwrap_or (all_of (codes "file") (rows_of (found_of matches.now))) []) }
+{
+    match matches.get_strs("file") {
+        Some(files) => files.to_vec(alloc),
+        None => Ok(Vec::new(alloc)),
+    }
+}
+
+/// The values of the options that the words give, and the files.
 ///
 /// # Errors
 ///
-/// What clap refuses, a request for help, and want of memory.
+/// What clap refuses, a request for help or for the version, and want of memory.
 fn read_options<'a>(alloc: Global, words: &'a [String]) -> Result<Options<'a>, clap::Error>
     ensures taken { IfOk result (λ o. fault_of command_line (map string_bytes words.entry.now) ≡ []) }
     ensures to { IfOk result (λ o. option_map (λ v. v.now) o.to ≡ value_in (map string_bytes words.entry.now) (codes "to")) }
+    ensures ring { IfOk result (λ o. option_map (λ v. v.now) o.ring
+        ≡ value_in (map string_bytes words.entry.now) (codes "ring")) }
+    ensures stripes { IfOk result (λ o. option_map (λ v. v.now) o.stripes
+        ≡ value_in (map string_bytes words.entry.now) (codes "stripes")) }
     ensures delimiter { IfOk result (λ o. option_map (λ v. v.now) o.delimiter
         ≡ value_in (map string_bytes words.entry.now) (codes "delimiter")) }
+    ensures summary { IfOk result (λ o. (o.summary ≡ true) ↔ IsSummaryAsked (map string_bytes words.entry.now)) }
+    ensures files { IfOk result (λ o. map (λ f. f.now) o.files.items ≡ files_in (map string_bytes words.entry.now)) }
     ensures kinds { IfErr result (HasKind (fault_of command_line (map string_bytes words.entry.now))) }
 {
     let matches = command(alloc)?.try_get_matches_from(words)?;
+    let files = files_given(alloc, &matches)?;
     Ok(Options {
         to: matches.get_str("to"),
+        ring: matches.get_str("ring"),
+        stripes: matches.get_str("stripes"),
         delimiter: matches.get_str("delimiter"),
+        summary: is_given(&matches, "summary"),
+        files,
     })
 }
 
@@ -87,6 +179,20 @@ fn chosen_targets<'a>(alloc: Global, list: Option<&'a str>) -> Result<Vec<Target
     }
 }
 
+/// The size of a ring that the value of `--ring` names, or the usual one where there is none.
+fn chosen_ring<'a>(word: Option<&'a str>) -> Result<usize, Refusal<'a>>
+    ensures value { IfOk result (IsRingOf (option_map (λ w. w.now) word.entry)) }
+    ensures fault { IfErr result (λ refusal. IsSomeAnd (fault_told refusal) (IsRingFault (option_map (λ w. w.now) word.entry))) }
+{
+    let Some(word) = word else {
+        return Ok(RING);
+    };
+    match number_named(word, MAX_RING) {
+        Some(ring) => Ok(ring),
+        None => Err(Refusal::BadRing(word)),
+    }
+}
+
 /// The byte that the value of `--delimiter` names, or a comma where there is none.
 fn chosen_delimiter<'a>(word: Option<&'a str>) -> Result<u8, Refusal<'a>>
     ensures value { IfOk result (IsDelimiterOf (option_map (λ w. w.now) word.entry)) }
@@ -101,14 +207,60 @@ fn chosen_delimiter<'a>(word: Option<&'a str>) -> Result<u8, Refusal<'a>>
     }
 }
 
+/// The number of converters that the value of `--stripes` names, or the usual one where there is none.
+fn chosen_stripes<'a>(word: Option<&'a str>) -> Result<usize, Refusal<'a>>
+    ensures value { IfOk result (IsStripesOf (option_map (λ w. w.now) word.entry)) }
+    ensures fault { IfErr result (λ refusal. IsSomeAnd (fault_told refusal) (IsStripesFault (option_map (λ w. w.now) word.entry))) }
+{
+    let Some(word) = word else {
+        return Ok(STRIPES);
+    };
+    match number_named(word, MAX_STRIPES) {
+        Some(stripes) => Ok(stripes),
+        None => Err(Refusal::BadStripes(word)),
+    }
+}
+
+/// The first file from the left that was named before, or `None` where each is named once.
+fn file_named_twice<'a>(files: &[&'a str]) -> Option<&'a str>
+    ensures first { IfSome result (λ file. IsFirstTwice (map (λ f. f.now) files.now) file.now) }
+    ensures none { IfNone result ((file : List ℕ) → ¬ (IsNamedTwice (map (λ f. f.now) files.now) file)) }
+{
+    'places: for place in 0..files.len() {
+        if files[..place].contains(&files[place]) {
+            return Some(files[place]);
+        }
+    }
+    None
+}
+
+/// Finds what is wrong with the files.
+///
+/// # Errors
+///
+/// `TooManyFiles` where there are more than 32, and else `FileTwice` for the first that was named before.
+fn check_files<'a>(files: &[&'a str]) -> Result<(), Refusal<'a>>
+    ensures fine { OnOk result (AreFilesToConvert (map (λ f. f.now) files.now)) }
+    ensures fault { IfErr result (λ refusal. IsSomeAnd (fault_told refusal) (IsFileFault (map (λ f. f.now) files.now))) }
+{
+    if files.len() > MAX_FILES {
+        return Err(Refusal::TooManyFiles);
+    }
+    match file_named_twice(files) {
+        Some(file) => Err(Refusal::FileTwice(file)),
+        None => Ok(()),
+    }
+}
+
 /// What the words after the program's name ask for.
 ///
 /// # Errors
 ///
 /// The first that applies: `Usage` where the words are not options as they are taken, the faults of the
-/// list of targets as [`read_targets`] has them, and `UnknownDelimiter`; and `OutOfMemory` where a growth of
-/// memory was refused on the way.
-pub fn read_request<'a>(alloc: Global, words: &'a [String]) -> Result<Request, Refusal<'a>>
+/// list of targets as [`read_targets`] has them, `BadRing`, `UnknownDelimiter`, `BadStripes`, and the faults
+/// of the files as [`check_files`] has them; and `OutOfMemory` where a growth of memory was refused on the
+/// way.
+pub fn read_request<'a>(alloc: Global, words: &'a [String]) -> Result<Request<'a>, Refusal<'a>>
     ensures asked { IfOk result (λ request. MeanJust (map string_bytes words.entry.now) (meaning_of request)) }
     ensures refused { IfErr result (λ refusal. IfSome (fault_told refusal) (λ fault. MeanJust (map string_bytes words.entry.now) (wrong fault))) }
 {
@@ -117,14 +269,25 @@ pub fn read_request<'a>(alloc: Global, words: &'a [String]) -> Result<Request, R
         Ok(options) => options,
         Err(error) => match error.kind() {
             ErrorKind::DisplayHelp => return Ok(Request::Help),
+            ErrorKind::DisplayVersion => return Ok(Request::Version),
             ErrorKind::OutOfMemory => return Err(Refusal::OutOfMemory),
             _ => return Err(Refusal::Usage(error)),
         },
     };
     let targets = chosen_targets(alloc, options.to)?;
+    let ring = chosen_ring(options.ring)?;
     let delimiter = chosen_delimiter(options.delimiter)?;
-    match Setup::new(targets.as_slice(), RING, delimiter, STRIPES) {
-        Ok(setup) => Ok(Request::Convert(setup)),
+    let stripes = chosen_stripes(options.stripes)?;
+    check_files(options.files.as_slice())?;
+    match Setup::new(targets.as_slice(), ring, delimiter, stripes) {
+        Ok(setup) => Ok(Request::Convert(Job {
+            setup,
+            summary: options.summary,
+            files: options.files,
+        })),
         Err(_) => unreachable!(),
     }
 }
+
+#[cfg(test)]
+mod tests;

@@ -1,13 +1,21 @@
 // What the program answers. The tables that are wanted are worked by hand from the calendars' rules and from
 // published day numbers.
 
+ghost use Rattle.std.specs.Prelude.{⊤};
+
 use crate::answering::answer;
+use crate::disk::{Disk, Sink, Source};
 use crate::help::HELP;
+use crate::places::Places;
 use register_records::PlainOutput;
 use std::alloc::{AllocError, Global};
+use std::fs;
 use std::io;
 use std::io::{ErrorKind, Read, Write};
+use std::rt::Files;
+use std::sync::Wait;
 use std::test::Fail;
+use std::thread::Threads;
 
 /// What an input gives: the status, the lines after the heading, and standard error.
 #[derive(Clone, Copy)]
@@ -18,12 +26,206 @@ struct Case {
     errors: &'static [u8],
 }
 
+/// Files in memory: a text for each name, and an output for each that is made.
+#[derive(Clone, Copy)]
+struct Shelf {
+    alloc: Global,
+}
+
+impl Places<&'static [u8], PlainOutput<Vec<u8>>> for Shelf {
+    ghost is_opened = { λ _ _ _. ⊤ };
+
+    ghost is_made = { λ _ _ _ _. ⊤ };
+
+    fn open(&self, name: &str) -> io::Result<&'static [u8]> {
+        match name {
+            "a.csv" => Ok(FIRST_TEXT),
+            "b.csv" => Ok(b""),
+            "c.csv" => Ok(b"id,calendar,date\nc,gregorian,1700-02-29\n"),
+            _ => Err(io::Error::from(ErrorKind::NotFound)),
+        }
+    }
+
+    fn make(&self, name: &str, mark: u32) -> io::Result<PlainOutput<Vec<u8>>> {
+        if name == "c.csv.out.csv" {
+            return Err(io::Error::from(ErrorKind::PermissionDenied));
+        }
+        Ok(PlainOutput::new(Vec::new(self.alloc), mark))
+    }
+
+    fn are_one_file(&self, name: &str, other: &str) -> bool {
+        name == other
+    }
+}
+
 /// Runs the program's answer over memory: the status, the output and standard error.
-fn run(alloc: Global, words: &[String], input: &[u8]) -> (u8, Vec<u8>, Vec<u8>) {
+fn run<T: Threads + Wait + Sync>(
+    rt: &T,
+    alloc: Global,
+    words: &[String],
+    input: &'static [u8],
+) -> (u8, Vec<u8>, Vec<u8>) {
     let mut errors = PlainOutput::new(Vec::new(alloc), 0);
     let output = PlainOutput::new(Vec::new(alloc), 1);
-    let (status, output) = answer(alloc, words, input, output, &mut errors);
-    (status, output.into_inner(), errors.into_inner())
+    let answered = answer(rt, alloc, words, input, output, &Shelf { alloc }, &mut errors);
+    (
+        answered.status,
+        answered.output.into_inner(),
+        errors.into_inner(),
+    )
+}
+
+/// The text of the file `a.csv`.
+const FIRST_TEXT: &[u8] = b"id,calendar,date\na,gregorian,1945-11-12\n";
+
+/// What files give: the status, the tables and standard error.
+#[derive(Clone, Copy)]
+struct FilesCase {
+    words: &'static [&'static str],
+    status: u8,
+    tables: &'static [&'static [u8]],
+    errors: &'static [u8],
+}
+
+const FILES: [FilesCase; 8] = [
+    // A source with a table and one that breaks off, whatever the ring and the stripes.
+    FilesCase {
+        words: &["--to", "gregorian", "--ring", "1", "a.csv", "b.csv"],
+        status: 1,
+        tables: &[A_TABLE, b""],
+        errors: b"source 2: cause 6\n",
+    },
+    FilesCase {
+        words: &["--to", "gregorian", "--stripes", "4", "b.csv", "a.csv"],
+        status: 1,
+        tables: &[b"", A_TABLE],
+        errors: b"source 1: cause 6\n",
+    },
+    FilesCase {
+        words: &["a.csv", "--to=gregorian"],
+        status: 0,
+        tables: &[A_TABLE],
+        errors: b"",
+    },
+    // A summary, and the line of a cause among its lines.
+    FilesCase {
+        words: &["--summary", "--to", "gregorian", "b.csv", "a.csv"],
+        status: 1,
+        tables: &[b"", A_TABLE],
+        errors: b"source 1: cause 6\nsource 2: 1 rows, 0 refused\n",
+    },
+    // Files that cannot be opened or made: the first, and all are opened before any is made.
+    FilesCase {
+        words: &["a.csv", "none.csv"],
+        status: 3,
+        tables: &[],
+        errors: b"register: cannot open none.csv\n",
+    },
+    FilesCase {
+        words: &["c.csv", "none.csv"],
+        status: 3,
+        tables: &[],
+        errors: b"register: cannot open none.csv\n",
+    },
+    FilesCase {
+        words: &["a.csv", "c.csv"],
+        status: 3,
+        tables: &[],
+        errors: b"register: cannot make c.csv.out.csv\n",
+    },
+    FilesCase {
+        words: &["a.csv", "a.csv"],
+        status: 2,
+        tables: &[],
+        errors: b"register: file named twice: a.csv\n",
+    },
+];
+
+/// The table of `a.csv`.
+const A_TABLE: &[u8] = b"row,id,calendar,date,rd,weekday,gregorian,refusal\n1,a,gregorian,1945-11-12,710347,Monday,1945-11-12,\n";
+
+#[test]
+fn files_get_their_tables(rt: HostRuntime) -> Result<(), Fail> {
+    let alloc = rt.alloc();
+    for case in &FILES {
+        let words = words_of(alloc, case.words)?;
+        let mut errors = PlainOutput::new(Vec::new(alloc), 0);
+        let output = PlainOutput::new(Vec::new(alloc), 1);
+        let input: &'static [u8] = b"";
+        let answered = answer(&rt, alloc, words.as_slice(), input, output, &Shelf { alloc }, &mut errors);
+        assert_eq!(rt; answered.status, case.status);
+        assert!(rt; answered.output.into_inner().is_empty());
+        assert_eq!(rt; errors.into_inner().as_slice(), case.errors);
+        assert_eq!(rt; answered.outputs.len(), case.tables.len());
+        let mut tables = case.tables.iter();
+        for output in answered.outputs {
+            let Some(table) = tables.next() else { break };
+            assert_eq!(rt; output.into_inner().as_slice(), *table);
+        }
+    }
+    Ok(())
+}
+
+#[test]
+fn summaries_count_refusals(rt: HostRuntime) -> Result<(), Fail> {
+    let words = words_of(rt.alloc(), &["--summary", "--to", "none"])?;
+    let text: &'static [u8] = b"id,calendar,date\na,gregorian,1945-11-12\nb,x,1\nc,y,2\nd,gregorian,1945/11/12\ne\nf,gregorian,10000-01-01\n";
+    let (status, _, errors) = run(&rt, rt.alloc(), words.as_slice(), text);
+    assert_eq!(rt; status, 0);
+    assert_eq!(rt; errors.as_slice(), b"source 1: 6 rows, 5 refused (1: 1, 4: 2, 5: 1, 7: 1)\n".as_slice());
+    Ok(())
+}
+
+/// A folder of this test's own.
+const FOLDER: &str = "files_of_the_test";
+
+/// The names of a register there, of a copy of its name and of its table.
+const REGISTER: &str = "files_of_the_test/register.csv";
+const SAME_REGISTER: &str = "files_of_the_test/./register.csv";
+const TABLE: &str = "files_of_the_test/register.csv.out.csv";
+
+/// Answers words over the files of the system: the status and standard error.
+fn answer_on_disk<T: Threads + Wait + Sync + Files>(
+    rt: &T,
+    alloc: Global,
+    words: &[&str],
+) -> Result<(u8, Vec<u8>), AllocError>
+where
+    T::File: Send,
+{
+    let words = words_of(alloc, words)?;
+    let mut errors = PlainOutput::new(Vec::new(alloc), 0);
+    let input: Source<&'static [u8], T::File> = Source::Input(b"");
+    let output = PlainOutput::new(Sink::Output(Vec::new(alloc)), 1);
+    let answered = answer(rt, alloc, words.as_slice(), input, output, &Disk::new(rt), &mut errors);
+    Ok((answered.status, errors.into_inner()))
+}
+
+#[test]
+fn files_on_disk_get_their_tables(rt: HostRuntime) -> Result<(), Fail> {
+    let alloc = rt.alloc();
+    let _ = fs::remove_dir_all(&rt, FOLDER);
+    fs::create_dir(&rt, FOLDER)?;
+    fs::write(&rt, REGISTER, FIRST_TEXT)?;
+    // What stood in the table's file is gone.
+    fs::write(&rt, TABLE, b"an older and longer text that stands where the table comes to stand, and more\n".as_slice())?;
+    let (status, errors) = answer_on_disk(&rt, alloc, &["--to", "gregorian", REGISTER])?;
+    assert_eq!(rt; status, 0);
+    assert!(rt; errors.is_empty());
+    assert_eq!(rt; fs::read(&rt, TABLE)?.as_slice(), A_TABLE);
+
+    // A folder, a file that is not there, and two names of one file.
+    let (status, errors) = answer_on_disk(&rt, alloc, &[FOLDER])?;
+    assert_eq!(rt; status, 3);
+    assert_eq!(rt; errors.as_slice(), b"register: cannot open files_of_the_test\n".as_slice());
+    let (status, errors) = answer_on_disk(&rt, alloc, &["files_of_the_test/none.csv"])?;
+    assert_eq!(rt; status, 3);
+    assert_eq!(rt; errors.as_slice(), b"register: cannot open files_of_the_test/none.csv\n".as_slice());
+    let (status, errors) = answer_on_disk(&rt, alloc, &[REGISTER, SAME_REGISTER])?;
+    assert_eq!(rt; status, 3);
+    assert_eq!(rt; errors.as_slice(), b"register: cannot make files_of_the_test/./register.csv.out.csv\n".as_slice());
+    fs::remove_dir_all(&rt, FOLDER)?;
+    Ok(())
 }
 
 const CASES: [Case; 8] = [
@@ -97,7 +299,7 @@ fn words_of(alloc: Global, words: &[&str]) -> Result<Vec<String>, AllocError> {
 fn texts_get_their_tables(rt: HostRuntime) -> Result<(), Fail> {
     let words = words_of(rt.alloc(), &["--to", "gregorian,julian"])?;
     for case in &CASES {
-        let (status, output, errors) = run(rt.alloc(), words.as_slice(), case.input);
+        let (status, output, errors) = run(&rt, rt.alloc(), words.as_slice(), case.input);
         assert_eq!(rt; status, case.status);
         assert_eq!(rt; output.as_slice(), case.output);
         assert_eq!(rt; errors.as_slice(), case.errors);
@@ -231,7 +433,7 @@ const LINES: [Line; 17] = [
 fn command_lines_get_their_answers(rt: HostRuntime) -> Result<(), Fail> {
     for line in &LINES {
         let words = words_of(rt.alloc(), line.words)?;
-        let (status, output, errors) = run(rt.alloc(), words.as_slice(), TEXT);
+        let (status, output, errors) = run(&rt, rt.alloc(), words.as_slice(), TEXT);
         assert_eq!(rt; status, line.status);
         assert_eq!(rt; output.as_slice(), line.output);
         assert_eq!(rt; errors.as_slice(), line.errors);
@@ -247,22 +449,10 @@ struct Misuse {
 }
 
 // The messages are clap's own.
-const MISUSES: [Misuse; 8] = [
+const MISUSES: [Misuse; 5] = [
     Misuse {
         words: &["--bogus"],
         message: b"error: unexpected argument '--bogus' found\n",
-    },
-    Misuse {
-        words: &["parish.csv"],
-        message: b"error: unexpected argument 'parish.csv' found\n",
-    },
-    Misuse {
-        words: &[""],
-        message: b"error: unexpected argument '' found\n",
-    },
-    Misuse {
-        words: &["--ring", "4"],
-        message: b"error: unexpected argument '--ring' found\n",
     },
     Misuse {
         words: &["--to", "julian", "--to", "julian"],
@@ -278,8 +468,8 @@ const MISUSES: [Misuse; 8] = [
     },
     // What clap refuses is told before a fault of the targets.
     Misuse {
-        words: &["--to", "x", "--ring", "4"],
-        message: b"error: unexpected argument '--ring' found\n",
+        words: &["--to", "x", "--rings", "4"],
+        message: b"error: unexpected argument '--rings' found\n",
     },
 ];
 
@@ -287,7 +477,7 @@ const MISUSES: [Misuse; 8] = [
 fn misused_options_are_refused(rt: HostRuntime) -> Result<(), Fail> {
     for misuse in &MISUSES {
         let words = words_of(rt.alloc(), misuse.words)?;
-        let (status, output, errors) = run(rt.alloc(), words.as_slice(), TEXT);
+        let (status, output, errors) = run(&rt, rt.alloc(), words.as_slice(), TEXT);
         assert_eq!(rt; status, 2);
         assert!(rt; output.is_empty());
         assert!(rt; errors.as_slice().starts_with(misuse.message));
@@ -300,7 +490,7 @@ fn misused_options_are_refused(rt: HostRuntime) -> Result<(), Fail> {
 fn delimiters_stand_in_text_and_table(rt: HostRuntime) -> Result<(), Fail> {
     let words = words_of(rt.alloc(), &["--delimiter", "semicolon", "--to", "julian"])?;
     let text = b"\xEF\xBB\xBFID; Calendar ;DATE\r\n\r\n\"Smith; J.\";Gregorian; 1752-9-14\r\n";
-    let (status, output, _) = run(rt.alloc(), words.as_slice(), text);
+    let (status, output, _) = run(&rt, rt.alloc(), words.as_slice(), text);
     assert_eq!(rt; status, 0);
     assert_eq!(rt;
         output.as_slice(),
@@ -308,7 +498,7 @@ fn delimiters_stand_in_text_and_table(rt: HostRuntime) -> Result<(), Fail> {
     );
     let words = words_of(rt.alloc(), &["--to", "julian", "--delimiter=tab"])?;
     let text = b"id\tcalendar\tdate\na,b\tgregorian\t1752-9-14\n";
-    let (status, output, _) = run(rt.alloc(), words.as_slice(), text);
+    let (status, output, _) = run(&rt, rt.alloc(), words.as_slice(), text);
     assert_eq!(rt; status, 0);
     assert_eq!(rt;
         output.as_slice(),
@@ -327,6 +517,27 @@ impl Read for Broken {
     }
 }
 
+/// A place without files.
+struct NoPlaces;
+
+impl<R, W> Places<R, W> for NoPlaces {
+    ghost is_opened = { λ _ _ _. ⊤ };
+
+    ghost is_made = { λ _ _ _ _. ⊤ };
+
+    fn open(&self, _name: &str) -> io::Result<R> {
+        Err(io::Error::from(ErrorKind::NotFound))
+    }
+
+    fn make(&self, _name: &str, _mark: u32) -> io::Result<W> {
+        Err(io::Error::from(ErrorKind::NotFound))
+    }
+
+    fn are_one_file(&self, _name: &str, _other: &str) -> bool {
+        false
+    }
+}
+
 impl Write for Broken {
     fn write(&mut self, _buf: &[u8]) -> io::Result<usize> {
         Err(io::Error::from(ErrorKind::BrokenPipe))
@@ -341,9 +552,9 @@ impl Write for Broken {
 fn broken_streams_are_told(rt: HostRuntime) {
     let mut errors = PlainOutput::new(Vec::new(rt.alloc()), 0);
     let output = PlainOutput::new(Vec::new(rt.alloc()), 1);
-    let (status, output) = answer(rt.alloc(), &[], Broken, output, &mut errors);
-    assert_eq!(rt; status, 1);
-    assert!(rt; output.into_inner().is_empty());
+    let answered = answer(&rt, rt.alloc(), &[], Broken, output, &NoPlaces, &mut errors);
+    assert_eq!(rt; answered.status, 1);
+    assert!(rt; answered.output.into_inner().is_empty());
     assert_eq!(rt;
         errors.into_inner().as_slice(),
         b"source 1: cause 5\n".as_slice()
@@ -352,8 +563,8 @@ fn broken_streams_are_told(rt: HostRuntime) {
     let mut errors = PlainOutput::new(Vec::new(rt.alloc()), 0);
     let text: &[u8] = b"id,calendar,date\n";
     let output = PlainOutput::new(Broken, 1);
-    let (status, _output) = answer(rt.alloc(), &[], text, output, &mut errors);
-    assert_eq!(rt; status, 1);
+    let answered = answer(&rt, rt.alloc(), &[], text, output, &NoPlaces, &mut errors);
+    assert_eq!(rt; answered.status, 1);
     assert_eq!(rt;
         errors.into_inner().as_slice(),
         b"source 1: cause 4\n".as_slice()
@@ -362,9 +573,9 @@ fn broken_streams_are_told(rt: HostRuntime) {
     // Standard error that fails changes neither the status nor the output.
     let mut errors = PlainOutput::new(Broken, 0);
     let output = PlainOutput::new(Vec::new(rt.alloc()), 1);
-    let (status, output) = answer(rt.alloc(), &[], Broken, output, &mut errors);
-    assert_eq!(rt; status, 1);
-    assert!(rt; output.into_inner().is_empty());
+    let answered = answer(&rt, rt.alloc(), &[], Broken, output, &NoPlaces, &mut errors);
+    assert_eq!(rt; answered.status, 1);
+    assert!(rt; answered.output.into_inner().is_empty());
 }
 
 /// Command lines that ask for help: before anything is wrong with them.
@@ -381,9 +592,9 @@ fn help_reads_nothing(rt: HostRuntime) -> Result<(), Fail> {
         let words = words_of(rt.alloc(), words)?;
         let mut errors = PlainOutput::new(Vec::new(rt.alloc()), 0);
         let output = PlainOutput::new(Vec::new(rt.alloc()), 1);
-        let (status, output) = answer(rt.alloc(), words.as_slice(), Broken, output, &mut errors);
-        assert_eq!(rt; status, 0);
-        assert_eq!(rt; output.into_inner().as_slice(), HELP.as_bytes());
+        let answered = answer(&rt, rt.alloc(), words.as_slice(), Broken, output, &NoPlaces, &mut errors);
+        assert_eq!(rt; answered.status, 0);
+        assert_eq!(rt; answered.output.into_inner().as_slice(), HELP.as_bytes());
         assert!(rt; errors.into_inner().is_empty());
     }
     for line in HELP.lines() {
@@ -397,11 +608,11 @@ fn help_that_cannot_be_printed_is_told(rt: HostRuntime) -> Result<(), Fail> {
     let words = words_of(rt.alloc(), &["--help"])?;
     let mut errors = PlainOutput::new(Vec::new(rt.alloc()), 0);
     let output = PlainOutput::new(Broken, 1);
-    let (status, _output) = answer(rt.alloc(), words.as_slice(), Broken, output, &mut errors);
-    assert_eq!(rt; status, 1);
+    let answered = answer(&rt, rt.alloc(), words.as_slice(), Broken, output, &NoPlaces, &mut errors);
+    assert_eq!(rt; answered.status, 1);
     assert_eq!(rt;
         errors.into_inner().as_slice(),
-        b"register: cannot print the help\n".as_slice()
+        b"register: cannot write to standard output\n".as_slice()
     );
     Ok(())
 }

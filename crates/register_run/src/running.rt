@@ -308,6 +308,9 @@ pub fn run_gated<T: Threads + Wait + Sync, R: Read + Send + Drop, W: Output + Dr
     ensures good { IfOk result (λ r. OfEachSource sources.items outputs.items r (λ source given written end.
         IfWhole end (λ rows refused journal. W.has_failed written ≡ W.has_failed given))) }
 
+    // All of this in one word, for a caller that hands it on.
+    ensures report { IfOk result (λ r. IsReport R.remaining W.contents W.has_failed W.is_flushed W.own_mark (layout_of setup.now) sources.items outputs.items r) }
+
     // A run that did not begin.
     ensures unchanged { IfErr result (λ e. (e.sources ≡ sources) × (e.outputs ≡ outputs)) }
     ensures too_many_sources { IsErrAnd result (λ e. e.kind ≡ RunFaultKind.TooManySources) ↔ (MAX_SOURCES < vec_len sources) }
@@ -374,6 +377,9 @@ pub fn run<T: Threads + Wait + Sync, R: Read + Send + Drop, W: Output + Drop>(
         IfBroken end (λ c. is_of_reading c ≡ true → W.has_failed written ≡ W.has_failed given))) }
     ensures good { IfOk result (λ r. OfEachSource sources.items outputs.items r (λ source given written end.
         IfWhole end (λ rows refused journal. W.has_failed written ≡ W.has_failed given))) }
+
+    // All of this in one word, for a caller that hands it on.
+    ensures report { IfOk result (λ r. IsReport R.remaining W.contents W.has_failed W.is_flushed W.own_mark (layout_of setup.now) sources.items outputs.items r) }
 
     // A run that did not begin.
     ensures unchanged { IfErr result (λ e. (e.sources ≡ sources) × (e.outputs ≡ outputs)) }

@@ -1,8 +1,8 @@
 -- Words that ask for something have no fault beside it, and words that are refused have one.
-use Rattle.std.proofs.Common.{rules, arith, inl, inr, map}
+use Rattle.std.proofs.Common.{◌≡◌, ◌≢◌, rules, arith, inl, inr, map, ap, length, refl, List, [], ◌∷◌}
+use Rattle.std.proofs.lemmas.List.{length-map}
 use Rattle.std.specs.String.{string_bytes}
-use Rattle.register_app.specs.Requests.{MeanJust, help, table}
-use Rattle.register_records.specs.Views.{layout_of}
+use Rattle.register_app.specs.Requests.{MeanJust, help, table, task_of, version}
 use Rattle.register_app.proofs.WordFacts.{is_refused, never_refused}
 use Rattle.register_app.proofs.answering.answer.Goals as goal
 
@@ -10,25 +10,79 @@ pub returns-in-Ok-Help-clause-refused : goal.returns-in-Ok-Help-clause-refused
 returns-in-Ok-Help-clause-refused g c =
     let words = map string_bytes c.args.words.now in
     let just : MeanJust words help = search (rules, c.in-Ok-Help.ensures.asked) in
-    λ had. never_refused words help c.print_help.result.0 just (λ fault e. cc)
-    (λ two. let broken = c.print_help.ensures.broken (λ zero. absurd (omega (arith, two, zero))) in absurd (omega (arith, two, broken.0)))
+    λ had. never_refused words help c.print_page.result.status just (λ fault e. cc)
+    (λ two. elim c.print_page.ensures.statuses [ inl zero ↦ absurd (omega (arith, two, zero)) | inr one ↦ absurd (omega (arith, two, one)) ])
 
-pub returns-in-Ok-Convert-clause-refused : goal.returns-in-Ok-Convert-clause-refused
-returns-in-Ok-Convert-clause-refused g c =
+pub returns-in-Ok-Version-clause-refused : goal.returns-in-Ok-Version-clause-refused
+returns-in-Ok-Version-clause-refused g c =
     let words = map string_bytes c.args.words.now in
-    let setup = c.in-Ok-Convert.setup in
-    let just : MeanJust words (table (layout_of setup)) = search (rules, c.in-Ok-Convert.ensures.asked) in
-    λ had. never_refused words (table (layout_of setup)) c.convert_text.result.0 just (λ fault e. cc)
-    (λ two. elim c.convert_text.ensures.statuses [ inl zero ↦ absurd (omega (arith, two, zero)) | inr one ↦ absurd (omega (arith, two, one)) ])
+    let just : MeanJust words version = search (rules, c.in-Ok-Version.ensures.asked) in
+    λ had. never_refused words version c.print_page-in-Ok-Version.result.status just (λ fault e. cc)
+    (λ two. elim c.print_page-in-Ok-Version.ensures.statuses [ inl zero ↦ absurd (omega (arith, two, zero)) | inr one ↦ absurd (omega (arith, two, one)) ])
+
+pub convert_files-requires-clause-few : goal.convert_files-requires-clause-few
+convert_files-requires-clause-few g c =
+    let words = map string_bytes c.args.words.now in
+    let job = c.in-Ok-Convert.job in
+    let just : MeanJust words (table (task_of job)) = search (rules, c.in-Ok-Convert.ensures.asked) in
+    let asks = (just (table (task_of job))).0 refl in
+    omega (arith, asks.files_fit.0, ap length asks.files_asked, length-map job.files.items (λ f. f.now))
+
+none_of : {A : Type 0} (xs : List A) → length xs ≡ 0 → xs ≡ []
+none_of [] e = refl
+none_of (x ∷ xs) e = absurd (omega (arith, e))
+
+pub returns-then-is_empty-clause-answered : goal.returns-then-is_empty-clause-answered
+returns-then-is_empty-clause-answered g c = λ low.
+    let words = map string_bytes c.args.words.now in
+    let job = c.in-Ok-Convert.job in
+    let just : MeanJust words (table (task_of job)) = search (rules, c.in-Ok-Convert.ensures.asked) in
+    let zero : length job.files.items ≡ 0 = search rules in
+    let none : job.files.items ≡ [] = none_of job.files.items zero in
+    inr (inl (task_of job, just, ap (λ l. map (λ f. f.now) l) none, c.convert_input.ensures.converted (λ three. absurd (omega (arith, low, three)))))
+
+pub returns-then-is_empty-clause-refused : goal.returns-then-is_empty-clause-refused
+returns-then-is_empty-clause-refused g c =
+    let words = map string_bytes c.args.words.now in
+    let task = task_of c.in-Ok-Convert.job in
+    let just : MeanJust words (table task) = search (rules, c.in-Ok-Convert.ensures.asked) in
+    λ had. never_refused words (table task) c.convert_input.result.status just (λ fault e. cc)
+    (λ two. elim c.convert_input.ensures.statuses [
+      | inl zero ↦ absurd (omega (arith, two, zero))
+      | inr (inl one) ↦ absurd (omega (arith, two, one))
+      | inr (inr three) ↦ absurd (omega (arith, two, three))
+    ])
+
+map_none : {A B : Type 0} (f : A → B) (xs : List A) → map f xs ≡ [] → xs ≡ []
+map_none f [] e = refl
+map_none f (x ∷ xs) e = absurd (cc)
+
+pub returns-else-is_empty-clause-answered : goal.returns-else-is_empty-clause-answered
+returns-else-is_empty-clause-answered g c = λ low.
+    let words = map string_bytes c.args.words.now in
+    let job = c.in-Ok-Convert.job in
+    let just : MeanJust words (table (task_of job)) = search (rules, c.in-Ok-Convert.ensures.asked) in
+    let some : job.files.items ≢ [] = search rules in
+    inr (inr (
+      task_of job,
+      just,
+      λ e. some (map_none (λ f. f.now) job.files.items e),
+      c.convert_files.ensures.untouched,
+      c.convert_files.ensures.converted (λ three. absurd (omega (arith, low, three))),
+    ))
+
+pub returns-else-is_empty-clause-refused : goal.returns-else-is_empty-clause-refused
+returns-else-is_empty-clause-refused g c =
+    let words = map string_bytes c.args.words.now in
+    let task = task_of c.in-Ok-Convert.job in
+    let just : MeanJust words (table task) = search (rules, c.in-Ok-Convert.ensures.asked) in
+    λ had. never_refused words (table task) c.convert_files.result.status just (λ fault e. cc)
+    (λ two. elim c.convert_files.ensures.statuses [
+      | inl zero ↦ absurd (omega (arith, two, zero))
+      | inr (inl one) ↦ absurd (omega (arith, two, one))
+      | inr (inr three) ↦ absurd (omega (arith, two, three))
+    ])
 
 pub returns-in-Err-clause-refused : goal.returns-in-Err-clause-refused
 returns-in-Err-clause-refused g c =
-    let words = map string_bytes c.args.words.now in
-    λ had. is_refused words c.in-Err.refusal c.tell_refusal.result c.in-Err.ensures.refused c.tell_refusal.ensures.status had
-
-pub returns-in-Ok-Convert-clause-told : goal.returns-in-Ok-Convert-clause-told
-returns-in-Ok-Convert-clause-told g c =
-    let words = map string_bytes c.args.words.now in
-    let setup = c.in-Ok-Convert.setup in
-    let just : MeanJust words (table (layout_of setup)) = search (rules, c.in-Ok-Convert.ensures.asked) in
-    λ one good. inr (layout_of setup, just, c.convert_text.ensures.told one good)
+    λ had. is_refused (map string_bytes c.args.words.now) c.in-Err.refusal c.refuse.result.status c.in-Err.ensures.refused c.refuse.ensures.status had

@@ -1,18 +1,14 @@
--- Each builder adds its part of the command line.
-use Rattle.std.proofs.Common.{rules, ap, ap₂, codes, true, ◌≡◌, ◌∙◌}
+-- Each argument is added to those before it.
+use Rattle.std.proofs.Common.{ap₂, ◌∙◌}
 use Rattle.std.proofs.lemmas.Result.{IfOk-weaker}
-use Rattle.clap.specs.Words.{App, rule_of, with_rule}
-use Rattle.clap.specs.Simple.{app_of_fields}
-use Rattle.register_app.specs.Requests.{option_rule}
+use Rattle.clap.specs.Words.{with_rule}
 use Rattle.register_app.proofs.requests.command.Goals as goal
-
-nameless : App → App
-nameless a = record a { top = record a.top { no_binary_name = true } }
 
 pub returns : goal.returns
 returns c =
-    let to_is : rule_of c.value_name-to.result ≡ option_rule (codes "to") = search rules in
-    let delimiter_is : rule_of c.value_name-delimiter.result ≡ option_rule (codes "delimiter") = search rules in
-    let named = ap (λ (a : App). record a { top = record a.top { no_binary_name = true } }) c.new-3.ensures.app in
-    let first = c.in_ok-arg.ensures.shape (search rules) ∙ ap₂ with_rule (ap app_of_fields c.no_binary_name.ensures ∙ named) to_is in
-    IfOk-weaker c.arg-2.result _ _ (λ r added. added.shape (search rules) ∙ ap₂ with_rule first delimiter_is) c.arg-2.ensures
+    let to = c.in_ok-arg.ensures.shape c.option.ensures.local ∙ ap₂ with_rule c.bare.ensures c.option.ensures.rule in
+    let ring = c.in_ok-arg-2.ensures.shape c.option-2.ensures.local ∙ ap₂ with_rule to c.option-2.ensures.rule in
+    let stripes = c.in_ok-arg-3.ensures.shape c.option-3.ensures.local ∙ ap₂ with_rule ring c.option-3.ensures.rule in
+    let delimiter = c.in_ok-arg-4.ensures.shape c.option-4.ensures.local ∙ ap₂ with_rule stripes c.option-4.ensures.rule in
+    let summary = c.in_ok-arg-5.ensures.shape c.flag.ensures.local ∙ ap₂ with_rule delimiter c.flag.ensures.rule in
+    IfOk-weaker c.arg-6.result _ _ (λ r added. added.shape c.words_alone.ensures.local ∙ ap₂ with_rule summary c.words_alone.ensures.rule) c.arg-6.ensures

@@ -44,3 +44,6 @@ returns-clause-too_many_sources g c = c.run_gated.ensures.too_many_sources
 
 pub returns-clause-output_count : goal.returns-clause-output_count
 returns-clause-output_count g c = c.run_gated.ensures.output_count
+
+pub returns-clause-report : goal.returns-clause-report
+returns-clause-report g c = c.run_gated.ensures.report

@@ -37,3 +37,6 @@ returns-clause-kept g c = λ i s b a e p q r t.
 pub returns-clause-good : goal.returns-clause-good
 returns-clause-good g c = λ i s b a e p q r t.
     good_of g.W.Output.contents g.W.Output.has_failed g.W.Output.is_flushed (layout_of c.args.setup.now) (g.R.Read.remaining s) b a e (c.run_in_scope.ensures.places i s b a e p q r t).0
+
+pub returns-clause-report : goal.returns-clause-report
+returns-clause-report g c = c.run_in_scope.ensures

@@ -1,0 +1,13 @@
+-- A run that began has a report, and what was told is that.
+use Rattle.std.proofs.Common.{◌≡◌, refl}
+use Rattle.register_app.proofs.answering.convert.Goals as goal
+
+pub returns-in-Ok-clause-converted : goal.returns-in-Ok-clause-converted
+returns-in-Ok-clause-converted g c = λ begun. record {
+  report = c.in-Ok.report;
+  settled = c.in-Ok.ensures.report;
+  outputs = refl;
+  complete = c.tell_report-status.ensures.complete;
+  lines = c.tell_report-status.ensures.lines;
+  quiet = c.tell_report-status.ensures.quiet;
+}

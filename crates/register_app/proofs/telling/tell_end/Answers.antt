@@ -1,0 +1,22 @@
+-- A line that was told while standard error had not failed.
+use Rattle.std.proofs.Common.{◌≡◌, ◌∙◌, ap, rules, subst, sym, true, false, is_ok, Result, Ok, Err}
+use Rattle.std.specs.Prelude.{OnOk}
+use Rattle.std.specs.Io.KnownBytes.{Appends}
+use Rattle.register_app.specs.Reports.{line_of_end}
+use Rattle.register_app.proofs.telling.tell_end.Goals as goal
+
+on_ok : {A B : Type 0} (r : Result A B) (P : Type 0) → OnOk r P → is_ok r ≡ true → P
+on_ok (Ok a) P h is = h
+on_ok (Err b) P h is = absurd (cc)
+
+pub returns-then-summary-clause-told : goal.returns-then-summary-clause-told
+returns-then-summary-clause-told g c = λ good.
+    let ok : is_ok c.send-then-summary.result ≡ true = search rules in
+    let line = c.as_bytes-then-summary.ensures.value ∙ c.deref-then-summary.ensures.0 ∙ c.line_of_whole-line.ensures in
+    let text : c.as_bytes-then-summary.result.now ≡ line_of_end c.args.summary c.args.place c.args.end.now
+    = rw (c.if-summary.true, c.in-Whole.is, ← c.as_slice.ensures.value) line in
+    (
+      sym (on_ok c.send-then-summary.result _ c.send-then-summary.ensures.goes ok) ∙ good,
+      subst (λ t. Appends (g.E.Output.contents c.args.errors.now) (g.E.Output.contents c.send-then-summary.new.output) t) text
+      (on_ok c.send-then-summary.result _ c.send-then-summary.ensures.ok ok),
+    )

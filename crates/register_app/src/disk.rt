@@ -1,0 +1,101 @@
+//! The files of the system, and the standard streams beside them.
+
+ghost use Rattle.std.specs.Prelude.{◌≡◌, ⊤};
+
+use crate::places::Places;
+use register_records::PlainOutput;
+use std::fs::{OpenFile, OpenOptions};
+use std::io;
+use std::io::{ErrorKind, Read, Write};
+use std::os::unix::fs::MetadataExt;
+use std::rt::Files;
+
+/// What the program reads: standard input, or a file.
+#[derive(Drop)]
+pub enum Source<I, F> {
+    Input(I),
+    File(F),
+}
+
+/// What the program writes to: standard output, or a file.
+#[derive(Drop)]
+pub enum Sink<O, F> {
+    Output(O),
+    File(F),
+}
+
+impl<I: Read, F: Read> Read for Source<I, F> {
+    fn read(&mut self, buf: &mut [u8]) -> io::Result<usize> {
+        match self {
+            Source::Input(input) => input.read(buf),
+            Source::File(file) => file.read(buf),
+        }
+    }
+}
+
+impl<O: Write, F: Write> Write for Sink<O, F> {
+    fn write(&mut self, buf: &[u8]) -> io::Result<usize> {
+        match self {
+            Sink::Output(output) => output.write(buf),
+            Sink::File(file) => file.write(buf),
+        }
+    }
+
+    fn flush(&mut self) -> io::Result<()> {
+        match self {
+            Sink::Output(output) => output.flush(),
+            Sink::File(file) => file.flush(),
+        }
+    }
+}
+
+/// The files of the system.
+#[derive(Clone, Copy)]
+pub struct Disk<'a, F> {
+    files: &'a F,
+}
+
+impl<'a, F: Files> Disk<'a, F> {
+    /// The files that `files` reaches.
+    pub fn new(files: &'a F) -> Disk<'a, F> {
+        Disk { files }
+    }
+}
+
+impl<'a, F: Files, I: Read, O: Write> Places<Source<I, F::File>, PlainOutput<Sink<O, F::File>>>
+    for Disk<'a, F>
+{
+    ghost use Rattle.register_records.specs.Views.{mark_of};
+
+    ghost is_opened = { λ _ _ _. ⊤ };
+
+    ghost is_made = { λ _ _ mark output. mark_of output ≡ mark };
+
+    // A folder can be opened but not read, so it is refused here.
+    fn open(&self, name: &str) -> io::Result<Source<I, F::File>> {
+        let file = OpenOptions::new().read(true).open(self.files, name)?;
+        if file.metadata()?.is_dir() {
+            return Err(io::Error::from(ErrorKind::IsADirectory));
+        }
+        Ok(Source::File(file))
+    }
+
+    fn make(&self, name: &str, mark: u32) -> io::Result<PlainOutput<Sink<O, F::File>>> {
+        let file = OpenOptions::new()
+            .write(true)
+            .create(true)
+            .truncate(true)
+            .open(self.files, name)?;
+        Ok(PlainOutput::new(Sink::File(file), mark))
+    }
+
+    fn are_one_file(&self, name: &str, other: &str) -> bool {
+        let Ok(one) = self.files.metadata(name) else {
+            return false;
+        };
+        let Ok(two) = self.files.metadata(other) else {
+            return false;
+        };
+        one.ino() != 0 && one.ino() == two.ino() && one.dev() == two.dev()
+    }
+}

@@ -1,0 +1,106 @@
+//! Opens the files of a command line.
+
+ghost use Rattle.std.specs.Prelude.{◌≡◌, ◌≤◌, ◌++◌, length, IfErr, IfOk, map};
+ghost use Rattle.std.specs.String.{string_bytes};
+ghost use Rattle.register_app.specs.Requests.{refusal_status};
+ghost use Rattle.register_app.specs.Openings.{AreMade, AreOpened};
+
+use crate::places::Places;
+use crate::refusals::Refusal;
+use std::alloc::{AllocError, Global};
+
+/// What the name of an output has behind the name of its source.
+pub const SUFFIX: &str = ".out.csv";
+
+/// The sources of a command line with the output of each, in its order.
+pub struct Opened<R, W> {
+    pub sources: Vec<R>,
+    pub outputs: Vec<W>,
+}
+
+/// The name of a file's output.
+fn output_name(alloc: Global, file: &str) -> Result<String, AllocError>
+    ensures { IfOk result (λ name. string_bytes name ≡ file.now ++ SUFFIX.now) }
+{
+    let mut name = String::from_str(alloc, file)?;
+    name.push_str(SUFFIX)?;
+    Ok(name)
+}
+
+/// Opens each file.
+fn open_sources<'a, R: Drop, W, P: Places<R, W>>(
+    alloc: Global,
+    places: &P,
+    files: &[&'a str],
+) -> Result<Vec<R>, Refusal<'a>>
+    ensures opened { IfOk result (λ sources. AreOpened (P.is_opened places.now) (map (λ file. file.now) files.now) sources.items) }
+    ensures status { IfErr result (λ refusal. refusal_status refusal ≡ 3) }
+{
+    let mut sources = Vec::new(alloc);
+    'files: for &file in files {
+        let Ok(source) = places.open(file) else {
+            return Err(Refusal::CannotOpen(file));
+        };
+        if sources.push(source).is_err() {
+            return Err(Refusal::OutOfMemory);
+        }
+    }
+    Ok(sources)
+}
+
+/// Whether an output's name is that of a file that another output goes to.
+fn is_taken<R, W, P: Places<R, W>>(places: &P, names: &[String], name: &str) -> bool {
+    names.iter().any(|other| places.are_one_file(other.as_str(), name))
+}
+
+/// Makes the output of each file.
+fn make_outputs<'a, R, W: Drop, P: Places<R, W>>(
+    alloc: Global,
+    places: &P,
+    files: &[&'a str],
+) -> Result<Vec<W>, Refusal<'a>>
+    requires few { length files.now ≤ 32 }
+    ensures made { IfOk result (λ outputs. AreMade (P.is_made places.now) (map (λ file. file.now) files.now) outputs.items) }
+    ensures status { IfErr result (λ refusal. refusal_status refusal ≡ 3) }
+{
+    let mut outputs = Vec::new(alloc);
+    let mut names = Vec::new(alloc);
+    let mut mark = 0;
+    'files: for &file in files {
+        let Ok(name) = output_name(alloc, file) else {
+            return Err(Refusal::OutOfMemory);
+        };
+        mark += 1;
+        let Ok(output) = places.make(name.as_str(), mark) else {
+            return Err(Refusal::CannotMake(file));
+        };
+        if is_taken(places, names.as_slice(), name.as_str()) {
+            return Err(Refusal::CannotMake(file));
+        }
+        if outputs.push(output).is_err() || names.push(name).is_err() {
+            return Err(Refusal::OutOfMemory);
+        }
+    }
+    Ok(outputs)
+}
+
+/// Opens all files, and then makes the output of each. The mark of an output is its place, from 1.
+///
+/// # Errors
+///
+/// `CannotOpen` for the first file that cannot be opened, before any output is made; `CannotMake` for the first whose
+/// output cannot be made or goes to the file of an earlier one; `OutOfMemory` where a growth of memory was refused.
+pub fn open_files<'a, R: Drop, W: Drop, P: Places<R, W>>(
+    alloc: Global,
+    places: &P,
+    files: &[&'a str],
+) -> Result<Opened<R, W>, Refusal<'a>>
+    requires few { length files.now ≤ 32 }
+    ensures opened { IfOk result (λ o. AreOpened (P.is_opened places.now) (map (λ file. file.now) files.now) o.sources.items) }
+    ensures made { IfOk result (λ o. AreMade (P.is_made places.now) (map (λ file. file.now) files.now) o.outputs.items) }
+    ensures status { IfErr result (λ refusal. refusal_status refusal ≡ 3) }
+{
+    let sources = open_sources(alloc, places, files)?;
+    let outputs = make_outputs(alloc, places, files)?;
+    Ok(Opened { sources, outputs })
+}

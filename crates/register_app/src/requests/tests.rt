@@ -1,0 +1,423 @@
+//! Command lines: what they ask for, and why they are refused.
+
+use crate::refusals::Refusal;
+use crate::requests::{Job, Request, read_request};
+use std::alloc::{AllocError, Global};
+use std::test::Fail;
+
+/// The words of a command line.
+fn words_of(alloc: Global, words: &[&str]) -> Result<Vec<String>, AllocError> {
+    let mut copied = Vec::new(alloc);
+    for word in words {
+        copied.push(String::from_str(alloc, word)?)?;
+    }
+    Ok(copied)
+}
+
+/// A command line that is refused, the exit status and the text.
+#[derive(Clone, Copy)]
+struct Refused {
+    words: &'static [&'static str],
+    status: u8,
+    text: &'static str,
+}
+
+const REFUSED: [Refused; 26] = [
+    // Sizes of a ring: one to five digits, from 1 to 4096.
+    Refused {
+        words: &["--ring", "0"],
+        status: 2,
+        text: "bad ring size: 0",
+    },
+    Refused {
+        words: &["--ring", "4097"],
+        status: 2,
+        text: "bad ring size: 4097",
+    },
+    Refused {
+        words: &["--ring", "100000"],
+        status: 2,
+        text: "bad ring size: 100000",
+    },
+    Refused {
+        words: &["--ring", "000016"],
+        status: 2,
+        text: "bad ring size: 000016",
+    },
+    Refused {
+        words: &["--ring", "+5"],
+        status: 2,
+        text: "bad ring size: +5",
+    },
+    Refused {
+        words: &["--ring=-5"],
+        status: 2,
+        text: "bad ring size: -5",
+    },
+    Refused {
+        words: &["--ring", " 5"],
+        status: 2,
+        text: "bad ring size:  5",
+    },
+    Refused {
+        words: &["--ring", "0x10"],
+        status: 2,
+        text: "bad ring size: 0x10",
+    },
+    Refused {
+        words: &["--ring", "\u{665}"],
+        status: 2,
+        text: "bad ring size: \u{665}",
+    },
+    Refused {
+        words: &["--ring="],
+        status: 2,
+        text: "bad ring size: ",
+    },
+    // Stripes: from 1 to 4.
+    Refused {
+        words: &["--stripes", "5"],
+        status: 2,
+        text: "bad stripes: 5",
+    },
+    Refused {
+        words: &["--stripes", "0"],
+        status: 2,
+        text: "bad stripes: 0",
+    },
+    Refused {
+        words: &["--stripes", "two"],
+        status: 2,
+        text: "bad stripes: two",
+    },
+    Refused {
+        words: &["--stripes", "000001"],
+        status: 2,
+        text: "bad stripes: 000001",
+    },
+    // Files: the first from the left that was named before, byte for byte.
+    Refused {
+        words: &["a", "a"],
+        status: 2,
+        text: "file named twice: a",
+    },
+    Refused {
+        words: &["a", "b", "a", "b"],
+        status: 2,
+        text: "file named twice: a",
+    },
+    Refused {
+        words: &["a", "b", "b", "a"],
+        status: 2,
+        text: "file named twice: b",
+    },
+    Refused {
+        words: &["a", "--summary", "--", "--summary", "a", "--summary"],
+        status: 2,
+        text: "file named twice: a",
+    },
+    // The first fault in the order of the checks, whatever the order of the words.
+    Refused {
+        words: &["a", "a", "--ring", "0", "--to", "x"],
+        status: 2,
+        text: "unknown target: x",
+    },
+    Refused {
+        words: &["--ring", "0", "--to", "iso,iso"],
+        status: 2,
+        text: "target named twice: iso",
+    },
+    Refused {
+        words: &["--delimiter", "x", "--ring", "0"],
+        status: 2,
+        text: "bad ring size: 0",
+    },
+    Refused {
+        words: &["--ring", "0", "--stripes", "5"],
+        status: 2,
+        text: "bad ring size: 0",
+    },
+    Refused {
+        words: &["--stripes", "5", "--ring", "0"],
+        status: 2,
+        text: "bad ring size: 0",
+    },
+    Refused {
+        words: &["--stripes", "5", "--delimiter", "x"],
+        status: 2,
+        text: "unknown delimiter: x",
+    },
+    Refused {
+        words: &["a", "a", "--delimiter", "x"],
+        status: 2,
+        text: "unknown delimiter: x",
+    },
+    Refused {
+        words: &["a", "a", "--stripes", "5"],
+        status: 2,
+        text: "bad stripes: 5",
+    },
+];
+
+/// The exit status and the text of a refusal.
+fn told(alloc: Global, refusal: &Refusal<'_>) -> Result<(u8, String), AllocError> {
+    let text = format!(in alloc; "{refusal}")?;
+    Ok((refusal.status(), text))
+}
+
+#[test]
+fn words_are_refused_by_the_first_fault(rt: HostRuntime) -> Result<(), Fail> {
+    for line in &REFUSED {
+        let words = words_of(rt.alloc(), line.words)?;
+        match read_request(rt.alloc(), words.as_slice()) {
+            Ok(_) => assert!(rt; false),
+            Err(refusal) => {
+                let (status, text) = told(rt.alloc(), &refusal)?;
+                assert_eq!(rt; status, line.status);
+                assert_eq!(rt; text.as_str(), line.text);
+            }
+        }
+    }
+    Ok(())
+}
+
+#[test]
+fn files_that_are_missing_are_told(rt: HostRuntime) -> Result<(), Fail> {
+    let (status, text) = told(rt.alloc(), &Refusal::CannotOpen("a.csv"))?;
+    assert_eq!(rt; status, 3);
+    assert_eq!(rt; text.as_str(), "cannot open a.csv");
+    let (status, text) = told(rt.alloc(), &Refusal::CannotMake("a.csv"))?;
+    assert_eq!(rt; status, 3);
+    assert_eq!(rt; text.as_str(), "cannot make a.csv.out.csv");
+    Ok(())
+}
+
+/// A command line that clap refuses, and how the text about it begins.
+#[derive(Clone, Copy)]
+struct Misuse {
+    words: &'static [&'static str],
+    message: &'static str,
+}
+
+// The messages are clap's own.
+const MISUSES: [Misuse; 7] = [
+    Misuse {
+        words: &["--rings", "4"],
+        message: "error: unexpected argument '--rings' found\n",
+    },
+    Misuse {
+        words: &["-x.csv"],
+        message: "error: unexpected argument '-x' found\n",
+    },
+    Misuse {
+        words: &["--ring", "-5"],
+        message: "error: unexpected argument '-5' found\n",
+    },
+    Misuse {
+        words: &["--stripes"],
+        message: "error: a value is required for '--stripes <N>' but none was supplied\n",
+    },
+    Misuse {
+        words: &["--ring", "4", "--ring", "4"],
+        message: "error: the argument '--ring <N>' cannot be used multiple times\n",
+    },
+    Misuse {
+        words: &["--summary", "--summary"],
+        message: "error: the argument '--summary' cannot be used multiple times\n",
+    },
+    // What clap refuses is told before every other fault.
+    Misuse {
+        words: &["a", "a", "--ring", "0", "--to", "x", "--bogus"],
+        message: "error: unexpected argument '--bogus' found\n",
+    },
+];
+
+#[test]
+fn misused_words_are_refused(rt: HostRuntime) -> Result<(), Fail> {
+    for misuse in &MISUSES {
+        let words = words_of(rt.alloc(), misuse.words)?;
+        match read_request(rt.alloc(), words.as_slice()) {
+            Ok(_) => assert!(rt; false),
+            Err(refusal) => {
+                let (status, text) = told(rt.alloc(), &refusal)?;
+                assert_eq!(rt; status, 2);
+                assert!(rt; text.as_str().starts_with(misuse.message));
+            }
+        }
+    }
+    Ok(())
+}
+
+/// A command line that asks for a conversion, and what it asks for.
+#[derive(Clone, Copy)]
+struct Asked {
+    words: &'static [&'static str],
+    ring: usize,
+    stripes: usize,
+    delimiter: u8,
+    targets: usize,
+    summary: bool,
+    files: &'static str,
+}
+
+const ASKED: [Asked; 5] = [
+    Asked {
+        words: &[],
+        ring: 16,
+        stripes: 1,
+        delimiter: b',',
+        targets: 14,
+        summary: false,
+        files: "",
+    },
+    Asked {
+        words: &["--ring", "00016", "--stripes=00004", "--to", "none"],
+        ring: 16,
+        stripes: 4,
+        delimiter: b',',
+        targets: 0,
+        summary: false,
+        files: "",
+    },
+    Asked {
+        words: &[
+            "--ring=4096",
+            "--stripes",
+            "2",
+            "--summary",
+            "--delimiter",
+            "tab",
+        ],
+        ring: 4096,
+        stripes: 2,
+        delimiter: b'\t',
+        targets: 14,
+        summary: true,
+        files: "",
+    },
+    // Files stand anywhere; names that differ in letter case differ.
+    Asked {
+        words: &[
+            "b.csv", "--ring", "1", "a.csv", "--to", "iso,haab", "B.csv", "-", "",
+        ],
+        ring: 1,
+        stripes: 1,
+        delimiter: b',',
+        targets: 2,
+        summary: false,
+        files: "b.csv|a.csv|B.csv|-||",
+    },
+    // The options end at two dashes.
+    Asked {
+        words: &["--summary", "--", "-x.csv", "--ring", "0", "--help"],
+        ring: 16,
+        stripes: 1,
+        delimiter: b',',
+        targets: 14,
+        summary: true,
+        files: "-x.csv|--ring|0|--help|",
+    },
+];
+
+/// The conversion that the words ask for.
+fn job_of<'a>(alloc: Global, words: &'a [String]) -> Option<Job<'a>> {
+    let Ok(request) = read_request(alloc, words) else {
+        return None;
+    };
+    match request {
+        Request::Convert(job) => Some(job),
+        Request::Help => None,
+        Request::Version => None,
+    }
+}
+
+/// Files in one text, with a bar behind each.
+fn listed(alloc: Global, files: &[&str]) -> Result<String, AllocError> {
+    let mut text = String::new(alloc);
+    for file in files {
+        text.push_str(file)?;
+        text.push_str("|")?;
+    }
+    Ok(text)
+}
+
+#[test]
+fn words_ask_for_conversions(rt: HostRuntime) -> Result<(), Fail> {
+    for line in &ASKED {
+        let words = words_of(rt.alloc(), line.words)?;
+        let job = job_of(rt.alloc(), words.as_slice()).expect(&rt, "a conversion");
+        assert_eq!(rt; job.setup.ring(), line.ring);
+        assert_eq!(rt; job.setup.stripes(), line.stripes);
+        assert_eq!(rt; job.setup.delimiter(), line.delimiter);
+        assert_eq!(rt; job.setup.targets().len(), line.targets);
+        assert_eq!(rt; job.summary, line.summary);
+        let files = listed(rt.alloc(), job.files.as_slice())?;
+        assert_eq!(rt; files.as_str(), line.files);
+    }
+    Ok(())
+}
+
+/// So many files, each with a name of its own.
+fn many_files(alloc: Global, count: usize) -> Result<Vec<String>, AllocError> {
+    let mut words = Vec::new(alloc);
+    for place in 0..count {
+        words.push(format!(in alloc; "{place}.csv")?)?;
+    }
+    Ok(words)
+}
+
+#[test]
+fn files_may_be_32(rt: HostRuntime) -> Result<(), Fail> {
+    let words = many_files(rt.alloc(), 32)?;
+    let job = job_of(rt.alloc(), words.as_slice()).expect(&rt, "a conversion");
+    assert_eq!(rt; job.files.len(), 32);
+    Ok(())
+}
+
+#[test]
+fn files_are_no_more_than_32(rt: HostRuntime) -> Result<(), Fail> {
+    let mut words = many_files(rt.alloc(), 32)?;
+    words.push(String::from_str(rt.alloc(), "0.csv")?)?;
+    match read_request(rt.alloc(), words.as_slice()) {
+        Ok(_) => assert!(rt; false),
+        Err(refusal) => {
+            let (status, text) = told(rt.alloc(), &refusal)?;
+            assert_eq!(rt; status, 2);
+            assert_eq!(rt; text.as_str(), "more than 32 files");
+        }
+    }
+    Ok(())
+}
+
+/// Command lines that ask for help, and for the version: whichever comes first, before anything is wrong.
+const FOR_HELP: [&[&str]; 3] = [&["-h"], &["--help", "--version"], &["a", "a", "--help"]];
+
+const FOR_VERSION: [&[&str]; 4] = [
+    &["-V"],
+    &["--version", "--help"],
+    &["--ring", "0", "--version", "--bogus"],
+    &["a", "a", "--version"],
+];
+
+#[test]
+fn help_and_version_come_first(rt: HostRuntime) -> Result<(), Fail> {
+    for words in &FOR_HELP {
+        let words = words_of(rt.alloc(), words)?;
+        assert!(rt;
+            matches!(
+                read_request(rt.alloc(), words.as_slice()),
+                Ok(Request::Help)
+            )
+        );
+    }
+    for words in &FOR_VERSION {
+        let words = words_of(rt.alloc(), words)?;
+        assert!(rt;
+            matches!(
+                read_request(rt.alloc(), words.as_slice()),
+                Ok(Request::Version)
+            )
+        );
+    }
+    Ok(())
+}

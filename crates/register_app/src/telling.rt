@@ -1,0 +1,141 @@
+//! Tells on standard error how sources have ended.
+
+ghost use Rattle.std.specs.Prelude.{◌≡◌, ◌≤◌, ◌+◌, ◌++◌, ◌∷◌, [], codes, length, true, false};
+ghost use Rattle.std.specs.Fmt.{decimal};
+ghost use Rattle.std.specs.Io.KnownBytes.{Appends};
+ghost use Rattle.register_app.specs.Reports.{count_text, counts_from, line_of_end, lines_from, refusal_numbers, refused_with, rows_text};
+
+use arrayvec::ArrayString;
+use itoa::Buffer;
+use register_records::{Cause, Note, Output, SourceEnd, send};
+
+/// The most bytes of a line on a source.
+const LINE: usize = 256;
+
+/// A line on a source.
+type Line = ArrayString<LINE>;
+
+/// Begins the line of the source at this place, from 1.
+fn begin_line(place: usize) -> Line
+    ensures bytes { result.bytes ≡ codes "source " ++ decimal place }
+    ensures short { length result.bytes ≤ 27 }
+{
+    let mut line = Line::new();
+    line.push_str("source ");
+    line.push_str(Buffer::new().format(place));
+    line
+}
+
+/// The line of a source that is broken for this cause.
+fn line_of_broken(place: usize, cause: Cause) -> Line
+    ensures { result.bytes ≡ line_of_end true place (SourceEnd.Broken cause) }
+{
+    let mut line = begin_line(place);
+    line.push_str(": cause ");
+    line.push_str(Buffer::new().format(cause.number()));
+    line.push_str("\n");
+    line
+}
+
+/// How many records were refused with this number.
+fn refused_with_number(journal: &[Note], number: u8) -> usize
+    ensures { result ≡ refused_with journal.now number }
+{
+    journal
+        .iter()
+        .filter(|note| note.refusal.number() == number)
+        .count()
+}
+
+/// The numbers of the refusals.
+const REFUSALS: [u8; 7] = [1, 2, 3, 4, 5, 6, 7];
+
+/// Adds to a line how many records were refused with one number; `behind` says whether another number stands before.
+fn push_count(line: &mut Line, behind: bool, number: u8, count: usize)
+    requires room { length line.old.bytes + 27 ≤ LINE }
+    ensures bytes { line.new.bytes ≡ line.old.bytes ++ count_text behind number count }
+    ensures short { length line.new.bytes ≤ length line.old.bytes + 27 }
+{
+    line.push_str(if behind { ", " } else { " (" });
+    line.push_str(Buffer::new().format(number));
+    line.push_str(": ");
+    line.push_str(Buffer::new().format(count));
+}
+
+/// Begins the line of a whole source.
+fn begin_whole(place: usize, rows: u32, refused: u32) -> Line
+    ensures bytes { result.bytes ≡ rows_text place rows refused }
+    ensures short { length result.bytes ≤ 64 }
+{
+    let mut line = begin_line(place);
+    line.push_str(": ");
+    line.push_str(Buffer::new().format(rows));
+    line.push_str(" rows, ");
+    line.push_str(Buffer::new().format(refused));
+    line.push_str(" refused");
+    line
+}
+
+/// Adds to a line how many records were refused with each number.
+fn push_counts(line: &mut Line, journal: &[Note])
+    requires room { length line.old.bytes ≤ 64 }
+    ensures bytes { line.new.bytes ≡ line.old.bytes ++ counts_from false journal.now refusal_numbers }
+    ensures short { length line.new.bytes ≤ 254 }
+{
+    let mut behind = false;
+    'numbers: for number in &REFUSALS {
+        let count = refused_with_number(journal, *number);
+        if count > 0 {
+            push_count(line, behind, *number, count);
+            behind = true;
+        }
+    }
+    if behind {
+        line.push_str(")");
+    }
+}
+
+/// The line of a whole source.
+fn line_of_whole(place: usize, rows: u32, refused: u32, journal: &[Note]) -> Line
+    ensures { result.bytes ≡ rows_text place rows refused ++ (counts_from false journal.now refusal_numbers ++ 10 ∷ []) }
+{
+    let mut line = begin_whole(place, rows, refused);
+    push_counts(&mut line, journal);
+    line.push_str("\n");
+    line
+}
+
+/// Tells how each source has ended, in order: the cause of each that is broken, and with `summary` the rows of each
+/// that is whole. A fault of `errors` is let go: there is nowhere else to tell it.
+pub fn tell_ends<E: Output>(errors: &mut E, summary: bool, ends: &[SourceEnd])
+    ensures told { E.has_failed errors.new ≡ false → Appends (E.contents errors.old) (E.contents errors.new) (lines_from summary 1 ends.now) }
+    ensures mark { E.own_mark errors.new ≡ E.own_mark errors.old }
+{
+    let mut place = 0;
+    'ends: for end in ends {
+        place += 1;
+        tell_end(errors, summary, place, end);
+    }
+}
+
+/// Tells how the source at this place has ended.
+fn tell_end<E: Output>(errors: &mut E, summary: bool, place: usize, end: &SourceEnd)
+    ensures told { E.has_failed errors.new ≡ false → (E.has_failed errors.old ≡ false) × Appends (E.contents errors.old) (E.contents errors.new) (line_of_end summary place end.now) }
+    ensures mark { E.own_mark errors.new ≡ E.own_mark errors.old }
+{
+    match end {
+        SourceEnd::Broken { cause } => {
+            let _ = send(errors, line_of_broken(place, *cause).as_bytes());
+        }
+        SourceEnd::Whole {
+            rows,
+            refused,
+            journal,
+        } => {
+            if summary {
+                let line = line_of_whole(place, *rows, *refused, journal.as_slice());
+                let _ = send(errors, line.as_bytes());
+            }
+        }
+    }
+}

@@ -9,7 +9,7 @@ use Rattle.clap.specs.declared.error.kind.ErrorKind.TheVariants.{DisplayHelp, Di
 use Rattle.date_texts.specs.Laws.{OneTarget}
 use Rattle.date_texts.specs.declared.calendar.Target.{Target}
 use Rattle.register_app.specs.Answers.{AreWrong}
-use Rattle.register_app.specs.Faults.{Fault, fault_told, usage, bad_ring, unknown_delimiter, bad_stripes, unknown_target, target_twice, too_many_files, file_twice}
+use Rattle.register_app.specs.Faults.{Fault, IsOfWords, fault_told, usage, bad_ring, unknown_delimiter, bad_stripes, unknown_target, target_twice, too_many_files, file_twice}
 use Rattle.register_app.specs.OptionValues.{IsDelimiterWord, IsNumberWord}
 use Rattle.register_records.specs.Tables.{Layout}
 use Rattle.register_app.specs.Requests.{AreTaken, AreTargetsOf, AskForHelp, AskForVersion, AsksFor, FailsFirst, HaveDelimiter, HaveRing, HaveStripes, HaveTargets, IsDelimiterFault, IsDelimiterOf, IsFaultFromDelimiter, IsFaultFromRing, IsFaultFromStripes, IsFaultFromTargets, IsFaultOf, IsFileFault, IsRingFault, IsRingOf, IsStripesFault, IsStripesOf, IsTargetFault, IsUsageFault, Mean, MeanJust, Meaning, Task, command_line, files_in, refusal_status, value_in, help, version, table, wrong}
@@ -217,6 +217,13 @@ told_just words (Some fault) fails one is first = mean_just one words (wrong fau
 pub if_some : (told : Option Fault) (fails : Fault → Type 0) → IsSomeAnd told fails → IfSome told fails
 if_some None fails is = tt
 if_some (Some fault) fails is = is
+
+pub tells_some : (told : Refusal) (fails : Fault → Type 0) → IsSomeAnd (fault_told told) fails → IsOfWords told
+tells_some told fails is none = absurd (at (fault_told told) is none)
+  where
+    at : (o : Option Fault) → IsSomeAnd o fails → o ≡ None → ⊥
+    at None is e = is
+    at (Some fault) is e = absurd (cc)
 
 -- words that ask for something are not refused
 pub never_refused : (words : List Text) (meaning : Meaning) (status : ℕ) → MeanJust words meaning → ((fault : Fault) → wrong fault ≢ meaning) → status ≢ 2

@@ -1,5 +1,5 @@
 -- What can be wrong with the words.
-use Rattle.std.specs.Prelude.{ℕ, List, Option, Some, None}
+use Rattle.std.specs.Prelude.{◌≡◌, ℕ, List, Option, Some, None}
 use Rattle.clap.specs.Values.{kind_of}
 use Rattle.clap.specs.declared.error.kind.ErrorKind.{ErrorKind}
 use Rattle.date_texts.specs.declared.calendar.Target.{Target}
@@ -31,3 +31,7 @@ fault_told refusal.TooManyFiles = Some too_many_files
 fault_told (refusal.FileTwice file) = Some (file_twice file.now)
 fault_told (refusal.CannotOpen file) = None
 fault_told (refusal.CannotMake file) = None
+
+-- a refusal of the words: one that tells no fault is for want of memory
+abbrev pub IsOfWords : Refusal → Type 0
+IsOfWords told = fault_told told ≡ None → told ≡ refusal.OutOfMemory

@@ -1,7 +1,7 @@
 //! The values of the options.
 
 ghost use Rattle.std.specs.Prelude.{◌≡◌, ◌↔◌, ℕ, Some, Ok, Err, IfOk, IfErr, IfSome};
-ghost use Rattle.register_app.specs.Faults.{fault_told};
+ghost use Rattle.register_app.specs.Faults.{IsOfWords, fault_told};
 ghost use Rattle.register_app.specs.OptionValues.{IsDelimiterWord, IsNumberWord, ListMeansJust};
 
 use crate::refusals::Refusal;
@@ -23,6 +23,7 @@ const NO_TARGET: &str = "none";
 pub fn read_targets(alloc: Global, list: &str) -> Result<Vec<Target>, Refusal<'_>>
     ensures value { IfOk result (λ targets. ListMeansJust list.entry.now (Ok targets.items)) }
     ensures fault { IfErr result (λ refusal. IfSome (fault_told refusal) (λ fault. ListMeansJust list.entry.now (Err fault))) }
+    ensures memory { IfErr result IsOfWords }
 {
     one_target();
     let mut targets = Vec::new(alloc);

@@ -3,7 +3,7 @@
 ghost use Rattle.std.specs.Prelude.{◌≡◌, ◌↔◌, ℕ, List, IfOk, IfErr, IfSome, IfNone, IsSomeAnd, OnOk, map, codes, option_map, unwrap_or, [], Some, true, false};
 ghost use Rattle.std.specs.String.{string_bytes};
 ghost use Rattle.clap.specs.Words.{HasKind, all_of, app_of, fault_of, found_of, one_of, rows_of, rule_of};
-ghost use Rattle.register_app.specs.Faults.{fault_told};
+ghost use Rattle.register_app.specs.Faults.{IsOfWords, fault_told};
 ghost use Rattle.register_app.specs.Requests.{AreFilesToConvert, AreTargetsOf, IsDelimiterFault, IsDelimiterOf, IsFileFault, IsFirstTwice, IsNamedTwice, IsRingFault, IsRingOf, IsStripesFault, IsStripesOf, IsSummaryAsked, IsTargetFault, MeanJust, bare_command, command_line, files_in, flag_rule, meaning_of, option_rule, value_in, word_rule, wrong};
 
 use crate::option_values::{delimiter_named, number_named, read_targets};
@@ -166,6 +166,7 @@ fn read_options<'a>(alloc: Global, words: &'a [String]) -> Result<Options<'a>, c
 fn chosen_targets<'a>(alloc: Global, list: Option<&'a str>) -> Result<Vec<Target>, Refusal<'a>>
     ensures value { IfOk result (λ targets. AreTargetsOf (option_map (λ l. l.now) list.entry) targets.items) }
     ensures fault { IfErr result (λ refusal. IfSome (fault_told refusal) (IsTargetFault (option_map (λ l. l.now) list.entry))) }
+    ensures memory { IfErr result IsOfWords }
 {
     match list {
         Some(list) => read_targets(alloc, list),
@@ -263,6 +264,7 @@ fn check_files<'a>(files: &[&'a str]) -> Result<(), Refusal<'a>>
 pub fn read_request<'a>(alloc: Global, words: &'a [String]) -> Result<Request<'a>, Refusal<'a>>
     ensures asked { IfOk result (λ request. MeanJust (map string_bytes words.entry.now) (meaning_of request)) }
     ensures refused { IfErr result (λ refusal. IfSome (fault_told refusal) (λ fault. MeanJust (map string_bytes words.entry.now) (wrong fault))) }
+    ensures memory { IfErr result IsOfWords }
 {
     one_target();
     let options = match read_options(alloc, words) {

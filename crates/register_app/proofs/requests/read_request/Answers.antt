@@ -4,12 +4,12 @@ use Rattle.std.specs.Prelude.{IfSome, IsSomeAnd}
 use Rattle.std.specs.String.{string_bytes}
 use Rattle.clap.proofs.TakesLemmas.{passed_up}
 use Rattle.clap.specs.Words.{Text}
-use Rattle.register_app.specs.Faults.{fault_told, usage}
+use Rattle.register_app.specs.Faults.{IsOfWords, fault_told, usage}
 use Rattle.register_app.specs.Requests.{AreFilesToConvert, AreTargetsOf, AsksFor, IsDelimiterFault, IsDelimiterOf, IsFileFault, IsRingFault, IsRingOf, IsStripesFault, IsStripesOf, IsTargetFault, MeanJust, files_in, help, table, task_of, value_in, version, wrong}
 use Rattle.register_app.specs.declared.refusals.Refusal.{Refusal}
 use Rattle.register_app.specs.declared.requests.Request.{Request}
 use Rattle.register_app.proofs.SetupFacts.{asked_delimiter, asked_once, asked_ring, asked_stripes, no_fault}
-use Rattle.register_app.proofs.WordFacts.{asks_help, asks_version, if_some, mean_just, misuses, told_just}
+use Rattle.register_app.proofs.WordFacts.{asks_help, asks_version, if_some, mean_just, misuses, tells_some, told_just}
 use Rattle.register_app.proofs.requests.read_request.Goals as goal
 
 pub returns-in-DisplayHelp-clause-asked : goal.returns-in-DisplayHelp-clause-asked
@@ -30,6 +30,7 @@ returns-in_default c =
       refused = mean_just c.one_target.ensures words (wrong (usage _))
           (misuses words c.in-Err.error c.in-Err.ensures.kinds (λ e. c.in_default.not-OutOfMemory (c.kind.ensures ∙ e)) (λ e. c.in_default.not-DisplayHelp (c.kind.ensures ∙ e))
           (λ e. c.in_default.not-DisplayVersion (c.kind.ensures ∙ e)));
+      memory = λ e. absurd (cc);
     }
 
 pub returns-in_err-targets-clause-refused : goal.returns-in_err-targets-clause-refused
@@ -152,3 +153,28 @@ unreachable-requires c =
     let few = asked_stripes _ _ c.in_ok-stripes.ensures.value in
     no_fault c.new.result c.in-Err-new.field-0 _ c.in_ok-ring.ring c.in_ok-delimiter.delimiter c.in_ok-stripes.stripes c.in-Err-new.is once fits cuts c.new.ensures.twice.0
     (λ e. (c.new.ensures.ring_size.0 e).1) (λ e. (c.new.ensures.delimiter.0 e).2) few (λ e. (c.new.ensures.stripes.0 e).3)
+
+-- each refusal tells a fault, or is for want of memory
+pub returns-in_err-targets-clause-memory : goal.returns-in_err-targets-clause-memory
+returns-in_err-targets-clause-memory c =
+    passed_up {T = Request} {E = Refusal} c.from_residual.result c.in_err-targets.field-0.0 IsOfWords c.from_residual.ensures.1 c.in_err-targets.ensures.memory
+
+pub returns-in_err-ring-clause-memory : goal.returns-in_err-ring-clause-memory
+returns-in_err-ring-clause-memory c =
+    passed_up {T = Request} {E = Refusal} c.from_residual-in_err-ring.result c.in_err-ring.field-0.0 IsOfWords c.from_residual-in_err-ring.ensures.1
+    (tells_some c.in_err-ring.field-0.0 _ c.in_err-ring.ensures.fault)
+
+pub returns-in_err-delimiter-clause-memory : goal.returns-in_err-delimiter-clause-memory
+returns-in_err-delimiter-clause-memory c =
+    passed_up {T = Request} {E = Refusal} c.from_residual-in_err-delimiter.result c.in_err-delimiter.field-0.0 IsOfWords c.from_residual-in_err-delimiter.ensures.1
+    (tells_some c.in_err-delimiter.field-0.0 _ c.in_err-delimiter.ensures.fault)
+
+pub returns-in_err-stripes-clause-memory : goal.returns-in_err-stripes-clause-memory
+returns-in_err-stripes-clause-memory c =
+    passed_up {T = Request} {E = Refusal} c.from_residual-in_err-stripes.result c.in_err-stripes.field-0.0 IsOfWords c.from_residual-in_err-stripes.ensures.1
+    (tells_some c.in_err-stripes.field-0.0 _ c.in_err-stripes.ensures.fault)
+
+pub returns-in_err-check_files-clause-memory : goal.returns-in_err-check_files-clause-memory
+returns-in_err-check_files-clause-memory c =
+    passed_up {T = Request} {E = Refusal} c.from_residual-in_err-check_files.result c.in_err-check_files.field-0.0 IsOfWords c.from_residual-in_err-check_files.ensures.1
+    (tells_some c.in_err-check_files.field-0.0 _ c.in_err-check_files.ensures.fault)

@@ -1,7 +1,7 @@
 //! Laws of names, date texts, cells and lists of targets, for the proofs of what stands on them.
 
-ghost use Rattle.date_texts.specs.Laws.{CanonicalTextsReadBack, CellsArePlain, DefaultTargets, FewTargets};
-ghost use Rattle.date_texts.specs.Laws.{OneCalendar, OneCell, OneDateText, OneTarget};
+ghost use Rattle.date_texts.specs.Laws.{AllCalendars, CanonicalTextsReadBack, CellsArePlain, DefaultTargets};
+ghost use Rattle.date_texts.specs.Laws.{FewTargets, OneCalendar, OneCell, OneDateText, OneTarget};
 
 use maya_calendars::laws::{haab_days_in_range, tzolkin_numbers_in_range};
 use solar_calendars::laws::one_roman_date;
@@ -49,4 +49,9 @@ pub fn few_targets()
 /// `Target::ALL` has every calendar in order, the haab and the tzolkin.
 pub fn default_targets()
     ensures { DefaultTargets }
+{}
+
+/// `Calendar::ALL` has every calendar, in the order of the default targets.
+pub fn all_calendars()
+    ensures { AllCalendars }
 {}

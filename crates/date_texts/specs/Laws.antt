@@ -5,6 +5,7 @@ use Rattle.date_texts.specs.declared.calendar.Calendar.{Calendar}
 use Rattle.date_texts.specs.declared.calendar.Target.{Target}
 use Rattle.date_texts.specs.declared.date.Date.{Date}
 use Rattle.date_texts.specs.declared.calendar.TheConstants.{MAX_TARGETS}
+use Rattle.date_texts.specs.declared.cells.TheConstants.{MAX_CELL}
 use Rattle.date_texts.specs.declared.calendar.TheConstants.Target.{ALL}
 use Rattle.date_texts.specs.declared.calendar.TheConstants.Calendar.{ALL as EVERY_CALENDAR}
 use Rattle.date_texts.specs.Calendars.{calendar_name, target_name, all_calendars, all_targets}
@@ -37,6 +38,10 @@ OneCell = (target : Target) (n : ℤ) (x y : List ℕ) → IsCell target n x →
 -- the bytes of a cell are digits and letters of ASCII, spaces, dashes and dots
 abbrev pub CellsArePlain : Type 0
 CellsArePlain = (target : Target) (n : ℤ) (text : List ℕ) → IsCell target n text → IsTrue (list_all is_plain text)
+
+-- a cell has `MAX_CELL` bytes at most
+abbrev pub CellsAreShort : Type 0
+CellsAreShort = (target : Target) (n : ℤ) (text : List ℕ) → IsCell target n text → length text ≤ MAX_CELL
 
 -- targets of which none stands at two places are no more than there are targets
 abbrev pub FewTargets : Type 0

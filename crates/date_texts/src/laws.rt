@@ -1,7 +1,7 @@
 //! Laws of names, date texts, cells and lists of targets, for the proofs of what stands on them.
 
-ghost use Rattle.date_texts.specs.Laws.{AllCalendars, CanonicalTextsReadBack, CellsArePlain, DefaultTargets};
-ghost use Rattle.date_texts.specs.Laws.{FewTargets, OneCalendar, OneCell, OneDateText, OneTarget};
+ghost use Rattle.date_texts.specs.Laws.{AllCalendars, CanonicalTextsReadBack, CellsArePlain, CellsAreShort};
+ghost use Rattle.date_texts.specs.Laws.{DefaultTargets, FewTargets, OneCalendar, OneCell, OneDateText, OneTarget};
 
 use maya_calendars::laws::{haab_days_in_range, tzolkin_numbers_in_range};
 use solar_calendars::laws::one_roman_date;
@@ -36,6 +36,14 @@ pub fn one_cell()
 /// The bytes of a cell are digits and letters of ASCII, spaces, dashes and dots.
 pub fn cells_are_plain()
     ensures { CellsArePlain }
+{
+    haab_days_in_range();
+    tzolkin_numbers_in_range();
+}
+
+/// A cell has [`MAX_CELL`](crate::MAX_CELL) bytes at most, whatever the day.
+pub fn cells_are_short()
+    ensures { CellsAreShort }
 {
     haab_days_in_range();
     tzolkin_numbers_in_range();

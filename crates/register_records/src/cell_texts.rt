@@ -1,0 +1,62 @@
+//! The text of a cell, as a row keeps it.
+
+ghost use Rattle.std.specs.Prelude.{◌≡◌, ◌≤◌, length, take, true};
+ghost use Rattle.std.specs.Str.{is_utf8};
+ghost use Rattle.date_texts.specs.declared.cells.TheConstants.{MAX_CELL};
+
+use date_texts::MAX_CELL;
+use std::str;
+
+/// The text of a cell, with no more room than the longest cell needs: a row holds fourteen and travels
+/// between threads.
+#[derive(Clone, Copy)]
+pub struct CellText {
+    places: [u8; MAX_CELL],
+    count: u8,
+    ghost few: { count ≤ MAX_CELL },
+    ghost is_text: { is_utf8 (take count places) ≡ true },
+}
+
+impl CellText {
+    ghost use Rattle.register_records.specs.CellTexts.{cell_bytes};
+
+    /// The empty text.
+    pub(crate) fn empty() -> CellText {
+        CellText {
+            places: [0; MAX_CELL],
+            count: 0,
+        }
+    }
+
+    /// A copy of this text.
+    #[inline(always)]
+    pub(crate) fn copied(text: &str) -> CellText
+        requires { length text.now ≤ MAX_CELL }
+        ensures { cell_bytes result ≡ text.now }
+    {
+        let mut places = [0; MAX_CELL];
+        let count = text.len();
+        places[..count].copy_from_slice(text.as_bytes());
+        CellText {
+            places,
+            count: count as u8,
+        }
+    }
+
+    /// The bytes of the text.
+    pub fn as_bytes(&self) -> &[u8]
+        ensures { result.now ≡ cell_bytes self.now }
+    {
+        &self.places[..self.count as usize]
+    }
+
+    /// The text.
+    pub fn as_str(&self) -> &str
+        ensures { result.now ≡ cell_bytes self.now }
+    {
+        match str::from_utf8(self.as_bytes()) {
+            Ok(text) => text,
+            Err(_) => unreachable!(),
+        }
+    }
+}

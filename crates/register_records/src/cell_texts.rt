@@ -7,6 +7,9 @@ ghost use Rattle.date_texts.specs.declared.cells.TheConstants.{MAX_CELL};
 use date_texts::MAX_CELL;
 use std::str;
 
+/// The bytes of a date such as 1945-11-12.
+const DATE_LENGTH: usize = 10;
+
 /// The text of a cell, with no more room than the longest cell needs: a row holds fourteen and travels
 /// between threads.
 #[derive(Clone, Copy)]
@@ -15,6 +18,20 @@ pub struct CellText {
     count: u8,
     ghost few: { count ≤ MAX_CELL },
     ghost is_text: { is_utf8 (take count places) ≡ true },
+}
+
+/// Copies bytes to the front of a cell's room.
+#[inline(always)]
+fn copy_to_front(places: &mut [u8; MAX_CELL], bytes: &[u8])
+    requires { length bytes.now ≤ MAX_CELL }
+    ensures { take (length bytes.now) places.new ≡ bytes.now }
+{
+    // Most cells are a date of ten bytes, and a copy of a fixed length is cheap.
+    if bytes.len() == DATE_LENGTH {
+        places[..DATE_LENGTH].copy_from_slice(&bytes[..DATE_LENGTH]);
+    } else {
+        places[..bytes.len()].copy_from_slice(bytes);
+    }
 }
 
 impl CellText {
@@ -34,13 +51,28 @@ impl CellText {
         requires { length text.now ≤ MAX_CELL }
         ensures { cell_bytes result ≡ text.now }
     {
+        let bytes = text.as_bytes();
         let mut places = [0; MAX_CELL];
-        let count = text.len();
-        places[..count].copy_from_slice(text.as_bytes());
+        copy_to_front(&mut places, bytes);
         CellText {
             places,
-            count: count as u8,
+            count: bytes.len() as u8,
         }
+    }
+
+    /// How many bytes the text has.
+    pub(crate) fn len(&self) -> usize
+        ensures value { result ≡ self.now.count }
+        ensures few { result ≤ MAX_CELL }
+    {
+        self.count as usize
+    }
+
+    /// All the room of the text: its bytes, and what lies behind them.
+    pub(crate) fn room(&self) -> &[u8]
+        ensures { result.now ≡ self.now.places }
+    {
+        &self.places
     }
 
     /// The bytes of the text.

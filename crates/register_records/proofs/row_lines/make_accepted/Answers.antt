@@ -21,14 +21,14 @@ push_plain-requires c =
     let day : c.as_bytes.result.now ≡ signed_decimal c.args.day.number = grind (arith, common_steps) in
     rw day (plain-day (line_delimiter c.begin_line.new.line) c.begin_line.new.line.separated c.args.day.number c.args.day.in_range)
 
-pub push_plain-requires-in-cells : goal.push_plain-requires-in-cells
-push_plain-requires-in-cells c =
+pub push_cell-requires : goal.push_cell-requires
+push_cell-requires c =
     let row = c.args.row.now in
     let here = rw c.cells-cell-items.ensures.value at c.cell-item.is in
     let plain = ∥∥₁_elim c.cells-cell-items.ensures.row (Bool-set _ _) (λ (is : IsRowOf (row_targets row) (entry_seen (row_entry row)) (row_seen row)).
     plain-cell c.cells_are_plain.ensures (line_delimiter c.cells.line) c.cells.line.separated c.args.day.number (row_targets row) (row_cells row) c.cells.cell-index c.cell-item.result
     (rw (← c.cells-cell-items.ensures.value) c.cells-test.true) (rw c.requires at is.cells)) in
-    rw c.as_bytes-in-cells.ensures (rw (← here) at plain)
+    rw (← here) at plain
 
 pub cells-init : goal.cells-init
 cells-init c =
@@ -47,8 +47,8 @@ cells-preserved c =
     let here = rw c.cells-cell-items.ensures.value at c.cell-item.is in
     record {
       begun = one-item cell_bytes _ first _ _ _ _ _ (rw (← c.cells-cell-items.ensures.value) c.cells-test.true)
-          (c.as_bytes-in-cells.ensures ∙ ap cell_bytes here) (c.in_ok-push_plain-3.ensures.value fields (omega arith) inv.begun);
-      kept = c.in_ok-push_plain-3.ensures.kept ∙ inv.kept;
+          (ap cell_bytes here) (c.in_ok-push_cell.ensures.value fields (omega arith) inv.begun);
+      kept = c.in_ok-push_cell.ensures.kept ∙ inv.kept;
     }
 
 pub returns-clause-value : goal.returns-clause-value
@@ -59,6 +59,6 @@ returns-clause-value c =
     let cells = λ (items : List CellText). (first ++ map cell_bytes items) ++ [] ∷ [] in
     let all = take_all c.cells.cell-index (row_cells row) (rw (← c.cells-cell-items.ensures.value) c.cells-test.false) in
     let fields = first ++ map cell_bytes (take c.cells.cell-index (row_cells row)) in
-    let last = c.in_ok-push_plain-4.ensures.value fields (omega arith) inv.begun in
-    same-line _ _ (fields ++ [] ∷ []) (row_fields (row_targets row) (row_seen row)) _ (c.in_ok-push_plain-4.ensures.kept ∙ inv.kept)
+    let last = c.in_ok-push_plain-3.ensures.value fields (omega arith) inv.begun in
+    same-line _ _ (fields ++ [] ∷ []) (row_fields (row_targets row) (row_seen row)) _ (c.in_ok-push_plain-3.ensures.kept ∙ inv.kept)
     (ap cells all ∙ accepted-fields (row_targets row) (row_seen row) c.args.day.number (ap outcome_seen c.requires)) (c.in_ok-end.ensures.value (fields ++ [] ∷ []) (two-fields fields [] (omega arith)) last)

@@ -1,8 +1,8 @@
 // The tables that are wanted are worked by hand from the calendars' rules and from published day numbers.
 
 use crate::{
-    Body, Cause, Entry, EntryFault, EntryReader, Output, PlainOutput, RowFault, RowWriter, Setup,
-    SourceEnd, convert, convert_source,
+    Body, Cause, Entry, EntryFault, EntryReader, Output, PlainOutput, Row, RowFault, RowWriter,
+    Setup, SourceEnd, convert, convert_source,
 };
 use arrayvec::ArrayString;
 use date_texts::{Calendar, Refusal, Target};

@@ -7,4 +7,5 @@ pub mod TargetPlaces
 pub mod TargetCount
 pub mod TargetNames
 pub mod CellBytes
+pub mod CellLengths
 pub mod WritingLemmas

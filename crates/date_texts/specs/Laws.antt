@@ -5,8 +5,10 @@ use Rattle.date_texts.specs.declared.calendar.Calendar.{Calendar}
 use Rattle.date_texts.specs.declared.calendar.Target.{Target}
 use Rattle.date_texts.specs.declared.date.Date.{Date}
 use Rattle.date_texts.specs.declared.calendar.TheConstants.{MAX_TARGETS}
+use Rattle.date_texts.specs.declared.cells.TheConstants.{MAX_CELL}
 use Rattle.date_texts.specs.declared.calendar.TheConstants.Target.{ALL}
-use Rattle.date_texts.specs.Calendars.{calendar_name, target_name, all_targets}
+use Rattle.date_texts.specs.declared.calendar.TheConstants.Calendar.{ALL as EVERY_CALENDAR}
+use Rattle.date_texts.specs.Calendars.{calendar_name, target_name, all_calendars, all_targets}
 use Rattle.date_texts.specs.Cells.{IsCell, is_plain}
 use Rattle.date_texts.specs.Dates.{calendar_of_date}
 use Rattle.date_texts.specs.DateText.{IsDateText, canonical_text}
@@ -37,6 +39,10 @@ OneCell = (target : Target) (n : ℤ) (x y : List ℕ) → IsCell target n x →
 abbrev pub CellsArePlain : Type 0
 CellsArePlain = (target : Target) (n : ℤ) (text : List ℕ) → IsCell target n text → IsTrue (list_all is_plain text)
 
+-- a cell has `MAX_CELL` bytes at most
+abbrev pub CellsAreShort : Type 0
+CellsAreShort = (target : Target) (n : ℤ) (text : List ℕ) → IsCell target n text → length text ≤ MAX_CELL
+
 -- targets of which none stands at two places are no more than there are targets
 abbrev pub FewTargets : Type 0
 FewTargets = (targets : List Target)
@@ -46,3 +52,7 @@ FewTargets = (targets : List Target)
 -- the constant `Target::ALL` is every calendar's dates, the haab and the tzolkin, in the order of their list
 abbrev pub DefaultTargets : Type 0
 DefaultTargets = ALL ≡ all_targets
+
+-- the constant `Calendar::ALL` is every calendar, in the order of their list
+abbrev pub AllCalendars : Type 0
+AllCalendars = EVERY_CALENDAR ≡ all_calendars

@@ -12,6 +12,9 @@ use arrayvec::ArrayString;
 use day_numbers::Day;
 use maya_calendars::{haab_on, tzolkin_on};
 
+/// The most bytes of a cell: those of a long count of four digits and four times two, with its dots.
+pub const MAX_CELL: usize = 16;
+
 /// Writes the one date that the calendar has on a day into an empty text, which stays empty before the
 /// calendar's first day.
 fn push_date_cell(text: &mut ArrayString<24>, calendar: Calendar, day: Day)

@@ -1,7 +1,7 @@
 //! Laws of names, date texts, cells and lists of targets, for the proofs of what stands on them.
 
-ghost use Rattle.date_texts.specs.Laws.{CanonicalTextsReadBack, CellsArePlain, DefaultTargets, FewTargets};
-ghost use Rattle.date_texts.specs.Laws.{OneCalendar, OneCell, OneDateText, OneTarget};
+ghost use Rattle.date_texts.specs.Laws.{AllCalendars, CanonicalTextsReadBack, CellsArePlain, CellsAreShort};
+ghost use Rattle.date_texts.specs.Laws.{DefaultTargets, FewTargets, OneCalendar, OneCell, OneDateText, OneTarget};
 
 use maya_calendars::laws::{haab_days_in_range, tzolkin_numbers_in_range};
 use solar_calendars::laws::one_roman_date;
@@ -41,6 +41,14 @@ pub fn cells_are_plain()
     tzolkin_numbers_in_range();
 }
 
+/// A cell has [`MAX_CELL`](crate::MAX_CELL) bytes at most, whatever the day.
+pub fn cells_are_short()
+    ensures { CellsAreShort }
+{
+    haab_days_in_range();
+    tzolkin_numbers_in_range();
+}
+
 /// Targets of which none stands at two places are [`MAX_TARGETS`](crate::MAX_TARGETS) at most.
 pub fn few_targets()
     ensures { FewTargets }
@@ -49,4 +57,9 @@ pub fn few_targets()
 /// `Target::ALL` has every calendar in order, the haab and the tzolkin.
 pub fn default_targets()
     ensures { DefaultTargets }
+{}
+
+/// `Calendar::ALL` has every calendar, in the order of the default targets.
+pub fn all_calendars()
+    ensures { AllCalendars }
 {}

@@ -89,7 +89,12 @@ fn tell_refusal<E: Output>(alloc: Global, errors: &mut E, refusal: &Refusal<'_>)
 }
 
 /// Answers that nothing is done.
-fn refuse<W: Output, E: Output>(alloc: Global, output: W, errors: &mut E, refusal: &Refusal<'_>) -> Answered<W>
+fn refuse<W: Output, E: Output>(
+    alloc: Global,
+    output: W,
+    errors: &mut E,
+    refusal: &Refusal<'_>,
+) -> Answered<W>
     ensures status { (result.status ≡ 3) ⊎ (result.status ≡ refusal_status refusal.now) }
     ensures untouched { result.output ≡ output }
     ensures none { result.outputs.items ≡ [] }
@@ -103,7 +108,12 @@ fn refuse<W: Output, E: Output>(alloc: Global, output: W, errors: &mut E, refusa
 }
 
 /// Prints a page.
-fn print_page<W: Output, E: Output>(alloc: Global, page: &str, output: W, errors: &mut E) -> Answered<W>
+fn print_page<W: Output, E: Output>(
+    alloc: Global,
+    page: &str,
+    output: W,
+    errors: &mut E,
+) -> Answered<W>
     ensures printed { IsPrinted W.contents W.has_failed E.contents E.has_failed page.now result.status output result.output errors.old errors.new }
     ensures statuses { (result.status ≡ 0) ⊎ (result.status ≡ 1) }
     ensures none { result.outputs.items ≡ [] }
@@ -224,14 +234,13 @@ fn convert_input<T: Threads + Wait + Sync, R: Read + Send + Drop, W: Output + Dr
 }
 
 /// Converts files.
-fn convert_files<T: Threads + Wait + Sync, R: Read + Send + Drop, W: Output + Drop, P: Places<R, W>, E: Output>(
-    rt: &T,
-    alloc: Global,
-    output: W,
-    places: &P,
-    errors: &mut E,
-    job: &Job<'_>,
-) -> Answered<W>
+fn convert_files<
+    T: Threads + Wait + Sync,
+    R: Read + Send + Drop,
+    W: Output + Drop,
+    P: Places<R, W>,
+    E: Output,
+>(rt: &T, alloc: Global, output: W, places: &P, errors: &mut E, job: &Job<'_>) -> Answered<W>
     requires few { length job.now.files.items ≤ 32 }
     ensures converted { result.status ≢ 3 → AreConverted R.remaining W.contents W.has_failed W.is_flushed W.own_mark E.contents E.has_failed
         (P.is_opened places.now) (P.is_made places.now) (task_of job.now) result.status result.outputs.items errors.old errors.new }
@@ -264,7 +273,13 @@ fn convert_files<T: Threads + Wait + Sync, R: Read + Send + Drop, W: Output + Dr
 ///
 /// Nothing is read where the status is 2 or 3, or where the words ask for a page. A fault of `errors` changes
 /// neither the status nor the outputs.
-pub fn answer<T: Threads + Wait + Sync, R: Read + Send + Drop, W: Output + Drop, P: Places<R, W>, E: Output>(
+pub fn answer<
+    T: Threads + Wait + Sync,
+    R: Read + Send + Drop,
+    W: Output + Drop,
+    P: Places<R, W>,
+    E: Output,
+>(
     rt: &T,
     alloc: Global,
     words: &[String],
@@ -276,13 +291,13 @@ pub fn answer<T: Threads + Wait + Sync, R: Read + Send + Drop, W: Output + Drop,
     // The words ask for a page, which was printed; or for the table of standard input; or for those of files.
     ensures answered { result.status ≤ 1
         → ((page : List ℕ) × AskForPage (map string_bytes words.now) page
-            × IsPrinted W.contents W.has_failed E.contents E.has_failed page result.status output result.output errors.old errors.new)
+        × IsPrinted W.contents W.has_failed E.contents E.has_failed page result.status output result.output errors.old errors.new)
         ⊎ ((task : Task) × MeanJust (map string_bytes words.now) (table task) × (task.files ≡ [])
-            × IsConverted R.remaining W.contents W.has_failed W.is_flushed W.own_mark E.contents E.has_failed
-            task result.status (input ∷ []) (output ∷ []) (result.output ∷ []) errors.old errors.new)
+        × IsConverted R.remaining W.contents W.has_failed W.is_flushed W.own_mark E.contents E.has_failed
+        task result.status (input ∷ []) (output ∷ []) (result.output ∷ []) errors.old errors.new)
         ⊎ ((task : Task) × MeanJust (map string_bytes words.now) (table task) × (task.files ≢ []) × (result.output ≡ output)
-            × AreConverted R.remaining W.contents W.has_failed W.is_flushed W.own_mark E.contents E.has_failed
-            (P.is_opened places.now) (P.is_made places.now) task result.status result.outputs.items errors.old errors.new) }
+        × AreConverted R.remaining W.contents W.has_failed W.is_flushed W.own_mark E.contents E.has_failed
+        (P.is_opened places.now) (P.is_made places.now) task result.status result.outputs.items errors.old errors.new) }
 
     // Unless the status is 3, words are refused exactly where something is wrong with them.
     ensures refused { result.status ≢ 3 → (result.status ≡ 2) ↔ AreWrong (map string_bytes words.now) }

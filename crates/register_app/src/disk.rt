@@ -63,8 +63,7 @@ impl<'a, F: Files> Disk<'a, F> {
 }
 
 impl<'a, F: Files, I: Read, O: Write> Places<Source<I, F::File>, PlainOutput<Sink<O, F::File>>>
-    for Disk<'a, F>
-{
+    for Disk<'a, F> {
     ghost use Rattle.register_records.specs.Views.{mark_of};
 
     ghost is_opened = { λ _ _ _. ⊤ };

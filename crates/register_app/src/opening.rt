@@ -50,7 +50,9 @@ fn open_sources<'a, R: Drop, W, P: Places<R, W>>(
 
 /// Whether an output's name is that of a file that another output goes to.
 fn is_taken<R, W, P: Places<R, W>>(places: &P, names: &[String], name: &str) -> bool {
-    names.iter().any(|other| places.are_one_file(other.as_str(), name))
+    names
+        .iter()
+        .any(|other| places.are_one_file(other.as_str(), name))
 }
 
 /// Makes the output of each file.

@@ -9,13 +9,12 @@ use crate::help::HELP;
 use crate::places::Places;
 use register_records::PlainOutput;
 use std::alloc::{AllocError, Global};
-use std::fs;
-use std::io;
 use std::io::{ErrorKind, Read, Write};
 use std::rt::Files;
 use std::sync::Wait;
 use std::test::Fail;
 use std::thread::Threads;
+use std::{fs, io};
 
 /// What an input gives: the status, the lines after the heading, and standard error.
 #[derive(Clone, Copy)]
@@ -67,7 +66,15 @@ fn run<T: Threads + Wait + Sync>(
 ) -> (u8, Vec<u8>, Vec<u8>) {
     let mut errors = PlainOutput::new(Vec::new(alloc), 0);
     let output = PlainOutput::new(Vec::new(alloc), 1);
-    let answered = answer(rt, alloc, words, input, output, &Shelf { alloc }, &mut errors);
+    let answered = answer(
+        rt,
+        alloc,
+        words,
+        input,
+        output,
+        &Shelf { alloc },
+        &mut errors,
+    );
     (
         answered.status,
         answered.output.into_inner(),
@@ -142,7 +149,8 @@ const FILES: [FilesCase; 8] = [
 ];
 
 /// The table of `a.csv`.
-const A_TABLE: &[u8] = b"row,id,calendar,date,rd,weekday,gregorian,refusal\n1,a,gregorian,1945-11-12,710347,Monday,1945-11-12,\n";
+const A_TABLE: &[u8] =
+    b"row,id,calendar,date,rd,weekday,gregorian,refusal\n1,a,gregorian,1945-11-12,710347,Monday,1945-11-12,\n";
 
 #[test]
 fn files_get_their_tables(rt: HostRuntime) -> Result<(), Fail> {
@@ -152,7 +160,15 @@ fn files_get_their_tables(rt: HostRuntime) -> Result<(), Fail> {
         let mut errors = PlainOutput::new(Vec::new(alloc), 0);
         let output = PlainOutput::new(Vec::new(alloc), 1);
         let input: &'static [u8] = b"";
-        let answered = answer(&rt, alloc, words.as_slice(), input, output, &Shelf { alloc }, &mut errors);
+        let answered = answer(
+            &rt,
+            alloc,
+            words.as_slice(),
+            input,
+            output,
+            &Shelf { alloc },
+            &mut errors,
+        );
         assert_eq!(rt; answered.status, case.status);
         assert!(rt; answered.output.into_inner().is_empty());
         assert_eq!(rt; errors.into_inner().as_slice(), case.errors);
@@ -169,10 +185,14 @@ fn files_get_their_tables(rt: HostRuntime) -> Result<(), Fail> {
 #[test]
 fn summaries_count_refusals(rt: HostRuntime) -> Result<(), Fail> {
     let words = words_of(rt.alloc(), &["--summary", "--to", "none"])?;
-    let text: &'static [u8] = b"id,calendar,date\na,gregorian,1945-11-12\nb,x,1\nc,y,2\nd,gregorian,1945/11/12\ne\nf,gregorian,10000-01-01\n";
+    let text: &'static [u8] =
+        b"id,calendar,date\na,gregorian,1945-11-12\nb,x,1\nc,y,2\nd,gregorian,1945/11/12\ne\nf,gregorian,10000-01-01\n";
     let (status, _, errors) = run(&rt, rt.alloc(), words.as_slice(), text);
     assert_eq!(rt; status, 0);
-    assert_eq!(rt; errors.as_slice(), b"source 1: 6 rows, 5 refused (1: 1, 4: 2, 5: 1, 7: 1)\n".as_slice());
+    assert_eq!(rt;
+        errors.as_slice(),
+        b"source 1: 6 rows, 5 refused (1: 1, 4: 2, 5: 1, 7: 1)\n".as_slice()
+    );
     Ok(())
 }
 
@@ -181,7 +201,9 @@ const FOLDER: &str = "files_of_the_test";
 
 /// The names of a register there, of a copy of its name and of its table.
 const REGISTER: &str = "files_of_the_test/register.csv";
+
 const SAME_REGISTER: &str = "files_of_the_test/./register.csv";
+
 const TABLE: &str = "files_of_the_test/register.csv.out.csv";
 
 /// Answers words over the files of the system: the status and standard error.
@@ -197,7 +219,15 @@ where
     let mut errors = PlainOutput::new(Vec::new(alloc), 0);
     let input: Source<&'static [u8], T::File> = Source::Input(b"");
     let output = PlainOutput::new(Sink::Output(Vec::new(alloc)), 1);
-    let answered = answer(rt, alloc, words.as_slice(), input, output, &Disk::new(rt), &mut errors);
+    let answered = answer(
+        rt,
+        alloc,
+        words.as_slice(),
+        input,
+        output,
+        &Disk::new(rt),
+        &mut errors,
+    );
     Ok((answered.status, errors.into_inner()))
 }
 
@@ -208,7 +238,11 @@ fn files_on_disk_get_their_tables(rt: HostRuntime) -> Result<(), Fail> {
     fs::create_dir(&rt, FOLDER)?;
     fs::write(&rt, REGISTER, FIRST_TEXT)?;
     // What stood in the table's file is gone.
-    fs::write(&rt, TABLE, b"an older and longer text that stands where the table comes to stand, and more\n".as_slice())?;
+    fs::write(
+        &rt,
+        TABLE,
+        b"an older and longer text that stands where the table comes to stand, and more\n".as_slice(),
+    )?;
     let (status, errors) = answer_on_disk(&rt, alloc, &["--to", "gregorian", REGISTER])?;
     assert_eq!(rt; status, 0);
     assert!(rt; errors.is_empty());
@@ -217,13 +251,22 @@ fn files_on_disk_get_their_tables(rt: HostRuntime) -> Result<(), Fail> {
     // A folder, a file that is not there, and two names of one file.
     let (status, errors) = answer_on_disk(&rt, alloc, &[FOLDER])?;
     assert_eq!(rt; status, 3);
-    assert_eq!(rt; errors.as_slice(), b"register: cannot open files_of_the_test\n".as_slice());
+    assert_eq!(rt;
+        errors.as_slice(),
+        b"register: cannot open files_of_the_test\n".as_slice()
+    );
     let (status, errors) = answer_on_disk(&rt, alloc, &["files_of_the_test/none.csv"])?;
     assert_eq!(rt; status, 3);
-    assert_eq!(rt; errors.as_slice(), b"register: cannot open files_of_the_test/none.csv\n".as_slice());
+    assert_eq!(rt;
+        errors.as_slice(),
+        b"register: cannot open files_of_the_test/none.csv\n".as_slice()
+    );
     let (status, errors) = answer_on_disk(&rt, alloc, &[REGISTER, SAME_REGISTER])?;
     assert_eq!(rt; status, 3);
-    assert_eq!(rt; errors.as_slice(), b"register: cannot make files_of_the_test/./register.csv.out.csv\n".as_slice());
+    assert_eq!(rt;
+        errors.as_slice(),
+        b"register: cannot make files_of_the_test/./register.csv.out.csv\n".as_slice()
+    );
     fs::remove_dir_all(&rt, FOLDER)?;
     Ok(())
 }
@@ -592,7 +635,15 @@ fn help_reads_nothing(rt: HostRuntime) -> Result<(), Fail> {
         let words = words_of(rt.alloc(), words)?;
         let mut errors = PlainOutput::new(Vec::new(rt.alloc()), 0);
         let output = PlainOutput::new(Vec::new(rt.alloc()), 1);
-        let answered = answer(&rt, rt.alloc(), words.as_slice(), Broken, output, &NoPlaces, &mut errors);
+        let answered = answer(
+            &rt,
+            rt.alloc(),
+            words.as_slice(),
+            Broken,
+            output,
+            &NoPlaces,
+            &mut errors,
+        );
         assert_eq!(rt; answered.status, 0);
         assert_eq!(rt; answered.output.into_inner().as_slice(), HELP.as_bytes());
         assert!(rt; errors.into_inner().is_empty());
@@ -608,7 +659,15 @@ fn help_that_cannot_be_printed_is_told(rt: HostRuntime) -> Result<(), Fail> {
     let words = words_of(rt.alloc(), &["--help"])?;
     let mut errors = PlainOutput::new(Vec::new(rt.alloc()), 0);
     let output = PlainOutput::new(Broken, 1);
-    let answered = answer(&rt, rt.alloc(), words.as_slice(), Broken, output, &NoPlaces, &mut errors);
+    let answered = answer(
+        &rt,
+        rt.alloc(),
+        words.as_slice(),
+        Broken,
+        output,
+        &NoPlaces,
+        &mut errors,
+    );
     assert_eq!(rt; answered.status, 1);
     assert_eq!(rt;
         errors.into_inner().as_slice(),

@@ -9,7 +9,6 @@ use Rattle.std.proofs.lemmas.Fmt.{decimal_by_steps}
 use Rattle.std.proofs.lemmas.List.{map-append, take_more}
 use Rattle.std.proofs.lemmas.List.Folds.{list_any-append}
 use Rattle.std.specs.List.{list_all}
-use Rattle.arrayvec.specs.ArrayString.{ArrayString}
 use Rattle.csv.specs.Writing.{field_text, fields_text, is_blank, needs_byte, needs_quotes, row_body}
 use Rattle.csv.proofs.WriteFacts.{fields-snoc}
 use Rattle.day_numbers.specs.Days.{IsDayNumber, weekday_name, weekday_number, weekday_place}
@@ -18,7 +17,9 @@ use Rattle.day_numbers.specs.declared.day.Weekday.TheVariants.{Sunday, Monday, T
 use Rattle.register_records.specs.Lines.{line_text, writing}
 use Rattle.register_records.specs.SetupRules.{is_delimiter}
 use Rattle.register_records.specs.Outcomes.{AreCellsOn, TableRow}
+use Rattle.register_records.specs.CellTexts.{cell_bytes}
 use Rattle.register_records.specs.Seen.{cells_seen}
+use Rattle.register_records.specs.declared.cell_texts.CellText.{CellText}
 use Rattle.date_texts.specs.Cells.{is_plain}
 use Rattle.date_texts.specs.Laws.{CellsArePlain}
 use Rattle.register_records.specs.Tables.{entry_fields, row_fields, weekday_at}
@@ -82,11 +83,11 @@ plain-bytes d h (c ∷ text) p =
     let both = and_parts (is_plain c) (list_all is_plain text) p in
     rw (plain-cell-byte d c h both.0, plain-bytes d h text both.1) refl
 
-pub plain-cell : CellsArePlain → (d : ℕ) → is_delimiter d ≡ true → (n : ℤ) (targets : List Target) (cells : List ArrayString) (i : ℕ) (e : ArrayString) → i < length cells
-    → AreCellsOn n targets (cells_seen cells) → needs_quotes (writing d) (get_or cells i e).bytes ≡ false
+pub plain-cell : CellsArePlain → (d : ℕ) → is_delimiter d ≡ true → (n : ℤ) (targets : List Target) (cells : List CellText) (i : ℕ) (e : CellText) → i < length cells
+    → AreCellsOn n targets (cells_seen cells) → needs_quotes (writing d) (cell_bytes (get_or cells i e)) ≡ false
 plain-cell law d h n targets [] i e lt are = absurd (omega arith)
 plain-cell law d h n [] (cell ∷ cells) i e lt are = absurd are
-plain-cell law d h n (target ∷ targets) (cell ∷ cells) zero e lt are = plain-bytes d h cell.bytes (law target n cell.bytes are.0)
+plain-cell law d h n (target ∷ targets) (cell ∷ cells) zero e lt are = plain-bytes d h (cell_bytes cell) (law target n (cell_bytes cell) are.0)
 plain-cell law d h n (target ∷ targets) (cell ∷ cells) (suc i) e lt are = plain-cell law d h n targets cells i e (omega arith) are.1
 
 -- the name of a weekday, by its number

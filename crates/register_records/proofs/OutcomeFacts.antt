@@ -2,7 +2,8 @@
 use Rattle.std.proofs.Common.{◌≡◌, ◌<◌, ◌+◌, ◌++◌, ℕ, List, [], ◌∷◌, Option, Some, None, refl, length, take, get_or, IfOk}
 use Rattle.std.specs.Prelude.{◌↔◌, ℤ, IsOk, Result, Ok, Err}
 use Rattle.std.proofs.lemmas.List.{map-append, take_more}
-use Rattle.arrayvec.specs.ArrayString.{ArrayString}
+use Rattle.register_records.specs.CellTexts.{cell_bytes}
+use Rattle.register_records.specs.declared.cell_texts.CellText.{CellText}
 use Rattle.day_numbers.specs.Days.{IsDayNumber}
 use Rattle.day_numbers.specs.declared.day.Day.{Day}
 use Rattle.date_texts.specs.Calendars.{calendar_name}
@@ -62,7 +63,7 @@ cells-last n (s ∷ ts) [] t text a h = absurd a
 cells-last n (s ∷ ts) (x ∷ texts) t text a h = (a.0, cells-last n ts texts t text a.1 h)
 
 -- one more cell
-pub cells-more : (n : ℤ) (ts : List Target) (i : ℕ) (d : Target) (made made2 : List ArrayString) (cell : ArrayString) → i < length ts
-    → AreCellsOn n (take i ts) (cells_seen made) → IsCell (get_or ts i d) n cell.bytes → made2 ≡ made ++ cell ∷ [] → AreCellsOn n (take (i + 1) ts) (cells_seen made2)
+pub cells-more : (n : ℤ) (ts : List Target) (i : ℕ) (d : Target) (made made2 : List CellText) (cell : CellText) → i < length ts
+    → AreCellsOn n (take i ts) (cells_seen made) → IsCell (get_or ts i d) n (cell_bytes cell) → made2 ≡ made ++ cell ∷ [] → AreCellsOn n (take (i + 1) ts) (cells_seen made2)
 cells-more n ts i d made made2 cell lt h is e =
-    rw (e, map-append (λ (c : ArrayString). c.bytes) made (cell ∷ []), take_more ts i d lt) (cells-last n (take i ts) (cells_seen made) (get_or ts i d) cell.bytes h is)
+    rw (e, map-append cell_bytes made (cell ∷ []), take_more ts i d lt) (cells-last n (take i ts) (cells_seen made) (get_or ts i d) (cell_bytes cell) h is)

@@ -1,6 +1,7 @@
 pub mod Headers
 pub mod Entries
 pub mod Outcomes
+pub mod CellTexts
 pub mod Seen
 pub mod Lines
 pub mod Tables

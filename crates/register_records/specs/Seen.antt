@@ -1,11 +1,12 @@
 -- What a clause sees of an `Entry` and of the parts of a `Row`.
 use Rattle.std.specs.Prelude.{ℤ, ℕ, List, map, Result, Ok, Err}
 use Rattle.std.specs.declared.snapshot.Snapshot.{Snapshot}
-use Rattle.arrayvec.specs.ArrayString.{ArrayString}
 use Rattle.day_numbers.specs.declared.day.Day.{Day}
 use Rattle.date_texts.specs.declared.refusal.Refusal.{Refusal}
+use Rattle.register_records.specs.CellTexts.{cell_bytes}
 use Rattle.register_records.specs.Entries.{Numbered, body_seen}
 use Rattle.register_records.specs.Outcomes.{TableRow}
+use Rattle.register_records.specs.declared.cell_texts.CellText.{CellText}
 use Rattle.register_records.specs.declared.entries.Body.{Body}
 use Rattle.register_records.specs.declared.entries.Entry.{Entry}
 
@@ -29,10 +30,10 @@ outcome_seen (Ok day) = Ok day.number
 outcome_seen (Err r) = Err r
 
 -- the bytes of the cells
-abbrev pub cells_seen : List ArrayString → List (List ℕ)
-cells_seen cells = map (λ cell. cell.bytes) cells
+abbrev pub cells_seen : List CellText → List (List ℕ)
+cells_seen cells = map cell_bytes cells
 
 -- the row that an entry, an outcome and cells make
-abbrev pub row_made : Entry → Result Day Refusal → List ArrayString → TableRow
+abbrev pub row_made : Entry → Result Day Refusal → List CellText → TableRow
 row_made entry outcome cells =
     record { number = entry.number; body = body_seen entry.body; outcome = outcome_seen outcome; cells = cells_seen cells }

@@ -1,7 +1,6 @@
 -- What a clause sees of the types of this crate.
 use Rattle.std.specs.Prelude.{Bool, ℕ, List, Option, Result}
 use Rattle.std.specs.declared.io.traits.Read.{Ghosts}
-use Rattle.arrayvec.specs.ArrayString.{ArrayString}
 use Rattle.csv.specs.Reading.{has_failed}
 use Rattle.day_numbers.specs.declared.day.Day.{Day}
 use Rattle.date_texts.specs.declared.calendar.Target.{Target}
@@ -12,6 +11,7 @@ use Rattle.register_records.specs.Outcomes.{TableRow}
 use Rattle.register_records.specs.Seen.{entries_shown, row_made}
 use Rattle.register_records.specs.ShortLists.{items_in}
 use Rattle.register_records.specs.Tables.{Layout, row_line}
+use Rattle.register_records.specs.declared.cell_texts.CellText.{CellText}
 use Rattle.register_records.specs.declared.entries.Entry.{Entry}
 use Rattle.register_records.specs.declared.outputs.PlainOutput.{PlainOutput}
 use Rattle.register_records.specs.declared.reading.EntryReader.{EntryReader}
@@ -76,7 +76,7 @@ row_targets row = items_in row.targets
 abbrev pub row_outcome : Row → Result Day Refusal
 row_outcome row = row.outcome
 
-abbrev pub row_cells : Row → List ArrayString
+abbrev pub row_cells : Row → List CellText
 row_cells row = items_in row.cells
 
 abbrev pub row_seen : Row → TableRow

@@ -2,16 +2,19 @@
 
 ghost use Rattle.std.specs.Prelude.{◌≡◌, ◌≤◌, [], length};
 ghost use Rattle.register_records.specs.Outcomes.{AreCells, IsOutcome, IsRowOf};
+ghost use Rattle.date_texts.specs.Cells.{IsCell};
+ghost use Rattle.register_records.specs.CellTexts.{cell_bytes};
 ghost use Rattle.register_records.specs.Entries.{body_seen};
 ghost use Rattle.register_records.specs.Seen.{cells_seen, entry_seen, outcome_seen};
 ghost use Rattle.register_records.specs.ShortLists.{items_in};
 ghost use Rattle.register_records.specs.Views.{row_entry, row_seen, row_targets, targets_of};
 
+use crate::cell_texts::CellText;
 use crate::entries::{Body, Entry};
 use crate::rows::Row;
 use crate::setups::Setup;
 use crate::short_lists::ShortList;
-use arrayvec::ArrayString;
+use date_texts::laws::cells_are_short;
 use date_texts::{MAX_TARGETS, Refusal, Target, calendar_named, cell, day_of_date, read_date};
 use day_numbers::Day;
 
@@ -34,9 +37,19 @@ fn day_of_body(body: &Body) -> Result<Day, Refusal>
     }
 }
 
+/// The cell of a day, in as much room as a row has for it.
+#[inline(always)]
+fn short_cell(target: Target, day: Day) -> CellText
+    ensures { IsCell target day.number (cell_bytes result) }
+{
+    cells_are_short();
+    let text = cell(target, day);
+    CellText::copied(text.as_str())
+}
+
 /// Fills an empty list with the cells of an outcome: one for each target on a day, and none with a
 /// refusal. The list is lent, since it is large.
-fn fill(cells: &mut ShortList<ArrayString<24>>, targets: &[Target], outcome: Result<Day, Refusal>)
+fn fill(cells: &mut ShortList<CellText>, targets: &[Target], outcome: Result<Day, Refusal>)
     requires empty { items_in cells.old ≡ [] }
     requires few { length targets.now ≤ MAX_TARGETS }
     ensures { AreCells targets.now (outcome_seen outcome) (cells_seen (items_in cells.new)) }
@@ -45,7 +58,7 @@ fn fill(cells: &mut ShortList<ArrayString<24>>, targets: &[Target], outcome: Res
         return;
     };
     for target in targets {
-        cells.push(cell(*target, day));
+        cells.push(short_cell(*target, day));
     }
 }
 
@@ -56,7 +69,7 @@ pub fn convert(entry: Entry, setup: &Setup) -> Row
     ensures targets { row_targets result ≡ targets_of setup.now }
     ensures row { IsRowOf (targets_of setup.now) (entry_seen entry) (row_seen result) }
 {
-    let mut cells = ShortList::new(ArrayString::new());
+    let mut cells = ShortList::new(CellText::empty());
     let outcome = day_of_body(entry.body());
     fill(&mut cells, setup.targets(), outcome);
     Row {

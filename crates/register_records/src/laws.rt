@@ -1,7 +1,12 @@
 //! Laws of tables.
 
-ghost use Rattle.register_records.specs.Laws.{CellsReadBack, OneTable, TablesGrow};
+ghost use Rattle.register_records.specs.Laws.{CellsReadBack, HasRow, OneTable, TablesGrow};
+ghost use Rattle.register_records.specs.Seen.{entry_seen};
+ghost use Rattle.register_records.specs.Views.{targets_of};
 
+use crate::converting::convert;
+use crate::entries::Entry;
+use crate::setups::Setup;
 use date_texts::laws::{canonical_texts_read_back, one_calendar, one_cell, one_date_text};
 
 /// A text has at most one table: at most one list of entries, and for each list of targets at most one
@@ -12,6 +17,13 @@ pub fn one_table()
     one_calendar();
     one_date_text();
     one_cell();
+}
+
+/// Every entry has a row, for the targets of every setup.
+pub fn every_entry_has_row(entry: Entry, setup: &Setup)
+    ensures { HasRow (targets_of setup.now) (entry_seen entry) }
+{
+    convert(entry, setup);
 }
 
 /// A cell of a calendar that is not empty, in a record as a date of that calendar, gives the cell's day

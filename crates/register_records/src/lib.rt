@@ -6,6 +6,7 @@
 #![tactic(auto)]
 
 mod causes;
+mod cell_texts;
 mod converting;
 mod entries;
 mod header;
@@ -21,6 +22,7 @@ mod short_lists;
 mod sources;
 mod writing;
 
+pub use cell_texts::CellText;
 pub use converting::convert;
 pub use entries::{Body, Entry};
 pub use outputs::{Output, OutputFault, PlainOutput, send};

@@ -5,9 +5,11 @@
 
 ghost use Rattle.std.specs.Prelude.{◌≡◌, ◌≤◌, ◌++◌, ◌∷◌, [], ℕ, List, true, false, length, IfOk, OnOk};
 ghost use Rattle.csv.specs.Writing as Spec;
+ghost use Rattle.register_records.specs.CellTexts.{cell_bytes};
 ghost use Rattle.register_records.specs.Lines.{line_text, writing};
 ghost use Rattle.register_records.specs.SetupRules.{is_delimiter};
 
+use crate::cell_texts::CellText;
 use std::alloc::{AllocError, Global};
 
 const QUOTE: u8 = b'"';
@@ -130,6 +132,21 @@ impl Line {
     {
         self.bytes.push(self.delimiter)?;
         push_field(&mut self.bytes, self.delimiter, field)?;
+        Ok(())
+    }
+
+    /// Appends a cell that needs no quotes. All its room is appended and what lies behind the text is cut off again: a
+    /// copy of a fixed length is cheap.
+    pub fn push_cell(&mut self, cell: &CellText) -> Result<(), AllocError>
+        requires { Spec.needs_quotes (writing (line_delimiter self.old)) (cell_bytes cell.now) ≡ false }
+        ensures value { (fields : List (List ℕ)) → 1 ≤ length fields → Begins fields self.old
+            → OnOk result (Begins (fields ++ cell_bytes cell.now ∷ []) self.new) }
+        ensures kept { line_delimiter self.new ≡ line_delimiter self.old }
+    {
+        self.bytes.push(self.delimiter)?;
+        let end = self.bytes.len() + cell.len();
+        self.bytes.extend_from_slice(cell.room())?;
+        self.bytes.truncate(end);
         Ok(())
     }
 

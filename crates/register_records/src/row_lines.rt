@@ -70,7 +70,7 @@ fn make_accepted(line: &mut Line, row: &Row, day: Day) -> Result<(), AllocError>
     line.push_plain(day.weekday().name().as_bytes())?;
     cells_are_plain();
     'cells: for cell in row.cells() {
-        line.push_plain(cell.as_str().as_bytes())?;
+        line.push_cell(cell)?;
     }
     line.push_plain(b"")?;
     line.end()?;

@@ -5,11 +5,11 @@ ghost use Rattle.register_records.specs.Outcomes.{IsRowOf};
 ghost use Rattle.register_records.specs.ShortLists.{items_in};
 ghost use Rattle.register_records.specs.Seen.{entry_seen, row_made};
 
+use crate::cell_texts::CellText;
 use crate::entries::Entry;
 use crate::setups::Setup;
 use crate::short_lists::ShortList;
 use crate::sources::Note;
-use arrayvec::ArrayString;
 use date_texts::{MAX_TARGETS, Refusal, Target};
 use day_numbers::Day;
 
@@ -20,7 +20,7 @@ pub struct Row {
     pub(crate) entry: Entry,
     pub(crate) targets: ShortList<Target>,
     pub(crate) outcome: Result<Day, Refusal>,
-    pub(crate) cells: ShortList<ArrayString<24>>,
+    pub(crate) cells: ShortList<CellText>,
     pub ghost is_row: { ∥ IsRowOf (items_in targets) (entry_seen entry) (row_made entry outcome (items_in cells)) ∥₁ },
 }
 
@@ -52,7 +52,7 @@ impl Row {
     }
 
     /// The cells, one for each target; a refused row has none.
-    pub fn cells(&self) -> &[ArrayString<24>]
+    pub fn cells(&self) -> &[CellText]
         ensures value { result.now ≡ row_cells self.now }
         ensures few { length result.now ≤ MAX_TARGETS }
         ensures row { ∥ IsRowOf (row_targets self.now) (entry_seen (row_entry self.now)) (row_seen self.now) ∥₁ }

@@ -1,14 +1,15 @@
 // The tables that are wanted are worked by hand from the calendars' rules and from published day numbers.
 
 use crate::{
-    Body, Cause, Entry, EntryFault, EntryReader, Note, Output, PlainOutput, RowFault, RowWriter,
-    Setup, SourceEnd, convert, convert_source,
+    Body, Cause, Entry, EntryFault, EntryReader, Note, Output, PlainOutput, Row, RowFault,
+    RowWriter, Setup, SourceEnd, convert, convert_source,
 };
 use arrayvec::ArrayString;
 use date_texts::{Calendar, Refusal, Target};
 use std::alloc::Global;
 use std::io;
 use std::io::{ErrorKind, Read, Write};
+use std::mem::size_of;
 use std::process::Abort;
 use std::test::Fail;
 
@@ -651,5 +652,27 @@ fn readers_and_writers_fail_from_a_fault_on(rt: HostRuntime) -> Result<(), Fail>
     let mut writer = RowWriter::open(rt.alloc(), &mut whole, &setup)?;
     writer.put(&mut whole, &row)?;
     assert!(rt; writer.end().is_ok());
+    Ok(())
+}
+
+#[test]
+fn rows_are_small(rt: HostRuntime) -> Result<(), Fail> {
+    assert_eq!(rt; size_of::<Entry>(), 128);
+    assert_eq!(rt; size_of::<Row>(), 432);
+    Ok(())
+}
+
+#[test]
+fn cells_tell_their_texts(rt: HostRuntime) -> Result<(), Fail> {
+    let setup = both(b',')?;
+    let fields = Body::Fields {
+        id: ArrayString::new(),
+        calendar: ArrayString::from("Julian")?,
+        date: ArrayString::from("1582-10-05")?,
+    };
+    let row = convert(Entry::new(1, fields).ok_or("no entry")?, &setup);
+    let cell = row.cells().first().ok_or("no cell")?;
+    assert_eq!(rt; cell.as_str(), "1582-10-15");
+    assert_eq!(rt; cell.as_bytes().len(), 10);
     Ok(())
 }

@@ -1,10 +1,10 @@
 use Rattle.std.proofs.Common.{arith, ap, length, length-append}
-use Rattle.arrayvec.specs.ArrayString.{ArrayString}
+use Rattle.register_records.specs.declared.cell_texts.CellText.{CellText}
 use Rattle.register_records.proofs.OutcomeFacts.{cells-more}
 use Rattle.register_records.proofs.converting.fill.Goals as goal
 
 pub loop-target-preserved : goal.loop-target-preserved
 loop-target-preserved c = record {
-  count = omega (arith, length-append {A = ArrayString}, ap length c.push.ensures, c.loop-target.invariant.count);
-  cells = cells-more _ _ _ _ _ _ _ c.loop-target-test.true c.loop-target.invariant.cells c.cell.ensures.value c.push.ensures;
+  count = omega (arith, length-append {A = CellText}, ap length c.push.ensures, c.loop-target.invariant.count);
+  cells = cells-more _ _ _ _ _ _ _ c.loop-target-test.true c.loop-target.invariant.cells c.short_cell.ensures c.push.ensures;
 }

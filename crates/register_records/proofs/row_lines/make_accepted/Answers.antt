@@ -4,7 +4,8 @@ use Rattle.std.proofs.lemmas.Grind.{common_steps}
 use Rattle.std.proofs.lemmas.List.{take_all}
 use Rattle.std.specs.Fmt.{signed_decimal}
 use mathlib.Core.Bool.{Bool-set}
-use Rattle.arrayvec.specs.ArrayString.{ArrayString}
+use Rattle.register_records.specs.CellTexts.{cell_bytes}
+use Rattle.register_records.specs.declared.cell_texts.CellText.{CellText}
 use Rattle.day_numbers.specs.Days.{weekday_name, weekday_number}
 use Rattle.register_records.specs.LineViews.{line_delimiter}
 use Rattle.register_records.specs.Views.{row_cells, row_entry, row_seen, row_targets}
@@ -20,14 +21,14 @@ push_plain-requires c =
     let day : c.as_bytes.result.now ≡ signed_decimal c.args.day.number = grind (arith, common_steps) in
     rw day (plain-day (line_delimiter c.begin_line.new.line) c.begin_line.new.line.separated c.args.day.number c.args.day.in_range)
 
-pub push_plain-requires-in-cells : goal.push_plain-requires-in-cells
-push_plain-requires-in-cells c =
+pub push_cell-requires : goal.push_cell-requires
+push_cell-requires c =
     let row = c.args.row.now in
     let here = rw c.cells-cell-items.ensures.value at c.cell-item.is in
     let plain = ∥∥₁_elim c.cells-cell-items.ensures.row (Bool-set _ _) (λ (is : IsRowOf (row_targets row) (entry_seen (row_entry row)) (row_seen row)).
     plain-cell c.cells_are_plain.ensures (line_delimiter c.cells.line) c.cells.line.separated c.args.day.number (row_targets row) (row_cells row) c.cells.cell-index c.cell-item.result
     (rw (← c.cells-cell-items.ensures.value) c.cells-test.true) (rw c.requires at is.cells)) in
-    rw (c.as_bytes-in-cells.ensures.value, c.as_str.ensures.value) (rw (← here) at plain)
+    rw (← here) at plain
 
 pub cells-init : goal.cells-init
 cells-init c =
@@ -42,12 +43,12 @@ pub cells-preserved : goal.cells-preserved
 cells-preserved c =
     let inv = c.cells.invariant in
     let first = entry_fields (row_seen c.args.row.now) ++ (signed_decimal c.args.day.number ∷ weekday_name (weekday_at (weekday_number c.args.day.number)) ∷ []) in
-    let fields = first ++ map (λ (cell : ArrayString). cell.bytes) (take c.cells.cell-index (row_cells c.args.row.now)) in
+    let fields = first ++ map cell_bytes (take c.cells.cell-index (row_cells c.args.row.now)) in
     let here = rw c.cells-cell-items.ensures.value at c.cell-item.is in
     record {
-      begun = one-item (λ (cell : ArrayString). cell.bytes) _ first _ _ _ _ _ (rw (← c.cells-cell-items.ensures.value) c.cells-test.true)
-          (c.as_bytes-in-cells.ensures.value ∙ c.as_str.ensures.value ∙ ap (λ (cell : ArrayString). cell.bytes) here) (c.in_ok-push_plain-3.ensures.value fields (omega arith) inv.begun);
-      kept = c.in_ok-push_plain-3.ensures.kept ∙ inv.kept;
+      begun = one-item cell_bytes _ first _ _ _ _ _ (rw (← c.cells-cell-items.ensures.value) c.cells-test.true)
+          (ap cell_bytes here) (c.in_ok-push_cell.ensures.value fields (omega arith) inv.begun);
+      kept = c.in_ok-push_cell.ensures.kept ∙ inv.kept;
     }
 
 pub returns-clause-value : goal.returns-clause-value
@@ -55,9 +56,9 @@ returns-clause-value c =
     let inv = c.cells.invariant in
     let row = c.args.row.now in
     let first = entry_fields (row_seen row) ++ (signed_decimal c.args.day.number ∷ weekday_name (weekday_at (weekday_number c.args.day.number)) ∷ []) in
-    let cells = λ (items : List ArrayString). (first ++ map (λ (cell : ArrayString). cell.bytes) items) ++ [] ∷ [] in
+    let cells = λ (items : List CellText). (first ++ map cell_bytes items) ++ [] ∷ [] in
     let all = take_all c.cells.cell-index (row_cells row) (rw (← c.cells-cell-items.ensures.value) c.cells-test.false) in
-    let fields = first ++ map (λ (cell : ArrayString). cell.bytes) (take c.cells.cell-index (row_cells row)) in
-    let last = c.in_ok-push_plain-4.ensures.value fields (omega arith) inv.begun in
-    same-line _ _ (fields ++ [] ∷ []) (row_fields (row_targets row) (row_seen row)) _ (c.in_ok-push_plain-4.ensures.kept ∙ inv.kept)
+    let fields = first ++ map cell_bytes (take c.cells.cell-index (row_cells row)) in
+    let last = c.in_ok-push_plain-3.ensures.value fields (omega arith) inv.begun in
+    same-line _ _ (fields ++ [] ∷ []) (row_fields (row_targets row) (row_seen row)) _ (c.in_ok-push_plain-3.ensures.kept ∙ inv.kept)
     (ap cells all ∙ accepted-fields (row_targets row) (row_seen row) c.args.day.number (ap outcome_seen c.requires)) (c.in_ok-end.ensures.value (fields ++ [] ∷ []) (two-fields fields [] (omega arith)) last)

@@ -1,6 +1,7 @@
 use Rattle.std.proofs.Common.{◌≡◌, ◌++◌, ◌∷◌, [], map, take}
 use Rattle.std.specs.Fmt.{signed_decimal}
 use Rattle.day_numbers.specs.Days.{weekday_name, weekday_number}
+use Rattle.register_records.specs.CellTexts.{cell_bytes}
 use Rattle.register_records.specs.LineViews.{Begins, line_delimiter}
 use Rattle.register_records.specs.Views.{row_cells, row_seen}
 use Rattle.register_records.specs.Tables.{entry_fields, weekday_at}
@@ -9,6 +10,6 @@ use Rattle.register_records.proofs.row_lines.make_accepted.Given as goal
 abbrev pub invariant-cells : goal.invariant-cells
 invariant-cells l =
     record {
-      begun : Begins ((entry_fields (row_seen l.row) ++ (signed_decimal l.fn.day.number ∷ weekday_name (weekday_at (weekday_number l.fn.day.number)) ∷ [])) ++ map (λ cell. cell.bytes) (take l.cell-index (row_cells l.row))) l.line;
+      begun : Begins ((entry_fields (row_seen l.row) ++ (signed_decimal l.fn.day.number ∷ weekday_name (weekday_at (weekday_number l.fn.day.number)) ∷ [])) ++ map cell_bytes (take l.cell-index (row_cells l.row))) l.line;
       kept : line_delimiter l.line ≡ line_delimiter l.fn.line;
     }

@@ -1,0 +1,5 @@
+use Rattle.date_texts.proofs.CellLengths.{cells_are_short}
+use Rattle.date_texts.proofs.laws.cells_are_short.Goals as goal
+
+pub returns : goal.returns
+returns c = cells_are_short c.haab_days_in_range.ensures c.tzolkin_numbers_in_range.ensures

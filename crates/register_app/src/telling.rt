@@ -111,7 +111,7 @@ pub fn tell_ends<E: Output>(errors: &mut E, summary: bool, ends: &[SourceEnd])
     ensures told { E.has_failed errors.new ≡ false → Appends (E.contents errors.old) (E.contents errors.new) (lines_from summary 1 ends.now) }
     ensures mark { E.own_mark errors.new ≡ E.own_mark errors.old }
 {
-    let mut place = 0;
+    let mut place = 0_usize;
     'ends: for end in ends {
         place += 1;
         tell_end(errors, summary, place, end);

@@ -7,6 +7,8 @@
 //!   only counts, with every target and with none: records a second and nanoseconds a record, without a system call;
 //! - `runs N`: one source and four, of N records each, converted by a run over threads and on one thread, with none of the
 //!   targets;
+//! - `stress SEED SECONDS`: registers at random by a run and on one thread, compared, until the seconds are over or the two
+//!   differ;
 //! - `make mixed|gregorian N FILE`: writes such a register to a file;
 //! - `files all|none INPUT OUTPUT`: converts a file to a file;
 //! - `lines INPUT OUTPUT`: writes the lines of a file to another by one write for each, which is what any program pays that
@@ -16,8 +18,10 @@
 mod calendars;
 mod common;
 mod lanes;
+mod random;
 mod records;
 mod runs;
+mod stress;
 mod texts;
 
 use calendars::measure_calendars;
@@ -31,6 +35,7 @@ use std::sync::Wait;
 use std::thread::Threads;
 use std::time::Clock;
 use std::{env, fs, io};
+use stress::stress;
 use texts::measure_texts;
 
 /// Runs every part for a moment.
@@ -50,6 +55,10 @@ fn run_all<R: Threads + Wait + Sync + Clock + Print>(rt: &R, alloc: Global) -> i
     whole &= measure_runs(rt, alloc, None)?;
     if whole {
         println!(rt; "every run complete")?;
+    }
+    whole &= stress(rt, alloc, 1, None)?;
+    if whole {
+        println!(rt; "every table as on one thread")?;
     }
     Ok(whole)
 }
@@ -85,6 +94,12 @@ fn run<R: Threads + Wait + Sync + Files + Clock + Print>(
         ["lanes", count] => measure_lanes(rt, alloc, count.parse().ok()),
         ["memory", count] => from_memory(rt, alloc, count.parse().unwrap_or(FEW), true),
         ["runs", count] => measure_runs(rt, alloc, count.parse().ok()),
+        ["stress", seed, seconds] => stress(
+            rt,
+            alloc,
+            seed.parse().unwrap_or(1),
+            Some(seconds.parse().unwrap_or(0)),
+        ),
         ["make", kind, count, to] => make(rt, alloc, kind, count, to),
         ["files", targets, from, to] => over_files(rt, alloc, *targets == "all", from, to),
         ["lines", from, to] => by_lines(rt, alloc, from, to),

@@ -1,5 +1,6 @@
 //! Registers made from a seed.
 
+use crate::random::Random;
 use date_texts::{Calendar, Target, cell};
 use day_numbers::Day;
 use std::alloc::Global;
@@ -13,28 +14,6 @@ pub enum Kind {
     Mixed,
     /// Gregorian dates alone, and no record that is refused.
     Gregorian,
-}
-
-/// Numbers that look random and are the same in each run: xorshift over 64 bits.
-#[derive(Drop)]
-struct Random {
-    state: u64,
-}
-
-impl Random {
-    fn new() -> Random {
-        Random {
-            state: 0x2545_F491_4F6C_DD1D,
-        }
-    }
-
-    /// A number below `end`, which is not 0.
-    fn below(&mut self, end: u32) -> u32 {
-        self.state ^= self.state.wrapping_shl(13);
-        self.state ^= self.state.wrapping_shr(7);
-        self.state ^= self.state.wrapping_shl(17);
-        (self.state >> 32) as u32 % end.max(1)
-    }
 }
 
 /// The first day of the sample and how many follow: on each of them every calendar has a date.
@@ -65,7 +44,7 @@ fn write_bad(text: &mut Vec<u8>, number: u32, calendar: Calendar, why: u32) -> i
 
 /// A register with so many records.
 pub fn register(alloc: Global, kind: Kind, records: u32) -> io::Result<Vec<u8>> {
-    let mut random = Random::new();
+    let mut random = Random::new(0);
     let mut text = Vec::new(alloc);
     writeln!(text, "id,calendar,date")?;
     for number in 0..records {

@@ -1,0 +1,137 @@
+//! Registers at random, right and wrong.
+
+use crate::random::Random;
+use date_texts::Calendar;
+use std::alloc::Global;
+use std::io;
+use std::io::Write;
+
+/// Headers, of which the first six are accepted.
+const HEADERS: [&str; 9] = [
+    "id,calendar,date\n",
+    "id,calendar,date\r\n",
+    "\u{FEFF}ID, Calendar ,DATE\n",
+    "\n\nid,calendar,date\n",
+    "\"id\",\"calendar\",\"date\"\n",
+    " id\t,calendar,date\n",
+    "id;calendar;date\n",
+    "id,date\n",
+    "",
+];
+
+/// What a record may have in place of a date.
+const ODD_DATES: [&str; 12] = [
+    "",
+    "0",
+    "1945/11/12",
+    "-1-1-1",
+    "00000-01-01",
+    "99999-12-31",
+    "-99999-1-1",
+    "1-3-K6B",
+    "-1-3-k6b",
+    "13.0.0.0.0",
+    "1900-02-29",
+    "2024-W53-7",
+];
+
+/// What a record may have in place of an id.
+const ODD_IDS: [&str; 6] = [
+    "",
+    "\"a,b\"",
+    "\"two\nlines\"",
+    "\"say \"\"so\"\"\"",
+    "=1+1",
+    "1234567890123456789012345678901234567890X",
+];
+
+/// Lines that are no records of three fields.
+const ODD_LINES: [&str; 6] = [
+    "\n",
+    "\r\n",
+    ",,,\n",
+    "alone\n",
+    "a,b\n",
+    "\"open,gregorian,1945-11-12\n",
+];
+
+/// One of these texts.
+fn pick<'a>(random: &mut Random, texts: &[&'a str]) -> &'a str {
+    let place = random.below(texts.len() as u32) as usize;
+    texts.get(place).unwrap_or(&"")
+}
+
+/// Writes a date, which most calendars have.
+fn write_date(text: &mut Vec<u8>, random: &mut Random, calendar: Calendar) -> io::Result<()> {
+    let (year, month, day) = (random.below(3000), random.below(14), random.below(32));
+    match calendar {
+        Calendar::Iso => write!(text, "{year}-W{}-{}", random.below(54), random.below(8)),
+        Calendar::Longcount => write!(
+            text,
+            "{}.{}.{}.{}.{day}",
+            random.below(14),
+            random.below(20),
+            random.below(20),
+            random.below(18)
+        ),
+        Calendar::Roman => write!(
+            text,
+            "{year}-{month}-{}{}",
+            pick(random, &["K", "N", "I", "k"]),
+            random.below(20)
+        ),
+        _ => write!(text, "{year}-{month:02}-{day}"),
+    }
+}
+
+/// Writes a record.
+fn write_record(text: &mut Vec<u8>, random: &mut Random, number: u32) -> io::Result<()> {
+    if random.one_in(40) {
+        return write!(text, "{}", pick(random, &ODD_LINES));
+    }
+    if random.one_in(20) {
+        write!(text, "{}", pick(random, &ODD_IDS))?;
+    } else {
+        write!(text, "r{number}")?;
+    }
+    let place = random.below(Calendar::ALL.len() as u32) as usize;
+    let calendar = *Calendar::ALL.get(place).unwrap_or(&Calendar::Gregorian);
+    write!(
+        text,
+        ",{},",
+        if random.one_in(40) {
+            "mayan"
+        } else {
+            calendar.name()
+        }
+    )?;
+    if random.one_in(20) {
+        write!(text, "{}", pick(random, &ODD_DATES))?;
+    } else {
+        write_date(text, random, calendar)?;
+    }
+    write!(text, "{}", if random.one_in(10) { "\r\n" } else { "\n" })
+}
+
+/// A register: mostly of some records, at times of none or of a thousand, and now and then with a byte that is changed.
+pub(crate) fn random_register(alloc: Global, random: &mut Random) -> io::Result<Vec<u8>> {
+    let mut text = Vec::new(alloc);
+    let header = if random.one_in(8) {
+        pick(random, &HEADERS)
+    } else {
+        "id,calendar,date\n"
+    };
+    write!(text, "{header}")?;
+    let most = if random.one_in(10) { 1000 } else { 40 };
+    for number in 0..random.below(most) {
+        write_record(&mut text, random, number)?;
+    }
+    if random.one_in(4) {
+        let place = random.below(text.len() as u32) as usize;
+        let byte = random.below(256) as u8;
+        if let Some(changed) = text.get_mut(place) {
+            *changed = byte;
+        }
+    }
+    Ok(text)
+}

@@ -5,6 +5,7 @@ ghost use Rattle.std.specs.Io.KnownBytes.{Appends};
 ghost use Rattle.std.specs.String.{string_bytes};
 ghost use Rattle.register_app.specs.Answers.{AreConverted, AreWrong, AskForPage, IsConverted, IsPrinted, version_line};
 ghost use Rattle.register_records.specs.Sources.{is_whole_end};
+ghost use Rattle.register_app.specs.Openings.{AreMade};
 ghost use Rattle.register_app.specs.Reports.{lines_from};
 ghost use Rattle.register_app.specs.Requests.{MeanJust, Task, refusal_status, table, task_of};
 
@@ -114,7 +115,7 @@ fn print_page<W: Output, E: Output>(
     output: W,
     errors: &mut E,
 ) -> Answered<W>
-    ensures printed { IsPrinted W.contents W.has_failed E.contents E.has_failed page.now result.status output result.output errors.old errors.new }
+    ensures printed { IsPrinted W.contents W.has_failed W.is_flushed E.contents E.has_failed page.now result.status output result.output errors.old errors.new }
     ensures statuses { (result.status ≡ 0) ⊎ (result.status ≡ 1) }
     ensures none { result.outputs.items ≡ [] }
     ensures mark { W.own_mark result.output ≡ W.own_mark output }
@@ -245,6 +246,8 @@ fn convert_files<
     ensures converted { result.status ≢ 3 → AreConverted R.remaining W.contents W.has_failed W.is_flushed W.own_mark E.contents E.has_failed
         (P.is_opened places.now) (P.is_made places.now) (task_of job.now) result.status result.outputs.items errors.old errors.new }
     ensures untouched { result.output ≡ output }
+    ensures unwritten { result.status ≡ 3 → (result.outputs.items ≡ [])
+        ⊎ AreMade (P.is_made places.now) (task_of job.now).files result.outputs.items }
     ensures statuses { (result.status ≡ 0) ⊎ (result.status ≡ 1) ⊎ (result.status ≡ 3) }
     ensures errors_mark { E.own_mark errors.new ≡ E.own_mark errors.old }
 {
@@ -291,8 +294,9 @@ pub fn answer<
     // The words ask for a page, which was printed; or for the table of standard input; or for those of files.
     ensures answered { result.status ≤ 1
         → ((page : List ℕ) × AskForPage (map string_bytes words.now) page
-        × IsPrinted W.contents W.has_failed E.contents E.has_failed page result.status output result.output errors.old errors.new)
-        ⊎ ((task : Task) × MeanJust (map string_bytes words.now) (table task) × (task.files ≡ [])
+        × IsPrinted W.contents W.has_failed W.is_flushed E.contents E.has_failed page result.status output result.output errors.old errors.new
+        × (result.outputs.items ≡ []))
+        ⊎ ((task : Task) × MeanJust (map string_bytes words.now) (table task) × (task.files ≡ []) × (result.outputs.items ≡ [])
         × IsConverted R.remaining W.contents W.has_failed W.is_flushed W.own_mark E.contents E.has_failed
         task result.status (input ∷ []) (output ∷ []) (result.output ∷ []) errors.old errors.new)
         ⊎ ((task : Task) × MeanJust (map string_bytes words.now) (table task) × (task.files ≢ []) × (result.output ≡ output)
@@ -302,6 +306,11 @@ pub fn answer<
     // Unless the status is 3, words are refused exactly where something is wrong with them.
     ensures refused { result.status ≢ 3 → (result.status ≡ 2) ↔ AreWrong (map string_bytes words.now) }
     ensures untouched { 2 ≤ result.status → result.output ≡ output }
+    ensures none { result.status ≡ 2 → result.outputs.items ≡ [] }
+
+    // With status 3 the outputs are none, or as they were made.
+    ensures unwritten { result.status ≡ 3 → (result.outputs.items ≡ [])
+        ⊎ ((task : Task) × MeanJust (map string_bytes words.now) (table task) × AreMade (P.is_made places.now) task.files result.outputs.items) }
     ensures statuses { result.status ≤ 3 }
     ensures mark { W.own_mark result.output ≡ W.own_mark output }
     ensures errors_mark { E.own_mark errors.new ≡ E.own_mark errors.old }

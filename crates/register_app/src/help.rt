@@ -27,7 +27,8 @@ names do not matter. How dates are written:
 
 Gregorian and iso years have a year 0; in julian and roman the year before 1
 is -1; the others begin with year 1. Hebrew month 1 is Nisan. A Roman name is
-K, N or I and a count of days back from those Kalends, Nones or Ides, or K6B.
+K, N or I and a count of days back from those Kalends, Nones or Ides, which
+are counted too, or K6B.
 French and Islamic dates go by arithmetic: against the calendar as it was
 used, French years 4, 8, 12 are a day early, Islamic days may be 1 or 2 off.
 

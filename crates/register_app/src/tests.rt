@@ -12,6 +12,7 @@ use std::alloc::{AllocError, Global};
 use std::io::{ErrorKind, Read, Write};
 use std::rt::Files;
 use std::sync::Wait;
+use std::sync::atomic::{AtomicU32, Ordering};
 use std::test::Fail;
 use std::thread::Threads;
 use std::{fs, io};
@@ -196,6 +197,149 @@ fn summaries_count_refusals(rt: HostRuntime) -> Result<(), Fail> {
     Ok(())
 }
 
+/// How often something was read, opened and made.
+#[derive(Drop)]
+struct Counts {
+    reads: AtomicU32,
+    opened: AtomicU32,
+    made: AtomicU32,
+}
+
+/// A text without bytes that counts how often it is read.
+#[derive(Drop)]
+struct CountedText<'a> {
+    counts: &'a Counts,
+}
+
+impl Read for CountedText<'_> {
+    fn read(&mut self, _buf: &mut [u8]) -> io::Result<usize> {
+        self.counts.reads.fetch_add(1, Ordering::SeqCst);
+        Ok(0)
+    }
+}
+
+/// Files that count how often they are opened and made.
+#[derive(Drop)]
+struct CountedFiles<'a> {
+    alloc: Global,
+    counts: &'a Counts,
+}
+
+impl<'a> Places<CountedText<'a>, PlainOutput<Vec<u8>>> for CountedFiles<'a> {
+    ghost is_opened = { λ _ _ _. ⊤ };
+
+    ghost is_made = { λ _ _ _ _. ⊤ };
+
+    fn open(&self, _name: &str) -> io::Result<CountedText<'a>> {
+        self.counts.opened.fetch_add(1, Ordering::SeqCst);
+        Ok(CountedText {
+            counts: self.counts,
+        })
+    }
+
+    fn make(&self, _name: &str, mark: u32) -> io::Result<PlainOutput<Vec<u8>>> {
+        self.counts.made.fetch_add(1, Ordering::SeqCst);
+        Ok(PlainOutput::new(Vec::new(self.alloc), mark))
+    }
+
+    fn are_one_file(&self, _name: &str, _other: &str) -> bool {
+        false
+    }
+}
+
+/// Command lines, the status of each, and how many files are opened and made.
+#[derive(Clone, Copy)]
+struct Touching {
+    words: &'static [&'static str],
+    status: u8,
+    files: u32,
+    reads_input: bool,
+}
+
+const TOUCHINGS: [Touching; 6] = [
+    Touching {
+        words: &["--help", "a.csv"],
+        status: 0,
+        files: 0,
+        reads_input: false,
+    },
+    Touching {
+        words: &["a.csv", "--version"],
+        status: 0,
+        files: 0,
+        reads_input: false,
+    },
+    Touching {
+        words: &["--ring", "0", "a.csv"],
+        status: 2,
+        files: 0,
+        reads_input: false,
+    },
+    Touching {
+        words: &["a.csv", "b.csv", "a.csv"],
+        status: 2,
+        files: 0,
+        reads_input: false,
+    },
+    Touching {
+        words: &[],
+        status: 1,
+        files: 0,
+        reads_input: true,
+    },
+    Touching {
+        words: &["a.csv", "b.csv"],
+        status: 1,
+        files: 2,
+        reads_input: false,
+    },
+];
+
+#[test]
+fn nothing_is_touched_that_is_not_asked_for(rt: HostRuntime) -> Result<(), Fail> {
+    let alloc = rt.alloc();
+    for touching in &TOUCHINGS {
+        let words = words_of(alloc, touching.words)?;
+        let input_counts = Counts {
+            reads: AtomicU32::new(0),
+            opened: AtomicU32::new(0),
+            made: AtomicU32::new(0),
+        };
+        let counts = Counts {
+            reads: AtomicU32::new(0),
+            opened: AtomicU32::new(0),
+            made: AtomicU32::new(0),
+        };
+        let input = CountedText {
+            counts: &input_counts,
+        };
+        let files = CountedFiles {
+            alloc,
+            counts: &counts,
+        };
+        let mut errors = PlainOutput::new(Vec::new(alloc), 0);
+        let output = PlainOutput::new(Vec::new(alloc), 1);
+        let answered = answer(
+            &rt,
+            alloc,
+            words.as_slice(),
+            input,
+            output,
+            &files,
+            &mut errors,
+        );
+        assert_eq!(rt; answered.status, touching.status);
+        assert_eq!(rt; counts.opened.load(Ordering::SeqCst), touching.files);
+        assert_eq!(rt; counts.made.load(Ordering::SeqCst), touching.files);
+        assert_eq!(rt;
+            input_counts.reads.load(Ordering::SeqCst) > 0,
+            touching.reads_input
+        );
+        assert_eq!(rt; counts.reads.load(Ordering::SeqCst) > 0, touching.files > 0);
+    }
+    Ok(())
+}
+
 /// A folder of this test's own.
 const FOLDER: &str = "files_of_the_test";
 
@@ -320,7 +464,7 @@ const CASES: [Case; 8] = [
         output: b"row,id,calendar,date,rd,weekday,gregorian,julian,refusal\n1,t,gregorian,9999-12-31,3652059,Friday,9999-12-31,9999-10-19,\n2,u,gregorian,10000-01-01,,,,,7\n3,v,gregorian,10000-02-30,,,,,6\n4,x,gregorian,-9999-01-01,-3652424,Monday,-9999-01-01,-10000-03-19,\n5,y,gregorian,-10000-12-31,,,,,7\n",
         errors: b"",
     },
-    // The register of the examples.
+    // A parish register.
     Case {
         input: b"id,calendar,date\nB-1582-17,Julian,1582-10-04\nB-1582-18,Gregorian,1582-10-15\n\"Smith, Anne\",Julian,1700-2-29\n\"Smith, John\",Gregorian,1700-02-29\nM-1752-3,Julian,1752-09-02\nM-1752-4,Gregorian,1752-09-14\n",
         status: 0,

@@ -39,7 +39,7 @@ returns-then-is_empty-clause-answered g c = λ low.
     let just : MeanJust words (table (task_of job)) = search (rules, c.in-Ok-Convert.ensures.asked) in
     let zero : length job.files.items ≡ 0 = search rules in
     let none : job.files.items ≡ [] = none_of job.files.items zero in
-    inr (inl (task_of job, just, ap (λ l. map (λ f. f.now) l) none, c.convert_input.ensures.converted (λ three. absurd (omega (arith, low, three)))))
+    inr (inl (task_of job, just, ap (λ l. map (λ f. f.now) l) none, c.convert_input.ensures.none, c.convert_input.ensures.converted (λ three. absurd (omega (arith, low, three)))))
 
 pub returns-then-is_empty-clause-refused : goal.returns-then-is_empty-clause-refused
 returns-then-is_empty-clause-refused g c =
@@ -86,3 +86,18 @@ returns-else-is_empty-clause-refused g c =
 pub returns-in-Err-clause-refused : goal.returns-in-Err-clause-refused
 returns-in-Err-clause-refused g c =
     λ had. is_refused (map string_bytes c.args.words.now) c.in-Err.refusal c.refuse.result.status c.in-Err.ensures.refused c.refuse.ensures.status had
+
+pub returns-else-is_empty-clause-unwritten : goal.returns-else-is_empty-clause-unwritten
+returns-else-is_empty-clause-unwritten g c = λ three.
+    let words = map string_bytes c.args.words.now in
+    let task = task_of c.in-Ok-Convert.job in
+    let just : MeanJust words (table task) = search (rules, c.in-Ok-Convert.ensures.asked) in
+    elim (c.convert_files.ensures.unwritten three) [ inl none ↦ inl none | inr made ↦ inr (task, just, made) ]
+
+pub returns-else-is_empty-clause-none : goal.returns-else-is_empty-clause-none
+returns-else-is_empty-clause-none g c = λ two.
+    elim c.convert_files.ensures.statuses [
+      | inl zero ↦ absurd (omega (arith, two, zero))
+      | inr (inl one) ↦ absurd (omega (arith, two, one))
+      | inr (inr three) ↦ absurd (omega (arith, two, three))
+    ]

@@ -23,6 +23,11 @@ impl Random {
         (self.state >> 32) as u32 % end.max(1)
     }
 
+    /// A place in a list of so many items, or 0 where there is none.
+    pub(crate) fn place_in(&mut self, items: usize) -> usize {
+        self.below(u32::try_from(items).unwrap_or(u32::MAX)) as usize
+    }
+
     /// Whether one of so many times has come.
     pub(crate) fn one_in(&mut self, times: u32) -> bool {
         self.below(times) == 0

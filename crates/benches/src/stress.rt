@@ -10,7 +10,7 @@ mod texts;
 use crate::random::Random;
 use date_texts::Target;
 use register_records::{Output, PlainOutput, Setup, SourceEnd, convert_source};
-use register_run::run;
+use register_run::{Report, run};
 use std::alloc::Global;
 use std::io;
 use std::sync::Wait;
@@ -114,7 +114,7 @@ fn are_same_bytes(end: &SourceEnd, ran: &[u8], alone: &[u8]) -> bool {
 fn compare<R: Threads + Wait + Sync>(rt: &R, alloc: Global, seed: u64) -> io::Result<Option<u32>> {
     let mut random = Random::new(seed);
     let count = if random.one_in(4) {
-        1 + random.below(MAX_SOURCES)
+        random.below(MAX_SOURCES).saturating_add(1)
     } else {
         1
     };
@@ -134,9 +134,14 @@ fn compare<R: Threads + Wait + Sync>(rt: &R, alloc: Global, seed: u64) -> io::Re
     let Ok(report) = run(rt, alloc, sources, outputs, &setup) else {
         return Ok(None);
     };
-    let mut ends = report.ends.iter();
+    let Report {
+        outputs,
+        ends,
+        verdict: _,
+    } = report;
+    let mut ends = ends.iter();
     let mut plans = plans.iter();
-    for output in report.outputs {
+    for output in outputs {
         let (Some(end), Some(plan)) = (ends.next(), plans.next()) else {
             return Ok(None);
         };

@@ -9,7 +9,6 @@ use std::io::{ErrorKind, Read, Write};
 #[derive(Drop)]
 pub(crate) struct Pieces<'a> {
     text: &'a [u8],
-    at: usize,
     random: Random,
     left: Option<u32>,
 }
@@ -17,12 +16,7 @@ pub(crate) struct Pieces<'a> {
 impl<'a> Pieces<'a> {
     /// The text in pieces, with a fault after so many reads where a number is given.
     pub(crate) fn new(text: &'a [u8], random: Random, left: Option<u32>) -> Pieces<'a> {
-        Pieces {
-            text,
-            at: 0,
-            random,
-            left,
-        }
+        Pieces { text, random, left }
     }
 }
 
@@ -39,18 +33,12 @@ impl Read for Pieces<'_> {
         }
         let longest = if self.random.one_in(2) { 8 } else { 8192 };
         let wanted = 1 + self.random.below(longest) as usize;
-        let mut given = 0;
-        for byte in buf.iter_mut() {
-            if given == wanted {
-                break;
-            }
-            let Some(next) = self.text.get(self.at) else {
-                break;
-            };
-            *byte = *next;
-            self.at += 1;
-            given += 1;
+        let given = wanted.min(buf.len()).min(self.text.len());
+        let (piece, rest) = self.text.split_at(given);
+        for (place, byte) in buf.iter_mut().zip(piece) {
+            *place = *byte;
         }
+        self.text = rest;
         Ok(given)
     }
 }

@@ -56,9 +56,9 @@ const ODD_LINES: [&str; 6] = [
 ];
 
 /// One of these texts.
-fn pick<'a>(random: &mut Random, texts: &[&'a str]) -> &'a str {
-    let place = random.below(texts.len() as u32) as usize;
-    texts.get(place).unwrap_or(&"")
+fn pick(random: &mut Random, texts: &[&'static str]) -> &'static str {
+    let place = random.place_in(texts.len());
+    texts.get(place).copied().unwrap_or("")
 }
 
 /// Writes a date, which most calendars have.
@@ -94,7 +94,7 @@ fn write_record(text: &mut Vec<u8>, random: &mut Random, number: u32) -> io::Res
     } else {
         write!(text, "r{number}")?;
     }
-    let place = random.below(Calendar::ALL.len() as u32) as usize;
+    let place = random.place_in(Calendar::ALL.len());
     let calendar = *Calendar::ALL.get(place).unwrap_or(&Calendar::Gregorian);
     write!(
         text,
@@ -127,8 +127,8 @@ pub(crate) fn random_register(alloc: Global, random: &mut Random) -> io::Result<
         write_record(&mut text, random, number)?;
     }
     if random.one_in(4) {
-        let place = random.below(text.len() as u32) as usize;
-        let byte = random.below(256) as u8;
+        let place = random.place_in(text.len());
+        let byte = u8::try_from(random.below(256)).unwrap_or(0);
         if let Some(changed) = text.get_mut(place) {
             *changed = byte;
         }

@@ -121,7 +121,12 @@ pub(crate) fn measure_texts<R: Clock + Print>(
     alloc: Global,
     rounds: Option<u64>,
 ) -> io::Result<()> {
-    for calendar in [Calendar::Gregorian, Calendar::Iso, Calendar::Longcount] {
+    for calendar in [
+        Calendar::Gregorian,
+        Calendar::Iso,
+        Calendar::Longcount,
+        Calendar::Roman,
+    ] {
         measure_dates(rt, alloc, rounds, calendar)?;
     }
     for target in Target::ALL {

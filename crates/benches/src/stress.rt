@@ -9,7 +9,7 @@ mod texts;
 
 use crate::random::Random;
 use date_texts::Target;
-use register_records::{Output, PlainOutput, Setup, SourceEnd, convert_source};
+use register_records::{Cause, PlainOutput, Setup, SourceEnd, convert_source};
 use register_run::{Report, run};
 use std::alloc::Global;
 use std::io;
@@ -103,28 +103,51 @@ fn are_same_ends(one: &SourceEnd, other: &SourceEnd) -> bool {
     }
 }
 
-/// Whether the bytes of a run are those of one thread. A source that breaks before its first row has its heading on one
-/// thread, and nothing in a run.
-fn are_same_bytes(end: &SourceEnd, ran: &[u8], alone: &[u8]) -> bool {
+/// Whether a source has ended in a run as it does on one thread, with the same bytes. Only the heading comes at another
+/// time: on one thread when the header was read, and in a run with the first row. So a source that breaks before its
+/// first row leaves a run's output empty, and where that has no room for the heading, one thread breaks for it.
+fn are_same(end: &SourceEnd, ran: &[u8], wanted: &SourceEnd, alone: &[u8]) -> bool {
+    if are_same_ends(end, wanted) && ran == alone {
+        return true;
+    }
     let lines = alone.iter().filter(|byte| **byte == b'\n').count();
-    ran == alone || (!end.is_whole() && ran.is_empty() && lines <= 1)
+    let before_rows = !end.is_whole() && ran.is_empty();
+    before_rows && (lines == 0 || (lines == 1 && are_same_ends(end, wanted)))
 }
 
-/// Converts sources of one seed both ways. The answer is how many sources there were, or none where two differ.
-fn compare<R: Threads + Wait + Sync>(rt: &R, alloc: Global, seed: u64) -> io::Result<Option<u32>> {
-    let mut random = Random::new(seed);
+/// The cause why a source is broken, or none.
+fn cause_of(end: &SourceEnd) -> Option<Cause> {
+    match end {
+        SourceEnd::Whole { .. } => None,
+        SourceEnd::Broken { cause } => Some(*cause),
+    }
+}
+
+/// Sources at random: mostly one, at times as many as a run takes.
+fn random_plans(alloc: Global, random: &mut Random) -> io::Result<Vec<Plan>> {
     let count = if random.one_in(4) {
         random.below(MAX_SOURCES).saturating_add(1)
     } else {
         1
     };
+    let mut plans = Vec::new(alloc);
+    for _ in 0..count {
+        plans.push(Plan::new(alloc, random)?)?;
+    }
+    Ok(plans)
+}
+
+/// Converts sources of one seed both ways. The answer is how many sources there were, or none where two differ.
+fn compare<R: Threads + Wait + Sync + Print>(
+    rt: &R,
+    alloc: Global,
+    seed: u64,
+) -> io::Result<Option<usize>> {
+    let mut random = Random::new(seed);
     let Some(setup) = random_setup(alloc, &mut random)? else {
         return Ok(None);
     };
-    let mut plans = Vec::new(alloc);
-    for _ in 0..count {
-        plans.push(Plan::new(alloc, &mut random)?)?;
-    }
+    let plans = random_plans(alloc, &mut random)?;
     let mut sources = Vec::new(alloc);
     let mut outputs = Vec::new(alloc);
     for plan in &plans {
@@ -139,6 +162,7 @@ fn compare<R: Threads + Wait + Sync>(rt: &R, alloc: Global, seed: u64) -> io::Re
         ends,
         verdict: _,
     } = report;
+    let count = plans.len();
     let mut ends = ends.iter();
     let mut plans = plans.iter();
     for output in outputs {
@@ -147,9 +171,11 @@ fn compare<R: Threads + Wait + Sync>(rt: &R, alloc: Global, seed: u64) -> io::Re
         };
         let mut alone = plan.output(alloc);
         let wanted = convert_source(alloc, plan.source(), &mut alone, &setup);
-        if !are_same_ends(end, &wanted)
-            || !are_same_bytes(end, output.into_inner().bytes(), alone.into_inner().bytes())
-        {
+        let (ran, alone) = (output.into_inner(), alone.into_inner());
+        if !are_same(end, ran.bytes(), &wanted, alone.bytes()) {
+            let (cause, wanted) = (cause_of(end), cause_of(&wanted));
+            let (ran, alone) = (ran.bytes().len(), alone.bytes().len());
+            println!(rt; "a run: {cause:?}, {ran} bytes; one thread: {wanted:?}, {alone} bytes")?;
             return Ok(None);
         }
     }
@@ -165,14 +191,14 @@ pub(crate) fn stress<R: Threads + Wait + Sync + Clock + Print>(
     seconds: Option<u64>,
 ) -> io::Result<bool> {
     let start = Instant::now(rt)?;
-    let mut sources = 0_u64;
+    let mut sources = 0_usize;
     for round in 0..u64::MAX {
         let seed = seed.wrapping_add(round);
         let Some(count) = compare(rt, alloc, seed)? else {
             println!(rt; "a difference: stress {seed} 0")?;
             return Ok(false);
         };
-        sources = sources.saturating_add(u64::from(count));
+        sources = sources.saturating_add(count);
         let Some(seconds) = seconds else {
             return Ok(true);
         };

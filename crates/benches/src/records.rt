@@ -6,7 +6,7 @@ pub(crate) mod inputs;
 use counter::Counter;
 use date_texts::Target;
 use inputs::{Kind, register};
-use register_records::{Output, PlainOutput, Setup, SourceEnd, convert_source};
+use register_records::{Form, Output, PlainOutput, Setup, SourceEnd, convert_source};
 use std::alloc::Global;
 use std::io::{Read, Write};
 use std::rt::Files;
@@ -19,7 +19,7 @@ pub(crate) const FEW: u32 = 1_000;
 /// The setup with every target, or with none.
 fn setup(every_target: bool) -> Option<Setup> {
     let targets: &[Target] = if every_target { &Target::ALL } else { &[] };
-    Setup::new(targets, 16, b',', 1).ok()
+    Setup::new(targets, 16, b',', 1, Form::Plain).ok()
 }
 
 /// Prints what a conversion took that began at `start` and gave so many rows.

@@ -6,7 +6,7 @@
 
 use crate::records::counter::Counter;
 use crate::records::inputs::{Kind, register};
-use register_records::{Setup, convert_source};
+use register_records::{Form, Setup, convert_source};
 use register_run::{Verdict, run};
 use std::alloc::Global;
 use std::io;
@@ -102,7 +102,7 @@ pub(crate) fn measure_runs<R: Threads + Wait + Sync + Clock + Print>(
         println!(rt; "sources converters  ring  one thread    run")?;
     }
     for (sources, stripes, ring) in CASES {
-        let Ok(setup) = Setup::new(&[], ring, b',', stripes) else {
+        let Ok(setup) = Setup::new(&[], ring, b',', stripes, Form::Plain) else {
             return Ok(false);
         };
         let mut alone = Vec::new(alloc);

@@ -9,7 +9,7 @@ mod texts;
 
 use crate::random::Random;
 use date_texts::Target;
-use register_records::{Cause, PlainOutput, Setup, SourceEnd, convert_source};
+use register_records::{Cause, Form, PlainOutput, Setup, SourceEnd, convert_source};
 use register_run::{Report, run};
 use std::alloc::Global;
 use std::io;
@@ -80,7 +80,7 @@ fn random_setup(alloc: Global, random: &mut Random) -> io::Result<Option<Setup>>
         1 + random.below(20) as usize
     };
     let stripes = 1 + random.below(4) as usize;
-    Ok(Setup::new(targets.as_slice(), ring, b',', stripes).ok())
+    Ok(Setup::new(targets.as_slice(), ring, b',', stripes, Form::Plain).ok())
 }
 
 /// Whether two sources have ended in the same way: whole with the same counts, or broken for the same cause.

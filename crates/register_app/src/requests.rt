@@ -12,7 +12,7 @@ use clap::error::ErrorKind;
 use clap::{Arg, ArgAction, ArgMatches, Command};
 use date_texts::Target;
 use date_texts::laws::{default_targets, one_target};
-use register_records::Setup;
+use register_records::{Form, Setup};
 use std::alloc::{AllocError, Global};
 
 /// The version of the program.
@@ -281,7 +281,7 @@ pub fn read_request<'a>(alloc: Global, words: &'a [String]) -> Result<Request<'a
     let delimiter = chosen_delimiter(options.delimiter)?;
     let stripes = chosen_stripes(options.stripes)?;
     check_files(options.files.as_slice())?;
-    match Setup::new(targets.as_slice(), ring, delimiter, stripes) {
+    match Setup::new(targets.as_slice(), ring, delimiter, stripes, Form::Plain) {
         Ok(setup) => Ok(Request::Convert(Job {
             setup,
             summary: options.summary,

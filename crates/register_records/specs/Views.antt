@@ -16,12 +16,13 @@ use Rattle.register_records.specs.declared.entries.Entry.{Entry}
 use Rattle.register_records.specs.declared.outputs.PlainOutput.{PlainOutput}
 use Rattle.register_records.specs.declared.reading.EntryReader.{EntryReader}
 use Rattle.register_records.specs.declared.rows.Row.{Row}
+use Rattle.register_records.specs.declared.setups.Form.{Form}
 use Rattle.register_records.specs.declared.setups.Setup.{Setup}
 use Rattle.register_records.specs.declared.setups.SetupFault.{SetupFault}
 use Rattle.register_records.specs.declared.setups.SetupFault.TheVariants.{TargetTwice, RingSize, Delimiter, Stripes}
 use Rattle.register_records.specs.declared.writing.RowWriter.{RowWriter}
 
--- a setup's targets in order, the size of its rings, its delimiter and its stripes
+-- a setup's targets in order, the size of its rings, its delimiter, its stripes and its form
 abbrev pub targets_of : Setup → List Target
 targets_of setup = items_in setup.targets
 
@@ -33,6 +34,9 @@ delimiter_of setup = setup.delimiter
 
 abbrev pub stripes_of : Setup → ℕ
 stripes_of setup = setup.stripes
+
+abbrev pub form_of : Setup → Form
+form_of setup = setup.form
 
 -- what it asks of a table
 abbrev pub layout_of : Setup → Layout

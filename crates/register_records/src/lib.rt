@@ -28,7 +28,7 @@ pub use entries::{Body, Entry};
 pub use outputs::{Output, OutputFault, PlainOutput, send};
 pub use reading::{EntryFault, EntryReader};
 pub use rows::Row;
-pub use setups::{Setup, SetupFault};
+pub use setups::{Form, Setup, SetupFault};
 pub use sources::{Cause, Note, SourceEnd, convert_source};
 pub use writing::{RowFault, RowWriter};
 

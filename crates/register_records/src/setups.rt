@@ -15,13 +15,24 @@ const MAX_RING: usize = 4096;
 /// The most converters of a source.
 const MAX_STRIPES: usize = 4;
 
-/// The targets, the size of the rings, the delimiter and the number of converters of a conversion.
+/// Whether a register has seals.
+#[derive(Clone, Copy, PartialEq, Eq, Debug)]
+pub enum Form {
+    /// A register of three columns, which is whole wherever it ends.
+    Plain,
+    /// A register of four columns, the last of them a note, which is whole only where its last record is a seal that
+    /// tells how many records stand before it.
+    Sealed,
+}
+
+/// The targets, the size of the rings, the delimiter, the number of converters and the form of a conversion.
 #[derive(Clone, Copy)]
 pub struct Setup {
     targets: ShortList<Target>,
     ring: usize,
     delimiter: u8,
     stripes: usize,
+    form: Form,
     ghost rings: { is_ring_size ring ≡ true },
     ghost separates: { is_delimiter delimiter ≡ true },
     ghost striped: { is_stripe_count stripes ≡ true },
@@ -61,11 +72,12 @@ impl SetupFault {
 }
 
 impl Setup {
-    ghost use Rattle.register_records.specs.Views.{delimiter_of, ring_of, stripes_of, targets_of};
+    ghost use Rattle.register_records.specs.Views.{delimiter_of, form_of, ring_of, stripes_of, targets_of};
 
     /// A setup for these targets, in this order; none is allowed. Each ring holds `ring` items, from 1
     /// to 4096; `delimiter`, a comma, a semicolon or a tab, stands between two fields of the input and of
-    /// the output; and each source of a run has `stripes` converters, from 1 to 4.
+    /// the output; each source of a run has `stripes` converters, from 1 to 4; and each register has this
+    /// `form`.
     ///
     /// # Errors
     ///
@@ -75,9 +87,10 @@ impl Setup {
         ring: usize,
         delimiter: u8,
         stripes: usize,
+        form: Form,
     ) -> Result<Setup, SetupFault>
         ensures value { IfOk result (λ s. (targets_of s ≡ targets.now) × (ring_of s ≡ ring)
-            × (delimiter_of s ≡ delimiter) × (stripes_of s ≡ stripes)) }
+            × (delimiter_of s ≡ delimiter) × (stripes_of s ≡ stripes) × (form_of s ≡ form)) }
         ensures fit { IfOk result (λ s. (¬ (NamesTwice targets.now)) × (is_ring_size ring ≡ true)
             × (is_delimiter delimiter ≡ true) × (is_stripe_count stripes ≡ true)) }
         ensures twice { (result ≡ Err SetupFault.TargetTwice) ↔ NamesTwice targets.now }
@@ -107,6 +120,7 @@ impl Setup {
             ring,
             delimiter,
             stripes,
+            form,
         })
     }
 
@@ -147,6 +161,13 @@ impl Setup {
         ensures fits { is_stripe_count result ≡ true }
     {
         self.stripes
+    }
+
+    /// Whether registers have seals.
+    pub fn form(&self) -> Form
+        ensures { result ≡ form_of self.now }
+    {
+        self.form
     }
 }
 

@@ -1,7 +1,7 @@
 // The tables that are wanted are worked by hand from the calendars' rules and from published day numbers.
 
 use crate::{
-    Body, Cause, Entry, EntryFault, EntryReader, Note, Output, PlainOutput, Row, RowFault,
+    Body, Cause, Entry, EntryFault, EntryReader, Form, Note, Output, PlainOutput, Row, RowFault,
     RowWriter, Setup, SourceEnd, convert, convert_source,
 };
 use arrayvec::ArrayString;
@@ -28,7 +28,7 @@ const ROMAN: Target = Target::Date(Calendar::Roman);
 static HEADING: &str = "row,id,calendar,date,rd,weekday,gregorian,julian,refusal\n";
 
 fn both(delimiter: u8) -> Result<Setup, Fail> {
-    Ok(Setup::new(&[GREGORIAN, JULIAN], 16, delimiter, 1)?)
+    Ok(Setup::new(&[GREGORIAN, JULIAN], 16, delimiter, 1, Form::Plain)?)
 }
 
 /// The output and the end of a source over memory.
@@ -145,7 +145,7 @@ fn check_table(
 
 #[test]
 fn a_refused_row_stands_in_the_table_and_the_journal(rt: HostRuntime) -> Result<(), Fail> {
-    let setup = Setup::new(&[GREGORIAN, JULIAN], 16, b',', 1)?;
+    let setup = Setup::new(&[GREGORIAN, JULIAN], 16, b',', 1, Form::Plain)?;
     check_table(
         &rt,
         rt.alloc(),
@@ -157,13 +157,13 @@ fn a_refused_row_stands_in_the_table_and_the_journal(rt: HostRuntime) -> Result<
 
 #[test]
 fn semicolons_divide_a_table(rt: HostRuntime) -> Result<(), Fail> {
-    let setup = Setup::new(&[JULIAN], 16, b';', 1)?;
+    let setup = Setup::new(&[JULIAN], 16, b';', 1, Form::Plain)?;
     check_table(&rt, rt.alloc(), &setup, (SEMICOLONS, SEMICOLONS_TABLE), &[])
 }
 
 #[test]
 fn each_refusal_of_a_record_has_its_row(rt: HostRuntime) -> Result<(), Fail> {
-    let setup = Setup::new(&[], 16, b',', 1)?;
+    let setup = Setup::new(&[], 16, b',', 1, Form::Plain)?;
     check_table(
         &rt,
         rt.alloc(),
@@ -175,13 +175,13 @@ fn each_refusal_of_a_record_has_its_row(rt: HostRuntime) -> Result<(), Fail> {
 
 #[test]
 fn a_quoted_header_and_a_quoted_field(rt: HostRuntime) -> Result<(), Fail> {
-    let setup = Setup::new(&[], 16, b',', 1)?;
+    let setup = Setup::new(&[], 16, b',', 1, Form::Plain)?;
     check_table(&rt, rt.alloc(), &setup, (QUOTES, QUOTES_TABLE), &[])
 }
 
 #[test]
 fn a_header_alone_becomes_a_heading(rt: HostRuntime) -> Result<(), Fail> {
-    let setup = Setup::new(&[], 16, b',', 1)?;
+    let setup = Setup::new(&[], 16, b',', 1, Form::Plain)?;
     check_table(
         &rt,
         rt.alloc(),
@@ -193,7 +193,7 @@ fn a_header_alone_becomes_a_heading(rt: HostRuntime) -> Result<(), Fail> {
 
 #[test]
 fn tabs_divide_a_table(rt: HostRuntime) -> Result<(), Fail> {
-    let setup = Setup::new(&[], 16, b'\t', 1)?;
+    let setup = Setup::new(&[], 16, b'\t', 1, Form::Plain)?;
     check_table(&rt, rt.alloc(), &setup, (TABS, TABS_TABLE), &[])
 }
 
@@ -266,7 +266,7 @@ i,roman,1-1-X3|9,i,roman,1-1-X3,,,,,5
 
 /// The records before the bars become the rows after them, below the heading for these targets.
 fn check_rows(rt: &impl Abort, alloc: Global, targets: &[Target], lines: &str) -> Result<(), Fail> {
-    let setup = Setup::new(targets, 16, b',', 1)?;
+    let setup = Setup::new(targets, 16, b',', 1, Form::Plain)?;
     let mut input = Vec::new(alloc);
     let mut output = Vec::new(alloc);
     write!(input, "id,calendar,date\n")?;
@@ -456,7 +456,7 @@ fn a_read_fault_in_mid_text_leaves_the_rows_before_it(rt: HostRuntime) -> Result
     let reader = Chunk {
         rest: WEEK_DATE.as_bytes(),
     };
-    let setup = Setup::new(&[], 16, b',', 1)?;
+    let setup = Setup::new(&[], 16, b',', 1, Form::Plain)?;
     let mut output = PlainOutput::new(Vec::new(rt.alloc()), 1);
     let end = convert_source(rt.alloc(), reader, &mut output, &setup);
     assert_eq!(rt; cause_of(&end), 5);
@@ -551,11 +551,12 @@ fn check_setup(
     (ring, delimiter, stripes): (usize, u8, usize),
     fault: u8,
 ) {
-    let answer = match Setup::new(targets, ring, delimiter, stripes) {
+    let answer = match Setup::new(targets, ring, delimiter, stripes, Form::Plain) {
         Ok(setup) => {
             assert_eq!(rt; setup.ring(), ring);
             assert_eq!(rt; setup.delimiter(), delimiter);
             assert_eq!(rt; setup.stripes(), stripes);
+            assert_eq!(rt; setup.form(), Form::Plain);
             0
         }
         Err(fault) => fault.number(),
@@ -594,7 +595,7 @@ fn entries_and_rows_tell_their_parts(rt: HostRuntime) -> Result<(), Fail> {
     assert!(rt; row.outcome().is_ok_and(|day| day.number() == 577_736));
     assert_eq!(rt; row.cells().len(), 2);
     assert!(rt; row.is_for(&setup));
-    assert!(rt; !row.is_for(&Setup::new(&[JULIAN, GREGORIAN], 16, b',', 1)?));
+    assert!(rt; !row.is_for(&Setup::new(&[JULIAN, GREGORIAN], 16, b',', 1, Form::Plain)?));
     assert!(rt; row.note().is_none());
     assert_eq!(rt; RowFault::WriteFault.cause(), Some(Cause::SinkFault));
     assert_eq!(rt; EntryFault::Failed.cause(), None);

@@ -2,7 +2,7 @@
 
 use crate::{Report, RunFaultKind, Verdict, run};
 use date_texts::{Calendar, Target};
-use register_records::{Output, PlainOutput, Setup, SourceEnd};
+use register_records::{Form, Output, PlainOutput, Setup, SourceEnd};
 use std::alloc::{AllocError, Global};
 use std::process::Abort;
 use std::sync::Wait;
@@ -109,7 +109,7 @@ fn run_counts(
 
 #[test]
 fn a_header_alone_gives_the_heading_and_no_source_is_complete(rt: HostRuntime) -> Result<(), Fail> {
-    let setup = Setup::new(&[], 16, b',', 1)?;
+    let setup = Setup::new(&[], 16, b',', 1, Form::Plain)?;
     run_counts(&rt, rt.alloc(), &[], &setup)?;
     run_counts(&rt, rt.alloc(), &[0], &setup)?;
     Ok(())
@@ -117,7 +117,7 @@ fn a_header_alone_gives_the_heading_and_no_source_is_complete(rt: HostRuntime) -
 
 #[test]
 fn three_sources_give_their_tables_through_rings_of_one(rt: HostRuntime) -> Result<(), Fail> {
-    let setup = Setup::new(&[], 1, b',', 1)?;
+    let setup = Setup::new(&[], 1, b',', 1, Form::Plain)?;
     run_counts(&rt, rt.alloc(), &[0, 1, 100], &setup)?;
     Ok(())
 }
@@ -126,7 +126,7 @@ fn three_sources_give_their_tables_through_rings_of_one(rt: HostRuntime) -> Resu
 fn tables_do_not_depend_on_stripes_and_rings(rt: HostRuntime) -> Result<(), Fail> {
     for stripes in 1..5usize {
         for ring in [1, 4096] {
-            let setup = Setup::new(&[], ring, b',', stripes)?;
+            let setup = Setup::new(&[], ring, b',', stripes, Form::Plain)?;
             run_counts(&rt, rt.alloc(), &[0, 1, 100, 3], &setup)?;
         }
     }
@@ -135,7 +135,7 @@ fn tables_do_not_depend_on_stripes_and_rings(rt: HostRuntime) -> Result<(), Fail
 
 #[test]
 fn a_broken_source_leaves_the_other_one_alone(rt: HostRuntime) -> Result<(), Fail> {
-    let setup = Setup::new(&[GREGORIAN], 16, b',', 1)?;
+    let setup = Setup::new(&[GREGORIAN], 16, b',', 1, Form::Plain)?;
     let mut sources: Vec<&[u8]> = Vec::new(rt.alloc());
     sources.push(b"")?;
     sources.push(b"id,calendar,date\nb,julian,1582-10-05\n")?;
@@ -162,7 +162,7 @@ fn a_broken_source_leaves_the_other_one_alone(rt: HostRuntime) -> Result<(), Fai
 fn a_run_with_too_many_sources_or_other_outputs_does_not_begin(
     rt: HostRuntime,
 ) -> Result<(), Fail> {
-    let setup = Setup::new(&[], 1, b',', 1)?;
+    let setup = Setup::new(&[], 1, b',', 1, Form::Plain)?;
     for (count, kind) in [
         (33usize, RunFaultKind::TooManySources),
         (2, RunFaultKind::OutputCount),

@@ -2,7 +2,7 @@
 
 use super::{WHOLE_TEXT, cause_of, table_of};
 use crate::run;
-use register_records::{PlainOutput, Setup};
+use register_records::{Form, PlainOutput, Setup};
 use std::alloc::{AllocError, Global};
 use std::io;
 use std::io::{ErrorKind, Read, Write};
@@ -61,7 +61,7 @@ const CASES: [(bool, bool, u8); 5] = [
 fn the_lowest_cause_is_told_and_other_sources_are_left_alone(rt: HostRuntime) -> Result<(), Fail> {
     let table = table_of(rt.alloc(), 1)?;
     for stripes in [1, 4] {
-        let setup = Setup::new(&[], 1, b',', stripes)?;
+        let setup = Setup::new(&[], 1, b',', stripes, Form::Plain)?;
         let mut sources = Vec::new(rt.alloc());
         let mut outputs = Vec::new(rt.alloc());
         for (cut, torn, _) in CASES {
@@ -93,7 +93,7 @@ fn broken_of_two(
     rt: &(impl Threads + Wait + Sync),
     alloc: Global,
 ) -> Result<Option<u32>, AllocError> {
-    let Ok(setup) = Setup::new(&[], 1, b',', 2) else {
+    let Ok(setup) = Setup::new(&[], 1, b',', 2, Form::Plain) else {
         return Ok(None);
     };
     let mut sources = Vec::new(alloc);

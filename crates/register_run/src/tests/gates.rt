@@ -3,7 +3,7 @@
 
 use super::{RECORD, WHOLE_TEXT, is_complete, outputs_of, text_of};
 use crate::{Gate, run, run_gated};
-use register_records::{PlainOutput, Setup};
+use register_records::{Form, PlainOutput, Setup};
 use std::alloc::{AllocError, Global};
 use std::io::{ErrorKind, Read, Write};
 use std::sync::Wait;
@@ -112,7 +112,7 @@ fn watched_outputs(
 #[test]
 fn two_readers_meet(rt: HostRuntime) -> Result<(), Fail> {
     for stripes in [1, 4] {
-        let setup = Setup::new(&[], 16, b',', stripes)?;
+        let setup = Setup::new(&[], 16, b',', stripes, Form::Plain)?;
         let (first, second) = (AtomicU64::new(0), AtomicU64::new(0));
         let chunks = [WHOLE_TEXT];
         let mut sources = Vec::new(rt.alloc());
@@ -131,7 +131,7 @@ fn two_readers_meet(rt: HostRuntime) -> Result<(), Fail> {
 #[test]
 fn first_row_before_second_record(rt: HostRuntime) -> Result<(), Fail> {
     for stripes in [1, 4] {
-        let setup = Setup::new(&[], 16, b',', stripes)?;
+        let setup = Setup::new(&[], 16, b',', stripes, Form::Plain)?;
         let (asked, rows) = (AtomicU64::new(0), AtomicU64::new(0));
         let chunks = [WHOLE_TEXT, RECORD];
         let mut sources = Vec::new(rt.alloc());
@@ -169,7 +169,7 @@ impl Gate for Held<'_> {
 // The gate holds the first entry until the second chunk was asked for.
 #[test]
 fn reader_beside_converter(rt: HostRuntime) -> Result<(), Fail> {
-    let setup = Setup::new(&[], 16, b',', 1)?;
+    let setup = Setup::new(&[], 16, b',', 1, Form::Plain)?;
     let (asked, came, open) = (AtomicU64::new(0), AtomicU64::new(0), AtomicU64::new(1));
     let chunks = [WHOLE_TEXT, RECORD];
     let mut sources = Vec::new(rt.alloc());
@@ -194,7 +194,7 @@ fn reader_beside_converter(rt: HostRuntime) -> Result<(), Fail> {
 // The gate holds the first entry that comes until a row stands in an output.
 #[test]
 fn converter_beside_writer(rt: HostRuntime) -> Result<(), Fail> {
-    let setup = Setup::new(&[], 16, b',', 1)?;
+    let setup = Setup::new(&[], 16, b',', 1, Form::Plain)?;
     let (came, rows) = (AtomicU64::new(0), AtomicU64::new(0));
     let mut sources = Vec::new(rt.alloc());
     sources.push(WHOLE_TEXT)?;
@@ -220,7 +220,7 @@ fn converter_beside_writer(rt: HostRuntime) -> Result<(), Fail> {
 #[test]
 fn all_converters_at_once(rt: HostRuntime) -> Result<(), Fail> {
     for stripes in 2..5usize {
-        let setup = Setup::new(&[], 16, b',', stripes)?;
+        let setup = Setup::new(&[], 16, b',', stripes, Form::Plain)?;
         let came = AtomicU64::new(0);
         let text = text_of(rt.alloc(), stripes)?;
         let mut sources = Vec::new(rt.alloc());
@@ -265,7 +265,7 @@ impl Gate for Slow<'_> {
 // With rings of one a reader is soon held up by its converter.
 #[test]
 fn bounded_run_ahead(rt: HostRuntime) -> Result<(), Fail> {
-    let setup = Setup::new(&[], 1, b',', 1)?;
+    let setup = Setup::new(&[], 1, b',', 1, Form::Plain)?;
     let (asked, open) = (AtomicU64::new(0), AtomicU64::new(1));
     let mut chunks: Vec<&[u8]> = Vec::new(rt.alloc());
     chunks.push(b"id,calendar,date\n")?;
@@ -307,7 +307,7 @@ impl Gate for Before<'_> {
 // The row of an entry is not written before the entry has passed the gate.
 #[test]
 fn no_row_before_the_gate(rt: HostRuntime) -> Result<(), Fail> {
-    let setup = Setup::new(&[], 16, b',', 1)?;
+    let setup = Setup::new(&[], 16, b',', 1, Form::Plain)?;
     let rows = AtomicU64::new(0);
     let mut sources = Vec::new(rt.alloc());
     sources.push(WHOLE_TEXT)?;

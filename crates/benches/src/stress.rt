@@ -2,7 +2,7 @@
 //! way with the same bytes.
 //!
 //! Each run has a seed of its own, which says all of it: how many sources, their texts, in which pieces they are read and
-//! written, which of them fail and where, the targets, the ring and the stripes.
+//! written, which of them fail and where, the targets, the ring, the stripes and whether the registers are sealed.
 
 mod streams;
 mod texts;
@@ -33,8 +33,8 @@ struct Plan {
 
 impl Plan {
     /// A source at random: one in six fails to be read, and one in six to be written.
-    fn new(alloc: Global, random: &mut Random) -> io::Result<Plan> {
-        let text = random_register(alloc, random)?;
+    fn new(alloc: Global, random: &mut Random, form: Form) -> io::Result<Plan> {
+        let text = random_register(alloc, random, form)?;
         let reads = if random.one_in(6) {
             Some(random.below(20))
         } else {
@@ -80,7 +80,12 @@ fn random_setup(alloc: Global, random: &mut Random) -> io::Result<Option<Setup>>
         1 + random.below(20) as usize
     };
     let stripes = 1 + random.below(4) as usize;
-    Ok(Setup::new(targets.as_slice(), ring, b',', stripes, Form::Plain).ok())
+    let form = if random.one_in(3) {
+        Form::Sealed
+    } else {
+        Form::Plain
+    };
+    Ok(Setup::new(targets.as_slice(), ring, b',', stripes, form).ok())
 }
 
 /// Whether two sources have ended in the same way: whole with the same counts, or broken for the same cause.
@@ -124,7 +129,7 @@ fn cause_of(end: &SourceEnd) -> Option<Cause> {
 }
 
 /// Sources at random: mostly one, at times as many as a run takes.
-fn random_plans(alloc: Global, random: &mut Random) -> io::Result<Vec<Plan>> {
+fn random_plans(alloc: Global, random: &mut Random, form: Form) -> io::Result<Vec<Plan>> {
     let count = if random.one_in(4) {
         random.below(MAX_SOURCES).saturating_add(1)
     } else {
@@ -132,7 +137,7 @@ fn random_plans(alloc: Global, random: &mut Random) -> io::Result<Vec<Plan>> {
     };
     let mut plans = Vec::new(alloc);
     for _ in 0..count {
-        plans.push(Plan::new(alloc, random)?)?;
+        plans.push(Plan::new(alloc, random, form)?)?;
     }
     Ok(plans)
 }
@@ -147,7 +152,7 @@ fn compare<R: Threads + Wait + Sync + Print>(
     let Some(setup) = random_setup(alloc, &mut random)? else {
         return Ok(None);
     };
-    let plans = random_plans(alloc, &mut random)?;
+    let plans = random_plans(alloc, &mut random, setup.form())?;
     let mut sources = Vec::new(alloc);
     let mut outputs = Vec::new(alloc);
     for plan in &plans {

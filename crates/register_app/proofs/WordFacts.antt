@@ -11,7 +11,10 @@ use Rattle.date_texts.specs.declared.calendar.Target.{Target}
 use Rattle.register_app.specs.Answers.{AreWrong}
 use Rattle.register_app.specs.Faults.{Fault, IsOfWords, fault_told, usage, bad_ring, unknown_delimiter, bad_stripes, unknown_target, target_twice, too_many_files, file_twice}
 use Rattle.register_app.specs.OptionValues.{IsDelimiterWord, IsNumberWord}
+use Rattle.register_records.specs.Entries.{Format}
 use Rattle.register_records.specs.Tables.{Layout}
+use Rattle.register_records.specs.declared.setups.Form.{Form}
+use Rattle.register_records.specs.declared.setups.Form.TheVariants.{Plain, Sealed}
 use Rattle.register_app.specs.Requests.{AreTaken, AreTargetsOf, AskForHelp, AskForVersion, AsksFor, FailsFirst, HaveDelimiter, HaveRing, HaveStripes, HaveTargets, IsDelimiterFault, IsDelimiterOf, IsFaultFromDelimiter, IsFaultFromRing, IsFaultFromStripes, IsFaultFromTargets, IsFaultOf, IsFileFault, IsRingFault, IsRingOf, IsStripesFault, IsStripesOf, IsTargetFault, IsUsageFault, Mean, MeanJust, Meaning, Task, command_line, files_in, refusal_status, value_in, help, version, table, wrong}
 use Rattle.register_app.specs.declared.refusals.Refusal.{Refusal}
 use Rattle.register_app.specs.declared.refusals.Refusal.TheVariants as refusal
@@ -102,6 +105,12 @@ one_summary P true false x y = sym (y.1 (x.0 refl))
 one_summary P false true x y = x.1 (y.0 refl)
 one_summary P false false x y = refl
 
+one_form : (P : Type 0) (a b : Form) → (a ≡ Sealed) ↔ P → (b ≡ Sealed) ↔ P → a ≡ b
+one_form P Plain Plain x y = refl
+one_form P Plain Sealed x y = x.1 (y.0 refl)
+one_form P Sealed Plain x y = sym (y.1 (x.0 refl))
+one_form P Sealed Sealed x y = refl
+
 module _ (one : OneTarget) (words : List Text) where
   not_taken : (kind : ErrorKind) → AreTaken words → IsAmong kind (fault_of command_line words) → ⊥
   not_taken kind taken among = subst (IsAmong kind) taken among
@@ -128,7 +137,7 @@ module _ (one : OneTarget) (words : List Text) where
       (passed (IsRingFault (value_in words (codes "ring"))) (HaveRing words) (IsFaultFromDelimiter words) fault
       (no_ring_fault (value_in words (codes "ring")) task.ring fault asks.ring_asked)
       (passed (IsDelimiterFault (value_in words (codes "delimiter"))) (HaveDelimiter words) (IsFaultFromStripes words) fault
-      (no_delimiter_fault (value_in words (codes "delimiter")) task.layout.delimiter fault asks.delimiter_asked)
+      (no_delimiter_fault (value_in words (codes "delimiter")) task.layout.format.delimiter fault asks.delimiter_asked)
       (passed (IsStripesFault (value_in words (codes "stripes"))) (HaveStripes words) (IsFileFault (files_in words)) fault
       (no_stripes_fault (value_in words (codes "stripes")) task.stripes fault asks.stripes_asked)
       (fit_no_fault (files_in words) fault asks.files_fit)))))
@@ -137,20 +146,20 @@ module _ (one : OneTarget) (words : List Text) where
   one_table task other asks same =
       let targets = one_list one (value_in words (codes "to")) task.layout.targets other.layout.targets asks.targets_asked same.targets_asked in
       let ring = one_ring (value_in words (codes "ring")) task.ring other.ring asks.ring_asked same.ring_asked in
-      let delimiter = one_delimiter (value_in words (codes "delimiter")) task.layout.delimiter other.layout.delimiter asks.delimiter_asked same.delimiter_asked in
+      let delimiter = one_delimiter (value_in words (codes "delimiter")) task.layout.format.delimiter other.layout.format.delimiter asks.delimiter_asked same.delimiter_asked in
       let stripes = one_stripes (value_in words (codes "stripes")) task.stripes other.stripes asks.stripes_asked same.stripes_asked in
+      let form = one_form _ task.layout.format.form other.layout.format.form asks.form_asked same.form_asked in
       let summary = one_summary _ task.summary other.summary asks.summary_asked same.summary_asked in
       let files = asks.files_asked ∙ sym same.files_asked in
-      ap table (same_task task other targets ring delimiter stripes summary files)
+      ap table (same_task task other (same_layout task.layout other.layout targets delimiter form) ring stripes summary files)
     where
-      same_layout : (a b : Layout) → a.targets ≡ b.targets → a.delimiter ≡ b.delimiter → a ≡ b
-      same_layout a b targets delimiter =
-          ap₂ (λ (ts : List Target) (d : ℕ). record { delimiter = d; targets = ts }) targets delimiter
+      same_layout : (a b : Layout) → a.targets ≡ b.targets → a.format.delimiter ≡ b.format.delimiter → a.format.form ≡ b.format.form → a ≡ b
+      same_layout a b targets delimiter form =
+          let format : a.format ≡ b.format = ap₂ (λ (d : ℕ) (f : Form). record { delimiter = d; form = f }) delimiter form in
+          ap₂ (λ (ts : List Target) (f : Format). record { format = f; targets = ts }) targets format
 
-      same_task : (a b : Task) → a.layout.targets ≡ b.layout.targets → a.ring ≡ b.ring → a.layout.delimiter ≡ b.layout.delimiter → a.stripes ≡ b.stripes
-          → a.summary ≡ b.summary → a.files ≡ b.files → a ≡ b
-      same_task a b targets ring delimiter stripes summary files =
-          let layout = same_layout a.layout b.layout targets delimiter in
+      same_task : (a b : Task) → a.layout ≡ b.layout → a.ring ≡ b.ring → a.stripes ≡ b.stripes → a.summary ≡ b.summary → a.files ≡ b.files → a ≡ b
+      same_task a b layout ring stripes summary files =
           ap₂ (λ (l : Layout) (n : ℕ). record a { layout = l; ring = n }) layout ring
           ∙ ap₂ (λ (n : ℕ) (s : Bool). record a { layout = b.layout; ring = b.ring; stripes = n; summary = s }) stripes summary
           ∙ ap (λ (fs : List Text). record b { files = fs }) files

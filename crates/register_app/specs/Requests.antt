@@ -8,6 +8,7 @@ use Rattle.date_texts.specs.Calendars.{all_targets}
 use Rattle.date_texts.specs.declared.calendar.Target.{Target}
 use Rattle.register_records.specs.Tables.{Layout}
 use Rattle.register_records.specs.Views.{layout_of, ring_of, stripes_of}
+use Rattle.register_records.specs.declared.setups.Form.TheVariants.{Sealed}
 use Rattle.register_app.specs.Faults.{Fault, usage, bad_ring, unknown_delimiter, bad_stripes, too_many_files, file_twice}
 use Rattle.register_app.specs.OptionValues.{AsksForTargets, IsDelimiterWord, IsListFault, IsNumberWord}
 use Rattle.register_app.specs.declared.refusals.Refusal.{Refusal}
@@ -16,8 +17,8 @@ use Rattle.register_app.specs.declared.requests.Job.{Job}
 use Rattle.register_app.specs.declared.requests.Request.{Request}
 use Rattle.register_app.specs.declared.requests.Request.TheVariants as request
 
--- what words can ask of a run: how its tables are laid out, the size of its rings, the converters of a source, whether a
--- summary is wanted, and the files
+-- what words can ask of a run: how its registers are written and its tables laid out, the size of its rings, the converters of
+-- a source, whether a summary is wanted, and the files
 pub record Task : Type 0 where
   pub layout : Layout
   pub ring : ℕ
@@ -41,14 +42,15 @@ word_rule name = record (new_rule name) { value_names = 1; action = Some Append 
 abbrev pub bare_command : App
 bare_command = let new = new_app (codes "register") in record new { top = record new.top { no_binary_name = true; has_version = true } }
 
--- the command line: four options with a value each, a flag, and files
+-- the command line: four options with a value each, two flags, and files
 abbrev pub command_line : App
 command_line =
     let targets = with_rule bare_command (option_rule (codes "to")) in
     let ring = with_rule targets (option_rule (codes "ring")) in
     let stripes = with_rule ring (option_rule (codes "stripes")) in
     let delimiter = with_rule stripes (option_rule (codes "delimiter")) in
-    let summary = with_rule delimiter (flag_rule (codes "summary")) in
+    let sealed = with_rule delimiter (flag_rule (codes "sealed")) in
+    let summary = with_rule sealed (flag_rule (codes "summary")) in
     with_rule summary (word_rule (codes "file"))
 
 -- the value that the words give to an option, if they use it
@@ -56,8 +58,8 @@ abbrev pub value_in : List Text → Text → Option Text
 value_in words name = first_of name (matches_of command_line words)
 
 -- the flag stands in the words: clap gives it the text `true`
-abbrev pub IsSummaryAsked : List Text → Type 0
-IsSummaryAsked words = one_of (codes "summary") (matches_of command_line words) ≡ Some (codes "true")
+abbrev pub IsGiven : Text → List Text → Type 0
+IsGiven name words = one_of name (matches_of command_line words) ≡ Some (codes "true")
 
 -- the files that the words name, in order
 abbrev pub files_in : List Text → List Text
@@ -107,9 +109,10 @@ pub record AsksFor (words : List Text) (task : Task) : Type 0 where
   pub taken : fault_of command_line words ≡ []
   pub targets_asked : AreTargetsOf (value_in words (codes "to")) task.layout.targets
   pub ring_asked : IsRingOf (value_in words (codes "ring")) task.ring
-  pub delimiter_asked : IsDelimiterOf (value_in words (codes "delimiter")) task.layout.delimiter
+  pub delimiter_asked : IsDelimiterOf (value_in words (codes "delimiter")) task.layout.format.delimiter
   pub stripes_asked : IsStripesOf (value_in words (codes "stripes")) task.stripes
-  pub summary_asked : (task.summary ≡ true) ↔ IsSummaryAsked words
+  pub form_asked : (task.layout.format.form ≡ Sealed) ↔ IsGiven (codes "sealed") words
+  pub summary_asked : (task.summary ≡ true) ↔ IsGiven (codes "summary") words
   pub files_asked : task.files ≡ files_in words
   pub files_fit : AreFilesToConvert (files_in words)
 

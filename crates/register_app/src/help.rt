@@ -32,14 +32,15 @@ are counted too, or K6B.
 French and Islamic dates go by arithmetic: against the calendar as it was
 used, French years 4, 8, 12 are a day early, Islamic days may be 1 or 2 off.
 
-What comes out: for each record its row number, its three fields, the fixed
+What comes out: for each record its row number, its fields, the fixed
 day number (rd; day 1 is Monday, 1 January of the Gregorian year 1), the
 weekday, and the same day in each calendar asked for; a day before the first
 day of a calendar has an empty field there. The last column is empty where
 the date was converted. Else it has the first reason why it was not:
 
-    1  the record has not three fields
-    2  its id is over 40 bytes, its calendar over 16 or its date over 32
+    1  the record has not three fields; with --sealed, not four
+    2  its id is over 40 bytes, its calendar over 16, its date over 32 or
+       its note over 80
     3  a field is not UTF-8
     4  no calendar has the name
     5  the date is not written as above
@@ -54,6 +55,10 @@ Options:
                       haab, tzolkin; or the word none. Without it: all.
     --delimiter WORD  what stands between two fields, in text and table:
                       comma, semicolon or tab. Without it: comma.
+    --sealed          break off where records were lost: the last line is
+                      END,N, with the number N of the records. The header
+                      is id,calendar,date,note, and the table has a column
+                      note. Without it: no note and no such line.
     --summary         report on standard error, for each whole table, its
                       rows and how many were refused by each number.
     --ring N          how many records may wait between two threads, 1 to
@@ -79,9 +84,12 @@ cause 4 its last line may be cut. Causes:
     3  not every row could be confirmed, which should never happen
     4  the table could not be written
     5  the register could not be read
-    6  the header is missing or is not id,calendar,date; nothing is written.
-       It may be another delimiter, UTF-16, a title line or more columns.
+    6  the header is missing or is not id,calendar,date (with --sealed
+       id,calendar,date,note); nothing is written. It may be another
+       delimiter, UTF-16, a title line or more columns.
     7  there are more than 1,000,000 records; the first 1,000,000 are there
+    8  with --sealed: the last line is not END,N with the right number, or
+       is missing; the records before it are there
 
 Example: the text
 

@@ -4,7 +4,7 @@ ghost use Rattle.std.specs.Prelude.{◌≡◌, ◌↔◌, ℕ, List, IfOk, IfErr
 ghost use Rattle.std.specs.String.{string_bytes};
 ghost use Rattle.clap.specs.Words.{HasKind, all_of, app_of, fault_of, found_of, one_of, rows_of, rule_of};
 ghost use Rattle.register_app.specs.Faults.{IsOfWords, fault_told};
-ghost use Rattle.register_app.specs.Requests.{AreFilesToConvert, AreTargetsOf, IsDelimiterFault, IsDelimiterOf, IsFileFault, IsFirstTwice, IsNamedTwice, IsRingFault, IsRingOf, IsStripesFault, IsStripesOf, IsSummaryAsked, IsTargetFault, MeanJust, bare_command, command_line, files_in, flag_rule, meaning_of, option_rule, value_in, word_rule, wrong};
+ghost use Rattle.register_app.specs.Requests.{AreFilesToConvert, AreTargetsOf, IsDelimiterFault, IsDelimiterOf, IsFileFault, IsFirstTwice, IsGiven, IsNamedTwice, IsRingFault, IsRingOf, IsStripesFault, IsStripesOf, IsTargetFault, MeanJust, bare_command, command_line, files_in, flag_rule, meaning_of, option_rule, value_in, word_rule, wrong};
 
 use crate::option_values::{delimiter_named, number_named, read_targets};
 use crate::refusals::Refusal;
@@ -16,7 +16,7 @@ use register_records::{Form, Setup};
 use std::alloc::{AllocError, Global};
 
 /// The version of the program.
-pub const VERSION: &str = "1.0.0";
+pub const VERSION: &str = "1.1.0";
 
 /// How many items a ring holds where the words do not say.
 const RING: usize = 16;
@@ -62,6 +62,7 @@ struct Options<'a> {
     ring: Option<&'a str>,
     stripes: Option<&'a str>,
     delimiter: Option<&'a str>,
+    sealed: bool,
     summary: bool,
     files: Vec<&'a str>,
 }
@@ -110,6 +111,7 @@ fn command<'a>(alloc: Global) -> Result<Command<'a>, AllocError>
         .arg(option(alloc, "ring", "N"))?
         .arg(option(alloc, "stripes", "N"))?
         .arg(option(alloc, "delimiter", "comma|semicolon|tab"))?
+        .arg(flag(alloc, "sealed"))?
         .arg(flag(alloc, "summary"))?
         .arg(words_alone(alloc, "file", "FILE"))
 }
@@ -146,7 +148,8 @@ fn read_options<'a>(alloc: Global, words: &'a [String]) -> Result<Options<'a>, c
         ≡ value_in (map string_bytes words.entry.now) (codes "stripes")) }
     ensures delimiter { IfOk result (λ o. option_map (λ v. v.now) o.delimiter
         ≡ value_in (map string_bytes words.entry.now) (codes "delimiter")) }
-    ensures summary { IfOk result (λ o. (o.summary ≡ true) ↔ IsSummaryAsked (map string_bytes words.entry.now)) }
+    ensures sealed { IfOk result (λ o. (o.sealed ≡ true) ↔ IsGiven (codes "sealed") (map string_bytes words.entry.now)) }
+    ensures summary { IfOk result (λ o. (o.summary ≡ true) ↔ IsGiven (codes "summary") (map string_bytes words.entry.now)) }
     ensures files { IfOk result (λ o. map (λ f. f.now) o.files.items ≡ files_in (map string_bytes words.entry.now)) }
     ensures kinds { IfErr result (HasKind (fault_of command_line (map string_bytes words.entry.now))) }
 {
@@ -157,6 +160,7 @@ fn read_options<'a>(alloc: Global, words: &'a [String]) -> Result<Options<'a>, c
         ring: matches.get_str("ring"),
         stripes: matches.get_str("stripes"),
         delimiter: matches.get_str("delimiter"),
+        sealed: is_given(&matches, "sealed"),
         summary: is_given(&matches, "summary"),
         files,
     })
@@ -222,6 +226,13 @@ fn chosen_stripes<'a>(word: Option<&'a str>) -> Result<usize, Refusal<'a>>
     }
 }
 
+/// The form of the registers: sealed where the flag is given, and else plain.
+fn chosen_form(sealed: bool) -> Form
+    ensures { (result ≡ Form.Sealed) ↔ (sealed ≡ true) }
+{
+    if sealed { Form::Sealed } else { Form::Plain }
+}
+
 /// The first file from the left that was named before, or `None` where each is named once.
 fn file_named_twice<'a>(files: &[&'a str]) -> Option<&'a str>
     ensures first { IfSome result (λ file. IsFirstTwice (map (λ f. f.now) files.now) file.now) }
@@ -281,7 +292,8 @@ pub fn read_request<'a>(alloc: Global, words: &'a [String]) -> Result<Request<'a
     let delimiter = chosen_delimiter(options.delimiter)?;
     let stripes = chosen_stripes(options.stripes)?;
     check_files(options.files.as_slice())?;
-    match Setup::new(targets.as_slice(), ring, delimiter, stripes, Form::Plain) {
+    let form = chosen_form(options.sealed);
+    match Setup::new(targets.as_slice(), ring, delimiter, stripes, form) {
         Ok(setup) => Ok(Request::Convert(Job {
             setup,
             summary: options.summary,

@@ -2,7 +2,7 @@
 use Rattle.std.proofs.Common.{◌≡◌, ◌∙◌, ap, refl, sym, subst, ℕ, zero, suc, ◌+◌, ◌≤◌, List, [], ◌∷◌, ◌++◌, length, map, arith, lit<, append_assoc, length-append, append-nil, Option, None, Some}
 use Rattle.std.specs.Prelude.{IfSome}
 use Rattle.std.specs.List.{Contains}
-use Rattle.register_records.specs.Entries.{AreNumberedFrom, HasEntries, HasFirstEntries, Numbered}
+use Rattle.register_records.specs.Entries.{AreNumberedFrom, Format, HasEntries, HasFirstEntries, Numbered}
 use Rattle.register_records.specs.Seen.{entry_seen}
 use Rattle.register_records.specs.Views.{row_entry}
 use Rattle.register_records.specs.declared.rows.Row.{Row}
@@ -47,6 +47,6 @@ none_more xs (y ∷ rest) e = absurd (omega (arith, length-append xs (y ∷ rest
 pub front_all : (given xs rest : List Numbered) → given ≡ xs ++ rest → length given ≡ length xs → given ≡ xs
 front_all given xs rest e len = e ∙ none_more xs rest (sym (ap length e) ∙ len)
 
-pub first_of_first : (delimiter : ℕ) (text : Option (List ℕ)) (given xs rest : List Numbered) → given ≡ xs ++ rest → IfSome text (λ t. HasFirstEntries delimiter t given) → IfSome text (λ t. HasFirstEntries delimiter t xs)
-first_of_first delimiter None given xs rest e h = h
-first_of_first delimiter (Some t) given xs rest e (after, more, has, is) = (after, rest ++ more, has, is ∙ ap (λ l. l ++ more) e ∙ append_assoc xs rest more)
+pub first_of_first : (format : Format) (text : Option (List ℕ)) (given xs rest : List Numbered) → given ≡ xs ++ rest → IfSome text (λ t. HasFirstEntries format t given) → IfSome text (λ t. HasFirstEntries format t xs)
+first_of_first format None given xs rest e h = h
+first_of_first format (Some t) given xs rest e (after, more, has, is) = (after, rest ++ more, has, is ∙ ap (λ l. l ++ more) e ∙ append_assoc xs rest more)

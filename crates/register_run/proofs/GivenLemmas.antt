@@ -3,9 +3,10 @@ use Rattle.std.proofs.Common.{◌≡◌, ◌∙◌, ap, sym, subst, refl, ℕ, �
 use Rattle.std.specs.Prelude.{All, Err, IfErr, IfSome, Ok, OnOk, Result}
 use Rattle.std.proofs.lemmas.List.Elements.{All-set}
 use Rattle.std.proofs.Math.Logic.{∥∥₁_elim, ∥∥₁_map, ∥∥₁_prop}
-use Rattle.register_records.specs.Entries.{AreNumberedFrom, HasEntries, HasFirstEntries, HasNoHeader, HasTooMany, Numbered}
+use Rattle.register_records.specs.Entries.{AreNumberedFrom, Format, HasEntries, HasFirstEntries, HasNoHeader, HasTooMany, IsNotSealed, Numbered}
 use Rattle.register_records.specs.declared.reading.EntryFault.{EntryFault}
 use Rattle.register_records.specs.declared.reading.EntryFault.TheVariants as fault
+use Rattle.register_records.specs.declared.setups.Form.TheVariants.{Sealed}
 use Rattle.register_records.specs.declared.sources.Cause.{Cause}
 use Rattle.register_records.specs.declared.sources.Cause.TheVariants as cause
 use Rattle.lane_rings.specs.declared.item.Gone.{Gone}
@@ -27,6 +28,7 @@ not_sunk_by fault.OutOfMemory c is e = cc
 not_sunk_by fault.ReadFault c is e = cc
 not_sunk_by fault.BadHeader c is e = cc
 not_sunk_by fault.TooManyRecords c is e = cc
+not_sunk_by fault.NotSealed c is e = cc
 not_sunk_by fault.Failed c is e = cc
 
 -- the cause tells the fault
@@ -35,6 +37,7 @@ header_told fault.OutOfMemory c is e = cc
 header_told fault.ReadFault c is e = cc
 header_told fault.BadHeader c is e = refl
 header_told fault.TooManyRecords c is e = cc
+header_told fault.NotSealed c is e = cc
 header_told fault.Failed c is e = cc
 
 many_told : (f : EntryFault) (c : Cause) → IsCauseOf f c → c ≡ cause.TooManyRecords → f ≡ fault.TooManyRecords
@@ -42,67 +45,84 @@ many_told fault.OutOfMemory c is e = cc
 many_told fault.ReadFault c is e = cc
 many_told fault.BadHeader c is e = cc
 many_told fault.TooManyRecords c is e = refl
+many_told fault.NotSealed c is e = cc
 many_told fault.Failed c is e = cc
 
-module _ (text : Option (List ℕ)) (delimiter : ℕ) where
+unsealed_told : (f : EntryFault) (c : Cause) → IsCauseOf f c → c ≡ cause.NotSealed → f ≡ fault.NotSealed
+unsealed_told fault.OutOfMemory c is e = cc
+unsealed_told fault.ReadFault c is e = cc
+unsealed_told fault.BadHeader c is e = cc
+unsealed_told fault.TooManyRecords c is e = cc
+unsealed_told fault.NotSealed c is e = refl
+unsealed_told fault.Failed c is e = cc
+
+module _ (text : Option (List ℕ)) (format : Format) where
   -- the text was not opened
   pub given_none : (f : EntryFault) (c : Cause) → IsCauseOf f c
-      → (f ≡ fault.BadHeader → IfSome text (λ t. HasNoHeader delimiter t)) → (f ≡ fault.TooManyRecords → ⊥)
-      → IsGiven text delimiter (Err c) []
-  given_none f c is bad many = record {
+      → (f ≡ fault.BadHeader → IfSome text (λ t. HasNoHeader format t)) → (f ≡ fault.TooManyRecords → ⊥) → (f ≡ fault.NotSealed → ⊥)
+      → IsGiven text format (Err c) []
+  given_none f c is bad many unsealed = record {
     numbered = tt;
     first = inl refl;
     all = tt;
     bad_header = λ e. (refl, bad (header_told f c is e));
     too_many = λ e. absurd (many (many_told f c is e));
+    not_sealed = λ e. absurd (unsealed (unsealed_told f c is e));
   }
 
   stopped_so : (f : EntryFault) (c : Cause) (given : List Numbered) → IsCauseOf f c → (f ≡ fault.BadHeader → ⊥) → AreNumberedFrom 1 given
-      → IfSome text (λ t. HasFirstEntries delimiter t given) → (f ≡ fault.TooManyRecords → IfSome text (λ t. HasTooMany delimiter t))
-      → IsGiven text delimiter (Err c) given
-  stopped_so f c given is bad numbered first many = record {
+      → IfSome text (λ t. HasFirstEntries format t given) → (f ≡ fault.TooManyRecords → IfSome text (λ t. HasTooMany format t))
+      → (f ≡ fault.NotSealed → (format.form ≡ Sealed) × IfSome text (λ t. IsNotSealed format t)) → IsGiven text format (Err c) given
+  stopped_so f c given is bad numbered first many unsealed = record {
     numbered = numbered;
     first = inr first;
     all = tt;
     bad_header = λ e. absurd (bad (header_told f c is e));
     too_many = λ e. many (many_told f c is e);
+    not_sealed = λ e. unsealed (unsealed_told f c is e);
   }
 
   -- the reading stopped after these entries
   pub given_stopped : (f : EntryFault) (c : Cause) (given : List Numbered) → IsCauseOf f c → (f ≡ fault.BadHeader → ⊥)
-      → (f ≡ fault.TooManyRecords → ∥ IfSome text (λ t. HasTooMany delimiter t) ∥₁) → AreNumberedFrom 1 given
-      → ∥ IfSome text (λ t. HasFirstEntries delimiter t given) ∥₁ → ∥ IsGiven text delimiter (Err c) given ∥₁
-  given_stopped fault.TooManyRecords c given is bad many numbered first = ∥∥₁_elim first ∥∥₁_prop (λ s. ∥∥₁_map (many refl) (λ m. stopped_so fault.TooManyRecords c given is bad numbered s (λ e. m)))
-  given_stopped fault.OutOfMemory c given is bad many numbered first = ∥∥₁_map first (λ s. stopped_so fault.OutOfMemory c given is bad numbered s (λ e. cc))
-  given_stopped fault.ReadFault c given is bad many numbered first = ∥∥₁_map first (λ s. stopped_so fault.ReadFault c given is bad numbered s (λ e. cc))
-  given_stopped fault.BadHeader c given is bad many numbered first = absurd (bad refl)
-  given_stopped fault.Failed c given is bad many numbered first = ∥∥₁_map first (λ s. stopped_so fault.Failed c given is bad numbered s (λ e. cc))
+      → (f ≡ fault.TooManyRecords → ∥ IfSome text (λ t. HasTooMany format t) ∥₁)
+      → (f ≡ fault.NotSealed → (format.form ≡ Sealed) × ∥ IfSome text (λ t. IsNotSealed format t) ∥₁) → AreNumberedFrom 1 given
+      → ∥ IfSome text (λ t. HasFirstEntries format t given) ∥₁ → ∥ IsGiven text format (Err c) given ∥₁
+  given_stopped fault.TooManyRecords c given is bad many unsealed numbered first =
+      ∥∥₁_elim first ∥∥₁_prop (λ s. ∥∥₁_map (many refl) (λ m. stopped_so fault.TooManyRecords c given is bad numbered s (λ e. m) (λ e. cc)))
+  given_stopped fault.NotSealed c given is bad many unsealed numbered first =
+      ∥∥₁_elim first ∥∥₁_prop (λ s. ∥∥₁_map (unsealed refl).1 (λ u. stopped_so fault.NotSealed c given is bad numbered s (λ e. cc) (λ e. ((unsealed refl).0, u))))
+  given_stopped fault.OutOfMemory c given is bad many unsealed numbered first = ∥∥₁_map first (λ s. stopped_so fault.OutOfMemory c given is bad numbered s (λ e. cc) (λ e. cc))
+  given_stopped fault.ReadFault c given is bad many unsealed numbered first = ∥∥₁_map first (λ s. stopped_so fault.ReadFault c given is bad numbered s (λ e. cc) (λ e. cc))
+  given_stopped fault.BadHeader c given is bad many unsealed numbered first = absurd (bad refl)
+  given_stopped fault.Failed c given is bad many unsealed numbered first = ∥∥₁_map first (λ s. stopped_so fault.Failed c given is bad numbered s (λ e. cc) (λ e. cc))
 
   -- a converter was gone after these entries
-  pub given_gone : (given : List Numbered) → AreNumberedFrom 1 given → ∥ IfSome text (λ t. HasFirstEntries delimiter t given) ∥₁ → ∥ IsGiven text delimiter (Err cause.Unconfirmed) given ∥₁
+  pub given_gone : (given : List Numbered) → AreNumberedFrom 1 given → ∥ IfSome text (λ t. HasFirstEntries format t given) ∥₁ → ∥ IsGiven text format (Err cause.Unconfirmed) given ∥₁
   given_gone given numbered first = ∥∥₁_map first (λ f. record {
     numbered = numbered;
     first = inr f;
     all = tt;
     bad_header = λ e. cc;
     too_many = λ e. cc;
+    not_sealed = λ e. cc;
   })
 
   -- these are all
-  pub given_all : (n : ℕ) (given : List Numbered) → n ≡ length given → AreNumberedFrom 1 given → ∥ IfSome text (λ t. HasFirstEntries delimiter t given) ∥₁ → ∥ IfSome text (λ t. HasEntries delimiter t given) ∥₁ → ∥ IsGiven text delimiter (Ok n) given ∥₁
+  pub given_all : (n : ℕ) (given : List Numbered) → n ≡ length given → AreNumberedFrom 1 given → ∥ IfSome text (λ t. HasFirstEntries format t given) ∥₁ → ∥ IfSome text (λ t. HasEntries format t given) ∥₁ → ∥ IsGiven text format (Ok n) given ∥₁
   given_all n given count numbered first all = ∥∥₁_elim first ∥∥₁_prop (λ f. ∥∥₁_map all (λ a. record {
     numbered = numbered;
     first = inr f;
     all = (count, a);
     bad_header = tt;
     too_many = tt;
+    not_sealed = tt;
   }))
 
--- what holds of one text and delimiter holds of the same
-along : (P : Option (List ℕ) → ℕ → Type 0) (text text' : Option (List ℕ)) (d d' : ℕ) → text' ≡ text → d' ≡ d → P text' d' → P text d
+-- what holds of one text and format holds of the same
+along : (P : Option (List ℕ) → Format → Type 0) (text text' : Option (List ℕ)) (d d' : Format) → text' ≡ text → d' ≡ d → P text' d' → P text d
 along P text text' d d' e f h = subst (λ t. P t d) e (subst (λ n. P text' n) f h)
 
-module _ (text text' : Option (List ℕ)) (d d' : ℕ) (same : text' ≡ text) (by : d' ≡ d) (given old : List Numbered) (kept : given ≡ old) (numbered : AreNumberedFrom 1 old)
+module _ (text text' : Option (List ℕ)) (d d' : Format) (same : text' ≡ text) (by : d' ≡ d) (given old : List Numbered) (kept : given ≡ old) (numbered : AreNumberedFrom 1 old)
     (first : ∥ IfSome text' (λ t. HasFirstEntries d' t given) ∥₁) (senders : List (Sender Entry)) (among : All (λ s. AreAmong old (sent s)) senders) where
   first' : ∥ IfSome text (λ t. HasFirstEntries d t old) ∥₁
   first' = subst (λ g. ∥ IfSome text (λ t. HasFirstEntries d t g) ∥₁) kept (along (λ o n. ∥ IfSome o (λ t. HasFirstEntries n t given) ∥₁) text text' d d' same by first)
@@ -113,10 +133,12 @@ module _ (text text' : Option (List ℕ)) (d d' : ℕ) (same : text' ≡ text) (
       ∥∥₁_map (given_all text d n old count numbered first' all') (λ is. (old, is, among))
 
   pub sends_stopped : (f : EntryFault) (c : Cause) → IsCauseOf f c → (f ≡ fault.BadHeader → ⊥)
-      → (f ≡ fault.TooManyRecords → ∥ IfSome text' (λ t. HasTooMany d' t) ∥₁) → ∥ Sends text d (Err c) senders ∥₁
-  sends_stopped f c is bad many =
+      → (f ≡ fault.TooManyRecords → ∥ IfSome text' (λ t. HasTooMany d' t) ∥₁)
+      → (f ≡ fault.NotSealed → (d'.form ≡ Sealed) × ∥ IfSome text' (λ t. IsNotSealed d' t) ∥₁) → ∥ Sends text d (Err c) senders ∥₁
+  sends_stopped f c is bad many unsealed =
       let many' = λ (e : f ≡ fault.TooManyRecords). along (λ o n. ∥ IfSome o (λ t. HasTooMany n t) ∥₁) text text' d d' same by (many e) in
-      ∥∥₁_map (given_stopped text d f c old is bad many' numbered first') (λ is'. (old, is', among))
+      let unsealed' = λ (e : f ≡ fault.NotSealed). along (λ o n. (n.form ≡ Sealed) × ∥ IfSome o (λ t. IsNotSealed n t) ∥₁) text text' d d' same by (unsealed e) in
+      ∥∥₁_map (given_stopped text d f c old is bad many' unsealed' numbered first') (λ is'. (old, is', among))
 
   pub sends_gone : ∥ Sends text d (Err cause.Unconfirmed) senders ∥₁
   sends_gone = ∥∥₁_map (given_gone text d old numbered first') (λ is. (old, is, among))
@@ -131,5 +153,5 @@ all_among given more senders at old new e r is below m ok gone all =
     All-set (λ s. AreAmong more (sent s)) senders at new (among_send given more (sent old) (sent new) e r m ok gone before) (λ k d at'. among_given given more (sent (get_or senders k d)) (entry_seen e) m (all k d at'))
 
 -- an answer that does not speak of the text says nothing
-pub passed_not : (text : Option (List ℕ)) (d : ℕ) (c : Cause) (took : Row → Type 0) → IsOfThreads c → HasPassed text d (Err c) took
+pub passed_not : (text : Option (List ℕ)) (d : Format) (c : Cause) (took : Row → Type 0) → IsOfThreads c → HasPassed text d (Err c) took
 passed_not text d c took is = record { not_sunk = is.1; rows = λ told. absurd (let k = is.0 in cc) }

@@ -7,11 +7,12 @@ use Rattle.std.proofs.Props.{props}
 use Rattle.std.specs.declared.io.traits.Read as reads
 use Rattle.register_records.specs.declared.outputs.Output as outputs
 use Rattle.register_records.specs.declared.setups.Setup.{Setup}
+use Rattle.register_records.specs.declared.setups.Form.TheVariants.{Sealed}
 use Rattle.register_records.specs.declared.sources.Cause.{Cause}
 use Rattle.register_records.specs.declared.sources.Cause.TheVariants as cause
 use Rattle.register_records.specs.declared.sources.SourceEnd.{SourceEnd}
 use Rattle.register_records.specs.declared.sources.SourceEnd.TheVariants as end
-use Rattle.register_records.specs.Entries.{HasNoHeader, HasTooMany}
+use Rattle.register_records.specs.Entries.{HasNoHeader, HasTooMany, IsNotSealed}
 use Rattle.register_records.specs.Sources.{ArePartOfTable, Gains, IfBroken, IfWhole, IsWholeTable, is_whole_end}
 use Rattle.register_records.specs.Tables.{Layout}
 use Rattle.register_records.specs.Views.{layout_of}
@@ -115,17 +116,21 @@ module _ {W : Type 0} (contents : W → Option (List ℕ)) (has_failed is_flushe
   part_of (end.Whole rows refused journal) h = tt
   part_of (end.Broken c) h = λ reading. ∥∥₁_map h (λ s. s.part reading)
 
-  no_header : (t : Option (List ℕ)) → ∥ IfSome t (λ bytes. HasNoHeader layout.delimiter bytes) ∥₁ → IfSome t (λ bytes. HasNoHeader layout.delimiter bytes)
+  no_header : (t : Option (List ℕ)) → ∥ IfSome t (λ bytes. HasNoHeader layout.format bytes) ∥₁ → IfSome t (λ bytes. HasNoHeader layout.format bytes)
   no_header None h = tt
   no_header (Some bytes) h = λ after has. ∥∥₁_elim h (Prim.hlevel props) (λ none. none after has)
 
-  pub bad_header_of : (e : SourceEnd) → (e ≡ end.Broken cause.BadHeader → written ≡ given) → Is e → IfBroken e (λ c. c ≡ cause.BadHeader → (written ≡ given) × IfSome text (λ t. HasNoHeader layout.delimiter t))
+  pub bad_header_of : (e : SourceEnd) → (e ≡ end.Broken cause.BadHeader → written ≡ given) → Is e → IfBroken e (λ c. c ≡ cause.BadHeader → (written ≡ given) × IfSome text (λ t. HasNoHeader layout.format t))
   bad_header_of (end.Whole rows refused journal) same h = tt
   bad_header_of (end.Broken c) same h = λ bad. (same (ap (λ (d : Cause). end.Broken d) bad), no_header text (∥∥₁_map h (λ s. s.bad_header bad)))
 
-  pub too_many_of : (e : SourceEnd) → Is e → IfBroken e (λ c. c ≡ cause.TooManyRecords → ∥ IfSome text (λ t. HasTooMany layout.delimiter t) ∥₁)
+  pub too_many_of : (e : SourceEnd) → Is e → IfBroken e (λ c. c ≡ cause.TooManyRecords → ∥ IfSome text (λ t. HasTooMany layout.format t) ∥₁)
   too_many_of (end.Whole rows refused journal) h = tt
   too_many_of (end.Broken c) h = λ many. ∥∥₁_map h (λ s. s.too_many many)
+
+  pub not_sealed_of : (e : SourceEnd) → Is e → IfBroken e (λ c. c ≡ cause.NotSealed → (layout.format.form ≡ Sealed) × ∥ IfSome text (λ t. IsNotSealed layout.format t) ∥₁)
+  not_sealed_of (end.Whole rows refused journal) h = tt
+  not_sealed_of (end.Broken c) h = λ unsealed. (∥∥₁_elim h (Prim.hlevel props) (λ s. (s.not_sealed unsealed).0), ∥∥₁_map h (λ s. (s.not_sealed unsealed).1))
 
   pub in_order_of : (e : SourceEnd) → Is e → IfBroken e (λ c. has_failed written ≡ false → ∥ Gains (contents given) (contents written) (AreRowsInOrder layout) ∥₁)
   in_order_of (end.Whole rows refused journal) h = tt

@@ -3,9 +3,11 @@ use Rattle.std.proofs.Common.{◌≡◌, ◌<◌, ◌≤◌, ◌+◌, ◌*◌, �
 use Rattle.std.proofs.Common.{refl, sym, subst, ap, arith}
 use Rattle.std.specs.Prelude.{if◌then◌else◌, map, nat_lt}
 use Rattle.date_texts.specs.declared.calendar.Target.{Target}
-use Rattle.register_records.specs.Entries.{AreNumberedFrom, Fields, HasFirstEntries, Numbered, entries_from}
+use Rattle.register_records.specs.Entries.{AreNumberedFrom, Fields, Format, HasFirstEntries, Numbered, entries_from}
 use Rattle.register_records.specs.Entries.{body_of, record_limit}
 use Rattle.register_records.specs.Outcomes.{AreRowsOf}
+use Rattle.register_records.specs.Seals.{entry_records}
+use Rattle.register_records.specs.declared.setups.Form.{Form}
 use Rattle.register_run.specs.Machine.{World, State, Actor, act, start}
 use Rattle.register_run.specs.Schedules.{HasChanges, at_end, change, idle, run, standing}
 use Rattle.register_run.specs.EveryScheduleLaw.{ArePoppedInOrder, AtMostChange, EachStandsOnce, GoesOn, IsWorldOf}
@@ -68,30 +70,30 @@ numbered_if true k x entries first rest = (first, rest)
 numbered_if false k x entries first rest = tt
 
 -- the entries of a text are numbered from 1, and their rows have their numbers
-entries_numbered : (k : ℕ) (records : List Fields) → AreNumberedFrom (k + 1) (entries_from k records)
+entries_numbered : (form : Form) (k : ℕ) (records : List Fields) → AreNumberedFrom (k + 1) (entries_from form k records)
 unfolding entries_from
-entries_numbered k [] = tt
-entries_numbered k (r ∷ records) =
-    numbered_if (nat_lt k record_limit) (k + 1) (record { number = k + 1; body = body_of r })
-    (entries_from (k + 1) records) refl (entries_numbered (k + 1) records)
+entries_numbered form k [] = tt
+entries_numbered form k (r ∷ records) =
+    numbered_if (nat_lt k record_limit) (k + 1) (record { number = k + 1; body = body_of form r })
+    (entries_from form (k + 1) records) refl (entries_numbered form (k + 1) records)
 
-first_entries_numbered : (delimiter : ℕ) (text : List ℕ) (entries : List Numbered)
-    → HasFirstEntries delimiter text entries → AreNumberedFrom 1 entries
-first_entries_numbered delimiter text entries (records, rest, has, are) =
-    numbered_front 1 entries rest (rw are at (entries_numbered 0 records))
+first_entries_numbered : (format : Format) (text : List ℕ) (entries : List Numbered)
+    → HasFirstEntries format text entries → AreNumberedFrom 1 entries
+first_entries_numbered format text entries (records, rest, has, are) =
+    numbered_front 1 entries rest (rw are at (entries_numbered format.form 0 (entry_records format.form records)))
 
 rows_keep_numbers : (targets : List Target) (w : World) (entries : List Numbered)
     → AreRowsOf targets entries (map w.row_of entries) → KeepNumbers w entries
 rows_keep_numbers targets w [] h = tt
 rows_keep_numbers targets w (x ∷ entries) h = (h.0.number, rows_keep_numbers targets w entries h.1)
 
-module _ (delimiter : ℕ) (targets : List Target) (text : List ℕ) (w : World) (schedule : List Actor)
-    (h : IsWorldOf delimiter targets text w) where
+module _ (format : Format) (targets : List Target) (text : List ℕ) (w : World) (schedule : List Actor)
+    (h : IsWorldOf format targets text w) where
   reached : Went w schedule start
   reached = went w h.some_converters schedule start (kept_at_start w)
 
   numbered : AreNumberedFrom 1 w.entries
-  numbered = first_entries_numbered delimiter text w.entries h.entries
+  numbered = first_entries_numbered format text w.entries h.entries
 
   same_numbers : KeepNumbers w w.entries
   same_numbers = rows_keep_numbers targets w w.entries h.rows

@@ -11,18 +11,19 @@ use Rattle.std.proofs.Math.Logic.{∥∥₁_elim, ∥∥₁_map, ∥∥₁_prop}
 use Rattle.date_texts.specs.declared.calendar.Target.{Target}
 use Rattle.register_records.specs.declared.outputs.Output as outputs
 use Rattle.register_records.specs.declared.rows.Row.{Row}
+use Rattle.register_records.specs.declared.setups.Form.TheVariants.{Sealed}
 use Rattle.register_records.specs.declared.sources.Cause.{Cause}
 use Rattle.register_records.specs.declared.sources.Cause.TheVariants as cause
 use Rattle.register_records.specs.declared.sources.Note.{Note}
 use Rattle.register_records.specs.declared.sources.SourceEnd.{SourceEnd}
 use Rattle.register_records.specs.declared.sources.SourceEnd.TheVariants as end
 use Rattle.register_records.specs.declared.writing.RowWriter.{RowWriter}
-use Rattle.register_records.specs.Entries.{HasEntries, HasFirstEntries, HasNoHeader, HasTooMany, Numbered}
+use Rattle.register_records.specs.Entries.{HasEntries, HasFirstEntries, HasNoHeader, HasTooMany, IsNotSealed, Numbered}
 use Rattle.register_records.specs.Outcomes.{AreRowsOf, IsRowOf}
 use Rattle.register_records.specs.Seen.{entry_seen}
 use Rattle.register_records.specs.Sources.{ArePartOfTable, Gains, IfBroken, IfWhole, IsTableOf}
 use Rattle.register_records.specs.Tables.{Layout, journal_of, table_text}
-use Rattle.register_records.specs.Views.{delimiter_of, layout_of, pending_of, row_entry, row_seen, row_targets}
+use Rattle.register_records.specs.Views.{form_of, format_of, layout_of, pending_of, row_entry, row_seen, row_targets}
 use Rattle.register_run.specs.declared.tables.Table.{Table}
 use Rattle.register_run.specs.Headline.{AreRowsInOrder, IsSettled}
 use Rattle.register_run.specs.Passages.{HasPassed, IsGiven, IsOfGiven, Passes, is_of_reading, tells_of_text}
@@ -59,7 +60,7 @@ table_so o layout given output None rows e none h = absurd (cc)
 table_so o layout given output (Some w) rows e none h = (appends_waited (o.contents given) (o.contents output) (pending_of w) (table_text layout (rows_seen rows)) none h.0, h.1)
 
 module _ {W : Type 0} (o : outputs.Ghosts W) (text : Option (List ℕ)) (table : Table W o) (rows : List Row) (passed : Result ℕ Cause) (holds : Holds table rows) (sent : AllSent table)
-    (has : HasPassed text (delimiter_of table.setup) passed (λ row. Contains rows row)) (headed : Bool) (is_headed : headed ≡ is_some table.writer) where
+    (has : HasPassed text (format_of table.setup) passed (λ row. Contains rows row)) (headed : Bool) (is_headed : headed ≡ is_some table.writer) where
   entries_len : length (entries_seen rows) ≡ table.rows
   entries_len = length-map rows (λ (row : Row). entry_seen (row_entry row)) ∙ holds.counted
 
@@ -80,17 +81,17 @@ module _ {W : Type 0} (o : outputs.Ghosts W) (text : Option (List ℕ)) (table :
   not_failed : o.has_failed table.output ≡ false → table.sunk ≡ false
   not_failed good = not_true table.sunk (λ s. let f = table.failed s in absurd (cc))
 
-  module _ (given : List Numbered) (is : IsGiven text (delimiter_of table.setup) passed given) (all : (row : Row) → Contains rows row → IsOfGiven given row) where
+  module _ (given : List Numbered) (is : IsGiven text (format_of table.setup) passed given) (all : (row : Row) → Contains rows row → IsOfGiven given row) where
     taken_front : (rest : List Numbered) × (given ≡ entries_seen rows ++ rest)
     taken_front = rows_front given rows is.numbered holds.numbered all
 
     none_given : given ≡ [] → table.rows ≡ 0
     none_given e = let n = ap length (sym taken_front.1 ∙ e) in let l = entries_len in omega (arith, length-append (entries_seen rows) taken_front.0)
 
-    first_so : table.rows ≢ 0 → IfSome text (λ t. HasFirstEntries (delimiter_of table.setup) t (entries_seen rows))
+    first_so : table.rows ≢ 0 → IfSome text (λ t. HasFirstEntries (format_of table.setup) t (entries_seen rows))
     first_so some = elim is.first [
       | inl e ↦ absurd (some (none_given e))
-      | inr f ↦ first_of_first (delimiter_of table.setup) text given (entries_seen rows) taken_front.0 taken_front.1 f
+      | inr f ↦ first_of_first (format_of table.setup) text given (entries_seen rows) taken_front.0 taken_front.1 f
     ]
 
     part_so : (b : Bool) → is_some table.writer ≡ b → table.sunk ≡ false → (headed ≡ true → table.rows ≢ 0) → AreRowsOf (layout_of table.setup).targets (entries_seen rows) (rows_seen rows)
@@ -108,14 +109,16 @@ module _ {W : Type 0} (o : outputs.Ghosts W) (text : Option (List ℕ)) (table :
       let dry = table.faultless fact.1 in
       let told : tells_of_text passed ≡ true = ap tells_of_text fact.0 ∙ reading in
       ∥∥₁_elim (has.rows told) ∥∥₁_prop (λ (given, is, all). ∥∥₁_map (rows_are (layout_of table.setup).targets rows holds.targets) (λ are.
-      let bad = subst (λ p. IfErr p (λ d. d ≡ cause.BadHeader → (given ≡ []) × IfSome text (λ t. HasNoHeader (delimiter_of table.setup) t))) fact.0 is.bad_header in
-      let many = subst (λ p. IfErr p (λ d. d ≡ cause.TooManyRecords → IfSome text (λ t. HasTooMany (delimiter_of table.setup) t))) fact.0 is.too_many in record {
+      let bad = subst (λ p. IfErr p (λ d. d ≡ cause.BadHeader → (given ≡ []) × IfSome text (λ t. HasNoHeader (format_of table.setup) t))) fact.0 is.bad_header in
+      let many = subst (λ p. IfErr p (λ d. d ≡ cause.TooManyRecords → IfSome text (λ t. HasTooMany (format_of table.setup) t))) fact.0 is.too_many in
+      let unsealed = subst (λ p. IfErr p (λ d. d ≡ cause.NotSealed → (form_of table.setup ≡ Sealed) × IfSome text (λ t. IsNotSealed (format_of table.setup) t))) fact.0 is.not_sealed in record {
         whole = tt;
         flushed = tt;
         good = tt;
         part = λ e. part_so given is all (is_some table.writer) refl dry fact.2 are;
         bad_header = λ e. (bad e).1;
         too_many = many;
+        not_sealed = unsealed;
         in_order = λ good. in_order_so (is_some table.writer) refl dry are;
         sink = λ e. absurd (let k : is_of_reading c ≡ false = ap is_of_reading e in cc);
         kept = λ e. table.good dry;
@@ -130,6 +133,7 @@ module _ {W : Type 0} (o : outputs.Ghosts W) (text : Option (List ℕ)) (table :
     part = λ e. absurd (cc);
     bad_header = λ e. absurd (let k : is_of_reading c ≡ true = ap is_of_reading e in cc);
     too_many = λ e. absurd (let k : is_of_reading c ≡ true = ap is_of_reading e in cc);
+    not_sealed = λ e. absurd (let k : is_of_reading c ≡ true = ap is_of_reading e in cc);
     in_order = λ good. in_order_so (is_some table.writer) refl (not_failed good) are;
     sink = λ e. table.failed (table.sink_told (sink e));
     kept = λ e. absurd (cc);
@@ -149,7 +153,7 @@ module _ {W : Type 0} (o : outputs.Ghosts W) (text : Option (List ℕ)) (table :
       let fact = reading (ap is_of_reading same) in
       let told : tells_of_text passed ≡ true = ap tells_of_text fact.0 ∙ ap is_of_reading same in (
         not_true (is_some table.writer) (λ some. ∥∥₁_elim (has.rows told) (Prim.hlevel props) (λ (given, so, all).
-            let bad = subst (λ p. IfErr p (λ d. d ≡ cause.BadHeader → (given ≡ []) × IfSome text (λ t. HasNoHeader (delimiter_of table.setup) t))) fact.0 so.bad_header in
+            let bad = subst (λ p. IfErr p (λ d. d ≡ cause.BadHeader → (given ≡ []) × IfSome text (λ t. HasNoHeader (format_of table.setup) t))) fact.0 so.bad_header in
             fact.2 (is_headed ∙ some) (none_given given so all (bad same).0))),
         table.faultless fact.1,
       )
@@ -164,7 +168,7 @@ module _ {W : Type 0} (o : outputs.Ghosts W) (text : Option (List ℕ)) (table :
       let dry = table.faultless whole.1 in
       let told : tells_of_text passed ≡ true = ap tells_of_text whole.0 in
       ∥∥₁_elim (has.rows told) ∥∥₁_prop (λ (given, is, all). ∥∥₁_map (rows_are (layout_of table.setup).targets rows holds.targets) (λ are.
-      let ended = subst (λ p. IfOk p (λ n. (n ≡ length given) × IfSome text (λ t. HasEntries (delimiter_of table.setup) t given))) whole.0 is.all in
+      let ended = subst (λ p. IfOk p (λ n. (n ≡ length given) × IfSome text (λ t. HasEntries (format_of table.setup) t given))) whole.0 is.all in
       let front = taken_front given is all in
       let len : length given ≡ length (entries_seen rows) = sym ended.0 ∙ whole.3 ∙ sym entries_len in
       let same = front_all given (entries_seen rows) front.0 front.1 len in
@@ -178,7 +182,7 @@ module _ {W : Type 0} (o : outputs.Ghosts W) (text : Option (List ℕ)) (table :
             counted = whole.3 ∙ sym holds.counted ∙ sym (length-map rows row_seen);
             noted = whole.5 ∙ holds.noted;
             refused_counted = whole.4;
-            accepted = subst (λ g. IfSome text (λ t. HasEntries (delimiter_of table.setup) t g)) same ended.1;
+            accepted = subst (λ g. IfSome text (λ t. HasEntries (format_of table.setup) t g)) same ended.1;
           },
           bytes.0,
         );
@@ -187,6 +191,7 @@ module _ {W : Type 0} (o : outputs.Ghosts W) (text : Option (List ℕ)) (table :
         part = tt;
         bad_header = tt;
         too_many = tt;
+        not_sealed = tt;
         in_order = tt;
         sink = tt;
         kept = tt;

@@ -7,7 +7,7 @@ use Rattle.register_records.specs.declared.outputs.Output as outputs
 use Rattle.register_records.specs.declared.rows.Row.{Row}
 use Rattle.register_records.specs.declared.setups.Setup.{Setup}
 use Rattle.register_records.specs.declared.sources.Cause.{Cause}
-use Rattle.register_records.specs.Views.{delimiter_of}
+use Rattle.register_records.specs.Views.{format_of}
 use Rattle.register_run.specs.declared.feeds.Feed.{Feed}
 use Rattle.register_run.specs.declared.tables.Table.{Table}
 use Rattle.register_run.specs.Feeds.{Took, fed_by, fed_from}
@@ -36,9 +36,9 @@ module _ {R W : Type 0} {o : outputs.Ghosts W} where
 
   -- the threads have ended
   pub concludes : (feed : Feed R) (table : Table W o) (text : Option (List ℕ)) (outcome : Result ℕ Cause) → fed_by feed ≡ made_by table
-      → HasPassed text (delimiter_of (fed_by feed)) outcome (Took feed) → ∥ Wrote feed table ∥₁ → ∥ Concludes text table outcome ∥₁
+      → HasPassed text (format_of (fed_by feed)) outcome (Took feed) → ∥ Wrote feed table ∥₁ → ∥ Concludes text table outcome ∥₁
   concludes feed table text outcome same has h = ∥∥₁_map h (λ (rows, is, took).
-      let has' = subst (λ s. HasPassed text (delimiter_of s) outcome (Took feed)) same has in (
+      let has' = subst (λ s. HasPassed text (format_of s) outcome (Took feed)) same has in (
         rows,
         is,
         record {

@@ -7,6 +7,7 @@ use Rattle.std.proofs.lemmas.List.{length-map, map-append}
 use Rattle.std.proofs.lemmas.List.Elements.{Contains-append_cases}
 use Rattle.register_records.specs.declared.outputs.Output as outputs
 use Rattle.register_records.specs.declared.rows.Row.{Row}
+use Rattle.register_records.specs.declared.setups.Form.TheVariants.{Plain}
 use Rattle.register_records.specs.declared.sources.Note.{Note}
 use Rattle.register_records.specs.declared.writing.RowWriter.{RowWriter}
 use Rattle.register_records.specs.Entries.{AreNumberedFrom}
@@ -54,7 +55,7 @@ stands_none o layout given output (Some w) rows e h = absurd (cc)
 module _ {W : Type 0} (o : outputs.Ghosts W) (layout : Layout) (given : W) where
   -- the heading was written
   pub stands_headed : (output new : W) (w : RowWriter) (rows : List Row) → Stands o layout given output None rows → Appends (o.contents output) (o.contents new) (heading_line layout)
-      → o.is_flushed new ≡ true → writes_by w ≡ layout.delimiter → pending_of w ≡ [] → Stands o layout given new (Some w) rows
+      → o.is_flushed new ≡ true → writes_by w ≡ layout.format → pending_of w ≡ [] → Stands o layout given new (Some w) rows
   stands_headed output new w rows h wrote flushed by none = (
     (let lines : lines_text layout (rows_seen rows) ≡ [] = ap (λ (r : List Row). lines_text layout (rows_seen r)) h.1 ∙ no_lines layout in
         appends_heading (o.contents given) (o.contents output) (o.contents new) (pending_of w) (heading_line layout) (lines_text layout (rows_seen rows)) (ap o.contents h.0) wrote none lines),
@@ -66,7 +67,7 @@ module _ {W : Type 0} (o : outputs.Ghosts W) (layout : Layout) (given : W) where
   pub stands_more : (output : W) (w new : RowWriter) (rows : List Row) (row : Row) → TablesGrow → Stands o layout given output (Some w) rows → pending_of new ≡ pending_of w ++ line_of w row
       → writes_by new ≡ writes_by w → row_targets row ≡ layout.targets → Stands o layout given output (Some new) (rows ++ row ∷ [])
   stands_more output w new rows row grow h more by targets =
-      let line : line_of w row ≡ row_line layout (row_seen row) = ap (λ d. row_line (record { delimiter = d; targets = row_targets row }) (row_seen row)) h.2 ∙ ap (λ ts. row_line (record { delimiter = layout.delimiter; targets = ts }) (row_seen row)) targets in
+      let line : line_of w row ≡ row_line layout (row_seen row) = ap (λ f. row_line (record { format = f; targets = row_targets row }) (row_seen row)) h.2 ∙ ap (λ ts. row_line (record { format = layout.format; targets = ts }) (row_seen row)) targets in
       let table : table_text layout (rows_seen (rows ++ row ∷ [])) ≡ table_text layout (rows_seen rows) ++ row_line layout (row_seen row) = ap (table_text layout) (map-append row_seen rows (row ∷ [])) ∙ (grow layout (rows_seen rows) (row_seen row)).0 in
       let waits : pending_of new ≡ pending_of w ++ row_line layout (row_seen row) = more ∙ ap (λ b. pending_of w ++ b) line in (
         subst (λ t. Appends (o.contents given) (append_known (o.contents output) (pending_of new)) t) (sym table)
@@ -102,7 +103,7 @@ targets_row P rows row all here r h = elim (Contains-append_cases rows (row ∷ 
 
 pub noted_row : (rows : List Row) (row : Row) (old new : List Note) → TablesGrow → old ≡ journal_of (rows_seen rows) → new ≡ old ++ notes_of (row_seen row).number (row_seen row).outcome → new ≡ journal_of (rows_seen (rows ++ row ∷ []))
 noted_row rows row old new grow h more =
-    more ∙ ap (λ b. b ++ notes_of (row_seen row).number (row_seen row).outcome) h ∙ sym (grow (record { delimiter = 0; targets = [] }) (rows_seen rows) (row_seen row)).1 ∙ ap journal_of (sym (map-append row_seen rows (row ∷ [])))
+    more ∙ ap (λ b. b ++ notes_of (row_seen row).number (row_seen row).outcome) h ∙ sym (grow (record { format = record { delimiter = 0; form = Plain }; targets = [] }) (rows_seen rows) (row_seen row)).1 ∙ ap journal_of (sym (map-append row_seen rows (row ∷ [])))
 
 pub counted_row : (rows : List Row) (row : Row) (n : ℕ) → length rows ≡ n → length (rows ++ row ∷ []) ≡ n + 1
 counted_row rows row n e = omega (arith, length-append rows (row ∷ []))

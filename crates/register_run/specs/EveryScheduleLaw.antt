@@ -2,7 +2,7 @@
 use Rattle.std.specs.Prelude.{◌≡◌, ◌≢◌, ℕ, ◌+◌, ◌-◌, ◌<◌, ◌≤◌, ◌==◌, List, [], ◌∷◌, length, map, take}
 use Rattle.std.specs.Prelude.{option_to_list, count_by, Contains}
 use Rattle.date_texts.specs.declared.calendar.Target.{Target}
-use Rattle.register_records.specs.Entries.{HasFirstEntries}
+use Rattle.register_records.specs.Entries.{Format, HasFirstEntries}
 use Rattle.register_records.specs.Outcomes.{AreRowsOf, TableRow}
 use Rattle.register_run.specs.Machine.{World, State, Actor, Reader, Converter, Writer, start, turn}
 use Rattle.register_run.specs.Schedules.{run, Changes, HasChanges}
@@ -73,8 +73,8 @@ GoesOn w s =
 
 -- a world of a text: its entries, or the first of them, and the row of each of them; there is a converter at least,
 -- and a lane holds an item at least
-pub record IsWorldOf (delimiter : ℕ) (targets : List Target) (text : List ℕ) (w : World) : Type 0 where
-  pub entries : HasFirstEntries delimiter text w.entries
+pub record IsWorldOf (format : Format) (targets : List Target) (text : List ℕ) (w : World) : Type 0 where
+  pub entries : HasFirstEntries format text w.entries
   pub rows : AreRowsOf targets w.entries (table_rows w)
   pub some_converters : 1 ≤ w.converters
   pub some_room : 1 ≤ w.ring
@@ -82,5 +82,5 @@ pub record IsWorldOf (delimiter : ℕ) (targets : List Target) (text : List ℕ)
 -- what holds after every schedule, in every world of every text: of the world, the schedule and the state after it
 abbrev pub AfterEverySchedule : (World → List Actor → State → Type 0) → Type 0
 AfterEverySchedule Holds =
-    (delimiter : ℕ) (targets : List Target) (text : List ℕ) (w : World) (schedule : List Actor)
-    → IsWorldOf delimiter targets text w → Holds w schedule (run w schedule start)
+    (format : Format) (targets : List Target) (text : List ℕ) (w : World) (schedule : List Actor)
+    → IsWorldOf format targets text w → Holds w schedule (run w schedule start)

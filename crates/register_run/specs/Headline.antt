@@ -1,9 +1,10 @@
 -- What a run promises of each source.
 use Rattle.std.specs.Prelude.{◌≡◌, ◌⊎◌, ℕ, List, [], Option, Some, IfSome, Bool, true, false, slice_get}
-use Rattle.register_records.specs.Entries.{HasNoHeader, HasTooMany, Numbered}
+use Rattle.register_records.specs.Entries.{HasNoHeader, HasTooMany, IsNotSealed, Numbered}
 use Rattle.register_records.specs.Outcomes.{TableRow}
 use Rattle.register_records.specs.Sources.{ArePartOfTable, Gains, IfBroken, IfWhole, IsTableOf, IsWholeTable}
 use Rattle.register_records.specs.Tables.{Layout}
+use Rattle.register_records.specs.declared.setups.Form.TheVariants.{Sealed}
 use Rattle.register_records.specs.declared.sources.Cause.TheVariants as cause
 use Rattle.register_records.specs.declared.sources.SourceEnd.{SourceEnd}
 use Rattle.register_run.specs.Passages.{is_of_reading}
@@ -26,8 +27,9 @@ pub record IsSettled {W : Type 0} (contents : W → Option (List ℕ)) (has_fail
   pub flushed : IfWhole end (λ rows refused journal. is_flushed written ≡ true)
   pub good : IfWhole end (λ rows refused journal. has_failed written ≡ has_failed given)
   pub part : IfBroken end (λ c. is_of_reading c ≡ true → Gains (contents given) (contents written) (ArePartOfTable layout text))
-  pub bad_header : IfBroken end (λ c. c ≡ cause.BadHeader → IfSome text (λ t. HasNoHeader layout.delimiter t))
-  pub too_many : IfBroken end (λ c. c ≡ cause.TooManyRecords → IfSome text (λ t. HasTooMany layout.delimiter t))
+  pub bad_header : IfBroken end (λ c. c ≡ cause.BadHeader → IfSome text (λ t. HasNoHeader layout.format t))
+  pub too_many : IfBroken end (λ c. c ≡ cause.TooManyRecords → IfSome text (λ t. HasTooMany layout.format t))
+  pub not_sealed : IfBroken end (λ c. c ≡ cause.NotSealed → (layout.format.form ≡ Sealed) × IfSome text (λ t. IsNotSealed layout.format t))
   pub in_order : IfBroken end (λ c. has_failed written ≡ false → Gains (contents given) (contents written) (AreRowsInOrder layout))
   pub sink : IfBroken end (λ c. c ≡ cause.SinkFault → has_failed written ≡ true)
   pub kept : IfBroken end (λ c. is_of_reading c ≡ true → has_failed written ≡ has_failed given)

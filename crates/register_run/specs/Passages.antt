@@ -7,12 +7,13 @@ use Rattle.lane_rings.specs.declared.sender.Sender.{Sender}
 use Rattle.lane_rings.specs.declared.sender.Closed.{Closed}
 use Rattle.lane_rings.specs.Lane.{Lane, HasConfirmation, all_sent, closed_lane, receiver_lane, sent, taken}
 use Rattle.register_records.specs.Causes.{entry_fault_cause}
-use Rattle.register_records.specs.Entries.{AreNumberedFrom, HasEntries, HasFirstEntries, HasNoHeader, HasTooMany, Numbered}
+use Rattle.register_records.specs.Entries.{AreNumberedFrom, Format, HasEntries, HasFirstEntries, HasNoHeader, HasTooMany, IsNotSealed, Numbered}
 use Rattle.register_records.specs.Seen.{entry_seen}
 use Rattle.register_records.specs.Views.{row_entry}
 use Rattle.register_records.specs.declared.entries.Entry.{Entry}
 use Rattle.register_records.specs.declared.reading.EntryFault.{EntryFault}
 use Rattle.register_records.specs.declared.rows.Row.{Row}
+use Rattle.register_records.specs.declared.setups.Form.TheVariants.{Sealed}
 use Rattle.register_records.specs.declared.sources.Cause.{Cause}
 use Rattle.register_records.specs.declared.sources.Cause.TheVariants as cause
 use Rattle.register_run.specs.declared.reading.Reading.{Reading}
@@ -30,12 +31,13 @@ AreOfLanes (lane ∷ lanes) [] = ⊥
 AreOfLanes (lane ∷ lanes) (c ∷ closed) = IsOfLane lane c × AreOfLanes lanes closed
 
 -- the entries that a reader gave of a text, by how it ended: with their count, or for a cause
-pub record IsGiven (text : Option (List ℕ)) (delimiter : ℕ) (outcome : Result ℕ Cause) (given : List Numbered) : Type 0 where
+pub record IsGiven (text : Option (List ℕ)) (format : Format) (outcome : Result ℕ Cause) (given : List Numbered) : Type 0 where
   pub numbered : AreNumberedFrom 1 given
-  pub first : (given ≡ []) ⊎ IfSome text (λ t. HasFirstEntries delimiter t given)
-  pub all : IfOk outcome (λ n. (n ≡ length given) × IfSome text (λ t. HasEntries delimiter t given))
-  pub bad_header : IfErr outcome (λ c. c ≡ cause.BadHeader → (given ≡ []) × IfSome text (λ t. HasNoHeader delimiter t))
-  pub too_many : IfErr outcome (λ c. c ≡ cause.TooManyRecords → IfSome text (λ t. HasTooMany delimiter t))
+  pub first : (given ≡ []) ⊎ IfSome text (λ t. HasFirstEntries format t given)
+  pub all : IfOk outcome (λ n. (n ≡ length given) × IfSome text (λ t. HasEntries format t given))
+  pub bad_header : IfErr outcome (λ c. c ≡ cause.BadHeader → (given ≡ []) × IfSome text (λ t. HasNoHeader format t))
+  pub too_many : IfErr outcome (λ c. c ≡ cause.TooManyRecords → IfSome text (λ t. HasTooMany format t))
+  pub not_sealed : IfErr outcome (λ c. c ≡ cause.NotSealed → (format.form ≡ Sealed) × IfSome text (λ t. IsNotSealed format t))
 
 -- the output is not the cause
 abbrev pub IsNotSunk : Result ℕ Cause → Type 0
@@ -50,19 +52,19 @@ abbrev pub AreAmong : List Numbered → List (Item Entry) → Type 0
 AreAmong given items = (e : Entry) → Contains items (item.Entry e) → Contains given (entry_seen e)
 
 -- a reader gave entries of the text, and sent no others
-abbrev pub Sends : Option (List ℕ) → ℕ → Result ℕ Cause → List (Sender Entry) → Type 0
-Sends text delimiter outcome senders =
-    (given : List Numbered) × IsGiven text delimiter outcome given × All (λ s. AreAmong given (sent s)) senders
+abbrev pub Sends : Option (List ℕ) → Format → Result ℕ Cause → List (Sender Entry) → Type 0
+Sends text format outcome senders =
+    (given : List Numbered) × IsGiven text format outcome given × All (λ s. AreAmong given (sent s)) senders
 
 -- the same, of lanes that were ended
-abbrev pub HasSent : Option (List ℕ) → ℕ → Result ℕ Cause → List (Closed Entry) → Type 0
-HasSent text delimiter outcome closed =
-    (given : List Numbered) × IsGiven text delimiter outcome given × All (λ c. HasConfirmation c → AreAmong given (all_sent c)) closed
+abbrev pub HasSent : Option (List ℕ) → Format → Result ℕ Cause → List (Closed Entry) → Type 0
+HasSent text format outcome closed =
+    (given : List Numbered) × IsGiven text format outcome given × All (λ c. HasConfirmation c → AreAmong given (all_sent c)) closed
 
 -- a reader of this text, which was given the senders of these lanes, may answer so
-pub record IsReading (text : Option (List ℕ)) (delimiter : ℕ) (lanes : List Lane) (r : Reading) : Type 0 where
+pub record IsReading (text : Option (List ℕ)) (format : Format) (lanes : List Lane) (r : Reading) : Type 0 where
   pub from : AreOfLanes lanes r.closed.items
-  pub entries : ∥ HasSent text delimiter r.outcome r.closed.items ∥₁
+  pub entries : ∥ HasSent text format r.outcome r.closed.items ∥₁
   pub not_sunk : IsNotSunk r.outcome
 
 -- of the rows among the items, one at most is new: the row of this entry
@@ -88,6 +90,7 @@ is_of_reading cause.SinkFault = false
 is_of_reading cause.ReadFault = true
 is_of_reading cause.BadHeader = true
 is_of_reading cause.TooManyRecords = true
+is_of_reading cause.NotSealed = true
 
 -- neither the reader nor the output gives this cause
 abbrev pub IsOfThreads : Cause → Type 0
@@ -103,12 +106,12 @@ abbrev pub IsOfGiven : List Numbered → Row → Type 0
 IsOfGiven given row = Contains given (entry_seen (row_entry row))
 
 -- each row that was taken is of an entry that the reader gave
-abbrev pub Passes : Option (List ℕ) → ℕ → Result ℕ Cause → (Row → Type 0) → Type 0
-Passes text delimiter outcome took =
-    (given : List Numbered) × IsGiven text delimiter outcome given × ((row : Row) → took row → IsOfGiven given row)
+abbrev pub Passes : Option (List ℕ) → Format → Result ℕ Cause → (Row → Type 0) → Type 0
+Passes text format outcome took =
+    (given : List Numbered) × IsGiven text format outcome given × ((row : Row) → took row → IsOfGiven given row)
 
 -- the threads of a source have ended with this answer: where it speaks of the text, all that the reader
 -- sent has passed on
-pub record HasPassed (text : Option (List ℕ)) (delimiter : ℕ) (outcome : Result ℕ Cause) (took : Row → Type 0) : Type 0 where
+pub record HasPassed (text : Option (List ℕ)) (format : Format) (outcome : Result ℕ Cause) (took : Row → Type 0) : Type 0 where
   pub not_sunk : IsNotSunk outcome
-  pub rows : tells_of_text outcome ≡ true → ∥ Passes text delimiter outcome took ∥₁
+  pub rows : tells_of_text outcome ≡ true → ∥ Passes text format outcome took ∥₁

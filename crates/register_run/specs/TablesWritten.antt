@@ -31,7 +31,7 @@ abbrev pub Stands : {W : Type 0} → outputs.Ghosts W → Layout → W → W →
 Stands o layout given output None rows = (output ≡ given) × (rows ≡ [])
 Stands o layout given output (Some w) rows =
     Appends (o.contents given) (append_known (o.contents output) (pending_of w)) (table_text layout (rows_seen rows))
-    × (o.is_flushed output ≡ true) × (writes_by w ≡ layout.delimiter)
+    × (o.is_flushed output ≡ true) × (writes_by w ≡ layout.format)
 
 module _ {W : Type 0} {o : outputs.Ghosts W} where
   -- the output as it was handed in, and the setup

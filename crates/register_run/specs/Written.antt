@@ -4,7 +4,7 @@ use Rattle.std.specs.List.{Contains}
 use Rattle.register_records.specs.declared.outputs.Output as outputs
 use Rattle.register_records.specs.declared.rows.Row.{Row}
 use Rattle.register_records.specs.declared.sources.Cause.{Cause}
-use Rattle.register_records.specs.Views.{delimiter_of}
+use Rattle.register_records.specs.Views.{format_of}
 use Rattle.register_run.specs.declared.feeds.Feed.{Feed}
 use Rattle.register_run.specs.declared.tables.Table.{Table}
 use Rattle.register_run.specs.Feeds.{Took}
@@ -19,4 +19,4 @@ module _ {W : Type 0} {o : outputs.Ghosts W} where
   -- the threads of the source have ended with this answer, and the rows of the table are those that were taken
   abbrev pub Concludes : Option (List ℕ) → Table W o → Result ℕ Cause → Type 0
   Concludes text table outcome =
-      (rows : List Row) × Holds table rows × HasPassed text (delimiter_of table.setup) outcome (λ row. Contains rows row)
+      (rows : List Row) × Holds table rows × HasPassed text (format_of table.setup) outcome (λ row. Contains rows row)

@@ -26,7 +26,7 @@ pub(crate) struct Feed<R: Read> {
 
 impl<R: Read + Drop> Feed<R> {
     ghost use Rattle.register_records.specs.declared.rows.Row.{Row};
-    ghost use Rattle.register_records.specs.Views.{delimiter_of};
+    ghost use Rattle.register_records.specs.Views.{format_of};
     ghost use Rattle.register_run.specs.Feeds.{Took, fed_by, fed_from};
     ghost use Rattle.register_run.specs.Passages.{HasPassed};
     ghost use Rattle.register_run.specs.declared.links.Found.TheVariants as found;
@@ -70,7 +70,7 @@ impl<R: Read + Drop> Feed<R> {
     /// known that all of them have passed.
     pub(crate) fn finish(self, rt: &impl Threads) -> (Snapshot<R>, Result<u32, Cause>)
         ensures source { result.0.value ≡ fed_from self }
-        ensures passed { HasPassed (R.remaining (fed_from self)) (delimiter_of (fed_by self)) result.1 (Took self) }
+        ensures passed { HasPassed (R.remaining (fed_from self)) (format_of (fed_by self)) result.1 (Took self) }
     {
         let Feed {
             source,

@@ -2,7 +2,7 @@
 
 ghost use Rattle.std.specs.Prelude.{◌≡◌, ◌<◌, ◌≤◌, [], All, IfOk, length, map, vec_capacity, vec_len};
 ghost use Rattle.lane_rings.specs.Lane.{sender_lane, sent};
-ghost use Rattle.register_records.specs.Views.{delimiter_of, stripes_of};
+ghost use Rattle.register_records.specs.Views.{format_of, stripes_of};
 ghost use Rattle.register_run.specs.Arms.{feeding_lane};
 ghost use Rattle.register_run.specs.Passages.{IsOfThreads};
 
@@ -45,7 +45,7 @@ pub(crate) struct ReaderTask<R> {
 impl<R: Read> Promise<Reading> for ReaderTask<R> {
     ghost use Rattle.register_run.specs.Passages.{IsReading};
 
-    ghost kept_by = { λ p r. IsReading (R.remaining p.source.value) (delimiter_of p.setup.value) (map sender_lane p.senders.value.items) r };
+    ghost kept_by = { λ p r. IsReading (R.remaining p.source.value) (format_of p.setup.value) (map sender_lane p.senders.value.items) r };
 }
 
 /// A reader and its arms.
@@ -97,7 +97,7 @@ impl<R: Read + Drop> Link<R> {
             task,
             move || -> Reading
                 requires { (0 < vec_len senders) × (vec_len senders ≤ vec_capacity closed) × (closed.items ≡ []) × All (λ s. sent s ≡ []) senders.items }
-                ensures { IsReading (R.remaining source) (delimiter_of setup.entry.now) (map sender_lane senders.items) result }
+                ensures { IsReading (R.remaining source) (format_of setup.entry.now) (map sender_lane senders.items) result }
             { read_source(rt, alloc, source, setup, senders, closed) },
         );
         match reader {
@@ -171,7 +171,7 @@ impl<R: Read + Drop> Link<R> {
     /// The lowest of the causes that were met: those of reading, and `Unconfirmed` where a lane is not confirmed, or
     /// where the lanes ended otherwise than the reader did.
     pub(crate) fn finish(self, rt: &impl Threads) -> Result<u32, Cause>
-        ensures { HasPassed (R.remaining (started_on self)) (delimiter_of (started_by self)) result (Passed self) }
+        ensures { HasPassed (R.remaining (started_on self)) (format_of (started_by self)) result (Passed self) }
     {
         let Link {
             reader,

@@ -3,7 +3,7 @@
 ghost use Rattle.std.specs.Prelude.{◌≡◌, ◌<◌, ◌≤◌, [], All, List, map, vec_capacity, vec_len};
 ghost use Rattle.lane_rings.specs.Lane.{HasConfirmation, all_sent, sender_lane, sent};
 ghost use Rattle.register_records.specs.Entries.{Numbered};
-ghost use Rattle.register_records.specs.Views.{delimiter_of};
+ghost use Rattle.register_records.specs.Views.{format_of};
 ghost use Rattle.register_run.specs.Passages.{AreAmong, AreOfLanes, IsCauseOf, IsNotSunk, IsOfLane, IsReading, Sends};
 
 use lane_rings::{Closed, Sender};
@@ -33,7 +33,7 @@ pub(crate) fn read_source<R: Read + Drop>(
     requires room { vec_len senders ≤ vec_capacity closed }
     requires none { closed.items ≡ [] }
     requires fresh { All (λ s. sent s ≡ []) senders.items }
-    ensures { IsReading (R.remaining source) (delimiter_of setup.now) (map sender_lane senders.items) result }
+    ensures { IsReading (R.remaining source) (format_of setup.now) (map sender_lane senders.items) result }
 {
     let mut senders = senders;
     let outcome = send_entries(rt, alloc, source, setup, &mut senders);
@@ -68,7 +68,7 @@ fn send_entries<R: Read + Drop>(
     requires fresh { All (λ s. sent s ≡ []) senders.old.items }
     ensures lanes { map sender_lane senders.new.items ≡ map sender_lane senders.old.items }
     ensures not_sunk { IsNotSunk result }
-    ensures sends { ∥ Sends (R.remaining source) (delimiter_of setup.now) result senders.new.items ∥₁ }
+    ensures sends { ∥ Sends (R.remaining source) (format_of setup.now) result senders.new.items ∥₁ }
 {
     let mut entries = match EntryReader::open(alloc, source, setup) {
         Ok(entries) => entries,

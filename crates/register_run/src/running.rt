@@ -1,9 +1,9 @@
 //! The run over a list of sources.
 
 ghost use Rattle.std.specs.Prelude.{◌≡◌, ◌≢◌, ◌<◌, ◌≤◌, ◌↔◌, [], All, IfErr, IfOk, IfSome, IsErrAnd, map, true, false, vec_capacity, vec_len};
-ghost use Rattle.register_records.specs.Entries.{HasNoHeader, HasTooMany};
+ghost use Rattle.register_records.specs.Entries.{HasNoHeader, HasTooMany, IsNotSealed};
 ghost use Rattle.register_records.specs.Sources.{ArePartOfTable, Gains, IfBroken, IfWhole, IsWholeTable, is_whole_end};
-ghost use Rattle.register_records.specs.Views.{delimiter_of, layout_of};
+ghost use Rattle.register_records.specs.Views.{form_of, format_of, layout_of};
 ghost use Rattle.register_run.specs.Cases.{cases, end_of, ended_case, output_of};
 ghost use Rattle.register_run.specs.Headline.{AreRowsInOrder};
 ghost use Rattle.register_run.specs.Passages.{is_of_reading};
@@ -14,7 +14,7 @@ use crate::gates::{Gate, Open};
 use crate::reports::{Report, RunFault, RunFaultKind, Verdict};
 use crate::settling::Settled;
 use crate::stations::Station;
-use register_records::{Cause, Output, Setup, SourceEnd};
+use register_records::{Cause, Form, Output, Setup, SourceEnd};
 use std::alloc::{AllocError, Global};
 use std::io::Read;
 use std::sync::Wait;
@@ -253,8 +253,8 @@ fn run_in_scope<T: Threads + Wait + Sync, R: Read + Send + Drop, W: Output + Dro
 
 /// Converts many sources at once: each source is read on a thread of its own and converted on further ones, and this
 /// thread writes the tables, that of each source to the output at its place. `setup` says for which targets, with which
-/// delimiter, and with how many converters and how large rings for each source. Before the row of an entry is sent, its
-/// converter passes `gate`.
+/// delimiter, in which form, and with how many converters and how large rings for each source. Before the row of an entry
+/// is sent, its converter passes `gate`.
 ///
 /// A source ends `Whole` where its table was written, and else `Broken` with the lowest of the causes that were met. The
 /// faults of one source leave the others alone.
@@ -289,10 +289,13 @@ pub fn run_gated<T: Threads + Wait + Sync, R: Read + Send + Drop, W: Output + Dr
         (ArePartOfTable (layout_of setup.now) (R.remaining source)) ∥₁))) }
     ensures bad_header { IfOk result (λ r. OfEachSource sources.items outputs.items r (λ source given written end.
         IfBroken end (λ c. c ≡ Cause.BadHeader → (written ≡ given)
-        × IfSome (R.remaining source) (λ text. HasNoHeader (delimiter_of setup.now) text)))) }
+        × IfSome (R.remaining source) (λ text. HasNoHeader (format_of setup.now) text)))) }
     ensures too_many_records { IfOk result (λ r. OfEachSource sources.items outputs.items r (λ source given written end.
         IfBroken end (λ c. c ≡ Cause.TooManyRecords
-        → ∥ IfSome (R.remaining source) (λ text. HasTooMany (delimiter_of setup.now) text) ∥₁))) }
+        → ∥ IfSome (R.remaining source) (λ text. HasTooMany (format_of setup.now) text) ∥₁))) }
+    ensures not_sealed { IfOk result (λ r. OfEachSource sources.items outputs.items r (λ source given written end.
+        IfBroken end (λ c. c ≡ Cause.NotSealed → (form_of setup.now ≡ Form.Sealed)
+        × ∥ IfSome (R.remaining source) (λ text. IsNotSealed (format_of setup.now) text) ∥₁))) }
 
     // Whatever the cause, an output that has not failed has gained rows in the order of their numbers, from 1.
     ensures in_order { IfOk result (λ r. OfEachSource sources.items outputs.items r (λ source given written end.
@@ -359,10 +362,13 @@ pub fn run<T: Threads + Wait + Sync, R: Read + Send + Drop, W: Output + Drop>(
         (ArePartOfTable (layout_of setup.now) (R.remaining source)) ∥₁))) }
     ensures bad_header { IfOk result (λ r. OfEachSource sources.items outputs.items r (λ source given written end.
         IfBroken end (λ c. c ≡ Cause.BadHeader → (written ≡ given)
-        × IfSome (R.remaining source) (λ text. HasNoHeader (delimiter_of setup.now) text)))) }
+        × IfSome (R.remaining source) (λ text. HasNoHeader (format_of setup.now) text)))) }
     ensures too_many_records { IfOk result (λ r. OfEachSource sources.items outputs.items r (λ source given written end.
         IfBroken end (λ c. c ≡ Cause.TooManyRecords
-        → ∥ IfSome (R.remaining source) (λ text. HasTooMany (delimiter_of setup.now) text) ∥₁))) }
+        → ∥ IfSome (R.remaining source) (λ text. HasTooMany (format_of setup.now) text) ∥₁))) }
+    ensures not_sealed { IfOk result (λ r. OfEachSource sources.items outputs.items r (λ source given written end.
+        IfBroken end (λ c. c ≡ Cause.NotSealed → (form_of setup.now ≡ Form.Sealed)
+        × ∥ IfSome (R.remaining source) (λ text. IsNotSealed (format_of setup.now) text) ∥₁))) }
 
     // Whatever the cause, an output that has not failed has gained rows in the order of their numbers, from 1.
     ensures in_order { IfOk result (λ r. OfEachSource sources.items outputs.items r (λ source given written end.

@@ -11,6 +11,7 @@ use std::thread::Threads;
 
 mod faults;
 mod gates;
+mod sealed;
 
 const HEADING: &[u8] = b"row,id,calendar,date,rd,weekday,refusal\n";
 

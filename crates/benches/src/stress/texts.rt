@@ -2,6 +2,7 @@
 
 use crate::random::Random;
 use date_texts::Calendar;
+use register_records::Form;
 use std::alloc::Global;
 use std::io;
 use std::io::Write;
@@ -17,6 +18,25 @@ const HEADERS: [&str; 9] = [
     "id;calendar;date\n",
     "id,date\n",
     "",
+];
+
+/// Headers of sealed registers, of which the first three are accepted.
+const SEALED_HEADERS: [&str; 5] = [
+    "id,calendar,date,note\n",
+    "\u{FEFF}ID, Calendar ,DATE,\tNote\r\n",
+    "\n\"id\",calendar,date,\"note\"\n",
+    "id,calendar,date\n",
+    "END,0\n",
+];
+
+/// Notes, of which the last has 81 bytes.
+const NOTES: [&str; 6] = [
+    "",
+    "parish book",
+    "\"torn, see \"\"B\"\"\"",
+    "\u{E9}t\u{E9}",
+    "END",
+    "123456789012345678901234567890123456789012345678901234567890123456789012345678901",
 ];
 
 /// What a record may have in place of a date.
@@ -45,13 +65,16 @@ const ODD_IDS: [&str; 6] = [
     "1234567890123456789012345678901234567890X",
 ];
 
-/// Lines that are no records of three fields.
-const ODD_LINES: [&str; 6] = [
+/// Lines that are no records of as many fields as the header has, and seals.
+const ODD_LINES: [&str; 9] = [
     "\n",
     "\r\n",
-    ",,,\n",
+    ",,,,\n",
     "alone\n",
     "a,b\n",
+    "end,1\n",
+    "END,1\n",
+    "END,0,\n",
     "\"open,gregorian,1945-11-12\n",
 ];
 
@@ -84,8 +107,13 @@ fn write_date(text: &mut Vec<u8>, random: &mut Random, calendar: Calendar) -> io
     }
 }
 
-/// Writes a record.
-fn write_record(text: &mut Vec<u8>, random: &mut Random, number: u32) -> io::Result<()> {
+/// Writes a record, or another line.
+fn write_record(
+    text: &mut Vec<u8>,
+    random: &mut Random,
+    form: Form,
+    number: u32,
+) -> io::Result<()> {
     if random.one_in(40) {
         return write!(text, "{}", pick(random, &ODD_LINES));
     }
@@ -110,21 +138,51 @@ fn write_record(text: &mut Vec<u8>, random: &mut Random, number: u32) -> io::Res
     } else {
         write_date(text, random, calendar)?;
     }
+    if form == Form::Sealed {
+        write!(text, ",{}", pick(random, &NOTES))?;
+    }
     write!(text, "{}", if random.one_in(10) { "\r\n" } else { "\n" })
 }
 
-/// A register: mostly of some records, at times of none or of a thousand, and now and then with a byte that is changed.
-pub(crate) fn random_register(alloc: Global, random: &mut Random) -> io::Result<Vec<u8>> {
-    let mut text = Vec::new(alloc);
-    let header = if random.one_in(8) {
-        pick(random, &HEADERS)
-    } else {
-        "id,calendar,date\n"
+/// Writes a header, mostly one that is accepted.
+fn write_header(text: &mut Vec<u8>, random: &mut Random, form: Form) -> io::Result<()> {
+    let headers: &[&'static str] = match form {
+        Form::Plain => &HEADERS,
+        Form::Sealed => &SEALED_HEADERS,
     };
-    write!(text, "{header}")?;
+    let header = if random.one_in(8) {
+        pick(random, headers)
+    } else {
+        headers.first().copied().unwrap_or("")
+    };
+    write!(text, "{header}")
+}
+
+/// Writes a seal of so many records, at times with another number, and at times none.
+fn write_seal(text: &mut Vec<u8>, random: &mut Random, records: u32) -> io::Result<()> {
+    match random.below(8) {
+        0 => Ok(()),
+        1 => write!(text, "END,{}\n", random.below(40)),
+        2 => write!(text, "\tEND\t, {records:07}\r\n"),
+        _ => write!(text, "END,{records}\n"),
+    }
+}
+
+/// A register: mostly of some records, at times of none or of a thousand, and now and then with a byte that is changed.
+pub(crate) fn random_register(
+    alloc: Global,
+    random: &mut Random,
+    form: Form,
+) -> io::Result<Vec<u8>> {
+    let mut text = Vec::new(alloc);
+    write_header(&mut text, random, form)?;
     let most = if random.one_in(10) { 1000 } else { 40 };
-    for number in 0..random.below(most) {
-        write_record(&mut text, random, number)?;
+    let records = random.below(most);
+    for number in 0..records {
+        write_record(&mut text, random, form, number)?;
+    }
+    if form == Form::Sealed {
+        write_seal(&mut text, random, records)?;
     }
     if random.one_in(4) {
         let place = random.place_in(text.len());

@@ -2,6 +2,7 @@
 
 use crate::refusals::Refusal;
 use crate::requests::{Job, Request, read_request};
+use register_records::Form;
 use std::alloc::{AllocError, Global};
 use std::test::Fail;
 
@@ -200,7 +201,7 @@ struct Misuse {
 }
 
 // The messages are clap's own.
-const MISUSES: [Misuse; 7] = [
+const MISUSES: [Misuse; 9] = [
     Misuse {
         words: &["--rings", "4"],
         message: "error: unexpected argument '--rings' found\n",
@@ -224,6 +225,14 @@ const MISUSES: [Misuse; 7] = [
     Misuse {
         words: &["--summary", "--summary"],
         message: "error: the argument '--summary' cannot be used multiple times\n",
+    },
+    Misuse {
+        words: &["--sealed", "--sealed"],
+        message: "error: the argument '--sealed' cannot be used multiple times\n",
+    },
+    Misuse {
+        words: &["--sealed=END"],
+        message: "error: unexpected value 'END' for '--sealed' found; no more were expected\n",
     },
     // What clap refuses is told before every other fault.
     Misuse {
@@ -255,6 +264,7 @@ struct Asked {
     ring: usize,
     stripes: usize,
     delimiter: u8,
+    form: Form,
     targets: usize,
     summary: bool,
     files: &'static str,
@@ -266,6 +276,7 @@ const ASKED: [Asked; 5] = [
         ring: 16,
         stripes: 1,
         delimiter: b',',
+        form: Form::Plain,
         targets: 14,
         summary: false,
         files: "",
@@ -275,6 +286,7 @@ const ASKED: [Asked; 5] = [
         ring: 16,
         stripes: 4,
         delimiter: b',',
+        form: Form::Plain,
         targets: 0,
         summary: false,
         files: "",
@@ -285,12 +297,14 @@ const ASKED: [Asked; 5] = [
             "--stripes",
             "2",
             "--summary",
+            "--sealed",
             "--delimiter",
             "tab",
         ],
         ring: 4096,
         stripes: 2,
         delimiter: b'\t',
+        form: Form::Sealed,
         targets: 14,
         summary: true,
         files: "",
@@ -303,6 +317,7 @@ const ASKED: [Asked; 5] = [
         ring: 1,
         stripes: 1,
         delimiter: b',',
+        form: Form::Plain,
         targets: 2,
         summary: false,
         files: "b.csv|a.csv|B.csv|-||",
@@ -313,6 +328,7 @@ const ASKED: [Asked; 5] = [
         ring: 16,
         stripes: 1,
         delimiter: b',',
+        form: Form::Plain,
         targets: 14,
         summary: true,
         files: "-x.csv|--ring|0|--help|",
@@ -349,6 +365,7 @@ fn words_ask_for_conversions(rt: HostRuntime) -> Result<(), Fail> {
         assert_eq!(rt; job.setup.ring(), line.ring);
         assert_eq!(rt; job.setup.stripes(), line.stripes);
         assert_eq!(rt; job.setup.delimiter(), line.delimiter);
+        assert_eq!(rt; job.setup.form(), line.form);
         assert_eq!(rt; job.setup.targets().len(), line.targets);
         assert_eq!(rt; job.summary, line.summary);
         let files = listed(rt.alloc(), job.files.as_slice())?;

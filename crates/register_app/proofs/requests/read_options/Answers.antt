@@ -57,12 +57,19 @@ returns-clause-delimiter c =
     ∙ read_at (first_of (codes "delimiter")) (app_of c.in_ok-command.field-0) (map string_bytes c.args.words.now) (rows_of found) c.in_ok-command.ensures
     (λ h. (c.in_ok-matches.ensures.matches h).0)
 
+pub returns-clause-sealed : goal.returns-clause-sealed
+returns-clause-sealed c =
+    let found = found_of c.in_ok-matches.matches in
+    let same = read_at (one_of (codes "sealed")) (app_of c.in_ok-command.field-0) (map string_bytes c.args.words.now) (rows_of found) c.in_ok-command.ensures
+    (λ h. (c.in_ok-matches.ensures.matches h).0) in
+    rw (← same) c.is_given.ensures
+
 pub returns-clause-summary : goal.returns-clause-summary
 returns-clause-summary c =
     let found = found_of c.in_ok-matches.matches in
     let same = read_at (one_of (codes "summary")) (app_of c.in_ok-command.field-0) (map string_bytes c.args.words.now) (rows_of found) c.in_ok-command.ensures
     (λ h. (c.in_ok-matches.ensures.matches h).0) in
-    rw (← same) c.is_given.ensures
+    rw (← same) c.is_given-2.ensures
 
 pub returns-clause-files : goal.returns-clause-files
 returns-clause-files c =

@@ -1,11 +1,13 @@
 -- What the words mean, and that it is all that they mean; it fits a setup.
-use Rattle.std.proofs.Common.{◌∙◌, ap, codes, sym, subst, map, inl, inr, List, Option}
-use Rattle.std.specs.Prelude.{IfSome, IsSomeAnd}
+use Rattle.std.proofs.Common.{◌≡◌, ◌∙◌, ap, codes, sym, subst, map, inl, inr, List, Option}
+use Rattle.std.specs.Prelude.{◌↔◌, IfSome, IsSomeAnd}
 use Rattle.std.specs.String.{string_bytes}
 use Rattle.clap.proofs.TakesLemmas.{passed_up}
 use Rattle.clap.specs.Words.{Text}
 use Rattle.register_app.specs.Faults.{IsOfWords, fault_told, usage}
-use Rattle.register_app.specs.Requests.{AreFilesToConvert, AreTargetsOf, AsksFor, IsDelimiterFault, IsDelimiterOf, IsFileFault, IsRingFault, IsRingOf, IsStripesFault, IsStripesOf, IsTargetFault, MeanJust, files_in, help, table, task_of, value_in, version, wrong}
+use Rattle.register_app.specs.Requests.{AreFilesToConvert, AreTargetsOf, AsksFor, IsDelimiterFault, IsDelimiterOf, IsFileFault, IsGiven, IsRingFault, IsRingOf, IsStripesFault, IsStripesOf, IsTargetFault, MeanJust, files_in, help, table, task_of, value_in, version, wrong}
+use Rattle.register_records.specs.declared.setups.Form.{Form}
+use Rattle.register_records.specs.declared.setups.Form.TheVariants.{Sealed}
 use Rattle.register_app.specs.declared.refusals.Refusal.{Refusal}
 use Rattle.register_app.specs.declared.requests.Request.{Request}
 use Rattle.register_app.proofs.SetupFacts.{asked_delimiter, asked_once, asked_ring, asked_stripes, no_fault}
@@ -131,6 +133,11 @@ returns-clause-asked c =
     let ring = subst (λ (v : Option Text). IsRingOf v c.in_ok-ring.ring) c.in-Ok.ensures.ring c.in_ok-ring.ensures.value in
     let delimiter = subst (λ (v : Option Text). IsDelimiterOf v c.in_ok-delimiter.delimiter) c.in-Ok.ensures.delimiter c.in_ok-delimiter.ensures.value in
     let stripes = subst (λ (v : Option Text). IsStripesOf v c.in_ok-stripes.stripes) c.in-Ok.ensures.stripes c.in_ok-stripes.ensures.value in
+    let form : (c.chosen_form.result ≡ Sealed) ↔ IsGiven (codes "sealed") words
+    = (
+      λ e. c.in-Ok.ensures.sealed.0 (c.chosen_form.ensures.0 e),
+      λ given. c.chosen_form.ensures.1 (c.in-Ok.ensures.sealed.1 given),
+    ) in
     let same = ap (map (λ f. f.now)) c.as_slice.ensures.value ∙ c.in-Ok.ensures.files in
     let asks : AsksFor words task
     = record {
@@ -139,6 +146,7 @@ returns-clause-asked c =
       ring_asked = subst (IsRingOf (value_in words (codes "ring"))) (sym fields.1) ring;
       delimiter_asked = subst (IsDelimiterOf (value_in words (codes "delimiter"))) (sym fields.2) delimiter;
       stripes_asked = subst (IsStripesOf (value_in words (codes "stripes"))) (sym fields.3) stripes;
+      form_asked = subst (λ (f : Form). (f ≡ Sealed) ↔ IsGiven (codes "sealed") words) (sym fields.4) form;
       summary_asked = c.in-Ok.ensures.summary;
       files_asked = c.in-Ok.ensures.files;
       files_fit = subst AreFilesToConvert same c.in_ok-check_files.ensures.fine;

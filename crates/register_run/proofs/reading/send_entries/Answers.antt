@@ -3,14 +3,14 @@ use Rattle.std.proofs.Math.Seq.{map-set_same}
 use Rattle.lane_rings.specs.Lane.{sender_lane, sent}
 use Rattle.register_records.specs.Entries.{AreNumberedFrom, Numbered}
 use Rattle.register_records.specs.Seen.{entry_number, entry_seen}
-use Rattle.register_records.specs.Views.{delimiter_of, given_of, reads_by, text_of}
+use Rattle.register_records.specs.Views.{format_of, given_of, reads_by, text_of}
 use Rattle.register_run.proofs.GivenLemmas.{all_among, given_none, numbered_more, sends_all, sends_gone, sends_stopped}
 use Rattle.register_run.proofs.PassageLemmas.{among_none}
 use Rattle.register_run.proofs.reading.send_entries.Goals as goal
 
 pub returns-in-Err-clause-sends : goal.returns-in-Err-clause-sends
 returns-in-Err-clause-sends g c =
-    let is = given_none (g.R.Read.remaining c.args.source) (delimiter_of c.args.setup.now) c.in-Err.fault c.cause_of.result c.cause_of.ensures c.in-Err.ensures.bad c.in-Err.ensures.told.0 in
+    let is = given_none (g.R.Read.remaining c.args.source) (format_of c.args.setup.now) c.in-Err.fault c.cause_of.result c.cause_of.ensures c.in-Err.ensures.bad c.in-Err.ensures.told.0 c.in-Err.ensures.told.2 in
     ∣ ([], is, λ k d below. among_none [] (sent (get_or c.args.senders.now.items k d)) (c.requires.fresh k d below)) ∣₁
 
 pub returns-in-Ok-None-clause-sends : goal.returns-in-Ok-None-clause-sends
@@ -18,15 +18,15 @@ returns-in-Ok-None-clause-sends g c =
     let inv = c.loop.invariant in let new = c.next-in-loop.new.self in
     let all = (rw c.in-Ok-None.field-0-is at c.in-Ok-None.ensures.all) refl in
     let kept = (rw c.in-Ok-None.field-0-is at c.in-Ok-None.ensures.ends) refl in
-    sends_all (g.R.Read.remaining c.args.source) (text_of new) (delimiter_of c.args.setup.now) (reads_by new) (c.next-in-loop.ensures.text.0 ∙ inv.text) (c.next-in-loop.ensures.text.1 ∙ inv.by)
+    sends_all (g.R.Read.remaining c.args.source) (text_of new) (format_of c.args.setup.now) (reads_by new) (c.next-in-loop.ensures.text.0 ∙ inv.text) (c.next-in-loop.ensures.text.1 ∙ inv.by)
     (given_of new) (given_of c.loop.entries) kept.1 inv.numbered new.first c.loop.senders.items inv.sent c.loop.count inv.count all
 
 pub returns-in-Err-next-clause-sends : goal.returns-in-Err-next-clause-sends
 returns-in-Err-next-clause-sends g c =
     let inv = c.loop.invariant in let new = c.next-in-loop.new.self in
-    sends_stopped (g.R.Read.remaining c.args.source) (text_of new) (delimiter_of c.args.setup.now) (reads_by new) (c.next-in-loop.ensures.text.0 ∙ inv.text) (c.next-in-loop.ensures.text.1 ∙ inv.by)
+    sends_stopped (g.R.Read.remaining c.args.source) (text_of new) (format_of c.args.setup.now) (reads_by new) (c.next-in-loop.ensures.text.0 ∙ inv.text) (c.next-in-loop.ensures.text.1 ∙ inv.by)
     (given_of new) (given_of c.loop.entries) c.in-Err-next.ensures.kept inv.numbered new.first c.loop.senders.items inv.sent
-    c.in-Err-next.fault _ c.cause_of-in-Err-next.ensures c.in-Err-next.ensures.no_header (λ e. (c.in-Err-next.ensures.many e).1)
+    c.in-Err-next.fault _ c.cause_of-in-Err-next.ensures c.in-Err-next.ensures.no_header (λ e. (c.in-Err-next.ensures.many e).1) c.in-Err-next.ensures.not_sealed
 
 pub returns-then-is_err-clause-lanes : goal.returns-then-is_err-clause-lanes
 returns-then-is_err-clause-lanes g c =
@@ -42,7 +42,7 @@ returns-then-is_err-clause-sends g c =
     let number = rw c.in-Ok-Some.field-0-is at c.in-Ok-Some.ensures.number in
     let numbered = subst (λ l. AreNumberedFrom 1 l) (sym gives) (numbered_more 1 (given_of c.loop.entries) (entry_seen c.in-Ok-Some.entry) inv.numbered (let n = number.0 in omega arith)) in
     let among = all_among (given_of c.loop.entries) (given_of new) items at c.index_mut-sender.result.now c.send.new.self c.in-Ok-Some.entry c.send.result c.index_mut-sender.ensures.value below gives c.send.ensures.ok c.send.ensures.gone inv.sent in
-    sends_gone (g.R.Read.remaining c.args.source) (text_of new) (delimiter_of c.args.setup.now) (reads_by new) (c.next-in-loop.ensures.text.0 ∙ inv.text) (c.next-in-loop.ensures.text.1 ∙ inv.by)
+    sends_gone (g.R.Read.remaining c.args.source) (text_of new) (format_of c.args.setup.now) (reads_by new) (c.next-in-loop.ensures.text.0 ∙ inv.text) (c.next-in-loop.ensures.text.1 ∙ inv.by)
     (given_of new) (given_of new) refl numbered new.first _ among
 
 pub loop-preserved : goal.loop-preserved

@@ -24,6 +24,9 @@ returns-clause-bad_header g c = c.run_gated.ensures.bad_header
 pub returns-clause-too_many_records : goal.returns-clause-too_many_records
 returns-clause-too_many_records g c = c.run_gated.ensures.too_many_records
 
+pub returns-clause-not_sealed : goal.returns-clause-not_sealed
+returns-clause-not_sealed g c = c.run_gated.ensures.not_sealed
+
 pub returns-clause-in_order : goal.returns-clause-in_order
 returns-clause-in_order g c = c.run_gated.ensures.in_order
 

@@ -2,7 +2,7 @@ use Rattle.std.proofs.Common.{sym, subst}
 use Rattle.std.specs.List.{Contains}
 use Rattle.std.proofs.Props.{props}
 use Rattle.std.proofs.Math.Logic.{∥∥₁_elim, ∥∥₁_prop}
-use Rattle.register_records.specs.Views.{delimiter_of, layout_of}
+use Rattle.register_records.specs.Views.{format_of, layout_of}
 use Rattle.register_run.specs.Headline.{IsSettled}
 use Rattle.register_run.specs.Passages.{HasPassed}
 use Rattle.register_run.proofs.SettledLemmas.{headless, settled}
@@ -15,12 +15,12 @@ invariant_of-result g c =
       untouched = λ bad.
           let h = ∥∥₁_elim c.requires.passed (Prim.hlevel props) (λ (rows, holds, has).
           headless g.W.Output text table rows c.args.passed (c.send.ensures.rows rows holds) c.send.ensures.sent
-          (subst (λ s. HasPassed text (delimiter_of s) c.args.passed (λ row. Contains rows row)) (sym c.send.ensures.setup) has)
+          (subst (λ s. HasPassed text (format_of s) c.args.passed (λ row. Contains rows row)) (sym c.send.ensures.setup) has)
           c.is_some.result c.is_some.ensures c.end_of_source-end.result ends.reading bad) in
           table.untouched h.0 h.1;
       settled = ∥∥₁_elim c.requires.passed ∥∥₁_prop (λ (rows, holds, has).
           subst (λ s. ∥ IsSettled g.W.Output.contents g.W.Output.has_failed g.W.Output.is_flushed (layout_of s) text table.given.value table.output c.end_of_source-end.result ∥₁) (sym c.of-setup.ensures)
           (settled g.W.Output text table rows c.args.passed (c.send.ensures.rows rows holds) c.send.ensures.sent
-          (subst (λ s. HasPassed text (delimiter_of s) c.args.passed (λ row. Contains rows row)) (sym c.send.ensures.setup) has)
+          (subst (λ s. HasPassed text (format_of s) c.args.passed (λ row. Contains rows row)) (sym c.send.ensures.setup) has)
           c.is_some.result c.is_some.ensures c.end_of_source-end.result ends.whole ends.reading ends.sink));
     }

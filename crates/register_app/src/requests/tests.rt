@@ -2,18 +2,10 @@
 
 use crate::refusals::Refusal;
 use crate::requests::{Job, Request, read_request};
+use crate::tests::helpers::words_of;
 use register_records::Form;
 use std::alloc::{AllocError, Global};
 use std::test::Fail;
-
-/// The words of a command line.
-fn words_of(alloc: Global, words: &[&str]) -> Result<Vec<String>, AllocError> {
-    let mut copied = Vec::new(alloc);
-    for word in words {
-        copied.push(String::from_str(alloc, word)?)?;
-    }
-    Ok(copied)
-}
 
 /// A command line that is refused, the exit status and the text.
 #[derive(Clone, Copy)]

@@ -1,0 +1,81 @@
+//! Files of the system, and their tables.
+
+use crate::disk::{Disk, Sink, Source};
+use crate::tests::helpers::{Heard, ONE_RECORD, ONE_ROW, hear};
+use std::alloc::{AllocError, Global};
+use std::fs;
+use std::rt::Files;
+use std::sync::Wait;
+use std::test::Fail;
+use std::thread::Threads;
+
+/// A folder of this test's own.
+const FOLDER: &str = "files_of_the_test";
+
+/// The names of a register there, of a copy of its name and of its table.
+const REGISTER: &str = "files_of_the_test/register.csv";
+
+const SAME_REGISTER: &str = "files_of_the_test/./register.csv";
+
+const TABLE: &str = "files_of_the_test/register.csv.out.csv";
+/// Runs the program's answer to these words over the files of the system.
+fn hear_on_disk<T: Threads + Wait + Sync + Files>(
+    rt: &T,
+    alloc: Global,
+    words: &[&str],
+) -> Result<Heard<Sink<Vec<u8>, T::File>, Vec<u8>>, AllocError>
+where
+    T::File: Send,
+{
+    let input: Source<&'static [u8], T::File> = Source::Input(b"");
+    let output = Sink::Output(Vec::new(alloc));
+    hear(
+        rt,
+        alloc,
+        words,
+        input,
+        output,
+        &Disk::new(rt),
+        Vec::new(alloc),
+    )
+}
+
+#[test]
+fn files_on_disk_get_their_tables(rt: HostRuntime) -> Result<(), Fail> {
+    let alloc = rt.alloc();
+    let _ = fs::remove_dir_all(&rt, FOLDER);
+    fs::create_dir(&rt, FOLDER)?;
+    fs::write(&rt, REGISTER, ONE_RECORD)?;
+    // What stood in the table's file is gone.
+    fs::write(
+        &rt,
+        TABLE,
+        b"an older and longer text that stands where the table comes to stand, and more\n".as_slice(),
+    )?;
+    let heard = hear_on_disk(&rt, alloc, &["--to", "gregorian", REGISTER])?;
+    assert_eq!(rt; heard.status, 0);
+    assert!(rt; heard.errors.is_empty());
+    assert_eq!(rt; fs::read(&rt, TABLE)?.as_slice(), ONE_ROW);
+
+    // A folder, a file that is not there, and two names of one file.
+    let heard = hear_on_disk(&rt, alloc, &[FOLDER])?;
+    assert_eq!(rt; heard.status, 3);
+    assert_eq!(rt;
+        heard.errors.as_slice(),
+        b"register: cannot open files_of_the_test\n".as_slice()
+    );
+    let heard = hear_on_disk(&rt, alloc, &["files_of_the_test/none.csv"])?;
+    assert_eq!(rt; heard.status, 3);
+    assert_eq!(rt;
+        heard.errors.as_slice(),
+        b"register: cannot open files_of_the_test/none.csv\n".as_slice()
+    );
+    let heard = hear_on_disk(&rt, alloc, &[REGISTER, SAME_REGISTER])?;
+    assert_eq!(rt; heard.status, 3);
+    assert_eq!(rt;
+        heard.errors.as_slice(),
+        b"register: cannot make files_of_the_test/./register.csv.out.csv\n".as_slice()
+    );
+    fs::remove_dir_all(&rt, FOLDER)?;
+    Ok(())
+}

@@ -1,0 +1,255 @@
+//! What is read, opened and made, and what is told where a stream breaks.
+
+ghost use Rattle.std.specs.Prelude.{⊤};
+
+use crate::help::HELP;
+use crate::places::Places;
+use crate::tests::helpers::{NoPlaces, hear};
+use register_records::PlainOutput;
+use std::alloc::Global;
+use std::io;
+use std::io::{ErrorKind, Read, Write};
+use std::sync::atomic::{AtomicU32, Ordering};
+use std::test::Fail;
+
+/// How often something was read, opened and made.
+#[derive(Drop)]
+struct Counts {
+    reads: AtomicU32,
+    opened: AtomicU32,
+    made: AtomicU32,
+}
+
+impl Counts {
+    /// Nothing was read, opened or made.
+    fn none() -> Counts {
+        Counts {
+            reads: AtomicU32::new(0),
+            opened: AtomicU32::new(0),
+            made: AtomicU32::new(0),
+        }
+    }
+}
+
+/// A text without bytes that counts how often it is read.
+#[derive(Drop)]
+struct CountedText<'a> {
+    counts: &'a Counts,
+}
+
+impl Read for CountedText<'_> {
+    fn read(&mut self, _buf: &mut [u8]) -> io::Result<usize> {
+        self.counts.reads.fetch_add(1, Ordering::SeqCst);
+        Ok(0)
+    }
+}
+
+/// Files that count how often they are opened and made.
+#[derive(Drop)]
+struct CountedFiles<'a> {
+    alloc: Global,
+    counts: &'a Counts,
+}
+
+impl<'a> Places<CountedText<'a>, PlainOutput<Vec<u8>>> for CountedFiles<'a> {
+    ghost is_opened = { λ _ _ _. ⊤ };
+
+    ghost is_made = { λ _ _ _ _. ⊤ };
+
+    fn open(&self, _name: &str) -> io::Result<CountedText<'a>> {
+        self.counts.opened.fetch_add(1, Ordering::SeqCst);
+        Ok(CountedText {
+            counts: self.counts,
+        })
+    }
+
+    fn make(&self, _name: &str, mark: u32) -> io::Result<PlainOutput<Vec<u8>>> {
+        self.counts.made.fetch_add(1, Ordering::SeqCst);
+        Ok(PlainOutput::new(Vec::new(self.alloc), mark))
+    }
+
+    fn are_one_file(&self, _name: &str, _other: &str) -> bool {
+        false
+    }
+}
+
+/// Command lines, the status of each, and how many files are opened and made.
+#[derive(Clone, Copy)]
+struct Touching {
+    words: &'static [&'static str],
+    status: u8,
+    files: u32,
+    reads_input: bool,
+}
+
+const TOUCHINGS: [Touching; 6] = [
+    Touching {
+        words: &["--help", "a.csv"],
+        status: 0,
+        files: 0,
+        reads_input: false,
+    },
+    Touching {
+        words: &["a.csv", "--version"],
+        status: 0,
+        files: 0,
+        reads_input: false,
+    },
+    Touching {
+        words: &["--ring", "0", "a.csv"],
+        status: 2,
+        files: 0,
+        reads_input: false,
+    },
+    Touching {
+        words: &["a.csv", "b.csv", "a.csv"],
+        status: 2,
+        files: 0,
+        reads_input: false,
+    },
+    Touching {
+        words: &[],
+        status: 1,
+        files: 0,
+        reads_input: true,
+    },
+    Touching {
+        words: &["a.csv", "b.csv"],
+        status: 1,
+        files: 2,
+        reads_input: false,
+    },
+];
+
+#[test]
+fn nothing_is_touched_that_is_not_asked_for(rt: HostRuntime) -> Result<(), Fail> {
+    let alloc = rt.alloc();
+    for touching in &TOUCHINGS {
+        let input_counts = Counts::none();
+        let counts = Counts::none();
+        let input = CountedText {
+            counts: &input_counts,
+        };
+        let files = CountedFiles {
+            alloc,
+            counts: &counts,
+        };
+        let heard = hear(
+            &rt,
+            alloc,
+            touching.words,
+            input,
+            Vec::new(alloc),
+            &files,
+            Vec::new(alloc),
+        )?;
+        assert_eq!(rt; heard.status, touching.status);
+        assert_eq!(rt; counts.opened.load(Ordering::SeqCst), touching.files);
+        assert_eq!(rt; counts.made.load(Ordering::SeqCst), touching.files);
+        assert_eq!(rt;
+            input_counts.reads.load(Ordering::SeqCst) > 0,
+            touching.reads_input
+        );
+        assert_eq!(rt; counts.reads.load(Ordering::SeqCst) > 0, touching.files > 0);
+    }
+    Ok(())
+}
+
+/// Fails at every read and every write.
+#[derive(Drop)]
+struct Broken;
+
+impl Read for Broken {
+    fn read(&mut self, _buf: &mut [u8]) -> io::Result<usize> {
+        Err(io::Error::from(ErrorKind::BrokenPipe))
+    }
+}
+
+impl Write for Broken {
+    fn write(&mut self, _buf: &[u8]) -> io::Result<usize> {
+        Err(io::Error::from(ErrorKind::BrokenPipe))
+    }
+
+    fn flush(&mut self) -> io::Result<()> {
+        Err(io::Error::from(ErrorKind::BrokenPipe))
+    }
+}
+
+#[test]
+fn broken_streams_are_told(rt: HostRuntime) -> Result<(), Fail> {
+    let alloc = rt.alloc();
+    let heard = hear(
+        &rt,
+        alloc,
+        &[],
+        Broken,
+        Vec::new(alloc),
+        &NoPlaces,
+        Vec::new(alloc),
+    )?;
+    assert_eq!(rt; heard.status, 1);
+    assert!(rt; heard.output.is_empty());
+    assert_eq!(rt; heard.errors.as_slice(), b"source 1: cause 5\n".as_slice());
+
+    let text: &'static [u8] = b"id,calendar,date\n";
+    let heard = hear(&rt, alloc, &[], text, Broken, &NoPlaces, Vec::new(alloc))?;
+    assert_eq!(rt; heard.status, 1);
+    assert_eq!(rt; heard.errors.as_slice(), b"source 1: cause 4\n".as_slice());
+
+    // Standard error that fails changes neither the status nor the output.
+    let heard = hear(&rt, alloc, &[], Broken, Vec::new(alloc), &NoPlaces, Broken)?;
+    assert_eq!(rt; heard.status, 1);
+    assert!(rt; heard.output.is_empty());
+    Ok(())
+}
+
+/// Command lines that ask for help: before anything is wrong with them.
+const FOR_HELP: [&[&str]; 4] = [
+    &["--help"],
+    &["-h"],
+    &["--help", "--bogus"],
+    &["--to", "x", "-h"],
+];
+
+#[test]
+fn help_reads_nothing(rt: HostRuntime) -> Result<(), Fail> {
+    let alloc = rt.alloc();
+    for words in &FOR_HELP {
+        let heard = hear(
+            &rt,
+            alloc,
+            words,
+            Broken,
+            Vec::new(alloc),
+            &NoPlaces,
+            Vec::new(alloc),
+        )?;
+        assert_eq!(rt; heard.status, 0);
+        assert_eq!(rt; heard.output.as_slice(), HELP.as_bytes());
+        assert!(rt; heard.errors.is_empty());
+    }
+    for line in HELP.lines() {
+        assert!(rt; line.len() <= 80);
+    }
+    Ok(())
+}
+
+#[test]
+fn help_that_cannot_be_printed_is_told(rt: HostRuntime) -> Result<(), Fail> {
+    let alloc = rt.alloc();
+    let heard = hear(
+        &rt,
+        alloc,
+        &["--help"],
+        Broken,
+        Broken,
+        &NoPlaces,
+        Vec::new(alloc),
+    )?;
+    assert_eq!(rt; heard.status, 1);
+    assert_eq!(rt;
+        heard.errors.as_slice(),
+        b"register: cannot write to standard output\n".as_slice()
+    );
+    Ok(())
+}

@@ -1,5 +1,5 @@
 -- What a read of csv's reader does to the records that are left.
-use Rattle.std.proofs.Common.{◌≡◌, ◌<◌, ℕ, List, [], ◌∷◌, length, Option, Some, None, true, false, refl, sym, ◌∙◌, arith}
+use Rattle.std.proofs.Common.{◌≡◌, ℕ, List, [], ◌∷◌, Option, Some, None, Bool, true, false, refl, sym, ◌∙◌}
 use Rattle.std.specs.Prelude.{⊤, IfSome, option_map}
 use Rattle.csv.specs.Reading.{ReadRecord, Reached, reader_config, reader_state, source_of, strip_bom}
 use Rattle.csv.specs.declared.reader.Reader.{Reader}
@@ -8,15 +8,9 @@ use Rattle.csv.specs.declared.parser.State.{State}
 use Rattle.csv.specs.declared.parser.State.TheVariants as st
 use Rattle.csv.proofs.ReadFacts.{rows-end, rows-more}
 use Rattle.register_records.specs.Headers.{IsHeader}
-use Rattle.register_records.specs.Entries.{HasNoHeader, HasRecords, Fields, reading, text_records}
-use Rattle.register_records.specs.ReadingState.{all_after, records_left}
+use Rattle.register_records.specs.Entries.{Fields, Format, HasNoHeader, HasRecords, reading, text_records}
+use Rattle.register_records.specs.ReadingState.{Reads, TakesFirst, all_after, records_left}
 use Rattle.register_records.proofs.RecordsLeft.{all-more, all-none}
-
--- this record was the first of those that were left
-abbrev pub TakesFirst : Option (List Fields) → Option (List Fields) → Fields → Type 0
-TakesFirst None after f = ⊤
-TakesFirst (Some rows) None f = ⊥
-TakesFirst (Some rows) (Some rest) f = rows ≡ f ∷ rest
 
 one-record : (cfg cfg2 : Config) (s s2 : State) (y z : List ℕ) (f : Fields) → cfg2 ≡ cfg → Reached cfg s y (f ∷ []) s2 z → all_after cfg s y ≡ f ∷ all_after cfg2 s2 z
 unfolding Reached
@@ -46,10 +40,10 @@ read-none {R = R} rem a b f r = by (source_of rem a) refl
     by None e = tt
     by (Some y) e = all-none a.config a.state y (rows-end rem a b f a.config y refl e r)
 
-pub some-left : (x y : Option (List Fields)) (f : Fields) → TakesFirst x y f → IfSome x (λ rows. 0 < length rows)
-some-left None y f t = tt
-some-left (Some rows) None f t = absurd t
-some-left (Some rows) (Some rest) f t = rw t (omega arith)
+-- a read of either kind
+pub reads : {R : Type 0} (rem : R → Option (List ℕ)) (a b : Reader R) (found : Bool) (f : Fields) → ReadRecord rem a b found f → Reads (records_left rem a) (records_left rem b) found f
+reads rem a b true f r = read-more rem a b f r
+reads rem a b false f r = read-none rem a b f r
 
 -- the records of a text, at a reader that is at its start
 pub at-start : {R : Type 0} (rem : R → Option (List ℕ)) (a : Reader R) (d : ℕ) (o : Option (List ℕ)) → reader_config a ≡ reading d → reader_state a ≡ st.StartRecord
@@ -57,15 +51,15 @@ pub at-start : {R : Type 0} (rem : R → Option (List ℕ)) (a : Reader R) (d : 
 at-start rem a d None config state source = rw (source) refl
 at-start rem a d (Some text) config state source = rw (source, config, state) refl
 
--- a first record that is none
-pub refuses : (o : Option (List ℕ)) (y : Option (List Fields)) (d : ℕ) (f : Fields) → TakesFirst (option_map (text_records d) o) y f → (IsHeader f → ⊥)
-    → IfSome o (λ text. HasNoHeader d text)
-refuses None y d f t h = tt
-refuses (Some text) None d f t h = absurd t
-refuses (Some text) (Some rest) d f t h = λ rows a. let same : a.0 ≡ f = cc (t, a.1) in h (rw same at a.2)
+-- a first record that is no header
+pub refuses : (o : Option (List ℕ)) (y : Option (List Fields)) (format : Format) (f : Fields)
+    → TakesFirst (option_map (text_records format.delimiter) o) y f → (IsHeader format.form f → ⊥) → IfSome o (λ text. HasNoHeader format text)
+refuses None y format f t h = tt
+refuses (Some text) None format f t h = absurd t
+refuses (Some text) (Some rest) format f t h = λ rows a. let same : a.0 ≡ f = cc (t, a.1) in h (rw same at a.2)
 
 -- no record
-pub refuses-none : (o : Option (List ℕ)) (d : ℕ) → IfSome (option_map (text_records d) o) (λ rows. rows ≡ [])
-    → IfSome o (λ text. HasNoHeader d text)
-refuses-none None d t = tt
-refuses-none (Some text) d t = λ rows a. let none : a.0 ∷ rows ≡ [] = sym a.1 ∙ t in cc
+pub refuses-none : (o : Option (List ℕ)) (format : Format) → IfSome (option_map (text_records format.delimiter) o) (λ rows. rows ≡ [])
+    → IfSome o (λ text. HasNoHeader format text)
+refuses-none None format t = tt
+refuses-none (Some text) format t = λ rows a. let none : a.0 ∷ rows ≡ [] = sym a.1 ∙ t in cc

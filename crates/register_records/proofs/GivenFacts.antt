@@ -1,83 +1,193 @@
 -- What a step of a reader of entries does to those that it gave.
 use Rattle.std.proofs.Common.{◌≡◌, suc, ◌<◌, ◌≤◌, ◌+◌, ◌++◌, ℕ, List, [], ◌∷◌, length, Bool, Option, Some, None, true, false, refl, sym, ap, ◌∙◌, arith, append_assoc}
-use Rattle.std.specs.Prelude.{IfSome, nat_lt, option_map}
+use Rattle.std.specs.Prelude.{IfSome, IsTrue, nat_lt, option_map}
 use Rattle.std.proofs.Math.Logic.{∥∥₁_map}
 use Rattle.std.proofs.lemmas.Bool.Decides.{nat_tests}
-use Rattle.std.proofs.lemmas.List.{append-nil, length-append}
+use Rattle.std.proofs.lemmas.List.{append-nil, append_cancel_left, length-append}
 use Rattle.std.specs.declared.snapshot.Snapshot.{Snapshot}
 use Rattle.register_records.specs.Headers.{IsHeader}
-use Rattle.register_records.specs.Entries.{Fields, HasEntries, HasFirstEntries, HasTooMany, Numbered, body_of, body_seen, entries_from, record_limit, text_records}
-use Rattle.register_records.specs.Seen.{entry_body, entry_number, entry_seen}
-use Rattle.register_records.specs.ReadingState.{Stands}
-use Rattle.register_records.specs.Seen.{entries_shown}
+use Rattle.register_records.specs.Entries.{Fields, Format, HasEntries, HasFirstEntries, HasTooMany, IsNotSealed, Numbered, body_of, body_seen, entries_from, entries_of, record_limit, text_records}
+use Rattle.register_records.specs.Seals.{AreClosed, Agrees, before_seal, entry_records, is_seal}
+use Rattle.register_records.specs.Seen.{entries_shown, entry_body, entry_number, entry_seen}
+use Rattle.register_records.specs.ReadingState.{EndsAt, Gives, HasEntry, IsNoSeal, LacksSeal, Stands, TakesFirst}
 use Rattle.register_records.specs.declared.entries.Entry.{Entry}
-use Rattle.register_records.proofs.EntrySteps.{TakesFirst}
+use Rattle.register_records.specs.declared.setups.Form.{Form}
+use Rattle.register_records.specs.declared.setups.Form.TheVariants.{Plain, Sealed}
 
 pub if-some : {X : Type 0} (o : Option X) (P Q : X → Type 0) → ((x : X) → P x → Q x) → IfSome o P → IfSome o Q
 if-some None P Q f h = tt
 if-some (Some x) P Q f h = f x h
 
--- a first record that is a header
-pub stands-first : (o : Option (List ℕ)) (y : Option (List Fields)) (d : ℕ) (f : Fields) → TakesFirst (option_map (text_records d) o) y f → IsHeader f
-    → IfSome o (λ text. Stands d text false y [])
-stands-first None y d f t h = tt
-stands-first (Some text) None d f t h = absurd t
-stands-first (Some text) (Some rest) d f t h =
-    record { records = rest; rest = rest; accepted = (f, t, h); counted = omega arith; followed = refl; left_is = λ _. refl }
+-- two facts of one value
+both-some : {X : Type 0} (o : Option X) (P Q S : X → Type 0) → ((x : X) → P x → Q x → S x) → IfSome o P → IfSome o Q → IfSome o S
+both-some None P Q S f h k = tt
+both-some (Some x) P Q S f h k = f x h k
 
 some-is : {X : Type 0} (o : Option X) (x y : X) → o ≡ Some x → o ≡ Some y → x ≡ y
 some-is o x y a b = cc
 
--- the first of the entries that are left
-first-entry : (k : ℕ) (r : Fields) (rest : List Fields) → k < record_limit → entries_from k (r ∷ rest) ≡ record { number = k + 1; body = body_of r } ∷ entries_from (k + 1) rest
-unfolding entries_from
-first-entry k r rest h = let e : nat_lt k record_limit ≡ true = grind (arith, nat_tests) in rw e refl
+-- a record that is no seal comes before the first seal
+no-seal-first : (form : Form) (r : Fields) (rest : List Fields) → IsNoSeal form r → entry_records form (r ∷ rest) ≡ r ∷ entry_records form rest
+unfolding before_seal
+no-seal-first Plain r rest h = refl
+no-seal-first Sealed r rest h = rw h refl
 
--- one more entry
-pub stands-more : (d : ℕ) (text : List ℕ) (left left2 : Option (List Fields)) (given : List Numbered) (f : Fields) (x : Numbered)
-    → Stands d text false left given → TakesFirst left left2 f → length given < record_limit → x ≡ record { number = length given + 1; body = body_of f }
-    → Stands d text false left2 (given ++ x ∷ [])
-stands-more d text None left2 given f x s t h e = absurd (let q : ◌≡◌ {A = Option (List Fields)} None (Some s.rest) = s.left_is refl in cc)
-stands-more d text (Some rows) None given f x s t h e = absurd t
-stands-more d text (Some rows) (Some rest2) given f x s t h e =
-    let same : rows ≡ s.rest = cc (s.left_is refl) in
-    let rest_is : s.rest ≡ f ∷ rest2 = sym same ∙ t in
-    let longer : length (given ++ x ∷ []) ≡ length given + 1 = length-append given (x ∷ []) in
+-- no record is before a seal that stands first
+seal-first : (r : Fields) (rest : List Fields) → is_seal r ≡ true → before_seal (r ∷ rest) ≡ []
+unfolding before_seal
+seal-first r rest h = rw h refl
+
+before-none : before_seal [] ≡ []
+unfolding before_seal
+before-none = refl
+
+entry-records-none : (form : Form) → entry_records form [] ≡ []
+entry-records-none Plain = refl
+entry-records-none Sealed = before-none
+
+-- the first of the entries that are left
+first-entry : (form : Form) (k : ℕ) (r : Fields) (rest : List Fields) → k < record_limit
+    → entries_from form k (r ∷ rest) ≡ record { number = k + 1; body = body_of form r } ∷ entries_from form (k + 1) rest
+unfolding entries_from
+first-entry form k r rest h = let e : nat_lt k record_limit ≡ true = grind (arith, nat_tests) in rw e refl
+
+entries-none : (form : Form) (k : ℕ) → entries_from form k [] ≡ []
+unfolding entries_from
+entries-none form k = refl
+
+-- a first record that is a header
+pub stands-first : (o : Option (List ℕ)) (y : Option (List Fields)) (format : Format) (f : Fields)
+    → TakesFirst (option_map (text_records format.delimiter) o) y f → IsHeader format.form f → IfSome o (λ text. Stands format text false false y [])
+stands-first None y format f t h = tt
+stands-first (Some text) None format f t h = absurd t
+stands-first (Some text) (Some rest) format f t h =
     record {
-      records = s.records;
-      rest = rest2;
-      accepted = s.accepted;
-      counted = let l = ap length rest_is in omega (arith, s.counted, l, longer);
-      followed = s.followed ∙ rw (rest_is, longer, e, first-entry (length given) f rest2 h) (sym (append_assoc given _ _));
-      left_is = λ _. refl;
+      past = [];
+      rest = rest;
+      accepted = (f, t, h);
+      counted = refl;
+      no_seal = λ more. refl;
+      followed = λ more. refl;
+      left_is = λ _ _. refl;
+      ended = λ e. cc;
     }
 
--- the last was given
-pub stands-end : (d : ℕ) (text : List ℕ) (left : Option (List Fields)) (given : List Numbered) → Stands d text false left given → IfSome left (λ rows. rows ≡ []) → Stands d text false (Some []) given
-stands-end d text None given s e = absurd (let q : ◌≡◌ {A = Option (List Fields)} None (Some s.rest) = s.left_is refl in cc)
-stands-end d text (Some rows) given s e =
-    let none : s.rest ≡ [] = cc (s.left_is refl, e) in
-    record { records = s.records; rest = s.rest; accepted = s.accepted; counted = s.counted; followed = s.followed; left_is = λ _. ap Some (sym none) }
+module _ (format : Format) (text : List ℕ) where
+  form : Form
+  form = format.form
 
--- a call failed
-pub stands-failed : (d : ℕ) (text : List ℕ) (failed : Bool) (left left2 : Option (List Fields)) (given : List Numbered) → Stands d text failed left given → Stands d text true left2 given
-stands-failed d text failed left left2 given s =
-    record { records = s.records; rest = s.rest; accepted = s.accepted; counted = s.counted; followed = s.followed; left_is = λ e. cc }
+  -- one more entry
+  stands-more : (left left2 : Option (List Fields)) (given : List Numbered) (f : Fields) (x : Numbered)
+      → Stands format text false false left given → TakesFirst left left2 f → IsNoSeal form f → length given < record_limit
+      → x ≡ record { number = length given + 1; body = body_of form f } → Stands format text false false left2 (given ++ x ∷ [])
+  stands-more None left2 given f x s t n h e = absurd (let q : ◌≡◌ {A = Option (List Fields)} None (Some s.rest) = s.left_is refl refl in cc)
+  stands-more (Some rows) None given f x s t n h e = absurd t
+  stands-more (Some rows) (Some rest2) given f x s t n h e =
+      let same : rows ≡ s.rest = cc (s.left_is refl refl) in
+      let rest_is : s.rest ≡ f ∷ rest2 = sym same ∙ t in
+      let longer : length (given ++ x ∷ []) ≡ length given + 1 = length-append given (x ∷ []) in
+      record {
+        past = s.past ++ f ∷ [];
+        rest = rest2;
+        accepted = rw (append_assoc s.past (f ∷ []) rest2, ← rest_is) s.accepted;
+        counted = length-append s.past (f ∷ []) ∙ omega (arith, s.counted, longer);
+        no_seal = λ more. rw (append_assoc s.past (f ∷ []) more, s.no_seal (f ∷ more), no-seal-first form f more n) (sym (append_assoc s.past (f ∷ []) _));
+        followed = λ more. rw (append_assoc s.past (f ∷ []) more, s.followed (f ∷ more), longer, e, first-entry form (length given) f more h) (sym (append_assoc given _ _));
+        left_is = λ _ _. refl;
+        ended = λ d. cc;
+      }
 
-pub first-given : (d : ℕ) (text : List ℕ) (failed : Bool) (left : Option (List Fields)) (given : List Numbered) → Stands d text failed left given → HasFirstEntries d text given
-first-given d text failed left given s = (s.records, entries_from (length given) s.rest, s.accepted, s.followed)
+  first-given : (failed done : Bool) (left : Option (List Fields)) (given : List Numbered) → Stands format text failed done left given → HasFirstEntries format text given
+  first-given failed done left given s =
+      (s.past ++ s.rest, entries_from form (length given) (entry_records form s.rest), s.accepted, rw (s.no_seal s.rest) (s.followed _))
 
-entries-none : (k : ℕ) → entries_from k [] ≡ []
-unfolding entries_from
-entries-none k = refl
+  -- those before the end
+  past-records : (failed done : Bool) (left : Option (List Fields)) (given : List Numbered) (s : Stands format text failed done left given)
+      → entry_records form s.rest ≡ [] → entry_records form (s.past ++ s.rest) ≡ s.past
+  past-records failed done left given s e = s.no_seal s.rest ∙ rw e (append-nil s.past)
 
-pub all-given : (d : ℕ) (text : List ℕ) (given : List Numbered) → Stands d text false (Some []) given → length given ≤ record_limit → HasEntries d text given
-all-given d text given s h =
-    let none : s.rest ≡ [] = cc (s.left_is refl) in
-    (s.records, s.accepted, (let l = ap length none in omega (arith, s.counted, l, h)), sym (s.followed ∙ rw (none, entries-none (length given)) (append-nil given)))
+  ends-none : (k : Form) (count : ℕ) (rows : List Fields) → EndsAt k count rows → entry_records k rows ≡ []
+  ends-none Plain count rows e = e
+  ends-none Sealed count rows e = rw e.1 (seal-first e.0 [] e.2)
 
-pub too-many : (d : ℕ) (text : List ℕ) (left : Option (List Fields)) (given : List Numbered) → Stands d text false left given → IfSome left (λ rows. 0 < length rows) → length given ≡ record_limit → HasTooMany d text
-too-many d text left given s some e = (s.records, s.accepted, (let more = rw (s.left_is refl) at some in omega (arith, s.counted, e, more)))
+  closed-so : (k : Form) (past rest : List Fields) → entry_records k (past ++ rest) ≡ past → EndsAt k (length past) rest → AreClosed k (past ++ rest)
+  closed-so Plain past rest e h = tt
+  closed-so Sealed past rest e h = (h.0, rw (e, h.1) refl, h.2, rw e h.3)
+
+  -- what a text of these records that is closed says of the rest
+  ends-so : (k : Form) (past rest : List Fields) → entry_records k rest ≡ [] → entry_records k (past ++ rest) ≡ past → AreClosed k (past ++ rest) → EndsAt k (length past) rest
+  ends-so Plain past rest n e c = n
+  ends-so Sealed past rest n e c = (c.0, append_cancel_left past rest (c.0 ∷ []) (c.1 ∙ rw e refl), c.2, rw e at c.3)
+
+  -- the text ends after the entries given
+  all-given : (left : Option (List Fields)) (given : List Numbered) → Stands format text false false left given
+      → IfSome left (EndsAt form (length given)) → length given ≤ record_limit → HasEntries format text given
+  all-given None given s e h = absurd (let q : ◌≡◌ {A = Option (List Fields)} None (Some s.rest) = s.left_is refl refl in cc)
+  all-given (Some rows) given s e h =
+      let same : rows ≡ s.rest = cc (s.left_is refl refl) in
+      let ends : EndsAt form (length given) s.rest = rw (← same) e in
+      let before = past-records false false (Some rows) given s (ends-none form (length given) s.rest ends) in (
+        s.past ++ s.rest,
+        s.accepted,
+        (rw before (omega (arith, s.counted, h)), closed-so form s.past s.rest before (rw s.counted ends)),
+        sym (ap (entries_from form 0) (before ∙ sym (append-nil s.past)) ∙ (s.followed [] ∙ rw (entries-none form (length given)) (append-nil given))),
+      )
+
+  stands-end : (left left2 : Option (List Fields)) (given : List Numbered) → Stands format text false false left given
+      → IfSome left (EndsAt form (length given)) → length given ≤ record_limit → Stands format text false true left2 given
+  stands-end left left2 given s e h =
+      record {
+        past = s.past;
+        rest = s.rest;
+        accepted = s.accepted;
+        counted = s.counted;
+        no_seal = s.no_seal;
+        followed = s.followed;
+        left_is = λ _ d. cc;
+        ended = λ _. all-given left given s e h;
+      }
+
+  -- a call failed
+  stands-failed : (failed done : Bool) (left left2 : Option (List Fields)) (given : List Numbered) → Stands format text failed done left given → Stands format text true done left2 given
+  stands-failed failed done left left2 given s =
+      record {
+        past = s.past;
+        rest = s.rest;
+        accepted = s.accepted;
+        counted = s.counted;
+        no_seal = s.no_seal;
+        followed = s.followed;
+        left_is = λ e. cc;
+        ended = s.ended;
+      }
+
+  too-many : (left : Option (List Fields)) (given : List Numbered) → Stands format text false false left given → IfSome left (HasEntry form)
+      → length given ≡ record_limit → HasTooMany format text
+  too-many None given s some e = absurd (let q : ◌≡◌ {A = Option (List Fields)} None (Some s.rest) = s.left_is refl refl in cc)
+  too-many (Some rows) given s some e =
+      let same : rows ≡ s.rest = cc (s.left_is refl refl) in
+      let more : 0 < length (entry_records form s.rest) = rw (← same) some in (
+        s.past ++ s.rest,
+        s.accepted,
+        rw (s.no_seal s.rest) (omega (arith, length-append s.past (entry_records form s.rest), s.counted, e, more)),
+      )
+
+  not-sealed : (left : Option (List Fields)) (given : List Numbered) → Stands format text false false left given
+      → IfSome left (LacksSeal form (length given)) → length given ≤ record_limit → IsNotSealed format text
+  not-sealed None given s lacks h = absurd (let q : ◌≡◌ {A = Option (List Fields)} None (Some s.rest) = s.left_is refl refl in cc)
+  not-sealed (Some rows) given s lacks h =
+      let same : rows ≡ s.rest = cc (s.left_is refl refl) in
+      let without : LacksSeal form (length given) s.rest = rw (← same) lacks in
+      let before = past-records false false (Some rows) given s without.0 in (
+        s.past ++ s.rest,
+        s.accepted,
+        rw before (omega (arith, s.counted, h)),
+        λ closed. without.1 (rw (← s.counted) (ends-so form s.past s.rest without.0 before closed)),
+      )
+
+  going : (failed done : Bool) (left : Option (List Fields)) (given : List Numbered) → failed ≡ false → done ≡ false → Stands format text failed done left given
+      → Stands format text false false left given
+  going failed done left given e f s = rw (← e, ← f) s
 
 -- an entry that a snapshot was taken of
 pub shown-more : (given : List (Snapshot Entry)) (s : Snapshot Entry) (e : Entry) → s.value ≡ e → entries_shown (given ++ s ∷ []) ≡ entries_shown given ++ entry_seen e ∷ []
@@ -88,40 +198,51 @@ pub shown-length : (given : List (Snapshot Entry)) → length (entries_shown giv
 shown-length [] = refl
 shown-length (x ∷ given) = ap suc (shown-length given)
 
-pub entry-is : (e : Entry) (k : ℕ) (f : Fields) → entry_number e ≡ k + 1 → body_seen (entry_body e) ≡ body_of f → entry_seen e ≡ record { number = k + 1; body = body_of f }
-entry-is e k f n b = rw (n, b) refl
+entry-is : (form : Form) (e : Entry) (k : ℕ) (f : Fields) → entry_number e ≡ k + 1 → body_seen (entry_body e) ≡ body_of form f
+    → entry_seen e ≡ record { number = k + 1; body = body_of form f }
+entry-is form e k f n b = rw (n, b) refl
 
 -- the same, where the text may be unknown
-abbrev pub MayStand : Option (List ℕ) → ℕ → Bool → Option (List Fields) → List Numbered → Type 0
-MayStand o d failed left given = ∥ IfSome o (λ text. Stands d text failed left given) ∥₁
+abbrev pub MayStand : Option (List ℕ) → Format → Bool → Bool → Option (List Fields) → List Numbered → Type 0
+MayStand o format failed done left given = ∥ IfSome o (λ text. Stands format text failed done left given) ∥₁
 
 may : (o : Option (List ℕ)) (P Q : List ℕ → Type 0) → ((t : List ℕ) → P t → Q t) → ∥ IfSome o P ∥₁ → ∥ IfSome o Q ∥₁
 may o P Q f h = ∥∥₁_map h (if-some o P Q f)
 
-going : (d : ℕ) (text : List ℕ) (b : Bool) (left : Option (List Fields)) (given : List Numbered) → b ≡ false → Stands d text b left given → Stands d text false left given
-going d text b left given e s = rw (← e) s
+pub first-step : (o p : Option (List ℕ)) (left : Option (List Fields)) (format : Format) (given : List Numbered) (f : Fields) → p ≡ o → given ≡ []
+    → TakesFirst (option_map (text_records format.delimiter) o) left f → IsHeader format.form f → MayStand p format false false left given
+first-step o p left format given f a h t i = let s = stands-first o left format f t i in rw (a, h) (∣ s ∣₁)
 
-pub may-fail : (o : Option (List ℕ)) (d : ℕ) (b : Bool) (left left2 : Option (List Fields)) (given given2 : List Numbered) → given2 ≡ given → MayStand o d b left given → MayStand o d true left2 given2
-may-fail o d b left left2 given given2 e s = rw e (may o _ _ (λ t x. stands-failed d t b left left2 given x) s)
+module _ (o : Option (List ℕ)) (format : Format) (failed done : Bool) (left : Option (List Fields)) (given : List Numbered)
+    (stands : MayStand o format failed done left given) where
+  pub may-first : ∥ IfSome o (λ text. HasFirstEntries format text given) ∥₁
+  may-first = may o _ _ (λ t x. first-given format t failed done left given x) stands
 
-pub may-end : (o : Option (List ℕ)) (d : ℕ) (b : Bool) (left : Option (List Fields)) (given : List Numbered) → b ≡ false → MayStand o d b left given → IfSome left (λ rows. rows ≡ []) → MayStand o d b (Some []) given
-may-end o d b left given e s h = rw e (may o _ _ (λ t x. stands-end d t left given (going d t b left given e x) h) s)
+  pub may-fail : (left2 : Option (List Fields)) (given2 : List Numbered) → given2 ≡ given → MayStand o format true done left2 given2
+  may-fail left2 given2 e = rw e (may o _ _ (λ t x. stands-failed format t failed done left left2 given x) stands)
 
-pub may-more : (o : Option (List ℕ)) (d : ℕ) (b : Bool) (left left2 : Option (List Fields)) (given given2 : List Numbered) (f : Fields) (x : Entry) → b ≡ false → MayStand o d b left given → TakesFirst left left2 f
-    → length given < record_limit → given2 ≡ given ++ entry_seen x ∷ [] → entry_number x ≡ length given + 1 → body_seen (entry_body x) ≡ body_of f → MayStand o d b left2 given2
-may-more o d b left left2 given given2 f x e s t h g n y =
-    rw (e, g) (may o _ _ (λ text z. stands-more d text left left2 given f (entry_seen x) (going d text b left given e z) t h (entry-is x (length given) f n y)) s)
+  pub may-ended : done ≡ true → ∥ IfSome o (λ text. HasEntries format text given) ∥₁
+  may-ended e = may o _ _ (λ t x. x.ended e) stands
 
-pub may-first : (o : Option (List ℕ)) (d : ℕ) (b : Bool) (left : Option (List Fields)) (given : List Numbered) → MayStand o d b left given → ∥ IfSome o (λ text. HasFirstEntries d text given) ∥₁
-may-first o d b left given s = may o _ _ (λ t x. first-given d t b left given x) s
+  module _ (goes : failed ≡ false) (before : done ≡ false) (count : ℕ) (counted : count ≡ length given) where
+    pub may-more : (left2 : Option (List Fields)) (given2 : List Numbered) (x : Entry) → Gives format.form count left left2 x → count < record_limit
+        → given2 ≡ given ++ entry_seen x ∷ [] → MayStand o format failed done left2 given2
+    may-more left2 given2 x g h e =
+        let number : entry_number x ≡ length given + 1 = rw (← counted) g.number in
+        rw (goes, before, e)
+        (may o _ _
+        (λ t s. stands-more format t left left2 given g.fields (entry_seen x) (going format t failed done left given goes before s) g.first g.no_seal
+        (rw (← counted) h) (entry-is format.form x (length given) g.fields number g.body)) stands)
 
-pub may-all : (o : Option (List ℕ)) (d : ℕ) (b : Bool) (left : Option (List Fields)) (given : List Numbered) → b ≡ false → left ≡ Some [] → MayStand o d b left given → length given ≤ record_limit
-    → ∥ IfSome o (λ text. HasEntries d text given) ∥₁
-may-all o d b left given e l s h = may o _ _ (λ t x. all-given d t given (rw (← l) (going d t b left given e x)) h) s
+    module _ (few : length given ≤ record_limit) where
+      pub may-all : IfSome left (EndsAt format.form count) → ∥ IfSome o (λ text. HasEntries format text given) ∥₁
+      may-all e = may o _ _ (λ t s. all-given format t left given (going format t failed done left given goes before s) (rw (← counted) e) few) stands
 
-pub may-many : (o : Option (List ℕ)) (d : ℕ) (b : Bool) (left : Option (List Fields)) (given : List Numbered) → b ≡ false → MayStand o d b left given → IfSome left (λ rows. 0 < length rows)
-    → length given ≡ record_limit → ∥ IfSome o (λ text. HasTooMany d text) ∥₁
-may-many o d b left given e s some h = may o _ _ (λ t x. too-many d t left given (going d t b left given e x) some h) s
+      pub may-end : (left2 : Option (List Fields)) → IfSome left (EndsAt format.form count) → MayStand o format failed true left2 given
+      may-end left2 e = rw goes (may o _ _ (λ t s. stands-end format t left left2 given (going format t failed done left given goes before s) (rw (← counted) e) few) stands)
 
-pub first-step : (o p : Option (List ℕ)) (y : Option (List Fields)) (d e : ℕ) (given : List Numbered) (f : Fields) → p ≡ o → e ≡ d → given ≡ [] → TakesFirst (option_map (text_records d) o) y f → IsHeader f → MayStand p e false y given
-first-step o p y d e given f a b h t i = let s = stands-first o y d f t i in rw (a, b, h) (∣ s ∣₁)
+      pub may-lack : IfSome left (LacksSeal format.form count) → ∥ IfSome o (λ text. IsNotSealed format text) ∥₁
+      may-lack e = may o _ _ (λ t s. not-sealed format t left given (going format t failed done left given goes before s) (rw (← counted) e) few) stands
+
+    pub may-many : IfSome left (HasEntry format.form) → count ≡ record_limit → ∥ IfSome o (λ text. HasTooMany format text) ∥₁
+    may-many e full = may o _ _ (λ t s. too-many format t left given (going format t failed done left given goes before s) e (rw (← counted) full)) stands

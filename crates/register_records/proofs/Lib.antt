@@ -1,4 +1,5 @@
 pub mod FieldFacts
+pub mod SealFacts
 pub mod HeaderFacts
 pub mod RecordsLeft
 pub mod EntrySteps
@@ -8,3 +9,4 @@ pub mod OutcomeFacts
 pub mod Progress
 pub mod OneTable
 pub mod ReadBack
+pub mod NoLoss

@@ -26,6 +26,7 @@ use Rattle.register_records.specs.Tables.{entry_fields, row_fields, weekday_at}
 use Rattle.date_texts.specs.Refusals.{refusal_number}
 use Rattle.date_texts.specs.declared.calendar.Target.{Target}
 use Rattle.date_texts.specs.declared.refusal.Refusal.{Refusal}
+use Rattle.register_records.specs.declared.setups.Form.{Form}
 
 -- the bytes of some fields, and of one more
 abbrev pub body : ℕ → List (List ℕ) → List ℕ
@@ -115,17 +116,17 @@ pub two-more : (fields : List (List ℕ)) (x y a b : List ℕ) → x ≡ a → y
 two-more fields x y a b p q = rw (p, q, append_assoc fields (a ∷ []) (b ∷ [])) (sym (append-nil (fields ++ (a ∷ b ∷ []))))
 
 -- the fields of a row, from the first to the last
-joined : (first : List (List ℕ)) (a b last : List ℕ) (rest : List (List ℕ)) → ((first ++ (a ∷ b ∷ [])) ++ rest) ++ last ∷ [] ≡ first ++ ((a ∷ b ∷ rest) ++ last ∷ [])
+pub joined : (first : List (List ℕ)) (a b last : List ℕ) (rest : List (List ℕ)) → ((first ++ (a ∷ b ∷ [])) ++ rest) ++ last ∷ [] ≡ first ++ ((a ∷ b ∷ rest) ++ last ∷ [])
 joined first a b last rest = simp append_assoc refl
 
 -- the fields of an accepted row, and of a refused one
-pub accepted-fields : (targets : List Target) (row : TableRow) (n : ℤ) → row.outcome ≡ Ok n
-    → ((entry_fields row ++ (signed_decimal n ∷ weekday_name (weekday_at (weekday_number n)) ∷ [])) ++ row.cells) ++ [] ∷ [] ≡ row_fields targets row
-accepted-fields targets row n e = joined (entry_fields row) _ _ [] row.cells ∙ rw e refl
+pub accepted-fields : (form : Form) (targets : List Target) (row : TableRow) (n : ℤ) → row.outcome ≡ Ok n
+    → ((entry_fields form row ++ (signed_decimal n ∷ weekday_name (weekday_at (weekday_number n)) ∷ [])) ++ row.cells) ++ [] ∷ [] ≡ row_fields form targets row
+accepted-fields form targets row n e = joined (entry_fields form row) _ _ [] row.cells ∙ rw e refl
 
-pub refused-fields : (targets : List Target) (row : TableRow) (r : Refusal) (last : List ℕ) → row.outcome ≡ Err r → last ≡ decimal (refusal_number r)
-    → ((entry_fields row ++ ([] ∷ [] ∷ [])) ++ map (λ (t : Target). []) targets) ++ last ∷ [] ≡ row_fields targets row
-refused-fields targets row r last e z = joined (entry_fields row) [] [] last (map (λ (t : Target). []) targets) ∙ rw (e, z) refl
+pub refused-fields : (form : Form) (targets : List Target) (row : TableRow) (r : Refusal) (last : List ℕ) → row.outcome ≡ Err r → last ≡ decimal (refusal_number r)
+    → ((entry_fields form row ++ ([] ∷ [] ∷ [])) ++ map (λ (t : Target). []) targets) ++ last ∷ [] ≡ row_fields form targets row
+refused-fields form targets row r last e z = joined (entry_fields form row) [] [] last (map (λ (t : Target). []) targets) ∙ rw (e, z) refl
 
 -- one more of the empty fields that stand for the cells of a refused row
 pub one-empty : {X : Type 0} (first : List (List ℕ)) (xs : List X) (i : ℕ) → i < length xs

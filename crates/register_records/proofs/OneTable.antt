@@ -5,7 +5,7 @@ use Rattle.day_numbers.specs.Days.{IsDayNumber}
 use Rattle.date_texts.specs.Calendars.{calendar_name}
 use Rattle.date_texts.specs.Dates.{IsDateOfCalendar, day_number_of_date}
 use Rattle.date_texts.specs.DateText.{IsDateText}
-use Rattle.register_records.specs.Entries.{HasEntries, Numbered, Texts, entries_of}
+use Rattle.register_records.specs.Entries.{Format, HasEntries, Numbered, Texts, entries_of}
 use Rattle.register_records.specs.Laws.{OneTable}
 use Rattle.date_texts.specs.Names.{IsNamed}
 use Rattle.register_records.specs.Outcomes.{AreCells, AreCellsOn, AreRowsOf, IsOutcome, IsRowOf, Says, TableRow, accepted, no_date_text, no_such_date, out_of_range, refused, unknown_calendar}
@@ -121,12 +121,12 @@ module _ (one-calendar : OneCalendar) (one_date_text : OneDateText) (one_cell : 
       let rest = one-rows targets entries rows more a.1 b.1 in
       cc
 
-  one-list : (d : ℕ) (text : List ℕ) (entries others : List Numbered) → HasEntries d text entries → HasEntries d text others → entries ≡ others
-  one-list d text entries others (records, (header, is, ok), few, made) (records2, (header2, is2, ok2), few2, made2) =
+  one-list : (format : Format) (text : List ℕ) (entries others : List Numbered) → HasEntries format text entries → HasEntries format text others → entries ≡ others
+  one-list format text entries others (records, (header, is, ok), all, made) (records2, (header2, is2, ok2), all2, made2) =
       let same : records ≡ records2 = cc in
-      made ∙ (ap entries_of same ∙ sym made2)
+      made ∙ (ap (entries_of format.form) same ∙ sym made2)
 
   pub one-table : OneTable
   one-table layout text entries others rows more h k a b =
-      let same = one-list layout.delimiter text entries others h k in
+      let same = one-list layout.format text entries others h k in
       (same, one-rows layout.targets others rows more (rw same at a) b)

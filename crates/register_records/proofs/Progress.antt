@@ -9,7 +9,7 @@ use Rattle.std.proofs.lemmas.List.{append-nil, length-append}
 use Rattle.date_texts.specs.declared.calendar.Target.{Target}
 use Rattle.date_texts.specs.declared.refusal.Refusal.{Refusal}
 use Rattle.register_records.specs.Causes.{entry_fault_cause, row_fault_cause}
-use Rattle.register_records.specs.Entries.{AreNumberedFrom, HasEntries, HasFirstEntries, HasTooMany, Numbered}
+use Rattle.register_records.specs.Entries.{AreNumberedFrom, Format, HasEntries, HasFirstEntries, Numbered}
 use Rattle.register_records.specs.Laws.{TablesGrow}
 use Rattle.register_records.specs.Outcomes.{AreRowsOf, IsRowOf, TableRow}
 use Rattle.register_records.specs.Sources.{ArePartOfTable, Gains, IfBroken, IsFrontOfTable, IsTableOf, IsWholeTable}
@@ -100,8 +100,8 @@ step layout old now now2 entries journal x row p n r a =
     }
 
 -- what the last call leaves
-pub finish : (layout : Layout) (e : ℕ) (text told old now : Option (List ℕ)) (entries given : List Numbered) (journal : List Note) (count refused : ℕ)
-    → Progress layout old now entries journal → told ≡ text → e ≡ layout.delimiter → given ≡ entries
+pub finish : (layout : Layout) (e : Format) (text told old now : Option (List ℕ)) (entries given : List Numbered) (journal : List Note) (count refused : ℕ)
+    → Progress layout old now entries journal → told ≡ text → e ≡ layout.format → given ≡ entries
     → ∥ IfSome told (λ t. HasEntries e t given) ∥₁ → count ≡ length entries → refused ≡ length journal
     → ∥ Gains old now (IsWholeTable layout text count refused journal) ∥₁
 finish layout e text told old now entries given journal count refused p a b f h c r =
@@ -120,8 +120,8 @@ finish layout e text told old now entries given journal count refused p a b f h 
     ))
 
 -- what was written is a front of the table
-pub first_rows : (layout : Layout) (e : ℕ) (text told old now : Option (List ℕ)) (entries : List Numbered) (journal : List Note) (count : ℕ)
-    → Progress layout old now entries journal → told ≡ text → e ≡ layout.delimiter
+pub first_rows : (layout : Layout) (e : Format) (text told old now : Option (List ℕ)) (entries : List Numbered) (journal : List Note) (count : ℕ)
+    → Progress layout old now entries journal → told ≡ text → e ≡ layout.format
     → ∥ IfSome told (λ t. HasFirstEntries e t entries) ∥₁ → count ≡ length entries
     → ∥ Gains old now (IsFrontOfTable layout text count) ∥₁
 first_rows layout e text told old now entries journal count p a b h c =
@@ -135,8 +135,8 @@ part_of : (layout : Layout) (text old now : Option (List ℕ)) (count : ℕ)
     → Gains old now (IsFrontOfTable layout text count) → Gains old now (ArePartOfTable layout text)
 part_of layout text old now count (bytes, front, gained) = (bytes, inr (count, front), gained)
 
-pub front : (layout : Layout) (e : ℕ) (text told old now : Option (List ℕ)) (entries : List Numbered) (journal : List Note)
-    → Progress layout old now entries journal → told ≡ text → e ≡ layout.delimiter
+pub front : (layout : Layout) (e : Format) (text told old now : Option (List ℕ)) (entries : List Numbered) (journal : List Note)
+    → Progress layout old now entries journal → told ≡ text → e ≡ layout.format
     → ∥ IfSome told (λ t. HasFirstEntries e t entries) ∥₁ → ∥ Gains old now (ArePartOfTable layout text) ∥₁
 front layout e text told old now entries journal p a b h =
     ∥∥₁_map (first_rows layout e text told old now entries journal (length entries) p a b h refl)
@@ -158,11 +158,20 @@ only_too_many entry.OutOfMemory c a k = cc
 only_too_many entry.ReadFault c a k = cc
 only_too_many entry.BadHeader c a k = cc
 only_too_many entry.TooManyRecords c a k = refl
+only_too_many entry.NotSealed c a k = cc
 only_too_many entry.Failed c a k = cc
 
-pub too_many_told : (d e : ℕ) (text told : Option (List ℕ)) → told ≡ text → e ≡ d → ∥ IfSome told (λ t. HasTooMany e t) ∥₁
-    → ∥ IfSome text (λ t. HasTooMany d t) ∥₁
-too_many_told d e text told a b h = rw (a, b) at h
+pub only_not_sealed : (f : EntryFault) (c : Cause) → entry_fault_cause f ≡ Some c → c ≡ cause.NotSealed → f ≡ entry.NotSealed
+only_not_sealed entry.OutOfMemory c a k = cc
+only_not_sealed entry.ReadFault c a k = cc
+only_not_sealed entry.BadHeader c a k = cc
+only_not_sealed entry.TooManyRecords c a k = cc
+only_not_sealed entry.NotSealed c a k = refl
+only_not_sealed entry.Failed c a k = cc
+
+pub told_of : (Is : Format → List ℕ → Type 0) (d e : Format) (text told : Option (List ℕ)) → told ≡ text → e ≡ d → ∥ IfSome told (λ t. Is e t) ∥₁
+    → ∥ IfSome text (λ t. Is d t) ∥₁
+told_of Is d e text told a b h = rw (a, b) at h
 
 -- a fault of a row that is no fault of the output
 pub only_memory : (f : RowFault) (c : Cause) → row_fault_cause f ≡ Some c → (c ≡ cause.SinkFault → ⊥) → f ≡ row.OutOfMemory

@@ -13,6 +13,7 @@ entry_fault_cause entry.OutOfMemory = Some cause.NoMemory
 entry_fault_cause entry.ReadFault = Some cause.ReadFault
 entry_fault_cause entry.BadHeader = Some cause.BadHeader
 entry_fault_cause entry.TooManyRecords = Some cause.TooManyRecords
+entry_fault_cause entry.NotSealed = Some cause.NotSealed
 entry_fault_cause entry.Failed = None
 
 -- of a fault of writing rows

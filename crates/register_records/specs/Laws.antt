@@ -1,5 +1,5 @@
 -- Laws of tables.
-use Rattle.std.specs.Prelude.{◌≡◌, ◌≢◌, ◌++◌, ◌∷◌, ℕ, ℤ, List, [], Ok}
+use Rattle.std.specs.Prelude.{◌≡◌, ◌≢◌, ◌<◌, ◌++◌, ◌∷◌, ℕ, ℤ, List, [], length, Ok}
 use Rattle.day_numbers.specs.Days.{IsDayNumber}
 use Rattle.date_texts.specs.Calendars.{calendar_name}
 use Rattle.date_texts.specs.Cells.{IsCell}
@@ -7,16 +7,17 @@ use Rattle.date_texts.specs.Names.{IsNamed}
 use Rattle.date_texts.specs.declared.calendar.Calendar.{Calendar}
 use Rattle.date_texts.specs.declared.calendar.Target.{Target}
 use Rattle.date_texts.specs.declared.calendar.Target.TheVariants.{Date as DateTarget}
-use Rattle.register_records.specs.Entries.{HasEntries, Numbered, Texts}
+use Rattle.register_records.specs.Entries.{AreAccepted, Fields, HasEntries, Numbered, Texts}
 use Rattle.register_records.specs.Outcomes.{AreRowsOf, IsOutcome, IsRowOf, TableRow}
 use Rattle.register_records.specs.Tables.{Layout, journal_of, notes_of, row_line, table_text}
+use Rattle.register_records.specs.declared.setups.Form.TheVariants.{Sealed}
 
 -- a text has one list of entries at most, and entries have one list of rows at most: so a text has one
 -- table and one journal at most
 abbrev pub OneTable : Type 0
 OneTable =
     (layout : Layout) (text : List ℕ) (entries others : List Numbered) (rows more : List TableRow)
-    → HasEntries layout.delimiter text entries → HasEntries layout.delimiter text others
+    → HasEntries layout.format text entries → HasEntries layout.format text others
     → AreRowsOf layout.targets entries rows → AreRowsOf layout.targets others more → (entries ≡ others) × (rows ≡ more)
 
 -- there is a row for these targets that is the row of the entry
@@ -35,3 +36,15 @@ TablesGrow =
     (layout : Layout) (rows : List TableRow) (row : TableRow)
     → (table_text layout (rows ++ row ∷ []) ≡ table_text layout rows ++ row_line layout row)
     × (journal_of (rows ++ row ∷ []) ≡ journal_of rows ++ notes_of row.number row.outcome)
+
+-- these are left where some of the records, wherever they stand, or none are taken out
+pub data AreLeftOf : List Fields → List Fields → Type 0 where
+  none : AreLeftOf [] []
+  kept : {r : Fields} {records left : List Fields} → AreLeftOf records left → AreLeftOf (r ∷ records) (r ∷ left)
+  taken : {r : Fields} {records left : List Fields} → AreLeftOf records left → AreLeftOf (r ∷ records) left
+
+-- where one or more of the records of an accepted sealed text are taken out, what is left is not accepted
+abbrev pub NoLossIsSealed : Type 0
+NoLossIsSealed =
+    (records left : List Fields) → AreAccepted Sealed records → AreLeftOf records left → length left < length records
+    → ¬ (AreAccepted Sealed left)

@@ -1,4 +1,6 @@
+pub mod Records
 pub mod Headers
+pub mod Seals
 pub mod Entries
 pub mod Outcomes
 pub mod CellTexts

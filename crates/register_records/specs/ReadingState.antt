@@ -1,12 +1,18 @@
 -- What an `EntryReader` knows of what it has yet to give. No public contract cites this file.
-use Rattle.std.specs.Prelude.{◌≡◌, ◌+◌, ◌++◌, Bool, false, ℕ, List, [], length, Option, Some, option_map, if◌then◌else◌}
-use Rattle.csv.specs.Reading.{reader_config, reader_state, records_from, source_of}
+use Rattle.std.specs.Prelude.{◌≡◌, ◌⊎◌, ◌<◌, ◌+◌, ◌++◌, ⊤, Bool, true, false, ℕ, List, [], ◌∷◌, length, Option, Some, None, IfSome, IsTrue, option_map}
+use Rattle.csv.specs.Reading.{Ready, is_flexible, reader_config, reader_state, reader_trim, records_from, source_of}
 use Rattle.csv.specs.declared.error.ErrorKind.{ErrorKind}
 use Rattle.csv.specs.declared.error.ErrorKind.TheVariants as kind
 use Rattle.csv.specs.declared.parser.Config.{Config}
 use Rattle.csv.specs.declared.parser.State.{State}
 use Rattle.csv.specs.declared.reader.Reader.{Reader}
-use Rattle.register_records.specs.Entries.{Fields, HasRecords, Numbered, entries_from, entries_of}
+use Rattle.csv.specs.declared.reader.Trim.TheVariants as trim
+use Rattle.register_records.specs.Entries.{Fields, Format, HasEntries, HasRecords, Numbered, body_of, body_seen, entries_from}
+use Rattle.register_records.specs.Seals.{Agrees, entry_records, is_seal}
+use Rattle.register_records.specs.Seen.{entry_body, entry_number}
+use Rattle.register_records.specs.declared.entries.Entry.{Entry}
+use Rattle.register_records.specs.declared.setups.Form.{Form}
+use Rattle.register_records.specs.declared.setups.Form.TheVariants.{Plain, Sealed}
 use Rattle.register_records.specs.declared.reading.EntryFault.{EntryFault}
 use Rattle.register_records.specs.declared.reading.EntryFault.TheVariants as fault
 
@@ -19,6 +25,14 @@ fault_of (kind.Serialize why) = fault.OutOfMemory
 fault_of (kind.Deserialize pos err) = fault.OutOfMemory
 fault_of kind.OutOfMemory = fault.OutOfMemory
 
+-- a fault of the reader underneath or of memory
+abbrev pub IsOfReading : EntryFault → Type 0
+IsOfReading f = (f ≡ fault.ReadFault) ⊎ (f ≡ fault.OutOfMemory)
+
+-- csv's reader changes no field, takes a record of any number of fields, and takes none for a header row
+abbrev pub IsLive : {R : Type 0} → Reader R → Type 0
+IsLive s = (reader_trim s ≡ trim.None) × Ready s × (is_flexible s ≡ true)
+
 -- every record of a text, from a state between two records
 abbrev pub all_after : Config → State → List ℕ → List Fields
 all_after config state bytes = records_from config (length bytes + 1) state bytes
@@ -27,15 +41,53 @@ all_after config state bytes = records_from config (length bytes + 1) state byte
 abbrev pub records_left : {R : Type 0} → (R → Option (List ℕ)) → Reader R → Option (List Fields)
 records_left remaining s = option_map (all_after (reader_config s) (reader_state s)) (source_of remaining s)
 
--- the same: none after the end
-abbrev pub left_until_end : {R : Type 0} → (R → Option (List ℕ)) → Bool → Reader R → Option (List Fields)
-left_until_end remaining done s = if done then Some [] else records_left remaining s
+-- this record was the first of those that were left
+abbrev pub TakesFirst : Option (List Fields) → Option (List Fields) → Fields → Type 0
+TakesFirst None after r = ⊤
+TakesFirst (Some rows) None r = ⊥
+TakesFirst (Some rows) (Some rest) r = rows ≡ r ∷ rest
 
--- these entries are the first of a text, and while no call failed, those of the records that are left follow them
-pub record Stands (delimiter : ℕ) (text : List ℕ) (failed : Bool) (left : Option (List Fields)) (given : List Numbered) : Type 0 where
-  pub records : List Fields
+-- a read: the record was the first of those that were left, or none was left
+abbrev pub Reads : Option (List Fields) → Option (List Fields) → Bool → Fields → Type 0
+Reads left after true r = TakesFirst left after r
+Reads left after false r = IfSome left (λ rows. rows ≡ [])
+
+-- the record is no seal, where the form has seals
+abbrev pub IsNoSeal : Form → Fields → Type 0
+IsNoSeal Plain r = ⊤
+IsNoSeal Sealed r = is_seal r ≡ false
+
+-- the entry after so many is that of the first record that was left
+pub record Gives (form : Form) (count : ℕ) (left after : Option (List Fields)) (e : Entry) : Type 0 where
+  pub fields : Fields
+  pub first : TakesFirst left after fields
+  pub no_seal : IsNoSeal form fields
+  pub number : entry_number e ≡ count + 1
+  pub body : body_seen (entry_body e) ≡ body_of form fields
+
+-- what is left ends a text of so many entries, as the form wants it
+abbrev pub EndsAt : Form → ℕ → List Fields → Type 0
+EndsAt Plain count rows = rows ≡ []
+EndsAt Sealed count rows = (seal : Fields) × (rows ≡ seal ∷ []) × IsTrue (is_seal seal) × Agrees seal count
+
+-- what is left has no entry, but does not end the text
+abbrev pub LacksSeal : Form → ℕ → List Fields → Type 0
+LacksSeal form count rows = (entry_records form rows ≡ []) × ¬ (EndsAt form count rows)
+
+-- what is left has an entry
+abbrev pub HasEntry : Form → List Fields → Type 0
+HasEntry form rows = 0 < length (entry_records form rows)
+
+-- these entries are the first of a text. While no call failed and none answered that no entry is left, those of the records
+-- that are left follow them; once a call answered so, they are all
+pub record Stands (format : Format) (text : List ℕ) (failed done : Bool) (left : Option (List Fields)) (given : List Numbered)
+    : Type 0 where
+  pub past : List Fields
   pub rest : List Fields
-  pub accepted : HasRecords delimiter text records
-  pub counted : length records ≡ length given + length rest
-  pub followed : entries_of records ≡ given ++ entries_from (length given) rest
-  pub left_is : failed ≡ false → left ≡ Some rest
+  pub accepted : HasRecords format text (past ++ rest)
+  pub counted : length past ≡ length given
+  pub no_seal : (more : List Fields) → entry_records format.form (past ++ more) ≡ past ++ entry_records format.form more
+  pub followed : (more : List Fields)
+      → entries_from format.form 0 (past ++ more) ≡ given ++ entries_from format.form (length given) more
+  pub left_is : failed ≡ false → done ≡ false → left ≡ Some rest
+  pub ended : done ≡ true → HasEntries format text given

@@ -5,10 +5,16 @@ use Rattle.day_numbers.specs.declared.day.Day.{Day}
 use Rattle.date_texts.specs.declared.refusal.Refusal.{Refusal}
 use Rattle.register_records.specs.CellTexts.{cell_bytes}
 use Rattle.register_records.specs.Entries.{Numbered, body_seen}
+use Rattle.register_records.specs.Records.{Texts}
+use Rattle.register_records.specs.declared.entries.Columns.{Columns}
 use Rattle.register_records.specs.Outcomes.{TableRow}
 use Rattle.register_records.specs.declared.cell_texts.CellText.{CellText}
 use Rattle.register_records.specs.declared.entries.Body.{Body}
 use Rattle.register_records.specs.declared.entries.Entry.{Entry}
+
+-- the texts in the columns of a record
+abbrev pub columns_seen : Columns → Texts
+columns_seen c = record { id = c.id.now; calendar = c.calendar.now; date = c.date.now; note = c.note.now }
 
 abbrev pub entry_number : Entry → ℕ
 entry_number e = e.number

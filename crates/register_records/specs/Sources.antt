@@ -30,7 +30,7 @@ pub record IsWholeTable (layout : Layout) (text : Option (List ℕ)) (count refu
   pub counted : count ≡ length rows
   pub noted : journal ≡ journal_of rows
   pub refused_counted : refused ≡ length journal
-  pub accepted : IfSome text (λ t. HasEntries layout.delimiter t entries)
+  pub accepted : IfSome text (λ t. HasEntries layout.format t entries)
 
 -- these bytes are a front of the table: its heading and its first rows, so many
 pub record IsFrontOfTable (layout : Layout) (text : Option (List ℕ)) (count : ℕ) (bytes : List ℕ) : Type 0 where
@@ -38,7 +38,7 @@ pub record IsFrontOfTable (layout : Layout) (text : Option (List ℕ)) (count : 
   pub rows : List TableRow
   pub table : IsTableOf layout entries rows bytes
   pub counted : count ≡ length rows
-  pub first : IfSome text (λ t. HasFirstEntries layout.delimiter t entries)
+  pub first : IfSome text (λ t. HasFirstEntries layout.format t entries)
 
 -- these bytes are none, or a front of the table
 abbrev pub ArePartOfTable : Layout → Option (List ℕ) → List ℕ → Type 0
@@ -66,3 +66,4 @@ cause_number cause.SinkFault = 4
 cause_number cause.ReadFault = 5
 cause_number cause.BadHeader = 6
 cause_number cause.TooManyRecords = 7
+cause_number cause.NotSealed = 8

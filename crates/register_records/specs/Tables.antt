@@ -5,29 +5,39 @@ use Rattle.day_numbers.specs.Days.{weekday_name, weekday_number}
 use Rattle.day_numbers.specs.declared.day.Weekday.{Weekday}
 use Rattle.day_numbers.specs.declared.day.Weekday.TheVariants.{Sunday, Monday, Tuesday, Wednesday, Thursday, Friday, Saturday}
 use Rattle.date_texts.specs.Calendars.{target_name}
-use Rattle.register_records.specs.Entries.{Texts}
+use Rattle.register_records.specs.Entries.{Format, Texts}
 use Rattle.register_records.specs.Lines.{line_text}
 use Rattle.register_records.specs.Outcomes.{TableRow}
 use Rattle.date_texts.specs.Refusals.{refusal_number}
 use Rattle.date_texts.specs.declared.calendar.Target.{Target}
 use Rattle.date_texts.specs.declared.refusal.Refusal.{Refusal}
+use Rattle.register_records.specs.declared.setups.Form.{Form}
+use Rattle.register_records.specs.declared.setups.Form.TheVariants.{Plain, Sealed}
 use Rattle.register_records.specs.declared.sources.Note.{Note}
 
--- what a table is asked for: the byte between two fields, and the targets of its columns
+-- what a table is asked for: how it is written, and the targets of its columns
 pub record Layout : Type 0 where
-  pub delimiter : ℕ
+  pub format : Format
   pub targets : List Target
 
--- the heading: six columns, one for each target, and the refusal
-abbrev pub heading : List Target → List (List ℕ)
-heading targets =
-    (codes "row" ∷ codes "id" ∷ codes "calendar" ∷ codes "date" ∷ codes "rd" ∷ codes "weekday" ∷ map target_name targets)
-    ++ (codes "refusal" ∷ [])
+-- what stands in the column of notes; only a sealed form has one
+abbrev pub note_fields : Form → List ℕ → List (List ℕ)
+note_fields Plain note = []
+note_fields Sealed note = note ∷ []
 
--- the three texts as they stand in the record; a record that was refused before has none
-abbrev pub text_fields : Result Texts Refusal → List (List ℕ)
-text_fields (Ok t) = t.id ∷ t.calendar ∷ t.date ∷ []
-text_fields (Err r) = [] ∷ [] ∷ [] ∷ []
+-- the columns that a table has of the records
+abbrev pub entry_heading : Form → List (List ℕ)
+entry_heading form = codes "row" ∷ codes "id" ∷ codes "calendar" ∷ codes "date" ∷ note_fields form (codes "note")
+
+-- the heading: those columns, the day number and the weekday, one for each target, and the refusal
+abbrev pub heading : Form → List Target → List (List ℕ)
+heading form targets =
+    entry_heading form ++ ((codes "rd" ∷ codes "weekday" ∷ map target_name targets) ++ (codes "refusal" ∷ []))
+
+-- the texts as they stand in the record; a record that was refused before has empty ones
+abbrev pub text_fields : Form → Result Texts Refusal → List (List ℕ)
+text_fields form (Ok t) = t.id ∷ t.calendar ∷ t.date ∷ note_fields form t.note
+text_fields form (Err r) = [] ∷ [] ∷ [] ∷ note_fields form []
 
 -- the weekday with this number, from 0 for Sunday
 abbrev pub weekday_at : ℕ → Weekday
@@ -40,21 +50,21 @@ abbrev pub outcome_fields : List Target → Result ℤ Refusal → List (List �
 outcome_fields targets (Ok n) cells = (signed_decimal n ∷ weekday_name (weekday_at (weekday_number n)) ∷ cells) ++ ([] ∷ [])
 outcome_fields targets (Err r) cells = ([] ∷ [] ∷ map (λ _. []) targets) ++ (decimal (refusal_number r) ∷ [])
 
--- the fields that a row has of its entry: its number and the three texts
-abbrev pub entry_fields : TableRow → List (List ℕ)
-entry_fields row = decimal row.number ∷ text_fields row.body
+-- the fields that a row has of its entry: its number and the texts
+abbrev pub entry_fields : Form → TableRow → List (List ℕ)
+entry_fields form row = decimal row.number ∷ text_fields form row.body
 
 -- the fields of a row
-abbrev pub row_fields : List Target → TableRow → List (List ℕ)
-row_fields targets row = entry_fields row ++ outcome_fields targets row.outcome row.cells
+abbrev pub row_fields : Form → List Target → TableRow → List (List ℕ)
+row_fields form targets row = entry_fields form row ++ outcome_fields targets row.outcome row.cells
 
 -- the line of the heading
 abbrev pub heading_line : Layout → List ℕ
-heading_line layout = line_text layout.delimiter (heading layout.targets)
+heading_line layout = line_text layout.format.delimiter (heading layout.format.form layout.targets)
 
 -- the line of a row
 abbrev pub row_line : Layout → TableRow → List ℕ
-row_line layout row = line_text layout.delimiter (row_fields layout.targets row)
+row_line layout row = line_text layout.format.delimiter (row_fields layout.format.form layout.targets row)
 
 -- the lines of rows, in order
 unfoldable pub lines_text : Layout → List TableRow → List ℕ

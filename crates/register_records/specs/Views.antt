@@ -5,7 +5,7 @@ use Rattle.csv.specs.Reading.{has_failed}
 use Rattle.day_numbers.specs.declared.day.Day.{Day}
 use Rattle.date_texts.specs.declared.calendar.Target.{Target}
 use Rattle.date_texts.specs.declared.refusal.Refusal.{Refusal}
-use Rattle.register_records.specs.Entries.{Numbered}
+use Rattle.register_records.specs.Entries.{Format, Numbered, format_by}
 use Rattle.register_records.specs.LineViews.{line_delimiter}
 use Rattle.register_records.specs.Outcomes.{TableRow}
 use Rattle.register_records.specs.Seen.{entries_shown, row_made}
@@ -38,9 +38,13 @@ stripes_of setup = setup.stripes
 abbrev pub form_of : Setup → Form
 form_of setup = setup.form
 
+-- how registers and tables are written
+abbrev pub format_of : Setup → Format
+format_of setup = format_by setup.delimiter setup.form
+
 -- what it asks of a table
 abbrev pub layout_of : Setup → Layout
-layout_of setup = record { delimiter = setup.delimiter; targets = items_in setup.targets }
+layout_of setup = record { format = format_of setup; targets = items_in setup.targets }
 
 abbrev pub setup_fault_number : SetupFault → ℕ
 setup_fault_number TargetTwice = 1
@@ -48,12 +52,12 @@ setup_fault_number RingSize = 2
 setup_fault_number Delimiter = 3
 setup_fault_number Stripes = 4
 
--- the text that a reader was opened on, where the reader underneath told its bytes; and its delimiter
+-- the text that a reader was opened on, where the reader underneath told its bytes; and how it reads that text
 abbrev pub text_of : {R : Type 0} {g : Ghosts R} → EntryReader R g → Option (List ℕ)
 text_of {g} r = g.remaining r.source.value
 
-abbrev pub reads_by : {R : Type 0} {g : Ghosts R} → EntryReader R g → ℕ
-reads_by r = r.delimiter
+abbrev pub reads_by : {R : Type 0} {g : Ghosts R} → EntryReader R g → Format
+reads_by r = format_by r.delimiter r.form
 
 -- the entries that it gave so far, in order
 abbrev pub given_of : {R : Type 0} {g : Ghosts R} → EntryReader R g → List Numbered
@@ -86,9 +90,9 @@ row_cells row = items_in row.cells
 abbrev pub row_seen : Row → TableRow
 row_seen row = row_made row.entry row.outcome (items_in row.cells)
 
--- a writer's delimiter, and the bytes of the lines that wait to be sent
-abbrev pub writes_by : RowWriter → ℕ
-writes_by w = line_delimiter w.line
+-- how a writer writes lines, and the bytes of the lines that wait to be sent
+abbrev pub writes_by : RowWriter → Format
+writes_by w = format_by (line_delimiter w.line) w.form
 
 abbrev pub pending_of : RowWriter → List ℕ
 pending_of w = w.pending.items
@@ -102,7 +106,7 @@ has_sunk w = w.sunk
 
 -- the line that it makes of a row
 abbrev pub line_of : RowWriter → Row → List ℕ
-line_of w row = row_line (record { delimiter = writes_by w; targets = row_targets row }) (row_seen row)
+line_of w row = row_line (record { format = writes_by w; targets = row_targets row }) (row_seen row)
 
 -- the writer under a plain output, its mark, and whether it has failed
 abbrev pub inner_of : {W : Type 0} → PlainOutput W → W

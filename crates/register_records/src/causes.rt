@@ -17,6 +17,7 @@ impl EntryFault {
             EntryFault::ReadFault => Some(Cause::ReadFault),
             EntryFault::BadHeader => Some(Cause::BadHeader),
             EntryFault::TooManyRecords => Some(Cause::TooManyRecords),
+            EntryFault::NotSealed => Some(Cause::NotSealed),
             EntryFault::Failed => None,
         }
     }

@@ -1,42 +1,48 @@
 //! An entry, and how it is made of a record.
 
-ghost use Rattle.std.specs.Prelude.{◌≡◌, ◌≢◌, ◌≤◌, ◌↔◌, [], ◌∷◌, length, MatchOption, IfSome, IsSome, IsTrue, Some, None};
+ghost use Rattle.std.specs.Prelude.{◌≡◌, ◌≤◌, ◌↔◌, length, MatchOption, IfSome, IsSome, IsTrue, Some, None};
 ghost use Rattle.std.specs.Prelude.{true, false};
 ghost use Rattle.std.specs.Str.{is_utf8};
 ghost use Rattle.csv.specs.Records.{fields_of};
 ghost use Rattle.register_records.specs.Entries.{body_of, body_seen, may_hold, record_limit};
+ghost use Rattle.register_records.specs.Records.{texts_of};
+ghost use Rattle.register_records.specs.Seen.{columns_seen};
 
+use crate::setups::Form;
 use arrayvec::ArrayString;
 use csv::ByteRecord;
 use date_texts::Refusal;
 use std::str;
 
-/// The most bytes of an id, of a calendar's name and of a date, before anything is trimmed.
+/// The most bytes of an id, of a calendar's name, of a date and of a note, before anything is trimmed.
 pub const ID_LIMIT: usize = 40;
 
 pub const CALENDAR_LIMIT: usize = 16;
 
 pub const DATE_LIMIT: usize = 32;
 
-/// The most records of a source after its header.
+pub const NOTE_LIMIT: usize = 80;
+
+/// The most entries of a source.
 pub const MAX_RECORDS: u32 = 1_000_000;
 
 /// What a record holds.
 #[derive(Clone, Copy)]
 pub enum Body {
-    /// The three fields of the record, as they stand in it.
+    /// The fields of the record, as they stand in it. The note is empty where the form has none.
     Fields {
         id: ArrayString<ID_LIMIT>,
         calendar: ArrayString<CALENDAR_LIMIT>,
         date: ArrayString<DATE_LIMIT>,
+        note: ArrayString<NOTE_LIMIT>,
     },
     /// The record was refused before a calendar was looked for: `FieldCount` where it has not three
-    /// fields, else `FieldTooLong` where one is over its limit in bytes, else `NotUtf8` where one is
-    /// no UTF-8.
+    /// fields, or four under a sealed form, else `FieldTooLong` where one is over its limit in bytes,
+    /// else `NotUtf8` where one is no UTF-8.
     Refused(Refusal),
 }
 
-/// A record of a register with its number, from 1 to 1,000,000; the header has none.
+/// A record of a register with its number, from 1 to 1,000,000; the header and the seal have none.
 #[derive(Clone, Copy)]
 pub struct Entry {
     number: u32,
@@ -63,14 +69,14 @@ impl Entry {
     }
 
     /// The entry of a record.
-    pub(crate) fn read(number: u32, row: &ByteRecord) -> Entry
+    pub(crate) fn read(number: u32, row: &ByteRecord, form: Form) -> Entry
         requires from_one { 1 ≤ number }
         requires limited { number ≤ record_limit }
-        ensures { (entry_number result ≡ number) × (body_seen (entry_body result) ≡ body_of (fields_of row.now)) }
+        ensures { (entry_number result ≡ number) × (body_seen (entry_body result) ≡ body_of form (fields_of row.now)) }
     {
         Entry {
             number,
-            body: read_body(row),
+            body: read_body(row, form),
         }
     }
 
@@ -105,17 +111,32 @@ fn is_allowed(body: &Body) -> bool
     }
 }
 
-/// The fields of a record of three.
-pub(crate) fn three(row: &ByteRecord) -> Option<(&[u8], &[u8], &[u8])>
-    ensures { MatchOption result (length (fields_of row.now) ≢ 3) (λ t. fields_of row.now ≡ t.0.now ∷ t.1.now ∷ t.2.now ∷ []) }
+/// The fields of a record by their columns. The note is empty where the form has none.
+pub(crate) struct Columns<'a> {
+    pub(crate) id: &'a [u8],
+    pub(crate) calendar: &'a [u8],
+    pub(crate) date: &'a [u8],
+    pub(crate) note: &'a [u8],
+}
+
+/// The columns of a record that has as many fields as the form wants.
+pub(crate) fn columns_in(row: &ByteRecord, form: Form) -> Option<Columns<'_>>
+    ensures { MatchOption result (texts_of form (fields_of row.now) ≡ None)
+        (λ c. texts_of form (fields_of row.now) ≡ Some (columns_seen c)) }
 {
-    let a = row.get(0)?;
-    let b = row.get(1)?;
-    let c = row.get(2)?;
-    if row.len() != 3 {
+    if row.len() != form.field_count() {
         return None;
     }
-    Some((a, b, c))
+    let note = match form {
+        Form::Plain => b"".as_slice(),
+        Form::Sealed => row.get(3)?,
+    };
+    Some(Columns {
+        id: row.get(0)?,
+        calendar: row.get(1)?,
+        date: row.get(2)?,
+        note,
+    })
 }
 
 /// A text of a fixed capacity.
@@ -139,22 +160,40 @@ fn text(field: &[u8]) -> Option<&str>
 }
 
 /// The body of a record.
-fn read_body(row: &ByteRecord) -> Body
-    ensures value { body_seen result ≡ body_of (fields_of row.now) }
+fn read_body(row: &ByteRecord, form: Form) -> Body
+    ensures value { body_seen result ≡ body_of form (fields_of row.now) }
     ensures held { IsTrue (may_hold result) }
 {
-    let Some((id, calendar, date)) = three(row) else {
+    let Some(
+        Columns {
+            id,
+            calendar,
+            date,
+            note,
+        },
+    ) = columns_in(row, form)
+    else {
         return Body::Refused(Refusal::FieldCount);
     };
-    if id.len() > ID_LIMIT || calendar.len() > CALENDAR_LIMIT || date.len() > DATE_LIMIT {
+    if id.len() > ID_LIMIT
+        || calendar.len() > CALENDAR_LIMIT
+        || date.len() > DATE_LIMIT
+        || note.len() > NOTE_LIMIT
+    {
         return Body::Refused(Refusal::FieldTooLong);
     }
-    let (Some(id), Some(calendar), Some(date)) = (text(id), text(calendar), text(date)) else {
+    let (Some(id), Some(calendar), Some(date), Some(note)) = (
+        text(id),
+        text(calendar),
+        text(date),
+        text(note),
+    ) else {
         return Body::Refused(Refusal::NotUtf8);
     };
     Body::Fields {
         id: copied(id),
         calendar: copied(calendar),
         date: copied(date),
+        note: copied(note),
     }
 }

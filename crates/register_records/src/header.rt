@@ -7,7 +7,8 @@ ghost use Rattle.csv.specs.Records.{fields_of};
 ghost use Rattle.register_records.specs.Headers.{IsHeader};
 ghost use Rattle.date_texts.specs.Names.{IsNamed};
 
-use crate::entries::three;
+use crate::entries::{Columns, columns_in};
+use crate::setups::Form;
 use csv::ByteRecord;
 use date_texts::trimmed;
 
@@ -30,11 +31,22 @@ fn without_mark(field: &[u8]) -> &[u8]
 }
 
 ///! Whether a record is the header.
-pub(crate) fn is_header(row: &ByteRecord) -> bool
-    ensures { IsTrue result ↔ IsHeader (fields_of row.now) }
+pub(crate) fn is_header(row: &ByteRecord, form: Form) -> bool
+    ensures { IsTrue result ↔ IsHeader form (fields_of row.now) }
 {
-    let Some((a, b, c)) = three(row) else {
+    let Some(
+        Columns {
+            id,
+            calendar,
+            date,
+            note,
+        },
+    ) = columns_in(row, form)
+    else {
         return false;
     };
-    is_named(without_mark(a), b"id") && is_named(b, b"calendar") && is_named(c, b"date")
+    is_named(without_mark(id), b"id")
+        && is_named(calendar, b"calendar")
+        && is_named(date, b"date")
+        && (form == Form::Plain || is_named(note, b"note"))
 }

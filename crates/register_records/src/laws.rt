@@ -1,6 +1,6 @@
 //! Laws of tables.
 
-ghost use Rattle.register_records.specs.Laws.{CellsReadBack, HasRow, OneTable, TablesGrow};
+ghost use Rattle.register_records.specs.Laws.{CellsReadBack, HasRow, NoLossIsSealed, OneTable, TablesGrow};
 ghost use Rattle.register_records.specs.Seen.{entry_seen};
 ghost use Rattle.register_records.specs.Views.{targets_of};
 
@@ -38,4 +38,10 @@ pub fn cells_read_back()
 /// gains its note.
 pub fn tables_grow()
     ensures { TablesGrow }
+{}
+
+/// Where one or more of the records of an accepted sealed text are taken out, wherever they stand, what is
+/// left is not accepted.
+pub fn no_loss_is_sealed()
+    ensures { NoLossIsSealed }
 {}

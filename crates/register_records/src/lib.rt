@@ -3,6 +3,9 @@
 //! A source is a CSV text: a header `id,calendar,date` and records of three fields. Its table has one
 //! row for each record, in order: the day, its weekday and its dates in the calendars asked, or the
 //! number of the refusal. [`convert_source`] makes the table of a text on the caller's thread.
+//!
+//! A sealed register has a fourth column, `note`, and after its entries a seal: the record `END` and the
+//! number of the entries. A text without it was cut off.
 #![tactic(auto)]
 
 mod causes;
@@ -17,6 +20,7 @@ mod reading;
 mod retrying;
 mod row_lines;
 mod rows;
+mod seals;
 mod setups;
 mod short_lists;
 mod sources;

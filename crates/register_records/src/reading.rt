@@ -2,17 +2,19 @@
 
 ghost use Rattle.std.specs.Prelude.{◌≡◌, ◌+◌, ◌++◌, ◌∷◌, [], ◌≤◌, true, false, List, length, OnOk, OnErr, IfOk, IfErr};
 ghost use Rattle.std.specs.Prelude.{IfSome, IsErr, Ok, Err, Option, None};
-ghost use Rattle.csv.specs.Reading.{error_kind, has_failed, is_flexible, reader_trim, stops_reader, took_first};
-ghost use Rattle.csv.specs.declared.reader.Trim.TheVariants as trim;
-ghost use Rattle.register_records.specs.Entries.{HasFirstEntries, record_limit};
-ghost use Rattle.register_records.specs.ReadingState.{Stands, fault_of, left_until_end};
+ghost use Rattle.csv.specs.Reading.{error_kind, has_failed, stops_reader};
+ghost use Rattle.csv.specs.Records.{fields_of};
+ghost use Rattle.register_records.specs.Entries.{HasFirstEntries, format_by, record_limit};
+ghost use Rattle.register_records.specs.ReadingState.{EndsAt, Gives, HasEntry, IsLive, IsOfReading, LacksSeal, Reads, Stands};
+ghost use Rattle.register_records.specs.ReadingState.{fault_of, records_left};
 ghost use Rattle.register_records.specs.Retrying.{inner_remaining};
 ghost use Rattle.register_records.specs.Seen.{entries_shown};
 
 use crate::entries::{Entry, MAX_RECORDS};
 use crate::header::is_header;
 use crate::retrying::Retrying;
-use crate::setups::Setup;
+use crate::seals::{agrees, is_seal};
+use crate::setups::{Form, Setup};
 use csv::{ByteRecord, Error, ErrorKind, Reader, ReaderBuilder};
 use std::alloc::Global;
 use std::io::Read;
@@ -29,11 +31,14 @@ pub enum EntryFault {
     #[error("a fault of reading")]
     ReadFault,
     /// The first record is not the header, or there is no record.
-    #[error("the first record is not the header id, calendar, date")]
+    #[error("the first record is not the header")]
     BadHeader,
-    /// A record 1,000,001 stands in the text.
+    /// The text has more than 1,000,000 entries.
     #[error("more than 1,000,000 records")]
     TooManyRecords,
+    /// A sealed text does not end with a seal that agrees.
+    #[error("no seal at the end that agrees with the number of records")]
+    NotSealed,
     /// An earlier call answered a fault.
     #[error("an earlier call failed")]
     Failed,
@@ -45,19 +50,19 @@ pub struct EntryReader<R: Read> {
     records: Reader<Retrying<R>>,
     record: ByteRecord,
     delimiter: u8,
+    form: Form,
     // The reader as it was given, and the entries given: what they hold has no bytes.
     source: Snapshot<R>,
     given: Vec<Snapshot<Entry>>,
     done: bool,
     failed: bool,
-    ghost live: { failed ≡ false → (reader_trim records ≡ trim.None) × (took_first records ≡ true)
-        × (is_flexible records ≡ true) },
+    ghost live: { failed ≡ false → IsLive records },
     ghost few: { length given.items ≤ record_limit },
-    ghost stands: { ∥ IfSome (R.remaining source.value) (λ text. Stands delimiter text failed
-        (left_until_end (inner_remaining R.remaining) done records) (entries_shown given.items)) ∥₁ },
+    ghost stands: { ∥ IfSome (R.remaining source.value) (λ text. Stands (format_by delimiter form) text failed done
+        (records_left (inner_remaining R.remaining) records) (entries_shown given.items)) ∥₁ },
     // Where the reader tells its bytes, the entries given are the first of the text.
     pub ghost first: { ∥ IfSome (R.remaining source.value)
-        (λ text. HasFirstEntries delimiter text (entries_shown given.items)) ∥₁ },
+        (λ text. HasFirstEntries (format_by delimiter form) text (entries_shown given.items)) ∥₁ },
 }
 
 /// What an error of csv's reader that stops it means.
@@ -72,14 +77,75 @@ fn fault(e: &Error) -> EntryFault
     }
 }
 
-impl<R: Read + Drop> EntryReader<R> {
-    ghost use Rattle.register_records.specs.Entries.{HasEntries, HasNoHeader, HasTooMany};
-    ghost use Rattle.register_records.specs.Seen.{entry_number, entry_seen};
-    ghost use Rattle.register_records.specs.Views.{delimiter_of, given_of, is_stopped, reading_ended, reading_failed, reads_by, text_of};
+/// Reads the next record, and says whether there was one.
+fn read_record<R: Read>(
+    records: &mut Reader<Retrying<R>>,
+    record: &mut ByteRecord,
+) -> Result<bool, EntryFault>
+    requires { IsLive records.old }
+    ensures reads { IfOk result (λ found. Reads (records_left (inner_remaining R.remaining) records.old)
+        (records_left (inner_remaining R.remaining) records.new) found (fields_of record.new)) }
+    ensures live { OnOk result (IsLive records.new) }
+    ensures fault { IfErr result IsOfReading }
+    ensures read_fault { IfErr result (λ e. e ≡ EntryFault.ReadFault → has_failed records.new ≡ true) }
+{
+    match records.read_byte_record(record) {
+        Ok(found) => Ok(found),
+        Err(e) => Err(fault(&e)),
+    }
+}
 
-    /// Reads the header of a text: a first record of three fields that are `id`, `calendar` and `date`
-    /// once spaces and tabs round them are taken off, in either letter case. A byte order mark before
-    /// the first name is passed over.
+/// Reads the entry after so many, or finds that the records end as the form wants it. After a seal it asks for one more
+/// record.
+#[inline(always)]
+fn read_entry<R: Read>(
+    records: &mut Reader<Retrying<R>>,
+    record: &mut ByteRecord,
+    form: Form,
+    count: u32,
+) -> Result<Option<Entry>, EntryFault>
+    requires live { IsLive records.old }
+    requires few { count ≤ record_limit }
+    ensures live { OnOk result (IsLive records.new) }
+    ensures gives { IfOk result (λ o. IfSome o (Gives form count (records_left (inner_remaining R.remaining) records.old)
+        (records_left (inner_remaining R.remaining) records.new))) }
+    ensures ends { result ≡ Ok None
+        → IfSome (records_left (inner_remaining R.remaining) records.old) (EndsAt form count) }
+    ensures many { IfErr result (λ e. e ≡ EntryFault.TooManyRecords → (count ≡ record_limit)
+        × IfSome (records_left (inner_remaining R.remaining) records.old) (HasEntry form)) }
+    ensures not_sealed { IfErr result (λ e. e ≡ EntryFault.NotSealed → (form ≡ Form.Sealed)
+        × IfSome (records_left (inner_remaining R.remaining) records.old) (LacksSeal form count)) }
+    ensures told { IfErr result (λ e. (e ≡ EntryFault.BadHeader → ⊥) × (e ≡ EntryFault.Failed → ⊥)) }
+    ensures read_fault { IfErr result (λ e. e ≡ EntryFault.ReadFault → has_failed records.new ≡ true) }
+{
+    if !read_record(records, record)? {
+        return match form {
+            Form::Plain => Ok(None),
+            Form::Sealed => Err(EntryFault::NotSealed),
+        };
+    }
+    if form == Form::Sealed && is_seal(record) {
+        let agrees = agrees(record, count);
+        let more = read_record(records, record)?;
+        if more || !agrees {
+            return Err(EntryFault::NotSealed);
+        }
+        return Ok(None);
+    }
+    if count >= MAX_RECORDS {
+        return Err(EntryFault::TooManyRecords);
+    }
+    Ok(Some(Entry::read(count + 1, record, form)))
+}
+
+impl<R: Read + Drop> EntryReader<R> {
+    ghost use Rattle.register_records.specs.Entries.{HasEntries, HasNoHeader, HasTooMany, IsNotSealed};
+    ghost use Rattle.register_records.specs.Seen.{entry_number, entry_seen};
+    ghost use Rattle.register_records.specs.Views.{format_of, given_of, is_stopped, reading_ended, reading_failed, reads_by, text_of};
+
+    /// Reads the header of a text: a first record of three fields that are `id`, `calendar` and `date`,
+    /// and under a sealed form a fourth that is `note`, once spaces and tabs round them are taken off, in
+    /// either letter case. A byte order mark before the first name is passed over.
     ///
     /// # Errors
     ///
@@ -87,12 +153,13 @@ impl<R: Read + Drop> EntryReader<R> {
     /// answered a fault, and `OutOfMemory`. The reader is dropped with each.
     pub fn open(alloc: Global, reader: R, setup: &Setup) -> Result<EntryReader<R>, EntryFault>
         // It reads the text that the reader tells, and no entry was given yet.
-        ensures text { IfOk result (λ r. (text_of r ≡ R.remaining reader) × (reads_by r ≡ delimiter_of setup.now)) }
+        ensures text { IfOk result (λ r. (text_of r ≡ R.remaining reader) × (reads_by r ≡ format_of setup.now)) }
         ensures none_given { IfOk result (λ r. given_of r ≡ []) }
         ensures goes { IfOk result (λ r. (reading_failed r ≡ false) × (reading_ended r ≡ false)) }
         ensures bad { IfErr result (λ e. e ≡ EntryFault.BadHeader
-            → IfSome (R.remaining reader) (λ text. HasNoHeader (delimiter_of setup.now) text)) }
-        ensures told { IfErr result (λ e. (e ≡ EntryFault.TooManyRecords → ⊥) × (e ≡ EntryFault.Failed → ⊥)) }
+            → IfSome (R.remaining reader) (λ text. HasNoHeader (format_of setup.now) text)) }
+        ensures told { IfErr result (λ e. (e ≡ EntryFault.TooManyRecords → ⊥) × (e ≡ EntryFault.Failed → ⊥)
+            × (e ≡ EntryFault.NotSealed → ⊥)) }
     {
         let source = Snapshot::of(&reader);
         let patient = Retrying::new(reader);
@@ -102,18 +169,14 @@ impl<R: Read + Drop> EntryReader<R> {
             .flexible(true)
             .from_reader(alloc, patient);
         let mut record = ByteRecord::new(alloc);
-        match records.read_byte_record(&mut record) {
-            Ok(found) => {
-                if !found || !is_header(&record) {
-                    return Err(EntryFault::BadHeader);
-                }
-            }
-            Err(e) => return Err(fault(&e)),
+        if !read_record(&mut records, &mut record)? || !is_header(&record, setup.form()) {
+            return Err(EntryFault::BadHeader);
         }
         Ok(EntryReader {
             records,
             record,
             delimiter: setup.delimiter(),
+            form: setup.form(),
             source,
             given: Vec::new(alloc),
             done: false,
@@ -126,8 +189,9 @@ impl<R: Read + Drop> EntryReader<R> {
     /// # Errors
     ///
     /// `ReadFault` where the reader answered a fault, `TooManyRecords` where 1,000,000 entries were
-    /// given and one more record stands in the text, and `OutOfMemory`. After a fault each further
-    /// call answers `Failed` and reads nothing.
+    /// given and one more record that is no seal stands in the text, `NotSealed` where a sealed text
+    /// ends without a seal, its first seal does not agree with the number of entries, or a record
+    /// follows it, and `OutOfMemory`. After a fault each further call answers `Failed` and reads nothing.
     pub fn next(&mut self) -> Result<Option<Entry>, EntryFault>
         // The entries given gain the entry, and nothing else.
         ensures gives { IfOk result (λ o. IfSome o (λ e. given_of self.new ≡ given_of self.old ++ entry_seen e ∷ [])) }
@@ -141,6 +205,8 @@ impl<R: Read + Drop> EntryReader<R> {
             → ∥ IfSome (text_of self.new) (λ text. HasEntries (reads_by self.new) text (given_of self.new)) ∥₁ }
         ensures many { IfErr result (λ e. e ≡ EntryFault.TooManyRecords → (length (given_of self.old) ≡ record_limit)
             × ∥ IfSome (text_of self.new) (λ text. HasTooMany (reads_by self.new) text) ∥₁) }
+        ensures not_sealed { IfErr result (λ e. e ≡ EntryFault.NotSealed → ((reads_by self.new).form ≡ Form.Sealed)
+            × ∥ IfSome (text_of self.new) (λ text. IsNotSealed (reads_by self.new) text) ∥₁) }
 
         // None comes only at the end, gives nothing, and comes again.
         ensures ends { result ≡ Ok None → (reading_ended self.new ≡ true) × (given_of self.new ≡ given_of self.old) }
@@ -159,27 +225,23 @@ impl<R: Read + Drop> EntryReader<R> {
         if self.done {
             return Ok(None);
         }
-        match self.records.read_byte_record(&mut self.record) {
-            Ok(found) => {
-                if !found {
-                    self.done = true;
-                    return Ok(None);
+        let count = self.given.len() as u32;
+        match read_entry(&mut self.records, &mut self.record, self.form, count) {
+            Ok(Some(entry)) => {
+                if self.given.push(Snapshot::of(&entry)).is_err() {
+                    self.failed = true;
+                    return Err(EntryFault::OutOfMemory);
                 }
+                Ok(Some(entry))
             }
-            Err(e) => {
+            Ok(None) => {
+                self.done = true;
+                Ok(None)
+            }
+            Err(fault) => {
                 self.failed = true;
-                return Err(fault(&e));
+                Err(fault)
             }
         }
-        if self.given.len() >= MAX_RECORDS as usize {
-            self.failed = true;
-            return Err(EntryFault::TooManyRecords);
-        }
-        let entry = Entry::read(self.given.len() as u32 + 1, &self.record);
-        if self.given.push(Snapshot::of(&entry)).is_err() {
-            self.failed = true;
-            return Err(EntryFault::OutOfMemory);
-        }
-        Ok(Some(entry))
     }
 }

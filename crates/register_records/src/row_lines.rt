@@ -1,40 +1,74 @@
 //! The lines of a table: its heading and its rows.
 
-ghost use Rattle.std.specs.Prelude.{◌≡◌, ◌∷◌, [], OnOk, Ok, Err};
+ghost use Rattle.std.specs.Prelude.{◌≡◌, ◌≤◌, ◌∷◌, ◌++◌, [], ℕ, List, length, OnOk, Ok, Err};
 ghost use Rattle.register_records.specs.Entries.{body_seen};
 ghost use Rattle.register_records.specs.LineViews.{Begins, line_bytes, line_delimiter};
 ghost use Rattle.register_records.specs.Lines.{line_text};
-ghost use Rattle.register_records.specs.Tables.{entry_fields, heading, row_fields, text_fields};
+ghost use Rattle.register_records.specs.Tables.{entry_fields, entry_heading, heading, note_fields, row_fields};
+ghost use Rattle.register_records.specs.Tables.{text_fields};
 ghost use Rattle.register_records.specs.Views.{row_outcome, row_seen, row_targets};
 
 use crate::entries::Body;
 use crate::lines::Line;
 use crate::rows::Row;
+use crate::setups::Form;
 use date_texts::laws::cells_are_plain;
 use date_texts::{Refusal, Target};
 use day_numbers::Day;
 use itoa::Buffer;
 use std::alloc::AllocError;
 
-/// The three texts of a body, which are empty where it was refused.
-fn texts_of(body: &Body) -> (&str, &str, &str)
-    ensures { text_fields (body_seen body.now) ≡ result.0.now ∷ result.1.now ∷ result.2.now ∷ [] }
+/// The texts of a body, which are empty where it was refused.
+fn texts_of(body: &Body) -> (&str, &str, &str, &str)
+    ensures { (form : Form) → text_fields form (body_seen body.now)
+        ≡ result.0.now ∷ result.1.now ∷ result.2.now ∷ note_fields form result.3.now }
 {
     match body {
-        Body::Fields { id, calendar, date } => (id.as_str(), calendar.as_str(), date.as_str()),
-        Body::Refused(_) => ("", "", ""),
+        Body::Fields {
+            id,
+            calendar,
+            date,
+            note,
+        } => (id.as_str(), calendar.as_str(), date.as_str(), note.as_str()),
+        Body::Refused(_) => ("", "", "", ""),
     }
 }
 
-/// Makes the line of the heading.
-pub(crate) fn make_heading(line: &mut Line, targets: &[Target]) -> Result<(), AllocError>
-    ensures value { OnOk result (line_bytes line.new ≡ line_text (line_delimiter line.old) (heading targets.now)) }
+/// Appends what stands in the column of notes, where the form has one.
+fn push_note(line: &mut Line, form: Form, note: &[u8]) -> Result<(), AllocError>
+    ensures value { (fields : List (List ℕ)) → 1 ≤ length fields → Begins fields line.old
+        → OnOk result (Begins (fields ++ note_fields form note.now) line.new) }
+    ensures kept { line_delimiter line.new ≡ line_delimiter line.old }
+{
+    match form {
+        Form::Plain => Ok(()),
+        Form::Sealed => line.push(note),
+    }
+}
+
+/// Begins the line of the heading: the columns of the entries.
+fn begin_heading(line: &mut Line, form: Form) -> Result<(), AllocError>
+    ensures value { OnOk result (Begins (entry_heading form) line.new) }
     ensures kept { line_delimiter line.new ≡ line_delimiter line.old }
 {
     line.start(b"row")?;
     line.push_plain(b"id")?;
     line.push_plain(b"calendar")?;
     line.push_plain(b"date")?;
+    push_note(line, form, b"note")?;
+    Ok(())
+}
+
+/// Makes the line of the heading.
+pub(crate) fn make_heading(
+    line: &mut Line,
+    form: Form,
+    targets: &[Target],
+) -> Result<(), AllocError>
+    ensures value { OnOk result (line_bytes line.new ≡ line_text (line_delimiter line.old) (heading form targets.now)) }
+    ensures kept { line_delimiter line.new ≡ line_delimiter line.old }
+{
+    begin_heading(line, form)?;
     line.push_plain(b"rd")?;
     line.push_plain(b"weekday")?;
     'targets: for target in targets {
@@ -45,27 +79,28 @@ pub(crate) fn make_heading(line: &mut Line, targets: &[Target]) -> Result<(), Al
     Ok(())
 }
 
-/// Begins the line of a row: its number and its three texts.
-fn begin_line(line: &mut Line, row: &Row) -> Result<(), AllocError>
-    ensures value { OnOk result (Begins (entry_fields (row_seen row.now)) line.new) }
+/// Begins the line of a row: its number and its texts.
+fn begin_line(line: &mut Line, form: Form, row: &Row) -> Result<(), AllocError>
+    ensures value { OnOk result (Begins (entry_fields form (row_seen row.now)) line.new) }
     ensures kept { line_delimiter line.new ≡ line_delimiter line.old }
 {
-    let (id, calendar, date) = texts_of(row.entry().body());
+    let (id, calendar, date, note) = texts_of(row.entry().body());
     line.start(Buffer::new().format(row.entry().number()).as_bytes())?;
     line.push(id.as_bytes())?;
     line.push(calendar.as_bytes())?;
     line.push(date.as_bytes())?;
+    push_note(line, form, note.as_bytes())?;
     Ok(())
 }
 
 /// Makes the line of an accepted row.
-fn make_accepted(line: &mut Line, row: &Row, day: Day) -> Result<(), AllocError>
+fn make_accepted(line: &mut Line, form: Form, row: &Row, day: Day) -> Result<(), AllocError>
     requires { row_outcome row.now ≡ Ok day }
     ensures value { OnOk result (line_bytes line.new ≡ line_text (line_delimiter line.old)
-        (row_fields (row_targets row.now) (row_seen row.now))) }
+        (row_fields form (row_targets row.now) (row_seen row.now))) }
     ensures kept { line_delimiter line.new ≡ line_delimiter line.old }
 {
-    begin_line(line, row)?;
+    begin_line(line, form, row)?;
     line.push_plain(Buffer::new().format(day.number()).as_bytes())?;
     line.push_plain(day.weekday().name().as_bytes())?;
     cells_are_plain();
@@ -78,13 +113,13 @@ fn make_accepted(line: &mut Line, row: &Row, day: Day) -> Result<(), AllocError>
 }
 
 /// Makes the line of a refused row.
-fn make_refused(line: &mut Line, row: &Row, refusal: Refusal) -> Result<(), AllocError>
+fn make_refused(line: &mut Line, form: Form, row: &Row, refusal: Refusal) -> Result<(), AllocError>
     requires { row_outcome row.now ≡ Err refusal }
     ensures value { OnOk result (line_bytes line.new ≡ line_text (line_delimiter line.old)
-        (row_fields (row_targets row.now) (row_seen row.now))) }
+        (row_fields form (row_targets row.now) (row_seen row.now))) }
     ensures kept { line_delimiter line.new ≡ line_delimiter line.old }
 {
-    begin_line(line, row)?;
+    begin_line(line, form, row)?;
     line.push_plain(b"")?;
     line.push_plain(b"")?;
     'targets: for _target in row.targets() {
@@ -96,13 +131,13 @@ fn make_refused(line: &mut Line, row: &Row, refusal: Refusal) -> Result<(), Allo
 }
 
 /// Makes the line of a row.
-pub(crate) fn make_row(line: &mut Line, row: &Row) -> Result<(), AllocError>
+pub(crate) fn make_row(line: &mut Line, form: Form, row: &Row) -> Result<(), AllocError>
     ensures value { OnOk result (line_bytes line.new ≡ line_text (line_delimiter line.old)
-        (row_fields (row_targets row.now) (row_seen row.now))) }
+        (row_fields form (row_targets row.now) (row_seen row.now))) }
     ensures kept { line_delimiter line.new ≡ line_delimiter line.old }
 {
     match row.outcome() {
-        Ok(day) => make_accepted(line, row, day),
-        Err(refusal) => make_refused(line, row, refusal),
+        Ok(day) => make_accepted(line, form, row, day),
+        Err(refusal) => make_refused(line, form, row, refusal),
     }
 }

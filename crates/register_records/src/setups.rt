@@ -25,6 +25,20 @@ pub enum Form {
     Sealed,
 }
 
+impl Form {
+    ghost use Rattle.register_records.specs.Records.{field_count};
+
+    /// How many fields the header and each entry have.
+    pub(crate) fn field_count(self) -> usize
+        ensures { result ≡ field_count self }
+    {
+        match self {
+            Form::Plain => 3,
+            Form::Sealed => 4,
+        }
+    }
+}
+
 /// The targets, the size of the rings, the delimiter, the number of converters and the form of a conversion.
 #[derive(Clone, Copy)]
 pub struct Setup {

@@ -1,10 +1,10 @@
 //! One source, on the caller's thread.
 
 ghost use Rattle.std.specs.Prelude.{◌≡◌, ◌≢◌, ◌≤◌, true, length, IfSome, IsSome, IsSomeAnd, OnOk, ◌++◌};
-ghost use Rattle.register_records.specs.Entries.{HasNoHeader, HasTooMany, record_limit};
+ghost use Rattle.register_records.specs.Entries.{HasNoHeader, HasTooMany, IsNotSealed, record_limit};
 ghost use Rattle.register_records.specs.Sources.{ArePartOfTable, Gains, IfBroken, IfWhole, IsFrontOfTable, IsWholeTable, cause_number, is_whole_end};
 ghost use Rattle.register_records.specs.Tables.{notes_of};
-ghost use Rattle.register_records.specs.Views.{delimiter_of, layout_of, row_seen};
+ghost use Rattle.register_records.specs.Views.{form_of, format_of, layout_of, row_seen};
 
 use crate::converting::convert;
 use crate::outputs::Output;
@@ -38,8 +38,10 @@ pub enum Cause {
     ReadFault,
     /// The first record is not the header, or there is none.
     BadHeader,
-    /// A record 1,000,001 stands in the text.
+    /// The text has more than 1,000,000 entries.
     TooManyRecords,
+    /// A sealed text does not end with a seal that agrees.
+    NotSealed,
 }
 
 /// How a source ended.
@@ -59,7 +61,7 @@ pub enum SourceEnd {
 }
 
 impl Cause {
-    /// The number of the cause, from 1 for `NoMemory` to 7 for `TooManyRecords`.
+    /// The number of the cause, from 1 for `NoMemory` to 8 for `NotSealed`.
     pub fn number(&self) -> u8
         ensures { result ≡ cause_number self.now }
     {
@@ -71,6 +73,7 @@ impl Cause {
             Cause::ReadFault => 5,
             Cause::BadHeader => 6,
             Cause::TooManyRecords => 7,
+            Cause::NotSealed => 8,
         }
     }
 }
@@ -129,12 +132,15 @@ pub fn convert_source<R: Read + Drop, W: Output>(
     ensures part { IfBroken result (λ c. (c ≢ Cause.SinkFault) → ∥ Gains (W.contents output.old) (W.contents output.new)
         (ArePartOfTable (layout_of setup.now) (R.remaining reader)) ∥₁) }
     ensures bad_header { IfBroken result (λ c. c ≡ Cause.BadHeader → (output.new ≡ output.old)
-        × IfSome (R.remaining reader) (λ text. HasNoHeader (delimiter_of setup.now) text)) }
+        × IfSome (R.remaining reader) (λ text. HasNoHeader (format_of setup.now) text)) }
     // All the records that a source may have were converted, and there are more.
     ensures too_many { IfBroken result (λ c. c ≡ Cause.TooManyRecords
-        → ∥ IfSome (R.remaining reader) (λ text. HasTooMany (delimiter_of setup.now) text) ∥₁
+        → ∥ IfSome (R.remaining reader) (λ text. HasTooMany (format_of setup.now) text) ∥₁
         × ∥ Gains (W.contents output.old) (W.contents output.new)
         (IsFrontOfTable (layout_of setup.now) (R.remaining reader) record_limit) ∥₁) }
+    // The text is sealed, but its seal is missing or does not agree, or a record follows it.
+    ensures not_sealed { IfBroken result (λ c. c ≡ Cause.NotSealed → (form_of setup.now ≡ Form.Sealed)
+        × ∥ IfSome (R.remaining reader) (λ text. IsNotSealed (format_of setup.now) text) ∥₁) }
     ensures never { IfBroken result (λ c. (c ≢ Cause.NoThread) × (c ≢ Cause.Unconfirmed)) }
 
     // The output has failed exactly where it had failed before or is the cause.

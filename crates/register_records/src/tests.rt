@@ -13,6 +13,8 @@ use std::mem::size_of;
 use std::process::Abort;
 use std::test::Fail;
 
+mod sealed;
+
 const GREGORIAN: Target = Target::Date(Calendar::Gregorian);
 
 const ISO: Target = Target::Date(Calendar::Iso);
@@ -587,6 +589,7 @@ fn entries_and_rows_tell_their_parts(rt: HostRuntime) -> Result<(), Fail> {
         id: ArrayString::new(),
         calendar: ArrayString::from("Julian")?,
         date: ArrayString::from("1582-10-05")?,
+        note: ArrayString::new(),
     };
     let entry = Entry::new(1_000_000, fields).ok_or("no entry")?;
     let row = convert(entry, &setup);
@@ -658,8 +661,8 @@ fn readers_and_writers_fail_from_a_fault_on(rt: HostRuntime) -> Result<(), Fail>
 
 #[test]
 fn rows_are_small(rt: HostRuntime) -> Result<(), Fail> {
-    assert_eq!(rt; size_of::<Entry>(), 128);
-    assert_eq!(rt; size_of::<Row>(), 432);
+    assert_eq!(rt; size_of::<Entry>(), 216);
+    assert_eq!(rt; size_of::<Row>(), 520);
     Ok(())
 }
 
@@ -670,6 +673,7 @@ fn cells_tell_their_texts(rt: HostRuntime) -> Result<(), Fail> {
         id: ArrayString::new(),
         calendar: ArrayString::from("Julian")?,
         date: ArrayString::from("1582-10-05")?,
+        note: ArrayString::new(),
     };
     let row = convert(Entry::new(1, fields).ok_or("no entry")?, &setup);
     let cell = row.cells().first().ok_or("no cell")?;

@@ -7,7 +7,7 @@ use crate::lines::{LINE_ROOM, Line};
 use crate::outputs::{Output, send};
 use crate::row_lines::{make_heading, make_row};
 use crate::rows::Row;
-use crate::setups::Setup;
+use crate::setups::{Form, Setup};
 use std::alloc::Global;
 use thiserror::Error;
 
@@ -33,6 +33,7 @@ const ROOM: usize = 16 * 1024 + LINE_ROOM;
 pub struct RowWriter {
     // The last line, whose memory serves again.
     line: Line,
+    form: Form,
     // The lines that were not sent yet.
     pending: Vec<u8>,
     failed: bool,
@@ -44,7 +45,7 @@ pub struct RowWriter {
 impl RowWriter {
     ghost use Rattle.register_records.specs.LineViews.{line_bytes};
     ghost use Rattle.register_records.specs.Tables.{heading_line};
-    ghost use Rattle.register_records.specs.Views.{delimiter_of, has_sunk, layout_of, line_of, pending_of};
+    ghost use Rattle.register_records.specs.Views.{format_of, has_sunk, layout_of, line_of, pending_of};
     ghost use Rattle.register_records.specs.Views.{writes_by, writing_failed};
 
     /// Writes the heading and flushes it.
@@ -60,7 +61,7 @@ impl RowWriter {
         ensures ok { OnOk result (Appends (W.contents output.old) (W.contents output.new)
             (heading_line (layout_of setup.now))) }
         ensures flushed { OnOk result (W.is_flushed output.new ≡ true) }
-        ensures writer { IfOk result (λ w. (writes_by w ≡ delimiter_of setup.now) × (writing_failed w ≡ false)
+        ensures writer { IfOk result (λ w. (writes_by w ≡ format_of setup.now) × (writing_failed w ≡ false)
             × (pending_of w ≡ [])) }
         ensures goes { OnOk result (W.has_failed output.new ≡ W.has_failed output.old) }
         ensures memory { IfErr result (λ e. e ≡ RowFault.OutOfMemory → output.new ≡ output.old) }
@@ -74,12 +75,13 @@ impl RowWriter {
         ) else {
             return Err(RowFault::OutOfMemory);
         };
-        if make_heading(&mut line, setup.targets()).is_err() {
+        if make_heading(&mut line, setup.form(), setup.targets()).is_err() {
             return Err(RowFault::OutOfMemory);
         }
         match send(output, line.as_slice()) {
             Ok(()) => Ok(RowWriter {
                 line,
+                form: setup.form(),
                 pending,
                 failed: false,
                 sunk: false,
@@ -103,7 +105,7 @@ impl RowWriter {
         if self.failed {
             return Err(RowFault::Failed);
         }
-        if make_row(&mut self.line, row).is_err() {
+        if make_row(&mut self.line, self.form, row).is_err() {
             self.failed = true;
             return Err(RowFault::OutOfMemory);
         }

@@ -4,7 +4,7 @@ use Rattle.register_records.specs.Entries.{body_seen}
 use Rattle.register_records.specs.Seen.{entry_body, entry_number}
 use Rattle.register_records.specs.LineViews.{line_delimiter}
 use Rattle.register_records.specs.Views.{row_entry, row_seen}
-use Rattle.register_records.specs.Tables.{entry_fields, text_fields}
+use Rattle.register_records.specs.Tables.{entry_fields, note_fields, text_fields}
 use Rattle.register_records.proofs.LineFacts.{plain-decimal, same-body}
 use Rattle.register_records.proofs.row_lines.begin_line.Goals as goal
 
@@ -16,13 +16,18 @@ start-requires c =
 pub returns-clause-value : goal.returns-clause-value
 returns-clause-value c =
     let row = c.args.row.now in
+    let form = c.args.form in
     let n = c.as_bytes.result.now in
     let id = c.as_bytes-2.result.now in
     let calendar = c.as_bytes-3.result.now in
     let date = c.as_bytes-4.result.now in
+    let note = c.as_bytes-5.result.now in
     let one = c.in_ok-push.ensures.value (n ∷ []) (omega arith) c.in_ok-start.ensures.value in
     let two = c.in_ok-push-2.ensures.value (n ∷ id ∷ []) (omega arith) one in
     let three = c.in_ok-push-3.ensures.value (n ∷ id ∷ calendar ∷ []) (omega arith) two in
+    let four = c.in_ok-push_note.ensures.value (n ∷ id ∷ calendar ∷ date ∷ []) (omega arith) three in
     let number : n ≡ decimal (entry_number (row_entry row)) = c.as_bytes.ensures.value ∙ c.format.ensures.text ∙ ap decimal (c.number.ensures.value ∙ ap entry_number c.entry-2.ensures) in
-    let texts = sym (ap (λ body. text_fields (body_seen body)) (c.body.ensures.value ∙ ap entry_body c.entry.ensures)) ∙ c.texts_of.ensures in
-    same-body _ (n ∷ id ∷ calendar ∷ date ∷ []) (entry_fields (row_seen row)) _ (cc (number, texts, c.as_bytes-2.ensures.value, c.as_bytes-3.ensures.value, c.as_bytes-4.ensures.value)) three
+    let texts = sym (ap (λ body. text_fields form (body_seen body)) (c.body.ensures.value ∙ ap entry_body c.entry.ensures)) ∙ c.texts_of.ensures form in
+    let noted = ap (note_fields form) c.as_bytes-5.ensures.value in
+    same-body _ (n ∷ id ∷ calendar ∷ date ∷ note_fields form note) (entry_fields form (row_seen row)) _
+    (cc (number, texts, noted, c.as_bytes-2.ensures.value, c.as_bytes-3.ensures.value, c.as_bytes-4.ensures.value)) four

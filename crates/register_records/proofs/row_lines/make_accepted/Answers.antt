@@ -32,7 +32,7 @@ push_cell-requires c =
 
 pub cells-init : goal.cells-init
 cells-init c =
-    let entry = entry_fields (row_seen c.args.row.now) in
+    let entry = entry_fields c.args.form (row_seen c.args.row.now) in
     let day : c.as_bytes.result.now ≡ signed_decimal c.args.day.number = grind (arith, common_steps) in
     let named = c.as_bytes-2.ensures.value ∙ c.name.ensures ∙ weekday-name _ _ c.weekday.ensures in
     let one = c.in_ok-push_plain.ensures.value entry (omega arith) c.in_ok-begin_line.ensures.value in
@@ -42,7 +42,7 @@ cells-init c =
 pub cells-preserved : goal.cells-preserved
 cells-preserved c =
     let inv = c.cells.invariant in
-    let first = entry_fields (row_seen c.args.row.now) ++ (signed_decimal c.args.day.number ∷ weekday_name (weekday_at (weekday_number c.args.day.number)) ∷ []) in
+    let first = entry_fields c.args.form (row_seen c.args.row.now) ++ (signed_decimal c.args.day.number ∷ weekday_name (weekday_at (weekday_number c.args.day.number)) ∷ []) in
     let fields = first ++ map cell_bytes (take c.cells.cell-index (row_cells c.args.row.now)) in
     let here = rw c.cells-cell-items.ensures.value at c.cell-item.is in
     record {
@@ -55,10 +55,10 @@ pub returns-clause-value : goal.returns-clause-value
 returns-clause-value c =
     let inv = c.cells.invariant in
     let row = c.args.row.now in
-    let first = entry_fields (row_seen row) ++ (signed_decimal c.args.day.number ∷ weekday_name (weekday_at (weekday_number c.args.day.number)) ∷ []) in
+    let first = entry_fields c.args.form (row_seen row) ++ (signed_decimal c.args.day.number ∷ weekday_name (weekday_at (weekday_number c.args.day.number)) ∷ []) in
     let cells = λ (items : List CellText). (first ++ map cell_bytes items) ++ [] ∷ [] in
     let all = take_all c.cells.cell-index (row_cells row) (rw (← c.cells-cell-items.ensures.value) c.cells-test.false) in
     let fields = first ++ map cell_bytes (take c.cells.cell-index (row_cells row)) in
     let last = c.in_ok-push_plain-3.ensures.value fields (omega arith) inv.begun in
-    same-line _ _ (fields ++ [] ∷ []) (row_fields (row_targets row) (row_seen row)) _ (c.in_ok-push_plain-3.ensures.kept ∙ inv.kept)
-    (ap cells all ∙ accepted-fields (row_targets row) (row_seen row) c.args.day.number (ap outcome_seen c.requires)) (c.in_ok-end.ensures.value (fields ++ [] ∷ []) (two-fields fields [] (omega arith)) last)
+    same-line _ _ (fields ++ [] ∷ []) (row_fields c.args.form (row_targets row) (row_seen row)) _ (c.in_ok-push_plain-3.ensures.kept ∙ inv.kept)
+    (ap cells all ∙ accepted-fields c.args.form (row_targets row) (row_seen row) c.args.day.number (ap outcome_seen c.requires)) (c.in_ok-end.ensures.value (fields ++ [] ∷ []) (two-fields fields [] (omega arith)) last)

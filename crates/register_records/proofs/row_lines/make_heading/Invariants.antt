@@ -1,11 +1,12 @@
 use Rattle.std.proofs.Common.{◌≡◌, ◌++◌, ◌∷◌, [], codes, map, take}
 use Rattle.date_texts.specs.Calendars.{target_name}
 use Rattle.register_records.specs.LineViews.{Begins, line_delimiter}
+use Rattle.register_records.specs.Tables.{entry_heading}
 use Rattle.register_records.proofs.row_lines.make_heading.Given as goal
 
 abbrev pub invariant-targets : goal.invariant-targets
 invariant-targets l =
     record {
-      begun : Begins ((codes "row" ∷ codes "id" ∷ codes "calendar" ∷ codes "date" ∷ codes "rd" ∷ codes "weekday" ∷ []) ++ map target_name (take l.target-index l.targets)) l.line;
+      begun : Begins ((entry_heading l.fn.form ++ (codes "rd" ∷ codes "weekday" ∷ [])) ++ map target_name (take l.target-index l.targets)) l.line;
       kept : line_delimiter l.line ≡ line_delimiter l.fn.line;
     }

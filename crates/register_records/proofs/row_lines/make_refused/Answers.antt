@@ -11,7 +11,7 @@ use Rattle.register_records.proofs.row_lines.make_refused.Goals as goal
 
 pub targets-init : goal.targets-init
 targets-init c =
-    let entry = entry_fields (row_seen c.args.row.now) in
+    let entry = entry_fields c.args.form (row_seen c.args.row.now) in
     let one = c.in_ok-push_plain.ensures.value entry (omega arith) c.in_ok-begin_line.ensures.value in
     let two = c.in_ok-push_plain-2.ensures.value (entry ++ [] ∷ []) (omega arith) one in
     record { begun = same-body _ _ _ _ (two-more entry [] [] [] [] refl refl) two; kept = cc }
@@ -20,7 +20,7 @@ pub targets-preserved : goal.targets-preserved
 targets-preserved c =
     let inv = c.targets.invariant in
     let targets = row_targets c.args.row.now in
-    let first = entry_fields (row_seen c.args.row.now) ++ ([] ∷ [] ∷ []) in
+    let first = entry_fields c.args.form (row_seen c.args.row.now) ++ ([] ∷ [] ∷ []) in
     let fields = first ++ map {A = Target} {B = List ℕ} (λ target. []) (take c.targets._target-index targets) in
     record {
       begun = same-body _ _ _ _ (one-empty first targets c.targets._target-index (rw (← c.targets-target-items.ensures.value) c.targets-test.true)) (c.in_ok-push_plain-3.ensures.value fields (omega arith) inv.begun);
@@ -35,12 +35,12 @@ pub returns-clause-value : goal.returns-clause-value
 returns-clause-value c =
     let inv = c.targets.invariant in
     let row = c.args.row.now in
-    let first = entry_fields (row_seen row) ++ ([] ∷ [] ∷ []) in
+    let first = entry_fields c.args.form (row_seen row) ++ ([] ∷ [] ∷ []) in
     let told = c.as_bytes.result.now in
     let all = take_all c.targets._target-index (row_targets row) (rw (← c.targets-target-items.ensures.value) c.targets-test.false) in
     let fields = first ++ map {A = Target} {B = List ℕ} (λ target. []) (take c.targets._target-index (row_targets row)) in
     let last = c.in_ok-push_plain-4.ensures.value fields (omega arith) inv.begun in
     let number = c.as_bytes.ensures.value ∙ c.format.ensures.text ∙ ap decimal c.number.ensures in
-    same-line _ _ (fields ++ told ∷ []) (row_fields (row_targets row) (row_seen row)) _ (c.in_ok-push_plain-4.ensures.kept ∙ inv.kept)
-    (ap (λ (targets : List Target). (first ++ map {A = Target} {B = List ℕ} (λ target. []) targets) ++ told ∷ []) all ∙ refused-fields (row_targets row) (row_seen row) c.args.refusal told (ap outcome_seen c.requires) number)
+    same-line _ _ (fields ++ told ∷ []) (row_fields c.args.form (row_targets row) (row_seen row)) _ (c.in_ok-push_plain-4.ensures.kept ∙ inv.kept)
+    (ap (λ (targets : List Target). (first ++ map {A = Target} {B = List ℕ} (λ target. []) targets) ++ told ∷ []) all ∙ refused-fields c.args.form (row_targets row) (row_seen row) c.args.refusal told (ap outcome_seen c.requires) number)
     (c.in_ok-end.ensures.value (fields ++ told ∷ []) (two-fields fields told (omega arith)) last)

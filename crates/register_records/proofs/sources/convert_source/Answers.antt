@@ -1,12 +1,12 @@
-use Rattle.std.proofs.Common.{◌≡◌, ◌∷◌, [], ◌∙◌, refl, sym, arith, rules, true, length-append}
+use Rattle.std.proofs.Common.{◌≡◌, ◌∷◌, [], ◌∙◌, ap, refl, sym, arith, rules, true, length-append}
 use Rattle.std.specs.Result.{is_ok}
 use Rattle.csv.proofs.WriteFacts.{appends-none}
-use Rattle.register_records.specs.Entries.{Numbered}
+use Rattle.register_records.specs.Entries.{HasTooMany, IsNotSealed, Numbered}
 use Rattle.register_records.specs.Views.{given_of}
 use Rattle.register_records.specs.Seen.{entry_number, entry_seen}
 use Rattle.register_records.specs.Views.{row_seen}
 use Rattle.register_records.specs.declared.sources.Note.{Note}
-use Rattle.register_records.proofs.Progress.{finish, first_rows, front, if_broken, nothing, notes_few, ok_so, only_memory, only_too_many, start, step, too_many_told}
+use Rattle.register_records.proofs.Progress.{finish, first_rows, front, if_broken, nothing, notes_few, ok_so, only_memory, only_not_sealed, only_too_many, start, step, told_of}
 use Rattle.register_records.proofs.sources.convert_source.Goals as goal
 
 pub entries-init : goal.entries-init
@@ -90,8 +90,18 @@ returns-in-Err-next-clause-too_many g c =
     let inv = c.entries.invariant in
     if_broken _ _ _ c.broken-in-Err-next.ensures (λ cause is h.
     let past = c.in-Err-next.ensures.many (only_too_many _ cause (sym c.cause-in-Err-next.ensures ∙ is) h) in (
-      too_many_told _ _ _ _ (c.next.ensures.text.0 ∙ inv.text) (c.next.ensures.text.1 ∙ inv.reads_by) past.1,
+      told_of HasTooMany _ _ _ _ (c.next.ensures.text.0 ∙ inv.text) (c.next.ensures.text.1 ∙ inv.reads_by) past.1,
       first_rows _ _ _ _ _ _ _ _ _ inv.come inv.text inv.reads_by c.entries.entries.first (sym past.0),
+    ))
+
+pub returns-in-Err-next-clause-not_sealed : goal.returns-in-Err-next-clause-not_sealed
+returns-in-Err-next-clause-not_sealed g c =
+    let inv = c.entries.invariant in
+    if_broken _ _ _ c.broken-in-Err-next.ensures (λ cause is h.
+    let lacks = c.in-Err-next.ensures.not_sealed (only_not_sealed _ cause (sym c.cause-in-Err-next.ensures ∙ is) h) in
+    let by = c.next.ensures.text.1 ∙ inv.reads_by in (
+      ap (λ format. format.form) (sym by) ∙ lacks.0,
+      told_of IsNotSealed _ _ _ _ (c.next.ensures.text.0 ∙ inv.text) by lacks.1,
     ))
 
 pub returns-in-Err-clause-part : goal.returns-in-Err-clause-part

@@ -1,0 +1,15 @@
+use Rattle.std.proofs.Common.{◌∙◌, inl}
+use Rattle.csv.specs.Records.{fields_of}
+use Rattle.register_records.specs.Retrying.{inner_remaining}
+use Rattle.register_records.proofs.EntrySteps.{reads}
+use Rattle.register_records.proofs.reading.read_record.Goals as goal
+
+pub returns-in-Ok-clause-reads : goal.returns-in-Ok-clause-reads
+returns-in-Ok-clause-reads g c =
+    reads (inner_remaining g.R.Read.remaining) c.args.records.now c.read_byte_record.new.self c.in-Ok.found (fields_of c.read_byte_record.new.row)
+    (c.in-Ok.ensures.reads c.requires.0 c.requires.1)
+
+pub returns-in-Ok-clause-live : goal.returns-in-Ok-clause-live
+returns-in-Ok-clause-live g c =
+    let read = c.in-Ok.ensures.reads c.requires.0 c.requires.1 in
+    (read.3 ∙ c.requires.0, inl (c.in-Ok.ensures.ready c.requires.0), c.in-Ok.ensures.flexible ∙ c.requires.2)

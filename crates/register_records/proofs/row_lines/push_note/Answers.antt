@@ -1,0 +1,10 @@
+use Rattle.std.proofs.Common.{sym, append-nil}
+use Rattle.register_records.specs.LineViews.{line_delimiter}
+use Rattle.register_records.proofs.LineFacts.{same-body}
+use Rattle.register_records.proofs.row_lines.push_note.Goals as goal
+
+pub returns-in-Plain-clause-value : goal.returns-in-Plain-clause-value
+returns-in-Plain-clause-value c fields some begun = rw (c.in-Plain.is, append-nil fields) begun
+
+pub returns-in-Sealed-clause-value : goal.returns-in-Sealed-clause-value
+returns-in-Sealed-clause-value c fields some begun = rw c.in-Sealed.is (c.push.ensures.value fields some begun)

@@ -1,0 +1,52 @@
+//! The seal of a sealed register.
+
+ghost use Rattle.std.specs.Prelude.{◌≡◌, ◌↔◌, ℕ, IsTrue, Some};
+ghost use Rattle.csv.specs.Records.{fields_of};
+ghost use Rattle.date_texts.specs.Numerals.{IsNumeral};
+ghost use Rattle.register_records.specs.Seals.{Agrees, is_seal as is_seal_record};
+
+use csv::ByteRecord;
+use date_texts::trimmed;
+
+/// What stands in the first field of a seal.
+const SEAL: &[u8] = b"END";
+
+/// The most digits in the second field of a seal.
+const MAX_DIGITS: usize = 7;
+
+/// Whether a record is a seal: it has two fields, and the first is `END`, spaces and tabs round it aside.
+pub(crate) fn is_seal(row: &ByteRecord) -> bool
+    ensures { result ≡ is_seal_record (fields_of row.now) }
+{
+    let (Some(first), 2) = (row.get(0), row.len()) else {
+        return false;
+    };
+    trimmed(first) == SEAL
+}
+
+/// The number that 1 to 7 digits spell.
+fn number_of(text: &[u8]) -> Option<u32>
+    ensures { (n : ℕ) → (result ≡ Some n) ↔ IsNumeral 7 text.now n }
+{
+    if text.is_empty() || text.len() > MAX_DIGITS {
+        return None;
+    }
+    let mut number = 0;
+    'digits: for digit in text {
+        if !digit.is_ascii_digit() {
+            return None;
+        }
+        number = 10 * number + (*digit - b'0') as u32;
+    }
+    Some(number)
+}
+
+/// Whether the second field of a record of two is the number of so many entries, spaces and tabs round it aside.
+pub(crate) fn agrees(row: &ByteRecord, count: u32) -> bool
+    ensures { IsTrue result ↔ Agrees (fields_of row.now) count }
+{
+    let (Some(second), 2) = (row.get(1), row.len()) else {
+        return false;
+    };
+    number_of(trimmed(second)) == Some(count)
+}

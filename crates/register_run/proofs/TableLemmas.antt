@@ -10,7 +10,7 @@ use Rattle.register_records.specs.declared.rows.Row.{Row}
 use Rattle.register_records.specs.declared.setups.Form.TheVariants.{Plain}
 use Rattle.register_records.specs.declared.sources.Note.{Note}
 use Rattle.register_records.specs.declared.writing.RowWriter.{RowWriter}
-use Rattle.register_records.specs.Entries.{AreNumberedFrom}
+use Rattle.register_records.specs.Entries.{AreNumberedFrom, format_by}
 use Rattle.register_records.specs.Laws.{TablesGrow}
 use Rattle.register_records.specs.Outcomes.{TableRow}
 use Rattle.register_records.specs.Seen.{entry_seen}
@@ -103,7 +103,7 @@ targets_row P rows row all here r h = elim (Contains-append_cases rows (row ∷ 
 
 pub noted_row : (rows : List Row) (row : Row) (old new : List Note) → TablesGrow → old ≡ journal_of (rows_seen rows) → new ≡ old ++ notes_of (row_seen row).number (row_seen row).outcome → new ≡ journal_of (rows_seen (rows ++ row ∷ []))
 noted_row rows row old new grow h more =
-    more ∙ ap (λ b. b ++ notes_of (row_seen row).number (row_seen row).outcome) h ∙ sym (grow (record { format = record { delimiter = 0; form = Plain }; targets = [] }) (rows_seen rows) (row_seen row)).1 ∙ ap journal_of (sym (map-append row_seen rows (row ∷ [])))
+    more ∙ ap (λ b. b ++ notes_of (row_seen row).number (row_seen row).outcome) h ∙ sym (grow (record { format = format_by 0 Plain; targets = [] }) (rows_seen rows) (row_seen row)).1 ∙ ap journal_of (sym (map-append row_seen rows (row ∷ [])))
 
 pub counted_row : (rows : List Row) (row : Row) (n : ℕ) → length rows ≡ n → length (rows ++ row ∷ []) ≡ n + 1
 counted_row rows row n e = omega (arith, length-append rows (row ∷ []))

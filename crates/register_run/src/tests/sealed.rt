@@ -146,7 +146,7 @@ fn a_seal_is_no_row_and_has_no_note_in_the_journal(rt: HostRuntime) -> Result<()
         number: 2,
         refusal: Refusal::FieldCount,
     };
-    assert_eq!(rt; journal.as_slice(), &[note]);
+    assert_eq!(rt; journal.as_slice(), [note].as_slice());
     Ok(())
 }
 

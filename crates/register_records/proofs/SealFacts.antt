@@ -1,8 +1,12 @@
 -- When a record is a seal, and with what number of entries it agrees.
-use Rattle.std.proofs.Common.{◌≡◌, ◌≢◌, ℕ, List, [], ◌∷◌, length, Some, false, refl, sym, arith, codes}
+use Rattle.std.proofs.Common.{◌≡◌, ◌≢◌, ◌<◌, ◌≤◌, ◌+◌, ◌-◌, ◌*◌, ◌^◌, ◌++◌, ℕ, zero, suc, List, [], ◌∷◌, length, take, get_or, Some, true, false, refl, arith, codes}
+use Rattle.std.specs.Char.{is_ascii_digit}
 use Rattle.std.specs.Str.{bytes_eq}
+use Rattle.std.proofs.lemmas.Bool.{and_parts}
+use Rattle.std.proofs.lemmas.Bool.Decides.{nat_tests}
+use Rattle.std.proofs.lemmas.List.{take_more}
 use Rattle.csv.specs.Records.{field_at}
-use Rattle.date_texts.specs.Numerals.{IsNumeral}
+use Rattle.date_texts.specs.Numerals.{IsNumeral, all_digits, value_after}
 use Rattle.date_texts.specs.Trimmed.{trimmed}
 use Rattle.register_records.specs.Records.{Fields}
 use Rattle.register_records.specs.Seals.{Agrees, is_seal}
@@ -34,3 +38,40 @@ agrees-by-second [] b n h e = cc
 agrees-by-second (x ∷ []) b n h e = absurd (omega arith)
 agrees-by-second (x ∷ y ∷ []) b n h e = let same : y ≡ b = cc in rw same refl
 agrees-by-second (x ∷ y ∷ z ∷ rest) b n h e = absurd (omega arith)
+
+-- the number that digits spell, one digit after the other
+all-more : (xs : List ℕ) (c : ℕ) → all_digits xs ≡ true → is_ascii_digit c ≡ true → all_digits (xs ++ c ∷ []) ≡ true
+all-more [] c h k = rw k refl
+all-more (x ∷ xs) c h k = let both = and_parts (is_ascii_digit x) (all_digits xs) h in rw (both.0, all-more xs c both.1 k) refl
+
+value-more : (n : ℕ) (xs : List ℕ) (c : ℕ) → value_after n (xs ++ c ∷ []) ≡ 10 * value_after n xs + (c - 48)
+value-more n [] c = refl
+value-more n (x ∷ xs) c = value-more (10 * n + (x - 48)) xs c
+
+pub digits-more : (xs : List ℕ) (i d : ℕ) → i < length xs → all_digits (take i xs) ≡ true → is_ascii_digit (get_or xs i d) ≡ true
+    → all_digits (take (i + 1) xs) ≡ true
+digits-more xs i d lt h k = rw (take_more xs i d lt) (all-more (take i xs) (get_or xs i d) h k)
+
+pub number-more : (xs : List ℕ) (i d n : ℕ) → i < length xs → n ≡ value_after 0 (take i xs) → 10 * n + (get_or xs i d - 48) ≡ value_after 0 (take (i + 1) xs)
+number-more xs i d n lt h = rw (take_more xs i d lt, value-more 0 (take i xs) (get_or xs i d), h) refl
+
+-- digits alone
+pub digit-at : (xs : List ℕ) (i d : ℕ) → i < length xs → all_digits xs ≡ true → is_ascii_digit (get_or xs i d) ≡ true
+digit-at [] i d lt h = absurd (omega arith)
+digit-at (x ∷ xs) zero d lt h = (and_parts (is_ascii_digit x) (all_digits xs) h).0
+digit-at (x ∷ xs) (suc i) d lt h = digit-at xs i d (omega arith) (and_parts (is_ascii_digit x) (all_digits xs) h).1
+
+-- a digit has a value below 10
+pub digit-small : (c : ℕ) → is_ascii_digit c ≡ true → (48 ≤ c) × (c - 48 ≤ 9)
+digit-small c h = (grind (arith, nat_tests), grind (arith, nat_tests))
+
+-- so many digits spell a number below that power of 10
+pub places-more : (i n d : ℕ) → i < 7 → n < 10 ^ i → d ≤ 9 → (10 * n + d < 10 ^ (i + 1)) × (10 * n + d < 10000000)
+places-more zero n d lt a b = (omega (arith, a, b), omega (arith, a, b))
+places-more (suc zero) n d lt a b = (omega (arith, a, b), omega (arith, a, b))
+places-more (suc (suc zero)) n d lt a b = (omega (arith, a, b), omega (arith, a, b))
+places-more (suc (suc (suc zero))) n d lt a b = (omega (arith, a, b), omega (arith, a, b))
+places-more (suc (suc (suc (suc zero)))) n d lt a b = (omega (arith, a, b), omega (arith, a, b))
+places-more (suc (suc (suc (suc (suc zero))))) n d lt a b = (omega (arith, a, b), omega (arith, a, b))
+places-more (suc (suc (suc (suc (suc (suc zero)))))) n d lt a b = (omega (arith, a, b), omega (arith, a, b))
+places-more (suc (suc (suc (suc (suc (suc (suc i))))))) n d lt a b = absurd (omega (arith, lt))

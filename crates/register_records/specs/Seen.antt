@@ -6,7 +6,7 @@ use Rattle.date_texts.specs.declared.refusal.Refusal.{Refusal}
 use Rattle.register_records.specs.CellTexts.{cell_bytes}
 use Rattle.register_records.specs.Entries.{Numbered, body_seen}
 use Rattle.register_records.specs.Records.{Texts}
-use Rattle.register_records.specs.declared.entries.Columns.{Columns}
+use Rattle.register_records.specs.declared.columns.Columns.{Columns}
 use Rattle.register_records.specs.Outcomes.{TableRow}
 use Rattle.register_records.specs.declared.cell_texts.CellText.{CellText}
 use Rattle.register_records.specs.declared.entries.Body.{Body}

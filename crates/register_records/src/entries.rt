@@ -1,13 +1,12 @@
 //! An entry, and how it is made of a record.
 
-ghost use Rattle.std.specs.Prelude.{◌≡◌, ◌≤◌, ◌↔◌, length, MatchOption, IfSome, IsSome, IsTrue, Some, None};
+ghost use Rattle.std.specs.Prelude.{◌≡◌, ◌≤◌, ◌↔◌, length, MatchOption, IfSome, IsSome, IsTrue};
 ghost use Rattle.std.specs.Prelude.{true, false};
 ghost use Rattle.std.specs.Str.{is_utf8};
 ghost use Rattle.csv.specs.Records.{fields_of};
 ghost use Rattle.register_records.specs.Entries.{body_of, body_seen, may_hold, record_limit};
-ghost use Rattle.register_records.specs.Records.{texts_of};
-ghost use Rattle.register_records.specs.Seen.{columns_seen};
 
+use crate::columns::{Columns, columns_in};
 use crate::setups::Form;
 use arrayvec::ArrayString;
 use csv::ByteRecord;
@@ -109,34 +108,6 @@ fn is_allowed(body: &Body) -> bool
             Refusal::FieldCount | Refusal::FieldTooLong | Refusal::NotUtf8
         ),
     }
-}
-
-/// The fields of a record by their columns. The note is empty where the form has none.
-pub(crate) struct Columns<'a> {
-    pub(crate) id: &'a [u8],
-    pub(crate) calendar: &'a [u8],
-    pub(crate) date: &'a [u8],
-    pub(crate) note: &'a [u8],
-}
-
-/// The columns of a record that has as many fields as the form wants.
-pub(crate) fn columns_in(row: &ByteRecord, form: Form) -> Option<Columns<'_>>
-    ensures { MatchOption result (texts_of form (fields_of row.now) ≡ None)
-        (λ c. texts_of form (fields_of row.now) ≡ Some (columns_seen c)) }
-{
-    if row.len() != form.field_count() {
-        return None;
-    }
-    let note = match form {
-        Form::Plain => b"".as_slice(),
-        Form::Sealed => row.get(3)?,
-    };
-    Some(Columns {
-        id: row.get(0)?,
-        calendar: row.get(1)?,
-        date: row.get(2)?,
-        note,
-    })
 }
 
 /// A text of a fixed capacity.

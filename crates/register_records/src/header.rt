@@ -7,7 +7,7 @@ ghost use Rattle.csv.specs.Records.{fields_of};
 ghost use Rattle.register_records.specs.Headers.{IsHeader};
 ghost use Rattle.date_texts.specs.Names.{IsNamed};
 
-use crate::entries::{Columns, columns_in};
+use crate::columns::{Columns, columns_in};
 use crate::setups::Form;
 use csv::ByteRecord;
 use date_texts::trimmed;

@@ -10,6 +10,7 @@
 
 mod causes;
 mod cell_texts;
+mod columns;
 mod converting;
 mod entries;
 mod header;

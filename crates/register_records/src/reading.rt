@@ -80,16 +80,16 @@ fn fault(e: &Error) -> EntryFault
 /// Reads the next record, and says whether there was one.
 fn read_record<R: Read>(
     records: &mut Reader<Retrying<R>>,
-    record: &mut ByteRecord,
+    row: &mut ByteRecord,
 ) -> Result<bool, EntryFault>
     requires { IsLive records.old }
     ensures reads { IfOk result (λ found. Reads (records_left (inner_remaining R.remaining) records.old)
-        (records_left (inner_remaining R.remaining) records.new) found (fields_of record.new)) }
+        (records_left (inner_remaining R.remaining) records.new) found (fields_of row.new)) }
     ensures live { OnOk result (IsLive records.new) }
     ensures fault { IfErr result IsOfReading }
     ensures read_fault { IfErr result (λ e. e ≡ EntryFault.ReadFault → has_failed records.new ≡ true) }
 {
-    match records.read_byte_record(record) {
+    match records.read_byte_record(row) {
         Ok(found) => Ok(found),
         Err(e) => Err(fault(&e)),
     }
@@ -100,7 +100,7 @@ fn read_record<R: Read>(
 #[inline(always)]
 fn read_entry<R: Read>(
     records: &mut Reader<Retrying<R>>,
-    record: &mut ByteRecord,
+    row: &mut ByteRecord,
     form: Form,
     count: u32,
 ) -> Result<Option<Entry>, EntryFault>
@@ -118,15 +118,15 @@ fn read_entry<R: Read>(
     ensures told { IfErr result (λ e. (e ≡ EntryFault.BadHeader → ⊥) × (e ≡ EntryFault.Failed → ⊥)) }
     ensures read_fault { IfErr result (λ e. e ≡ EntryFault.ReadFault → has_failed records.new ≡ true) }
 {
-    if !read_record(records, record)? {
+    if !read_record(records, row)? {
         return match form {
             Form::Plain => Ok(None),
             Form::Sealed => Err(EntryFault::NotSealed),
         };
     }
-    if form == Form::Sealed && is_seal(record) {
-        let agrees = agrees(record, count);
-        let more = read_record(records, record)?;
+    if form == Form::Sealed && is_seal(row) {
+        let agrees = agrees(row, count);
+        let more = read_record(records, row)?;
         if more || !agrees {
             return Err(EntryFault::NotSealed);
         }
@@ -135,7 +135,7 @@ fn read_entry<R: Read>(
     if count >= MAX_RECORDS {
         return Err(EntryFault::TooManyRecords);
     }
-    Ok(Some(Entry::read(count + 1, record, form)))
+    Ok(Some(Entry::read(count + 1, row, form)))
 }
 
 impl<R: Read + Drop> EntryReader<R> {

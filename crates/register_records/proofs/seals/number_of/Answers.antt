@@ -1,0 +1,31 @@
+use Rattle.std.proofs.Common.{◌≡◌, ◌∙◌, arith, sym, true, false}
+use Rattle.register_records.proofs.SealFacts.{digit-at, digit-small, digits-more, number-more, places-more}
+use Rattle.register_records.proofs.seals.number_of.Goals as goal
+
+pub returns-then-not-is_ascii_digit : goal.returns-then-not-is_ascii_digit
+returns-then-not-is_ascii_digit c n =
+    let other = sym c.is_ascii_digit.ensures.value ∙ c.if-not-is_ascii_digit.true in (
+      λ e. cc,
+      λ is. absurd (let clash : true ≡ false = sym (digit-at c.args.text.now c.digits.digit-index _ c.digits-test.true is.digits) ∙ other in cc),
+    )
+
+pub overflow_mul-number : goal.overflow_mul-number
+overflow_mul-number c =
+    let fits = places-more c.digits.digit-index c.digits.number 0 (omega arith) c.digits.invariant.small (omega arith) in
+    omega (arith, fits.1)
+
+pub overflow_add-number : goal.overflow_add-number
+overflow_add-number c =
+    let is = sym c.is_ascii_digit.ensures.value ∙ c.if-not-is_ascii_digit.false in
+    let fits = places-more c.digits.digit-index c.digits.number _ (omega arith) c.digits.invariant.small (digit-small _ is).1 in
+    omega (arith, fits.1)
+
+pub digits-preserved : goal.digits-preserved
+digits-preserved c =
+    let inv = c.digits.invariant in
+    let is = sym c.is_ascii_digit.ensures.value ∙ c.if-not-is_ascii_digit.false in
+    record {
+      digits = digits-more c.args.text.now c.digits.digit-index _ c.digits-test.true inv.digits is;
+      value = number-more c.args.text.now c.digits.digit-index _ c.digits.number c.digits-test.true inv.value;
+      small = (places-more c.digits.digit-index c.digits.number _ (omega arith) inv.small (digit-small _ is).1).0;
+    }

@@ -1,0 +1,37 @@
+//! The fields of a record by their columns.
+
+ghost use Rattle.std.specs.Prelude.{◌≡◌, MatchOption, None, Some};
+ghost use Rattle.csv.specs.Records.{fields_of};
+ghost use Rattle.register_records.specs.Records.{texts_of};
+ghost use Rattle.register_records.specs.Seen.{columns_seen};
+
+use crate::setups::Form;
+use csv::ByteRecord;
+
+/// The fields of a record by their columns. The note is empty where the form has none.
+pub(crate) struct Columns<'a> {
+    pub(crate) id: &'a [u8],
+    pub(crate) calendar: &'a [u8],
+    pub(crate) date: &'a [u8],
+    pub(crate) note: &'a [u8],
+}
+
+/// The columns of a record that has as many fields as the form wants.
+pub(crate) fn columns_in(row: &ByteRecord, form: Form) -> Option<Columns<'_>>
+    ensures { MatchOption result (texts_of form (fields_of row.now) ≡ None)
+        (λ c. texts_of form (fields_of row.now) ≡ Some (columns_seen c)) }
+{
+    if row.len() != form.field_count() {
+        return None;
+    }
+    let note = match form {
+        Form::Plain => b"".as_slice(),
+        Form::Sealed => row.get(3)?,
+    };
+    Some(Columns {
+        id: row.get(0)?,
+        calendar: row.get(1)?,
+        date: row.get(2)?,
+        note,
+    })
+}

@@ -1,13 +1,13 @@
 -- What a step of a reader of entries does to those that it gave.
 use Rattle.std.proofs.Common.{◌≡◌, suc, ◌<◌, ◌≤◌, ◌+◌, ◌++◌, ℕ, List, [], ◌∷◌, length, Bool, Option, Some, None, true, false, refl, sym, ap, ◌∙◌, arith, append_assoc}
-use Rattle.std.specs.Prelude.{IfSome, IsTrue, nat_lt, option_map}
+use Rattle.std.specs.Prelude.{IfSome, nat_lt, option_map}
 use Rattle.std.proofs.Math.Logic.{∥∥₁_map}
 use Rattle.std.proofs.lemmas.Bool.Decides.{nat_tests}
 use Rattle.std.proofs.lemmas.List.{append-nil, append_cancel_left, length-append}
 use Rattle.std.specs.declared.snapshot.Snapshot.{Snapshot}
 use Rattle.register_records.specs.Headers.{IsHeader}
-use Rattle.register_records.specs.Entries.{Fields, Format, HasEntries, HasFirstEntries, HasTooMany, IsNotSealed, Numbered, body_of, body_seen, entries_from, entries_of, record_limit, text_records}
-use Rattle.register_records.specs.Seals.{AreClosed, Agrees, before_seal, entry_records, is_seal}
+use Rattle.register_records.specs.Entries.{Fields, Format, HasEntries, HasFirstEntries, HasTooMany, IsNotSealed, Numbered, body_of, body_seen, entries_from, format_by, record_limit, text_records}
+use Rattle.register_records.specs.Seals.{AreClosed, before_seal, entry_records, is_seal}
 use Rattle.register_records.specs.Seen.{entries_shown, entry_body, entry_number, entry_seen}
 use Rattle.register_records.specs.ReadingState.{EndsAt, Gives, HasEntry, IsNoSeal, LacksSeal, Stands, TakesFirst}
 use Rattle.register_records.specs.declared.entries.Entry.{Entry}
@@ -18,26 +18,18 @@ pub if-some : {X : Type 0} (o : Option X) (P Q : X → Type 0) → ((x : X) → 
 if-some None P Q f h = tt
 if-some (Some x) P Q f h = f x h
 
--- two facts of one value
-both-some : {X : Type 0} (o : Option X) (P Q S : X → Type 0) → ((x : X) → P x → Q x → S x) → IfSome o P → IfSome o Q → IfSome o S
-both-some None P Q S f h k = tt
-both-some (Some x) P Q S f h k = f x h k
-
-some-is : {X : Type 0} (o : Option X) (x y : X) → o ≡ Some x → o ≡ Some y → x ≡ y
-some-is o x y a b = cc
-
 -- a record that is no seal comes before the first seal
-no-seal-first : (form : Form) (r : Fields) (rest : List Fields) → IsNoSeal form r → entry_records form (r ∷ rest) ≡ r ∷ entry_records form rest
+pub no-seal-first : (form : Form) (r : Fields) (rest : List Fields) → IsNoSeal form r → entry_records form (r ∷ rest) ≡ r ∷ entry_records form rest
 unfolding before_seal
 no-seal-first Plain r rest h = refl
 no-seal-first Sealed r rest h = rw h refl
 
 -- no record is before a seal that stands first
-seal-first : (r : Fields) (rest : List Fields) → is_seal r ≡ true → before_seal (r ∷ rest) ≡ []
+pub seal-first : (r : Fields) (rest : List Fields) → is_seal r ≡ true → before_seal (r ∷ rest) ≡ []
 unfolding before_seal
 seal-first r rest h = rw h refl
 
-before-none : before_seal [] ≡ []
+pub before-none : before_seal [] ≡ []
 unfolding before_seal
 before-none = refl
 
@@ -69,11 +61,11 @@ stands-first (Some text) (Some rest) format f t h =
       no_seal = λ more. refl;
       followed = λ more. refl;
       left_is = λ _ _. refl;
-      ended = λ e. cc;
+      ended = λ e. absurd (cc);
     }
 
 module _ (format : Format) (text : List ℕ) where
-  form : Form
+  abbrev form : Form
   form = format.form
 
   -- one more entry
@@ -86,20 +78,26 @@ module _ (format : Format) (text : List ℕ) where
       let same : rows ≡ s.rest = cc (s.left_is refl refl) in
       let rest_is : s.rest ≡ f ∷ rest2 = sym same ∙ t in
       let longer : length (given ++ x ∷ []) ≡ length given + 1 = length-append given (x ∷ []) in
+      let joined : (s.past ++ f ∷ []) ++ rest2 ≡ s.past ++ s.rest = append_assoc s.past (f ∷ []) rest2 ∙ ap (λ (t : List Fields). s.past ++ t) (sym rest_is) in
       record {
         past = s.past ++ f ∷ [];
         rest = rest2;
-        accepted = rw (append_assoc s.past (f ∷ []) rest2, ← rest_is) s.accepted;
+        accepted = rw joined s.accepted;
         counted = length-append s.past (f ∷ []) ∙ omega (arith, s.counted, longer);
-        no_seal = λ more. rw (append_assoc s.past (f ∷ []) more, s.no_seal (f ∷ more), no-seal-first form f more n) (sym (append_assoc s.past (f ∷ []) _));
-        followed = λ more. rw (append_assoc s.past (f ∷ []) more, s.followed (f ∷ more), longer, e, first-entry form (length given) f more h) (sym (append_assoc given _ _));
+        no_seal = λ more.
+            ap (entry_records form) (append_assoc s.past (f ∷ []) more)
+            ∙ (s.no_seal (f ∷ more)
+            ∙ (ap (λ (t : List Fields). s.past ++ t) (no-seal-first form f more n) ∙ sym (append_assoc s.past (f ∷ []) (entry_records form more))));
+        followed = λ more.
+            ap (entries_from form 0) (append_assoc s.past (f ∷ []) more)
+            ∙ (s.followed (f ∷ more) ∙ rw (longer, e, first-entry form (length given) f more h) (sym (append_assoc given _ _)));
         left_is = λ _ _. refl;
-        ended = λ d. cc;
+        ended = λ d. absurd (cc);
       }
 
   first-given : (failed done : Bool) (left : Option (List Fields)) (given : List Numbered) → Stands format text failed done left given → HasFirstEntries format text given
   first-given failed done left given s =
-      (s.past ++ s.rest, entries_from form (length given) (entry_records form s.rest), s.accepted, rw (s.no_seal s.rest) (s.followed _))
+      (s.past ++ s.rest, entries_from form (length given) (entry_records form s.rest), s.accepted, ap (entries_from form 0) (s.no_seal s.rest) ∙ s.followed (entry_records form s.rest))
 
   -- those before the end
   past-records : (failed done : Bool) (left : Option (List Fields)) (given : List Numbered) (s : Stands format text failed done left given)
@@ -209,9 +207,9 @@ MayStand o format failed done left given = ∥ IfSome o (λ text. Stands format 
 may : (o : Option (List ℕ)) (P Q : List ℕ → Type 0) → ((t : List ℕ) → P t → Q t) → ∥ IfSome o P ∥₁ → ∥ IfSome o Q ∥₁
 may o P Q f h = ∥∥₁_map h (if-some o P Q f)
 
-pub first-step : (o p : Option (List ℕ)) (left : Option (List Fields)) (format : Format) (given : List Numbered) (f : Fields) → p ≡ o → given ≡ []
-    → TakesFirst (option_map (text_records format.delimiter) o) left f → IsHeader format.form f → MayStand p format false false left given
-first-step o p left format given f a h t i = let s = stands-first o left format f t i in rw (a, h) (∣ s ∣₁)
+pub first-step : (o p : Option (List ℕ)) (left : Option (List Fields)) (d e : ℕ) (j k : Form) (given : List Numbered) (f : Fields) → p ≡ o → e ≡ d → k ≡ j
+    → given ≡ [] → TakesFirst (option_map (text_records d) o) left f → IsHeader j f → MayStand p (format_by e k) false false left given
+first-step o p left d e j k given f a b c h t i = let s = stands-first o left (format_by d j) f t i in rw (a, b, c, h) (∣ s ∣₁)
 
 module _ (o : Option (List ℕ)) (format : Format) (failed done : Bool) (left : Option (List Fields)) (given : List Numbered)
     (stands : MayStand o format failed done left given) where

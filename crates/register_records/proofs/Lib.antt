@@ -4,6 +4,7 @@ pub mod HeaderFacts
 pub mod RecordsLeft
 pub mod EntrySteps
 pub mod GivenFacts
+pub mod StepFacts
 pub mod LineFacts
 pub mod OutcomeFacts
 pub mod Progress

@@ -1,5 +1,6 @@
 -- Where records of a sealed register are taken out, its seal does not agree.
 use Rattle.std.proofs.Common.{inl, inr, ◌⊎◌, ◌≡◌, ◌+◌, ◌++◌, ℕ, List, [], ◌∷◌, length, Bool, true, false, refl, sym, ap, ◌∙◌, arith}
+use Rattle.std.specs.Prelude.{if◌then◌else◌}
 use Rattle.std.proofs.lemmas.List.{length-append}
 use Rattle.register_records.specs.Headers.{IsHeader}
 use Rattle.register_records.specs.Laws.{AreLeftOf, NoLossIsSealed, kept, none, taken}
@@ -8,7 +9,7 @@ use Rattle.register_records.specs.Seals.{Agrees, before_seal, is_seal}
 use Rattle.register_records.specs.declared.setups.Form.TheVariants.{Sealed}
 
 -- the record is one of these
-IsOne : Fields → List Fields → Type 0
+abbrev IsOne : Fields → List Fields → Type 0
 IsOne r [] = ⊥
 IsOne r (x ∷ rest) = (r ≡ x) ⊎ IsOne r rest
 
@@ -32,12 +33,12 @@ was-one records left r (taken a) h = inr (was-one _ _ r a h)
 before-no-seal : (rs : List Fields) (r : Fields) → IsOne r (before_seal rs) → is_seal r ≡ false
 unfolding before_seal
 before-no-seal [] r h = absurd h
-before-no-seal (x ∷ rs) r h = by (is_seal x) refl h
+before-no-seal (x ∷ rs) r h = by (is_seal x) refl (before-no-seal rs r) h
   where
-    by : (b : Bool) → is_seal x ≡ b → IsOne r (if b then [] else x ∷ before_seal rs) → is_seal r ≡ false
-    by true e h = absurd h
-    by false e (inl same) = rw same e
-    by false e (inr more) = before-no-seal rs r more
+    by : (b : Bool) → is_seal x ≡ b → (IsOne r (before_seal rs) → is_seal r ≡ false) → IsOne r (if b then [] else x ∷ before_seal rs) → is_seal r ≡ false
+    by true e later h = absurd h
+    by false e later (inl same) = rw same e
+    by false e later (inr more) = later more
 
 header-no-seal : (fs : Fields) → IsHeader Sealed fs → is_seal fs ≡ false
 header-no-seal [] h = refl
@@ -59,11 +60,11 @@ only-seal header after seal r ok is (inr h) =
     elim (one-of-two r (before_seal after) (seal ∷ []) h) [
       | inl before ↦ absurd (let clash : true ≡ false = sym is ∙ before-no-seal after r before in cc)
       | inr (inl e) ↦ e
-      | inr (inr no) ↦ absurd no
+      | inr (inr other) ↦ absurd other
     ]
 
 pub no-loss : NoLossIsSealed
-no-loss records left (after, (header, first, ok), few, (seal, ends, is, agrees)) are_left shorter (after2, (header2, first2, ok2), few2, (seal2, ends2, is2, agrees2)) =
+no-loss records left (after, (header, first, ok), (few, (seal, ends, is, agrees))) are_left shorter (after2, (header2, first2, ok2), (few2, (seal2, ends2, is2, agrees2))) =
     let all : records ≡ header ∷ (before_seal after ++ seal ∷ []) = first ∙ ap (λ (rs : List Fields). header ∷ rs) ends in
     let all2 : left ≡ header2 ∷ (before_seal after2 ++ seal2 ∷ []) = first2 ∙ ap (λ (rs : List Fields). header2 ∷ rs) ends2 in
     let there : IsOne seal2 left = rw all2 (inr (last-is-one seal2 (before_seal after2))) in

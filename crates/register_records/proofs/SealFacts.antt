@@ -1,5 +1,6 @@
 -- When a record is a seal, and with what number of entries it agrees.
-use Rattle.std.proofs.Common.{◌≡◌, ◌≢◌, ◌<◌, ◌≤◌, ◌+◌, ◌-◌, ◌*◌, ◌^◌, ◌++◌, ℕ, zero, suc, List, [], ◌∷◌, length, take, get_or, Some, true, false, refl, arith, codes}
+use Rattle.std.proofs.Common.{◌≡◌, ◌≢◌, ◌<◌, ◌≤◌, ◌+◌, ◌-◌, ◌*◌, ◌^◌, ◌++◌, ℕ, zero, suc, List, [], ◌∷◌, length, take, get_or, Option, None, Some, true, false, refl, arith, codes}
+use Rattle.std.specs.Prelude.{◌↔◌, IsTrue, nat_eq}
 use Rattle.std.specs.Char.{is_ascii_digit}
 use Rattle.std.specs.Str.{bytes_eq}
 use Rattle.std.proofs.lemmas.Bool.{and_parts}
@@ -12,32 +13,38 @@ use Rattle.register_records.specs.Records.{Fields}
 use Rattle.register_records.specs.Seals.{Agrees, is_seal}
 
 -- a record that has not two fields
-pub not-two : (fs : Fields) → length fs ≢ 2 → is_seal fs ≡ false
-not-two [] n = refl
-not-two (a ∷ []) n = refl
-not-two (a ∷ b ∷ []) n = absurd (n refl)
-not-two (a ∷ b ∷ c ∷ rest) n = refl
-
-pub none-agrees : (fs : Fields) (n : ℕ) → length fs ≢ 2 → Agrees fs n → ⊥
-none-agrees [] n h a = a
-none-agrees (x ∷ []) n h a = a
-none-agrees (x ∷ y ∷ []) n h a = h refl
-none-agrees (x ∷ y ∷ z ∷ rest) n h a = a
+pub not_two : (fs : Fields) → length fs ≢ 2 → is_seal fs ≡ false
+not_two [] n = refl
+not_two (a ∷ []) n = refl
+not_two (a ∷ b ∷ []) n = absurd (n refl)
+not_two (a ∷ b ∷ c ∷ rest) n = refl
 
 -- a record of two
-pub seal-by-first : (fs : Fields) (a : List ℕ) → length fs ≡ 2 → Some a ≡ field_at fs 0 → is_seal fs ≡ bytes_eq (trimmed a) (codes "END")
+pub seal_by_first : (fs : Fields) (a : List ℕ) → length fs ≡ 2 → Some a ≡ field_at fs 0 → is_seal fs ≡ bytes_eq (trimmed a) (codes "END")
 unfolding field_at
-seal-by-first [] a n e = cc
-seal-by-first (x ∷ []) a n e = absurd (omega arith)
-seal-by-first (x ∷ y ∷ []) a n e = let same : x ≡ a = cc in rw same refl
-seal-by-first (x ∷ y ∷ z ∷ rest) a n e = absurd (omega arith)
+seal_by_first [] a n e = absurd (omega arith)
+seal_by_first (x ∷ []) a n e = absurd (omega arith)
+seal_by_first (x ∷ y ∷ []) a n e = let same : x ≡ a = cc in rw same refl
+seal_by_first (x ∷ y ∷ z ∷ rest) a n e = absurd (omega arith)
 
-pub agrees-by-second : (fs : Fields) (b : List ℕ) (n : ℕ) → length fs ≡ 2 → Some b ≡ field_at fs 1 → Agrees fs n ≡ IsNumeral 7 (trimmed b) n
+-- a seal has a second field, and agrees by it
+pub second-there : (fs : Fields) {P : Type 0} → is_seal fs ≡ true → None ≡ field_at fs 1 → P
 unfolding field_at
-agrees-by-second [] b n h e = cc
-agrees-by-second (x ∷ []) b n h e = absurd (omega arith)
-agrees-by-second (x ∷ y ∷ []) b n h e = let same : y ≡ b = cc in rw same refl
-agrees-by-second (x ∷ y ∷ z ∷ rest) b n h e = absurd (omega arith)
+second-there [] h e = absurd (cc)
+second-there (x ∷ []) h e = absurd (cc)
+second-there (x ∷ y ∷ rest) h e = absurd (cc)
+
+pub agrees-by-second : (fs : Fields) (b : List ℕ) (n : ℕ) → is_seal fs ≡ true → Some b ≡ field_at fs 1 → Agrees fs n ↔ IsNumeral 7 (trimmed b) n
+unfolding field_at
+agrees-by-second [] b n h e = absurd (cc)
+agrees-by-second (x ∷ []) b n h e = absurd (cc)
+agrees-by-second (x ∷ y ∷ []) b n h e = let same : y ≡ b = cc in (λ a. rw (← same) a, λ a. rw same a)
+agrees-by-second (x ∷ y ∷ z ∷ rest) b n h e = absurd (cc)
+
+-- a number that was read, and compared
+pub compared : (number count : ℕ) (P : ℕ → Type 0) → ((n : ℕ) → (◌≡◌ {A = Option ℕ} (Some number) (Some n)) ↔ P n) → IsTrue (nat_eq number count) ↔ P count
+compared number count P h =
+    (λ e. let same : number ≡ count = grind (arith, nat_tests) in rw (← same) ((h number).0 refl), λ p. let same = (h count).1 p in grind (arith, nat_tests))
 
 -- the number that digits spell, one digit after the other
 all-more : (xs : List ℕ) (c : ℕ) → all_digits xs ≡ true → is_ascii_digit c ≡ true → all_digits (xs ++ c ∷ []) ≡ true
@@ -75,3 +82,7 @@ places-more (suc (suc (suc (suc zero)))) n d lt a b = (omega (arith, a, b), omeg
 places-more (suc (suc (suc (suc (suc zero))))) n d lt a b = (omega (arith, a, b), omega (arith, a, b))
 places-more (suc (suc (suc (suc (suc (suc zero)))))) n d lt a b = (omega (arith, a, b), omega (arith, a, b))
 places-more (suc (suc (suc (suc (suc (suc (suc i))))))) n d lt a b = absurd (omega (arith, lt))
+
+-- a digit more fits
+pub digit-fits : (i n c : ℕ) → i < 7 → n < 10 ^ i → is_ascii_digit c ≡ true → 10 * n + (c - 48) < 2 ^ 32
+digit-fits i n c lt a h = let fits = places-more i n (c - 48) lt a (digit-small c h).1 in omega (arith, fits.1)

@@ -1,6 +1,6 @@
 -- What an `EntryReader` knows of what it has yet to give. No public contract cites this file.
 use Rattle.std.specs.Prelude.{◌≡◌, ◌⊎◌, ◌<◌, ◌+◌, ◌++◌, ⊤, Bool, true, false, ℕ, List, [], ◌∷◌, length, Option, Some, None, IfSome, IsTrue, option_map}
-use Rattle.csv.specs.Reading.{Ready, is_flexible, reader_config, reader_state, reader_trim, records_from, source_of}
+use Rattle.csv.specs.Reading.{Ready, is_flexible, reader_config, reader_state, reader_trim, records_from, source_of, took_first}
 use Rattle.csv.specs.declared.error.ErrorKind.{ErrorKind}
 use Rattle.csv.specs.declared.error.ErrorKind.TheVariants as kind
 use Rattle.csv.specs.declared.parser.Config.{Config}
@@ -29,7 +29,11 @@ fault_of kind.OutOfMemory = fault.OutOfMemory
 abbrev pub IsOfReading : EntryFault → Type 0
 IsOfReading f = (f ≡ fault.ReadFault) ⊎ (f ≡ fault.OutOfMemory)
 
--- csv's reader changes no field, takes a record of any number of fields, and takes none for a header row
+-- csv's reader has read a record: it changes no field, and takes a record of any number of fields
+abbrev pub HasBegun : {R : Type 0} → Reader R → Type 0
+HasBegun s = (reader_trim s ≡ trim.None) × (took_first s ≡ true) × (is_flexible s ≡ true)
+
+-- the same where it may yet read the first, and takes none for a header row
 abbrev pub IsLive : {R : Type 0} → Reader R → Type 0
 IsLive s = (reader_trim s ≡ trim.None) × Ready s × (is_flexible s ≡ true)
 

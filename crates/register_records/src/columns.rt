@@ -24,14 +24,21 @@ pub(crate) fn columns_in(row: &ByteRecord, form: Form) -> Option<Columns<'_>>
     if row.len() != form.field_count() {
         return None;
     }
-    let note = match form {
-        Form::Plain => b"".as_slice(),
-        Form::Sealed => row.get(3)?,
-    };
-    Some(Columns {
-        id: row.get(0)?,
-        calendar: row.get(1)?,
-        date: row.get(2)?,
-        note,
-    })
+    let id = row.get(0)?;
+    let calendar = row.get(1)?;
+    let date = row.get(2)?;
+    match form {
+        Form::Plain => Some(Columns {
+            id,
+            calendar,
+            date,
+            note: b"",
+        }),
+        Form::Sealed => Some(Columns {
+            id,
+            calendar,
+            date,
+            note: row.get(3)?,
+        }),
+    }
 }

@@ -5,10 +5,10 @@ ghost use Rattle.std.specs.Prelude.{IfSome, IsErr, Ok, Err, Option, None};
 ghost use Rattle.csv.specs.Reading.{error_kind, has_failed, stops_reader};
 ghost use Rattle.csv.specs.Records.{fields_of};
 ghost use Rattle.register_records.specs.Entries.{HasFirstEntries, format_by, record_limit};
-ghost use Rattle.register_records.specs.ReadingState.{EndsAt, Gives, HasEntry, IsLive, IsOfReading, LacksSeal, Reads, Stands};
+ghost use Rattle.register_records.specs.ReadingState.{EndsAt, Gives, HasBegun, HasEntry, IsLive, IsOfReading, LacksSeal, Reads, Stands};
 ghost use Rattle.register_records.specs.ReadingState.{fault_of, records_left};
 ghost use Rattle.register_records.specs.Retrying.{inner_remaining};
-ghost use Rattle.register_records.specs.Seen.{entries_shown};
+ghost use Rattle.register_records.specs.Seen.{entries_shown, entry_number};
 
 use crate::entries::{Entry, MAX_RECORDS};
 use crate::header::is_header;
@@ -56,7 +56,7 @@ pub struct EntryReader<R: Read> {
     given: Vec<Snapshot<Entry>>,
     done: bool,
     failed: bool,
-    ghost live: { failed ≡ false → IsLive records },
+    ghost live: { failed ≡ false → HasBegun records },
     ghost few: { length given.items ≤ record_limit },
     ghost stands: { ∥ IfSome (R.remaining source.value) (λ text. Stands (format_by delimiter form) text failed done
         (records_left (inner_remaining R.remaining) records) (entries_shown given.items)) ∥₁ },
@@ -85,7 +85,7 @@ fn read_record<R: Read>(
     requires { IsLive records.old }
     ensures reads { IfOk result (λ found. Reads (records_left (inner_remaining R.remaining) records.old)
         (records_left (inner_remaining R.remaining) records.new) found (fields_of row.new)) }
-    ensures live { OnOk result (IsLive records.new) }
+    ensures live { OnOk result (HasBegun records.new) }
     ensures fault { IfErr result IsOfReading }
     ensures read_fault { IfErr result (λ e. e ≡ EntryFault.ReadFault → has_failed records.new ≡ true) }
 {
@@ -104,11 +104,12 @@ fn read_entry<R: Read>(
     form: Form,
     count: u32,
 ) -> Result<Option<Entry>, EntryFault>
-    requires live { IsLive records.old }
+    requires live { HasBegun records.old }
     requires few { count ≤ record_limit }
-    ensures live { OnOk result (IsLive records.new) }
+    ensures live { OnOk result (HasBegun records.new) }
     ensures gives { IfOk result (λ o. IfSome o (Gives form count (records_left (inner_remaining R.remaining) records.old)
         (records_left (inner_remaining R.remaining) records.new))) }
+    ensures number { IfOk result (λ o. IfSome o (λ e. (entry_number e ≡ count + 1) × (entry_number e ≤ record_limit))) }
     ensures ends { result ≡ Ok None
         → IfSome (records_left (inner_remaining R.remaining) records.old) (EndsAt form count) }
     ensures many { IfErr result (λ e. e ≡ EntryFault.TooManyRecords → (count ≡ record_limit)
@@ -140,7 +141,7 @@ fn read_entry<R: Read>(
 
 impl<R: Read + Drop> EntryReader<R> {
     ghost use Rattle.register_records.specs.Entries.{HasEntries, HasNoHeader, HasTooMany, IsNotSealed};
-    ghost use Rattle.register_records.specs.Seen.{entry_number, entry_seen};
+    ghost use Rattle.register_records.specs.Seen.{entry_seen};
     ghost use Rattle.register_records.specs.Views.{format_of, given_of, is_stopped, reading_ended, reading_failed, reads_by, text_of};
 
     /// Reads the header of a text: a first record of three fields that are `id`, `calendar` and `date`,
@@ -169,7 +170,8 @@ impl<R: Read + Drop> EntryReader<R> {
             .flexible(true)
             .from_reader(alloc, patient);
         let mut record = ByteRecord::new(alloc);
-        if !read_record(&mut records, &mut record)? || !is_header(&record, setup.form()) {
+        let found = read_record(&mut records, &mut record)?;
+        if !found || !is_header(&record, setup.form()) {
             return Err(EntryFault::BadHeader);
         }
         Ok(EntryReader {

@@ -1,6 +1,6 @@
 //! The seal of a sealed register.
 
-ghost use Rattle.std.specs.Prelude.{◌≡◌, ◌↔◌, ℕ, IsTrue, Some};
+ghost use Rattle.std.specs.Prelude.{◌≡◌, ◌↔◌, ℕ, IsTrue, Some, true};
 ghost use Rattle.csv.specs.Records.{fields_of};
 ghost use Rattle.date_texts.specs.Numerals.{IsNumeral};
 ghost use Rattle.register_records.specs.Seals.{Agrees, is_seal as is_seal_record};
@@ -18,10 +18,13 @@ const MAX_DIGITS: usize = 7;
 pub(crate) fn is_seal(row: &ByteRecord) -> bool
     ensures { result ≡ is_seal_record (fields_of row.now) }
 {
-    let (Some(first), 2) = (row.get(0), row.len()) else {
+    if row.len() != 2 {
         return false;
-    };
-    trimmed(first) == SEAL
+    }
+    match row.get(0) {
+        Some(first) => trimmed(first) == SEAL,
+        None => false,
+    }
 }
 
 /// The number that 1 to 7 digits spell.
@@ -41,12 +44,22 @@ fn number_of(text: &[u8]) -> Option<u32>
     Some(number)
 }
 
-/// Whether the second field of a record of two is the number of so many entries, spaces and tabs round it aside.
-pub(crate) fn agrees(row: &ByteRecord, count: u32) -> bool
-    ensures { IsTrue result ↔ Agrees (fields_of row.now) count }
+/// The number in the second field of a seal, spaces and tabs round it aside.
+fn number_in(seal: &ByteRecord) -> Option<u32>
+    requires { is_seal_record (fields_of seal.now) ≡ true }
+    ensures { (n : ℕ) → (result ≡ Some n) ↔ Agrees (fields_of seal.now) n }
 {
-    let (Some(second), 2) = (row.get(1), row.len()) else {
-        return false;
-    };
-    number_of(trimmed(second)) == Some(count)
+    let second = seal.get(1)?;
+    number_of(trimmed(second))
+}
+
+/// Whether a seal agrees with this number of entries.
+pub(crate) fn agrees(seal: &ByteRecord, count: u32) -> bool
+    requires { is_seal_record (fields_of seal.now) ≡ true }
+    ensures { IsTrue result ↔ Agrees (fields_of seal.now) count }
+{
+    match number_in(seal) {
+        Some(number) => number == count,
+        None => false,
+    }
 }

@@ -11,7 +11,10 @@ targets-init c =
     let entry = entry_heading c.args.form in
     let one = c.in_ok-push_plain.ensures.value entry (omega arith) c.in_ok-begin_heading.ensures.value in
     let two = c.in_ok-push_plain-2.ensures.value (entry ++ codes "rd" ∷ []) (omega arith) one in
-    record { begun = same-body _ _ _ _ (two-more entry _ _ _ _ refl refl) two; kept = cc }
+    record {
+      begun = same-body (line_delimiter c.push_plain-2.new.self) _ _ _ (two-more entry (codes "rd") (codes "weekday") (codes "rd") (codes "weekday") refl refl) two;
+      kept = cc;
+    }
 
 pub targets-preserved : goal.targets-preserved
 targets-preserved c =

@@ -1,5 +1,5 @@
 use Rattle.std.proofs.Common.{◌≡◌, ◌∙◌, arith, sym, true, false}
-use Rattle.register_records.proofs.SealFacts.{digit-at, digit-small, digits-more, number-more, places-more}
+use Rattle.register_records.proofs.SealFacts.{digit-at, digit-fits, digit-small, digits-more, number-more, places-more}
 use Rattle.register_records.proofs.seals.number_of.Goals as goal
 
 pub returns-then-not-is_ascii_digit : goal.returns-then-not-is_ascii_digit
@@ -17,8 +17,7 @@ overflow_mul-number c =
 pub overflow_add-number : goal.overflow_add-number
 overflow_add-number c =
     let is = sym c.is_ascii_digit.ensures.value ∙ c.if-not-is_ascii_digit.false in
-    let fits = places-more c.digits.digit-index c.digits.number _ (omega arith) c.digits.invariant.small (digit-small _ is).1 in
-    omega (arith, fits.1)
+    digit-fits c.digits.digit-index c.digits.number _ (omega arith) c.digits.invariant.small is
 
 pub digits-preserved : goal.digits-preserved
 digits-preserved c =

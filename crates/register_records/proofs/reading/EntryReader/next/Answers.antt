@@ -1,85 +1,68 @@
-use Rattle.std.proofs.Common.{arith, ◌≡◌, ◌<◌, ◌+◌, ◌∷◌, [], ◌∙◌, ap, inl, length-append, refl, rules, true, false, length}
+use Rattle.std.proofs.Common.{◌≡◌, ◌<◌, ◌∷◌, [], ◌∙◌, ap, arith, length, length-append, refl, rules, sym, true, false}
 use Rattle.std.specs.Result.{is_ok}
-use Rattle.csv.specs.Records.{fields_of}
-use Rattle.register_records.specs.Entries.{record_limit}
-use Rattle.register_records.specs.Views.{given_of}
-use Rattle.register_records.specs.Seen.{entry_number}
-use Rattle.register_records.specs.ReadingState.{left_until_end}
+use Rattle.register_records.specs.Entries.{format_by, record_limit}
+use Rattle.register_records.specs.ReadingState.{records_left}
 use Rattle.register_records.specs.Retrying.{inner_remaining}
 use Rattle.register_records.specs.Seen.{entries_shown}
-use Rattle.register_records.proofs.EntrySteps.{read-more, read-none, some-left}
-use Rattle.register_records.proofs.GivenFacts.{may-all, may-end, may-fail, may-first, may-many, may-more, shown-length, shown-more}
+use Rattle.register_records.specs.Views.{given_of}
+use Rattle.register_records.proofs.GivenFacts.{may-all, may-end, may-ended, may-fail, may-first, may-lack, may-many, may-more, shown-length, shown-more}
 use Rattle.register_records.proofs.reading.EntryReader.next.Goals as goal
 
 pub returns-then-self-2-clause-all : goal.returns-then-self-2-clause-all
 returns-then-self-2-clause-all g c _ =
     let self = c.args.self.now in
-    may-all (g.R.Read.remaining self.source.value) self.delimiter self.failed (left_until_end (inner_remaining g.R.Read.remaining) self.done self.records) (given_of self) c.if-self.false (rw c.if-self-2.true refl) self.stands
-    (rw (shown-length self.given.items) self.few)
+    may-ended (g.R.Read.remaining self.source.value) (format_by self.delimiter self.form) self.failed self.done (records_left (inner_remaining g.R.Read.remaining) self.records) (given_of self) self.stands c.if-self-2.true
 
-pub invariant_of-self-clause-stands : goal.invariant_of-self-clause-stands
-invariant_of-self-clause-stands g c =
-    let self = c.args.self.now in
-    let live = self.live c.if-self.false in
-    let none : c.in-Ok.found ≡ false = search rules in
-    let r = rw none at (c.in-Ok.ensures.reads live.0 (inl live.1)) in
-    may-end (g.R.Read.remaining self.source.value) self.delimiter self.failed (left_until_end (inner_remaining g.R.Read.remaining) self.done self.records) (given_of self) c.if-self.false self.stands
-    (rw c.if-self-2.false (read-none (inner_remaining g.R.Read.remaining) self.records c.read_byte_record.new.self _ r))
-
-pub returns-then-not-found-clause-all : goal.returns-then-not-found-clause-all
-returns-then-not-found-clause-all g c _ =
-    let self = c.args.self.now in
-    let live = self.live c.if-self.false in
-    let none : c.in-Ok.found ≡ false = search rules in
-    let r = rw none at (c.in-Ok.ensures.reads live.0 (inl live.1)) in
-    let stands = may-end (g.R.Read.remaining self.source.value) self.delimiter self.failed (left_until_end (inner_remaining g.R.Read.remaining) self.done self.records) (given_of self) c.if-self.false self.stands
-    (rw c.if-self-2.false (read-none (inner_remaining g.R.Read.remaining) self.records c.read_byte_record.new.self _ r)) in
-    may-all (g.R.Read.remaining self.source.value) self.delimiter self.failed _ (given_of self) c.if-self.false refl stands (rw (shown-length self.given.items) self.few)
-
-pub invariant_of-self-in-Err-clause-stands : goal.invariant_of-self-in-Err-clause-stands
-invariant_of-self-in-Err-clause-stands g c =
-    let self = c.args.self.now in
-    may-fail (g.R.Read.remaining self.source.value) self.delimiter self.failed (left_until_end (inner_remaining g.R.Read.remaining) self.done self.records) _ (given_of self) _ refl self.stands
-
-pub invariant_of-self-then-len-clause-stands : goal.invariant_of-self-then-len-clause-stands
-invariant_of-self-then-len-clause-stands g c =
-    let self = c.args.self.now in
-    may-fail (g.R.Read.remaining self.source.value) self.delimiter self.failed (left_until_end (inner_remaining g.R.Read.remaining) self.done self.records) _ (given_of self) _ refl self.stands
-
-pub returns-then-len-clause-many : goal.returns-then-len-clause-many
-returns-then-len-clause-many g c _ =
-    let self = c.args.self.now in
-    let live = self.live c.if-self.false in
-    let some : c.in-Ok.found ≡ true = search rules in
-    let r = rw some at (c.in-Ok.ensures.reads live.0 (inl live.1)) in
-    let full : length (given_of self) ≡ record_limit = shown-length self.given.items ∙ omega (arith, self.few, c.if-len.true, c.len.ensures) in (
-      full,
-      may-many (g.R.Read.remaining self.source.value) self.delimiter self.failed (left_until_end (inner_remaining g.R.Read.remaining) self.done self.records) (given_of self) c.if-self.false self.stands
-          (rw c.if-self-2.false (some-left _ _ _ (read-more (inner_remaining g.R.Read.remaining) self.records c.read_byte_record.new.self _ r))) full,
-    )
-
-pub invariant_of-self-then-is_err : goal.invariant_of-self-then-is_err
-invariant_of-self-then-is_err g c =
+pub invariant_of-self : goal.invariant_of-self
+invariant_of-self g c =
     let self = c.args.self.now in
     let refused : is_ok c.push.result ≡ false = search rules in
     let kept = rw refused at c.push.ensures.items in
-    let stands = may-fail (g.R.Read.remaining self.source.value) self.delimiter self.failed (left_until_end (inner_remaining g.R.Read.remaining) self.done self.records) (left_until_end (inner_remaining g.R.Read.remaining) self.done c.read_byte_record.new.self) (given_of self) (entries_shown c.push.new.self.items) (ap entries_shown kept) self.stands in
-    record { live = λ e. cc; few = rw kept self.few; stands = stands; first = may-first _ _ _ _ _ stands }
+    let stands = may-fail (g.R.Read.remaining self.source.value) (format_by self.delimiter self.form) self.failed self.done (records_left (inner_remaining g.R.Read.remaining) self.records) (given_of self) self.stands
+    (records_left (inner_remaining g.R.Read.remaining) c.read_entry.new.records) (entries_shown c.push.new.self.items) (ap entries_shown kept) in
+    record { live = λ e. cc; few = rw kept self.few; stands = stands; first = may-first _ _ _ _ _ _ stands }
 
 pub invariant_of-self-else-is_err : goal.invariant_of-self-else-is_err
 invariant_of-self-else-is_err g c =
     let self = c.args.self.now in
-    let live = self.live c.if-self.false in
-    let some : c.in-Ok.found ≡ true = search rules in
-    let r = rw some at (c.in-Ok.ensures.reads live.0 (inl live.1)) in
     let pushed : is_ok c.push.result ≡ true = search rules in
     let more = rw pushed at c.push.ensures.items in
     let longer = ap length more ∙ length-append self.given.items (c.of.result ∷ []) in
-    let count = shown-length self.given.items in
-    let room : length self.given.items < record_limit = omega (arith, c.if-len.false, c.len.ensures) in
-    let number : entry_number c.read-entry.result ≡ length (given_of self) + 1 = c.read-entry.ensures.0 ∙ omega (arith, count, c.len-2.ensures) in
-    let stands = may-more (g.R.Read.remaining self.source.value) self.delimiter self.failed (left_until_end (inner_remaining g.R.Read.remaining) self.done self.records) (left_until_end (inner_remaining g.R.Read.remaining) self.done c.read_byte_record.new.self)
-    (given_of self) (entries_shown c.push.new.self.items) (fields_of c.read_byte_record.new.row) c.read-entry.result c.if-self.false self.stands
-    (rw c.if-self-2.false (read-more (inner_remaining g.R.Read.remaining) self.records c.read_byte_record.new.self _ r)) (omega (arith, count, room))
-    (ap entries_shown more ∙ shown-more self.given.items c.of.result c.read-entry.result c.of.ensures) number c.read-entry.ensures.1 in
-    record { live = search rules; few = omega (arith, longer, room); stands = stands; first = may-first _ _ _ _ _ stands }
+    let gives = rw c.in-Ok-Some.field-0-is at c.in-Ok-Some.ensures.gives in
+    let number = rw c.in-Ok-Some.field-0-is at c.in-Ok-Some.ensures.number in
+    let room : length self.given.items < record_limit = omega (arith, number.0, number.1, c.len.ensures) in
+    let stands = may-more (g.R.Read.remaining self.source.value) (format_by self.delimiter self.form) self.failed self.done (records_left (inner_remaining g.R.Read.remaining) self.records) (given_of self) self.stands c.if-self.false c.if-self-2.false _ (c.len.ensures ∙ sym (shown-length self.given.items))
+    (records_left (inner_remaining g.R.Read.remaining) c.read_entry.new.records) (entries_shown c.push.new.self.items) c.in-Ok-Some.entry gives (rw c.len.ensures room)
+    (ap entries_shown more ∙ shown-more self.given.items c.of.result c.in-Ok-Some.entry c.of.ensures) in
+    record { live = λ _. c.in-Ok-Some.ensures.live; few = omega (arith, longer, room); stands = stands; first = may-first _ _ _ _ _ _ stands }
+
+pub invariant_of-self-in-Ok-None-clause-stands : goal.invariant_of-self-in-Ok-None-clause-stands
+invariant_of-self-in-Ok-None-clause-stands g c =
+    let self = c.args.self.now in
+    let ends = (rw c.in-Ok-None.field-0-is at c.in-Ok-None.ensures.ends) refl in
+    may-end (g.R.Read.remaining self.source.value) (format_by self.delimiter self.form) self.failed self.done (records_left (inner_remaining g.R.Read.remaining) self.records) (given_of self) self.stands c.if-self.false c.if-self-2.false _ (c.len.ensures ∙ sym (shown-length self.given.items)) (rw (shown-length self.given.items) self.few) _ ends
+
+pub returns-in-Ok-None-clause-all : goal.returns-in-Ok-None-clause-all
+returns-in-Ok-None-clause-all g c _ =
+    let self = c.args.self.now in
+    let ends = (rw c.in-Ok-None.field-0-is at c.in-Ok-None.ensures.ends) refl in
+    may-all (g.R.Read.remaining self.source.value) (format_by self.delimiter self.form) self.failed self.done (records_left (inner_remaining g.R.Read.remaining) self.records) (given_of self) self.stands c.if-self.false c.if-self-2.false _ (c.len.ensures ∙ sym (shown-length self.given.items)) (rw (shown-length self.given.items) self.few) ends
+
+pub invariant_of-self-in-Err-clause-stands : goal.invariant_of-self-in-Err-clause-stands
+invariant_of-self-in-Err-clause-stands g c =
+    let self = c.args.self.now in
+    may-fail (g.R.Read.remaining self.source.value) (format_by self.delimiter self.form) self.failed self.done (records_left (inner_remaining g.R.Read.remaining) self.records) (given_of self) self.stands _ (given_of self) refl
+
+pub returns-in-Err-clause-many : goal.returns-in-Err-clause-many
+returns-in-Err-clause-many g c e =
+    let self = c.args.self.now in
+    let counted = c.len.ensures ∙ sym (shown-length self.given.items) in
+    let many = c.in-Err.ensures.many e in
+    (sym counted ∙ many.0, may-many (g.R.Read.remaining self.source.value) (format_by self.delimiter self.form) self.failed self.done (records_left (inner_remaining g.R.Read.remaining) self.records) (given_of self) self.stands c.if-self.false c.if-self-2.false _ counted many.1 many.0)
+
+pub returns-in-Err-clause-not_sealed : goal.returns-in-Err-clause-not_sealed
+returns-in-Err-clause-not_sealed g c e =
+    let self = c.args.self.now in
+    let counted = c.len.ensures ∙ sym (shown-length self.given.items) in
+    let lacks = c.in-Err.ensures.not_sealed e in
+    (lacks.0, may-lack (g.R.Read.remaining self.source.value) (format_by self.delimiter self.form) self.failed self.done (records_left (inner_remaining g.R.Read.remaining) self.records) (given_of self) self.stands c.if-self.false c.if-self-2.false _ counted (rw (shown-length self.given.items) self.few) lacks.1)

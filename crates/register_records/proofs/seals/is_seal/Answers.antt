@@ -1,0 +1,10 @@
+use Rattle.std.proofs.Common.{◌∙◌, ap, arith, codes, sym}
+use Rattle.std.specs.Str.{bytes_eq}
+use Rattle.csv.specs.Records.{fields_of}
+use Rattle.register_records.proofs.SealFacts.{seal_by_first}
+use Rattle.register_records.proofs.seals.is_seal.Goals as goal
+
+pub returns-in-Some : goal.returns-in-Some
+returns-in-Some c =
+    c.eq.ensures
+    ∙ (ap (λ text. bytes_eq text (codes "END")) c.trimmed.ensures ∙ sym (seal_by_first (fields_of c.args.row.now) c.in-Some.first.now (omega arith) c.in-Some.ensures.value))

@@ -9,5 +9,7 @@ pub returns-else-summary-clause-lines : goal.returns-else-summary-clause-lines
 returns-else-summary-clause-lines g c = λ good.
     let plain : c.args.summary ≡ false = search rules in
     let whole = c.requires.verdict.0 c.in-Complete.is in
-    let none = ap (λ s. lines_from s 1 c.args.report.now.ends.items) plain ∙ no_lines c.args.report.now.ends.items 1 whole in
-    subst (λ text. Appends (g.E.Output.contents c.args.errors.now) (g.E.Output.contents c.args.errors.now) text) (sym none) (appends_none (g.E.Output.contents c.args.errors.now))
+    let none = ap (λ s. lines_from s 1 c.args.report.now.ends.items) plain ∙ no_lines c.args.report.now.ends.items 1
+    whole in
+    subst (λ text. Appends (g.E.Output.contents c.args.errors.now) (g.E.Output.contents c.args.errors.now) text)
+    (sym none) (appends_none (g.E.Output.contents c.args.errors.now))

@@ -16,6 +16,7 @@ returns-then-summary-clause-told g c = λ good.
     let text : c.as_bytes-then-summary.result.now ≡ line_of_end c.args.summary c.args.place c.args.end.now
     = rw (c.if-summary.true, c.in-Whole.is, ← c.as_slice.ensures.value) line in (
       sym (on_ok c.send-then-summary.result _ c.send-then-summary.ensures.goes ok) ∙ good,
-      subst (λ t. Appends (g.E.Output.contents c.args.errors.now) (g.E.Output.contents c.send-then-summary.new.output) t) text
+      subst (λ t. Appends (g.E.Output.contents c.args.errors.now) (g.E.Output.contents c.send-then-summary.new.output)
+          t) text
           (on_ok c.send-then-summary.result _ c.send-then-summary.ensures.ok ok),
     )

@@ -1,5 +1,5 @@
 -- Where all is whole and no summary is asked for, there are no lines.
-use Rattle.std.proofs.Common.{◌≡◌, ◌∙◌, [], rules, sym, subst, ap, false}
+use Rattle.std.proofs.Common.{◌≡◌, ◌∙◌, [], rules, arith, sym, subst, ap, false}
 use Rattle.std.specs.Io.KnownBytes.{Appends}
 use Rattle.register_app.specs.Reports.{lines_from}
 use Rattle.register_app.proofs.ReportFacts.{appends_none, no_lines}
@@ -13,3 +13,10 @@ returns-else-summary-clause-lines g c = λ good.
     whole in
     subst (λ text. Appends (g.E.Output.contents c.args.errors.now) (g.E.Output.contents c.args.errors.now) text)
     (sym none) (appends_none (g.E.Output.contents c.args.errors.now))
+
+-- a run with a broken source is told as such
+pub returns-in-Incomplete-clause-complete : goal.returns-in-Incomplete-clause-complete
+returns-in-Incomplete-clause-complete g c = (λ none. absurd (omega (arith, none)), λ whole. absurd (cc))
+
+pub returns-in-Incomplete-clause-quiet : goal.returns-in-Incomplete-clause-quiet
+returns-in-Incomplete-clause-quiet g c = λ none. absurd (omega (arith, none))

@@ -1,5 +1,7 @@
 -- The lines on sources, told one after the other.
-use Rattle.std.proofs.Common.{◌≡◌, ◌≢◌, ◌∙◌, ◌<◌, ◌≤◌, ◌+◌, ℕ, List, [], ◌∷◌, ◌++◌, length, get_or, drop, ap, sym, refl, subst, arith, append_assoc, append-nil, eq-eqb, ne_eqb, length-append, Option, None, Some, Bool, true, false, zero, suc}
+use Rattle.std.proofs.Common.{◌≡◌, ◌≢◌, ◌∙◌, ◌<◌, ◌≤◌, ◌+◌, ℕ, List, [], ◌∷◌, ◌++◌, length, get_or, drop, ap, sym, refl}
+use Rattle.std.proofs.Common.{subst, arith, append_assoc, append-nil, eq-eqb, ne_eqb, length-append, Option, None, Some}
+use Rattle.std.proofs.Common.{Bool, true, false, zero, suc}
 use Rattle.std.specs.Prelude.{All}
 use Rattle.std.specs.Io.KnownBytes.{Appends}
 use Rattle.std.proofs.lemmas.List.{drop_more}
@@ -21,11 +23,14 @@ appends_both (Some us) (Some vs) None xs ys h k = k
 appends_both (Some us) (Some vs) (Some ws) xs ys h k = k ∙ ap (λ t. t ++ ys) h ∙ append_assoc us xs ys
 
 -- with the next line told, one line fewer is left
-pub lines_more : (summary : Bool) (ends : List SourceEnd) (i : ℕ) (e : SourceEnd) (text all : List ℕ) → i < length ends → e ≡ get_or ends i e
-    → text ++ lines_from summary (i + 1) (drop i ends) ≡ all → (text ++ line_of_end summary (i + 1) e) ++ lines_from summary (i + 1 + 1) (drop (i + 1) ends) ≡ all
+pub lines_more : (summary : Bool) (ends : List SourceEnd) (i : ℕ) (e : SourceEnd) (text all : List ℕ) → i < length ends
+    → e ≡ get_or ends i e
+    → text ++ lines_from summary (i + 1) (drop i ends) ≡ all
+    → (text ++ line_of_end summary (i + 1) e) ++ lines_from summary (i + 1 + 1) (drop (i + 1) ends) ≡ all
 lines_more summary ends i e text all lt at is =
     append_assoc text (line_of_end summary (i + 1) e) (lines_from summary (i + 1 + 1) (drop (i + 1) ends))
-    ∙ ap (λ (l : List SourceEnd). text ++ lines_from summary (i + 1) l) (ap (λ (x : SourceEnd). x ∷ drop (i + 1) ends) at ∙ sym (drop_more ends i e lt)) ∙ is
+    ∙ ap (λ (l : List SourceEnd). text ++ lines_from summary (i + 1) l)
+    (ap (λ (x : SourceEnd). x ∷ drop (i + 1) ends) at ∙ sym (drop_more ends i e lt)) ∙ is
 
 drop_past : (ends : List SourceEnd) (i : ℕ) → length ends ≤ i → drop i ends ≡ []
 drop_past [] zero le = refl
@@ -34,12 +39,15 @@ drop_past (e ∷ ends) zero le = absurd (omega (arith, le))
 drop_past (e ∷ ends) (suc i) le = drop_past ends i (omega (arith, le))
 
 -- past the last end no line is left
-pub lines_end : (summary : Bool) (ends : List SourceEnd) (i : ℕ) (text all : List ℕ) → length ends ≤ i → text ++ lines_from summary (i + 1) (drop i ends) ≡ all → text ≡ all
+pub lines_end : (summary : Bool) (ends : List SourceEnd) (i : ℕ) (text all : List ℕ) → length ends ≤ i
+    → text ++ lines_from summary (i + 1) (drop i ends) ≡ all → text ≡ all
 lines_end summary ends i text all le is =
-    sym (append-nil text) ∙ sym (ap (λ (l : List SourceEnd). text ++ lines_from summary (i + 1) l) (drop_past ends i le)) ∙ is
+    sym (append-nil text) ∙ sym (ap (λ (l : List SourceEnd). text ++ lines_from summary (i + 1) l)
+    (drop_past ends i le)) ∙ is
 
 -- without a summary, sources that are all whole have no line
-pub no_lines : (ends : List SourceEnd) (place : ℕ) → All (λ e. is_whole_end e ≡ true) ends → lines_from false place ends ≡ []
+pub no_lines : (ends : List SourceEnd) (place : ℕ) → All (λ e. is_whole_end e ≡ true) ends
+    → lines_from false place ends ≡ []
 no_lines [] place whole = refl
 no_lines (ended.Whole rows refused journal ∷ ends) place whole =
     no_lines ends (place + 1) (All-tail (λ e. is_whole_end e ≡ true) (ended.Whole rows refused journal) ends whole)
@@ -59,23 +67,32 @@ counts_none false journal number numbers none = rw (eq-eqb (refused_with journal
 
 -- some were
 counts_some : (behind : Bool) (journal : List Note) (number : ℕ) (numbers : List ℕ) → refused_with journal number ≢ 0
-    → counts_from behind journal (number ∷ numbers) ≡ count_text behind number (refused_with journal number) ++ counts_from true journal numbers
+    → counts_from behind journal (number ∷ numbers)
+    ≡ count_text behind number (refused_with journal number) ++ counts_from true journal numbers
 counts_some true journal number numbers some = rw (ne_eqb (refused_with journal number) 0 some) refl
 counts_some false journal number numbers some = rw (ne_eqb (refused_with journal number) 0 some) refl
 
 -- with the next count added, or none where there is none, one number fewer is left
-pub count_added : (line new all : List ℕ) (behind : Bool) (journal : List Note) (i d count : ℕ) → i < 7 → count ≡ refused_with journal (get_or refusal_numbers i d) → 0 < count
-    → new ≡ line ++ count_text behind (get_or refusal_numbers i d) count → line ++ counts_from behind journal (drop i refusal_numbers) ≡ all
+pub count_added : (line new all : List ℕ) (behind : Bool) (journal : List Note) (i d count : ℕ) → i < 7
+    → count ≡ refused_with journal (get_or refusal_numbers i d) → 0 < count
+    → new ≡ line ++ count_text behind (get_or refusal_numbers i d) count
+    → line ++ counts_from behind journal (drop i refusal_numbers) ≡ all
     → new ++ counts_from true journal (drop (i + 1) refusal_numbers) ≡ all
 count_added line new all behind journal i d count lt counted some added is =
     let number = get_or refusal_numbers i d in
-    ap (λ t. t ++ counts_from true journal (drop (i + 1) refusal_numbers)) (added ∙ ap (λ n. line ++ count_text behind number n) counted)
-    ∙ append_assoc line (count_text behind number (refused_with journal number)) (counts_from true journal (drop (i + 1) refusal_numbers))
-    ∙ ap (λ t. line ++ t) (sym (counts_some behind journal number (drop (i + 1) refusal_numbers) (λ e. absurd (omega (arith, some, counted, e)))))
+    ap (λ t. t ++ counts_from true journal (drop (i + 1) refusal_numbers))
+    (added ∙ ap (λ n. line ++ count_text behind number n) counted)
+    ∙ append_assoc line (count_text behind number (refused_with journal number))
+    (counts_from true journal (drop (i + 1) refusal_numbers))
+    ∙ ap (λ t. line ++ t) (sym (counts_some behind journal number (drop (i + 1) refusal_numbers)
+    (λ e. absurd (omega (arith, some, counted, e)))))
     ∙ ap (λ l. line ++ counts_from behind journal l) (sym (drop_more refusal_numbers i d lt)) ∙ is
 
-pub count_left_out : (line all : List ℕ) (behind : Bool) (journal : List Note) (i d count : ℕ) → i < 7 → count ≡ refused_with journal (get_or refusal_numbers i d) → count ≡ 0
-    → line ++ counts_from behind journal (drop i refusal_numbers) ≡ all → line ++ counts_from behind journal (drop (i + 1) refusal_numbers) ≡ all
+pub count_left_out : (line all : List ℕ) (behind : Bool) (journal : List Note) (i d count : ℕ) → i < 7
+    → count ≡ refused_with journal (get_or refusal_numbers i d) → count ≡ 0
+    → line ++ counts_from behind journal (drop i refusal_numbers) ≡ all
+    → line ++ counts_from behind journal (drop (i + 1) refusal_numbers) ≡ all
 count_left_out line all behind journal i d count lt counted none is =
-    ap (λ t. line ++ t) (sym (counts_none behind journal (get_or refusal_numbers i d) (drop (i + 1) refusal_numbers) (sym counted ∙ none)))
+    ap (λ t. line ++ t) (sym (counts_none behind journal (get_or refusal_numbers i d) (drop (i + 1) refusal_numbers)
+    (sym counted ∙ none)))
     ∙ ap (λ l. line ++ counts_from behind journal l) (sym (drop_more refusal_numbers i d lt)) ∙ is

@@ -1,6 +1,7 @@
 -- What the words ask for fits a setup: each target once, the default ones too, since their names differ, and a ring, a
 -- delimiter and stripes that there are.
-use Rattle.std.proofs.Common.{◌≡◌, ◌∙◌, ◌<◌, ◌&&◌, ◌||◌, ℕ, Bool, true, false, not, List, [], ◌∷◌, length, map, sym, ap, refl, arith, zero, suc, Some, None, Option, Result, Err, inl, inr, true≢false}
+use Rattle.std.proofs.Common.{◌≡◌, ◌∙◌, ◌<◌, ◌&&◌, ◌||◌, ℕ, Bool, true, false, not, List, [], ◌∷◌, length, map, sym, ap}
+use Rattle.std.proofs.Common.{refl, arith, zero, suc, Some, None, Option, Result, Err, inl, inr, true≢false}
 use Rattle.std.specs.Prelude.{◌≤◌, nat_le, slice_get}
 use Rattle.std.proofs.lemmas.Bool.{le-leb}
 use Rattle.std.specs.List.{list_any}
@@ -21,18 +22,21 @@ abbrev differ : List (List ℕ) → Bool
 differ [] = true
 differ (name ∷ names) = not (list_any (λ other. bytes_eq other name) names) && differ names
 
-found : (targets : List Target) (j : ℕ) (target : Target) → Some target ≡ slice_get targets j → list_any (λ other. bytes_eq other (target_name target)) (map target_name targets) ≡ true
+found : (targets : List Target) (j : ℕ) (target : Target) → Some target ≡ slice_get targets j
+    → list_any (λ other. bytes_eq other (target_name target)) (map target_name targets) ≡ true
 found [] j target is = cc
 found (u ∷ us) zero target is =
     let same : u ≡ target = cc in
-    ap (λ b. b || list_any (λ other. bytes_eq other (target_name target)) (map target_name us)) ((bytes_eq-Decides (target_name u) (target_name target)).1 (ap target_name same))
+    ap (λ b. b || list_any (λ other. bytes_eq other (target_name target)) (map target_name us))
+    ((bytes_eq-Decides (target_name u) (target_name target)).1 (ap target_name same))
 found (u ∷ us) (suc j) target is = or_true (bytes_eq (target_name u) (target_name target)) (found us j target is)
   where
     or_true : (a : Bool) {b : Bool} → b ≡ true → (a || b) ≡ true
     or_true true e = refl
     or_true false e = e
 
-once_from : (targets : List Target) (i j : ℕ) → differ (map target_name targets) ≡ true → i < j → j < length targets → slice_get targets i ≡ slice_get targets j → ⊥
+once_from : (targets : List Target) (i j : ℕ) → differ (map target_name targets) ≡ true → i < j → j < length targets
+    → slice_get targets i ≡ slice_get targets j → ⊥
 once_from [] i j d lt high same = absurd (omega arith)
 once_from (u ∷ us) i zero d lt high same = absurd (omega arith)
 once_from (u ∷ us) zero (suc j) d lt high same =
@@ -40,7 +44,8 @@ once_from (u ∷ us) zero (suc j) d lt high same =
     let old = found us j u same in
     true≢false (sym new ∙ ap not old)
 once_from (u ∷ us) (suc i) (suc j) d lt high same =
-    once_from us i j (both (not (list_any (λ other. bytes_eq other (target_name u)) (map target_name us))) _ d).1 (omega arith) (omega arith) same
+    once_from us i j (both (not (list_any (λ other. bytes_eq other (target_name u)) (map target_name us))) _ d).1
+    (omega arith) (omega arith) same
 
 default_once : ¬ NamesTwice all_targets
 default_once twice = once_from all_targets twice.0 twice.1 refl twice.2 twice.3 twice.4
@@ -71,11 +76,16 @@ asked_stripes None stripes is = rw is refl
 asked_stripes (Some word) stripes is = within 1 4 stripes is.some is.no_more
 
 -- so there is such a setup
-pub no_fault : (made : Result Setup SetupFault) (fault : SetupFault) (targets : List Target) (ring byte stripes : ℕ) → made ≡ Err fault → (¬ NamesTwice targets)
-    → is_ring_size ring ≡ true → is_delimiter byte ≡ true → (made ≡ Err TargetTwice → NamesTwice targets) → (made ≡ Err RingSize → is_ring_size ring ≡ false)
+pub no_fault : (made : Result Setup SetupFault) (fault : SetupFault) (targets : List Target) (ring byte stripes : ℕ)
+    → made ≡ Err fault → (¬ NamesTwice targets)
+    → is_ring_size ring ≡ true → is_delimiter byte ≡ true → (made ≡ Err TargetTwice → NamesTwice targets)
+    → (made ≡ Err RingSize → is_ring_size ring ≡ false)
     → (made ≡ Err Delimiter → is_delimiter byte ≡ false) → is_stripe_count stripes ≡ true
     → (made ≡ Err Stripes → is_stripe_count stripes ≡ false) → ⊥
 no_fault made TargetTwice targets ring byte stripes is once fits cuts twice size other few many = once (twice is)
-no_fault made RingSize targets ring byte stripes is once fits cuts twice size other few many = true≢false (sym fits ∙ size is)
-no_fault made Delimiter targets ring byte stripes is once fits cuts twice size other few many = true≢false (sym cuts ∙ other is)
-no_fault made Stripes targets ring byte stripes is once fits cuts twice size other few many = true≢false (sym few ∙ many is)
+no_fault made RingSize targets ring byte stripes is once fits cuts twice size other few many = true≢false
+    (sym fits ∙ size is)
+no_fault made Delimiter targets ring byte stripes is once fits cuts twice size other few many = true≢false
+    (sym cuts ∙ other is)
+no_fault made Stripes targets ring byte stripes is once fits cuts twice size other few many = true≢false
+    (sym few ∙ many is)

@@ -1,5 +1,6 @@
 -- Words mean one thing at most.
-use Rattle.std.proofs.Common.{◌≡◌, ◌∙◌, ℕ, Bool, true, false, List, length, codes, sym, ap, ap₂, refl, subst, arith, inl, inr, Option, Some, None}
+use Rattle.std.proofs.Common.{◌≡◌, ◌∙◌, ℕ, Bool, true, false, List, length, codes, sym, ap, ap₂, refl, subst, arith}
+use Rattle.std.proofs.Common.{inl, inr, Option, Some, None}
 use Rattle.std.specs.Prelude.{◌≢◌, ◌↔◌, ◌⊎◌, IfSome, IsSomeAnd}
 use Rattle.clap.specs.Values.{kind_of}
 use Rattle.clap.specs.Words.{HasKind, IsAmong, Text, fault_of}
@@ -9,7 +10,8 @@ use Rattle.clap.specs.declared.error.kind.ErrorKind.TheVariants.{DisplayHelp, Di
 use Rattle.date_texts.specs.Laws.{OneTarget}
 use Rattle.date_texts.specs.declared.calendar.Target.{Target}
 use Rattle.register_app.specs.Answers.{AreWrong}
-use Rattle.register_app.specs.Faults.{Fault, IsOfWords, fault_told, usage, bad_ring, unknown_delimiter, bad_stripes, unknown_target, target_twice, too_many_files, file_twice}
+use Rattle.register_app.specs.Faults.{Fault, IsOfWords, fault_told, usage, bad_ring, unknown_delimiter, bad_stripes}
+use Rattle.register_app.specs.Faults.{unknown_target, target_twice, too_many_files, file_twice}
 use Rattle.register_app.specs.OptionValues.{IsDelimiterWord, IsNumberWord}
 use Rattle.register_records.specs.Entries.{Format}
 use Rattle.register_records.specs.Tables.{Layout}
@@ -25,20 +27,28 @@ use Rattle.register_app.proofs.ListFacts.{asks_no_fault, asks_one, one_fault}
 -- a word names one delimiter at most
 one_byte : (word : Text) (byte other : ℕ) → IsDelimiterWord word byte → IsDelimiterWord word other → byte ≡ other
 one_byte word byte other (inl comma) (inl same) = comma.1 ∙ sym same.1
-one_byte word byte other (inl comma) (inr (inl semicolon)) = let e = ap length (sym comma.0 ∙ semicolon.0) in absurd (omega (arith, e))
-one_byte word byte other (inl comma) (inr (inr tab)) = let e = ap length (sym comma.0 ∙ tab.0) in absurd (omega (arith, e))
-one_byte word byte other (inr (inl semicolon)) (inl comma) = let e = ap length (sym comma.0 ∙ semicolon.0) in absurd (omega (arith, e))
+one_byte word byte other (inl comma) (inr (inl semicolon)) = let e = ap length (sym comma.0 ∙ semicolon.0) in
+    absurd (omega (arith, e))
+one_byte word byte other (inl comma) (inr (inr tab)) = let e = ap length (sym comma.0 ∙ tab.0) in
+    absurd (omega (arith, e))
+one_byte word byte other (inr (inl semicolon)) (inl comma) = let e = ap length (sym comma.0 ∙ semicolon.0) in
+    absurd (omega (arith, e))
 one_byte word byte other (inr (inl semicolon)) (inr (inl same)) = semicolon.1 ∙ sym same.1
-one_byte word byte other (inr (inl semicolon)) (inr (inr tab)) = let e = ap length (sym semicolon.0 ∙ tab.0) in absurd (omega (arith, e))
-one_byte word byte other (inr (inr tab)) (inl comma) = let e = ap length (sym comma.0 ∙ tab.0) in absurd (omega (arith, e))
-one_byte word byte other (inr (inr tab)) (inr (inl semicolon)) = let e = ap length (sym semicolon.0 ∙ tab.0) in absurd (omega (arith, e))
+one_byte word byte other (inr (inl semicolon)) (inr (inr tab)) = let e = ap length (sym semicolon.0 ∙ tab.0) in
+    absurd (omega (arith, e))
+one_byte word byte other (inr (inr tab)) (inl comma) = let e = ap length (sym comma.0 ∙ tab.0) in
+    absurd (omega (arith, e))
+one_byte word byte other (inr (inr tab)) (inr (inl semicolon)) = let e = ap length (sym semicolon.0 ∙ tab.0) in
+    absurd (omega (arith, e))
 one_byte word byte other (inr (inr tab)) (inr (inr same)) = tab.1 ∙ sym same.1
 
 -- and one number
-one_number : (most : ℕ) (word : Text) (n other : ℕ) → IsNumberWord most word n → IsNumberWord most word other → n ≡ other
+one_number : (most : ℕ) (word : Text) (n other : ℕ) → IsNumberWord most word n → IsNumberWord most word other
+    → n ≡ other
 one_number most word n other is same = is.value ∙ sym same.value
 
-one_delimiter : (value : Option Text) (byte other : ℕ) → IsDelimiterOf value byte → IsDelimiterOf value other → byte ≡ other
+one_delimiter : (value : Option Text) (byte other : ℕ) → IsDelimiterOf value byte → IsDelimiterOf value other
+    → byte ≡ other
 one_delimiter None byte other is same = is ∙ sym same
 one_delimiter (Some word) byte other is same = one_byte word byte other is same
 
@@ -46,49 +56,61 @@ one_ring : (value : Option Text) (ring other : ℕ) → IsRingOf value ring → 
 one_ring None ring other is same = is ∙ sym same
 one_ring (Some word) ring other is same = one_number 4096 word ring other is same
 
-one_stripes : (value : Option Text) (stripes other : ℕ) → IsStripesOf value stripes → IsStripesOf value other → stripes ≡ other
+one_stripes : (value : Option Text) (stripes other : ℕ) → IsStripesOf value stripes → IsStripesOf value other
+    → stripes ≡ other
 one_stripes None stripes other is same = is ∙ sym same
 one_stripes (Some word) stripes other is same = one_number 4 word stripes other is same
 
 -- a value that asks for something has no fault
-no_delimiter_fault : (value : Option Text) (byte : ℕ) (fault : Fault) → IsDelimiterOf value byte → IsDelimiterFault value fault → ⊥
+no_delimiter_fault : (value : Option Text) (byte : ℕ) (fault : Fault) → IsDelimiterOf value byte
+    → IsDelimiterFault value fault → ⊥
 no_delimiter_fault value byte fault is at = at.3 byte (subst (λ (v : Option Text). IsDelimiterOf v byte) at.2 is)
 
 no_ring_fault : (value : Option Text) (ring : ℕ) (fault : Fault) → IsRingOf value ring → IsRingFault value fault → ⊥
 no_ring_fault value ring fault is at = at.3 ring (subst (λ (v : Option Text). IsRingOf v ring) at.2 is)
 
-no_stripes_fault : (value : Option Text) (stripes : ℕ) (fault : Fault) → IsStripesOf value stripes → IsStripesFault value fault → ⊥
+no_stripes_fault : (value : Option Text) (stripes : ℕ) (fault : Fault) → IsStripesOf value stripes
+    → IsStripesFault value fault → ⊥
 no_stripes_fault value stripes fault is at = at.3 stripes (subst (λ (v : Option Text). IsStripesOf v stripes) at.2 is)
 
 -- a fault of one value is one fault
 same_word : (value : Option Text) (word other : Text) → value ≡ Some word → value ≡ Some other → word ≡ other
 same_word value word other e f = cc
 
-one_delimiter_fault : (value : Option Text) (fault other : Fault) → IsDelimiterFault value fault → IsDelimiterFault value other → fault ≡ other
-one_delimiter_fault value fault other is same = is.1 ∙ ap unknown_delimiter (same_word value is.0 same.0 is.2 same.2) ∙ sym same.1
+one_delimiter_fault : (value : Option Text) (fault other : Fault) → IsDelimiterFault value fault
+    → IsDelimiterFault value other → fault ≡ other
+one_delimiter_fault value fault other is same = is.1 ∙ ap unknown_delimiter (same_word value is.0 same.0 is.2 same.2)
+    ∙ sym same.1
 
-one_ring_fault : (value : Option Text) (fault other : Fault) → IsRingFault value fault → IsRingFault value other → fault ≡ other
+one_ring_fault : (value : Option Text) (fault other : Fault) → IsRingFault value fault → IsRingFault value other
+    → fault ≡ other
 one_ring_fault value fault other is same = is.1 ∙ ap bad_ring (same_word value is.0 same.0 is.2 same.2) ∙ sym same.1
 
-one_stripes_fault : (value : Option Text) (fault other : Fault) → IsStripesFault value fault → IsStripesFault value other → fault ≡ other
-one_stripes_fault value fault other is same = is.1 ∙ ap bad_stripes (same_word value is.0 same.0 is.2 same.2) ∙ sym same.1
+one_stripes_fault : (value : Option Text) (fault other : Fault) → IsStripesFault value fault
+    → IsStripesFault value other → fault ≡ other
+one_stripes_fault value fault other is same = is.1 ∙ ap bad_stripes (same_word value is.0 same.0 is.2 same.2) ∙ sym
+    same.1
 
 module _ (one : OneTarget) where
-  one_list : (value : Option Text) (targets others : List Target) → AreTargetsOf value targets → AreTargetsOf value others → targets ≡ others
+  one_list : (value : Option Text) (targets others : List Target) → AreTargetsOf value targets
+      → AreTargetsOf value others → targets ≡ others
   one_list None targets others is same = is ∙ sym same
   one_list (Some list) targets others is same = asks_one one list targets others is same
 
-  no_target_fault : (value : Option Text) (targets : List Target) (fault : Fault) → AreTargetsOf value targets → IsTargetFault value fault → ⊥
+  no_target_fault : (value : Option Text) (targets : List Target) (fault : Fault) → AreTargetsOf value targets
+      → IsTargetFault value fault → ⊥
   no_target_fault None targets fault is at_fault = at_fault
   no_target_fault (Some list) targets fault is at_fault = asks_no_fault one list targets fault is at_fault
 
-  one_target_fault : (value : Option Text) (fault other : Fault) → IsTargetFault value fault → IsTargetFault value other → fault ≡ other
+  one_target_fault : (value : Option Text) (fault other : Fault) → IsTargetFault value fault → IsTargetFault value other
+      → fault ≡ other
   one_target_fault None fault other is same = absurd is
   one_target_fault (Some list) fault other is same = one_fault one list fault other is same
 
 -- a check that fails with one fault, where it does not pass, and later ones that do
 module _ (fails : Fault → Type 0) (passes : Type 0) (later : Fault → Type 0) where
-  first_fault : ((f g : Fault) → fails f → fails g → f ≡ g) → ((f : Fault) → passes → fails f → ⊥) → ((f g : Fault) → later f → later g → f ≡ g)
+  first_fault : ((f g : Fault) → fails f → fails g → f ≡ g) → ((f : Fault) → passes → fails f → ⊥)
+      → ((f g : Fault) → later f → later g → f ≡ g)
       → (f g : Fault) → FailsFirst fails passes later f → FailsFirst fails passes later g → f ≡ g
   first_fault same clash on f g (inl x) (inl y) = same f g x y
   first_fault same clash on f g (inl x) (inr y) = absurd (clash f y.0 x)
@@ -131,7 +153,8 @@ module _ (one : OneTarget) (words : List Text) where
 
   table_no_fault : (task : Task) (fault : Fault) → AsksFor words task → ¬ IsFaultOf words fault
   table_no_fault task fault asks =
-      passed (IsUsageFault words) (AreTaken words) (IsFaultFromTargets words) fault (λ is. not_taken is.0 asks.taken is.2)
+      passed (IsUsageFault words) (AreTaken words) (IsFaultFromTargets words) fault
+      (λ is. not_taken is.0 asks.taken is.2)
       (passed (IsTargetFault (value_in words (codes "to"))) (HaveTargets words) (IsFaultFromRing words) fault
       (no_target_fault one (value_in words (codes "to")) task.layout.targets fault asks.targets_asked)
       (passed (IsRingFault (value_in words (codes "ring"))) (HaveRing words) (IsFaultFromDelimiter words) fault
@@ -144,7 +167,8 @@ module _ (one : OneTarget) (words : List Text) where
 
   one_table : (task other : Task) → AsksFor words task → AsksFor words other → table task ≡ table other
   one_table task other asks same =
-      let targets = one_list one (value_in words (codes "to")) task.layout.targets other.layout.targets asks.targets_asked same.targets_asked in
+      let targets = one_list one (value_in words (codes "to")) task.layout.targets other.layout.targets
+      asks.targets_asked same.targets_asked in
       let ring = one_ring (value_in words (codes "ring")) task.ring other.ring asks.ring_asked same.ring_asked in
       let delimiter = one_delimiter (value_in words (codes "delimiter")) task.layout.format.delimiter other.layout.format.delimiter asks.delimiter_asked same.delimiter_asked in
       let stripes = one_stripes (value_in words (codes "stripes")) task.stripes other.stripes asks.stripes_asked same.stripes_asked in
@@ -161,7 +185,8 @@ module _ (one : OneTarget) (words : List Text) where
       same_task : (a b : Task) → a.layout ≡ b.layout → a.ring ≡ b.ring → a.stripes ≡ b.stripes → a.summary ≡ b.summary → a.files ≡ b.files → a ≡ b
       same_task a b layout ring stripes summary files =
           ap₂ (λ (l : Layout) (n : ℕ). record a { layout = l; ring = n }) layout ring
-          ∙ ap₂ (λ (n : ℕ) (s : Bool). record a { layout = b.layout; ring = b.ring; stripes = n; summary = s }) stripes summary
+          ∙ ap₂ (λ (n : ℕ) (s : Bool). record a { layout = b.layout; ring = b.ring; stripes = n; summary = s }) stripes
+          summary
           ∙ ap (λ (fs : List Text). record b { files = fs }) files
 
   one_usage_fault : (fault other : Fault) → IsUsageFault words fault → IsUsageFault words other → fault ≡ other
@@ -169,15 +194,22 @@ module _ (one : OneTarget) (words : List Text) where
 
   one_fault_of : (fault other : Fault) → IsFaultOf words fault → IsFaultOf words other → fault ≡ other
   one_fault_of =
-      first_fault (IsUsageFault words) (AreTaken words) (IsFaultFromTargets words) one_usage_fault (λ fault taken is. not_taken is.0 taken is.2)
+      first_fault (IsUsageFault words) (AreTaken words) (IsFaultFromTargets words) one_usage_fault
+      (λ fault taken is. not_taken is.0 taken is.2)
       (first_fault (IsTargetFault (value_in words (codes "to"))) (HaveTargets words) (IsFaultFromRing words)
-      (one_target_fault one (value_in words (codes "to"))) (λ fault fine. no_target_fault one (value_in words (codes "to")) fine.0 fault fine.1)
+      (one_target_fault one (value_in words (codes "to")))
+      (λ fault fine. no_target_fault one (value_in words (codes "to")) fine.0 fault fine.1)
       (first_fault (IsRingFault (value_in words (codes "ring"))) (HaveRing words) (IsFaultFromDelimiter words)
-      (one_ring_fault (value_in words (codes "ring"))) (λ fault fine. no_ring_fault (value_in words (codes "ring")) fine.0 fault fine.1)
-      (first_fault (IsDelimiterFault (value_in words (codes "delimiter"))) (HaveDelimiter words) (IsFaultFromStripes words)
-      (one_delimiter_fault (value_in words (codes "delimiter"))) (λ fault fine. no_delimiter_fault (value_in words (codes "delimiter")) fine.0 fault fine.1)
-      (first_fault (IsStripesFault (value_in words (codes "stripes"))) (HaveStripes words) (IsFileFault (files_in words))
-      (one_stripes_fault (value_in words (codes "stripes"))) (λ fault fine. no_stripes_fault (value_in words (codes "stripes")) fine.0 fault fine.1)
+      (one_ring_fault (value_in words (codes "ring")))
+      (λ fault fine. no_ring_fault (value_in words (codes "ring")) fine.0 fault fine.1)
+      (first_fault (IsDelimiterFault (value_in words (codes "delimiter"))) (HaveDelimiter words)
+      (IsFaultFromStripes words)
+      (one_delimiter_fault (value_in words (codes "delimiter")))
+      (λ fault fine. no_delimiter_fault (value_in words (codes "delimiter")) fine.0 fault fine.1)
+      (first_fault (IsStripesFault (value_in words (codes "stripes"))) (HaveStripes words)
+      (IsFileFault (files_in words))
+      (one_stripes_fault (value_in words (codes "stripes")))
+      (λ fault fine. no_stripes_fault (value_in words (codes "stripes")) fine.0 fault fine.1)
       (one_file_fault (files_in words))))))
 
   one_meaning : (meaning other : Meaning) → Mean words meaning → Mean words other → other ≡ meaning
@@ -203,21 +235,25 @@ module _ (one : OneTarget) (words : List Text) where
   mean_just meaning means other = (λ e. subst (Mean words) (sym e) means, λ m. one_meaning meaning other means m)
 
 -- an error is a request for help or for the version, want of memory, or a fault of usage
-pub asks_help : (words : List Text) (error : Error) → HasKind (fault_of command_line words) error → kind_of error ≡ DisplayHelp → AskForHelp words
+pub asks_help : (words : List Text) (error : Error) → HasKind (fault_of command_line words) error
+    → kind_of error ≡ DisplayHelp → AskForHelp words
 asks_help words error (inl memory) is = absurd (cc)
 asks_help words error (inr among) is = subst (λ (k : ErrorKind). IsAmong k (fault_of command_line words)) is among
 
-pub asks_version : (words : List Text) (error : Error) → HasKind (fault_of command_line words) error → kind_of error ≡ DisplayVersion → AskForVersion words
+pub asks_version : (words : List Text) (error : Error) → HasKind (fault_of command_line words) error
+    → kind_of error ≡ DisplayVersion → AskForVersion words
 asks_version words error (inl memory) is = absurd (cc)
 asks_version words error (inr among) is = subst (λ (k : ErrorKind). IsAmong k (fault_of command_line words)) is among
 
-pub misuses : (words : List Text) (error : Error) → HasKind (fault_of command_line words) error → kind_of error ≢ OutOfMemory → kind_of error ≢ DisplayHelp
+pub misuses : (words : List Text) (error : Error) → HasKind (fault_of command_line words) error
+    → kind_of error ≢ OutOfMemory → kind_of error ≢ DisplayHelp
     → kind_of error ≢ DisplayVersion → IsFaultOf words (usage (kind_of error))
 misuses words error (inl memory) has helps versions = absurd (has memory)
 misuses words error (inr among) has helps versions = inl (kind_of error, refl, among, helps, versions)
 
 -- a fault of a check that comes to be told is all that the words mean
-pub told_just : (words : List Text) (told : Option Fault) (fails : Fault → Type 0) → OneTarget → IfSome told fails → ((fault : Fault) → fails fault → IsFaultOf words fault)
+pub told_just : (words : List Text) (told : Option Fault) (fails : Fault → Type 0) → OneTarget → IfSome told fails
+    → ((fault : Fault) → fails fault → IsFaultOf words fault)
     → IfSome told (λ fault. MeanJust words (wrong fault))
 told_just words None fails one is first = tt
 told_just words (Some fault) fails one is first = mean_just one words (wrong fault) (first fault is)
@@ -235,25 +271,35 @@ tells_some told fails is none = absurd (at (fault_told told) is none)
     at (Some fault) is e = absurd (cc)
 
 -- words that ask for something are not refused
-pub never_refused : (words : List Text) (meaning : Meaning) (status : ℕ) → MeanJust words meaning → ((fault : Fault) → wrong fault ≢ meaning) → status ≢ 2
+pub never_refused : (words : List Text) (meaning : Meaning) (status : ℕ) → MeanJust words meaning
+    → ((fault : Fault) → wrong fault ≢ meaning) → status ≢ 2
     → (status ≡ 2) ↔ AreWrong words
-never_refused words meaning status just differs other = (λ e. absurd (other e), λ is. absurd (differs is.0 ((just (wrong is.0)).1 is.1)))
+never_refused words meaning status just differs
+    other = (λ e. absurd (other e), λ is. absurd (differs is.0 ((just (wrong is.0)).1 is.1)))
 
-at_fault : (words : List Text) (fault : Fault) (status : ℕ) → MeanJust words (wrong fault) → status ≡ 2 → (status ≡ 2) ↔ AreWrong words
+at_fault : (words : List Text) (fault : Fault) (status : ℕ) → MeanJust words (wrong fault) → status ≡ 2
+    → (status ≡ 2) ↔ AreWrong words
 at_fault words fault status just two = (λ e. (fault, (just (wrong fault)).0 refl), λ is. two)
 
 -- words that are refused are, unless there was no memory or a file was missing
-pub is_refused : (words : List Text) (told : Refusal) (status : ℕ) → IfSome (fault_told told) (λ fault. MeanJust words (wrong fault))
+pub is_refused : (words : List Text) (told : Refusal) (status : ℕ)
+    → IfSome (fault_told told) (λ fault. MeanJust words (wrong fault))
     → (status ≡ 3) ⊎ (status ≡ refusal_status told) → status ≢ 3 → (status ≡ 2) ↔ AreWrong words
 is_refused words told status just (inl memory) had = absurd (had memory)
 is_refused words refusal.OutOfMemory status just (inr memory) had = absurd (had memory)
 is_refused words (refusal.CannotOpen file) status just (inr files) had = absurd (had files)
 is_refused words (refusal.CannotMake file) status just (inr files) had = absurd (had files)
-is_refused words (refusal.Usage error) status just (inr two) had = at_fault words (usage (kind_of error)) status just two
-is_refused words (refusal.UnknownTarget name) status just (inr two) had = at_fault words (unknown_target name.now) status just two
-is_refused words (refusal.TargetTwice target) status just (inr two) had = at_fault words (target_twice target) status just two
+is_refused words (refusal.Usage error) status just (inr two) had = at_fault words (usage (kind_of error)) status just
+    two
+is_refused words (refusal.UnknownTarget name) status just (inr two) had = at_fault words (unknown_target name.now)
+    status just two
+is_refused words (refusal.TargetTwice target) status just (inr two) had = at_fault words (target_twice target) status
+    just two
 is_refused words (refusal.BadRing word) status just (inr two) had = at_fault words (bad_ring word.now) status just two
-is_refused words (refusal.UnknownDelimiter word) status just (inr two) had = at_fault words (unknown_delimiter word.now) status just two
-is_refused words (refusal.BadStripes word) status just (inr two) had = at_fault words (bad_stripes word.now) status just two
+is_refused words (refusal.UnknownDelimiter word) status just (inr two) had = at_fault words (unknown_delimiter word.now)
+    status just two
+is_refused words (refusal.BadStripes word) status just (inr two) had = at_fault words (bad_stripes word.now) status just
+    two
 is_refused words refusal.TooManyFiles status just (inr two) had = at_fault words too_many_files status just two
-is_refused words (refusal.FileTwice file) status just (inr two) had = at_fault words (file_twice file.now) status just two
+is_refused words (refusal.FileTwice file) status just (inr two) had = at_fault words (file_twice file.now) status just
+    two

@@ -19,16 +19,20 @@ version_line = codes "register " ++ (VERSION.now ++ 10 ∷ [])
 abbrev pub AskForPage : List (List ℕ) → List ℕ → Type 0
 AskForPage words page = (MeanJust words help × (page ≡ HELP.now)) ⊎ (MeanJust words version × (page ≡ version_line))
 
--- a page was printed: with status 0 the output has gained it and handed it on, and nothing was told; else the output has
--- failed, and one line was told, unless that failed too
-pub record IsPrinted {W E : Type 0} (contents : W → Option (List ℕ)) (has_failed is_flushed : W → Bool) (told : E → Option (List ℕ)) (unheard : E → Bool)
+-- a page was printed: with status 0 the output has gained it and handed it on, and nothing was told; else the output
+-- has failed, and one line was told, unless that failed too
+pub record IsPrinted {W E : Type 0} (contents : W → Option (List ℕ)) (has_failed is_flushed : W → Bool)
+    (told : E → Option (List ℕ)) (unheard : E → Bool)
     (page : List ℕ) (status : ℕ) (given written : W) (before after : E) : Type 0 where
-  pub printed : status ≡ 0 → Appends (contents given) (contents written) page × (is_flushed written ≡ true) × (after ≡ before)
-  pub failed : status ≢ 0 → (has_failed written ≡ true) × (unheard after ≡ false → Appends (told before) (told after) PRINT_FAULT.now)
+  pub printed : status ≡ 0 → Appends (contents given) (contents written) page × (is_flushed written ≡ true)
+      × (after ≡ before)
+  pub failed : status ≢ 0 → (has_failed written ≡ true)
+      × (unheard after ≡ false → Appends (told before) (told after) PRINT_FAULT.now)
 
 -- tables were made: each source has ended as it should, the status is 0 exactly where all are whole, and standard error
 -- has gained the lines on them, unless it failed, and nothing where there are none
-pub record IsConverted {R W E : Type 0} (remaining : R → Option (List ℕ)) (contents : W → Option (List ℕ)) (has_failed is_flushed : W → Bool)
+pub record IsConverted {R W E : Type 0} (remaining : R → Option (List ℕ)) (contents : W → Option (List ℕ))
+    (has_failed is_flushed : W → Bool)
     (own_mark : W → ℕ) (told : E → Option (List ℕ)) (unheard : E → Bool)
     (task : Task) (status : ℕ) (sources : List R) (given written : List W) (before after : E) : Type 0 where
   pub report : Report W
@@ -39,14 +43,17 @@ pub record IsConverted {R W E : Type 0} (remaining : R → Option (List ℕ)) (c
   pub quiet : status ≡ 0 → task.summary ≡ false → after ≡ before
 
 -- sources were opened by the names of a task and outputs made by them, and then converted
-pub record AreConverted {R W E : Type 0} (remaining : R → Option (List ℕ)) (contents : W → Option (List ℕ)) (has_failed is_flushed : W → Bool)
-    (own_mark : W → ℕ) (told : E → Option (List ℕ)) (unheard : E → Bool) (IsOpened : List ℕ → R → Type 0) (IsMade : List ℕ → ℕ → W → Type 0)
+pub record AreConverted {R W E : Type 0} (remaining : R → Option (List ℕ)) (contents : W → Option (List ℕ))
+    (has_failed is_flushed : W → Bool)
+    (own_mark : W → ℕ) (told : E → Option (List ℕ)) (unheard : E → Bool) (IsOpened : List ℕ → R → Type 0)
+    (IsMade : List ℕ → ℕ → W → Type 0)
     (task : Task) (status : ℕ) (written : List W) (before after : E) : Type 0 where
   pub sources : List R
   pub given : List W
   pub opened : AreOpened IsOpened task.files sources
   pub made : AreMade IsMade task.files given
-  pub converted : IsConverted remaining contents has_failed is_flushed own_mark told unheard task status sources given written before after
+  pub converted : IsConverted remaining contents has_failed is_flushed own_mark told unheard task status sources given
+      written before after
 
 -- something is wrong with the words
 abbrev pub AreWrong : List (List ℕ) → Type 0

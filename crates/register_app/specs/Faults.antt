@@ -6,8 +6,8 @@ use Rattle.date_texts.specs.declared.calendar.Target.{Target}
 use Rattle.register_app.specs.declared.refusals.Refusal.{Refusal}
 use Rattle.register_app.specs.declared.refusals.Refusal.TheVariants as refusal
 
--- the options are not written as they are taken, a name names no target, a target is named twice, a word names no ring size,
--- no delimiter or no number of stripes, there are more than 32 files, or a file is named twice
+-- the options are not written as they are taken, a name names no target, a target is named twice, a word names no ring
+-- size, no delimiter or no number of stripes, there are more than 32 files, or a file is named twice
 pub data Fault : Type 0 where
   usage : ErrorKind → Fault
   unknown_target : List ℕ → Fault

@@ -12,4 +12,5 @@ AreOpened IsOpened files sources = AreMatched (λ i file source. IsOpened file s
 
 -- each output goes to the file named like its source's with .out.csv behind it, and is marked by its place, from 1
 abbrev pub AreMade : {W : Type 0} → (List ℕ → ℕ → W → Type 0) → List (List ℕ) → List W → Type 0
-AreMade IsMade files outputs = AreMatched (λ i file output. IsMade (file ++ codes ".out.csv") (i + 1) output) files outputs
+AreMade IsMade files outputs = AreMatched (λ i file output. IsMade (file ++ codes ".out.csv") (i + 1) output) files
+    outputs

@@ -1,5 +1,6 @@
 -- What the values of the options mean.
-use Rattle.std.specs.Prelude.{◌≡◌, ◌≢◌, ◌↔◌, ◌⊎◌, ◌==◌, ◌++◌, ◌≤◌, ℕ, List, [], ◌∷◌, codes, length, ⊤, Contains, Result, Ok, Err}
+use Rattle.std.specs.Prelude.{◌≡◌, ◌≢◌, ◌↔◌, ◌⊎◌, ◌==◌, ◌++◌, ◌≤◌, ℕ, List, [], ◌∷◌, codes, length, ⊤, Contains, Result}
+use Rattle.std.specs.Prelude.{Ok, Err}
 use Rattle.std.specs.List.{slice_split}
 use Rattle.std.specs.Str.Parse.{IsNumeral, digits_value}
 use Rattle.date_texts.specs.Calendars.{target_name}
@@ -26,7 +27,8 @@ AreNamesOf (name ∷ names) (target ∷ targets) = IsNamed name (target_name tar
 -- the list asks for these targets: it is the word for none, or it names them, each once
 abbrev pub AsksForTargets : List ℕ → List Target → Type 0
 AsksForTargets list targets =
-    ((list ≡ no_target) × (targets ≡ [])) ⊎ ((list ≢ no_target) × AreNamesOf (names_in list) targets × (¬ NamesTwice targets))
+    ((list ≡ no_target) × (targets ≡ [])) ⊎ ((list ≢ no_target) × AreNamesOf (names_in list) targets
+    × (¬ NamesTwice targets))
 
 -- the name stands in the list behind names of these targets, each of which is named once
 pub record StandsBehind (list : List ℕ) (earlier : List Target) (name : List ℕ) : Type 0 where
@@ -45,7 +47,8 @@ IsFirstUnknown list name =
 -- the first name at fault names this target, which was named before
 abbrev pub IsFirstTwice : List ℕ → Target → Type 0
 IsFirstTwice list target =
-    (earlier : List Target) × (name : List ℕ) × StandsBehind list earlier name × IsNamed name (target_name target) × Contains earlier target
+    (earlier : List Target) × (name : List ℕ) × StandsBehind list earlier name × IsNamed name (target_name target)
+    × Contains earlier target
 
 -- what is wrong with a list
 abbrev pub IsListFault : List ℕ → Fault → Type 0
@@ -65,7 +68,9 @@ ListMeansJust list meaning = (other : Result (List Target) Fault) → (other ≡
 -- the words for a comma (44), a semicolon (59) and a tab (9)
 abbrev pub IsDelimiterWord : List ℕ → ℕ → Type 0
 IsDelimiterWord word byte =
-    ((word ≡ codes "comma") × (byte ≡ 44)) ⊎ ((word ≡ codes "semicolon") × (byte ≡ 59)) ⊎ ((word ≡ codes "tab") × (byte ≡ 9))
+    ((word ≡ codes "comma") × (byte ≡ 44))
+    ⊎ ((word ≡ codes "semicolon") × (byte ≡ 59))
+    ⊎ ((word ≡ codes "tab") × (byte ≡ 9))
 
 -- the word is one to five decimal digits, which write the number n, and n is from 1 to `most`
 pub record IsNumberWord (most : ℕ) (word : List ℕ) (n : ℕ) : Type 0 where

@@ -17,7 +17,8 @@ refusal_numbers = 1 ∷ 2 ∷ 3 ∷ 4 ∷ 5 ∷ 6 ∷ 7 ∷ []
 
 -- how many were refused with one number, behind those of an earlier number or as the first
 abbrev pub count_text : Bool → ℕ → ℕ → List ℕ
-count_text behind number count = (if behind then codes ", " else codes " (") ++ (decimal number ++ (codes ": " ++ decimal count))
+count_text behind number count = (if behind then codes ", " else codes " (")
+    ++ (decimal number ++ (codes ": " ++ decimal count))
 
 -- how many were refused with each of these numbers that some were refused with: ` (4: 10, 5: 2)`
 abbrev pub counts_from : Bool → List Note → List ℕ → List ℕ
@@ -30,7 +31,8 @@ counts_from behind journal (number ∷ numbers) =
 -- the rows of the source at this place, from 1: `source 1: 2000 rows, 12 refused`
 abbrev pub rows_text : ℕ → ℕ → ℕ → List ℕ
 rows_text place rows refused =
-    codes "source " ++ (decimal place ++ (codes ": " ++ (decimal rows ++ (codes " rows, " ++ (decimal refused ++ codes " refused")))))
+    codes "source " ++ (decimal place ++ (codes ": "
+    ++ (decimal rows ++ (codes " rows, " ++ (decimal refused ++ codes " refused")))))
 
 -- the line of the source at this place: `source 2: cause 6`, or, where a summary is asked for,
 -- `source 1: 2000 rows, 12 refused (4: 10, 5: 2)`

@@ -1,6 +1,8 @@
 -- What the words after the program's name ask for.
-use Rattle.std.specs.Prelude.{◌≡◌, ◌≢◌, ◌≤◌, ◌<◌, ◌↔◌, ◌⊎◌, ◌++◌, ℕ, Bool, List, [], ◌∷◌, length, map, unwrap_or, Contains, codes, true, Option, Some, None}
-use Rattle.clap.specs.Words.{App, IsAmong, Rule, Text, all_of, first_of, fault_of, matches_of, new_app, new_rule, one_of, with_rule}
+use Rattle.std.specs.Prelude.{◌≡◌, ◌≢◌, ◌≤◌, ◌<◌, ◌↔◌, ◌⊎◌, ◌++◌, ℕ, Bool, List, [], ◌∷◌, length, map, unwrap_or}
+use Rattle.std.specs.Prelude.{Contains, codes, true, Option, Some, None}
+use Rattle.clap.specs.Words.{App, IsAmong, Rule, Text, all_of, first_of, fault_of, matches_of, new_app, new_rule}
+use Rattle.clap.specs.Words.{one_of, with_rule}
 use Rattle.clap.specs.declared.builder.action.ArgAction.TheVariants.{Append, SetTrue}
 use Rattle.clap.specs.declared.error.kind.ErrorKind.{ErrorKind}
 use Rattle.clap.specs.declared.error.kind.ErrorKind.TheVariants.{DisplayHelp, DisplayVersion}
@@ -40,7 +42,8 @@ word_rule name = record (new_rule name) { value_names = 1; action = Some Append 
 
 -- a command with a version, and no word for the program's own name
 abbrev pub bare_command : App
-bare_command = let new = new_app (codes "register") in record new { top = record new.top { no_binary_name = true; has_version = true } }
+bare_command = let new = new_app (codes "register") in
+    record new { top = record new.top { no_binary_name = true; has_version = true } }
 
 -- the command line: four options with a value each, two flags, and files
 abbrev pub command_line : App
@@ -142,7 +145,8 @@ HaveStripes words = (stripes : ℕ) × IsStripesOf (value_in words (codes "strip
 -- what is wrong with words that are no options as they are taken
 abbrev pub IsUsageFault : List Text → Fault → Type 0
 IsUsageFault words fault =
-    (kind : ErrorKind) × (fault ≡ usage kind) × IsAmong kind (fault_of command_line words) × (kind ≢ DisplayHelp) × (kind ≢ DisplayVersion)
+    (kind : ErrorKind) × (fault ≡ usage kind) × IsAmong kind (fault_of command_line words) × (kind ≢ DisplayHelp)
+    × (kind ≢ DisplayVersion)
 
 -- what is wrong with the value of `--to`; without it, nothing is
 abbrev pub IsTargetFault : Option Text → Fault → Type 0
@@ -151,15 +155,18 @@ IsTargetFault (Some list) fault = IsListFault list fault
 
 -- what is wrong with the value of `--ring`: it names no size of a ring
 abbrev pub IsRingFault : Option Text → Fault → Type 0
-IsRingFault value fault = (word : Text) × (fault ≡ bad_ring word) × (value ≡ Some word) × ((ring : ℕ) → ¬ IsNumberWord 4096 word ring)
+IsRingFault value fault = (word : Text) × (fault ≡ bad_ring word) × (value ≡ Some word)
+    × ((ring : ℕ) → ¬ IsNumberWord 4096 word ring)
 
 -- what is wrong with the value of `--delimiter`: it is none of the words
 abbrev pub IsDelimiterFault : Option Text → Fault → Type 0
-IsDelimiterFault value fault = (word : Text) × (fault ≡ unknown_delimiter word) × (value ≡ Some word) × ((byte : ℕ) → ¬ IsDelimiterWord word byte)
+IsDelimiterFault value fault = (word : Text) × (fault ≡ unknown_delimiter word) × (value ≡ Some word)
+    × ((byte : ℕ) → ¬ IsDelimiterWord word byte)
 
 -- what is wrong with the value of `--stripes`: it names no number of converters
 abbrev pub IsStripesFault : Option Text → Fault → Type 0
-IsStripesFault value fault = (word : Text) × (fault ≡ bad_stripes word) × (value ≡ Some word) × ((stripes : ℕ) → ¬ IsNumberWord 4 word stripes)
+IsStripesFault value fault = (word : Text) × (fault ≡ bad_stripes word) × (value ≡ Some word)
+    × ((stripes : ℕ) → ¬ IsNumberWord 4 word stripes)
 
 -- what is wrong with the files: there are too many, or else one is named twice
 abbrev pub IsFileFault : List Text → Fault → Type 0
@@ -173,17 +180,20 @@ FailsFirst fails passes later fault = fails fault ⊎ (passes × later fault)
 
 -- what is wrong with the words, from each check on: the targets, the ring, the delimiter, the stripes and the files
 abbrev pub IsFaultFromStripes : List Text → Fault → Type 0
-IsFaultFromStripes words = FailsFirst (IsStripesFault (value_in words (codes "stripes"))) (HaveStripes words) (IsFileFault (files_in words))
+IsFaultFromStripes words = FailsFirst (IsStripesFault (value_in words (codes "stripes"))) (HaveStripes words)
+    (IsFileFault (files_in words))
 
 abbrev pub IsFaultFromDelimiter : List Text → Fault → Type 0
 IsFaultFromDelimiter words =
     FailsFirst (IsDelimiterFault (value_in words (codes "delimiter"))) (HaveDelimiter words) (IsFaultFromStripes words)
 
 abbrev pub IsFaultFromRing : List Text → Fault → Type 0
-IsFaultFromRing words = FailsFirst (IsRingFault (value_in words (codes "ring"))) (HaveRing words) (IsFaultFromDelimiter words)
+IsFaultFromRing words = FailsFirst (IsRingFault (value_in words (codes "ring"))) (HaveRing words)
+    (IsFaultFromDelimiter words)
 
 abbrev pub IsFaultFromTargets : List Text → Fault → Type 0
-IsFaultFromTargets words = FailsFirst (IsTargetFault (value_in words (codes "to"))) (HaveTargets words) (IsFaultFromRing words)
+IsFaultFromTargets words = FailsFirst (IsTargetFault (value_in words (codes "to"))) (HaveTargets words)
+    (IsFaultFromRing words)
 
 -- what is wrong with the words: the first check that fails
 abbrev pub IsFaultOf : List Text → Fault → Type 0

@@ -115,7 +115,8 @@ fn print_page<W: Output, E: Output>(
     output: W,
     errors: &mut E,
 ) -> Answered<W>
-    ensures printed { IsPrinted W.contents W.has_failed W.is_flushed E.contents E.has_failed page.now result.status output result.output errors.old errors.new }
+    ensures printed { IsPrinted W.contents W.has_failed W.is_flushed E.contents E.has_failed page.now result.status
+        output result.output errors.old errors.new }
     ensures statuses { (result.status ≡ 0) ⊎ (result.status ≡ 1) }
     ensures none { result.outputs.items ≡ [] }
     ensures mark { W.own_mark result.output ≡ W.own_mark output }
@@ -138,7 +139,8 @@ fn print_page<W: Output, E: Output>(
 /// Tells how the sources of a run have ended, and gives the status. Where all are whole and no summary is asked for,
 /// there is nothing to tell.
 fn tell_report<W, E: Output>(errors: &mut E, summary: bool, report: &Report<W>) -> u8
-    requires verdict { (report.now.verdict ≡ Verdict.Complete) ↔ All (λ e. is_whole_end e ≡ true) report.now.ends.items }
+    requires verdict { (report.now.verdict ≡ Verdict.Complete)
+        ↔ All (λ e. is_whole_end e ≡ true) report.now.ends.items }
     ensures complete { (result ≡ 0) ↔ (report.now.verdict ≡ Verdict.Complete) }
     ensures lines { E.has_failed errors.new ≡ false
         → Appends (E.contents errors.old) (E.contents errors.new) (lines_from summary 1 report.now.ends.items) }
@@ -170,7 +172,8 @@ fn convert<T: Threads + Wait + Sync, R: Read + Send + Drop, W: Output + Drop, E:
     errors: &mut E,
     job: &Job<'_>,
 ) -> Ran<W>
-    ensures converted { result.status ≢ 3 → IsConverted R.remaining W.contents W.has_failed W.is_flushed W.own_mark E.contents E.has_failed
+    ensures converted { result.status ≢ 3 → IsConverted R.remaining W.contents W.has_failed W.is_flushed W.own_mark
+        E.contents E.has_failed
         (task_of job.now) result.status sources.items outputs.items result.outputs.items errors.old errors.new }
     ensures untouched { result.status ≡ 3 → result.outputs.items ≡ outputs.items }
     ensures len { vec_len result.outputs ≡ vec_len outputs }
@@ -204,7 +207,8 @@ fn convert_input<T: Threads + Wait + Sync, R: Read + Send + Drop, W: Output + Dr
     errors: &mut E,
     job: &Job<'_>,
 ) -> Answered<W>
-    ensures converted { result.status ≢ 3 → IsConverted R.remaining W.contents W.has_failed W.is_flushed W.own_mark E.contents E.has_failed
+    ensures converted { result.status ≢ 3 → IsConverted R.remaining W.contents W.has_failed W.is_flushed W.own_mark
+        E.contents E.has_failed
         (task_of job.now) result.status (input ∷ []) (output ∷ []) (result.output ∷ []) errors.old errors.new }
     ensures untouched { result.status ≡ 3 → result.output ≡ output }
     ensures none { result.outputs.items ≡ [] }
@@ -243,8 +247,10 @@ fn convert_files<
     E: Output,
 >(rt: &T, alloc: Global, output: W, places: &P, errors: &mut E, job: &Job<'_>) -> Answered<W>
     requires few { length job.now.files.items ≤ 32 }
-    ensures converted { result.status ≢ 3 → AreConverted R.remaining W.contents W.has_failed W.is_flushed W.own_mark E.contents E.has_failed
-        (P.is_opened places.now) (P.is_made places.now) (task_of job.now) result.status result.outputs.items errors.old errors.new }
+    ensures converted { result.status ≢ 3 → AreConverted R.remaining W.contents W.has_failed W.is_flushed W.own_mark
+        E.contents E.has_failed
+        (P.is_opened places.now) (P.is_made places.now) (task_of job.now) result.status result.outputs.items errors.old
+        errors.new }
     ensures untouched { result.output ≡ output }
     ensures unwritten { result.status ≡ 3 → (result.outputs.items ≡ [])
         ⊎ AreMade (P.is_made places.now) (task_of job.now).files result.outputs.items }
@@ -294,12 +300,15 @@ pub fn answer<
     // The words ask for a page, which was printed; or for the table of standard input; or for those of files.
     ensures answered { result.status ≤ 1
         → ((page : List ℕ) × AskForPage (map string_bytes words.now) page
-        × IsPrinted W.contents W.has_failed W.is_flushed E.contents E.has_failed page result.status output result.output errors.old errors.new
+        × IsPrinted W.contents W.has_failed W.is_flushed E.contents E.has_failed page result.status output result.output
+        errors.old errors.new
         × (result.outputs.items ≡ []))
-        ⊎ ((task : Task) × MeanJust (map string_bytes words.now) (table task) × (task.files ≡ []) × (result.outputs.items ≡ [])
+        ⊎ ((task : Task) × MeanJust (map string_bytes words.now) (table task) × (task.files ≡ [])
+        × (result.outputs.items ≡ [])
         × IsConverted R.remaining W.contents W.has_failed W.is_flushed W.own_mark E.contents E.has_failed
         task result.status (input ∷ []) (output ∷ []) (result.output ∷ []) errors.old errors.new)
-        ⊎ ((task : Task) × MeanJust (map string_bytes words.now) (table task) × (task.files ≢ []) × (result.output ≡ output)
+        ⊎ ((task : Task) × MeanJust (map string_bytes words.now) (table task) × (task.files ≢ [])
+        × (result.output ≡ output)
         × AreConverted R.remaining W.contents W.has_failed W.is_flushed W.own_mark E.contents E.has_failed
         (P.is_opened places.now) (P.is_made places.now) task result.status result.outputs.items errors.old errors.new) }
 
@@ -310,7 +319,8 @@ pub fn answer<
 
     // With status 3 the outputs are none, or as they were made.
     ensures unwritten { result.status ≡ 3 → (result.outputs.items ≡ [])
-        ⊎ ((task : Task) × MeanJust (map string_bytes words.now) (table task) × AreMade (P.is_made places.now) task.files result.outputs.items) }
+        ⊎ ((task : Task) × MeanJust (map string_bytes words.now) (table task)
+        × AreMade (P.is_made places.now) task.files result.outputs.items) }
     ensures statuses { result.status ≤ 3 }
     ensures mark { W.own_mark result.output ≡ W.own_mark output }
     ensures errors_mark { E.own_mark errors.new ≡ E.own_mark errors.old }

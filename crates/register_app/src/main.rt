@@ -1,7 +1,7 @@
 //! The program `register`: converts the dates of historical registers.
 //!
-//! It reads CSV texts, from files or from standard input, and writes a table of each, with the day of each record in the
-//! calendars that the words ask for.
+//! It reads CSV texts, from files or from standard input, and writes a table of each, with the day of each record in
+//! the calendars that the words ask for.
 #![tactic(auto)]
 
 mod answering;

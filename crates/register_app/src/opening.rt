@@ -33,7 +33,8 @@ fn open_sources<'a, R: Drop, W, P: Places<R, W>>(
     places: &P,
     files: &[&'a str],
 ) -> Result<Vec<R>, Refusal<'a>>
-    ensures opened { IfOk result (λ sources. AreOpened (P.is_opened places.now) (map (λ file. file.now) files.now) sources.items) }
+    ensures opened { IfOk result (λ sources. AreOpened (P.is_opened places.now) (map (λ file. file.now) files.now)
+        sources.items) }
     ensures status { IfErr result (λ refusal. refusal_status refusal ≡ 3) }
 {
     let mut sources = Vec::new(alloc);
@@ -62,7 +63,8 @@ fn make_outputs<'a, R, W: Drop, P: Places<R, W>>(
     files: &[&'a str],
 ) -> Result<Vec<W>, Refusal<'a>>
     requires few { length files.now ≤ 32 }
-    ensures made { IfOk result (λ outputs. AreMade (P.is_made places.now) (map (λ file. file.now) files.now) outputs.items) }
+    ensures made { IfOk result (λ outputs. AreMade (P.is_made places.now) (map (λ file. file.now) files.now)
+        outputs.items) }
     ensures status { IfErr result (λ refusal. refusal_status refusal ≡ 3) }
 {
     let mut outputs = Vec::new(alloc);
@@ -98,8 +100,10 @@ pub fn open_files<'a, R: Drop, W: Drop, P: Places<R, W>>(
     files: &[&'a str],
 ) -> Result<Opened<R, W>, Refusal<'a>>
     requires few { length files.now ≤ 32 }
-    ensures opened { IfOk result (λ o. AreOpened (P.is_opened places.now) (map (λ file. file.now) files.now) o.sources.items) }
-    ensures made { IfOk result (λ o. AreMade (P.is_made places.now) (map (λ file. file.now) files.now) o.outputs.items) }
+    ensures opened { IfOk result (λ o. AreOpened (P.is_opened places.now) (map (λ file. file.now) files.now)
+        o.sources.items) }
+    ensures made { IfOk result (λ o. AreMade (P.is_made places.now) (map (λ file. file.now) files.now)
+        o.outputs.items) }
     ensures status { IfErr result (λ refusal. refusal_status refusal ≡ 3) }
 {
     let sources = open_sources(alloc, places, files)?;

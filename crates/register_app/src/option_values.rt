@@ -22,7 +22,8 @@ const NO_TARGET: &str = "none";
 /// growth of the targets is refused.
 pub fn read_targets(alloc: Global, list: &str) -> Result<Vec<Target>, Refusal<'_>>
     ensures value { IfOk result (λ targets. ListMeansJust list.entry.now (Ok targets.items)) }
-    ensures fault { IfErr result (λ refusal. IfSome (fault_told refusal) (λ fault. ListMeansJust list.entry.now (Err fault))) }
+    ensures fault { IfErr result (λ refusal. IfSome (fault_told refusal)
+        (λ fault. ListMeansJust list.entry.now (Err fault))) }
     ensures memory { IfErr result IsOfWords }
 {
     one_target();

@@ -1,6 +1,7 @@
 //! What the words ask for.
 
-ghost use Rattle.std.specs.Prelude.{◌≡◌, ◌↔◌, ℕ, List, IfOk, IfErr, IfSome, IfNone, IsSomeAnd, OnOk, map, codes, option_map, unwrap_or, [], Some, true, false};
+ghost use Rattle.std.specs.Prelude.{◌≡◌, ◌↔◌, ℕ, List, IfOk, IfErr, IfSome, IfNone, IsSomeAnd, OnOk, map, codes};
+ghost use Rattle.std.specs.Prelude.{option_map, unwrap_or, [], Some, true, false};
 ghost use Rattle.std.specs.String.{string_bytes};
 ghost use Rattle.clap.specs.Words.{HasKind, all_of, app_of, fault_of, found_of, one_of, rows_of, rule_of};
 ghost use Rattle.register_app.specs.Faults.{IsOfWords, fault_told};
@@ -141,7 +142,8 @@ fn files_given<'a>(alloc: Global, matches: &ArgMatches<'a>) -> Result<Vec<&'a st
 /// What clap refuses, a request for help or for the version, and want of memory.
 fn read_options<'a>(alloc: Global, words: &'a [String]) -> Result<Options<'a>, clap::Error>
     ensures taken { IfOk result (λ o. fault_of command_line (map string_bytes words.entry.now) ≡ []) }
-    ensures to { IfOk result (λ o. option_map (λ v. v.now) o.to ≡ value_in (map string_bytes words.entry.now) (codes "to")) }
+    ensures to { IfOk result (λ o. option_map (λ v. v.now) o.to
+        ≡ value_in (map string_bytes words.entry.now) (codes "to")) }
     ensures ring { IfOk result (λ o. option_map (λ v. v.now) o.ring
         ≡ value_in (map string_bytes words.entry.now) (codes "ring")) }
     ensures stripes { IfOk result (λ o. option_map (λ v. v.now) o.stripes
@@ -169,7 +171,8 @@ fn read_options<'a>(alloc: Global, words: &'a [String]) -> Result<Options<'a>, c
 /// The targets that the value of `--to` asks for, or all of them where there is none.
 fn chosen_targets<'a>(alloc: Global, list: Option<&'a str>) -> Result<Vec<Target>, Refusal<'a>>
     ensures value { IfOk result (λ targets. AreTargetsOf (option_map (λ l. l.now) list.entry) targets.items) }
-    ensures fault { IfErr result (λ refusal. IfSome (fault_told refusal) (IsTargetFault (option_map (λ l. l.now) list.entry))) }
+    ensures fault { IfErr result (λ refusal. IfSome (fault_told refusal)
+        (IsTargetFault (option_map (λ l. l.now) list.entry))) }
     ensures memory { IfErr result IsOfWords }
 {
     match list {
@@ -187,7 +190,8 @@ fn chosen_targets<'a>(alloc: Global, list: Option<&'a str>) -> Result<Vec<Target
 /// The size of a ring that the value of `--ring` names, or the usual one where there is none.
 fn chosen_ring<'a>(word: Option<&'a str>) -> Result<usize, Refusal<'a>>
     ensures value { IfOk result (IsRingOf (option_map (λ w. w.now) word.entry)) }
-    ensures fault { IfErr result (λ refusal. IsSomeAnd (fault_told refusal) (IsRingFault (option_map (λ w. w.now) word.entry))) }
+    ensures fault { IfErr result (λ refusal. IsSomeAnd (fault_told refusal)
+        (IsRingFault (option_map (λ w. w.now) word.entry))) }
 {
     let Some(word) = word else {
         return Ok(RING);
@@ -201,7 +205,8 @@ fn chosen_ring<'a>(word: Option<&'a str>) -> Result<usize, Refusal<'a>>
 /// The byte that the value of `--delimiter` names, or a comma where there is none.
 fn chosen_delimiter<'a>(word: Option<&'a str>) -> Result<u8, Refusal<'a>>
     ensures value { IfOk result (IsDelimiterOf (option_map (λ w. w.now) word.entry)) }
-    ensures fault { IfErr result (λ refusal. IsSomeAnd (fault_told refusal) (IsDelimiterFault (option_map (λ w. w.now) word.entry))) }
+    ensures fault { IfErr result (λ refusal. IsSomeAnd (fault_told refusal)
+        (IsDelimiterFault (option_map (λ w. w.now) word.entry))) }
 {
     let Some(word) = word else {
         return Ok(b',');
@@ -215,7 +220,8 @@ fn chosen_delimiter<'a>(word: Option<&'a str>) -> Result<u8, Refusal<'a>>
 /// The number of converters that the value of `--stripes` names, or the usual one where there is none.
 fn chosen_stripes<'a>(word: Option<&'a str>) -> Result<usize, Refusal<'a>>
     ensures value { IfOk result (IsStripesOf (option_map (λ w. w.now) word.entry)) }
-    ensures fault { IfErr result (λ refusal. IsSomeAnd (fault_told refusal) (IsStripesFault (option_map (λ w. w.now) word.entry))) }
+    ensures fault { IfErr result (λ refusal. IsSomeAnd (fault_told refusal)
+        (IsStripesFault (option_map (λ w. w.now) word.entry))) }
 {
     let Some(word) = word else {
         return Ok(STRIPES);
@@ -253,7 +259,8 @@ fn file_named_twice<'a>(files: &[&'a str]) -> Option<&'a str>
 /// `TooManyFiles` where there are more than 32, and else `FileTwice` for the first that was named before.
 fn check_files<'a>(files: &[&'a str]) -> Result<(), Refusal<'a>>
     ensures fine { OnOk result (AreFilesToConvert (map (λ f. f.now) files.now)) }
-    ensures fault { IfErr result (λ refusal. IsSomeAnd (fault_told refusal) (IsFileFault (map (λ f. f.now) files.now))) }
+    ensures fault { IfErr result (λ refusal. IsSomeAnd (fault_told refusal)
+        (IsFileFault (map (λ f. f.now) files.now))) }
 {
     if files.len() > MAX_FILES {
         return Err(Refusal::TooManyFiles);
@@ -274,7 +281,8 @@ fn check_files<'a>(files: &[&'a str]) -> Result<(), Refusal<'a>>
 /// way.
 pub fn read_request<'a>(alloc: Global, words: &'a [String]) -> Result<Request<'a>, Refusal<'a>>
     ensures asked { IfOk result (λ request. MeanJust (map string_bytes words.entry.now) (meaning_of request)) }
-    ensures refused { IfErr result (λ refusal. IfSome (fault_told refusal) (λ fault. MeanJust (map string_bytes words.entry.now) (wrong fault))) }
+    ensures refused { IfErr result (λ refusal. IfSome (fault_told refusal)
+        (λ fault. MeanJust (map string_bytes words.entry.now) (wrong fault))) }
     ensures memory { IfErr result IsOfWords }
 {
     one_target();

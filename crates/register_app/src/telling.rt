@@ -3,7 +3,8 @@
 ghost use Rattle.std.specs.Prelude.{◌≡◌, ◌≤◌, ◌+◌, ◌++◌, ◌∷◌, [], codes, length, true, false};
 ghost use Rattle.std.specs.Fmt.{decimal};
 ghost use Rattle.std.specs.Io.KnownBytes.{Appends};
-ghost use Rattle.register_app.specs.Reports.{count_text, counts_from, line_of_end, lines_from, refusal_numbers, refused_with, rows_text};
+ghost use Rattle.register_app.specs.Reports.{count_text, counts_from, line_of_end, lines_from, refusal_numbers};
+ghost use Rattle.register_app.specs.Reports.{refused_with, rows_text};
 
 use arrayvec::ArrayString;
 use itoa::Buffer;
@@ -97,7 +98,8 @@ fn push_counts(line: &mut Line, journal: &[Note])
 
 /// The line of a whole source.
 fn line_of_whole(place: usize, rows: u32, refused: u32, journal: &[Note]) -> Line
-    ensures { result.bytes ≡ rows_text place rows refused ++ (counts_from false journal.now refusal_numbers ++ 10 ∷ []) }
+    ensures { result.bytes
+        ≡ rows_text place rows refused ++ (counts_from false journal.now refusal_numbers ++ 10 ∷ []) }
 {
     let mut line = begin_whole(place, rows, refused);
     push_counts(&mut line, journal);
@@ -108,7 +110,8 @@ fn line_of_whole(place: usize, rows: u32, refused: u32, journal: &[Note]) -> Lin
 /// Tells how each source has ended, in order: the cause of each that is broken, and with `summary` the rows of each
 /// that is whole. A fault of `errors` is let go: there is nowhere else to tell it.
 pub fn tell_ends<E: Output>(errors: &mut E, summary: bool, ends: &[SourceEnd])
-    ensures told { E.has_failed errors.new ≡ false → Appends (E.contents errors.old) (E.contents errors.new) (lines_from summary 1 ends.now) }
+    ensures told { E.has_failed errors.new ≡ false
+        → Appends (E.contents errors.old) (E.contents errors.new) (lines_from summary 1 ends.now) }
     ensures mark { E.own_mark errors.new ≡ E.own_mark errors.old }
 {
     let mut place = 0_usize;
@@ -120,7 +123,9 @@ pub fn tell_ends<E: Output>(errors: &mut E, summary: bool, ends: &[SourceEnd])
 
 /// Tells how the source at this place has ended.
 fn tell_end<E: Output>(errors: &mut E, summary: bool, place: usize, end: &SourceEnd)
-    ensures told { E.has_failed errors.new ≡ false → (E.has_failed errors.old ≡ false) × Appends (E.contents errors.old) (E.contents errors.new) (line_of_end summary place end.now) }
+    ensures told { E.has_failed errors.new ≡ false
+        → (E.has_failed errors.old ≡ false) × Appends (E.contents errors.old) (E.contents errors.new)
+        (line_of_end summary place end.now) }
     ensures mark { E.own_mark errors.new ≡ E.own_mark errors.old }
 {
     match end {

@@ -11,14 +11,16 @@ returns-in-Ok-Help-clause-refused g c =
     let words = map string_bytes c.args.words.now in
     let just : MeanJust words help = search (rules, c.in-Ok-Help.ensures.asked) in
     λ had. never_refused words help c.print_page.result.status just (λ fault e. cc)
-    (λ two. elim c.print_page.ensures.statuses [ inl zero ↦ absurd (omega (arith, two, zero)) | inr one ↦ absurd (omega (arith, two, one)) ])
+    (λ two. elim c.print_page.ensures.statuses
+    [ inl zero ↦ absurd (omega (arith, two, zero)) | inr one ↦ absurd (omega (arith, two, one)) ])
 
 pub returns-in-Ok-Version-clause-refused : goal.returns-in-Ok-Version-clause-refused
 returns-in-Ok-Version-clause-refused g c =
     let words = map string_bytes c.args.words.now in
     let just : MeanJust words version = search (rules, c.in-Ok-Version.ensures.asked) in
     λ had. never_refused words version c.print_page-in-Ok-Version.result.status just (λ fault e. cc)
-    (λ two. elim c.print_page-in-Ok-Version.ensures.statuses [ inl zero ↦ absurd (omega (arith, two, zero)) | inr one ↦ absurd (omega (arith, two, one)) ])
+    (λ two. elim c.print_page-in-Ok-Version.ensures.statuses
+    [ inl zero ↦ absurd (omega (arith, two, zero)) | inr one ↦ absurd (omega (arith, two, one)) ])
 
 pub convert_files-requires-clause-few : goal.convert_files-requires-clause-few
 convert_files-requires-clause-few g c =
@@ -39,7 +41,13 @@ returns-then-is_empty-clause-answered g c = λ low.
     let just : MeanJust words (table (task_of job)) = search (rules, c.in-Ok-Convert.ensures.asked) in
     let zero : length job.files.items ≡ 0 = search rules in
     let none : job.files.items ≡ [] = none_of job.files.items zero in
-    inr (inl (task_of job, just, ap (λ l. map (λ f. f.now) l) none, c.convert_input.ensures.none, c.convert_input.ensures.converted (λ three. absurd (omega (arith, low, three)))))
+    inr (inl (
+      task_of job,
+      just,
+      ap (λ l. map (λ f. f.now) l) none,
+      c.convert_input.ensures.none,
+      c.convert_input.ensures.converted (λ three. absurd (omega (arith, low, three))),
+    ))
 
 pub returns-then-is_empty-clause-refused : goal.returns-then-is_empty-clause-refused
 returns-then-is_empty-clause-refused g c =
@@ -85,7 +93,8 @@ returns-else-is_empty-clause-refused g c =
 
 pub returns-in-Err-clause-refused : goal.returns-in-Err-clause-refused
 returns-in-Err-clause-refused g c =
-    λ had. is_refused (map string_bytes c.args.words.now) c.in-Err.refusal c.refuse.result.status c.in-Err.ensures.refused c.refuse.ensures.status had
+    λ had. is_refused (map string_bytes c.args.words.now) c.in-Err.refusal c.refuse.result.status
+    c.in-Err.ensures.refused c.refuse.ensures.status had
 
 pub returns-else-is_empty-clause-unwritten : goal.returns-else-is_empty-clause-unwritten
 returns-else-is_empty-clause-unwritten g c = λ three.

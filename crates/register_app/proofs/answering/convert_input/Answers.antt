@@ -9,6 +9,8 @@ returns-clause-converted g c = λ begun.
     let given : c.push_reserved-2.new.self.items ≡ c.args.output ∷ [] = search rules in
     let ran = c.convert-status.ensures.converted begun in
     let one = ap length ran.outputs ∙ ran.settled.lengths.0 ∙ ap length given in
-    let rest = taken_alone c.convert-status.result.outputs.items c.pop.new.self.items c.in-Some.output c.in-Some.ensures.items one in
-    let written : c.convert-status.result.outputs.items ≡ c.in-Some.output ∷ [] = c.in-Some.ensures.items ∙ ap (λ xs. xs ++ c.in-Some.output ∷ []) rest in
+    let rest = taken_alone c.convert-status.result.outputs.items c.pop.new.self.items c.in-Some.output
+    c.in-Some.ensures.items one in
+    let written : c.convert-status.result.outputs.items
+    ≡ c.in-Some.output ∷ [] = c.in-Some.ensures.items ∙ ap (λ xs. xs ++ c.in-Some.output ∷ []) rest in
     rw (sources, given, written) at ran

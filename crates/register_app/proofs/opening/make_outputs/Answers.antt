@@ -6,7 +6,8 @@ use Rattle.register_app.proofs.opening.make_outputs.Goals as goal
 pub files-init : goal.files-init
 files-init g c = (
   refl,
-  so_far_none (λ i file output. g.P.Places.is_made c.args.places.now (file ++ codes ".out.csv") (i + 1) output) (λ f. f.now) c.args.files.now c.new-outputs.result.items c.new-outputs.ensures.items,
+  so_far_none (λ i file output. g.P.Places.is_made c.args.places.now (file ++ codes ".out.csv") (i + 1) output)
+      (λ f. f.now) c.args.files.now c.new-outputs.result.items c.new-outputs.ensures.items,
 )
 
 pub files-preserved : goal.files-preserved
@@ -15,14 +16,17 @@ files-preserved g c =
     let items = rw ok at c.push.ensures.items in
     let place = c.files.invariant.0 in (
       ap (λ n. n + 1) place,
-      so_far_more (λ i file output. g.P.Places.is_made c.args.places.now (file ++ codes ".out.csv") (i + 1) output) (λ f. f.now) c.args.files.now c.files.outputs.items c.push.new.self.items
+      so_far_more (λ i file output. g.P.Places.is_made c.args.places.now (file ++ codes ".out.csv") (i + 1) output)
+          (λ f. f.now) c.args.files.now c.files.outputs.items c.push.new.self.items
           c.files.file-index _ c.in-Ok-make.output c.files.invariant.1 c.files-test.true
-          (made_as (λ text mark output. g.P.Places.is_made c.args.places.now text mark output) c.as_str.result.now _ c.files.mark c.files.file-index c.in-Ok-make.output
+          (made_as (λ text mark output. g.P.Places.is_made c.args.places.now text mark output) c.as_str.result.now _
+          c.files.mark c.files.file-index c.in-Ok-make.output
           (c.as_str.ensures.value ∙ c.in-Ok.ensures) place c.in-Ok-make.ensures)
           items,
     )
 
 pub returns-clause-made : goal.returns-clause-made
 returns-clause-made g c =
-    so_far_all (λ i file output. g.P.Places.is_made c.args.places.now (file ++ codes ".out.csv") (i + 1) output) (λ f. f.now) c.args.files.now c.files.outputs.items c.files.file-index c.files.invariant.1
+    so_far_all (λ i file output. g.P.Places.is_made c.args.places.now (file ++ codes ".out.csv") (i + 1) output)
+    (λ f. f.now) c.args.files.now c.files.outputs.items c.files.file-index c.files.invariant.1
     (omega (arith, c.files-test.false, c.files.auto.file-index-end))

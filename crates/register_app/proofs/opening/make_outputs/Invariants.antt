@@ -5,4 +5,5 @@ use Rattle.register_app.proofs.opening.make_outputs.Given as goal
 -- the outputs are those of the files so far, and the mark is the last one's
 abbrev pub invariant-files : goal.invariant-files
 invariant-files g l = (l.mark ≡ l.file-index)
-    × AreMatchedSoFar (λ i file output. g.P.Places.is_made l.places (file ++ codes ".out.csv") (i + 1) output) (map (λ f. f.now) l.files) l.outputs.items l.file-index
+    × AreMatchedSoFar (λ i file output. g.P.Places.is_made l.places (file ++ codes ".out.csv") (i + 1) output)
+    (map (λ f. f.now) l.files) l.outputs.items l.file-index

@@ -4,4 +4,5 @@ use Rattle.register_app.proofs.opening.open_sources.Given as goal
 
 -- the sources are those of the files so far
 abbrev pub invariant-files : goal.invariant-files
-invariant-files g l = AreMatchedSoFar (λ i file source. g.P.Places.is_opened l.places file source) (map (λ f. f.now) l.files) l.sources.items l.file-index
+invariant-files g l = AreMatchedSoFar (λ i file source. g.P.Places.is_opened l.places file source)
+    (map (λ f. f.now) l.files) l.sources.items l.file-index

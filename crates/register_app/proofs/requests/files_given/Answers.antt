@@ -10,7 +10,8 @@ pub returns-in-Some : goal.returns-in-Some
 returns-in-Some c =
     let given = rw c.in-Some.is at c.get_strs.ensures in
     let found = given ∙ raw_values-rows (found_of c.args.matches.now) (codes "file") in
-    IfOk-weaker c.to_vec.result _ _ (λ files same. ap (map (λ f. f.now)) (same (λ x y e. e)) ∙ ap (λ o. unwrap_or o []) found) c.to_vec.ensures.items_if_clones_equal
+    IfOk-weaker c.to_vec.result _ _ (λ files same. ap (map (λ f. f.now)) (same (λ x y e. e)) ∙ ap (λ o. unwrap_or o [])
+    found) c.to_vec.ensures.items_if_clones_equal
 
 pub returns-in-None : goal.returns-in-None
 returns-in-None c =

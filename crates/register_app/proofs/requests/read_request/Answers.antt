@@ -17,12 +17,14 @@ use Rattle.register_app.proofs.requests.read_request.Goals as goal
 pub returns-in-DisplayHelp-clause-asked : goal.returns-in-DisplayHelp-clause-asked
 returns-in-DisplayHelp-clause-asked c =
     let words = map string_bytes c.args.words.now in
-    mean_just c.one_target.ensures words help (asks_help words c.in-Err.error c.in-Err.ensures.kinds (sym c.kind.ensures ∙ c.in-DisplayHelp.is))
+    mean_just c.one_target.ensures words help
+    (asks_help words c.in-Err.error c.in-Err.ensures.kinds (sym c.kind.ensures ∙ c.in-DisplayHelp.is))
 
 pub returns-in-DisplayVersion-clause-asked : goal.returns-in-DisplayVersion-clause-asked
 returns-in-DisplayVersion-clause-asked c =
     let words = map string_bytes c.args.words.now in
-    mean_just c.one_target.ensures words version (asks_version words c.in-Err.error c.in-Err.ensures.kinds (sym c.kind.ensures ∙ c.in-DisplayVersion.is))
+    mean_just c.one_target.ensures words version
+    (asks_version words c.in-Err.error c.in-Err.ensures.kinds (sym c.kind.ensures ∙ c.in-DisplayVersion.is))
 
 pub returns-in_default : goal.returns-in_default
 returns-in_default c =
@@ -30,7 +32,8 @@ returns-in_default c =
     record {
       asked = tt;
       refused = mean_just c.one_target.ensures words (wrong (usage _))
-          (misuses words c.in-Err.error c.in-Err.ensures.kinds (λ e. c.in_default.not-OutOfMemory (c.kind.ensures ∙ e)) (λ e. c.in_default.not-DisplayHelp (c.kind.ensures ∙ e))
+          (misuses words c.in-Err.error c.in-Err.ensures.kinds (λ e. c.in_default.not-OutOfMemory (c.kind.ensures ∙ e))
+          (λ e. c.in_default.not-DisplayHelp (c.kind.ensures ∙ e))
           (λ e. c.in_default.not-DisplayVersion (c.kind.ensures ∙ e)));
       memory = λ e. absurd (cc);
     }
@@ -41,9 +44,11 @@ returns-in_err-targets-clause-refused c =
     let told = fault_told c.in_err-targets.field-0.0 in
     let fails = IsTargetFault (value_in words (codes "to")) in
     let is : IfSome told (λ fault. MeanJust words (wrong fault))
-    = told_just words told fails c.one_target.ensures (subst (λ (v : Option Text). IfSome told (IsTargetFault v)) c.in-Ok.ensures.to c.in_err-targets.ensures.fault)
+    = told_just words told fails c.one_target.ensures
+    (subst (λ (v : Option Text). IfSome told (IsTargetFault v)) c.in-Ok.ensures.to c.in_err-targets.ensures.fault)
     (λ fault at. inr (c.in-Ok.ensures.taken, inl at)) in
-    passed_up {T = Request} {E = Refusal} c.from_residual.result c.in_err-targets.field-0.0 (λ (r : Refusal). IfSome (fault_told r) (λ fault. MeanJust words (wrong fault)))
+    passed_up {T = Request} {E = Refusal} c.from_residual.result c.in_err-targets.field-0.0
+    (λ (r : Refusal). IfSome (fault_told r) (λ fault. MeanJust words (wrong fault)))
     c.from_residual.ensures.1 is
 
 pub returns-in_err-ring-clause-refused : goal.returns-in_err-ring-clause-refused
@@ -51,39 +56,54 @@ returns-in_err-ring-clause-refused c =
     let words = map string_bytes c.args.words.now in
     let told = fault_told c.in_err-ring.field-0.0 in
     let fails = IsRingFault (value_in words (codes "ring")) in
-    let targets = subst (λ (v : Option Text). AreTargetsOf v c.in_ok-targets.targets.items) c.in-Ok.ensures.to c.in_ok-targets.ensures.value in
+    let targets = subst (λ (v : Option Text). AreTargetsOf v c.in_ok-targets.targets.items) c.in-Ok.ensures.to
+    c.in_ok-targets.ensures.value in
     let is : IfSome told (λ fault. MeanJust words (wrong fault))
     = told_just words told fails c.one_target.ensures
-    (if_some told fails (subst (λ (v : Option Text). IsSomeAnd told (IsRingFault v)) c.in-Ok.ensures.ring c.in_err-ring.ensures.fault))
+    (if_some told fails (subst (λ (v : Option Text). IsSomeAnd told (IsRingFault v)) c.in-Ok.ensures.ring
+    c.in_err-ring.ensures.fault))
     (λ fault at. inr (c.in-Ok.ensures.taken, inr ((c.in_ok-targets.targets.items, targets), inl at))) in
     passed_up {T = Request} {E = Refusal} c.from_residual-in_err-ring.result c.in_err-ring.field-0.0
-    (λ (r : Refusal). IfSome (fault_told r) (λ fault. MeanJust words (wrong fault))) c.from_residual-in_err-ring.ensures.1 is
+    (λ (r : Refusal). IfSome (fault_told r) (λ fault. MeanJust words (wrong fault)))
+    c.from_residual-in_err-ring.ensures.1 is
 
 pub returns-in_err-delimiter-clause-refused : goal.returns-in_err-delimiter-clause-refused
 returns-in_err-delimiter-clause-refused c =
     let words = map string_bytes c.args.words.now in
     let told = fault_told c.in_err-delimiter.field-0.0 in
     let fails = IsDelimiterFault (value_in words (codes "delimiter")) in
-    let targets = subst (λ (v : Option Text). AreTargetsOf v c.in_ok-targets.targets.items) c.in-Ok.ensures.to c.in_ok-targets.ensures.value in
-    let ring = subst (λ (v : Option Text). IsRingOf v c.in_ok-ring.ring) c.in-Ok.ensures.ring c.in_ok-ring.ensures.value in
+    let targets = subst (λ (v : Option Text). AreTargetsOf v c.in_ok-targets.targets.items) c.in-Ok.ensures.to
+    c.in_ok-targets.ensures.value in
+    let ring = subst (λ (v : Option Text). IsRingOf v c.in_ok-ring.ring) c.in-Ok.ensures.ring
+    c.in_ok-ring.ensures.value in
     let is : IfSome told (λ fault. MeanJust words (wrong fault))
     = told_just words told fails c.one_target.ensures
-    (if_some told fails (subst (λ (v : Option Text). IsSomeAnd told (IsDelimiterFault v)) c.in-Ok.ensures.delimiter c.in_err-delimiter.ensures.fault))
-    (λ fault at. inr (c.in-Ok.ensures.taken, inr ((c.in_ok-targets.targets.items, targets), inr ((c.in_ok-ring.ring, ring), inl at)))) in
+    (if_some told fails (subst (λ (v : Option Text). IsSomeAnd told (IsDelimiterFault v)) c.in-Ok.ensures.delimiter
+    c.in_err-delimiter.ensures.fault))
+    (λ fault at. inr (
+      c.in-Ok.ensures.taken,
+      inr
+          ((c.in_ok-targets.targets.items, targets), inr ((c.in_ok-ring.ring, ring), inl at)),
+    )) in
     passed_up {T = Request} {E = Refusal} c.from_residual-in_err-delimiter.result c.in_err-delimiter.field-0.0
-    (λ (r : Refusal). IfSome (fault_told r) (λ fault. MeanJust words (wrong fault))) c.from_residual-in_err-delimiter.ensures.1 is
+    (λ (r : Refusal). IfSome (fault_told r) (λ fault. MeanJust words (wrong fault)))
+    c.from_residual-in_err-delimiter.ensures.1 is
 
 pub returns-in_err-stripes-clause-refused : goal.returns-in_err-stripes-clause-refused
 returns-in_err-stripes-clause-refused c =
     let words = map string_bytes c.args.words.now in
     let told = fault_told c.in_err-stripes.field-0.0 in
     let fails = IsStripesFault (value_in words (codes "stripes")) in
-    let targets = subst (λ (v : Option Text). AreTargetsOf v c.in_ok-targets.targets.items) c.in-Ok.ensures.to c.in_ok-targets.ensures.value in
-    let ring = subst (λ (v : Option Text). IsRingOf v c.in_ok-ring.ring) c.in-Ok.ensures.ring c.in_ok-ring.ensures.value in
-    let delimiter = subst (λ (v : Option Text). IsDelimiterOf v c.in_ok-delimiter.delimiter) c.in-Ok.ensures.delimiter c.in_ok-delimiter.ensures.value in
+    let targets = subst (λ (v : Option Text). AreTargetsOf v c.in_ok-targets.targets.items) c.in-Ok.ensures.to
+    c.in_ok-targets.ensures.value in
+    let ring = subst (λ (v : Option Text). IsRingOf v c.in_ok-ring.ring) c.in-Ok.ensures.ring
+    c.in_ok-ring.ensures.value in
+    let delimiter = subst (λ (v : Option Text). IsDelimiterOf v c.in_ok-delimiter.delimiter) c.in-Ok.ensures.delimiter
+    c.in_ok-delimiter.ensures.value in
     let is : IfSome told (λ fault. MeanJust words (wrong fault))
     = told_just words told fails c.one_target.ensures
-    (if_some told fails (subst (λ (v : Option Text). IsSomeAnd told (IsStripesFault v)) c.in-Ok.ensures.stripes c.in_err-stripes.ensures.fault))
+    (if_some told fails (subst (λ (v : Option Text). IsSomeAnd told (IsStripesFault v)) c.in-Ok.ensures.stripes
+    c.in_err-stripes.ensures.fault))
     (λ fault at. inr (
       c.in-Ok.ensures.taken,
       inr (
@@ -95,19 +115,25 @@ returns-in_err-stripes-clause-refused c =
       ),
     )) in
     passed_up {T = Request} {E = Refusal} c.from_residual-in_err-stripes.result c.in_err-stripes.field-0.0
-    (λ (r : Refusal). IfSome (fault_told r) (λ fault. MeanJust words (wrong fault))) c.from_residual-in_err-stripes.ensures.1 is
+    (λ (r : Refusal). IfSome (fault_told r) (λ fault. MeanJust words (wrong fault)))
+    c.from_residual-in_err-stripes.ensures.1 is
 
 pub returns-in_err-check_files-clause-refused : goal.returns-in_err-check_files-clause-refused
 returns-in_err-check_files-clause-refused c =
     let words = map string_bytes c.args.words.now in
     let told = fault_told c.in_err-check_files.field-0.0 in
     let fails = IsFileFault (files_in words) in
-    let targets = subst (λ (v : Option Text). AreTargetsOf v c.in_ok-targets.targets.items) c.in-Ok.ensures.to c.in_ok-targets.ensures.value in
-    let ring = subst (λ (v : Option Text). IsRingOf v c.in_ok-ring.ring) c.in-Ok.ensures.ring c.in_ok-ring.ensures.value in
-    let delimiter = subst (λ (v : Option Text). IsDelimiterOf v c.in_ok-delimiter.delimiter) c.in-Ok.ensures.delimiter c.in_ok-delimiter.ensures.value in
-    let stripes = subst (λ (v : Option Text). IsStripesOf v c.in_ok-stripes.stripes) c.in-Ok.ensures.stripes c.in_ok-stripes.ensures.value in
+    let targets = subst (λ (v : Option Text). AreTargetsOf v c.in_ok-targets.targets.items) c.in-Ok.ensures.to
+    c.in_ok-targets.ensures.value in
+    let ring = subst (λ (v : Option Text). IsRingOf v c.in_ok-ring.ring) c.in-Ok.ensures.ring
+    c.in_ok-ring.ensures.value in
+    let delimiter = subst (λ (v : Option Text). IsDelimiterOf v c.in_ok-delimiter.delimiter) c.in-Ok.ensures.delimiter
+    c.in_ok-delimiter.ensures.value in
+    let stripes = subst (λ (v : Option Text). IsStripesOf v c.in_ok-stripes.stripes) c.in-Ok.ensures.stripes
+    c.in_ok-stripes.ensures.value in
     let same = ap (map (λ f. f.now)) c.as_slice.ensures.value ∙ c.in-Ok.ensures.files in
-    let at_files = if_some told fails (subst (λ (files : List Text). IsSomeAnd told (IsFileFault files)) same c.in_err-check_files.ensures.fault) in
+    let at_files = if_some told fails (subst (λ (files : List Text). IsSomeAnd told (IsFileFault files)) same
+    c.in_err-check_files.ensures.fault) in
     let is : IfSome told (λ fault. MeanJust words (wrong fault))
     = told_just words told fails c.one_target.ensures at_files
     (λ fault at. inr (
@@ -121,7 +147,8 @@ returns-in_err-check_files-clause-refused c =
       ),
     )) in
     passed_up {T = Request} {E = Refusal} c.from_residual-in_err-check_files.result c.in_err-check_files.field-0.0
-    (λ (r : Refusal). IfSome (fault_told r) (λ fault. MeanJust words (wrong fault))) c.from_residual-in_err-check_files.ensures.1 is
+    (λ (r : Refusal). IfSome (fault_told r) (λ fault. MeanJust words (wrong fault)))
+    c.from_residual-in_err-check_files.ensures.1 is
 
 pub returns-clause-asked : goal.returns-clause-asked
 returns-clause-asked c =
@@ -142,7 +169,8 @@ returns-clause-asked c =
     let asks : AsksFor words task
     = record {
       taken = c.in-Ok.ensures.taken;
-      targets_asked = subst (AreTargetsOf (value_in words (codes "to"))) (sym (fields.0 ∙ c.as_slice-2.ensures.value)) targets;
+      targets_asked = subst (AreTargetsOf (value_in words (codes "to"))) (sym (fields.0 ∙ c.as_slice-2.ensures.value))
+          targets;
       ring_asked = subst (IsRingOf (value_in words (codes "ring"))) (sym fields.1) ring;
       delimiter_asked = subst (IsDelimiterOf (value_in words (codes "delimiter"))) (sym fields.2) delimiter;
       stripes_asked = subst (IsStripesOf (value_in words (codes "stripes"))) (sym fields.3) stripes;
@@ -159,30 +187,37 @@ unreachable-requires c =
     let fits = asked_ring _ _ c.in_ok-ring.ensures.value in
     let cuts = asked_delimiter _ _ c.in_ok-delimiter.ensures.value in
     let few = asked_stripes _ _ c.in_ok-stripes.ensures.value in
-    no_fault c.new.result c.in-Err-new.field-0 _ c.in_ok-ring.ring c.in_ok-delimiter.delimiter c.in_ok-stripes.stripes c.in-Err-new.is once fits cuts c.new.ensures.twice.0
-    (λ e. (c.new.ensures.ring_size.0 e).1) (λ e. (c.new.ensures.delimiter.0 e).2) few (λ e. (c.new.ensures.stripes.0 e).3)
+    no_fault c.new.result c.in-Err-new.field-0 _ c.in_ok-ring.ring c.in_ok-delimiter.delimiter c.in_ok-stripes.stripes
+    c.in-Err-new.is once fits cuts c.new.ensures.twice.0
+    (λ e. (c.new.ensures.ring_size.0 e).1) (λ e. (c.new.ensures.delimiter.0 e).2) few
+    (λ e. (c.new.ensures.stripes.0 e).3)
 
 -- each refusal tells a fault, or is for want of memory
 pub returns-in_err-targets-clause-memory : goal.returns-in_err-targets-clause-memory
 returns-in_err-targets-clause-memory c =
-    passed_up {T = Request} {E = Refusal} c.from_residual.result c.in_err-targets.field-0.0 IsOfWords c.from_residual.ensures.1 c.in_err-targets.ensures.memory
+    passed_up {T = Request} {E = Refusal} c.from_residual.result c.in_err-targets.field-0.0 IsOfWords
+    c.from_residual.ensures.1 c.in_err-targets.ensures.memory
 
 pub returns-in_err-ring-clause-memory : goal.returns-in_err-ring-clause-memory
 returns-in_err-ring-clause-memory c =
-    passed_up {T = Request} {E = Refusal} c.from_residual-in_err-ring.result c.in_err-ring.field-0.0 IsOfWords c.from_residual-in_err-ring.ensures.1
+    passed_up {T = Request} {E = Refusal} c.from_residual-in_err-ring.result c.in_err-ring.field-0.0 IsOfWords
+    c.from_residual-in_err-ring.ensures.1
     (tells_some c.in_err-ring.field-0.0 _ c.in_err-ring.ensures.fault)
 
 pub returns-in_err-delimiter-clause-memory : goal.returns-in_err-delimiter-clause-memory
 returns-in_err-delimiter-clause-memory c =
-    passed_up {T = Request} {E = Refusal} c.from_residual-in_err-delimiter.result c.in_err-delimiter.field-0.0 IsOfWords c.from_residual-in_err-delimiter.ensures.1
+    passed_up {T = Request} {E = Refusal} c.from_residual-in_err-delimiter.result c.in_err-delimiter.field-0.0 IsOfWords
+    c.from_residual-in_err-delimiter.ensures.1
     (tells_some c.in_err-delimiter.field-0.0 _ c.in_err-delimiter.ensures.fault)
 
 pub returns-in_err-stripes-clause-memory : goal.returns-in_err-stripes-clause-memory
 returns-in_err-stripes-clause-memory c =
-    passed_up {T = Request} {E = Refusal} c.from_residual-in_err-stripes.result c.in_err-stripes.field-0.0 IsOfWords c.from_residual-in_err-stripes.ensures.1
+    passed_up {T = Request} {E = Refusal} c.from_residual-in_err-stripes.result c.in_err-stripes.field-0.0 IsOfWords
+    c.from_residual-in_err-stripes.ensures.1
     (tells_some c.in_err-stripes.field-0.0 _ c.in_err-stripes.ensures.fault)
 
 pub returns-in_err-check_files-clause-memory : goal.returns-in_err-check_files-clause-memory
 returns-in_err-check_files-clause-memory c =
-    passed_up {T = Request} {E = Refusal} c.from_residual-in_err-check_files.result c.in_err-check_files.field-0.0 IsOfWords c.from_residual-in_err-check_files.ensures.1
+    passed_up {T = Request} {E = Refusal} c.from_residual-in_err-check_files.result c.in_err-check_files.field-0.0
+    IsOfWords c.from_residual-in_err-check_files.ensures.1
     (tells_some c.in_err-check_files.field-0.0 _ c.in_err-check_files.ensures.fault)

@@ -11,13 +11,16 @@ numbers-preserved c =
       | then-count-gt0 w ↦
           rw (w.line-is, w.behind-is) (
             omega (arith, before.0, w.push_count.ensures.short),
-            count_added c.numbers.line.bytes w.push_count.new.line.bytes _ c.numbers.behind c.args.journal.now c.numbers.number-index _ c.refused_with_number-count.result
-                c.numbers-test.true c.refused_with_number-count.ensures w.if-count-gt0.true w.push_count.ensures.bytes before.1,
+            count_added c.numbers.line.bytes w.push_count.new.line.bytes _ c.numbers.behind c.args.journal.now
+                c.numbers.number-index _ c.refused_with_number-count.result
+                c.numbers-test.true c.refused_with_number-count.ensures w.if-count-gt0.true w.push_count.ensures.bytes
+                before.1,
           )
       | else-count-gt0 w ↦
           rw (w.line-is, w.behind-is) (
             omega (arith, before.0),
-            count_left_out c.numbers.line.bytes _ c.numbers.behind c.args.journal.now c.numbers.number-index _ c.refused_with_number-count.result
+            count_left_out c.numbers.line.bytes _ c.numbers.behind c.args.journal.now c.numbers.number-index _
+                c.refused_with_number-count.result
                 c.numbers-test.true c.refused_with_number-count.ensures (omega (arith, w.if-count-gt0.false)) before.1,
           )
     ]

@@ -5,4 +5,5 @@ use Rattle.register_app.proofs.telling.push_counts.Given as goal
 -- the line, with the counts that are left, is the line with all
 abbrev pub invariant-numbers : goal.invariant-numbers
 invariant-numbers l = (length l.line.bytes ≤ 64 + 27 * l.number-index)
-    × (l.line.bytes ++ counts_from l.behind l.journal (drop l.number-index refusal_numbers) ≡ l.initial.line.bytes ++ counts_from false l.journal refusal_numbers)
+    × (l.line.bytes ++ counts_from l.behind l.journal (drop l.number-index refusal_numbers)
+    ≡ l.initial.line.bytes ++ counts_from false l.journal refusal_numbers)

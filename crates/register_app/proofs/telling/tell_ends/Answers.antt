@@ -16,14 +16,18 @@ ends-preserved g c = (
       let told = c.tell_end.ensures.told good in
       let before = c.ends.invariant.2 told.0 in
       let place = ap (λ n. n + 1) c.ends.invariant.0 in
-      let line = subst (λ n. Appends (g.E.Output.contents c.ends.errors) (g.E.Output.contents c.tell_end.new.errors) (line_of_end c.args.summary n c.end-item.result)) place told.1 in (
+      let line = subst (λ n. Appends (g.E.Output.contents c.ends.errors) (g.E.Output.contents c.tell_end.new.errors)
+      (line_of_end c.args.summary n c.end-item.result)) place told.1 in (
         before.0 ++ line_of_end c.args.summary (c.ends.end-index + 1) c.end-item.result,
-        appends_both (g.E.Output.contents c.args.errors.now) (g.E.Output.contents c.ends.errors) (g.E.Output.contents c.tell_end.new.errors) before.0 _ before.1 line,
-        lines_more c.args.summary c.args.ends.now c.ends.end-index c.end-item.result before.0 _ c.ends-test.true c.end-item.is before.2,
+        appends_both (g.E.Output.contents c.args.errors.now) (g.E.Output.contents c.ends.errors)
+            (g.E.Output.contents c.tell_end.new.errors) before.0 _ before.1 line,
+        lines_more c.args.summary c.args.ends.now c.ends.end-index c.end-item.result before.0 _ c.ends-test.true
+            c.end-item.is before.2,
       ),
 )
 
 pub returns-clause-told : goal.returns-clause-told
 returns-clause-told g c = λ good.
     let told = c.ends.invariant.2 good in
-    subst (λ text. Appends (g.E.Output.contents c.args.errors.now) (g.E.Output.contents c.ends.errors) text) (lines_end c.args.summary c.args.ends.now c.ends.end-index told.0 _ c.ends-test.false told.2) told.1
+    subst (λ text. Appends (g.E.Output.contents c.args.errors.now) (g.E.Output.contents c.ends.errors) text)
+    (lines_end c.args.summary c.args.ends.now c.ends.end-index told.0 _ c.ends-test.false told.2) told.1

@@ -1,0 +1,5 @@
+-- The status is the refusal's.
+use Rattle.register_app.proofs.answering.refuse.Goals as goal
+
+pub returns-clause-status : goal.returns-clause-status
+returns-clause-status g c = c.tell_refusal.ensures.status

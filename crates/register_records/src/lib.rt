@@ -9,6 +9,7 @@ mod causes;
 mod cell_texts;
 mod converting;
 mod entries;
+pub mod faults;
 mod header;
 pub mod laws;
 mod lines;

@@ -110,14 +110,21 @@ fn are_same_ends(one: &SourceEnd, other: &SourceEnd) -> bool {
 
 /// Whether a source has ended in a run as it does on one thread, with the same bytes. Only the heading comes at another
 /// time: on one thread when the header was read, and in a run with the first row. So a source that breaks before its
-/// first row leaves a run's output empty, and where that has no room for the heading, one thread breaks for it.
+/// first row leaves a run's output empty, for the same cause; and where its output has no room for the heading either,
+/// one thread breaks for the output, and a run for the reader.
 fn are_same(end: &SourceEnd, ran: &[u8], wanted: &SourceEnd, alone: &[u8]) -> bool {
     if are_same_ends(end, wanted) && ran == alone {
         return true;
     }
+    if end.is_whole() || !ran.is_empty() {
+        return false;
+    }
     let lines = alone.iter().filter(|byte| **byte == b'\n').count();
-    let before_rows = !end.is_whole() && ran.is_empty();
-    before_rows && (lines == 0 || (lines == 1 && are_same_ends(end, wanted)))
+    if lines == 0 {
+        return cause_of(wanted) == Some(Cause::SinkFault)
+            && cause_of(end) == Some(Cause::ReadFault);
+    }
+    lines == 1 && are_same_ends(end, wanted)
 }
 
 /// The cause why a source is broken, or none.

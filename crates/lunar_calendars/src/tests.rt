@@ -3,6 +3,8 @@ use day_numbers::{ArithmeticCalendar, DateFault, Day, Ymd};
 use std::process::Abort;
 use std::test::Fail;
 
+mod walks;
+
 /// Each date has its day, and each day its date.
 fn assert_dates<C: ArithmeticCalendar>(
     rt: &impl Abort,

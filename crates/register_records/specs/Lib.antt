@@ -17,3 +17,4 @@ pub mod LineViews
 pub mod ReadingState
 pub mod Retrying
 pub mod ShortLists
+pub mod Faults

@@ -13,6 +13,7 @@ mod cell_texts;
 mod columns;
 mod converting;
 mod entries;
+pub mod faults;
 mod header;
 pub mod laws;
 mod lines;

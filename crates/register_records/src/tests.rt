@@ -1,8 +1,8 @@
 // The tables that are wanted are worked by hand from the calendars' rules and from published day numbers.
 
 use crate::{
-    Body, Cause, Entry, EntryFault, EntryReader, Form, Note, Output, PlainOutput, Row, RowFault,
-    RowWriter, Setup, SourceEnd, convert, convert_source,
+    Body, Cause, Entry, EntryFault, Form, Note, Output, PlainOutput, Row, RowFault, RowWriter,
+    Setup, SourceEnd, convert, convert_source,
 };
 use arrayvec::ArrayString;
 use date_texts::{Calendar, Refusal, Target};
@@ -13,6 +13,7 @@ use std::mem::size_of;
 use std::process::Abort;
 use std::test::Fail;
 
+mod faults;
 mod sealed;
 
 const GREGORIAN: Target = Target::Date(Calendar::Gregorian);
@@ -342,30 +343,6 @@ fn a_header_may_have_two_marks_blanks_and_capitals(rt: HostRuntime) -> Result<()
     Ok(())
 }
 
-/// Gives its text a byte at a time, up to `cut`, and then a fault.
-#[derive(Drop)]
-struct CutText<'a> {
-    text: &'a [u8],
-    at: usize,
-    cut: usize,
-}
-
-impl Read for CutText<'_> {
-    fn read(&mut self, buf: &mut [u8]) -> io::Result<usize> {
-        if self.at >= self.cut {
-            return Err(io::Error::from(ErrorKind::BrokenPipe));
-        }
-        match (self.text.get(self.at), buf.first_mut()) {
-            (Some(byte), Some(place)) => {
-                *place = *byte;
-                self.at = self.at.saturating_add(1);
-                Ok(1)
-            }
-            _ => Ok(0),
-        }
-    }
-}
-
 /// Takes at most `most` bytes a call and counts the calls and the flushes; the call of number `bad_call`,
 /// from 0, is a fault.
 #[derive(Drop)]
@@ -431,41 +408,6 @@ fn interrupted_reads_are_tried_again(rt: HostRuntime) -> Result<(), Fail> {
     Ok(())
 }
 
-static WEEK_DATE: &str = "id,calendar,date\na,iso,1970-W01-4\n";
-
-static WEEK_DATE_TABLE: &str = "\
-row,id,calendar,date,rd,weekday,refusal
-1,a,iso,1970-W01-4,719163,Thursday,
-";
-
-/// Gives what it has, as much as is asked for, and then a fault.
-#[derive(Drop)]
-struct Chunk<'a> {
-    rest: &'a [u8],
-}
-
-impl Read for Chunk<'_> {
-    fn read(&mut self, buf: &mut [u8]) -> io::Result<usize> {
-        if self.rest.is_empty() {
-            return Err(io::Error::from(ErrorKind::BrokenPipe));
-        }
-        self.rest.read(buf)
-    }
-}
-
-#[test]
-fn a_read_fault_in_mid_text_leaves_the_rows_before_it(rt: HostRuntime) -> Result<(), Fail> {
-    let reader = Chunk {
-        rest: WEEK_DATE.as_bytes(),
-    };
-    let setup = Setup::new(&[], 16, b',', 1, Form::Plain)?;
-    let mut output = PlainOutput::new(Vec::new(rt.alloc()), 1);
-    let end = convert_source(rt.alloc(), reader, &mut output, &setup);
-    assert_eq!(rt; cause_of(&end), 5);
-    assert_eq!(rt; output.into_inner().as_slice(), WEEK_DATE_TABLE.as_bytes());
-    Ok(())
-}
-
 fn new_paper(alloc: Global, most: usize, bad_call: usize) -> PlainOutput<Paper> {
     let paper = Paper {
         text: Vec::new(alloc),
@@ -492,32 +434,6 @@ fn first_lines(alloc: Global, n: usize) -> Result<Vec<u8>, Fail> {
         text.push(b'\n')?;
     }
     Ok(text)
-}
-
-#[test]
-fn a_failing_read_loses_nothing_before_it(rt: HostRuntime) -> Result<(), Fail> {
-    let setup = both(b',')?;
-    let input = INPUT.as_bytes();
-    for cut in 0..input.len() {
-        let lines = input
-            .iter()
-            .take(cut)
-            .filter(|byte| **byte == b'\n')
-            .count();
-        let reader = CutText {
-            text: input,
-            at: 0,
-            cut,
-        };
-        let mut output = PlainOutput::new(Vec::new(rt.alloc()), 1);
-        let end = convert_source(rt.alloc(), reader, &mut output, &setup);
-        assert_eq!(rt; cause_of(&end), 5);
-        assert!(rt;
-            output.into_inner() == first_lines(rt.alloc(), lines)?,
-            "at {cut}"
-        );
-    }
-    Ok(())
 }
 
 #[test]
@@ -629,33 +545,6 @@ fn lines_wait_until_they_are_sent(rt: HostRuntime) -> Result<(), Fail> {
         .ok_or("no heading")?;
     assert_eq!(rt; lines.len(), 4 * line.len());
     assert!(rt; lines.chunks(line.len()).all(|one| one == line));
-    Ok(())
-}
-
-#[test]
-fn readers_and_writers_fail_from_a_fault_on(rt: HostRuntime) -> Result<(), Fail> {
-    let setup = both(b',')?;
-    let reader = Chunk {
-        rest: WEEK_DATE.as_bytes(),
-    };
-    let mut entries = EntryReader::open(rt.alloc(), reader, &setup)?;
-    let entry = entries.next()?.ok_or("no entry")?;
-    assert_eq!(rt; entry.number(), 1);
-    assert_eq!(rt; entries.next().err(), Some(EntryFault::ReadFault));
-    assert_eq!(rt; entries.next().err(), Some(EntryFault::Failed));
-    let row = convert(entry, &setup);
-    let mut output = new_paper(rt.alloc(), usize::MAX, 1);
-    let mut writer = RowWriter::open(rt.alloc(), &mut output, &setup)?;
-    assert_eq!(rt;
-        writer.put(&mut output, &row).err(),
-        Some(RowFault::WriteFault)
-    );
-    assert_eq!(rt; writer.put(&mut output, &row).err(), Some(RowFault::Failed));
-    assert_eq!(rt; writer.end().err(), Some(RowFault::Failed));
-    let mut whole = new_paper(rt.alloc(), usize::MAX, 9);
-    let mut writer = RowWriter::open(rt.alloc(), &mut whole, &setup)?;
-    writer.put(&mut whole, &row)?;
-    assert!(rt; writer.end().is_ok());
     Ok(())
 }
 

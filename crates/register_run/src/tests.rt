@@ -9,8 +9,11 @@ use std::sync::Wait;
 use std::test::Fail;
 use std::thread::Threads;
 
+mod ends;
 mod faults;
 mod gates;
+mod hostile;
+mod lengths;
 mod sealed;
 
 const HEADING: &[u8] = b"row,id,calendar,date,rd,weekday,refusal\n";

@@ -1,0 +1,79 @@
+// Stands before the C library (LD_PRELOAD) and lets one of its calls fail: the one that the environment names.
+// FAULT_CALL is the function, FAULT_PLACE the number of the call among those of that function, from 1. FAULT_ERROR is the
+// number of the error, or 0 for a read or write of one byte alone. FAULT_MARK is a file that gets a line where the fault
+// came: the descriptor of a read or a write, and else -1.
+#define _GNU_SOURCE
+#include <dlfcn.h>
+#include <errno.h>
+#include <fcntl.h>
+#include <pthread.h>
+#include <stdarg.h>
+#include <stdio.h>
+#include <stdlib.h>
+#include <string.h>
+#include <sys/syscall.h>
+#include <unistd.h>
+
+static const char *call, *mark;
+static long place, error;
+static long calls;
+
+__attribute__((constructor)) static void start(void) {
+  call = getenv("FAULT_CALL");
+  mark = getenv("FAULT_MARK");
+  if (!call || !mark) { call = ""; return; }
+  place = atol(getenv("FAULT_PLACE"));
+  error = atol(getenv("FAULT_ERROR"));
+}
+
+// Whether this call is the one that fails; the file then gets its line, by system calls of its own.
+static int fails(const char *name, int descriptor) {
+  if (!call || strcmp(call, name) != 0) return 0;
+  if (__atomic_add_fetch(&calls, 1, __ATOMIC_SEQ_CST) != place) return 0;
+  char line[32];
+  int size = snprintf(line, sizeof line, "%d\n", descriptor);
+  int file = syscall(SYS_openat, AT_FDCWD, mark, O_WRONLY | O_CREAT | O_APPEND, 0600);
+  syscall(SYS_write, file, line, size);
+  syscall(SYS_close, file);
+  errno = error;
+  return 1;
+}
+
+#define NEXT(name) ((__typeof__(&name))dlsym(RTLD_NEXT, #name))
+
+void *malloc(size_t size) {
+  static void *(*next)(size_t);
+  if (!next) next = NEXT(malloc);
+  return fails("malloc", -1) ? NULL : next(size);
+}
+
+void *realloc(void *block, size_t size) {
+  static void *(*next)(void *, size_t);
+  if (!next) next = NEXT(realloc);
+  return fails("realloc", -1) ? NULL : next(block, size);
+}
+
+ssize_t read(int descriptor, void *bytes, size_t size) {
+  if (!fails("read", descriptor)) return syscall(SYS_read, descriptor, bytes, size);
+  return error ? -1 : syscall(SYS_read, descriptor, bytes, size < 1 ? size : 1);
+}
+
+ssize_t write(int descriptor, const void *bytes, size_t size) {
+  if (!fails("write", descriptor)) return syscall(SYS_write, descriptor, bytes, size);
+  return error ? -1 : syscall(SYS_write, descriptor, bytes, size < 1 ? size : 1);
+}
+
+ssize_t __write(int descriptor, const void *bytes, size_t size) { return write(descriptor, bytes, size); }
+
+int open(const char *name, int flags, ...) {
+  va_list rest;
+  va_start(rest, flags);
+  int mode = va_arg(rest, int);
+  va_end(rest);
+  return fails("open", -1) ? -1 : syscall(SYS_openat, AT_FDCWD, name, flags, mode);
+}
+
+int pthread_create(pthread_t *thread, const pthread_attr_t *how, void *(*body)(void *), void *given) {
+  if (fails("pthread_create", -1)) return error;
+  return NEXT(pthread_create)(thread, how, body, given);
+}

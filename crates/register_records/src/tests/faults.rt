@@ -1,0 +1,365 @@
+// Readers and outputs that fail at each place in turn. The tables are worked by hand: R.D. 719163, a Thursday, is
+// 1970-01-01, and R.D. 577736, a Friday, is 1582-10-05 of the Julian calendar.
+
+use super::cause_of;
+use crate::faults::{Chunks, Sink};
+use crate::{
+    Body, Entry, EntryFault, EntryReader, Form, Output, PlainOutput, RowFault, RowWriter, Setup,
+    SetupFault, SourceEnd, convert, convert_source,
+};
+use arrayvec::ArrayString;
+use date_texts::Target;
+use std::alloc::{AllocError, Global};
+use std::io;
+use std::io::{ErrorKind, Write};
+use std::test::Fail;
+
+/// A setup with no target, rings of one and a comma.
+pub(super) fn plain_setup() -> Result<Setup, SetupFault> {
+    Setup::new(&[], 1, b',', 1, Form::Plain)
+}
+
+static THREE_RECORDS: &str = "\
+id,calendar,date
+x,gregorian,1970-01-01
+x,gregorian,1970-01-01
+x,gregorian,1970-01-01
+";
+
+static THREE_ROWS: &str = "\
+row,id,calendar,date,rd,weekday,refusal
+1,x,gregorian,1970-01-01,719163,Thursday,
+2,x,gregorian,1970-01-01,719163,Thursday,
+3,x,gregorian,1970-01-01,719163,Thursday,
+";
+
+static WEEK_DATE: &str = "id,calendar,date\na,iso,1970-W01-4\n";
+
+static WEEK_DATE_TABLE: &str = "\
+row,id,calendar,date,rd,weekday,refusal
+1,a,iso,1970-W01-4,719163,Thursday,
+";
+
+/// A text in chunks of one line each.
+pub(super) fn lines_of(alloc: Global, text: &str) -> Result<Vec<Vec<u8>>, AllocError> {
+    let mut chunks = Vec::new(alloc);
+    for line in text.lines() {
+        let mut chunk = Vec::new(alloc);
+        chunk.extend_from_slice(line.as_bytes())?;
+        chunk.push(b'\n')?;
+        chunks.push(chunk)?;
+    }
+    Ok(chunks)
+}
+
+/// The first lines of a table.
+fn first_lines(alloc: Global, table: &str, count: usize) -> Result<Vec<u8>, AllocError> {
+    let mut text = Vec::new(alloc);
+    for line in table.lines().take(count) {
+        text.extend_from_slice(line.as_bytes())?;
+        text.push(b'\n')?;
+    }
+    Ok(text)
+}
+
+/// How three records end that are read and written with these faults.
+fn ended(alloc: Global, fail_read: u32, sink: &mut Sink) -> Result<SourceEnd, Fail> {
+    let reader = Chunks::new(lines_of(alloc, THREE_RECORDS)?, fail_read);
+    Ok(convert_source(alloc, reader, sink, &plain_setup()?))
+}
+
+/// Room for all that the tests write.
+const ROOM: usize = 4096;
+
+/// More reads, writes or flushes than three records need.
+const MANY: u32 = 20;
+
+#[test]
+fn a_read_fails_at_each_place(rt: HostRuntime) -> Result<(), Fail> {
+    let mut lines = 0usize;
+    for fail_read in 1..MANY {
+        let mut sink = Sink::new(rt.alloc(), 7, ROOM, 0, 0, ROOM)?;
+        let end = ended(rt.alloc(), fail_read, &mut sink)?;
+        assert!(rt; !sink.has_failed());
+        if end.is_whole() {
+            assert_eq!(rt; lines, 4, "at {fail_read}");
+            assert_eq!(rt; sink.bytes(), THREE_ROWS.as_bytes());
+            return Ok(());
+        }
+        assert_eq!(rt; cause_of(&end), 5, "at {fail_read}");
+        // One read more is one line more at most, and the first gives none.
+        let before = first_lines(rt.alloc(), THREE_ROWS, lines)?;
+        if sink.bytes() != before.as_slice() {
+            lines = lines.saturating_add(1);
+            assert!(rt; fail_read > 1);
+        }
+        let front = first_lines(rt.alloc(), THREE_ROWS, lines)?;
+        assert_eq!(rt; sink.bytes(), front.as_slice());
+    }
+    Err(Fail::from("no run is whole"))
+}
+
+#[test]
+fn a_text_that_is_cut_off_at_any_byte_gives_its_whole_lines(rt: HostRuntime) -> Result<(), Fail> {
+    let setup = plain_setup()?;
+    let mut lines = 0usize;
+    let mut cut = 0u32;
+    for byte in THREE_RECORDS.as_bytes() {
+        let mut chunks = Vec::new(rt.alloc());
+        for byte in THREE_RECORDS.as_bytes() {
+            chunks.push(vec![in rt.alloc(); *byte]?)?;
+        }
+        let reader = Chunks::new(chunks, cut.saturating_add(1));
+        let mut sink = Sink::new(rt.alloc(), 7, ROOM, 0, 0, ROOM)?;
+        let end = convert_source(rt.alloc(), reader, &mut sink, &setup);
+        assert_eq!(rt; cause_of(&end), 5, "at {cut}");
+        assert_eq!(rt;
+            sink.bytes(),
+            first_lines(rt.alloc(), THREE_ROWS, lines)?.as_slice()
+        );
+        cut = cut.saturating_add(1);
+        if *byte == b'\n' {
+            lines = lines.saturating_add(1);
+        }
+    }
+    Ok(())
+}
+
+/// Whether it is an offer that fails, or a flush.
+#[derive(Clone, Copy, Debug, PartialEq, Eq)]
+enum Failing {
+    Offer,
+    Flush,
+}
+
+#[test]
+fn a_write_and_a_flush_fail_at_each_place(rt: HostRuntime) -> Result<(), Fail> {
+    for failing in [Failing::Offer, Failing::Flush] {
+        let mut lines = 0usize;
+        for place in 1..MANY {
+            let (fail_write, fail_flush) = match failing {
+                Failing::Offer => (place, 0),
+                Failing::Flush => (0, place),
+            };
+            let mut sink = Sink::new(rt.alloc(), 7, ROOM, fail_write, fail_flush, ROOM)?;
+            let end = ended(rt.alloc(), 0, &mut sink)?;
+            assert_eq!(rt; sink.mark(), 7);
+            if end.is_whole() {
+                assert_eq!(rt; lines, 4, "{failing:?}");
+                assert!(rt; !sink.has_failed());
+                assert_eq!(rt; sink.bytes(), THREE_ROWS.as_bytes());
+                break;
+            }
+            let offered = match failing {
+                Failing::Offer => lines,
+                Failing::Flush => lines.saturating_add(1),
+            };
+            assert_eq!(rt; cause_of(&end), 4, "{failing:?} {place}");
+            assert!(rt; sink.has_failed());
+            assert_eq!(rt;
+                sink.bytes(),
+                first_lines(rt.alloc(), THREE_ROWS, offered)?.as_slice()
+            );
+            lines = lines.saturating_add(1);
+        }
+        assert_eq!(rt; lines, 4, "{failing:?}");
+    }
+    Ok(())
+}
+
+#[test]
+fn an_output_may_take_one_byte_but_not_none(rt: HostRuntime) -> Result<(), Fail> {
+    let mut slow = Sink::new(rt.alloc(), 7, ROOM, 0, 0, 1)?;
+    assert!(rt; ended(rt.alloc(), 0, &mut slow)?.is_whole());
+    assert_eq!(rt; slow.bytes(), THREE_ROWS.as_bytes());
+    let mut closed = Sink::new(rt.alloc(), 7, ROOM, 0, 0, 0)?;
+    assert_eq!(rt; cause_of(&ended(rt.alloc(), 0, &mut closed)?), 4);
+    assert!(rt; closed.bytes().is_empty());
+    let size = THREE_ROWS.len();
+    let mut full = Sink::new(rt.alloc(), 7, size - 1, 0, 0, ROOM)?;
+    assert_eq!(rt; cause_of(&ended(rt.alloc(), 0, &mut full)?), 4);
+    assert_eq!(rt; full.bytes().len(), size - 1);
+    let mut fitting = Sink::new(rt.alloc(), 7, size, 0, 0, ROOM)?;
+    assert!(rt; ended(rt.alloc(), 0, &mut fitting)?.is_whole());
+    assert_eq!(rt; fitting.bytes(), THREE_ROWS.as_bytes());
+    Ok(())
+}
+
+/// The read that comes when a text of one chunk was given: `csv` asks for its first byte alone.
+const READ_AFTER_CHUNK: u32 = 3;
+
+/// The text in one chunk, and then a fault.
+fn cut_text(alloc: Global, text: &str) -> Result<Chunks, AllocError> {
+    let mut chunk = Vec::new(alloc);
+    chunk.extend_from_slice(text.as_bytes())?;
+    let mut chunks = Vec::new(alloc);
+    chunks.push(chunk)?;
+    Ok(Chunks::new(chunks, READ_AFTER_CHUNK))
+}
+
+#[test]
+fn of_a_fault_of_writing_and_one_of_reading_that_of_writing_is_told(
+    rt: HostRuntime,
+) -> Result<(), Fail> {
+    for (fail_write, cause) in [(0, 5), (1, 4)] {
+        let mut sink = Sink::new(rt.alloc(), 7, ROOM, fail_write, 0, ROOM)?;
+        let reader = cut_text(rt.alloc(), WEEK_DATE)?;
+        let end = convert_source(rt.alloc(), reader, &mut sink, &plain_setup()?);
+        assert_eq!(rt; cause_of(&end), cause);
+        if cause == 5 {
+            assert_eq!(rt; sink.bytes(), WEEK_DATE_TABLE.as_bytes());
+        }
+    }
+    Ok(())
+}
+
+#[test]
+fn readers_and_writers_fail_from_a_fault_on(rt: HostRuntime) -> Result<(), Fail> {
+    let setup = plain_setup()?;
+    let mut entries = EntryReader::open(rt.alloc(), cut_text(rt.alloc(), WEEK_DATE)?, &setup)?;
+    let entry = entries.next()?.ok_or("no entry")?;
+    assert_eq!(rt; entry.number(), 1);
+    assert_eq!(rt; entries.next().err(), Some(EntryFault::ReadFault));
+    assert_eq!(rt; entries.next().err(), Some(EntryFault::Failed));
+    let row = convert(entry, &setup);
+    let mut torn = Sink::new(rt.alloc(), 7, ROOM, 2, 0, ROOM)?;
+    let mut writer = RowWriter::open(rt.alloc(), &mut torn, &setup)?;
+    assert_eq!(rt;
+        writer.put(&mut torn, &row).err(),
+        Some(RowFault::WriteFault)
+    );
+    assert_eq!(rt; writer.put(&mut torn, &row).err(), Some(RowFault::Failed));
+    assert_eq!(rt; writer.end().err(), Some(RowFault::Failed));
+    assert_eq!(rt;
+        torn.bytes(),
+        first_lines(rt.alloc(), WEEK_DATE_TABLE, 1)?.as_slice()
+    );
+    let mut whole = Sink::new(rt.alloc(), 7, ROOM, 0, 0, ROOM)?;
+    let mut writer = RowWriter::open(rt.alloc(), &mut whole, &setup)?;
+    writer.put(&mut whole, &row)?;
+    assert!(rt; writer.end().is_ok());
+    assert_eq!(rt; whole.bytes(), WEEK_DATE_TABLE.as_bytes());
+    Ok(())
+}
+
+/// Takes a byte by each second write; the others are interrupted.
+#[derive(Drop)]
+struct Nervous {
+    bytes: Vec<u8>,
+    interrupted: bool,
+}
+
+impl Write for Nervous {
+    fn write(&mut self, buf: &[u8]) -> io::Result<usize> {
+        self.interrupted = !self.interrupted;
+        if self.interrupted {
+            return Err(io::Error::from(ErrorKind::Interrupted));
+        }
+        let Some(byte) = buf.first() else {
+            return Ok(0);
+        };
+        self.bytes.push(*byte)?;
+        Ok(1)
+    }
+
+    fn flush(&mut self) -> io::Result<()> {
+        Ok(())
+    }
+}
+
+#[test]
+fn interrupted_writes_are_tried_again(rt: HostRuntime) -> Result<(), Fail> {
+    let nervous = Nervous {
+        bytes: Vec::new(rt.alloc()),
+        interrupted: false,
+    };
+    let mut output = PlainOutput::new(nervous, 7);
+    let reader = THREE_RECORDS.as_bytes();
+    let end = convert_source(rt.alloc(), reader, &mut output, &plain_setup()?);
+    assert!(rt; end.is_whole());
+    assert_eq!(rt; output.into_inner().bytes.as_slice(), THREE_ROWS.as_bytes());
+    Ok(())
+}
+
+/// A row of the last number, whose three fields have these bytes and whose day is that of the targets' cells.
+fn longest_row(
+    alloc: Global,
+    setup: &Setup,
+    [id, calendar, date]: [&str; 3],
+) -> Result<Sink, Fail> {
+    let fields = Body::Fields {
+        id: ArrayString::from(id)?,
+        calendar: ArrayString::from(calendar)?,
+        date: ArrayString::from(date)?,
+        note: ArrayString::new(),
+    };
+    let entry = Entry::new(1_000_000, fields).ok_or("no entry")?;
+    let mut sink = Sink::new(alloc, 7, ROOM, 0, 0, ROOM)?;
+    let mut writer = RowWriter::open(alloc, &mut sink, setup)?;
+    writer.put(&mut sink, &convert(entry, setup))?;
+    writer.end()?;
+    Ok(sink)
+}
+
+const FORTY_QUOTES: &str =
+    "\"\"\"\"\"\"\"\"\"\"\"\"\"\"\"\"\"\"\"\"\"\"\"\"\"\"\"\"\"\"\"\"\"\"\"\"\"\"\"\"";
+
+const THIRTY_TWO_QUOTES: &str = "\"\"\"\"\"\"\"\"\"\"\"\"\"\"\"\"\"\"\"\"\"\"\"\"\"\"\"\"\"\"\"\"";
+
+const SIXTEEN_QUOTES: &str = "\"\"\"\"\"\"\"\"\"\"\"\"\"\"\"\"";
+
+/// The date of the stored run, with as many blanks as a field may have.
+const LONG_FIELDS: [&str; 3] = [
+    FORTY_QUOTES,
+    "    gregorian   ",
+    "            1945-11-12          ",
+];
+
+static LONG_ROW: &str =
+    "    gregorian   ,            1945-11-12          ,710347,Monday,1945-11-12,\
+1945-W46-1,1945-10-30,1662-03-03,1938-03-03,2694-07-10,1395-04-05,1364-12-06,\
+5706-09-07,12.16.11.16.9,0154-02-21,1945-11-K3,7 Zac,11 Muluc,\n";
+
+#[test]
+fn the_longest_fields_and_the_last_number_fit_a_row(rt: HostRuntime) -> Result<(), Fail> {
+    let every_target = Setup::new(&Target::ALL, 1, b',', 1, Form::Plain)?;
+    let sink = longest_row(rt.alloc(), &every_target, LONG_FIELDS)?;
+    let row = format!(in rt.alloc(); "\n1000000,\"{FORTY_QUOTES}{FORTY_QUOTES}\",{LONG_ROW}")?;
+    assert!(rt; sink.bytes().ends_with(row.as_bytes()));
+
+    // A field of quotes is twice as long in the table, and two more.
+    let (id, calendar, date) = (FORTY_QUOTES, SIXTEEN_QUOTES, THIRTY_TWO_QUOTES);
+    let sink = longest_row(rt.alloc(), &plain_setup()?, [id, calendar, date])?;
+    let row = format!(in rt.alloc();
+        "\n1000000,\"{id}{id}\",\"{calendar}{calendar}\",\"{date}{date}\",,,4\n"
+    )?;
+    assert!(rt; sink.bytes().ends_with(row.as_bytes()));
+    Ok(())
+}
+
+/// How three records end where memory may be refused, and the output. The reader and the output take none.
+fn ended_in_need(alloc: Global, setup: &Setup) -> Result<(SourceEnd, Sink), AllocError> {
+    let reader = Chunks::new(lines_of(alloc, THREE_RECORDS)?, 0);
+    let mut sink = Sink::new(alloc, 7, ROOM, 0, 0, ROOM)?;
+    let end = convert_source(alloc, reader, &mut sink, setup);
+    Ok((end, sink))
+}
+
+// It passes whichever allocation is refused: then the cause is want of memory, and nothing else.
+#[test]
+fn a_source_that_is_refused_memory_leaves_a_front_of_its_table(rt: HostRuntime) {
+    let Ok(setup) = plain_setup() else {
+        return;
+    };
+    let Ok((end, sink)) = ended_in_need(rt.alloc(), &setup) else {
+        return;
+    };
+    assert!(rt; !sink.has_failed());
+    if end.is_whole() {
+        assert_eq!(rt; sink.bytes(), THREE_ROWS.as_bytes());
+    } else {
+        assert_eq!(rt; cause_of(&end), 1);
+        assert!(rt; THREE_ROWS.as_bytes().starts_with(sink.bytes()));
+        assert!(rt; sink.bytes().last().is_none_or(|byte| *byte == b'\n'));
+    }
+}

@@ -1,0 +1,206 @@
+// The ends of a lane on two threads, where one of them is slow: nothing but a dropped end is told as gone, and what was
+// sent before the sender was dropped is taken.
+
+use lane_rings::{Item, Receiver, Sender, lane};
+use std::alloc::{AllocError, Global};
+use std::sync::Wait;
+use std::sync::atomic::{AtomicU64, Ordering};
+use std::test::Fail;
+use std::thread;
+use std::thread::Threads;
+
+/// How many items are sent: more than a ring holds.
+const ITEMS: u32 = 300;
+
+/// How many items are taken before a receiver is dropped.
+const FEW: u32 = 20;
+
+/// How often a receiver looks in vain.
+const MOST_LOOKS: u32 = 100_000_000;
+
+/// Which end waits between two items.
+#[derive(Clone, Copy, PartialEq, Eq, Debug)]
+enum Slow {
+    Sender,
+    Receiver,
+    Neither,
+}
+
+const SLOW: [Slow; 3] = [Slow::Sender, Slow::Receiver, Slow::Neither];
+
+/// Gives the processor away for a while.
+fn linger(slow: bool) {
+    if slow {
+        for _ in 0..200 {
+            thread::yield_now();
+        }
+    }
+}
+
+/// Sends the items from 0 on and drops the sender, or stops where the receiver is gone.
+fn send_items(rt: &impl Wait, sender: Sender<u32>, slow: bool) {
+    let mut sender = sender;
+    for item in 0..ITEMS {
+        linger(slow);
+        if sender.send(rt, item).is_err() {
+            return;
+        }
+    }
+}
+
+/// Takes items until the sender is gone, and says how many came in order.
+fn take_items(rt: &impl Wait, receiver: Receiver<u32>, slow: bool) -> u32 {
+    let mut receiver = receiver;
+    for item in 0..ITEMS {
+        linger(slow);
+        if receiver.take(rt) != Ok(Item::Entry(item)) {
+            return item;
+        }
+    }
+    if receiver.take(rt).is_err() { ITEMS } else { 0 }
+}
+
+/// The same without a wait.
+fn try_items(receiver: Receiver<u32>, slow: bool) -> u32 {
+    let mut receiver = receiver;
+    let mut count = 0u32;
+    for _ in 0..MOST_LOOKS {
+        linger(slow);
+        match receiver.try_take() {
+            Ok(Some(item)) => {
+                if item != Item::Entry(count) {
+                    return 0;
+                }
+                count = count.saturating_add(1);
+            }
+            Ok(None) => thread::yield_now(),
+            Err(_) => return count,
+        }
+    }
+    0
+}
+
+/// How many items come in order over a lane before its sender is told as gone.
+fn count_over_lane(
+    rt: &(impl Threads + Wait + Sync),
+    alloc: Global,
+    slow: Slow,
+    waits: bool,
+) -> Result<u32, AllocError> {
+    let (sender, receiver) = lane::<u32>(alloc, 2)?;
+    let count = thread::scope(thread::scope_env(), rt, move |scope| {
+        let started = scope.spawn(move || send_items(rt, sender, slow == Slow::Sender));
+        let count = if waits {
+            take_items(rt, receiver, slow == Slow::Receiver)
+        } else {
+            try_items(receiver, slow == Slow::Receiver)
+        };
+        if started.is_ok() { count } else { 0 }
+    });
+    Ok(count)
+}
+
+#[test]
+fn all_that_was_sent_is_taken_before_the_sender_is_gone(rt: HostRuntime) -> Result<(), Fail> {
+    for slow in SLOW {
+        for waits in [false, true] {
+            let count = count_over_lane(&rt, rt.alloc(), slow, waits)?;
+            assert_eq!(rt; count, ITEMS, "{slow:?} {waits}");
+        }
+    }
+    Ok(())
+}
+
+/// What a sender was told: nothing yet, that the receiver is gone once it was to be dropped, or something else.
+const RIGHT: u64 = 1;
+
+const WRONG: u64 = 2;
+
+/// Sends items until the receiver is gone, and notes whether this was told of the item that was sent, and not before the
+/// receiver was to be dropped.
+fn send_until_gone(
+    rt: &impl Wait,
+    sender: Sender<u32>,
+    slow: bool,
+    dropping: &AtomicU64,
+    told: &AtomicU64,
+) {
+    let mut sender = sender;
+    for item in 0..ITEMS {
+        linger(slow);
+        if let Err(gone) = sender.send(rt, item) {
+            let right = gone.value == item && dropping.load(Ordering::SeqCst) == 1;
+            told.store(if right { RIGHT } else { WRONG }, Ordering::SeqCst);
+            return;
+        }
+    }
+    told.store(WRONG, Ordering::SeqCst);
+}
+
+/// Takes a few items and drops the receiver.
+fn take_few(rt: &impl Wait, receiver: Receiver<u32>, slow: bool, dropping: &AtomicU64) {
+    let mut receiver = receiver;
+    for _ in 0..FEW {
+        linger(slow);
+        if receiver.take(rt).is_err() {
+            return;
+        }
+    }
+    linger(slow);
+    dropping.store(1, Ordering::SeqCst);
+    drop(receiver);
+}
+
+/// What a sender is told whose receiver takes a few items and is dropped.
+fn told_to_sender(
+    rt: &(impl Threads + Wait + Sync),
+    alloc: Global,
+    slow: Slow,
+) -> Result<u64, AllocError> {
+    let (sender, receiver) = lane::<u32>(alloc, 2)?;
+    let (dropping, told) = (AtomicU64::new(0), AtomicU64::new(0));
+    let (dropping_seen, told_seen) = (&dropping, &told);
+    thread::scope(thread::scope_env(), rt, move |scope| {
+        let started = scope.spawn(move || {
+            send_until_gone(rt, sender, slow == Slow::Sender, dropping_seen, told_seen)
+        });
+        take_few(rt, receiver, slow == Slow::Receiver, dropping_seen);
+        drop(started);
+    });
+    Ok(told.load(Ordering::SeqCst))
+}
+
+#[test]
+fn a_receiver_is_gone_only_when_it_is_dropped(rt: HostRuntime) -> Result<(), Fail> {
+    for slow in SLOW {
+        assert_eq!(rt; told_to_sender(&rt, rt.alloc(), slow)?, RIGHT, "{slow:?}");
+    }
+    Ok(())
+}
+
+/// Sends one item and drops the sender at once.
+fn send_one(rt: &impl Wait, sender: Sender<u32>) {
+    let mut sender = sender;
+    let _ = sender.send(rt, 7);
+}
+
+/// Whether that item is taken, and then the sender is gone.
+fn one_is_taken(rt: &(impl Threads + Wait + Sync), alloc: Global) -> Result<bool, AllocError> {
+    let (sender, receiver) = lane::<u32>(alloc, 2)?;
+    let taken = thread::scope(thread::scope_env(), rt, move |scope| {
+        let started = scope.spawn(move || send_one(rt, sender));
+        let mut receiver = receiver;
+        let first = receiver.take(rt) == Ok(Item::Entry(7));
+        first && receiver.take(rt).is_err() && started.is_ok()
+    });
+    Ok(taken)
+}
+
+// The item may come between a look at the ring and a look at the sender.
+#[test]
+fn an_item_that_was_sent_just_before_its_end_is_taken(rt: HostRuntime) -> Result<(), Fail> {
+    for _ in 0..300 {
+        assert!(rt; one_is_taken(&rt, rt.alloc())?);
+    }
+    Ok(())
+}

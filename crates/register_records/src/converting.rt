@@ -38,7 +38,8 @@ fn day_of_body(body: &Body) -> Result<Day, Refusal>
 }
 
 /// The cell of a day, in as much room as a row has for it.
-#[inline(always)]
+// Within the loop over a row's targets the optimizer would find the parts of every calendar for each row.
+#[inline(never)]
 fn short_cell(target: Target, day: Day) -> CellText
     ensures { IsCell target day.number (cell_bytes result) }
 {

@@ -185,7 +185,7 @@ module _ (format : Format) (text : List ℕ) where
 
   going : (failed done : Bool) (left : Option (List Fields)) (given : List Numbered) → failed ≡ false → done ≡ false → Stands format text failed done left given
       → Stands format text false false left given
-  going failed done left given e f s = rw (← e, ← f) s
+  going failed done left given e f s = rw (e, f) at s
 
 -- an entry that a snapshot was taken of
 pub shown-more : (given : List (Snapshot Entry)) (s : Snapshot Entry) (e : Entry) → s.value ≡ e → entries_shown (given ++ s ∷ []) ≡ entries_shown given ++ entry_seen e ∷ []

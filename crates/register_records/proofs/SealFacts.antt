@@ -84,5 +84,5 @@ places-more (suc (suc (suc (suc (suc (suc zero)))))) n d lt a b = (omega (arith,
 places-more (suc (suc (suc (suc (suc (suc (suc i))))))) n d lt a b = absurd (omega (arith, lt))
 
 -- a digit more fits
-pub digit-fits : (i n c : ℕ) → i < 7 → n < 10 ^ i → is_ascii_digit c ≡ true → 10 * n + (c - 48) < 2 ^ 32
-digit-fits i n c lt a h = let fits = places-more i n (c - 48) lt a (digit-small c h).1 in omega (arith, fits.1)
+pub digit-fits : (i n c : ℕ) → i < 7 → n < 10 ^ i → is_ascii_digit c ≡ true → 10 * n + (c - 48) < 10000000
+digit-fits i n c lt a h = (places-more i n (c - 48) lt a (digit-small c h).1).1

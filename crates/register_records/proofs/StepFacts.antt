@@ -41,10 +41,10 @@ sealed-end (Some rows) (Some rest) form count f e t none is agrees = rw e (f, t 
 -- a seal is left that does not agree
 pub other-number : (left mid : Option (List Fields)) (form : Form) (count : ℕ) (f : Fields) → form ≡ Sealed → TakesFirst left mid f → is_seal f ≡ true
     → (Agrees f count → ⊥) → IfSome left (LacksSeal form count)
-other-number left mid form count f e t is not = of-first left mid f (LacksSeal form count) t (λ rest. rw e (lacks rest))
+other-number left mid form count f e t is differs = of-first left mid f (LacksSeal form count) t (λ rest. rw e (lacks rest))
   where
     lacks : (rest : List Fields) → LacksSeal Sealed count (f ∷ rest)
-    lacks rest = (seal-first f rest is, λ ends. let same : ends.0 ≡ f = cc (ends.1) in not (rw same at ends.3))
+    lacks rest = (seal-first f rest is, λ ends. let same : ends.0 ≡ f = cc (ends.1) in differs (rw same at ends.3))
 
 -- a record is left behind the seal
 pub more-after : (left mid after : Option (List Fields)) (form : Form) (count : ℕ) (f g : Fields) → form ≡ Sealed → TakesFirst left mid f
@@ -57,7 +57,7 @@ more-after (Some rows) (Some rest) (Some last) form count f g e t u is =
 
 -- an entry's record is left
 pub entry-left : (left mid : Option (List Fields)) (form : Form) (f : Fields) → TakesFirst left mid f → IsNoSeal form f → IfSome left (HasEntry form)
-entry-left left mid form f t no = of-first left mid f (HasEntry form) t (λ rest. rw (no-seal-first form f rest no) (omega arith))
+entry-left left mid form f t other = of-first left mid f (HasEntry form) t (λ rest. rw (no-seal-first form f rest other) (omega arith))
 
 -- a record that is no seal, or whose form has none
 pub plain-no-seal : (form : Form) (f : Fields) → (form ≡ Sealed → ⊥) → IsNoSeal form f

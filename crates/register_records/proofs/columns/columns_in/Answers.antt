@@ -21,14 +21,14 @@ returns-in-Plain c =
     rw c.in-Plain.is
     (plain-texts fields _ _ _ (long ∙ ap field_count c.in-Plain.is) c.in_ok-id.ensures.value c.in_ok-calendar.ensures.value c.in_ok-date.ensures.value)
 
-pub returns-in_err-get : goal.returns-in_err-get
-returns-in_err-get c =
+pub returns-in_err-get-in-Sealed : goal.returns-in_err-get-in-Sealed
+returns-in_err-get-in-Sealed c =
     let there : 3 < field_count c.args.form = rw c.in-Sealed.is (omega arith) in
-    field-there c.args.form (fields_of c.args.row.now) 3 (omega arith) there c.in_err-get.ensures.value
+    field-there c.args.form (fields_of c.args.row.now) 3 (omega arith) there c.in_err-get-in-Sealed.ensures.value
 
-pub returns-in-Sealed : goal.returns-in-Sealed
-returns-in-Sealed c =
+pub returns-in_ok-get-in-Sealed : goal.returns-in_ok-get-in-Sealed
+returns-in_ok-get-in-Sealed c =
     let fields = fields_of c.args.row.now in
     let long : length fields ≡ field_count c.args.form = omega arith in
     rw c.in-Sealed.is
-    (sealed-texts fields _ _ _ _ (long ∙ ap field_count c.in-Sealed.is) c.in_ok-id.ensures.value c.in_ok-calendar.ensures.value c.in_ok-date.ensures.value c.in_ok-get.ensures.value)
+    (sealed-texts fields _ _ _ _ (long ∙ ap field_count c.in-Sealed.is) c.in_ok-id.ensures.value c.in_ok-calendar.ensures.value c.in_ok-date.ensures.value c.in_ok-get-in-Sealed.ensures.value)

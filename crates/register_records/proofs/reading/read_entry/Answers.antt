@@ -9,9 +9,6 @@ use Rattle.register_records.proofs.reading.read_entry.Goals.{else-eq-via-else-eq
 pub read_record-requires : goal.read_record-requires
 read_record-requires g c = let live = c.requires.live in (live.0, inl live.1, live.2)
 
-pub read_record-requires-2 : goal.read_record-requires-2
-read_record-requires-2 g c = let live = c.in_ok-read_record.ensures.live in (live.0, inl live.1, live.2)
-
 pub returns-in-Sealed-clause-not_sealed : goal.returns-in-Sealed-clause-not_sealed
 returns-in-Sealed-clause-not_sealed g c _ =
     let none : c.in_ok-read_record.field-0 ≡ false = search rules in
@@ -35,9 +32,9 @@ pub returns-then-count-ge-MAX_RECORDS-clause-many : goal.returns-then-count-ge-M
 returns-then-count-ge-MAX_RECORDS-clause-many g c _ =
     let some : c.in_ok-read_record.field-0 ≡ true = search rules in
     let first = found _ _ _ _ c.in_ok-read_record.ensures.reads some in
-    let no : IsNoSeal c.args.form (fields_of c.read_record.new.row)
+    let other : IsNoSeal c.args.form (fields_of c.read_record.new.row)
     = elim c.else-eq.branch [
       | else-eq-via-then-eq+else-is_seal w ↦ other-no-seal _ _ (sym w.is_seal.ensures ∙ w.if-is_seal.false)
       | else-eq-via-else-eq w ↦ plain-no-seal _ _ (λ e. search (rules, e, w.if-eq.false))
     ] in
-    (omega (arith, c.if-count-ge-MAX_RECORDS.true, c.requires.few), entry-left _ _ c.args.form _ first no)
+    (omega (arith, c.if-count-ge-MAX_RECORDS.true, c.requires.few), entry-left _ _ c.args.form _ first other)

@@ -1,4 +1,4 @@
-use Rattle.std.proofs.Common.{◌≡◌, ◌∙◌, arith, sym, true, false}
+use Rattle.std.proofs.Common.{◌≡◌, ◌∙◌, arith, get_or, sym, true, false}
 use Rattle.register_records.proofs.SealFacts.{digit-at, digit-fits, digit-small, digits-more, number-more, places-more}
 use Rattle.register_records.proofs.seals.number_of.Goals as goal
 
@@ -17,7 +17,8 @@ overflow_mul-number c =
 pub overflow_add-number : goal.overflow_add-number
 overflow_add-number c =
     let is = sym c.is_ascii_digit.ensures.value ∙ c.if-not-is_ascii_digit.false in
-    digit-fits c.digits.digit-index c.digits.number _ (omega arith) c.digits.invariant.small is
+    let fits = digit-fits c.digits.digit-index c.digits.number (get_or c.args.text.now c.digits.digit-index 0) (omega arith) c.digits.invariant.small is in
+    omega (arith, fits)
 
 pub digits-preserved : goal.digits-preserved
 digits-preserved c =

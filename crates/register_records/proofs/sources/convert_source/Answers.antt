@@ -1,10 +1,13 @@
-use Rattle.std.proofs.Common.{◌≡◌, ◌∷◌, [], ◌∙◌, ap, refl, sym, arith, rules, true, length-append}
+use Rattle.std.proofs.Common.{◌≡◌, ◌∷◌, [], ◌∙◌, ℕ, List, ap, refl, subst, sym, arith, rules, true, length-append}
 use Rattle.std.specs.Result.{is_ok}
 use Rattle.csv.proofs.WriteFacts.{appends-none}
-use Rattle.register_records.specs.Entries.{HasTooMany, IsNotSealed, Numbered}
+use Rattle.register_records.specs.Entries.{Format, HasTooMany, IsNotSealed, Numbered}
 use Rattle.register_records.specs.Views.{given_of}
 use Rattle.register_records.specs.Seen.{entry_number, entry_seen}
-use Rattle.register_records.specs.Views.{row_seen}
+use Rattle.register_records.specs.Tables.{row_line}
+use Rattle.register_records.specs.Views.{format_of, layout_of, line_of, row_seen, row_targets}
+use Rattle.std.specs.Io.KnownBytes.{Appends}
+use Rattle.date_texts.specs.declared.calendar.Target.{Target}
 use Rattle.register_records.specs.declared.sources.Note.{Note}
 use Rattle.register_records.proofs.Progress.{finish, first_rows, front, if_broken, nothing, notes_few, ok_so, only_memory, only_not_sealed, only_too_many, start, step, told_of}
 use Rattle.register_records.proofs.sources.convert_source.Goals as goal
@@ -59,7 +62,12 @@ entries-preserved g c =
     let gives = rw c.in-Ok-Some.field-0-is at c.in-Ok-Some.ensures.gives in
     let good : is_ok c.push_note.result ≡ true = search rules in
     let noted = ok_so _ good c.push_note.ensures in
-    let line = rw (inv.none_waits, inv.by, c.convert-row.ensures.targets) at c.in_default.ensures.ok in
+    let row = c.convert-row.result in
+    let setup = c.args.setup.now in
+    let same_line : line_of c.entries.writer row ≡ row_line (layout_of setup) (row_seen row)
+    = ap (λ (format : Format). row_line (record { format = format; targets = row_targets row }) (row_seen row)) inv.by
+    ∙ ap (λ (targets : List Target). row_line (record { format = format_of setup; targets = targets }) (row_seen row)) c.convert-row.ensures.targets in
+    let line = subst (λ (bytes : List ℕ). Appends (g.W.Output.contents c.entries.output) (g.W.Output.contents c.put.new.output) bytes) same_line (rw inv.none_waits at c.in_default.ensures.ok) in
     let same : c.number-rows.result ≡ entry_number c.in-Ok-Some.entry = cc in
     let few = notes_few (row_seen c.convert-row.result).number (row_seen c.convert-row.result).outcome in
     let longer = length-append {A = Numbered} (given_of c.entries.entries) (entry_seen c.in-Ok-Some.entry ∷ []) in

@@ -1,3 +1,6 @@
+ghost use Rattle.std.specs.Prelude.{◌≡◌};
+ghost use Rattle.lane_rings.specs.Lane.{receiver_lane};
+
 use super::*;
 use std::process::Abort;
 use std::rc::Rc;
@@ -89,7 +92,7 @@ fn take_gives_what_was_sent(rt: HostRuntime) -> Result<(), Fail> {
 
 // Looks for an item, which is the one that is wanted, and passes it.
 fn pass_one(rt: &impl Abort, receiver: &mut Receiver<u32>, wanted: &Item<u32>)
-    ensures { Rattle.lane_rings.specs.Lane.receiver_lane receiver.new ≡ Rattle.lane_rings.specs.Lane.receiver_lane receiver.old }
+    ensures { receiver_lane receiver.new ≡ receiver_lane receiver.old }
 {
     assert_eq!(rt; receiver.look(), Ok(true));
     assert_eq!(rt; receiver.next(), Some(wanted));

@@ -2,7 +2,7 @@
 --
 -- A lane has two lists of items, sent and taken. Making it leaves both empty. A push into its ring that succeeds appends
 -- an item to those sent, and a pop that succeeds appends its answer to those taken. A push that finds the ring full, a pop
--- that finds it empty and a look at a dropped end change neither. Once the sender has finished, what was sent is fixed.
+-- that finds it empty and a look change neither. Once the sender has finished, what was sent is fixed.
 use Rattle.std.specs.Prelude.{◌≡◌, ℕ, List, [], Option, Some, option_map, IsSome}
 use Rattle.std.specs.Option.{option_map_or}
 use Rattle.std.specs.declared.alloc.Global.{Global}
@@ -43,6 +43,10 @@ module _ {T : Type 0} where
   -- every item taken so far, oldest first
   abbrev pub taken : Receiver T → List (Item T)
   taken r = ring.received r.consumer
+
+  -- the items that were seen in the lane and not yet taken, oldest first
+  abbrev pub waiting : Receiver T → List (Item T)
+  waiting r = ring.known_items r.consumer
 
   -- the ring confirms what was sent
   abbrev pub HasConfirmation : Closed T → Type 0

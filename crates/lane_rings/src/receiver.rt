@@ -39,8 +39,9 @@ fn mark_of<T>(item: &Item<T>) -> Option<Mark>
 }
 
 impl<T> Receiver<T> {
-    ghost use Rattle.std.specs.Prelude.{◌≡◌, [], ◌∷◌, ◌++◌, IfOk, OnErr, MatchOption};
-    ghost use Rattle.lane_rings.specs.Lane.{receiver_lane, taken};
+    ghost use Rattle.std.specs.Prelude.{◌≡◌, ◌<◌, [], ◌∷◌, ◌++◌, length, IfOk, IsSome, IsTrue, OnErr, MatchOption};
+    ghost use mathlib.Core.List.{IsPrefix};
+    ghost use Rattle.lane_rings.specs.Lane.{receiver_lane, taken, waiting};
 
     /// Takes the next item, if one is there now, and never waits.
     ///
@@ -82,6 +83,39 @@ impl<T> Receiver<T> {
         unreachable!()
     }
 
+    /// Looks whether an item is next, and never waits.
+    ///
+    /// It answers `Gone` where `try_take` does.
+    pub fn look(&mut self) -> Result<bool, Gone<()>>
+        ensures lane { receiver_lane self.new ≡ receiver_lane self.old }
+        ensures taken { taken self.new ≡ taken self.old }
+        ensures waiting { IsPrefix (waiting self.old) (waiting self.new) }
+        ensures there { IfOk result (λ there. IsTrue there → 0 < length (waiting self.new)) }
+    {
+        if !self.consumer.is_empty() {
+            return Ok(true);
+        }
+        if !self.consumer.is_abandoned() {
+            return Ok(false);
+        }
+        // What was sent between the first look and the sender's leaving is still there.
+        if self.consumer.is_empty() {
+            return Err(Gone { value: () });
+        }
+        Ok(true)
+    }
+
+    /// The next item, left in the lane, where a look has shown that there is one.
+    pub fn next(&self) -> Option<&Item<T>>
+        ensures next { MatchOption result (waiting self.now ≡ []) (λ item. IsPrefix (item.now ∷ []) (waiting self.now)) }
+        ensures there { IsSome result → 0 < length (waiting self.now) }
+    {
+        if self.consumer.cached_slots() == 0 {
+            return None;
+        }
+        Some(self.consumer.peek_known())
+    }
+
     #[tactic(auto, using(crate::proofs::Ends::last_mark_append))]
     fn pop(&mut self) -> Option<Item<T>>
         ensures lane { receiver_lane self.new ≡ receiver_lane self.old }
@@ -94,15 +128,29 @@ impl<T> Receiver<T> {
 }
 
 impl<T: Drop> Receiver<T> {
-    ghost use Rattle.std.specs.Prelude.{◌≡◌, ◌↔◌, IfOk, IsOk};
-    ghost use Rattle.lane_rings.specs.Lane.{taken, IsClosedOf, IsWhole, items};
+    /// Takes the next item, which a look has shown, and drops it.
+    #[tactic(auto, using(crate::proofs::Ends::last_mark_append))]
+    pub fn pass(&mut self)
+        requires { 0 < length (waiting self.old) }
+        ensures lane { receiver_lane self.new ≡ receiver_lane self.old }
+        ensures taken { taken self.new ++ waiting self.new ≡ taken self.old ++ waiting self.old }
+        ensures one { length (taken self.new) ≡ length (taken self.old) + 1 }
+    {
+        let item = self.consumer.pop_known();
+        self.last = mark_of(&item);
+    }
+
+    ghost use Rattle.std.specs.Prelude.{◌≡◌, ◌<◌, ◌+◌, [], ◌++◌, ◌↔◌, length, IfOk, IsOk};
+    ghost use Rattle.lane_rings.specs.Lane.{receiver_lane, taken, waiting, IsClosedOf, IsWhole, items};
 
     /// Whether what was taken is all that was ever sent, up to an `End` or a `Stop`. `closed` is what is left of the
     /// sender that was made with this receiver. The lane is spent either way.
+    #[tactic(auto, using(crate::proofs::Ends::none_before))]
     pub fn confirm(self, closed: Closed<T>) -> Result<Confirmed<T>, Unconfirmed>
         requires { IsClosedOf closed self }
         ensures whole { IsOk result ↔ IsWhole closed self }
         ensures items { IfOk result (λ c. items c ≡ taken self) }
+        ensures none_waits { IsOk result → waiting self ≡ [] }
     {
         let mut receiver = self;
         let Some(mut finished) = closed.finished else {

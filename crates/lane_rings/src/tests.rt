@@ -1,3 +1,6 @@
+ghost use Rattle.std.specs.Prelude.{◌≡◌};
+ghost use Rattle.lane_rings.specs.Lane.{receiver_lane};
+
 use super::*;
 use std::process::Abort;
 use std::rc::Rc;
@@ -84,6 +87,41 @@ fn take_gives_what_was_sent(rt: HostRuntime) -> Result<(), Fail> {
     assert_eq!(rt; receiver.take(&rt), Ok(Item::End(1)));
     assert_eq!(rt; receiver.take(&rt), Err(Gone { value: () }));
     assert_eq!(rt; receiver.confirm(closed)?.ended(), Some(1));
+    Ok(())
+}
+
+// Looks for an item, which is the one that is wanted, and passes it.
+fn pass_one(rt: &impl Abort, receiver: &mut Receiver<u32>, wanted: &Item<u32>)
+    ensures { receiver_lane receiver.new ≡ receiver_lane receiver.old }
+{
+    assert_eq!(rt; receiver.look(), Ok(true));
+    assert_eq!(rt; receiver.next(), Some(wanted));
+    if receiver.next().is_some() {
+        receiver.pass();
+    }
+}
+
+#[test]
+fn a_look_leaves_the_item_that_a_pass_takes(rt: HostRuntime) -> Result<(), Fail> {
+    let (mut sender, mut receiver) = lane::<u32>(rt.alloc(), 2)?;
+    assert_eq!(rt; receiver.look(), Ok(false));
+    assert!(rt; receiver.next().is_none());
+    assert_eq!(rt; sender.send(&rt, 7), Ok(()));
+    let closed = sender.close(&rt, 1);
+    pass_one(&rt, &mut receiver, &Item::Entry(7));
+    pass_one(&rt, &mut receiver, &Item::End(1));
+    assert_eq!(rt; receiver.look(), Err(Gone { value: () }));
+    assert_eq!(rt; receiver.confirm(closed)?.ended(), Some(1));
+    Ok(())
+}
+
+// An item that was seen and not passed is left in the lane.
+#[test]
+fn a_lane_with_a_seen_item_is_not_confirmed(rt: HostRuntime) -> Result<(), Fail> {
+    let (sender, mut receiver) = lane::<u32>(rt.alloc(), 1)?;
+    let closed = sender.close(&rt, 0);
+    assert_eq!(rt; receiver.look(), Ok(true));
+    assert!(rt; receiver.confirm(closed).is_err());
     Ok(())
 }
 

@@ -1,6 +1,6 @@
 -- Rows that were taken from one of several arms, and what is left of the senders of several lanes.
 use Rattle.std.proofs.Common.{◌≡◌, sym, subst, ℕ, zero, suc, ◌<◌, List, [], ◌∷◌, ◌++◌, ◌⊎◌, inl, inr, set, get_or, length, map, append_assoc, append-nil, arith}
-use Rattle.std.specs.Prelude.{All}
+use Rattle.std.specs.Prelude.{All, IfSome, None, Option, Some}
 use Rattle.std.proofs.lemmas.List.Elements.{All-push}
 use Rattle.lane_rings.specs.declared.sender.Closed.{Closed}
 use Rattle.lane_rings.specs.declared.sender.Sender.{Sender}
@@ -19,10 +19,14 @@ any_set (arm ∷ rest) zero new d row kept (inr b) = inr b
 any_set (arm ∷ rest) (suc i) new d row kept (inl a) = inl a
 any_set (arm ∷ rest) (suc i) new d row kept (inr b) = inr (any_set rest i new d row kept b)
 
-pub any_here : (arms : List Arm) (i : ℕ) (new : Arm) (row : Row) → i < length arms → ArmTook new row → AnyTook (set arms i new) row
-any_here [] i new row below h = absurd (omega arith)
-any_here (arm ∷ rest) zero new row below h = inl h
-any_here (arm ∷ rest) (suc i) new row below h = inr (any_here rest i new row (omega arith) h)
+pub any_here : (arms : List Arm) (i : ℕ) (d : Arm) (row : Row) → i < length arms → ArmTook (get_or arms i d) row → AnyTook arms row
+any_here [] i d row below h = absurd (omega arith)
+any_here (arm ∷ rest) zero d row below h = inl h
+any_here (arm ∷ rest) (suc i) d row below h = inr (any_here rest i d row (omega arith) h)
+
+pub some_here : {B : Type 0} (arms : List Arm) (i : ℕ) (d : Arm) (found : Option B) (row_of : B → Row) → i < length arms → IfSome found (λ b. ArmTook (get_or arms i d) (row_of b)) → IfSome found (λ b. AnyTook arms (row_of b))
+some_here arms i d None row_of below h = tt
+some_here arms i d (Some b) row_of below h = any_here arms i d (row_of b) below h
 
 -- the first of a list, and the rest
 pub all_tail : {X : Type 0} (P : X → Type 0) (xs : List X) (x : X) (rest : List X) → xs ≡ x ∷ rest → All P xs → P x × All P rest

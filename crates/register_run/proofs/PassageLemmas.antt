@@ -1,7 +1,8 @@
 -- Items of lanes, as they are sent and taken.
-use Rattle.std.proofs.Common.{◌≡◌, ◌∙◌, ap, sym, subst, refl, ℕ, zero, suc, ◌+◌, List, [], ◌∷◌, ◌++◌, Option, Some, None, ◌⊎◌, inl, inr, arith, lit<}
-use Rattle.std.specs.Prelude.{Result, Ok, Err, IfOk, IfErr, OnOk, OnErr, MatchOption}
+use Rattle.std.proofs.Common.{◌≡◌, ◌∙◌, ap, sym, subst, refl, zero, suc, List, [], ◌∷◌, ◌++◌, append_assoc, append-nil, inl, inr, arith, lit<}
+use Rattle.std.specs.Prelude.{Result, Ok, Err, IfOk, IfErr, OnOk, OnErr}
 use Rattle.std.specs.List.{Contains}
+use mathlib.Core.List.{IsPrefix}
 use Rattle.std.proofs.lemmas.List.Elements.{Contains-append_cases, Contains-append_left, Contains-append_right}
 use Rattle.lane_rings.specs.declared.item.Item.{Item}
 use Rattle.lane_rings.specs.declared.item.Item.TheVariants as item
@@ -13,7 +14,7 @@ use Rattle.register_records.specs.declared.rows.Row.{Row}
 use Rattle.lane_rings.specs.declared.item.Gone.{Gone}
 use Rattle.lane_rings.specs.declared.receiver.Receiver.{Receiver}
 use Rattle.lane_rings.specs.declared.sender.Closed.{Closed}
-use Rattle.lane_rings.specs.Lane.{HasConfirmation, IsWhole, Lane, all_sent, taken}
+use Rattle.lane_rings.specs.Lane.{HasConfirmation, IsWhole, Lane, all_sent, taken, waiting}
 use Rattle.register_run.specs.declared.converting.Converting.{Converting}
 use Rattle.register_run.specs.Passages.{AreAmong, AreOfTaken, GainsRowOf, IsConverting, IsOfGiven}
 
@@ -30,18 +31,20 @@ module _ {T : Type 0} where
   pub taken_last : (items all : List (Item T)) (x : T) → all ≡ items ++ item.Entry x ∷ [] → Contains all (item.Entry x)
   taken_last items all x is = subst (λ l. Contains l (item.Entry x)) (sym is) (Contains-append_right items (item.Entry x ∷ []) (item.Entry x) (0, lit< tt, refl))
 
-  -- what was taken stays taken
-  pub take_kept : {E : Type 0} (old new : List (Item T)) (r : Result (Option (Item T)) E)
-      → IfOk r (λ found. MatchOption found (new ≡ old) (λ x. new ≡ old ++ x ∷ [])) → OnErr r (new ≡ old) → (y : Item T) → Contains old y → Contains new y
-  take_kept old new (Ok (Some x)) ok gone y h = subst (λ l. Contains l y) (sym ok) (Contains-append_left old (x ∷ []) y h)
-  take_kept old new (Ok None) ok gone y h = subst (λ l. Contains l y) (sym ok) h
-  take_kept old new (Err e) ok gone y h = subst (λ l. Contains l y) (sym gone) h
+  -- a look takes nothing, and what it saw before it sees still
+  pub seen_kept : (old new seen more : List (Item T)) → new ≡ old → IsPrefix seen more → (y : Item T) → Contains (old ++ seen) y → Contains (new ++ more) y
+  seen_kept old new seen more is (rest, all) y h =
+      subst (λ l. Contains (l ++ more) y) (sym is) (subst (λ l. Contains (old ++ l) y) all
+      (subst (λ l. Contains l y) (append_assoc old seen rest) (Contains-append_left (old ++ seen) rest y h)))
 
-  pub take_last : {E : Type 0} (old new : List (Item T)) (r : Result (Option (Item T)) E) (x : T)
-      → IfOk r (λ found. MatchOption found (new ≡ old) (λ x. new ≡ old ++ x ∷ [])) → r ≡ Ok (Some (item.Entry x)) → Contains new (item.Entry x)
-  take_last old new r x ok is = taken_last old new x (subst (λ q. IfOk q (λ found. MatchOption found (new ≡ old) (λ x. new ≡ old ++ x ∷ []))) is ok)
+  pub same_seen : (old new : List (Item T)) → new ≡ old → (y : Item T) → Contains old y → Contains new y
+  same_seen old new is y h = subst (λ l. Contains l y) (sym is) h
 
-  -- the same of a take that waits
+  -- what is next was seen
+  pub seen_next : (old seen : List (Item T)) (y : Item T) → IsPrefix (y ∷ []) seen → Contains (old ++ seen) y
+  seen_next old seen y (rest, all) = Contains-append_right old seen y (subst (λ l. Contains l y) all (Contains-append_left (y ∷ []) rest y (0, lit< tt, refl)))
+
+  -- what was taken from a wait stays taken
   pub taken_kept : {E : Type 0} (old new : List (Item T)) (r : Result (Item T) E) → IfOk r (λ x. new ≡ old ++ x ∷ []) → OnErr r (new ≡ old) → (y : Item T) → Contains old y → Contains new y
   taken_kept old new (Ok x) ok gone y h = subst (λ l. Contains l y) (sym ok) (Contains-append_left old (x ∷ []) y h)
   taken_kept old new (Err e) ok gone y h = subst (λ l. Contains l y) (sym gone) h
@@ -102,10 +105,11 @@ pub gains_send : (old new : List (Item Row)) (made : Row) (e : Entry) (r : Resul
 gains_send old new made e (Ok u) ok gone of row h = gains_row old new made e ok of row h
 gains_send old new made e (Err g) ok gone of row h = inl (subst (λ l. Contains l (item.Entry row)) gone.1 h)
 
--- with both lanes of a converter confirmed, each row that was taken is of an entry that was given
+-- with both lanes of a converter confirmed, each row that was seen or taken is of an entry that was given
 pub passage : (given : List Numbered) (from into : Lane) (fed : Closed Entry) (converting : Converting) (rows : Receiver Row)
-    → (HasConfirmation fed → AreAmong given (all_sent fed)) → IsConverting from into converting → IsWhole fed converting.entries → IsWhole converting.closed rows
-    → (row : Row) → Contains (taken rows) (item.Entry row) → IsOfGiven given row
-passage given from into fed converting rows among c first second row h =
-    let made = c.rows second.confirmed row (subst (λ l. Contains l (item.Entry row)) (sym second.equal) h) in
+    → (HasConfirmation fed → AreAmong given (all_sent fed)) → IsConverting from into converting → IsWhole fed converting.entries → IsWhole converting.closed rows → waiting rows ≡ []
+    → (row : Row) → Contains (taken rows ++ waiting rows) (item.Entry row) → IsOfGiven given row
+passage given from into fed converting rows among c first second none row h =
+    let took = subst (λ l. Contains l (item.Entry row)) (append-nil (taken rows)) (subst (λ l. Contains (taken rows ++ l) (item.Entry row)) none h) in
+    let made = c.rows second.confirmed row (subst (λ l. Contains l (item.Entry row)) (sym second.equal) took) in
     among first.confirmed (row_entry row) (subst (λ l. Contains l (item.Entry (row_entry row))) (sym first.equal) made)

@@ -1,16 +1,14 @@
 -- What a source's table holds, as rows are taken from its threads.
-use Rattle.std.proofs.Common.{◌≡◌, sym, subst, ℕ, List, [], ◌∷◌, ◌++◌, Option, ◌⊎◌, inl, inr, arith}
+use Rattle.std.proofs.Common.{◌≡◌, subst, ℕ, List, [], ◌∷◌, ◌++◌, Option, ◌⊎◌, inl, inr, arith}
 use Rattle.std.specs.Prelude.{Result}
-use Rattle.std.specs.List.{Contains}
 use Rattle.std.proofs.Math.Logic.{∥∥₁_map}
 use Rattle.register_records.specs.declared.outputs.Output as outputs
 use Rattle.register_records.specs.declared.rows.Row.{Row}
-use Rattle.register_records.specs.declared.setups.Setup.{Setup}
 use Rattle.register_records.specs.declared.sources.Cause.{Cause}
 use Rattle.register_records.specs.Views.{format_of}
 use Rattle.register_run.specs.declared.feeds.Feed.{Feed}
 use Rattle.register_run.specs.declared.tables.Table.{Table}
-use Rattle.register_run.specs.Feeds.{Took, fed_by, fed_from}
+use Rattle.register_run.specs.Feeds.{Took, fed_by}
 use Rattle.register_run.specs.Passages.{HasPassed}
 use Rattle.register_run.specs.TablesWritten.{Holds, made_by}
 use Rattle.register_run.specs.Written.{Concludes, Wrote}

@@ -1,8 +1,8 @@
 -- What a link sees of its arms.
-use Rattle.std.specs.Prelude.{List, [], ◌∷◌, ◌⊎◌}
+use Rattle.std.specs.Prelude.{List, [], ◌∷◌, ◌++◌, ◌⊎◌}
 use Rattle.std.specs.List.{Contains}
 use Rattle.lane_rings.specs.declared.item.Item.TheVariants as item
-use Rattle.lane_rings.specs.Lane.{Lane, sender_lane, taken}
+use Rattle.lane_rings.specs.Lane.{Lane, sender_lane, taken, waiting}
 use Rattle.register_records.specs.declared.rows.Row.{Row}
 use Rattle.register_run.specs.declared.arms.Arm.{Arm}
 
@@ -10,9 +10,9 @@ use Rattle.register_run.specs.declared.arms.Arm.{Arm}
 abbrev pub feeding_lane : Arm → Lane
 feeding_lane arm = sender_lane arm.feeding.value
 
--- the row was taken from this arm
+-- the row was taken from this arm, or was seen to be next
 unfoldable pub ArmTook : Arm → Row → Type 0
-ArmTook arm row = Contains (taken arm.rows) (item.Entry row)
+ArmTook arm row = Contains (taken arm.rows ++ waiting arm.rows) (item.Entry row)
 
 -- the row was taken from one of these arms
 abbrev pub AnyTook : List Arm → Row → Type 0

@@ -1,6 +1,6 @@
 //! A converter with its two lanes, as the writer has it.
 
-ghost use Rattle.std.specs.Prelude.{◌≡◌, [], List, Some, IfOk, OnOk};
+ghost use Rattle.std.specs.Prelude.{◌≡◌, [], List, IfOk, IfSome, OnOk};
 ghost use Rattle.lane_rings.specs.Lane.{receiver_lane, sender_lane, sent};
 
 use crate::converting::{Converting, convert_entries};
@@ -26,6 +26,19 @@ impl Promise<Converting> for ConverterLanes {
     ghost kept_by = { λ p r. IsConverting (receiver_lane p.entries.value) (sender_lane p.rows.value) r };
 }
 
+/// What a look at an arm found.
+#[derive(Clone, Copy)]
+pub(crate) enum Ahead {
+    /// Nothing is there now.
+    Nothing,
+    /// A row is next.
+    Row,
+    /// The lane ended with an end.
+    End,
+    /// The lane ended with a stop.
+    Stop,
+}
+
 /// A converter, the lane that it feeds and the one that feeds it.
 #[derive(Drop)]
 pub(crate) struct Arm {
@@ -42,7 +55,6 @@ pub(crate) struct Arm {
 
 impl Arm {
     ghost use Rattle.lane_rings.specs.Lane.{HasConfirmation, all_sent};
-    ghost use Rattle.lane_rings.specs.declared.item.Item.TheVariants as item;
     ghost use Rattle.register_records.specs.Entries.{Numbered};
     ghost use Rattle.register_run.specs.Arms.{ArmTook, feeding_lane};
     ghost use Rattle.register_run.specs.Passages.{AreAmong, IsConverting, IsOfGiven, IsOfLane};
@@ -98,26 +110,64 @@ impl Arm {
         self.open
     }
 
-    /// The next item, where one is there now. A converter that is gone counts as one that stopped.
-    pub(crate) fn try_take(&mut self) -> Option<Item<Row>>
+    /// Looks for the next item. A row is left where it is until it is passed; an end and a stop are taken. A converter
+    /// that is gone counts as one that stopped.
+    pub(crate) fn look(&mut self) -> Ahead
         ensures lane { feeding_lane self.new ≡ feeding_lane self.old }
         ensures kept { (row : Row) → ArmTook self.old row → ArmTook self.new row }
-        ensures took { (row : Row) → result ≡ Some (item.Entry row) → ArmTook self.new row }
     {
-        match self.rows.try_take() {
-            Ok(None) => None,
-            Ok(Some(Item::Entry(row))) => {
-                self.count = self.count.saturating_add(1);
-                Some(Item::Entry(row))
-            }
-            Ok(Some(Item::End(count))) => {
+        match self.rows.look() {
+            Ok(true) => self.ahead(),
+            Ok(false) => Ahead::Nothing,
+            Err(_) => {
                 self.open = false;
-                Some(Item::End(count))
+                Ahead::Stop
             }
-            Ok(Some(Item::Stop)) | Err(_) => {
+        }
+    }
+
+    /// What is next, after a look. An end and a stop are taken.
+    #[tactic(auto, using(crate::proofs::PassageLemmas::same_seen), unfolding(crate::specs::Arms::ArmTook))]
+    fn ahead(&mut self) -> Ahead
+        ensures lane { feeding_lane self.new ≡ feeding_lane self.old }
+        ensures kept { (row : Row) → ArmTook self.old row → ArmTook self.new row }
+    {
+        match self.rows.next() {
+            None => Ahead::Nothing,
+            Some(Item::Entry(_)) => Ahead::Row,
+            Some(Item::End(_)) => {
+                self.rows.pass();
                 self.open = false;
-                Some(Item::Stop)
+                Ahead::End
             }
+            Some(Item::Stop) => {
+                self.rows.pass();
+                self.open = false;
+                Ahead::Stop
+            }
+        }
+    }
+
+    /// The row that a look found, where it lies.
+    #[tactic(auto, using(crate::proofs::PassageLemmas::seen_next), unfolding(crate::specs::Arms::ArmTook))]
+    pub(crate) fn row(&self) -> Option<&Row>
+        ensures { IfSome result (λ row. ArmTook self.now row.now) }
+    {
+        match self.rows.next() {
+            Some(Item::Entry(row)) => Some(row),
+            _ => None,
+        }
+    }
+
+    /// Takes the row that a look found, if it did.
+    #[tactic(auto, using(crate::proofs::PassageLemmas::same_seen), unfolding(crate::specs::Arms::ArmTook))]
+    pub(crate) fn pass(&mut self)
+        ensures lane { feeding_lane self.new ≡ feeding_lane self.old }
+        ensures kept { (row : Row) → ArmTook self.old row → ArmTook self.new row }
+    {
+        if let Some(Item::Entry(_)) = self.rows.next() {
+            self.rows.pass();
+            self.count = self.count.saturating_add(1);
         }
     }
 

@@ -1,6 +1,6 @@
 //! What the writer has of a source's threads, also where they did not start.
 
-ghost use Rattle.std.specs.Prelude.{◌≡◌, IfOk};
+ghost use Rattle.std.specs.Prelude.{◌≡◌, IfOk, IfSome};
 ghost use Rattle.std.proofs.Props.{props};
 ghost use Rattle.register_run.specs.Links.{started_by, started_on};
 
@@ -29,7 +29,6 @@ impl<R: Read + Drop> Feed<R> {
     ghost use Rattle.register_records.specs.Views.{format_of};
     ghost use Rattle.register_run.specs.Feeds.{Took, fed_by, fed_from};
     ghost use Rattle.register_run.specs.Passages.{HasPassed};
-    ghost use Rattle.register_run.specs.declared.links.Found.TheVariants as found;
 
     /// Starts the threads of a source. Where they do not start, the source is dropped and the feed has the cause.
     pub(crate) fn start<'s, 'e, T: Threads + Wait + Sync, G: Gate + Sync>(
@@ -53,16 +52,37 @@ impl<R: Read + Drop> Feed<R> {
         }
     }
 
-    /// Takes the next item, where one is there now. A source with no threads has stopped.
-    pub(crate) fn try_take(&mut self) -> Found
+    /// Looks for the next item. A source with no threads has stopped.
+    pub(crate) fn look(&mut self) -> Found
         ensures source { fed_from self.new ≡ fed_from self.old }
         ensures setup { fed_by self.new ≡ fed_by self.old }
         ensures kept { (row : Row) → Took self.old row → Took self.new row }
-        ensures took { (row : Row) → result ≡ found.Row row → Took self.new row }
     {
         match &mut self.link {
-            Ok(link) => link.try_take(),
+            Ok(link) => link.look(),
             Err(_) => Found::Stop,
+        }
+    }
+
+    /// The row that a look found, unless it came after a stop.
+    pub(crate) fn row(&self) -> Option<&Row>
+        ensures { IfSome result (λ row. Took self.now row.now) }
+    {
+        match &self.link {
+            Ok(link) => link.row(),
+            Err(_) => None,
+        }
+    }
+
+    /// Takes the row that a look found.
+    pub(crate) fn pass(&mut self)
+        ensures source { fed_from self.new ≡ fed_from self.old }
+        ensures setup { fed_by self.new ≡ fed_by self.old }
+        ensures kept { (row : Row) → Took self.old row → Took self.new row }
+    {
+        match &mut self.link {
+            Ok(link) => link.pass(),
+            Err(_) => {}
         }
     }
 

@@ -1,14 +1,13 @@
 //! What a link does with all its arms.
 
-ghost use Rattle.std.specs.Prelude.{◌≡◌, ◌<◌, List, All, OnOk, Some, map, vec_len};
+ghost use Rattle.std.specs.Prelude.{◌≡◌, ◌<◌, List, All, IfSome, OnOk, map, vec_len};
 ghost use Rattle.lane_rings.specs.Lane.{HasConfirmation, all_sent};
-ghost use Rattle.lane_rings.specs.declared.item.Item.TheVariants as item;
 ghost use Rattle.register_records.specs.Entries.{Numbered};
 ghost use Rattle.register_run.specs.Arms.{AnyTook, feeding_lane};
 ghost use Rattle.register_run.specs.Passages.{AreAmong, AreOfLanes, IsOfGiven};
 
-use crate::arms::Arm;
-use lane_rings::{Closed, Item, Unconfirmed};
+use crate::arms::{Ahead, Arm};
+use lane_rings::{Closed, Unconfirmed};
 use register_records::{Entry, Row};
 use std::thread::Threads;
 
@@ -46,16 +45,35 @@ pub(crate) fn join_arms(
     }
 }
 
-/// Takes from one arm, where an item is there.
-pub(crate) fn take_one(arms: &mut Vec<Arm>, at: usize) -> Option<Item<Row>>
+/// Looks at one arm.
+pub(crate) fn look_at(arms: &mut Vec<Arm>, at: usize) -> Ahead
     requires { at < vec_len arms.old }
     ensures lanes { map feeding_lane arms.new.items ≡ map feeding_lane arms.old.items }
     ensures len { vec_len arms.new ≡ vec_len arms.old }
     ensures kept { (row : Row) → AnyTook arms.old.items row → AnyTook arms.new.items row }
-    ensures took { (row : Row) → result ≡ Some (item.Entry row) → AnyTook arms.new.items row }
 {
     let arm = &mut arms[at];
-    arm.try_take()
+    arm.look()
+}
+
+/// The row that a look at one arm found.
+pub(crate) fn row_at(arms: &Vec<Arm>, at: usize) -> Option<&Row>
+    requires { at < vec_len arms.now }
+    ensures { IfSome result (λ row. AnyTook arms.now.items row.now) }
+{
+    let arm = &arms[at];
+    arm.row()
+}
+
+/// Takes the row that a look at one arm found.
+pub(crate) fn pass_at(arms: &mut Vec<Arm>, at: usize)
+    requires { at < vec_len arms.old }
+    ensures lanes { map feeding_lane arms.new.items ≡ map feeding_lane arms.old.items }
+    ensures len { vec_len arms.new ≡ vec_len arms.old }
+    ensures kept { (row : Row) → AnyTook arms.old.items row → AnyTook arms.new.items row }
+{
+    let arm = &mut arms[at];
+    arm.pass();
 }
 
 /// Joins the threads of arms that were never fed.

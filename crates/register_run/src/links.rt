@@ -1,17 +1,17 @@
 //! The threads of a source, and the ends of its last lanes.
 
-ghost use Rattle.std.specs.Prelude.{◌≡◌, ◌<◌, ◌≤◌, [], All, IfOk, length, map, vec_capacity, vec_len};
+ghost use Rattle.std.specs.Prelude.{◌≡◌, ◌<◌, ◌≤◌, [], All, IfOk, IfSome, length, map, vec_capacity, vec_len};
 ghost use Rattle.lane_rings.specs.Lane.{sender_lane, sent};
 ghost use Rattle.register_records.specs.Views.{format_of, stripes_of};
 ghost use Rattle.register_run.specs.Arms.{feeding_lane};
 ghost use Rattle.register_run.specs.Passages.{IsOfThreads};
 
-use crate::arms::Arm;
+use crate::arms::{Ahead, Arm};
 use crate::gates::Gate;
-use crate::joining::{call_off, join_arms, take_one};
+use crate::joining::{call_off, join_arms, look_at, pass_at, row_at};
 use crate::reading::{Reading, read_source};
 use crate::starting::StartFault;
-use lane_rings::{Item, Sender};
+use lane_rings::Sender;
 use register_records::{Cause, Entry, Row, Setup};
 use std::alloc::Global;
 use std::io::Read;
@@ -20,13 +20,13 @@ use std::sync::Wait;
 use std::thread::{Promise, PromisedHandle, Scope, Threads};
 
 /// What a look into the lanes of a source found.
-#[derive(Drop)]
+#[derive(Clone, Copy)]
 pub(crate) enum Found {
     /// Nothing is there now.
     Nothing,
-    /// The next row.
-    Row(Row),
-    /// An item that tells of no row: a lane ended and others did not, or a row came after a stop.
+    /// A row is next.
+    Row,
+    /// A lane ended and others did not.
     Other,
     /// The last lane ended, and each with an end.
     End,
@@ -64,7 +64,6 @@ pub(crate) struct Link<R: Read> {
 impl<R: Read + Drop> Link<R> {
     ghost use Rattle.register_run.specs.Links.{Passed, started_on, started_by};
     ghost use Rattle.register_run.specs.Passages.{HasPassed, IsReading};
-    ghost use Rattle.register_run.specs.declared.links.Found.TheVariants as found;
 
     /// Starts the threads of a source, the converters before the reader. What was not started is dropped.
     ///
@@ -116,25 +115,38 @@ impl<R: Read + Drop> Link<R> {
         }
     }
 
-    /// Takes the next item of the lane that has the turn, where one is there now. Lanes that have ended have no turn.
-    pub(crate) fn try_take(&mut self) -> Found
+    /// Looks into the lane that has the turn. Lanes that have ended have no turn.
+    pub(crate) fn look(&mut self) -> Found
         ensures source { started_on self.new ≡ started_on self.old }
         ensures setup { started_by self.new ≡ started_by self.old }
         ensures kept { (row : Row) → Passed self.old row → Passed self.new row }
-        ensures took { (row : Row) → result ≡ found.Row row → Passed self.new row }
     {
-        match take_one(&mut self.arms, self.turn) {
-            None => Found::Nothing,
-            Some(Item::Entry(row)) => {
-                self.advance();
-                if self.stopped {
-                    return Found::Other;
-                }
-                Found::Row(row)
-            }
-            Some(Item::End(_)) => self.end_of_lane(false),
-            Some(Item::Stop) => self.end_of_lane(true),
+        match look_at(&mut self.arms, self.turn) {
+            Ahead::Nothing => Found::Nothing,
+            Ahead::Row => Found::Row,
+            Ahead::End => self.end_of_lane(false),
+            Ahead::Stop => self.end_of_lane(true),
         }
+    }
+
+    /// The row that a look found, unless it came after a stop.
+    pub(crate) fn row(&self) -> Option<&Row>
+        ensures { IfSome result (λ row. Passed self.now row.now) }
+    {
+        if self.stopped {
+            return None;
+        }
+        row_at(&self.arms, self.turn)
+    }
+
+    /// Takes the row that a look found, and gives the turn on.
+    pub(crate) fn pass(&mut self)
+        ensures source { started_on self.new ≡ started_on self.old }
+        ensures setup { started_by self.new ≡ started_by self.old }
+        ensures kept { (row : Row) → Passed self.old row → Passed self.new row }
+    {
+        pass_at(&mut self.arms, self.turn);
+        self.advance();
     }
 
     /// Gives the turn to the next arm whose lane has not ended, if there is one.
@@ -151,7 +163,6 @@ impl<R: Read + Drop> Link<R> {
         ensures source { started_on self.new ≡ started_on self.old }
         ensures setup { started_by self.new ≡ started_by self.old }
         ensures arms { self.new.arms ≡ self.old.arms }
-        ensures no_row { (row : Row) → result ≡ found.Row row → ⊥ }
     {
         self.advance();
         self.stopped = self.stopped || by_stop;

@@ -86,9 +86,9 @@ impl<R: Read + Drop, W: Output + Drop> Station<R, W> {
         if !self.open {
             return false;
         }
-        match self.feed.try_take() {
+        match self.feed.look() {
             Found::Nothing => return false,
-            Found::Row(row) => self.table.add(&row),
+            Found::Row => self.take_row(),
             Found::Other => {}
             Found::End => {
                 self.open = false;
@@ -97,6 +97,23 @@ impl<R: Read + Drop, W: Output + Drop> Station<R, W> {
             Found::Stop => self.open = false,
         }
         true
+    }
+
+    /// Adds the row that a look found to the table from where it lies in its lane, and then takes it.
+    fn take_row(&mut self)
+        ensures { case_of self.new ≡ case_of self.old }
+    {
+        self.add_row();
+        self.feed.pass();
+    }
+
+    /// Adds the row that a look found to the table, unless it came after a stop.
+    fn add_row(&mut self)
+        ensures { case_of self.new ≡ case_of self.old }
+    {
+        if let Some(row) = self.feed.row() {
+            self.table.add(row);
+        }
     }
 
     /// Writes the lines that wait.

@@ -1,33 +1,33 @@
 use Rattle.std.proofs.Common.{◌∙◌, sym}
-use Rattle.register_run.proofs.StationLemmas.{wrote_row, wrote_same}
+use Rattle.register_run.proofs.StationLemmas.{wrote_same}
 use Rattle.register_run.proofs.stations.Station.step.Goals as goal
 
 pub invariant_of-self : goal.invariant_of-self
 invariant_of-self g c = let s = c.args.self.now in record {
-  by_one_setup = c.try_take.ensures.setup ∙ s.by_one_setup;
-  wrote = wrote_same s.feed c.try_take.new.self s.table s.table c.try_take.ensures.kept (λ rows h. h) s.wrote;
+  by_one_setup = c.look.ensures.setup ∙ s.by_one_setup;
+  wrote = wrote_same s.feed c.look.new.self s.table s.table c.look.ensures.kept (λ rows h. h) s.wrote;
 }
 
 pub invariant_of-self-in-Row : goal.invariant_of-self-in-Row
 invariant_of-self-in-Row g c = let s = c.args.self.now in record {
-  by_one_setup = c.try_take.ensures.setup ∙ s.by_one_setup ∙ sym c.add.ensures.setup;
-  wrote = wrote_row s.feed c.try_take.new.self s.table c.add.new.self c.in-Row.row c.try_take.ensures.kept (c.try_take.ensures.took c.in-Row.row c.in-Row.is) c.add.ensures.rows s.wrote;
+  by_one_setup = c.look.ensures.setup ∙ s.by_one_setup;
+  wrote = wrote_same s.feed c.look.new.self s.table s.table c.look.ensures.kept (λ rows h. h) s.wrote;
 }
 
 pub invariant_of-self-in-Other : goal.invariant_of-self-in-Other
 invariant_of-self-in-Other g c = let s = c.args.self.now in record {
-  by_one_setup = c.try_take.ensures.setup ∙ s.by_one_setup;
-  wrote = wrote_same s.feed c.try_take.new.self s.table s.table c.try_take.ensures.kept (λ rows h. h) s.wrote;
+  by_one_setup = c.look.ensures.setup ∙ s.by_one_setup;
+  wrote = wrote_same s.feed c.look.new.self s.table s.table c.look.ensures.kept (λ rows h. h) s.wrote;
 }
 
 pub invariant_of-self-in-End : goal.invariant_of-self-in-End
 invariant_of-self-in-End g c = let s = c.args.self.now in record {
-  by_one_setup = c.try_take.ensures.setup ∙ s.by_one_setup ∙ sym c.head.ensures.setup;
-  wrote = wrote_same s.feed c.try_take.new.self s.table c.head.new.self c.try_take.ensures.kept c.head.ensures.rows s.wrote;
+  by_one_setup = c.look.ensures.setup ∙ s.by_one_setup ∙ sym c.head.ensures.setup;
+  wrote = wrote_same s.feed c.look.new.self s.table c.head.new.self c.look.ensures.kept c.head.ensures.rows s.wrote;
 }
 
 pub invariant_of-self-in-Stop : goal.invariant_of-self-in-Stop
 invariant_of-self-in-Stop g c = let s = c.args.self.now in record {
-  by_one_setup = c.try_take.ensures.setup ∙ s.by_one_setup;
-  wrote = wrote_same s.feed c.try_take.new.self s.table s.table c.try_take.ensures.kept (λ rows h. h) s.wrote;
+  by_one_setup = c.look.ensures.setup ∙ s.by_one_setup;
+  wrote = wrote_same s.feed c.look.new.self s.table s.table c.look.ensures.kept (λ rows h. h) s.wrote;
 }

@@ -1,8 +1,8 @@
 -- What the reads of one entry, or of the end, say of the records that were left.
-use Rattle.std.proofs.Common.{◌≡◌, ◌<◌, ℕ, List, [], ◌∷◌, Bool, Option, Some, None, true, false, refl, sym, ◌∙◌, length, arith}
+use Rattle.std.proofs.Common.{◌≡◌, ℕ, List, [], ◌∷◌, Bool, Option, Some, None, true, false, refl, sym, ◌∙◌, arith}
 use Rattle.std.specs.Prelude.{IfSome}
 use Rattle.register_records.specs.Records.{Fields}
-use Rattle.register_records.specs.Seals.{Agrees, entry_records, is_seal}
+use Rattle.register_records.specs.Seals.{Agrees, is_seal}
 use Rattle.register_records.specs.ReadingState.{EndsAt, HasEntry, IsNoSeal, LacksSeal, Reads, TakesFirst}
 use Rattle.register_records.specs.declared.setups.Form.{Form}
 use Rattle.register_records.specs.declared.setups.Form.TheVariants.{Plain, Sealed}

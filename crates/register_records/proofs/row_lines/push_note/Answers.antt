@@ -1,6 +1,4 @@
-use Rattle.std.proofs.Common.{sym, append-nil}
-use Rattle.register_records.specs.LineViews.{line_delimiter}
-use Rattle.register_records.proofs.LineFacts.{same-body}
+use Rattle.std.proofs.Common.{append-nil}
 use Rattle.register_records.proofs.row_lines.push_note.Goals as goal
 
 pub returns-in-Plain-clause-value : goal.returns-in-Plain-clause-value

@@ -2,7 +2,7 @@ use Rattle.std.proofs.Common.{◌≡◌, ◌∙◌, ap, arith, inr, rules, sym, 
 use Rattle.csv.specs.Reading.{is_flexible, names_headers, reader_config, reader_trim}
 use Rattle.csv.specs.declared.reader.Trim.TheVariants as trim
 use Rattle.csv.specs.Records.{fields_of}
-use Rattle.register_records.specs.Entries.{format_by, reading}
+use Rattle.register_records.specs.Entries.{reading}
 use Rattle.register_records.specs.ReadingState.{records_left}
 use Rattle.register_records.specs.Retrying.{inner_remaining}
 use Rattle.register_records.specs.Seen.{entries_shown}

@@ -17,7 +17,7 @@ use register_records::{Form, Setup};
 use std::alloc::{AllocError, Global};
 
 /// The version of the program.
-pub const VERSION: &str = "1.1.0";
+pub const VERSION: &str = "1.0.0";
 
 /// How many items a ring holds where the words do not say.
 const RING: usize = 16;

@@ -160,10 +160,10 @@ returns-clause-asked c =
     let ring = subst (λ (v : Option Text). IsRingOf v c.in_ok-ring.ring) c.in-Ok.ensures.ring c.in_ok-ring.ensures.value in
     let delimiter = subst (λ (v : Option Text). IsDelimiterOf v c.in_ok-delimiter.delimiter) c.in-Ok.ensures.delimiter c.in_ok-delimiter.ensures.value in
     let stripes = subst (λ (v : Option Text). IsStripesOf v c.in_ok-stripes.stripes) c.in-Ok.ensures.stripes c.in_ok-stripes.ensures.value in
-    let form : (c.chosen_form.result ≡ Sealed) ↔ IsGiven (codes "sealed") words
+    let form : (c.chosen_form-form.result ≡ Sealed) ↔ IsGiven (codes "sealed") words
     = (
-      λ e. c.in-Ok.ensures.sealed.0 (c.chosen_form.ensures.0 e),
-      λ given. c.chosen_form.ensures.1 (c.in-Ok.ensures.sealed.1 given),
+      λ e. c.in-Ok.ensures.sealed.0 (c.chosen_form-form.ensures.0 e),
+      λ given. c.chosen_form-form.ensures.1 (c.in-Ok.ensures.sealed.1 given),
     ) in
     let same = ap (map (λ f. f.now)) c.as_slice.ensures.value ∙ c.in-Ok.ensures.files in
     let asks : AsksFor words task

@@ -186,7 +186,7 @@ fn an_output_may_take_one_byte_but_not_none(rt: HostRuntime) -> Result<(), Fail>
 }
 
 /// The read that comes when a text of one chunk was given: `csv` asks for its first byte alone.
-const READ_AFTER_CHUNK: u32 = 3;
+pub(super) const READ_AFTER_CHUNK: u32 = 3;
 
 /// The text in one chunk, and then a fault.
 fn cut_text(alloc: Global, text: &str) -> Result<Chunks, AllocError> {

@@ -1,6 +1,8 @@
 // Registers with a seal at their end: a text that was cut off is not whole.
 
-use super::{Chunk, GREGORIAN, bytes_of, cause_of, converted};
+use super::faults::READ_AFTER_CHUNK;
+use super::{GREGORIAN, bytes_of, cause_of, converted};
+use crate::faults::Chunks;
 use crate::{Form, PlainOutput, Setup, SourceEnd, convert_source};
 use date_texts::Target;
 use std::alloc::Global;
@@ -195,9 +197,9 @@ fn notes_have_their_limit_and_stand_as_they_are(rt: HostRuntime) -> Result<(), F
 fn a_fault_of_the_read_after_the_seal_is_told(rt: HostRuntime) -> Result<(), Fail> {
     for seal in ["END,2\n", "END,3\n"] {
         let text = format!(in rt.alloc(); "{TWO}{seal}")?;
-        let reader = Chunk {
-            rest: text.as_bytes(),
-        };
+        let mut chunks = Vec::new(rt.alloc());
+        chunks.push(bytes_of(rt.alloc(), text.as_str())?)?;
+        let reader = Chunks::new(chunks, READ_AFTER_CHUNK);
         let mut output = PlainOutput::new(Vec::new(rt.alloc()), 1);
         let end = convert_source(rt.alloc(), reader, &mut output, &sealed(&[GREGORIAN])?);
         assert_eq!(rt; cause_of(&end), 5);

@@ -20,11 +20,7 @@ struct Year {
 
 /// Each day of the year has its date and its number, as far as days go, and the day after each month's last is none.
 /// The answer is the first day after the year.
-fn walk<C: ArithmeticCalendar>(
-    rt: &impl Abort,
-    calendar: &C,
-    year: &Year,
-) -> Result<i64, Fail> {
+fn walk<C: ArithmeticCalendar>(rt: &impl Abort, calendar: &C, year: &Year) -> Result<i64, Fail> {
     let mut number = year.first;
     for &(month, length) in year.months {
         for day in 1..=length {
@@ -36,14 +32,22 @@ fn walk<C: ArithmeticCalendar>(
                 }
                 None => {
                     assert!(rt; number > LAST);
-                    assert_eq!(rt; calendar.day_of(date), Err(DateFault::OutOfRange), "{date:?}");
+                    assert_eq!(rt;
+                        calendar.day_of(date),
+                        Err(DateFault::OutOfRange),
+                        "{date:?}"
+                    );
                 }
             }
             number = number.wrapping_add(1);
         }
         for day in [0, length.saturating_add(1)] {
             let date = Ymd::new(year.year, month, day).ok_or("a date within the bounds")?;
-            assert_eq!(rt; calendar.day_of(date), Err(DateFault::NoSuchDate), "{date:?}");
+            assert_eq!(rt;
+                calendar.day_of(date),
+                Err(DateFault::NoSuchDate),
+                "{date:?}"
+            );
         }
     }
     Ok(number)
@@ -51,49 +55,182 @@ fn walk<C: ArithmeticCalendar>(
 
 /// The months of common years: those of 353, 354 and 355 days.
 const DEFICIENT: &[(u8, u8)] = &[
-    (7, 30), (8, 29), (9, 29), (10, 29), (11, 30), (12, 29),
-    (1, 30), (2, 29), (3, 30), (4, 29), (5, 30), (6, 29),
+    (7, 30),
+    (8, 29),
+    (9, 29),
+    (10, 29),
+    (11, 30),
+    (12, 29),
+    (1, 30),
+    (2, 29),
+    (3, 30),
+    (4, 29),
+    (5, 30),
+    (6, 29),
 ];
 
 const REGULAR: &[(u8, u8)] = &[
-    (7, 30), (8, 29), (9, 30), (10, 29), (11, 30), (12, 29),
-    (1, 30), (2, 29), (3, 30), (4, 29), (5, 30), (6, 29),
+    (7, 30),
+    (8, 29),
+    (9, 30),
+    (10, 29),
+    (11, 30),
+    (12, 29),
+    (1, 30),
+    (2, 29),
+    (3, 30),
+    (4, 29),
+    (5, 30),
+    (6, 29),
 ];
 
 const COMPLETE: &[(u8, u8)] = &[
-    (7, 30), (8, 30), (9, 30), (10, 29), (11, 30), (12, 29),
-    (1, 30), (2, 29), (3, 30), (4, 29), (5, 30), (6, 29),
+    (7, 30),
+    (8, 30),
+    (9, 30),
+    (10, 29),
+    (11, 30),
+    (12, 29),
+    (1, 30),
+    (2, 29),
+    (3, 30),
+    (4, 29),
+    (5, 30),
+    (6, 29),
 ];
 
 /// The months of leap years: those of 383, 384 and 385 days.
 const DEFICIENT_LEAP: &[(u8, u8)] = &[
-    (7, 30), (8, 29), (9, 29), (10, 29), (11, 30), (12, 30), (13, 29),
-    (1, 30), (2, 29), (3, 30), (4, 29), (5, 30), (6, 29),
+    (7, 30),
+    (8, 29),
+    (9, 29),
+    (10, 29),
+    (11, 30),
+    (12, 30),
+    (13, 29),
+    (1, 30),
+    (2, 29),
+    (3, 30),
+    (4, 29),
+    (5, 30),
+    (6, 29),
 ];
 
 const REGULAR_LEAP: &[(u8, u8)] = &[
-    (7, 30), (8, 29), (9, 30), (10, 29), (11, 30), (12, 30), (13, 29),
-    (1, 30), (2, 29), (3, 30), (4, 29), (5, 30), (6, 29),
+    (7, 30),
+    (8, 29),
+    (9, 30),
+    (10, 29),
+    (11, 30),
+    (12, 30),
+    (13, 29),
+    (1, 30),
+    (2, 29),
+    (3, 30),
+    (4, 29),
+    (5, 30),
+    (6, 29),
 ];
 
 const COMPLETE_LEAP: &[(u8, u8)] = &[
-    (7, 30), (8, 30), (9, 30), (10, 29), (11, 30), (12, 30), (13, 29),
-    (1, 30), (2, 29), (3, 30), (4, 29), (5, 30), (6, 29),
+    (7, 30),
+    (8, 30),
+    (9, 30),
+    (10, 29),
+    (11, 30),
+    (12, 30),
+    (13, 29),
+    (1, 30),
+    (2, 29),
+    (3, 30),
+    (4, 29),
+    (5, 30),
+    (6, 29),
 ];
 
 /// The first years, one of each length, and the last ones, in the second of which the range ends; each with the first day
 /// after it.
 static HEBREW_YEARS: [(Year, i64); 10] = [
-    (Year { year: 1, first: -1_373_427, months: COMPLETE }, -1_373_072),
-    (Year { year: 2, first: -1_373_072, months: COMPLETE }, -1_372_717),
-    (Year { year: 5700, first: 708_096, months: COMPLETE_LEAP }, 708_481),
-    (Year { year: 5701, first: 708_481, months: REGULAR }, 708_835),
-    (Year { year: 5702, first: 708_835, months: COMPLETE }, 709_190),
-    (Year { year: 5703, first: 709_190, months: DEFICIENT_LEAP }, 709_573),
-    (Year { year: 5710, first: 711_759, months: DEFICIENT }, 712_112),
-    (Year { year: 5711, first: 712_112, months: REGULAR_LEAP }, 712_496),
-    (Year { year: 13_759, first: 3_651_617, months: COMPLETE_LEAP }, 3_652_002),
-    (Year { year: 13_760, first: 3_652_002, months: REGULAR }, 3_652_356),
+    (
+        Year {
+            year: 1,
+            first: -1_373_427,
+            months: COMPLETE,
+        },
+        -1_373_072,
+    ),
+    (
+        Year {
+            year: 2,
+            first: -1_373_072,
+            months: COMPLETE,
+        },
+        -1_372_717,
+    ),
+    (
+        Year {
+            year: 5700,
+            first: 708_096,
+            months: COMPLETE_LEAP,
+        },
+        708_481,
+    ),
+    (
+        Year {
+            year: 5701,
+            first: 708_481,
+            months: REGULAR,
+        },
+        708_835,
+    ),
+    (
+        Year {
+            year: 5702,
+            first: 708_835,
+            months: COMPLETE,
+        },
+        709_190,
+    ),
+    (
+        Year {
+            year: 5703,
+            first: 709_190,
+            months: DEFICIENT_LEAP,
+        },
+        709_573,
+    ),
+    (
+        Year {
+            year: 5710,
+            first: 711_759,
+            months: DEFICIENT,
+        },
+        712_112,
+    ),
+    (
+        Year {
+            year: 5711,
+            first: 712_112,
+            months: REGULAR_LEAP,
+        },
+        712_496,
+    ),
+    (
+        Year {
+            year: 13_759,
+            first: 3_651_617,
+            months: COMPLETE_LEAP,
+        },
+        3_652_002,
+    ),
+    (
+        Year {
+            year: 13_760,
+            first: 3_652_002,
+            months: REGULAR,
+        },
+        3_652_356,
+    ),
 ];
 
 #[test]
@@ -107,22 +244,77 @@ fn every_day_of_hebrew_years_of_each_length_and_at_the_ends(rt: HostRuntime) -> 
 }
 
 const COMMON: &[(u8, u8)] = &[
-    (1, 30), (2, 29), (3, 30), (4, 29), (5, 30), (6, 29),
-    (7, 30), (8, 29), (9, 30), (10, 29), (11, 30), (12, 29),
+    (1, 30),
+    (2, 29),
+    (3, 30),
+    (4, 29),
+    (5, 30),
+    (6, 29),
+    (7, 30),
+    (8, 29),
+    (9, 30),
+    (10, 29),
+    (11, 30),
+    (12, 29),
 ];
 
 const LEAP: &[(u8, u8)] = &[
-    (1, 30), (2, 29), (3, 30), (4, 29), (5, 30), (6, 29),
-    (7, 30), (8, 29), (9, 30), (10, 29), (11, 30), (12, 30),
+    (1, 30),
+    (2, 29),
+    (3, 30),
+    (4, 29),
+    (5, 30),
+    (6, 29),
+    (7, 30),
+    (8, 29),
+    (9, 30),
+    (10, 29),
+    (11, 30),
+    (12, 30),
 ];
 
 /// The first years and the last ones, in the last of which the range ends; each with the first day after it.
 static ISLAMIC_YEARS: [(Year, i64); 5] = [
-    (Year { year: 1, first: 227_015, months: COMMON }, 227_369),
-    (Year { year: 2, first: 227_369, months: LEAP }, 227_724),
-    (Year { year: 3, first: 227_724, months: COMMON }, 228_078),
-    (Year { year: 9665, first: 3_651_614, months: LEAP }, 3_651_969),
-    (Year { year: 9666, first: 3_651_969, months: COMMON }, 3_652_323),
+    (
+        Year {
+            year: 1,
+            first: 227_015,
+            months: COMMON,
+        },
+        227_369,
+    ),
+    (
+        Year {
+            year: 2,
+            first: 227_369,
+            months: LEAP,
+        },
+        227_724,
+    ),
+    (
+        Year {
+            year: 3,
+            first: 227_724,
+            months: COMMON,
+        },
+        228_078,
+    ),
+    (
+        Year {
+            year: 9665,
+            first: 3_651_614,
+            months: LEAP,
+        },
+        3_651_969,
+    ),
+    (
+        Year {
+            year: 9666,
+            first: 3_651_969,
+            months: COMMON,
+        },
+        3_652_323,
+    ),
 ];
 
 #[test]

@@ -140,7 +140,8 @@ fn told_by_all(
         let Ok(report) = run(rt, alloc, sources, outputs, &plain_setup(1, stripes)?) else {
             return Err(Fail::from("the run did not begin"));
         };
-        for (end, sink) in report.ends.iter().zip(report.outputs) {
+        let sinks = report.outputs;
+        for (end, sink) in report.ends.iter().zip(sinks) {
             told.push(Told::new(end, sink))?;
         }
     }
@@ -273,7 +274,8 @@ fn run_millions(
         return Err(Fail::from("the run did not begin"));
     };
     assert_eq!(rt; report.ends.len(), counts.len());
-    for ((end, output), count) in report.ends.iter().zip(report.outputs).zip(counts) {
+    let outputs = report.outputs;
+    for ((end, output), count) in report.ends.iter().zip(outputs).zip(counts) {
         check_end(rt, end, output, count);
     }
     Ok(())

@@ -105,8 +105,8 @@ fn runs_convert_fields_of_all_lengths(rt: HostRuntime) -> Result<(), Fail> {
         let Ok(report) = run(&rt, rt.alloc(), sources, outputs, &setup) else {
             return Err(Fail::from("the run did not begin"));
         };
-        let end = report.ends.first().ok_or("no end")?;
         let output = report.outputs.into_iter().next().ok_or("no output")?;
+        let end = report.ends.first().ok_or("no end")?;
         check_end(&rt, end, output)?;
     }
     Ok(())

@@ -93,8 +93,8 @@ fn a_register_is_whole_up_to_its_seal(rt: HostRuntime) -> Result<(), Fail> {
             sources.push(text.as_slice())?;
         }
         let report = run_sealed(&rt, rt.alloc(), sources, stripes)?;
-        let mut ends = report.ends.iter();
         let mut outputs = report.outputs.into_iter();
+        let mut ends = report.ends.iter();
         for (_, cause, more) in &ENDS {
             let (Some(end), Some(output)) = (ends.next(), outputs.next()) else {
                 return Err(Fail::from("an end or an output is missing"));
@@ -114,8 +114,8 @@ fn a_register_without_entries_has_a_seal_too(rt: HostRuntime) -> Result<(), Fail
         sources.push(text.as_bytes())?;
     }
     let report = run_sealed(&rt, rt.alloc(), sources, 1)?;
-    let mut ends = report.ends.iter();
     let mut outputs = report.outputs.into_iter();
+    let mut ends = report.ends.iter();
     for (_, cause, table) in &EMPTY {
         let (Some(end), Some(output)) = (ends.next(), outputs.next()) else {
             return Err(Fail::from("an end or an output is missing"));
@@ -132,11 +132,13 @@ fn a_seal_is_no_row_and_has_no_note_in_the_journal(rt: HostRuntime) -> Result<()
     let mut sources = Vec::new(rt.alloc());
     sources.push(text.as_slice())?;
     let report = run_sealed(&rt, rt.alloc(), sources, 4)?;
-    let SourceEnd::Whole {
-        rows,
-        refused,
-        journal,
-    } = &report.ends[0]
+    let Some(
+        SourceEnd::Whole {
+            rows,
+            refused,
+            journal,
+        },
+    ) = report.ends.first()
     else {
         return Err(Fail::from("the register is broken"));
     };
@@ -174,11 +176,9 @@ fn a_fault_behind_the_seal_is_a_fault_of_reading(rt: HostRuntime) -> Result<(), 
         rest: text.as_slice(),
     })?;
     let report = run_sealed(&rt, rt.alloc(), sources, 1)?;
-    assert_eq!(rt; cause_of(&report.ends[0]), 5);
-    let mut outputs = report.outputs.into_iter();
-    let Some(output) = outputs.next() else {
-        return Err(Fail::from("an output is missing"));
-    };
+    let output = report.outputs.into_iter().next().ok_or("no output")?;
+    let end = report.ends.first().ok_or("no end")?;
+    assert_eq!(rt; cause_of(end), 5);
     assert_eq!(rt; output.into_inner(), joined(rt.alloc(), &[HEADING, ROWS])?);
     Ok(())
 }

@@ -6,6 +6,11 @@ use Rattle.register_app.specs.Requests.{MeanJust, help, table, task_of, version}
 use Rattle.register_app.proofs.WordFacts.{is_refused, never_refused}
 use Rattle.register_app.proofs.answering.answer.Goals as goal
 
+pub returns-in-Ok-Help-clause-answered : goal.returns-in-Ok-Help-clause-answered
+returns-in-Ok-Help-clause-answered g c = λ low.
+    let just : MeanJust (map string_bytes c.args.words.now) help = search (rules, c.in-Ok-Help.ensures.asked) in
+    inl (_, inl (just, refl), c.print_page.ensures.printed, c.print_page.ensures.none)
+
 pub returns-in-Ok-Help-clause-refused : goal.returns-in-Ok-Help-clause-refused
 returns-in-Ok-Help-clause-refused g c =
     let words = map string_bytes c.args.words.now in

@@ -1,5 +1,5 @@
 -- What a reader gave of a text, by how it ended.
-use Rattle.std.proofs.Common.{◌≡◌, ◌∙◌, ap, sym, subst, refl, ℕ, ◌+◌, List, [], ◌∷◌, ◌++◌, length, Option, Some, None, ◌⊎◌, inl, inr, arith, ◌<◌, get_or, set, false}
+use Rattle.std.proofs.Common.{◌≡◌, sym, subst, refl, ℕ, ◌+◌, List, [], ◌∷◌, ◌++◌, length, Option, inl, inr, arith, ◌<◌, get_or, set}
 use Rattle.std.specs.Prelude.{All, Err, IfErr, IfSome, Ok, OnOk, Result}
 use Rattle.std.proofs.lemmas.List.Elements.{All-set}
 use Rattle.std.proofs.Math.Logic.{∥∥₁_elim, ∥∥₁_map, ∥∥₁_prop}
@@ -16,7 +16,7 @@ use Rattle.lane_rings.specs.Lane.{sent}
 use Rattle.register_records.specs.Seen.{entry_seen}
 use Rattle.register_records.specs.declared.entries.Entry.{Entry}
 use Rattle.register_records.specs.declared.rows.Row.{Row}
-use Rattle.register_run.specs.Passages.{AreAmong, HasPassed, IsCauseOf, IsGiven, IsNotSunk, IsOfThreads, Sends, is_of_reading}
+use Rattle.register_run.specs.Passages.{AreAmong, HasPassed, IsCauseOf, IsGiven, IsNotSunk, IsOfThreads, Sends}
 use Rattle.register_run.proofs.PassageLemmas.{among_given, among_send}
 
 pub numbered_more : (k : ℕ) (given : List Numbered) (n : Numbered) → AreNumberedFrom k given → n.number ≡ k + length given → AreNumberedFrom k (given ++ n ∷ [])

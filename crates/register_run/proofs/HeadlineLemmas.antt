@@ -1,8 +1,8 @@
 -- From the sources that have ended, each by itself, to the lists of a report.
 use Rattle.std.proofs.Common.{◌≡◌, ◌∙◌, ap, refl, sym, subst, ℕ, zero, suc, List, [], ◌∷◌, ◌++◌, Option, Some, None, map, length, append_assoc, append-nil, arith, true, false, Bool}
-use Rattle.std.specs.Prelude.{◌↔◌, All, IfSome, slice_get}
-use Rattle.std.proofs.lemmas.List.{length-map, map-append}
-use Rattle.std.proofs.Math.Logic.{∥∥₁_elim, ∥∥₁_map, ∥∥₁_prop}
+use Rattle.std.specs.Prelude.{◌↔◌, All, IfSome}
+use Rattle.std.proofs.lemmas.List.{map-append}
+use Rattle.std.proofs.Math.Logic.{∥∥₁_elim, ∥∥₁_map}
 use Rattle.std.proofs.Props.{props}
 use Rattle.std.specs.declared.io.traits.Read as reads
 use Rattle.register_records.specs.declared.outputs.Output as outputs

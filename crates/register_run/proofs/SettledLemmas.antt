@@ -1,5 +1,5 @@
 -- What is known of a source that has ended.
-use Rattle.std.proofs.Common.{◌≡◌, ◌≢◌, ◌∙◌, ap, refl, sym, subst, ℕ, ◌+◌, List, [], ◌∷◌, ◌++◌, length, map, Option, None, Some, ◌⊎◌, inl, inr, arith, lit<, append-nil, length-append, true, false, Bool}
+use Rattle.std.proofs.Common.{◌≡◌, ◌≢◌, ◌∙◌, ap, refl, sym, subst, ℕ, List, [], ◌∷◌, ◌++◌, length, Option, None, Some, inl, inr, arith, append-nil, length-append, true, false, Bool}
 use Rattle.std.specs.Prelude.{Err, IfErr, IfOk, IfSome, Ok, Result}
 use Rattle.std.specs.Option.{is_some}
 use Rattle.std.specs.List.{Contains}
@@ -14,7 +14,6 @@ use Rattle.register_records.specs.declared.rows.Row.{Row}
 use Rattle.register_records.specs.declared.setups.Form.TheVariants.{Sealed}
 use Rattle.register_records.specs.declared.sources.Cause.{Cause}
 use Rattle.register_records.specs.declared.sources.Cause.TheVariants as cause
-use Rattle.register_records.specs.declared.sources.Note.{Note}
 use Rattle.register_records.specs.declared.sources.SourceEnd.{SourceEnd}
 use Rattle.register_records.specs.declared.sources.SourceEnd.TheVariants as end
 use Rattle.register_records.specs.declared.writing.RowWriter.{RowWriter}
@@ -22,11 +21,11 @@ use Rattle.register_records.specs.Entries.{HasEntries, HasFirstEntries, HasNoHea
 use Rattle.register_records.specs.Outcomes.{AreRowsOf, IsRowOf}
 use Rattle.register_records.specs.Seen.{entry_seen}
 use Rattle.register_records.specs.Sources.{ArePartOfTable, Gains, IfBroken, IfWhole, IsTableOf}
-use Rattle.register_records.specs.Tables.{Layout, journal_of, table_text}
+use Rattle.register_records.specs.Tables.{Layout, table_text}
 use Rattle.register_records.specs.Views.{form_of, format_of, layout_of, pending_of, row_entry, row_seen, row_targets}
 use Rattle.register_run.specs.declared.tables.Table.{Table}
 use Rattle.register_run.specs.Headline.{AreRowsInOrder, IsSettled}
-use Rattle.register_run.specs.Passages.{HasPassed, IsGiven, IsOfGiven, Passes, is_of_reading, tells_of_text}
+use Rattle.register_run.specs.Passages.{HasPassed, IsGiven, IsOfGiven, is_of_reading, tells_of_text}
 use Rattle.register_run.specs.TablesWritten.{AllSent, Holds, Stands, entries_seen, rows_seen, waiting_of}
 use Rattle.register_run.proofs.FrontLemmas.{first_of_first, front_all, rows_front}
 

@@ -1,5 +1,5 @@
 -- A table that is written line by line.
-use Rattle.std.proofs.Common.{◌≡◌, ◌∙◌, ap, refl, sym, subst, ℕ, ◌+◌, List, [], ◌∷◌, ◌++◌, length, map, Option, None, Some, ◌⊎◌, inl, inr, append_assoc, append-nil, arith, length-append, true, false}
+use Rattle.std.proofs.Common.{◌≡◌, ◌∙◌, ap, refl, sym, subst, ℕ, ◌+◌, List, [], ◌∷◌, ◌++◌, length, Option, None, Some, inl, inr, append_assoc, append-nil, arith, length-append, true, false}
 use Rattle.std.specs.Option.{is_some}
 use Rattle.std.specs.List.{Contains}
 use Rattle.std.specs.Io.KnownBytes.{Appends, append_known}
@@ -12,7 +12,6 @@ use Rattle.register_records.specs.declared.sources.Note.{Note}
 use Rattle.register_records.specs.declared.writing.RowWriter.{RowWriter}
 use Rattle.register_records.specs.Entries.{AreNumberedFrom, format_by}
 use Rattle.register_records.specs.Laws.{TablesGrow}
-use Rattle.register_records.specs.Outcomes.{TableRow}
 use Rattle.register_records.specs.Seen.{entry_seen}
 use Rattle.register_records.specs.Tables.{Layout, heading_line, journal_of, lines_text, notes_of, row_line, table_text}
 use Rattle.register_records.specs.Views.{line_of, pending_of, row_entry, row_seen, row_targets, writes_by}

@@ -1,4 +1,4 @@
-use Rattle.std.proofs.Common.{◌≡◌, ◌∙◌, ap, refl, Some}
+use Rattle.std.proofs.Common.{◌∙◌, ap, refl, Some}
 use Rattle.lane_rings.specs.declared.item.Item.TheVariants as item
 use Rattle.lane_rings.specs.Lane.{all_sent, sent, taken}
 use Rattle.register_run.proofs.PassageLemmas.{kept_of_taken, more_of_taken, none_of_taken, rows_ended, taken_kept}

@@ -1,4 +1,4 @@
-use Rattle.std.proofs.Common.{◌≡◌, ◌∙◌, arith, rules, map, sym}
+use Rattle.std.proofs.Common.{◌∙◌, rules, map, sym}
 use Rattle.std.specs.Vec.Iter.{into_iter_items}
 use Rattle.lane_rings.specs.Lane.{sender_lane}
 use Rattle.register_run.proofs.ArmLemmas.{begin_from, begin_sent, end_from, more_from, more_sent}

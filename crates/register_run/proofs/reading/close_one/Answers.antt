@@ -1,4 +1,3 @@
-use Rattle.std.proofs.Common.{◌≡◌}
 use Rattle.lane_rings.specs.declared.item.Item.TheVariants as item
 use Rattle.lane_rings.specs.Lane.{all_sent, sent}
 use Rattle.register_run.proofs.PassageLemmas.{among_ended}

@@ -1,4 +1,4 @@
-use Rattle.std.proofs.Common.{◌≡◌, ◌≤◌, length, map, vec_len, false}
+use Rattle.std.proofs.Common.{◌≡◌, length, map, vec_len, false}
 use Rattle.std.specs.Prelude.{All}
 use Rattle.lane_rings.specs.Lane.{sender_lane, sent}
 use Rattle.register_records.specs.Entries.{AreNumberedFrom}

@@ -1,4 +1,4 @@
-use Rattle.std.proofs.Common.{◌≡◌, ◌∙◌, ap}
+use Rattle.std.proofs.Common.{◌∙◌, ap}
 use Rattle.std.proofs.Math.Seq.{map-set_same}
 use Rattle.register_run.specs.Stations.{case_of}
 use Rattle.register_run.proofs.running.round.Goals as goal

@@ -1,6 +1,5 @@
 use Rattle.std.proofs.Common.{◌∙◌, rules, sym}
 use Rattle.std.specs.Vec.Iter.{into_iter_items}
-use Rattle.register_run.specs.Cases.{cases}
 use Rattle.register_run.proofs.HeadlineLemmas.{start_begin, start_end, start_more}
 use Rattle.register_run.proofs.running.start_all.Goals as goal
 

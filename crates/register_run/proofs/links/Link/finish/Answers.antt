@@ -1,4 +1,3 @@
-use Rattle.std.proofs.Common.{◌≡◌}
 use Rattle.std.proofs.Math.Logic.{∥∥₁_map}
 use Rattle.register_run.proofs.GivenLemmas.{passed_not}
 use Rattle.register_run.proofs.links.Link.finish.Goals as goal

@@ -1,6 +1,6 @@
 -- Lists that match so far, with one more at the end of one of them.
 use Rattle.std.proofs.Common.{◌≡◌, ◌∙◌, ◌+◌, ◌<◌, ◌⊎◌, ℕ, List, [], ◌∷◌, ◌++◌, length, get_or, map, suc, zero, sym, ap}
-use Rattle.std.proofs.Common.{refl, subst, arith, inl, inr, codes, Option, Some, None, length-append}
+use Rattle.std.proofs.Common.{refl, subst, arith, inl, inr, codes, Some, None, length-append}
 use Rattle.std.specs.Prelude.{option_map, slice_get}
 use Rattle.std.proofs.lemmas.List.{length-map}
 use Rattle.std.proofs.lemmas.Option.{slice_get-get_or, slice_get-map}

@@ -7,7 +7,7 @@ use Rattle.register_run.specs.declared.reports.Verdict.TheVariants.{Complete}
 use Rattle.register_app.specs.Faults.{Fault}
 use Rattle.register_app.specs.Openings.{AreMade, AreOpened}
 use Rattle.register_app.specs.Reports.{lines_from}
-use Rattle.register_app.specs.Requests.{IsFaultOf, MeanJust, Task, help, table, version}
+use Rattle.register_app.specs.Requests.{IsFaultOf, MeanJust, Task, help, version}
 use Rattle.register_app.specs.declared.help.TheConstants.{HELP, PRINT_FAULT}
 use Rattle.register_app.specs.declared.requests.TheConstants.{VERSION}
 

@@ -1,5 +1,5 @@
 -- A run that began has a report, and what was told is that.
-use Rattle.std.proofs.Common.{◌≡◌, refl}
+use Rattle.std.proofs.Common.{refl}
 use Rattle.register_app.proofs.answering.convert.Goals as goal
 
 pub returns-in-Ok-clause-converted : goal.returns-in-Ok-clause-converted

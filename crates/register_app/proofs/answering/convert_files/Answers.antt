@@ -1,5 +1,5 @@
 -- A run that did not begin hands the outputs back as they were made.
-use Rattle.std.proofs.Common.{◌≡◌, inr}
+use Rattle.std.proofs.Common.{inr}
 use Rattle.register_app.proofs.answering.convert_files.Goals as goal
 
 pub returns-clause-unwritten : goal.returns-clause-unwritten

@@ -1,5 +1,5 @@
 -- The lists of the run hold standard input and standard output alone.
-use Rattle.std.proofs.Common.{◌≡◌, ◌∙◌, ◌∷◌, ◌++◌, [], ap, length, rules, sym}
+use Rattle.std.proofs.Common.{◌≡◌, ◌∙◌, ◌∷◌, ◌++◌, [], ap, length, rules}
 use Rattle.register_app.proofs.ReportFacts.{taken_alone}
 use Rattle.register_app.proofs.answering.convert_input.Goals as goal
 

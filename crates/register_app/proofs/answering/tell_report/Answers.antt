@@ -1,5 +1,5 @@
 -- Where all is whole and no summary is asked for, there are no lines.
-use Rattle.std.proofs.Common.{◌≡◌, ◌∙◌, [], rules, arith, sym, subst, ap, false}
+use Rattle.std.proofs.Common.{◌≡◌, ◌∙◌, rules, arith, sym, subst, ap, false}
 use Rattle.std.specs.Io.KnownBytes.{Appends}
 use Rattle.register_app.specs.Reports.{lines_from}
 use Rattle.register_app.proofs.ReportFacts.{appends_none, no_lines}

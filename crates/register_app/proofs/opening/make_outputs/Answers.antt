@@ -1,5 +1,5 @@
 -- Each turn makes the next output.
-use Rattle.std.proofs.Common.{◌≡◌, ◌∙◌, ◌+◌, ◌++◌, ◌∷◌, [], ap, refl, rules, subst, arith, codes, is_ok, true}
+use Rattle.std.proofs.Common.{◌≡◌, ◌∙◌, ◌+◌, ◌++◌, ap, refl, rules, arith, codes, is_ok, true}
 use Rattle.register_app.proofs.MatchFacts.{made_as, so_far_all, so_far_more, so_far_none}
 use Rattle.register_app.proofs.opening.make_outputs.Goals as goal
 

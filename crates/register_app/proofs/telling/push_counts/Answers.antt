@@ -1,5 +1,5 @@
 -- Each turn adds the count of the next number, if there is one.
-use Rattle.std.proofs.Common.{rules, arith}
+use Rattle.std.proofs.Common.{arith}
 use Rattle.register_app.proofs.ReportFacts.{count_added, count_left_out}
 use Rattle.register_app.proofs.telling.push_counts.Goals as goal
 use Rattle.register_app.proofs.telling.push_counts.Goals.{then-count-gt0, else-count-gt0}

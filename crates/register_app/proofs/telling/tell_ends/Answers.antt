@@ -1,5 +1,5 @@
 -- Each turn tells of the next source.
-use Rattle.std.proofs.Common.{◌≡◌, ◌∙◌, ◌+◌, ◌++◌, [], ap, refl, subst}
+use Rattle.std.proofs.Common.{◌∙◌, ◌+◌, ◌++◌, [], ap, refl, subst}
 use Rattle.std.specs.Io.KnownBytes.{Appends}
 use Rattle.register_app.specs.Reports.{line_of_end}
 use Rattle.register_app.proofs.ReportFacts.{appends_both, appends_none, lines_end, lines_more}

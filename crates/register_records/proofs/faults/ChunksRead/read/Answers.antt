@@ -2,7 +2,7 @@ use Rattle.std.proofs.Common.{◌≡◌, ℕ, ◌+◌, ◌-◌, ◌<◌, ◌≤�
 use Rattle.std.proofs.Common.{append_assoc, drop-cons, drop-drop, length-append, length-drop, length-take, length-take-le, take-append-drop, take_at}
 use Rattle.std.specs.Prelude.{Vec, min}
 use Rattle.std.specs.declared.alloc.Global.{Global}
-use Rattle.register_records.specs.Faults.{bytes_left, bytes_to_come, chunk_bytes}
+use Rattle.register_records.specs.Faults.{bytes_left, chunk_bytes}
 use Rattle.register_records.proofs.faults.ChunksRead.read.Goals as goal
 
 -- what is left where a chunk d of the bytes b stands at the place p

@@ -1,9 +1,9 @@
 //! A lane: a ring from one thread to another that says how it ended, and whether all that was sent was taken.
 //!
-//! A lane has two lists of items, those sent and those taken, and each call says what it does to them. A sender ends its
-//! lane by `close`, with a count, or by `stop`, and is then gone. When its thread has been joined, `confirm` compares
-//! the two lists. An end that waits looks again at once for a short while, and then yields the processor between looks.
-//! The receiver can also look at the next item where it lies, and take it later.
+//! A lane has two lists of items, those sent and those taken, and each call says what it does to them. A sender ends
+//! its lane by `close`, with a count, or by `stop`, and is then gone. When its thread has been joined, `confirm`
+//! compares the two lists. An end that waits looks again at once for a short while, and then yields the processor
+//! between looks. The receiver can also look at the next item where it lies, and take it later.
 #![tactic(auto)]
 
 ghost use Rattle.std.specs.Prelude.{◌≡◌, ◌≤◌, [], IfOk};

@@ -48,7 +48,9 @@ impl<T> Receiver<T> {
     /// It answers `Gone` where the sender is no more and all that it sent was taken, also after an `End` or a `Stop`.
     pub fn try_take(&mut self) -> Result<Option<Item<T>>, Gone<()>>
         ensures lane { receiver_lane self.new ≡ receiver_lane self.old }
-        ensures ok { IfOk result (λ found. MatchOption found (taken self.new ≡ taken self.old) (λ item. taken self.new ≡ taken self.old ++ item ∷ [])) }
+        ensures ok { IfOk result (λ found.
+            MatchOption found (taken self.new ≡ taken self.old)
+            (λ item. taken self.new ≡ taken self.old ++ item ∷ [])) }
         ensures gone { OnErr result (taken self.new ≡ taken self.old) }
     {
         if let Some(item) = self.pop() {
@@ -107,7 +109,8 @@ impl<T> Receiver<T> {
 
     /// The next item, left in the lane, where a look has shown that there is one.
     pub fn next(&self) -> Option<&Item<T>>
-        ensures next { MatchOption result (waiting self.now ≡ []) (λ item. IsPrefix (item.now ∷ []) (waiting self.now)) }
+        ensures next { MatchOption result (waiting self.now ≡ [])
+            (λ item. IsPrefix (item.now ∷ []) (waiting self.now)) }
         ensures there { IsSome result → 0 < length (waiting self.now) }
     {
         if self.consumer.cached_slots() == 0 {
@@ -119,7 +122,8 @@ impl<T> Receiver<T> {
     #[tactic(auto, using(crate::proofs::Ends::last_mark_append))]
     fn pop(&mut self) -> Option<Item<T>>
         ensures lane { receiver_lane self.new ≡ receiver_lane self.old }
-        ensures found { MatchOption result (taken self.new ≡ taken self.old) (λ item. taken self.new ≡ taken self.old ++ item ∷ []) }
+        ensures found { MatchOption result (taken self.new ≡ taken self.old)
+            (λ item. taken self.new ≡ taken self.old ++ item ∷ []) }
     {
         let item = self.consumer.pop().ok()?;
         self.last = mark_of(&item);
@@ -174,7 +178,8 @@ impl<T> Confirmed<T> {
 
     /// The count of the lane's `End`, or `None` where it ended with `Stop`.
     pub fn ended(&self) -> Option<u64>
-        ensures { MatchOption result (last_mark (items self.now) ≡ Some Stopped) (λ n. last_mark (items self.now) ≡ Some (Counted n)) }
+        ensures { MatchOption result (last_mark (items self.now) ≡ Some Stopped)
+            (λ n. last_mark (items self.now) ≡ Some (Counted n)) }
     {
         match self.mark {
             Mark::Counted(count) => Some(count),

@@ -1,8 +1,12 @@
 -- What follows from a calendar's rules, for every calendar.
-use Rattle.std.proofs.Common.{◌≡◌, ℕ, zero, suc, ◌+◌, ◌-◌, ◌*◌, ◌<◌, ◌≤◌, List, [], ◌∷◌, length, IsTrue, refl, sym, subst, ap, ◌∙◌, arith, ℤ, pos, negsuc, ◌+ℤ◌, ◌-ℤ◌, ◌<ℤ◌, ◌≤ℤ◌}
+use Rattle.std.proofs.Common.{◌≡◌, ℕ, zero, suc, ◌+◌, ◌-◌, ◌*◌, ◌<◌, ◌≤◌, List, [], ◌∷◌, length, IsTrue, refl, sym}
+use Rattle.std.proofs.Common.{subst, ap, ◌∙◌, arith, ℤ, pos, negsuc, ◌+ℤ◌, ◌-ℤ◌, ◌<ℤ◌, ◌≤ℤ◌}
 use Rattle.std.proofs.lemmas.Int.{by_lt_z}
 use Rattle.std.proofs.lemmas.Bool.Decides.{nat_tests}
-use Rattle.day_numbers.specs.Rules.{Years, from_one, with_zero, without_zero, Rules, HasYear, total_days, days_of_month, days_before_month, days_of_years, year_before, days_of_years_before, years_back, start_of_year, year_length, year_start, IsDateOf, day_number_of, are_months, HasDayOf, first_day_by}
+use Rattle.day_numbers.specs.Rules.{Years, from_one, with_zero, without_zero, Rules, HasYear, total_days, days_of_month}
+use Rattle.day_numbers.specs.Rules.{days_before_month, days_of_years, year_before, days_of_years_before, years_back}
+use Rattle.day_numbers.specs.Rules.{start_of_year, year_length, year_start, IsDateOf, day_number_of, are_months}
+use Rattle.day_numbers.specs.Rules.{HasDayOf, first_day_by}
 use Rattle.day_numbers.specs.Days.{IsSinceFirstDay}
 use Rattle.day_numbers.specs.declared.rules.Month.{Month}
 use Rattle.day_numbers.proofs.SignedArithmetic.{signed_arith}
@@ -23,7 +27,8 @@ pub years-zero : (f : ℤ → ℕ) → days_of_years f 0 ≡ 0
 unfolding days_of_years
 years-zero f = refl
 
-before-suc : (s : Years) (f : ℤ → ℕ) (n : ℕ) → days_of_years_before s f (suc n) ≡ days_of_years_before s f n + f (year_before s n)
+before-suc : (s : Years) (f : ℤ → ℕ) (n : ℕ)
+    → days_of_years_before s f (suc n) ≡ days_of_years_before s f n + f (year_before s n)
 unfolding days_of_years_before
 before-suc s f n = refl
 
@@ -36,68 +41,101 @@ unfolding start_of_year
 start-one s e f = omega (arith, signed_arith, years-zero f)
 
 -- each year begins after the days of the one before
-pub start-next : (s : Years) (e : ℤ) (f : ℤ → ℕ) (y : ℤ) → HasYear s y → start_of_year s e f (next_year s y) ≡ start_of_year s e f y +ℤ pos (f y)
+pub start-next : (s : Years) (e : ℤ) (f : ℤ → ℕ) (y : ℤ) → HasYear s y
+    → start_of_year s e f (next_year s y) ≡ start_of_year s e f y +ℤ pos (f y)
 unfolding start_of_year
 start-next s e f (pos (suc n)) h = omega (arith, signed_arith, years-suc f n)
-start-next with_zero e f (pos zero) h = omega (arith, signed_arith, years-zero f, before-suc with_zero f 0, before-zero with_zero f)
+start-next with_zero e f (pos zero) h =
+    omega (arith, signed_arith, years-zero f, before-suc with_zero f 0, before-zero with_zero f)
 start-next without_zero e f (pos zero) h = absurd h
 start-next from_one e f (pos zero) h = absurd h
 start-next with_zero e f (negsuc zero) h = omega (arith, signed_arith, before-suc with_zero f 1)
 start-next with_zero e f (negsuc (suc n)) h = omega (arith, signed_arith, before-suc with_zero f (suc (suc n)))
-start-next without_zero e f (negsuc zero) h = omega (arith, signed_arith, years-zero f, before-suc without_zero f 0, before-zero without_zero f)
+start-next without_zero e f (negsuc zero) h =
+    omega (arith, signed_arith, years-zero f, before-suc without_zero f 0, before-zero without_zero f)
 start-next without_zero e f (negsuc (suc n)) h = omega (arith, signed_arith, before-suc without_zero f (suc n))
 start-next from_one e f (negsuc n) h = absurd h
 
 -- a closed formula that is right at year 1 and grows by each year's length gives the first day of each year
-pub start_is-from_one : (e : ℤ) (f : ℤ → ℕ) (g : ℤ → ℤ) → g (pos 1) ≡ e → ((y : ℤ) → HasYear from_one y → g (next_year from_one y) ≡ g y +ℤ pos (f y)) → (n : ℕ) → g (pos (suc n)) ≡ start_of_year from_one e f (pos (suc n))
+pub start_is-from_one : (e : ℤ) (f : ℤ → ℕ) (g : ℤ → ℤ) → g (pos 1) ≡ e
+    → ((y : ℤ) → HasYear from_one y → g (next_year from_one y) ≡ g y +ℤ pos (f y)) → (n : ℕ)
+    → g (pos (suc n)) ≡ start_of_year from_one e f (pos (suc n))
 start_is-from_one e f g one more zero = one ∙ sym (start-one from_one e f)
-start_is-from_one e f g one more (suc n) = more (pos (suc n)) tt ∙ ap (λ z. z +ℤ pos (f (pos (suc n)))) (start_is-from_one e f g one more n) ∙ sym (start-next from_one e f (pos (suc n)) tt)
+start_is-from_one e f g one more (suc n) =
+    more (pos (suc n)) tt ∙ ap (λ z. z +ℤ pos (f (pos (suc n)))) (start_is-from_one e f g one more n)
+    ∙ sym (start-next from_one e f (pos (suc n)) tt)
 
-start_later : (s : Years) (e : ℤ) (f : ℤ → ℕ) (g : ℤ → ℤ) → g (pos 1) ≡ e → ((y : ℤ) → HasYear s y → g (next_year s y) ≡ g y +ℤ pos (f y)) → (n : ℕ) → g (pos (suc n)) ≡ start_of_year s e f (pos (suc n))
+start_later : (s : Years) (e : ℤ) (f : ℤ → ℕ) (g : ℤ → ℤ) → g (pos 1) ≡ e
+    → ((y : ℤ) → HasYear s y → g (next_year s y) ≡ g y +ℤ pos (f y)) → (n : ℕ)
+    → g (pos (suc n)) ≡ start_of_year s e f (pos (suc n))
 start_later s e f g one more zero = one ∙ sym (start-one s e f)
-start_later s e f g one more (suc n) = more (pos (suc n)) tt ∙ ap (λ z. z +ℤ pos (f (pos (suc n)))) (start_later s e f g one more n) ∙ sym (start-next s e f (pos (suc n)) tt)
+start_later s e f g one more (suc n) =
+    more (pos (suc n)) tt ∙ ap (λ z. z +ℤ pos (f (pos (suc n)))) (start_later s e f g one more n)
+    ∙ sym (start-next s e f (pos (suc n)) tt)
 
 -- the same two, going backwards by one
 back_one : (a b c d : ℤ) (n : ℕ) → c ≡ a +ℤ pos n → d ≡ b +ℤ pos n → c ≡ d → a ≡ b
 back_one a b c d n p q e = omega (arith, signed_arith)
 
-start_earlier : (s : Years) (e : ℤ) (f : ℤ → ℕ) (g : ℤ → ℤ) (y : ℤ) → ((y : ℤ) → HasYear s y → g (next_year s y) ≡ g y +ℤ pos (f y)) → HasYear s y → g (next_year s y) ≡ start_of_year s e f (next_year s y) → g y ≡ start_of_year s e f y
+start_earlier : (s : Years) (e : ℤ) (f : ℤ → ℕ) (g : ℤ → ℤ) (y : ℤ)
+    → ((y : ℤ) → HasYear s y → g (next_year s y) ≡ g y +ℤ pos (f y)) → HasYear s y
+    → g (next_year s y) ≡ start_of_year s e f (next_year s y) → g y ≡ start_of_year s e f y
 start_earlier s e f g y more h same = back_one _ _ _ _ (f y) (more y h) (start-next s e f y h) same
 
-pub start_is : (s : Years) (e : ℤ) (f : ℤ → ℕ) (g : ℤ → ℤ) → g (pos 1) ≡ e → ((y : ℤ) → HasYear s y → g (next_year s y) ≡ g y +ℤ pos (f y)) → (y : ℤ) → HasYear s y → g y ≡ start_of_year s e f y
+pub start_is : (s : Years) (e : ℤ) (f : ℤ → ℕ) (g : ℤ → ℤ) → g (pos 1) ≡ e
+    → ((y : ℤ) → HasYear s y → g (next_year s y) ≡ g y +ℤ pos (f y)) → (y : ℤ) → HasYear s y
+    → g y ≡ start_of_year s e f y
 start_is s e f g one more (pos (suc n)) h = start_later s e f g one more n
-start_is with_zero e f g one more (pos zero) h = start_earlier with_zero e f g (pos 0) more tt (start_later with_zero e f g one more 0)
+start_is with_zero e f g one more (pos zero) h =
+    start_earlier with_zero e f g (pos 0) more tt (start_later with_zero e f g one more 0)
 start_is without_zero e f g one more (pos zero) h = absurd h
 start_is from_one e f g one more (pos zero) h = absurd h
-start_is with_zero e f g one more (negsuc zero) h = start_earlier with_zero e f g (negsuc 0) more tt (start_earlier with_zero e f g (pos 0) more tt (start_later with_zero e f g one more 0))
-start_is with_zero e f g one more (negsuc (suc n)) h = start_earlier with_zero e f g (negsuc (suc n)) more tt (start_is with_zero e f g one more (negsuc n) tt)
-start_is without_zero e f g one more (negsuc zero) h = start_earlier without_zero e f g (negsuc 0) more tt (start_later without_zero e f g one more 0)
-start_is without_zero e f g one more (negsuc (suc n)) h = start_earlier without_zero e f g (negsuc (suc n)) more tt (start_is without_zero e f g one more (negsuc n) tt)
+start_is with_zero e f g one more (negsuc zero) h =
+    start_earlier with_zero e f g (negsuc 0) more tt
+    (start_earlier with_zero e f g (pos 0) more tt (start_later with_zero e f g one more 0))
+start_is with_zero e f g one more (negsuc (suc n)) h =
+    start_earlier with_zero e f g (negsuc (suc n)) more tt (start_is with_zero e f g one more (negsuc n) tt)
+start_is without_zero e f g one more (negsuc zero) h =
+    start_earlier without_zero e f g (negsuc 0) more tt (start_later without_zero e f g one more 0)
+start_is without_zero e f g one more (negsuc (suc n)) h =
+    start_earlier without_zero e f g (negsuc (suc n)) more tt (start_is without_zero e f g one more (negsuc n) tt)
 start_is from_one e f g one more (negsuc n) h = absurd h
 
 -- the same where the formula is known to be right only from some year on, in a calendar with a year 0
-pub start_is_from : (e : ℤ) (f : ℤ → ℕ) (g : ℤ → ℤ) (low : ℕ) → g (pos 1) ≡ e → ((y : ℤ) → negsuc low ≤ℤ y → g (y +ℤ pos 1) ≡ g y +ℤ pos (f y)) → (y : ℤ) → negsuc low ≤ℤ y → g y ≡ start_of_year with_zero e f y
-start_is_from e f g low one more (pos zero) h = back_one _ _ _ _ (f (pos 0)) (more (pos 0) h) (start-next with_zero e f (pos 0) tt) (one ∙ sym (start-one with_zero e f))
+pub start_is_from : (e : ℤ) (f : ℤ → ℕ) (g : ℤ → ℤ) (low : ℕ) → g (pos 1) ≡ e
+    → ((y : ℤ) → negsuc low ≤ℤ y → g (y +ℤ pos 1) ≡ g y +ℤ pos (f y)) → (y : ℤ) → negsuc low ≤ℤ y
+    → g y ≡ start_of_year with_zero e f y
+start_is_from e f g low one more (pos zero) h =
+    back_one _ _ _ _ (f (pos 0)) (more (pos 0) h) (start-next with_zero e f (pos 0) tt)
+    (one ∙ sym (start-one with_zero e f))
 start_is_from e f g low one more (pos (suc zero)) h = one ∙ sym (start-one with_zero e f)
 start_is_from e f g low one more (pos (suc (suc n))) h =
     let below : negsuc low ≤ℤ pos (suc n) = omega (arith, signed_arith) in
     let next : pos (suc n) +ℤ pos 1 ≡ pos (suc (suc n)) = omega (arith, signed_arith) in
-    rw next at (more (pos (suc n)) below) ∙ ap (λ z. z +ℤ pos (f (pos (suc n)))) (start_is_from e f g low one more (pos (suc n)) below) ∙ sym (start-next with_zero e f (pos (suc n)) tt)
+    rw next at (more (pos (suc n)) below)
+    ∙ ap (λ z. z +ℤ pos (f (pos (suc n)))) (start_is_from e f g low one more (pos (suc n)) below)
+    ∙ sym (start-next with_zero e f (pos (suc n)) tt)
 start_is_from e f g low one more (negsuc zero) h =
     back_one _ _ _ _ (f (negsuc 0)) (more (negsuc 0) h) (start-next with_zero e f (negsuc 0) tt)
-    (back_one _ _ _ _ (f (pos 0)) (more (pos 0) (omega (arith, signed_arith))) (start-next with_zero e f (pos 0) tt) (one ∙ sym (start-one with_zero e f)))
+    (back_one _ _ _ _ (f (pos 0)) (more (pos 0) (omega (arith, signed_arith))) (start-next with_zero e f (pos 0) tt)
+    (one ∙ sym (start-one with_zero e f)))
 start_is_from e f g low one more (negsuc (suc n)) h =
     let next : negsuc (suc n) +ℤ pos 1 ≡ negsuc n = omega (arith, signed_arith) in
-    back_one _ _ _ _ (f (negsuc (suc n))) (rw next at (more (negsuc (suc n)) h)) (start-next with_zero e f (negsuc (suc n)) tt) (start_is_from e f g low one more (negsuc n) (omega (arith, signed_arith)))
+    back_one _ _ _ _ (f (negsuc (suc n))) (rw next at (more (negsuc (suc n)) h))
+    (start-next with_zero e f (negsuc (suc n)) tt)
+    (start_is_from e f g low one more (negsuc n) (omega (arith, signed_arith)))
 
 -- years begin in their order
 years_mono : (f : ℤ → ℕ) (n k : ℕ) → days_of_years f n ≤ days_of_years f (k + n)
 years_mono f n zero = let same : 0 + n ≡ n = omega arith in rw same (omega arith)
-years_mono f n (suc k) = let next : suc k + n ≡ suc (k + n) = omega arith in rw next (omega (arith, years_mono f n k, years-suc f (k + n)))
+years_mono f n (suc k) =
+    let next : suc k + n ≡ suc (k + n) = omega arith in rw next (omega (arith, years_mono f n k, years-suc f (k + n)))
 
 before_mono : (s : Years) (f : ℤ → ℕ) (n k : ℕ) → days_of_years_before s f n ≤ days_of_years_before s f (k + n)
 before_mono s f n zero = let same : 0 + n ≡ n = omega arith in rw same (omega arith)
-before_mono s f n (suc k) = let next : suc k + n ≡ suc (k + n) = omega arith in rw next (omega (arith, before_mono s f n k, before-suc s f (k + n)))
+before_mono s f n (suc k) =
+    let next : suc k + n ≡ suc (k + n) = omega arith in
+    rw next (omega (arith, before_mono s f n k, before-suc s f (k + n)))
 
 years_le : (f : ℤ → ℕ) (m n : ℕ) → m ≤ n → days_of_years f m ≤ days_of_years f n
 years_le f m n h = let same : n - m + m ≡ n = omega arith in rw same at (years_mono f m (n - m))
@@ -112,15 +150,28 @@ back_le from_one m n h = omega arith
 
 pub start_mono : (s : Years) (e : ℤ) (f : ℤ → ℕ) (y z : ℤ) → y ≤ℤ z → start_of_year s e f y ≤ℤ start_of_year s e f z
 unfolding start_of_year
-start_mono s e f (pos (suc n)) (pos (suc m)) le = omega (arith, signed_arith, years_le f n m (omega (arith, signed_arith)))
+start_mono s e f (pos (suc n)) (pos (suc m)) le =
+    omega (arith, signed_arith, years_le f n m (omega (arith, signed_arith)))
 start_mono s e f (pos (suc n)) (pos zero) le = absurd (omega (arith, signed_arith))
 start_mono s e f (pos (suc n)) (negsuc m) le = absurd (omega (arith, signed_arith))
 start_mono s e f (pos zero) (pos (suc m)) le = omega (arith, signed_arith)
 start_mono s e f (pos zero) (pos zero) le = omega (arith, signed_arith)
 start_mono s e f (pos zero) (negsuc m) le = absurd (omega (arith, signed_arith))
 start_mono s e f (negsuc n) (pos (suc m)) le = omega (arith, signed_arith)
-start_mono s e f (negsuc n) (pos zero) le = omega (arith, signed_arith, before_le s f (years_back s 0) (years_back s (suc n)) (back_le s 0 (suc n) (omega arith)))
-start_mono s e f (negsuc n) (negsuc m) le = omega (arith, signed_arith, before_le s f (years_back s (suc m)) (years_back s (suc n)) (back_le s (suc m) (suc n) (omega (arith, signed_arith))))
+start_mono s e f (negsuc n) (pos zero) le =
+    omega (
+      arith,
+      signed_arith,
+      before_le s f (years_back s 0) (years_back s (suc n))
+          (back_le s 0 (suc n) (omega arith)),
+    )
+start_mono s e f (negsuc n) (negsuc m) le =
+    omega (
+      arith,
+      signed_arith,
+      before_le s f (years_back s (suc m)) (years_back s (suc n))
+          (back_le s (suc m) (suc n) (omega (arith, signed_arith))),
+    )
 
 next_le : (s : Years) (y z : ℤ) → HasYear s z → y <ℤ z → next_year s y ≤ℤ z
 next_le s (pos n) z h lt = omega (arith, signed_arith)
@@ -134,14 +185,18 @@ next_le from_one (negsuc zero) (negsuc n) h lt = absurd h
 next_le s (negsuc (suc n)) z h lt = omega (arith, signed_arith)
 
 -- a later year begins after all days of an earlier one
-pub start-later : (s : Years) (e : ℤ) (f : ℤ → ℕ) (y z : ℤ) → HasYear s y → HasYear s z → y <ℤ z → (start_of_year s e f y +ℤ pos (f y)) ≤ℤ start_of_year s e f z
+pub start-later : (s : Years) (e : ℤ) (f : ℤ → ℕ) (y z : ℤ) → HasYear s y → HasYear s z → y <ℤ z
+    → (start_of_year s e f y +ℤ pos (f y)) ≤ℤ start_of_year s e f z
 start-later s e f y z h k lt = rw (← start-next s e f y h) (start_mono s e f (next_year s y) z (next_le s y z k lt))
 
 -- a day lies in one year
-pub year_unique : (s : Years) (e : ℤ) (f : ℤ → ℕ) (y z n : ℤ) → HasYear s y → HasYear s z → start_of_year s e f y ≤ℤ n → n <ℤ (start_of_year s e f y +ℤ pos (f y)) → start_of_year s e f z ≤ℤ n → n <ℤ (start_of_year s e f z +ℤ pos (f z)) → y ≡ z
+pub year_unique : (s : Years) (e : ℤ) (f : ℤ → ℕ) (y z n : ℤ) → HasYear s y → HasYear s z → start_of_year s e f y ≤ℤ n
+    → n <ℤ (start_of_year s e f y +ℤ pos (f y)) → start_of_year s e f z ≤ℤ n → n <ℤ (start_of_year s e f z +ℤ pos (f z))
+    → y ≡ z
 year_unique s e f y z n h k a b c d =
     by_lt_z y z (λ lt. absurd (omega (arith, signed_arith, start-later s e f y z h k lt)))
-    (λ ge. by_lt_z z y (λ gt. absurd (omega (arith, signed_arith, start-later s e f z y k h gt))) (λ le. omega (arith, signed_arith)))
+    (λ ge. by_lt_z z y (λ gt. absurd (omega (arith, signed_arith, start-later s e f z y k h gt)))
+    (λ le. omega (arith, signed_arith)))
 
 -- the months
 pub month_in_total : (ms : List Month) (k : ℕ) → days_before_month ms k + days_of_month ms k ≤ total_days ms
@@ -149,34 +204,47 @@ month_in_total [] k = omega arith
 month_in_total (m ∷ ms) k = grind (arith, nat_tests, month_in_total ms k)
 
 -- a place among the days of a year has one month
-pub month_unique : (ms : List Month) (k j a b : ℕ) → 1 ≤ a → a ≤ days_of_month ms k → 1 ≤ b → b ≤ days_of_month ms j → days_before_month ms k + a ≡ days_before_month ms j + b → (k ≡ j) × (a ≡ b)
+pub month_unique : (ms : List Month) (k j a b : ℕ) → 1 ≤ a → a ≤ days_of_month ms k → 1 ≤ b → b ≤ days_of_month ms j
+    → days_before_month ms k + a ≡ days_before_month ms j + b → (k ≡ j) × (a ≡ b)
 month_unique [] k j a b pa qa pb qb e = absurd (omega arith)
 month_unique (m ∷ ms) k j a b pa qa pb qb e = grind (arith, nat_tests, month_unique ms k j a b)
 
 -- the day number of a date lies among the days of its year
-pub date_in_year : (r : Rules) (y : ℤ) (m d : ℕ) → IsDateOf r y m d → (year_start r y ≤ℤ day_number_of r y m d) × (day_number_of r y m d <ℤ (year_start r y +ℤ pos (year_length r y)))
+pub date_in_year : (r : Rules) (y : ℤ) (m d : ℕ) → IsDateOf r y m d
+    → (year_start r y ≤ℤ day_number_of r y m d) × (day_number_of r y m d <ℤ (year_start r y +ℤ pos (year_length r y)))
 date_in_year r y m d h = omega (arith, signed_arith, h.1, h.2, month_in_total (r.months y) m)
 
 -- two dates with one day number are one date
-pub date_unique : (r : Rules) (y z : ℤ) (m k d j : ℕ) → IsDateOf r y m d → IsDateOf r z k j → day_number_of r y m d ≡ day_number_of r z k j → (y ≡ z) × (m ≡ k) × (d ≡ j)
+pub date_unique : (r : Rules) (y z : ℤ) (m k d j : ℕ) → IsDateOf r y m d → IsDateOf r z k j
+    → day_number_of r y m d ≡ day_number_of r z k j → (y ≡ z) × (m ≡ k) × (d ≡ j)
 date_unique r y z m k d j h g e =
     let p = date_in_year r y m d h in
     let q = date_in_year r z k j g in
-    let same : y ≡ z = year_unique r.years r.epoch (year_length r) y z (day_number_of r y m d) h.0 g.0 p.0 p.1 (rw e q.0) (rw e q.1) in
+    let same : y ≡ z =
+    year_unique r.years r.epoch (year_length r) y z (day_number_of r y m d) h.0 g.0 p.0 p.1 (rw e q.0) (rw e q.1) in
     let g' : IsDateOf r y k j = rw same g in
-    let e' : day_number_of r y m d ≡ day_number_of r y k j = subst (λ w. day_number_of r y m d ≡ day_number_of r w k j) (sym same) e in
+    let e' : day_number_of r y m d ≡ day_number_of r y k j =
+    subst (λ w. day_number_of r y m d ≡ day_number_of r w k j) (sym same) e in
     let part = month_unique (r.months y) m k d j h.1 h.2 g'.1 g'.2 (omega (arith, signed_arith, e')) in
     (same, part.0, part.1)
 
-total_bound : (m : Month) (ms : List Month) → (IsTrue (are_months ms) → total_days ms ≤ 99 * length ms) → IsTrue (are_months (m ∷ ms)) → total_days (m ∷ ms) ≤ 99 * length (m ∷ ms)
+total_bound : (m : Month) (ms : List Month) → (IsTrue (are_months ms) → total_days ms ≤ 99 * length ms)
+    → IsTrue (are_months (m ∷ ms)) → total_days (m ∷ ms) ≤ 99 * length (m ∷ ms)
 total_bound m ms more h = grind (arith, nat_tests)
 
 pub total-le : (ms : List Month) → IsTrue (are_months ms) → total_days ms ≤ 99 * length ms
 total-le [] h = omega arith
 total-le (m ∷ ms) h = total_bound m ms (total-le ms) h
 
-has_day_from : (s : Years) (e : ℤ) (f : ℤ → ℕ) (y n : ℤ) → HasYear s y → start_of_year s e f y ≤ℤ n → IsSinceFirstDay (first_day_by s e) n
-has_day_from from_one e f (pos (suc k)) n h le = omega (arith, signed_arith, start-one from_one e f, start_mono from_one e f (pos 1) (pos (suc k)) (omega (arith, signed_arith)))
+has_day_from : (s : Years) (e : ℤ) (f : ℤ → ℕ) (y n : ℤ) → HasYear s y → start_of_year s e f y ≤ℤ n
+    → IsSinceFirstDay (first_day_by s e) n
+has_day_from from_one e f (pos (suc k)) n h le =
+    omega (
+      arith,
+      signed_arith,
+      start-one from_one e f,
+      start_mono from_one e f (pos 1) (pos (suc k)) (omega (arith, signed_arith)),
+    )
 has_day_from from_one e f (pos zero) n h le = absurd h
 has_day_from from_one e f (negsuc k) n h le = absurd h
 has_day_from with_zero e f y n h le = tt
@@ -184,30 +252,39 @@ has_day_from without_zero e f y n h le = tt
 
 -- each date's day is one that the calendar has
 pub has_day_of : (r : Rules) (y : ℤ) (m d : ℕ) → IsDateOf r y m d → HasDayOf r (day_number_of r y m d)
-has_day_of r y m d h = has_day_from r.years r.epoch (year_length r) y (day_number_of r y m d) h.0 (date_in_year r y m d h).0
+has_day_of r y m d h =
+    has_day_from r.years r.epoch (year_length r) y (day_number_of r y m d) h.0 (date_in_year r y m d h).0
 
 -- a date from its place in the year
-pub date_at_place : (r : Rules) (y n s : ℤ) (m d place : ℕ) (ms : List Month) → ms ≡ r.months y → HasYear r.years y → 1 ≤ d → d ≤ days_of_month ms m → days_before_month ms m + d ≡ place + 1 → s ≡ year_start r y → n ≡ s +ℤ pos place → IsDateOf r y m d × (day_number_of r y m d ≡ n)
+pub date_at_place : (r : Rules) (y n s : ℤ) (m d place : ℕ) (ms : List Month) → ms ≡ r.months y → HasYear r.years y
+    → 1 ≤ d → d ≤ days_of_month ms m → days_before_month ms m + d ≡ place + 1 → s ≡ year_start r y → n ≡ s +ℤ pos place
+    → IsDateOf r y m d × (day_number_of r y m d ≡ n)
 date_at_place r y n s m d place ms e h a b c f k =
     let sum : days_before_month (r.months y) m + d ≡ place + 1 = rw (← e) c in
     ((h, a, rw (← e) b), omega (arith, signed_arith, sum, f, k))
 
 -- and a date's number from the parts that the code adds up
-pub number_from_parts : (r : Rules) (y s : ℤ) (m d before : ℕ) (ms : List Month) → ms ≡ r.months y → before ≡ days_before_month ms m → s ≡ year_start r y → (s +ℤ pos before) +ℤ pos d -ℤ pos 1 ≡ day_number_of r y m d
+pub number_from_parts : (r : Rules) (y s : ℤ) (m d before : ℕ) (ms : List Month) → ms ≡ r.months y
+    → before ≡ days_before_month ms m → s ≡ year_start r y → (s +ℤ pos before) +ℤ pos d -ℤ pos 1 ≡ day_number_of r y m d
 number_from_parts r y s m d before ms e f k = rw (f, e, k) refl
 
 -- a closed sum that is right at year 1 and grows by each year's length gives the first day of each year from year 1 on
-pub year_starts : (s : Years) (e : ℤ) (f : ℤ → ℕ) (g : ℕ → ℕ) → g 0 ≡ 0 → ((n : ℕ) → g (suc n) ≡ g n + f (pos (suc n))) → (n : ℕ) → e +ℤ pos (g n) ≡ start_of_year s e f (pos (suc n))
+pub year_starts : (s : Years) (e : ℤ) (f : ℤ → ℕ) (g : ℕ → ℕ) → g 0 ≡ 0 → ((n : ℕ) → g (suc n) ≡ g n + f (pos (suc n)))
+    → (n : ℕ) → e +ℤ pos (g n) ≡ start_of_year s e f (pos (suc n))
 year_starts s e f g none more zero = omega (arith, signed_arith, none, start-one s e f)
-year_starts s e f g none more (suc n) = omega (arith, signed_arith, more n, year_starts s e f g none more n, start-next s e f (pos (suc n)) tt)
+year_starts s e f g none more (suc n) =
+    omega (arith, signed_arith, more n, year_starts s e f g none more n, start-next s e f (pos (suc n)) tt)
 
 -- in a calendar from year 1 on, the sum of epoch and days before is the first day of the year
-pub sum_is_start : (e : ℤ) (f : ℤ → ℕ) (y z b : ℤ) (n s : ℕ) → s ≡ days_of_years f n → b ≡ e → y ≡ pos (suc n) → z ≡ b +ℤ pos s → z ≡ start_of_year from_one e f y
+pub sum_is_start : (e : ℤ) (f : ℤ → ℕ) (y z b : ℤ) (n s : ℕ) → s ≡ days_of_years f n → b ≡ e → y ≡ pos (suc n)
+    → z ≡ b +ℤ pos s → z ≡ start_of_year from_one e f y
 unfolding start_of_year
 sum_is_start e f y z b n s p q r t = rw r (omega (arith, signed_arith, p, q, t))
 
 -- and the years that the days fill end before the year of a day
-pub sum_in_year : (e : ℤ) (f : ℤ → ℕ) (d b : ℤ) (n k : ℕ) → days_of_years f n ≤ k → k < days_of_years f (n + 1) → b ≡ e → d ≡ b +ℤ pos k → (start_of_year from_one e f (pos (suc n)) ≤ℤ d) × (d <ℤ (start_of_year from_one e f (pos (suc n)) +ℤ pos (f (pos (suc n)))))
+pub sum_in_year : (e : ℤ) (f : ℤ → ℕ) (d b : ℤ) (n k : ℕ) → days_of_years f n ≤ k → k < days_of_years f (n + 1) → b ≡ e
+    → d ≡ b +ℤ pos k → (start_of_year from_one e f (pos (suc n)) ≤ℤ d)
+    × (d <ℤ (start_of_year from_one e f (pos (suc n)) +ℤ pos (f (pos (suc n)))))
 unfolding start_of_year
 sum_in_year e f d b n k p q r t =
     let next : n + 1 ≡ suc n = omega arith in

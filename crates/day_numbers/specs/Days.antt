@@ -3,7 +3,8 @@
 use Rattle.std.specs.Prelude.{ℕ, ℤ, pos, neg_ℤ, ◌≤ℤ◌, unsigned_abs, Option, Some, None, List, codes}
 use Rattle.std.specs.Int.{int_rem_euclid}
 use Rattle.day_numbers.specs.declared.day.Weekday.{Weekday}
-use Rattle.day_numbers.specs.declared.day.Weekday.TheVariants.{Sunday, Monday, Tuesday, Wednesday, Thursday, Friday, Saturday}
+use Rattle.day_numbers.specs.declared.day.Weekday.TheVariants.{Sunday, Monday, Tuesday, Wednesday, Thursday, Friday}
+use Rattle.day_numbers.specs.declared.day.Weekday.TheVariants.{Saturday}
 
 -- z lies from low to high, both included
 abbrev pub IsBetween : ℤ → ℤ → ℤ → Type 0

@@ -1,7 +1,8 @@
 -- A calendar by its rules: where its years begin to count, and how long the months of each year are.
 -- Year lengths, year starts, valid dates and day numbers are sums over these lists of months and years
 -- (Reingold and Dershowitz, Calendrical Calculations: a fixed day number is the number of days that have passed).
-use Rattle.std.specs.Prelude.{ℕ, zero, suc, ◌+◌, ◌≤◌, Bool, true, false, List, [], ◌∷◌, ◌==◌, if◌then◌else◌, ℤ, pos, negsuc, neg_ℤ, ◌+ℤ◌, ◌-ℤ◌, not, ◌&&◌, nat_le, Option, Some, None}
+use Rattle.std.specs.Prelude.{ℕ, zero, suc, ◌+◌, ◌≤◌, Bool, true, false, List, [], ◌∷◌, ◌==◌, if◌then◌else◌, ℤ, pos}
+use Rattle.std.specs.Prelude.{negsuc, neg_ℤ, ◌+ℤ◌, ◌-ℤ◌, not, ◌&&◌, nat_le, Option, Some, None}
 use Rattle.day_numbers.specs.Days.{IsSinceFirstDay}
 use Rattle.day_numbers.specs.declared.rules.Month.{Month}
 
@@ -75,8 +76,10 @@ years_back from_one n = n
 -- or less the lengths of all years from it up to year 1
 unfoldable pub start_of_year : Years → ℤ → (ℤ → ℕ) → ℤ → ℤ
 start_of_year years epoch length_of (pos (suc n)) = epoch +ℤ pos (days_of_years length_of n)
-start_of_year years epoch length_of (pos zero) = epoch -ℤ pos (days_of_years_before years length_of (years_back years 0))
-start_of_year years epoch length_of (negsuc n) = epoch -ℤ pos (days_of_years_before years length_of (years_back years (suc n)))
+start_of_year years epoch length_of (pos zero) =
+    epoch -ℤ pos (days_of_years_before years length_of (years_back years 0))
+start_of_year years epoch length_of (negsuc n) =
+    epoch -ℤ pos (days_of_years_before years length_of (years_back years (suc n)))
 
 abbrev pub year_length : Rules → ℤ → ℕ
 year_length r y = total_days (r.months y)

@@ -53,7 +53,8 @@ pub trait ArithmeticCalendar {
         ensures succeeds { IsOk result ↔ (IsDate date × IsDayNumber (day_number date)) }
         ensures value { IfOk result (λ day. day.number ≡ day_number date) }
         ensures no_such_date { (result ≡ Err DateFault.NoSuchDate) ↔ ¬ (IsDate date) }
-        ensures out_of_range { (result ≡ Err DateFault.OutOfRange) ↔ (IsDate date × ¬ (IsDayNumber (day_number date))) };
+        ensures out_of_range { (result ≡ Err DateFault.OutOfRange)
+            ↔ (IsDate date × ¬ (IsDayNumber (day_number date))) };
 
     /// The one date whose day this is, or `None` exactly before the calendar's first day.
     fn date_on(&self, day: Day) -> Option<Ymd>

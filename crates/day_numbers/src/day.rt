@@ -1,4 +1,4 @@
-ghost use Rattle.std.specs.Prelude.{◌≡◌, ◌↔◌, ℤ, pos, IsSome, IfSome};
+ghost use Rattle.std.specs.Prelude.{◌≡◌, ◌↔◌, IsSome, IfSome};
 ghost use Rattle.day_numbers.specs.Days.{IsDayNumber, weekday_number, weekday_place, weekday_name};
 
 /// A day by its fixed day number (R.D.), which counts days: R.D. 1 is Monday, 1 January of year 1 of

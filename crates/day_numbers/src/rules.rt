@@ -4,11 +4,13 @@
 //! [`RuledCalendar`] by which formulas it finds a year by its number and by one of its days, and
 //! [`day_by_rules`] and [`date_by_rules`] are then `day_of` and `date_on` of its `ArithmeticCalendar`.
 
-ghost use Rattle.std.specs.Prelude.{◌≡◌, ◌↔◌, ◌≤◌, ◌<◌, ◌+◌, ℕ, ℤ, pos, neg_ℤ, ◌+ℤ◌, ◌≤ℤ◌, ◌<ℤ◌, IsTrue, IsOk, IsSome, IfOk, IfSome, Err, Some, length};
+ghost use Rattle.std.specs.Prelude.{◌≡◌, ◌↔◌, ◌≤◌, ◌<◌, ◌+◌, ℤ, pos, neg_ℤ, ◌+ℤ◌, ◌≤ℤ◌, ◌<ℤ◌, IsTrue, IsOk, IsSome};
+ghost use Rattle.std.specs.Prelude.{IfOk, IfSome, Err, Some, length};
 ghost use Rattle.day_numbers.specs.declared.ymd.Ymd.{Ymd};
 ghost use Rattle.day_numbers.specs.Days.{IsBetween, IsDayNumber};
 ghost use Rattle.day_numbers.specs.Dates.{IsYear};
-ghost use Rattle.day_numbers.specs.Rules.{Rules, HasYear, HasDayOf, IsDateOf, day_number_of, year_start as start, total_days, days_of_month, days_before_month, are_months};
+ghost use Rattle.day_numbers.specs.Rules.{Rules, HasYear, HasDayOf, IsDateOf, day_number_of, year_start as start};
+ghost use Rattle.day_numbers.specs.Rules.{total_days, days_of_month, days_before_month, are_months};
 
 use crate::calendar::DateFault;
 use crate::day::Day;

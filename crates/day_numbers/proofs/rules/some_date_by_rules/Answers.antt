@@ -29,17 +29,38 @@ month_at_place-month-requires-clause-inside g c =
 pub returns-clause-dated : goal.returns-clause-dated
 returns-clause-dated g c =
     let n : FitsSigned w64 c.number-number.result = search rules in
-    let y : FitsSigned w32 c.year_with-year.result.number = omega (arith, signed_arith, c.year_with-year.ensures.in_range) in
+    let y : FitsSigned w32 c.year_with-year.result.number =
+    omega (arith, signed_arith, c.year_with-year.ensures.in_range) in
     let has = simp to_z-of_z at c.has_day.ensures in
-    let made = simp to_z-of_z at c.new.ensures.made in
-    (λ _. rw (← c.number-number.ensures.value) (has.0 (search rules)), λ _. made.1 (c.year_with-year.ensures.in_range, c.month_at_place-month.ensures.small.0, c.month_at_place-month.ensures.small.1))
+    let made = simp to_z-of_z at c.new.ensures.made in (
+      λ _. rw (← c.number-number.ensures.value) (has.0 (search rules)),
+      λ _.
+          made.1 (
+            c.year_with-year.ensures.in_range,
+            c.month_at_place-month.ensures.small.0,
+            c.month_at_place-month.ensures.small.1,
+          ),
+    )
 
 pub returns-clause-value : goal.returns-clause-value
 returns-clause-value g c =
     let n : FitsSigned w64 c.number-number.result = search rules in
-    let y : FitsSigned w32 c.year_with-year.result.number = omega (arith, signed_arith, c.year_with-year.ensures.in_range) in
+    let y : FitsSigned w32 c.year_with-year.result.number =
+    omega (arith, signed_arith, c.year_with-year.ensures.in_range) in
     let value = simp to_z-of_z at c.new.ensures.value in
     let after = simp to_z-of_z at c.year_with-year.ensures.after in
     let before = simp to_z-of_z at c.year_with-year.ensures.before in
-    let at = date_at_place g.C.RuledCalendar.rules c.year_with-year.result.number c.number-number.result c.year_with-year.result.start c.month_at_place-month.result.0 c.month_at_place-month.result.1 _ c.year_with-year.result.months.now c.year_with-year.ensures.months c.year_with-year.ensures.has c.month_at_place-month.ensures.first c.month_at_place-month.ensures.last c.month_at_place-month.ensures.sum c.year_with-year.ensures.start (omega (arith, ints, after, before, total-le c.year_with-year.result.months.now c.year_with-year.ensures.numbered)) in
+    let at =
+    date_at_place g.C.RuledCalendar.rules c.year_with-year.result.number c.number-number.result
+    c.year_with-year.result.start c.month_at_place-month.result.0 c.month_at_place-month.result.1 _
+    c.year_with-year.result.months.now c.year_with-year.ensures.months c.year_with-year.ensures.has
+    c.month_at_place-month.ensures.first c.month_at_place-month.ensures.last c.month_at_place-month.ensures.sum
+    c.year_with-year.ensures.start
+    (omega (
+      arith,
+      ints,
+      after,
+      before,
+      total-le c.year_with-year.result.months.now c.year_with-year.ensures.numbered,
+    )) in
     IfSome_then c.new.result value (λ d e. rw (e.0, e.1, e.2, ← c.number-number.ensures.value) at)

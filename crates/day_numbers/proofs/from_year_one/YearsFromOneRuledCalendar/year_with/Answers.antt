@@ -6,15 +6,26 @@ use Rattle.day_numbers.proofs.from_year_one.YearsFromOneRuledCalendar.year_with.
 
 pub returns-clause-has : goal.returns-clause-has
 returns-clause-has g c =
-    let year : to_z w32 (of_z w32 (to_z w32 c.years_in-years_before.result +ℤ pos 1)) ≡ pos (suc c.years_in-years_before.result) = omega (arith, ints) in
+    let year : to_z w32 (of_z w32 (to_z w32 c.years_in-years_before.result +ℤ pos 1))
+    ≡ pos (suc c.years_in-years_before.result) = omega (arith, ints) in
     rw (c.year.ensures.number, year) tt
 
 pub returns-clause-after : goal.returns-clause-after
 returns-clause-after g c =
-    let year : to_z w32 (of_z w32 (to_z w32 c.years_in-years_before.result +ℤ pos 1)) ≡ pos (suc c.years_in-years_before.result) = omega (arith, ints) in
-    rw (c.year.ensures.start, year) ((sum_in_year g.C.FromYearOne.epoch_day (λ y. total_days (g.C.FromYearOne.months_of y)) c.args.day c.epoch.result c.years_in-years_before.result _ c.years_in-years_before.ensures.after c.years_in-years_before.ensures.before c.epoch.ensures.value (omega (arith, ints))).0)
+    let year : to_z w32 (of_z w32 (to_z w32 c.years_in-years_before.result +ℤ pos 1))
+    ≡ pos (suc c.years_in-years_before.result) = omega (arith, ints) in
+    rw (c.year.ensures.start, year)
+    ((sum_in_year g.C.FromYearOne.epoch_day
+    (λ y. total_days (g.C.FromYearOne.months_of y)) c.args.day c.epoch.result c.years_in-years_before.result _
+    c.years_in-years_before.ensures.after c.years_in-years_before.ensures.before c.epoch.ensures.value
+    (omega (arith, ints))).0)
 
 pub returns-clause-before : goal.returns-clause-before
 returns-clause-before g c =
-    let year : to_z w32 (of_z w32 (to_z w32 c.years_in-years_before.result +ℤ pos 1)) ≡ pos (suc c.years_in-years_before.result) = omega (arith, ints) in
-    rw (c.year.ensures.start, c.year.ensures.months, year) ((sum_in_year g.C.FromYearOne.epoch_day (λ y. total_days (g.C.FromYearOne.months_of y)) c.args.day c.epoch.result c.years_in-years_before.result _ c.years_in-years_before.ensures.after c.years_in-years_before.ensures.before c.epoch.ensures.value (omega (arith, ints))).1)
+    let year : to_z w32 (of_z w32 (to_z w32 c.years_in-years_before.result +ℤ pos 1))
+    ≡ pos (suc c.years_in-years_before.result) = omega (arith, ints) in
+    rw (c.year.ensures.start, c.year.ensures.months, year)
+    ((sum_in_year g.C.FromYearOne.epoch_day
+    (λ y. total_days (g.C.FromYearOne.months_of y)) c.args.day c.epoch.result c.years_in-years_before.result _
+    c.years_in-years_before.ensures.after c.years_in-years_before.ensures.before c.epoch.ensures.value
+    (omega (arith, ints))).1)

@@ -1,10 +1,12 @@
 -- The haab by a remainder.
-use Rattle.std.proofs.Common.{◌≡◌, ℕ, ◌+◌, ◌<◌, ◌/◌, ◌%◌, ◌==◌, if◌then◌else◌, arith, refl, ap, sym, ◌-◌, ◌∙◌, ℤ, pos, ◌+ℤ◌, ◌-ℤ◌}
+use Rattle.std.proofs.Common.{◌≡◌, ℕ, ◌+◌, ◌<◌, ◌/◌, ◌%◌, ◌==◌, if◌then◌else◌, arith, refl, ap, sym, ◌-◌, ◌∙◌, ℤ, pos}
+use Rattle.std.proofs.Common.{◌+ℤ◌, ◌-ℤ◌}
 use Rattle.std.proofs.lemmas.Bool.Decides.{nat_tests}
 use Rattle.std.proofs.lemmas.Int.{ints}
 use Rattle.maya_calendars.specs.Rounds.{epoch, round_number, StepsOnEachDay}
 use Rattle.maya_calendars.specs.HaabNames.{haab_after, haab_before, haab_of}
-use Rattle.maya_calendars.proofs.RoundLemmas.{after_days_are, each_day_from_epoch, place_in, place_below, place_next, round_number_is}
+use Rattle.maya_calendars.proofs.RoundLemmas.{after_days_are, each_day_from_epoch, place_in, place_below, place_next}
+use Rattle.maya_calendars.proofs.RoundLemmas.{round_number_is}
 
 -- the haab at a place in the round, counted from 0 Pop
 abbrev pub haab_at : ℕ → ℕ × ℕ
@@ -23,7 +25,9 @@ haab_by days = haab_at (place_in 365 (days +ℤ pos 348))
 by_each_day : StepsOnEachDay haab_after haab_by
 by_each_day days =
     let later : (days +ℤ pos 1) +ℤ pos 348 ≡ (days +ℤ pos 348) +ℤ pos 1 = omega (arith, ints) in
-    haab_next (place_in 365 (days +ℤ pos 348)) (place_in 365 ((days +ℤ pos 1) +ℤ pos 348)) (place_below 365 (days +ℤ pos 348) (omega arith)) (ap (place_in 365) later ∙ place_next 365 (days +ℤ pos 348) (omega arith))
+    haab_next (place_in 365 (days +ℤ pos 348)) (place_in 365 ((days +ℤ pos 1) +ℤ pos 348))
+    (place_below 365 (days +ℤ pos 348) (omega arith))
+    (ap (place_in 365) later ∙ place_next 365 (days +ℤ pos 348) (omega arith))
 
 by_undone : (days : ℤ) → haab_before (haab_after (haab_by days)) ≡ haab_by days
 by_undone days = haab_undone (place_in 365 (days +ℤ pos 348)) (place_below 365 (days +ℤ pos 348) (omega arith))
@@ -33,7 +37,8 @@ pub haab_each_day : StepsOnEachDay haab_after haab_of
 haab_each_day = each_day_from_epoch haab_after haab_before haab_by by_each_day by_undone
 
 -- and its place in the round gives it, where 8 Cumku is the 349th name
-pub haab_is : (day : ℤ) (number place d m : ℕ) → number ≡ round_number 365 349 day → place ≡ number - 1 → d ≡ place % 20 → m ≡ place / 20 + 1 → (d, m) ≡ haab_of day
+pub haab_is : (day : ℤ) (number place d m : ℕ) → number ≡ round_number 365 349 day → place ≡ number - 1 → d ≡ place % 20
+    → m ≡ place / 20 + 1 → (d, m) ≡ haab_of day
 haab_is day number place d m e f g h =
     let named : (d, m) ≡ haab_at place = cc in
     let by = round_number_is 365 348 349 day refl (omega arith) in

@@ -1,5 +1,6 @@
 -- A long count is known by its day.
-use Rattle.std.proofs.Common.{◌≡◌, ℕ, ◌+◌, ◌*◌, ◌≤◌, Option, Some, None, IsSome, IfSome, ◌↔◌, sym, ◌∙◌, ◌≤ℤ◌, subst, ap, arith, ℤ}
+use Rattle.std.proofs.Common.{◌≡◌, ℕ, ◌+◌, ◌*◌, ◌≤◌, Option, Some, None, IsSome, IfSome, ◌↔◌, sym, ◌∙◌, ◌≤ℤ◌, subst, ap}
+use Rattle.std.proofs.Common.{arith, ℤ}
 use Rattle.std.proofs.Props.{props}
 use Rattle.std.proofs.lemmas.Int.{ints}
 use Rattle.maya_calendars.specs.Rounds.{epoch}
@@ -23,7 +24,8 @@ same_made : (x y : Numbers) → x ≡ y → (h : AreIn x) (g : AreIn y) → make
 same_made x y e h = subst (λ z. (g : AreIn z) → make x h ≡ make z g) e (λ g. ap (make x) (in_prop x h g))
 
 -- two long counts with the same places are one value
-pub same_places : (c d : LongCount) → c.baktun ≡ d.baktun → c.katun ≡ d.katun → c.tun ≡ d.tun → c.uinal ≡ d.uinal → c.kin ≡ d.kin → c ≡ d
+pub same_places : (c d : LongCount) → c.baktun ≡ d.baktun → c.katun ≡ d.katun → c.tun ≡ d.tun → c.uinal ≡ d.uinal
+    → c.kin ≡ d.kin → c ≡ d
 unfolding make
 same_places c d p q r s t =
     let x : Numbers = (c.baktun, c.katun, c.tun, c.uinal, c.kin) in
@@ -32,7 +34,9 @@ same_places c d p q r s t =
     same_made x y e c.places d.places
 
 -- the places of a number of days are the only ones
-same_numbers : (b k t u n b' k' t' u' n' : ℕ) → k ≤ 19 → t ≤ 19 → u ≤ 17 → n ≤ 19 → k' ≤ 19 → t' ≤ 19 → u' ≤ 17 → n' ≤ 19 → 144_000 * b + 7_200 * k + 360 * t + 20 * u + n ≡ 144_000 * b' + 7_200 * k' + 360 * t' + 20 * u' + n' → (b ≡ b') × (k ≡ k') × (t ≡ t') × (u ≡ u') × (n ≡ n')
+same_numbers : (b k t u n b' k' t' u' n' : ℕ) → k ≤ 19 → t ≤ 19 → u ≤ 17 → n ≤ 19 → k' ≤ 19 → t' ≤ 19 → u' ≤ 17
+    → n' ≤ 19 → 144_000 * b + 7_200 * k + 360 * t + 20 * u + n ≡ 144_000 * b' + 7_200 * k' + 360 * t' + 20 * u' + n'
+    → (b ≡ b') × (k ≡ k') × (t ≡ t') × (u ≡ u') × (n ≡ n')
 same_numbers b k t u n b' k' t' u' n' i j l m i' j' l' m' e =
     let kin : n ≡ n' = omega arith in
     let uinal : u ≡ u' = omega arith in
@@ -43,7 +47,9 @@ same_numbers b k t u n b' k' t' u' n' i j l m i' j' l' m' e =
 
 one_long_count : (c d : LongCount) → IsLongCount c → IsLongCount d → long_day c ≡ long_day d → c ≡ d
 one_long_count c d h g e =
-    let same = same_numbers c.baktun c.katun c.tun c.uinal c.kin d.baktun d.katun d.tun d.uinal d.kin h.0 h.1 h.2 h.3 g.0 g.1 g.2 g.3 (omega (arith, ints, e)) in
+    let same =
+    same_numbers c.baktun c.katun c.tun c.uinal c.kin d.baktun d.katun d.tun d.uinal d.kin h.0 h.1 h.2 h.3 g.0 g.1
+    g.2 g.3 (omega (arith, ints, e)) in
     same_places c d same.0 same.1 same.2 same.3 same.4
 
 nothing : IsSome {T = LongCount} None → ⊥
@@ -53,6 +59,8 @@ day_since_epoch : (c : LongCount) → epoch ≤ℤ long_day c
 day_since_epoch c = omega (arith, ints)
 
 -- the long count of a day is the only one
-pub only_long_count : (o : Option LongCount) (day : ℤ) → IsSome o ↔ (epoch ≤ℤ day) → IfSome o (λ c. IsLongCount c × (long_day c ≡ day)) → (c : LongCount) → IsLongCount c → long_day c ≡ day → o ≡ Some c
+pub only_long_count : (o : Option LongCount) (day : ℤ) → IsSome o ↔ (epoch ≤ℤ day)
+    → IfSome o (λ c. IsLongCount c × (long_day c ≡ day)) → (c : LongCount) → IsLongCount c → long_day c ≡ day
+    → o ≡ Some c
 only_long_count None day some value c h e = absurd (nothing (some.1 (subst (λ z. epoch ≤ℤ z) e (day_since_epoch c))))
 only_long_count (Some x) day some value c h e = ap Some (one_long_count x c value.0 h (value.1 ∙ sym e))

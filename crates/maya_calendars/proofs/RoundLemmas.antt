@@ -1,36 +1,44 @@
 -- Rounds by remainders: what is a place by a remainder of the days moves one place on each day.
-use Rattle.std.proofs.Common.{◌≡◌, ℕ, zero, suc, ◌+◌, ◌-◌, ◌<◌, ◌%◌, ◌==◌, if◌then◌else◌, refl, sym, subst, ap, zero-add, ◌≤◌, ◌∙◌, arith, add-one, ℤ, pos, negsuc, ◌+ℤ◌, ◌-ℤ◌, unsigned_abs}
+use Rattle.std.proofs.Common.{◌≡◌, ℕ, zero, suc, ◌+◌, ◌-◌, ◌<◌, ◌%◌, ◌==◌, if◌then◌else◌, refl, sym, subst, ap}
+use Rattle.std.proofs.Common.{zero-add, ◌≤◌, ◌∙◌, arith, add-one, ℤ, pos, negsuc, ◌+ℤ◌, ◌-ℤ◌, unsigned_abs}
 use Rattle.std.proofs.Math.Nat.{mod-add-mod, mod_self, mod-eq_of_lt}
 use Rattle.std.specs.Int.{int_rem_euclid}
 use Rattle.std.proofs.lemmas.Bool.Decides.{nat_tests}
 use Rattle.std.proofs.lemmas.Int.{ints}
-use Rattle.maya_calendars.specs.Rounds.{epoch, number_after, number_before, after_steps, after_days, round_number, StepsOnEachDay}
+use Rattle.maya_calendars.specs.Rounds.{epoch, number_after, number_before, after_steps, after_days, round_number}
+use Rattle.maya_calendars.specs.Rounds.{StepsOnEachDay}
 
 below_zero_next : (n : ℕ) → negsuc (suc n) +ℤ pos 1 ≡ negsuc n
 below_zero_next n = omega (arith, ints)
 
 -- names that a step on leads from day to day, and that a step back undoes, are those that the steps from
 -- the first name lead to
-steps_on : {A : Type 0} → (on : A → A) (name_of : ℤ → A) → StepsOnEachDay on name_of → (n : ℕ) → after_steps on n (name_of (pos 0)) ≡ name_of (pos n)
+steps_on : {A : Type 0} → (on : A → A) (name_of : ℤ → A) → StepsOnEachDay on name_of → (n : ℕ)
+    → after_steps on n (name_of (pos 0)) ≡ name_of (pos n)
 unfolding after_steps
 steps_on on name_of each_day zero = refl
 steps_on on name_of each_day (suc n) =
     ap on (steps_on on name_of each_day n) ∙ sym (each_day (pos n)) ∙ ap (λ k. name_of (pos k)) (add-one n)
 
-steps_back : {A : Type 0} → (back : A → A) (name_of : ℤ → A) → ((day : ℤ) → back (name_of (day +ℤ pos 1)) ≡ name_of day) → (n : ℕ) → after_steps back (suc n) (name_of (pos 0)) ≡ name_of (negsuc n)
+steps_back : {A : Type 0} → (back : A → A) (name_of : ℤ → A) → ((day : ℤ) → back (name_of (day +ℤ pos 1)) ≡ name_of day)
+    → (n : ℕ) → after_steps back (suc n) (name_of (pos 0)) ≡ name_of (negsuc n)
 unfolding after_steps
 steps_back back name_of undone zero = undone (negsuc 0)
 steps_back back name_of undone (suc n) =
     ap back (steps_back back name_of undone n ∙ ap name_of (sym (below_zero_next n))) ∙ undone (negsuc (suc n))
 
-pub after_days_are : {A : Type 0} → (on back : A → A) (name_of : ℤ → A) → StepsOnEachDay on name_of → ((day : ℤ) → back (on (name_of day)) ≡ name_of day) → (day : ℤ) → after_days on back (name_of (pos 0)) day ≡ name_of day
+pub after_days_are : {A : Type 0} → (on back : A → A) (name_of : ℤ → A) → StepsOnEachDay on name_of
+    → ((day : ℤ) → back (on (name_of day)) ≡ name_of day) → (day : ℤ)
+    → after_days on back (name_of (pos 0)) day ≡ name_of day
 unfolding after_days
 after_days_are on back name_of each_day undone (pos n) = steps_on on name_of each_day n
 after_days_are on back name_of each_day undone (negsuc n) =
     steps_back back name_of (λ day. ap back (each_day day) ∙ undone day) n
 
 -- so a step on leads from the name of each day to the next, also where the days are counted from the epoch
-pub each_day_from_epoch : {A : Type 0} → (on back : A → A) (name_of : ℤ → A) → StepsOnEachDay on name_of → ((day : ℤ) → back (on (name_of day)) ≡ name_of day) → StepsOnEachDay on (λ day. after_days on back (name_of (pos 0)) (day -ℤ epoch))
+pub each_day_from_epoch : {A : Type 0} → (on back : A → A) (name_of : ℤ → A) → StepsOnEachDay on name_of
+    → ((day : ℤ) → back (on (name_of day)) ≡ name_of day)
+    → StepsOnEachDay on (λ day. after_days on back (name_of (pos 0)) (day -ℤ epoch))
 each_day_from_epoch on back name_of each_day undone day =
     let later : (day +ℤ pos 1) -ℤ epoch ≡ (day -ℤ epoch) +ℤ pos 1 = omega (arith, ints) in
     after_days_are on back name_of each_day undone ((day +ℤ pos 1) -ℤ epoch)
@@ -53,13 +61,15 @@ place_below n (pos a) h = omega arith
 place_below n (negsuc a) h = omega arith
 
 -- a remainder counted from the other end
-down_next : (n r s : ℕ) → r < n → s ≡ (if r + 1 == n then 0 else r + 1) → n - 1 - r ≡ (if n - 1 - s + 1 == n then 0 else n - 1 - s + 1)
+down_next : (n r s : ℕ) → r < n → s ≡ (if r + 1 == n then 0 else r + 1)
+    → n - 1 - r ≡ (if n - 1 - s + 1 == n then 0 else n - 1 - s + 1)
 down_next n r s h e = grind (arith, nat_tests)
 
 zero_next : (n z : ℕ) → 0 < n → z ≡ 0 → z ≡ (if n - 1 - z + 1 == n then 0 else n - 1 - z + 1)
 zero_next n z h e = grind (arith, nat_tests)
 
-pub place_next : (n : ℕ) (day : ℤ) → 0 < n → place_in n (day +ℤ pos 1) ≡ (if place_in n day + 1 == n then 0 else place_in n day + 1)
+pub place_next : (n : ℕ) (day : ℤ) → 0 < n
+    → place_in n (day +ℤ pos 1) ≡ (if place_in n day + 1 == n then 0 else place_in n day + 1)
 place_next n (pos a) h = mod_next n a h
 place_next n (negsuc zero) h = zero_next n (0 % n) h (omega arith)
 place_next n (negsuc (suc a)) h =
@@ -80,7 +90,8 @@ number_by n k days = place_in n (days +ℤ pos k) + 1
 by_each_day : (n k : ℕ) → 0 < n → StepsOnEachDay (number_after n) (number_by n k)
 by_each_day n k h days =
     let later : (days +ℤ pos 1) +ℤ pos k ≡ (days +ℤ pos k) +ℤ pos 1 = omega (arith, ints) in
-    number_next n (place_in n (days +ℤ pos k)) (place_in n ((days +ℤ pos 1) +ℤ pos k)) (place_below n (days +ℤ pos k) h) (ap (place_in n) later ∙ place_next n (days +ℤ pos k) h)
+    number_next n (place_in n (days +ℤ pos k)) (place_in n ((days +ℤ pos 1) +ℤ pos k)) (place_below n (days +ℤ pos k) h)
+    (ap (place_in n) later ∙ place_next n (days +ℤ pos k) h)
 
 by_undone : (n k : ℕ) → 0 < n → (days : ℤ) → number_before n (number_after n (number_by n k days)) ≡ number_by n k days
 by_undone n k h days = number_undone n (place_in n (days +ℤ pos k)) (place_below n (days +ℤ pos k) h)
@@ -92,19 +103,26 @@ by_first n k first e h =
     omega (arith, small)
 
 -- the remainder gives the number in the round
-pub round_number_is : (n k first : ℕ) (day : ℤ) → k + 1 ≡ first → first ≤ n → number_by n k (day -ℤ epoch) ≡ round_number n first day
+pub round_number_is : (n k first : ℕ) (day : ℤ) → k + 1 ≡ first → first ≤ n
+    → number_by n k (day -ℤ epoch) ≡ round_number n first day
 round_number_is n k first day e h =
     let some : 0 < n = omega arith in
-    subst (λ f. number_by n k (day -ℤ epoch) ≡ after_days (number_after n) (number_before n) f (day -ℤ epoch)) (by_first n k first e h) (sym (after_days_are (number_after n) (number_before n) (number_by n k) (by_each_day n k some) (by_undone n k some) (day -ℤ epoch)))
+    subst (λ f. number_by n k (day -ℤ epoch) ≡ after_days (number_after n) (number_before n) f (day -ℤ epoch))
+    (by_first n k first e h) (sym (after_days_are (number_after n) (number_before n) (number_by n k)
+    (by_each_day n k some) (by_undone n k some) (day -ℤ epoch)))
 
 -- also as it is computed
-pub number_from_remainder : (n k first : ℕ) (day z d r : ℤ) → r ≡ int_rem_euclid z d → z ≡ (day -ℤ epoch) +ℤ pos k → d ≡ pos n → k + 1 ≡ first → first ≤ n → unsigned_abs r + 1 ≡ round_number n first day
+pub number_from_remainder : (n k first : ℕ) (day z d r : ℤ) → r ≡ int_rem_euclid z d → z ≡ (day -ℤ epoch) +ℤ pos k
+    → d ≡ pos n → k + 1 ≡ first → first ≤ n → unsigned_abs r + 1 ≡ round_number n first day
 number_from_remainder n k first day z d r e f g h l =
     let remainder : int_rem_euclid z d ≡ int_rem_euclid ((day -ℤ epoch) +ℤ pos k) (pos n) = cc in
     ap (λ x. unsigned_abs x + 1) (e ∙ remainder) ∙ round_number_is n k first day h l
 
 -- which moves one place on each day
-pub round_number_each_day : (n k first : ℕ) → k + 1 ≡ first → first ≤ n → StepsOnEachDay (number_after n) (round_number n first)
+pub round_number_each_day : (n k first : ℕ) → k + 1 ≡ first → first ≤ n
+    → StepsOnEachDay (number_after n) (round_number n first)
 round_number_each_day n k first e h =
     let some : 0 < n = omega arith in
-    subst (λ f. StepsOnEachDay (number_after n) (λ day. after_days (number_after n) (number_before n) f (day -ℤ epoch))) (by_first n k first e h) (each_day_from_epoch (number_after n) (number_before n) (number_by n k) (by_each_day n k some) (by_undone n k some))
+    subst (λ f. StepsOnEachDay (number_after n) (λ day. after_days (number_after n) (number_before n) f (day -ℤ epoch)))
+    (by_first n k first e h) (each_day_from_epoch (number_after n) (number_before n) (number_by n k)
+    (by_each_day n k some) (by_undone n k some))

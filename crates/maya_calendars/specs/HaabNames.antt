@@ -3,7 +3,9 @@
 use Rattle.std.specs.Prelude.{ℕ, ◌+◌, ◌-◌, ◌==◌, if◌then◌else◌, ℤ, ◌-ℤ◌, List, [], ◌∷◌, codes, slice_get, unwrap_or}
 use Rattle.maya_calendars.specs.Rounds.{epoch, number_after, number_before, after_days}
 use Rattle.maya_calendars.specs.declared.haab.HaabMonth.{HaabMonth}
-use Rattle.maya_calendars.specs.declared.haab.HaabMonth.TheVariants.{Pop, Uo, Zip, Zotz, Tzec, Xul, Yaxkin, Mol, Chen, Yax, Zac, Ceh, Mac, Kankin, Muan, Pax, Kayab, Cumku, Uayeb}
+use Rattle.maya_calendars.specs.declared.haab.HaabMonth.TheVariants.{Pop, Uo, Zip, Zotz, Tzec, Xul, Yaxkin, Mol, Chen}
+use Rattle.maya_calendars.specs.declared.haab.HaabMonth.TheVariants.{Yax, Zac, Ceh, Mac, Kankin, Muan, Pax, Kayab}
+use Rattle.maya_calendars.specs.declared.haab.HaabMonth.TheVariants.{Cumku, Uayeb}
 
 -- the months in their order, from 1 to 19
 abbrev pub month_number : HaabMonth → ℕ
@@ -29,7 +31,10 @@ month_number Uayeb = 19
 
 -- the names of the months in their order
 abbrev pub month_names : List (List ℕ)
-month_names = codes "Pop" ∷ codes "Uo" ∷ codes "Zip" ∷ codes "Zotz" ∷ codes "Tzec" ∷ codes "Xul" ∷ codes "Yaxkin" ∷ codes "Mol" ∷ codes "Chen" ∷ codes "Yax" ∷ codes "Zac" ∷ codes "Ceh" ∷ codes "Mac" ∷ codes "Kankin" ∷ codes "Muan" ∷ codes "Pax" ∷ codes "Kayab" ∷ codes "Cumku" ∷ codes "Uayeb" ∷ []
+month_names =
+    codes "Pop" ∷ codes "Uo" ∷ codes "Zip" ∷ codes "Zotz" ∷ codes "Tzec" ∷ codes "Xul" ∷ codes "Yaxkin" ∷ codes "Mol"
+    ∷ codes "Chen" ∷ codes "Yax" ∷ codes "Zac" ∷ codes "Ceh" ∷ codes "Mac" ∷ codes "Kankin" ∷ codes "Muan" ∷ codes "Pax"
+    ∷ codes "Kayab" ∷ codes "Cumku" ∷ codes "Uayeb" ∷ []
 
 -- the name of the month of this number
 abbrev pub month_name : ℕ → List ℕ
@@ -46,7 +51,8 @@ haab_after (day, month) = if day == last_day month then (0, number_after 19 mont
 
 -- and the haab before it
 abbrev pub haab_before : ℕ × ℕ → ℕ × ℕ
-haab_before (day, month) = if day == 0 then (last_day (number_before 19 month), number_before 19 month) else (day - 1, month)
+haab_before (day, month) =
+    if day == 0 then (last_day (number_before 19 month), number_before 19 month) else (day - 1, month)
 
 -- the haab of a day; that of the epoch is 8 Cumku
 abbrev pub haab_of : ℤ → ℕ × ℕ

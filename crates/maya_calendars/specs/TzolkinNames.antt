@@ -3,7 +3,9 @@
 use Rattle.std.specs.Prelude.{ℕ, ◌-◌, ℤ, List, [], ◌∷◌, codes, slice_get, unwrap_or}
 use Rattle.maya_calendars.specs.Rounds.{number_after, round_number}
 use Rattle.maya_calendars.specs.declared.tzolkin.TzolkinName.{TzolkinName}
-use Rattle.maya_calendars.specs.declared.tzolkin.TzolkinName.TheVariants.{Imix, Ik, Akbal, Kan, Chicchan, Cimi, Manik, Lamat, Muluc, Oc, Chuen, Eb, Ben, Ix, Men, Cib, Caban, Etznab, Cauac, Ahau}
+use Rattle.maya_calendars.specs.declared.tzolkin.TzolkinName.TheVariants.{Imix, Ik, Akbal, Kan, Chicchan, Cimi, Manik}
+use Rattle.maya_calendars.specs.declared.tzolkin.TzolkinName.TheVariants.{Lamat, Muluc, Oc, Chuen, Eb, Ben, Ix, Men}
+use Rattle.maya_calendars.specs.declared.tzolkin.TzolkinName.TheVariants.{Cib, Caban, Etznab, Cauac, Ahau}
 
 -- the names in their order, from 1 to 20
 abbrev pub name_place : TzolkinName → ℕ
@@ -30,7 +32,10 @@ name_place Ahau = 20
 
 -- the names as they are written, in their order
 abbrev pub name_texts : List (List ℕ)
-name_texts = codes "Imix" ∷ codes "Ik" ∷ codes "Akbal" ∷ codes "Kan" ∷ codes "Chicchan" ∷ codes "Cimi" ∷ codes "Manik" ∷ codes "Lamat" ∷ codes "Muluc" ∷ codes "Oc" ∷ codes "Chuen" ∷ codes "Eb" ∷ codes "Ben" ∷ codes "Ix" ∷ codes "Men" ∷ codes "Cib" ∷ codes "Caban" ∷ codes "Etznab" ∷ codes "Cauac" ∷ codes "Ahau" ∷ []
+name_texts =
+    codes "Imix" ∷ codes "Ik" ∷ codes "Akbal" ∷ codes "Kan" ∷ codes "Chicchan" ∷ codes "Cimi" ∷ codes "Manik"
+    ∷ codes "Lamat" ∷ codes "Muluc" ∷ codes "Oc" ∷ codes "Chuen" ∷ codes "Eb" ∷ codes "Ben" ∷ codes "Ix" ∷ codes "Men"
+    ∷ codes "Cib" ∷ codes "Caban" ∷ codes "Etznab" ∷ codes "Cauac" ∷ codes "Ahau" ∷ []
 
 -- the name at this place
 abbrev pub name_text : ℕ → List ℕ

@@ -1,4 +1,4 @@
-ghost use Rattle.std.specs.Prelude.{◌≡◌, ℤ, pos, neg_ℤ, ◌-ℤ◌};
+ghost use Rattle.std.specs.Prelude.{◌≡◌, pos, neg_ℤ, ◌-ℤ◌};
 ghost use Rattle.day_numbers.specs.Days.{IsBetween};
 ghost use Rattle.maya_calendars.specs.Rounds.{epoch};
 

@@ -1,4 +1,4 @@
-ghost use Rattle.std.specs.Prelude.{◌≡◌, ◌≤◌, ℤ};
+ghost use Rattle.std.specs.Prelude.{◌≡◌, ◌≤◌};
 ghost use Rattle.maya_calendars.specs.HaabNames.{month_number, month_name, last_day, haab_after, haab_of};
 ghost use Rattle.maya_calendars.specs.Rounds.{StepsOnEachDay};
 

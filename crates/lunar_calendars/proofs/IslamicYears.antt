@@ -8,6 +8,13 @@ use Rattle.lunar_calendars.specs.Islamic.{months_of_year}
 year_step : (year : ℕ) → total_days (months_of_year year) + (11 * year + 3) / 30 ≡ 354 + (11 * year + 14) / 30
 year_step year = grind (arith, nat_tests)
 
-pub islamic_days : (n : ℕ) → days_of_years (λ year. total_days (months_of_year (unsigned_abs year))) n ≡ 354 * n + (11 * n + 14) / 30
+pub islamic_days : (n : ℕ) → days_of_years (λ year. total_days (months_of_year (unsigned_abs year))) n
+    ≡ 354 * n + (11 * n + 14) / 30
 islamic_days zero = years-zero _
-islamic_days (suc n) = omega (arith, years-suc (λ year. total_days (months_of_year (unsigned_abs year))) n, year_step (suc n), islamic_days n)
+islamic_days (suc n) =
+    omega (
+      arith,
+      years-suc (λ year. total_days (months_of_year (unsigned_abs year))) n,
+      year_step (suc n),
+      islamic_days n,
+    )

@@ -1,5 +1,6 @@
 -- Hebrew new years in days from the Monday of the epoch.
-use Rattle.std.proofs.Common.{◌≡◌, ℕ, zero, suc, ◌+◌, ◌-◌, ◌*◌, ◌/◌, ◌%◌, ◌≤◌, Bool, true, false, not, ◌&&◌, ◌||◌, ◌==◌, nat_le, cond, if◌then◌else◌, refl, arith, ℤ, pos, ◌+ℤ◌}
+use Rattle.std.proofs.Common.{◌≡◌, ℕ, zero, suc, ◌+◌, ◌-◌, ◌*◌, ◌/◌, ◌%◌, ◌≤◌, Bool, true, false, not, ◌&&◌, ◌||◌, ◌==◌}
+use Rattle.std.proofs.Common.{nat_le, cond, if◌then◌else◌, refl, arith, ℤ, pos, ◌+ℤ◌}
 use Rattle.std.proofs.lemmas.Bool.Decides.{nat_tests}
 use Rattle.day_numbers.specs.Days.{weekday_number}
 use Rattle.day_numbers.proofs.SignedArithmetic.{signed_arith}
@@ -25,7 +26,8 @@ opening leap after_leap d t =
     else (if after_leap && falls_on_place 1 d && nat_le 16_789 t then d + 1
     else allowed (if nat_le 19_440 t then d + 1 else d))
 
-chosen : (b : Bool) (x y : ℤ) (m n : ℕ) → x ≡ epoch +ℤ pos m → y ≡ epoch +ℤ pos n → cond b x y ≡ epoch +ℤ pos (cond b m n)
+chosen : (b : Bool) (x y : ℤ) (m n : ℕ) → x ≡ epoch +ℤ pos m → y ≡ epoch +ℤ pos n
+    → cond b x y ≡ epoch +ℤ pos (cond b m n)
 chosen true x y m n p q = p
 chosen false x y m n p q = q
 
@@ -36,10 +38,12 @@ pub next_allowed_after : (d : ℕ) → next_allowed (epoch +ℤ pos d) ≡ epoch
 unfolding allowed
 next_allowed_after d = rw (weekday_after d) (chosen (is_closed d) _ _ _ _ (later d 1) refl)
 
-pub postponed_after : (leap after_leap : Bool) (d t : ℕ) → postponed leap after_leap (epoch +ℤ pos d) t ≡ epoch +ℤ pos (opening leap after_leap d t)
+pub postponed_after : (leap after_leap : Bool) (d t : ℕ)
+    → postponed leap after_leap (epoch +ℤ pos d) t ≡ epoch +ℤ pos (opening leap after_leap d t)
 postponed_after leap after_leap d t =
     let noon = cond (nat_le 19_440 t) (d + 1) d in
-    let late : cond (nat_le 19_440 t) ((epoch +ℤ pos d) +ℤ pos 1) (epoch +ℤ pos d) ≡ epoch +ℤ pos noon = chosen (nat_le 19_440 t) _ _ _ _ (later d 1) refl in
+    let late : cond (nat_le 19_440 t) ((epoch +ℤ pos d) +ℤ pos 1) (epoch +ℤ pos d) ≡ epoch +ℤ pos noon =
+    chosen (nat_le 19_440 t) _ _ _ _ (later d 1) refl in
     rw (late, weekday_after d)
     (chosen (not leap && falls_on_place 2 d && nat_le 9_924 t) _ _ _ _ (later d 2)
     (chosen (after_leap && falls_on_place 1 d && nat_le 16_789 t) _ _ _ _ (later d 1) (next_allowed_after noon)))
@@ -55,23 +59,30 @@ pub new_year_is : (n : ℕ) → new_year_of (suc n) ≡ epoch +ℤ pos (new_year
 unfolding new_year_of new_year_after
 new_year_is n =
     let same : suc n - 1 ≡ n = omega arith in
-    rw (months_closed n, same) (postponed_after (is_leap_year (suc n)) (is_leap_year n) (parts_after n / 25_920) (parts_after n % 25_920))
+    rw (months_closed n, same) (postponed_after (is_leap_year (suc n)) (is_leap_year n) (parts_after n / 25_920)
+    (parts_after n % 25_920))
 
 pub first_new_year : new_year_after 0 ≡ 0
 unfolding new_year_after allowed
 first_new_year = refl
 
 -- a year opens at most two days after its molad
-opening_bounds : (leap after_leap : Bool) (d t : ℕ) → (d ≤ opening leap after_leap d t) × (opening leap after_leap d t ≤ d + 2)
+opening_bounds : (leap after_leap : Bool) (d t : ℕ)
+    → (d ≤ opening leap after_leap d t) × (opening leap after_leap d t ≤ d + 2)
 unfolding allowed
 opening_bounds leap after_leap d t = grind (arith, nat_tests)
 
-pub new_year_bounds : (n : ℕ) → (parts_after n / 25_920 ≤ new_year_after n) × (new_year_after n ≤ parts_after n / 25_920 + 2)
+pub new_year_bounds : (n : ℕ)
+    → (parts_after n / 25_920 ≤ new_year_after n) × (new_year_after n ≤ parts_after n / 25_920 + 2)
 unfolding new_year_after
-new_year_bounds n = opening_bounds (is_leap_year (suc n)) (is_leap_year n) (parts_after n / 25_920) (parts_after n % 25_920)
+new_year_bounds n =
+    opening_bounds (is_leap_year (suc n)) (is_leap_year n) (parts_after n / 25_920) (parts_after n % 25_920)
 
 -- what the code finds by one quotient is the new year
-pub new_year_by : (year d t r : ℕ) (leap after_leap : Bool) → 1 ≤ year → leap ≡ is_leap_year year → after_leap ≡ is_leap_year (year - 1) → d ≡ (5_604 + 765_433 * ((235 * year - 234) / 19)) / 25_920 → t ≡ (5_604 + 765_433 * ((235 * year - 234) / 19)) % 25_920 → epoch +ℤ pos r ≡ postponed leap after_leap (epoch +ℤ pos d) t → epoch +ℤ pos r ≡ new_year_of year
+pub new_year_by : (year d t r : ℕ) (leap after_leap : Bool) → 1 ≤ year → leap ≡ is_leap_year year
+    → after_leap ≡ is_leap_year (year - 1) → d ≡ (5_604 + 765_433 * ((235 * year - 234) / 19)) / 25_920
+    → t ≡ (5_604 + 765_433 * ((235 * year - 234) / 19)) % 25_920
+    → epoch +ℤ pos r ≡ postponed leap after_leap (epoch +ℤ pos d) t → epoch +ℤ pos r ≡ new_year_of year
 unfolding new_year_of
 new_year_by zero d t r leap after_leap low a b p q e = absurd (omega arith)
 new_year_by (suc n) d t r leap after_leap low a b p q e =

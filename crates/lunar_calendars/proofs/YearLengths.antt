@@ -1,12 +1,15 @@
 -- The lengths of Hebrew years.
-use Rattle.std.proofs.Common.{◌≡◌, ℕ, zero, suc, ◌+◌, ◌-◌, ◌*◌, ◌/◌, ◌%◌, ◌≤◌, ◌<◌, Bool, true, false, if◌then◌else◌, refl, sym, ap, ◌∙◌, arith, ℤ, pos, ◌+ℤ◌, ◌-ℤ◌, ◌<ℤ◌, ◌≤ℤ◌, unsigned_abs, ◌⊎◌, inl, inr}
+use Rattle.std.proofs.Common.{◌≡◌, ℕ, zero, suc, ◌+◌, ◌-◌, ◌*◌, ◌/◌, ◌%◌, ◌≤◌, ◌<◌, Bool, true, false, if◌then◌else◌}
+use Rattle.std.proofs.Common.{refl, sym, ap, ◌∙◌, arith, ℤ, pos, ◌+ℤ◌, ◌-ℤ◌, ◌<ℤ◌, ◌≤ℤ◌, unsigned_abs, ◌⊎◌, inl, inr}
 use Rattle.std.specs.Prelude.{Contains}
 use Rattle.std.proofs.lemmas.Bool.Decides.{nat_tests}
 use Rattle.day_numbers.specs.Rules.{total_days, days_of_years, start_of_year, year_start}
 use Rattle.day_numbers.proofs.RulesLemmas.{years-zero, years-suc}
 use Rattle.day_numbers.proofs.SignedArithmetic.{signed_arith}
-use Rattle.lunar_calendars.specs.Hebrew.{IsYearLength, is_leap_year, epoch, new_year_of, days_in_year, months_by_length, months_of_year, year_lengths, hebrew_rules}
-use Rattle.lunar_calendars.proofs.NewYears.{allowed, opening, parts_after, new_year_after, new_year_is, first_new_year, new_year_bounds}
+use Rattle.lunar_calendars.specs.Hebrew.{IsYearLength, is_leap_year, epoch, new_year_of, days_in_year, months_by_length}
+use Rattle.lunar_calendars.specs.Hebrew.{months_of_year, year_lengths, hebrew_rules}
+use Rattle.lunar_calendars.proofs.NewYears.{allowed, opening, parts_after, new_year_after, new_year_is, first_new_year}
+use Rattle.lunar_calendars.proofs.NewYears.{new_year_bounds}
 
 -- n lies from low to high above m
 pub record IsFrom (low high m n : ℕ) : Type 0 where
@@ -27,37 +30,50 @@ weekday_cases P p q r s t u v (suc (suc (suc (suc (suc (suc (suc k))))))) h = ab
 IsStep : (leap a c : Bool) (q t r : ℕ) → Type 0
 IsStep leap a c q t r =
     let d = 7 * q + r + (if leap then 383 else 354) + (t + (if leap then 23_269 else 9_516)) / 25_920 in
-    IsFrom (if leap then 383 else 353) (if leap then 385 else 355) (opening leap a (7 * q + r) t) (opening c leap d ((t + (if leap then 23_269 else 9_516)) % 25_920))
+    IsFrom (if leap then 383 else 353) (if leap then 385 else 355) (opening leap a (7 * q + r) t)
+    (opening c leap d ((t + (if leap then 23_269 else 9_516)) % 25_920))
 
 year_step : (leap a c : Bool) (q t : ℕ) → t < 25_920 → (r : ℕ) → r < 7 → IsStep leap a c q t r
 unfolding IsStep allowed
 year_step false a c q t h =
     weekday_cases (λ r. IsStep false a c q t r)
-    (grind (arith, nat_tests)) (grind (arith, nat_tests)) (grind (arith, nat_tests)) (grind (arith, nat_tests)) (grind (arith, nat_tests)) (grind (arith, nat_tests)) (grind (arith, nat_tests))
+    (grind (arith, nat_tests)) (grind (arith, nat_tests)) (grind (arith, nat_tests)) (grind (arith, nat_tests))
+    (grind (arith, nat_tests)) (grind (arith, nat_tests)) (grind (arith, nat_tests))
 year_step true a c q t h =
     weekday_cases (λ r. IsStep true a c q t r)
-    (grind (arith, nat_tests)) (grind (arith, nat_tests)) (grind (arith, nat_tests)) (grind (arith, nat_tests)) (grind (arith, nat_tests)) (grind (arith, nat_tests)) (grind (arith, nat_tests))
+    (grind (arith, nat_tests)) (grind (arith, nat_tests)) (grind (arith, nat_tests)) (grind (arith, nat_tests))
+    (grind (arith, nat_tests)) (grind (arith, nat_tests)) (grind (arith, nat_tests))
 
-year_from : (leap a c : Bool) (d t d' t' : ℕ) → t < 25_920 → d' ≡ d + (if leap then 383 else 354) + (t + (if leap then 23_269 else 9_516)) / 25_920 → t' ≡ (t + (if leap then 23_269 else 9_516)) % 25_920 → IsFrom (if leap then 383 else 353) (if leap then 385 else 355) (opening leap a d t) (opening c leap d' t')
+year_from : (leap a c : Bool) (d t d' t' : ℕ) → t < 25_920
+    → d' ≡ d + (if leap then 383 else 354) + (t + (if leap then 23_269 else 9_516)) / 25_920
+    → t' ≡ (t + (if leap then 23_269 else 9_516)) % 25_920
+    → IsFrom (if leap then 383 else 353) (if leap then 385 else 355) (opening leap a d t) (opening c leap d' t')
 unfolding IsStep
 year_from leap a c d t d' t' h e f =
     let split : 7 * (d / 7) + d % 7 ≡ d = omega arith in
     rw (e, f) (rw split at (year_step leap a c (d / 7) t h (d % 7) (omega arith)))
 
 -- the parts from a molad to the next year's
-parts_step : (n : ℕ) (leap : Bool) → is_leap_year (suc n) ≡ leap → parts_after (suc n) ≡ parts_after n + 765_433 * (if leap then 13 else 12)
+parts_step : (n : ℕ) (leap : Bool) → is_leap_year (suc n) ≡ leap
+    → parts_after (suc n) ≡ parts_after n + 765_433 * (if leap then 13 else 12)
 parts_step n leap e = grind (arith, nat_tests, e)
 
-step_by : (n : ℕ) (leap : Bool) → is_leap_year (suc n) ≡ leap → IsFrom (if leap then 383 else 353) (if leap then 385 else 355) (new_year_after n) (new_year_after (suc n))
+step_by : (n : ℕ) (leap : Bool) → is_leap_year (suc n) ≡ leap
+    → IsFrom (if leap then 383 else 353) (if leap then 385 else 355) (new_year_after n) (new_year_after (suc n))
 unfolding new_year_after
 step_by n false e =
     let more = parts_step n false e in
-    rw e (year_from false (is_leap_year n) (is_leap_year (suc (suc n))) (parts_after n / 25_920) (parts_after n % 25_920) (parts_after (suc n) / 25_920) (parts_after (suc n) % 25_920) (omega arith) (omega (arith, more)) (omega (arith, more)))
+    rw e (year_from false (is_leap_year n) (is_leap_year (suc (suc n))) (parts_after n / 25_920)
+    (parts_after n % 25_920) (parts_after (suc n) / 25_920) (parts_after (suc n) % 25_920) (omega arith)
+    (omega (arith, more)) (omega (arith, more)))
 step_by n true e =
     let more = parts_step n true e in
-    rw e (year_from true (is_leap_year n) (is_leap_year (suc (suc n))) (parts_after n / 25_920) (parts_after n % 25_920) (parts_after (suc n) / 25_920) (parts_after (suc n) % 25_920) (omega arith) (omega (arith, more)) (omega (arith, more)))
+    rw e (year_from true (is_leap_year n) (is_leap_year (suc (suc n))) (parts_after n / 25_920) (parts_after n % 25_920)
+    (parts_after (suc n) / 25_920) (parts_after (suc n) % 25_920) (omega arith) (omega (arith, more))
+    (omega (arith, more)))
 
-year_grows : (n : ℕ) → IsFrom (if is_leap_year (suc n) then 383 else 353) (if is_leap_year (suc n) then 385 else 355) (new_year_after n) (new_year_after (suc n))
+year_grows : (n : ℕ) → IsFrom (if is_leap_year (suc n) then 383 else 353) (if is_leap_year (suc n) then 385 else 355)
+    (new_year_after n) (new_year_after (suc n))
 year_grows n = step_by n (is_leap_year (suc n)) refl
 
 -- so the days from a new year to the next are a difference of whole numbers
@@ -68,7 +84,8 @@ days_more : (n : ℕ) → new_year_after n + days_in_year (suc n) ≡ new_year_a
 days_more n =
     let more : new_year_after n ≤ new_year_after (suc n) = omega (arith, (year_grows n).least) in
     let next : suc n + 1 ≡ suc (suc n) = omega arith in
-    rw (next, difference _ _ (new_year_after n) (new_year_after (suc n)) more (new_year_is n) (new_year_is (suc n))) (omega (arith, more))
+    rw (next, difference _ _ (new_year_after n) (new_year_after (suc n)) more (new_year_is n) (new_year_is (suc n)))
+    (omega (arith, more))
 
 length_of : (n : ℕ) → IsYearLength (is_leap_year (suc n)) (days_in_year (suc n))
 length_of n = (omega (arith, (year_grows n).least, days_more n), omega (arith, (year_grows n).most, days_more n))
@@ -84,7 +101,14 @@ total_of n = total_by (is_leap_year (suc n)) (days_in_year (suc n)) (length_of n
 -- so the sum of the lengths of the years before is the new year by the postponements
 days_before : (n : ℕ) → days_of_years (λ year. total_days (months_of_year (unsigned_abs year))) n ≡ new_year_after n
 days_before zero = years-zero _ ∙ sym first_new_year
-days_before (suc n) = omega (arith, years-suc (λ year. total_days (months_of_year (unsigned_abs year))) n, total_of n, days_more n, days_before n)
+days_before (suc n) =
+    omega (
+      arith,
+      years-suc (λ year. total_days (months_of_year (unsigned_abs year))) n,
+      total_of n,
+      days_more n,
+      days_before n,
+    )
 
 -- the same facts of a year from 1 on
 pub year_start_is : (year : ℕ) → 1 ≤ year → new_year_of year ≡ year_start hebrew_rules (pos year)
@@ -96,7 +120,9 @@ end_by : (x y : ℤ) (m n days : ℕ) → y ≡ epoch +ℤ pos n → x ≡ epoch
 end_by x y m n days p q h = omega (arith, signed_arith, p, q, h)
 
 end_of : (n : ℕ) → new_year_of (suc n + 1) ≡ new_year_of (suc n) +ℤ pos (days_in_year (suc n))
-end_of n = end_by _ _ _ _ _ (let next : suc n + 1 ≡ suc (suc n) = omega arith in rw next (new_year_is (suc n))) (new_year_is n) (days_more n)
+end_of n =
+    end_by _ _ _ _ _ (let next : suc n + 1 ≡ suc (suc n) = omega arith in
+    rw next (new_year_is (suc n))) (new_year_is n) (days_more n)
 
 pub length_of_year : (year : ℕ) → 1 ≤ year → IsYearLength (is_leap_year year) (days_in_year year)
 length_of_year zero low = absurd (omega arith)
@@ -111,16 +137,22 @@ end_of_year zero low = absurd (omega arith)
 end_of_year (suc n) low = end_of n
 
 -- the year of a day is this estimate or the one before
-pub estimate : (days year : ℕ) → year ≡ (days + 29) * 98_496 / 35_975_351 + 1 → ((epoch +ℤ pos days) <ℤ new_year_of (year + 1)) × (2 ≤ year → new_year_of (year - 1) ≤ℤ (epoch +ℤ pos days))
+pub estimate : (days year : ℕ) → year ≡ (days + 29) * 98_496 / 35_975_351 + 1
+    → ((epoch +ℤ pos days) <ℤ new_year_of (year + 1)) × (2 ≤ year → new_year_of (year - 1) ≤ℤ (epoch +ℤ pos days))
 estimate days zero e = absurd (omega (arith, e))
 estimate days (suc zero) e =
     (omega (arith, signed_arith, e, new_year_is 1, new_year_bounds 1), λ h. absurd (omega (arith, h)))
 estimate days (suc (suc n)) e =
     let next : suc (suc n) + 1 ≡ suc (suc (suc n)) = omega arith in
     let before : suc (suc n) - 1 ≡ suc n = omega arith in
-    rw (next, before) (omega (arith, signed_arith, e, new_year_is (suc (suc n)), new_year_bounds (suc (suc n))), λ h. omega (arith, signed_arith, e, new_year_is n, new_year_bounds n))
+    rw (next, before) (
+      omega (arith, signed_arith, e, new_year_is (suc (suc n)), new_year_bounds (suc (suc n))),
+      λ h.
+          omega (arith, signed_arith, e, new_year_is n, new_year_bounds n),
+    )
 
-pub difference_is : (year m n : ℕ) → 1 ≤ year → epoch +ℤ pos m ≡ new_year_of year → epoch +ℤ pos n ≡ new_year_of (year + 1) → n - m ≡ days_in_year year
+pub difference_is : (year m n : ℕ) → 1 ≤ year → epoch +ℤ pos m ≡ new_year_of year
+    → epoch +ℤ pos n ≡ new_year_of (year + 1) → n - m ≡ days_in_year year
 difference_is year m n low p q = omega (arith, signed_arith, p, q, end_of_year year low)
 
 days_bound : (leap : Bool) (days : ℕ) → IsYearLength leap days → days ≤ 385
@@ -141,5 +173,15 @@ three : (low days : ℕ) → low ≤ days → days ≤ low + 2 → (days ≡ low
 three low days h k = grind arith
 
 pub one_of_six : (leap : Bool) (days : ℕ) → IsYearLength leap days → Contains year_lengths days
-one_of_six false days h = elim (three 353 days h.0 h.1) [ inl e ↦ (0, (omega arith), sym e) | inr e ↦ elim e [ inl f ↦ (1, (omega arith), sym f) | inr f ↦ (2, (omega arith), sym f) ] ]
-one_of_six true days h = elim (three 383 days h.0 h.1) [ inl e ↦ (3, (omega arith), sym e) | inr e ↦ elim e [ inl f ↦ (4, (omega arith), sym f) | inr f ↦ (5, (omega arith), sym f) ] ]
+one_of_six false days h =
+    elim (three 353 days h.0 h.1) [
+      | inl e ↦ (0, (omega arith), sym e)
+      | inr e ↦ elim e
+          [ inl f ↦ (1, (omega arith), sym f) | inr f ↦ (2, (omega arith), sym f) ]
+    ]
+one_of_six true days h =
+    elim (three 383 days h.0 h.1) [
+      | inl e ↦ (3, (omega arith), sym e)
+      | inr e ↦ elim e
+          [ inl f ↦ (4, (omega arith), sym f) | inr f ↦ (5, (omega arith), sym f) ]
+    ]

@@ -1,8 +1,9 @@
--- The Hebrew calendar (Reingold and Dershowitz, Calendrical Calculations, "The Hebrew Calendar").
--- A day begins at 6 in the evening before and has 24 hours of 1080 parts, 25920 parts. A mean month has 29 days, 12 hours
--- and 793 parts, 765433 parts. A molad is a mean new moon. A year opens on the day of the molad of its month Tishri, or up
--- to two days later where one of four postponements holds. Months are numbered from Nisan = 1, so that Tishri is month 7.
-use Rattle.std.specs.Prelude.{ℕ, Bool, not, ◌&&◌, ◌||◌, List, [], ◌∷◌, map, sum, ◌≤◌, ◌+◌, ◌-◌, ◌*◌, ◌/◌, ◌%◌, ◌==◌, nat_lt, nat_le, if◌then◌else◌, ℤ, neg_ℤ, pos, ◌+ℤ◌, ◌-ℤ◌, unsigned_abs}
+-- The Hebrew calendar (Reingold and Dershowitz, Calendrical Calculations, "The Hebrew Calendar"). A day begins at 6 in
+-- the evening before and has 24 hours of 1080 parts, 25920 parts. A mean month has 29 days, 12 hours and 793 parts,
+-- 765433 parts. A molad is a mean new moon. A year opens on the day of the molad of its month Tishri, or up to two days
+-- later where one of four postponements holds. Months are numbered from Nisan = 1, so that Tishri is month 7.
+use Rattle.std.specs.Prelude.{ℕ, Bool, not, ◌&&◌, ◌||◌, List, [], ◌∷◌, map, sum, ◌≤◌, ◌+◌, ◌-◌, ◌*◌, ◌/◌, ◌%◌, ◌==◌}
+use Rattle.std.specs.Prelude.{nat_lt, nat_le, if◌then◌else◌, ℤ, neg_ℤ, pos, ◌+ℤ◌, ◌-ℤ◌, unsigned_abs}
 use Rattle.std.specs.List.{range_with_len}
 use Rattle.day_numbers.specs.declared.day.Weekday.{Weekday}
 use Rattle.day_numbers.specs.declared.day.Weekday.TheVariants.{Sunday, Monday, Tuesday, Wednesday, Friday}
@@ -83,8 +84,8 @@ month number days = record { number = number; days = days }
 abbrev pub nisan_to_elul : List Month
 nisan_to_elul = month 1 30 ∷ month 2 29 ∷ month 3 30 ∷ month 4 29 ∷ month 5 30 ∷ month 6 29 ∷ []
 
--- the months of a year, leap or not, with so many days, from Tishri on: Heshvan (8) is longer in a long year, Kislev (9)
--- is shorter in a short one, and a leap year has a first Adar (12) of 30 days before the second (13)
+-- the months of a year, leap or not, with so many days, from Tishri on: Heshvan (8) is longer in a long year, Kislev
+-- (9) is shorter in a short one, and a leap year has a first Adar (12) of 30 days before the second (13)
 abbrev pub months_by_length : Bool → ℕ → List Month
 months_by_length leap days =
     month 7 30 ∷ month 8 (if (days == 355) || (days == 385) then 30 else 29)

@@ -1,7 +1,9 @@
-ghost use Rattle.std.specs.Prelude.{◌≡◌, ◌≤◌, ◌+◌, pos, ◌+ℤ◌, ◌-ℤ◌, ◌≤ℤ◌, ◌<ℤ◌, nat_le, if◌then◌else◌, IsTrue, length, Contains};
+ghost use Rattle.std.specs.Prelude.{◌≡◌, ◌≤◌, ◌+◌, pos, ◌+ℤ◌, ◌-ℤ◌, ◌≤ℤ◌, ◌<ℤ◌, nat_le, if◌then◌else◌, IsTrue, length};
+ghost use Rattle.std.specs.Prelude.{Contains};
 ghost use Rattle.day_numbers.specs.Rules.{total_days, are_months, year_start, IsDateOf, day_number_of, first_day_of};
 ghost use Rattle.day_numbers.proofs.DateLemmas.{rules_one_date, rules_have_days};
-ghost use Rattle.lunar_calendars.specs.Hebrew.{is_leap_year, epoch, postponed, new_year_of, days_in_year, year_lengths, IsYearLength, months_by_length, hebrew_rules};
+ghost use Rattle.lunar_calendars.specs.Hebrew.{is_leap_year, epoch, postponed, new_year_of, days_in_year, year_lengths};
+ghost use Rattle.lunar_calendars.specs.Hebrew.{IsYearLength, months_by_length, hebrew_rules};
 
 use day_numbers::rules::{Month, RuledCalendar, Year, date_by_rules, day_by_rules};
 use day_numbers::{ArithmeticCalendar, DateFault, Day, Ymd};

@@ -2,7 +2,8 @@ use Rattle.std.proofs.Common.{ap, arith}
 use Rattle.std.proofs.lemmas.Int.{ints}
 use Rattle.day_numbers.proofs.SignedArithmetic.{signed_arith}
 use Rattle.day_numbers.specs.Rules.{total_days}
-use Rattle.lunar_calendars.proofs.YearLengths.{difference_is, days_at_most, length_of_year, year_start_is, total, end_of_year}
+use Rattle.lunar_calendars.proofs.YearLengths.{difference_is, days_at_most, length_of_year, year_start_is, total}
+use Rattle.lunar_calendars.proofs.YearLengths.{end_of_year}
 use Rattle.lunar_calendars.proofs.hebrew.year_between.Goals as goal
 
 pub overflow_cast-end : goal.overflow_cast-end
@@ -28,4 +29,12 @@ pub returns-clause-days : goal.returns-clause-days
 returns-clause-days c =
     let days = difference_is c.args.number c.args.start c.args.end c.requires.low c.requires.opens c.requires.ends in
     let months = rw (days, c.is_leap.ensures) at c.months_of_length.ensures.value in
-    omega (arith, signed_arith, ap total_days months, total c.args.number c.requires.low, end_of_year c.args.number c.requires.low, c.requires.opens, c.requires.ends)
+    omega (
+      arith,
+      signed_arith,
+      ap total_days months,
+      total c.args.number c.requires.low,
+      end_of_year c.args.number c.requires.low,
+      c.requires.opens,
+      c.requires.ends,
+    )

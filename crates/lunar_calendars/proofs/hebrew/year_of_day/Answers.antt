@@ -5,26 +5,41 @@ use Rattle.lunar_calendars.proofs.hebrew.year_of_day.Goals as goal
 
 pub new_year-requires-clause-low : goal.new_year-requires-clause-low
 new_year-requires-clause-low c =
-    let later = after_year_one ((c.args.day + 29) * 98_496 / 35_975_351 + 1) c.args.day c.new_year-start.result (omega arith) c.new_year-start.ensures.value c.if-day-start.true in
+    let later =
+    after_year_one ((c.args.day + 29) * 98_496 / 35_975_351 + 1) c.args.day c.new_year-start.result
+    (omega arith) c.new_year-start.ensures.value c.if-day-start.true in
     omega (arith, later)
 
 pub year_between-requires-clause-low : goal.year_between-requires-clause-low
 year_between-requires-clause-low c =
-    let later = after_year_one ((c.args.day + 29) * 98_496 / 35_975_351 + 1) c.args.day c.new_year-start.result (omega arith) c.new_year-start.ensures.value c.if-day-start.true in
+    let later =
+    after_year_one ((c.args.day + 29) * 98_496 / 35_975_351 + 1) c.args.day c.new_year-start.result
+    (omega arith) c.new_year-start.ensures.value c.if-day-start.true in
     omega (arith, later)
 
 pub returns-then-day-start-clause-low : goal.returns-then-day-start-clause-low
 returns-then-day-start-clause-low c =
-    let later = after_year_one ((c.args.day + 29) * 98_496 / 35_975_351 + 1) c.args.day c.new_year-start.result (omega arith) c.new_year-start.ensures.value c.if-day-start.true in
+    let later =
+    after_year_one ((c.args.day + 29) * 98_496 / 35_975_351 + 1) c.args.day c.new_year-start.result
+    (omega arith) c.new_year-start.ensures.value c.if-day-start.true in
     omega (arith, signed_arith, later, c.year_between.ensures.number)
 
 pub returns-then-day-start-clause-after : goal.returns-then-day-start-clause-after
 returns-then-day-start-clause-after c =
-    let later = after_year_one ((c.args.day + 29) * 98_496 / 35_975_351 + 1) c.args.day c.new_year-start.result (omega arith) c.new_year-start.ensures.value c.if-day-start.true in
+    let later =
+    after_year_one ((c.args.day + 29) * 98_496 / 35_975_351 + 1) c.args.day c.new_year-start.result
+    (omega arith) c.new_year-start.ensures.value c.if-day-start.true in
     let before = (estimate c.args.day ((c.args.day + 29) * 98_496 / 35_975_351 + 1) refl).1 later in
     omega (arith, signed_arith, before, c.year_between.ensures.start, c.new_year.ensures.value)
 
 pub returns-clause-before : goal.returns-clause-before
 returns-clause-before c =
     let before = (estimate c.args.day ((c.args.day + 29) * 98_496 / 35_975_351 + 1) refl).0 in
-    omega (arith, signed_arith, before, c.year_between-2.ensures.start, c.year_between-2.ensures.days, c.new_year-2.ensures.value)
+    omega (
+      arith,
+      signed_arith,
+      before,
+      c.year_between-2.ensures.start,
+      c.year_between-2.ensures.days,
+      c.new_year-2.ensures.value,
+    )

@@ -1,6 +1,7 @@
 //! What the program answers. The tables that are wanted are worked by hand from the calendars' rules and from published
 //! day numbers.
 
+mod breaking;
 mod command_lines;
 mod disk_files;
 mod files;

@@ -233,23 +233,3 @@ fn help_reads_nothing(rt: HostRuntime) -> Result<(), Fail> {
     }
     Ok(())
 }
-
-#[test]
-fn help_that_cannot_be_printed_is_told(rt: HostRuntime) -> Result<(), Fail> {
-    let alloc = rt.alloc();
-    let heard = hear(
-        &rt,
-        alloc,
-        &["--help"],
-        Broken,
-        Broken,
-        &NoPlaces,
-        Vec::new(alloc),
-    )?;
-    assert_eq!(rt; heard.status, 1);
-    assert_eq!(rt;
-        heard.errors.as_slice(),
-        b"register: cannot write to standard output\n".as_slice()
-    );
-    Ok(())
-}

@@ -111,7 +111,7 @@ fn are_same_ends(one: &SourceEnd, other: &SourceEnd) -> bool {
 /// Whether a source has ended in a run as it does on one thread, with the same bytes. Only the heading comes at another
 /// time: on one thread when the header was read, and in a run with the first row. So a source that breaks before its
 /// first row leaves a run's output empty, for the same cause; and where its output has no room for the heading either,
-/// one thread breaks for the output, and a run for the reader.
+/// one thread breaks for the output, and a run for the reader or for a seal that does not stand last and agree.
 fn are_same(end: &SourceEnd, ran: &[u8], wanted: &SourceEnd, alone: &[u8]) -> bool {
     if are_same_ends(end, wanted) && ran == alone {
         return true;
@@ -121,8 +121,9 @@ fn are_same(end: &SourceEnd, ran: &[u8], wanted: &SourceEnd, alone: &[u8]) -> bo
     }
     let lines = alone.iter().filter(|byte| **byte == b'\n').count();
     if lines == 0 {
+        let told = cause_of(end);
         return cause_of(wanted) == Some(Cause::SinkFault)
-            && cause_of(end) == Some(Cause::ReadFault);
+            && (told == Some(Cause::ReadFault) || told == Some(Cause::NotSealed));
     }
     lines == 1 && are_same_ends(end, wanted)
 }

@@ -8,13 +8,18 @@ use Rattle.solar_calendars.specs.French.{is_french_leap}
 use Rattle.solar_calendars.proofs.ThirteenMonthsLemmas.{length_by, length_is}
 
 -- a leap day goes with a quotient that steps
-leap_step : (n : ℕ) → cond (is_french_leap (pos (suc n))) 1 0 + n / 4 + suc n / 100 + n / 400 + suc n / 4_000 ≡ suc n / 4 + n / 100 + suc n / 400 + n / 4_000
+leap_step : (n : ℕ) → cond (is_french_leap (pos (suc n))) 1 0 + n / 4 + suc n / 100 + n / 400 + suc n / 4_000
+    ≡ suc n / 4 + n / 100 + suc n / 400 + n / 4_000
 leap_step n = grind (arith, nat_tests)
 
-pub french_sum : (n : ℕ) → days_of_years (λ y. total_days (thirteen_months (is_french_leap y))) n + n / 100 + n / 4_000 ≡ 365 * n + n / 4 + n / 400
+pub french_sum : (n : ℕ) → days_of_years (λ y. total_days (thirteen_months (is_french_leap y))) n + n / 100 + n / 4_000
+    ≡ 365 * n + n / 4 + n / 400
 french_sum zero = omega (arith, years-zero (length_by is_french_leap))
-french_sum (suc n) = omega (arith, years-suc (length_by is_french_leap) n, length_is is_french_leap (suc n), leap_step n, french_sum n)
+french_sum (suc n) =
+    omega (arith, years-suc (length_by is_french_leap) n, length_is is_french_leap (suc n), leap_step n, french_sum n)
 
 -- the whole years that the days fill are this estimate or one less
-pub estimate : (days most : ℕ) → most ≡ 4_000 * (days + 2) / 1_460_969 → (days < days_of_years (λ y. total_days (thirteen_months (is_french_leap y))) (most + 1)) × (1 ≤ most → days_of_years (λ y. total_days (thirteen_months (is_french_leap y))) (most - 1) ≤ days)
+pub estimate : (days most : ℕ) → most ≡ 4_000 * (days + 2) / 1_460_969
+    → (days < days_of_years (λ y. total_days (thirteen_months (is_french_leap y))) (most + 1))
+    × (1 ≤ most → days_of_years (λ y. total_days (thirteen_months (is_french_leap y))) (most - 1) ≤ days)
 estimate days most e = omega (arith, e, french_sum (most + 1), french_sum (most - 1))

@@ -1,31 +1,39 @@
 -- Gregorian years in closed form, and jiff's dates by the rules.
-use Rattle.std.proofs.Common.{◌≡◌, ◌↔◌, ℕ, zero, suc, ◌+◌, ◌-◌, ◌/◌, ◌≤◌, Bool, refl, sym, ◌∙◌, cond, arith, ℤ, pos, negsuc, neg_ℤ, ◌+ℤ◌, ◌-ℤ◌, ◌*ℤ◌, ◌≤ℤ◌, ◌<ℤ◌}
+use Rattle.std.proofs.Common.{◌≡◌, ◌↔◌, ℕ, zero, suc, ◌+◌, ◌-◌, ◌/◌, ◌≤◌, Bool, refl, sym, ◌∙◌, cond, arith, ℤ, pos}
+use Rattle.std.proofs.Common.{negsuc, neg_ℤ, ◌+ℤ◌, ◌-ℤ◌, ◌*ℤ◌, ◌≤ℤ◌, ◌<ℤ◌}
 use Rattle.std.proofs.lemmas.Bool.Decides.{nat_tests}
 use Rattle.std.specs.Int.{int_div_euclid}
 use Rattle.day_numbers.specs.Days.{IsDayNumber, IsBetween}
-use Rattle.day_numbers.specs.Rules.{with_zero, HasYear, IsDateOf, year_length, year_start, days_of_month, days_before_month, day_number_of}
+use Rattle.day_numbers.specs.Rules.{with_zero, HasYear, IsDateOf, year_length, year_start, days_of_month}
+use Rattle.day_numbers.specs.Rules.{days_before_month, day_number_of}
 use Rattle.day_numbers.proofs.RulesLemmas.{next_year, start_is, start_is_from, date_in_year}
 use Rattle.day_numbers.proofs.SignedArithmetic.{signed_arith}
 use Rattle.solar_calendars.specs.TwelveMonths.{twelve_months}
 use Rattle.solar_calendars.specs.Gregorian.{gregorian_rules, is_gregorian_leap}
-use Rattle.jiff_core.specs.Calendar.{is_leap_year, days_in_year, days_in_month, days_of_months, day_count, days_from_civil, IsDate, IsEpochDay}
+use Rattle.jiff_core.specs.Calendar.{is_leap_year, days_in_year, days_in_month, days_of_months, day_count}
+use Rattle.jiff_core.specs.Calendar.{days_from_civil, IsDate, IsEpochDay}
 use Rattle.jiff_core.specs.declared.civil.date.Date.{Date}
 use Rattle.jiff_core.specs.Date.{epoch_day, ordinal}
 use Rattle.jiff_core.proofs.DateLemmas.{epoch_day_range}
-use Rattle.jiff_core.proofs.CalendarLemmas.{day_count-next_year, days_from_civil-day_count, days_of_months_table, day_count-day_of_year}
+use Rattle.jiff_core.proofs.CalendarLemmas.{day_count-next_year, days_from_civil-day_count, days_of_months_table}
+use Rattle.jiff_core.proofs.CalendarLemmas.{day_count-day_of_year}
 use Rattle.jiff_core.proofs.MarchLemmas.{day_count-early}
 
 abbrev pub closed : ℤ → ℤ
-closed y = pos 365 *ℤ (y -ℤ pos 1) +ℤ int_div_euclid (y -ℤ pos 1) (pos 4) -ℤ int_div_euclid (y -ℤ pos 1) (pos 100) +ℤ int_div_euclid (y -ℤ pos 1) (pos 400) +ℤ pos 1
+closed y =
+    pos 365 *ℤ (y -ℤ pos 1) +ℤ int_div_euclid (y -ℤ pos 1) (pos 4) -ℤ int_div_euclid (y -ℤ pos 1) (pos 100)
+    +ℤ int_div_euclid (y -ℤ pos 1) (pos 400) +ℤ pos 1
 
 pub length_is : (y : ℤ) → year_length gregorian_rules y ≡ 365 + cond (is_gregorian_leap y) 1 0
 length_is y = grind arith
 
 -- a leap day goes with a quotient that steps
-leap_early : (m : ℕ) → cond (is_gregorian_leap (negsuc m)) 1 0 + m / 4 + suc m / 100 + m / 400 ≡ suc m / 4 + m / 100 + suc m / 400
+leap_early : (m : ℕ) → cond (is_gregorian_leap (negsuc m)) 1 0 + m / 4 + suc m / 100 + m / 400
+    ≡ suc m / 4 + m / 100 + suc m / 400
 leap_early m = grind (arith, nat_tests)
 
-leap_late : (m : ℕ) → cond (is_gregorian_leap (pos (suc m))) 1 0 + m / 4 + suc m / 100 + m / 400 ≡ suc m / 4 + m / 100 + suc m / 400
+leap_late : (m : ℕ) → cond (is_gregorian_leap (pos (suc m))) 1 0 + m / 4 + suc m / 100 + m / 400
+    ≡ suc m / 4 + m / 100 + suc m / 400
 leap_late m = grind (arith, nat_tests)
 
 pub any_year : (y : ℤ) → HasYear with_zero y
@@ -33,7 +41,8 @@ any_year (pos zero) = tt
 any_year (pos (suc n)) = tt
 any_year (negsuc n) = tt
 
-gregorian_next : (y : ℤ) → HasYear with_zero y → closed (next_year with_zero y) ≡ closed y +ℤ pos (year_length gregorian_rules y)
+gregorian_next : (y : ℤ) → HasYear with_zero y
+    → closed (next_year with_zero y) ≡ closed y +ℤ pos (year_length gregorian_rules y)
 gregorian_next (pos zero) h = refl
 gregorian_next (pos (suc n)) h = omega (arith, signed_arith, length_is (pos (suc n)), leap_late n)
 gregorian_next (negsuc zero) h = refl
@@ -57,39 +66,56 @@ jiff_one = day_count-early (pos 1) 10000 1 1 refl (omega arith) (omega arith) (o
 abbrev jiff_start : ℤ → ℤ
 jiff_start y = days_from_civil y 1 1 +ℤ pos 719_163
 
-jiff_next : (y : ℤ) → HasYear with_zero y → negsuc 9999 ≤ℤ y → jiff_start (y +ℤ pos 1) ≡ jiff_start y +ℤ pos (year_length gregorian_rules y)
-jiff_next y h low = omega (arith, signed_arith, length_is y, leap_cond y, days_from_civil-day_count, day_count-next_year y (y +ℤ pos 1) low refl)
+jiff_next : (y : ℤ) → HasYear with_zero y → negsuc 9999 ≤ℤ y
+    → jiff_start (y +ℤ pos 1) ≡ jiff_start y +ℤ pos (year_length gregorian_rules y)
+jiff_next y h low =
+    omega (
+      arith,
+      signed_arith,
+      length_is y,
+      leap_cond y,
+      days_from_civil-day_count,
+      day_count-next_year y (y +ℤ pos 1) low refl,
+    )
 
 pub jiff_start_is : (y : ℤ) → negsuc 9999 ≤ℤ y → jiff_start y ≡ year_start gregorian_rules y
-jiff_start_is y low = start_is_from _ _ jiff_start 9999 (omega (arith, signed_arith, days_from_civil-day_count, jiff_one)) (λ y low. jiff_next y (any_year y) low) y low
+jiff_start_is y low =
+    start_is_from _ _ jiff_start 9999 (omega (arith, signed_arith, days_from_civil-day_count, jiff_one))
+    (λ y low. jiff_next y (any_year y) low) y low
 
 -- the months are jiff's
-month_days : (y : ℤ) (m : ℕ) → 1 ≤ m → m ≤ 12 → days_of_month (twelve_months (is_gregorian_leap y)) m ≡ days_in_month y m
+month_days : (y : ℤ) (m : ℕ) → 1 ≤ m → m ≤ 12
+    → days_of_month (twelve_months (is_gregorian_leap y)) m ≡ days_in_month y m
 month_days y m low high = rw (leap_same y) (grind (arith, nat_tests))
 
-month_before : (y : ℤ) (m : ℕ) → 1 ≤ m → m ≤ 12 → days_before_month (twelve_months (is_gregorian_leap y)) m ≡ days_of_months y (m - 1)
+month_before : (y : ℤ) (m : ℕ) → 1 ≤ m → m ≤ 12
+    → days_before_month (twelve_months (is_gregorian_leap y)) m ≡ days_of_months y (m - 1)
 month_before y m low high = rw (leap_same y) (grind (arith, nat_tests, days_of_months_table y (m - 1) (omega arith)))
 
 -- the leap days of so many years, and the first day of the year after them
-pub leap_days_are : (n a : ℤ) → a ≡ int_div_euclid n (pos 4) -ℤ int_div_euclid n (pos 100) +ℤ int_div_euclid n (pos 400) → year_start gregorian_rules (n +ℤ pos 1) ≡ pos 365 *ℤ n +ℤ a +ℤ pos 1
+pub leap_days_are : (n a : ℤ) → a ≡ int_div_euclid n (pos 4) -ℤ int_div_euclid n (pos 100) +ℤ int_div_euclid n (pos 400)
+    → year_start gregorian_rules (n +ℤ pos 1) ≡ pos 365 *ℤ n +ℤ a +ℤ pos 1
 leap_days_are n a e =
     let same : n +ℤ pos 1 -ℤ pos 1 ≡ n = omega (arith, signed_arith) in
     rw (← gregorian_start (n +ℤ pos 1) (any_year (n +ℤ pos 1)), same) (omega (arith, signed_arith, e))
 
-pub first_is : (y n a z : ℤ) → n ≡ y -ℤ pos 1 → year_start gregorian_rules (n +ℤ pos 1) ≡ pos 365 *ℤ n +ℤ a +ℤ pos 1 → z ≡ pos 365 *ℤ n +ℤ a +ℤ pos 1 → z ≡ year_start gregorian_rules y
+pub first_is : (y n a z : ℤ) → n ≡ y -ℤ pos 1 → year_start gregorian_rules (n +ℤ pos 1) ≡ pos 365 *ℤ n +ℤ a +ℤ pos 1
+    → z ≡ pos 365 *ℤ n +ℤ a +ℤ pos 1 → z ≡ year_start gregorian_rules y
 first_is y n a z e p s =
     let same : n +ℤ pos 1 ≡ y = omega (arith, signed_arith, e) in
     s ∙ sym (rw same at p)
 
 -- jiff's dates are the rules' dates
-valid_month : (y : ℤ) (m d : ℕ) → (1 ≤ m) × (m ≤ 12) → d ≤ days_of_month (twelve_months (is_gregorian_leap y)) m ↔ d ≤ days_in_month y m
+valid_month : (y : ℤ) (m d : ℕ) → (1 ≤ m) × (m ≤ 12)
+    → d ≤ days_of_month (twelve_months (is_gregorian_leap y)) m ↔ d ≤ days_in_month y m
 valid_month y m d h = rw (month_days y m h.0 h.1) (λ a. a, λ a. a)
 
 -- a month of the rules is one from 1 to 12
 month_in : (leap : Bool) (m d : ℕ) → 1 ≤ d → d ≤ days_of_month (twelve_months leap) m → (1 ≤ m) × (m ≤ 12)
 month_in leap m d a b = grind (arith, nat_tests)
 
-pub jiff_valid : (y : ℤ) (m d : ℕ) → IsBetween (neg_ℤ (pos 9_999)) (pos 9_999) y → IsDate y (pos m) (pos d) ↔ IsDateOf gregorian_rules y m d
+pub jiff_valid : (y : ℤ) (m d : ℕ) → IsBetween (neg_ℤ (pos 9_999)) (pos 9_999) y
+    → IsDate y (pos m) (pos d) ↔ IsDateOf gregorian_rules y m d
 jiff_valid y m d near = (
   λ h. let low : (1 ≤ m) × (m ≤ 12) = omega (arith, signed_arith, h.1) in
       (any_year y, omega (arith, signed_arith, h.2), (valid_month y m d low).1 (omega (arith, signed_arith, h.2))),
@@ -98,16 +124,26 @@ jiff_valid y m d near = (
 )
 
 -- and jiff's day numbers are theirs, but for where they begin
-pub jiff_number : (y : ℤ) (m d : ℕ) → negsuc 9999 ≤ℤ y → 1 ≤ m → m ≤ 12 → 1 ≤ d → days_from_civil y m d +ℤ pos 719_163 ≡ day_number_of gregorian_rules y m d
+pub jiff_number : (y : ℤ) (m d : ℕ) → negsuc 9999 ≤ℤ y → 1 ≤ m → m ≤ 12 → 1 ≤ d
+    → days_from_civil y m d +ℤ pos 719_163 ≡ day_number_of gregorian_rules y m d
 jiff_number y m d low a b first =
-    omega (arith, signed_arith, days_from_civil-day_count, day_count-day_of_year y m d first, jiff_start_is y low, month_before y m a b)
+    omega (
+      arith,
+      signed_arith,
+      days_from_civil-day_count,
+      day_count-day_of_year y m d first,
+      jiff_start_is y low,
+      month_before y m a b,
+    )
 
 -- the same of a date
 pub jiff_day : (d : Date) → epoch_day d +ℤ pos 719_163 ≡ day_number_of gregorian_rules d.year d.month d.day
-jiff_day d = jiff_number d.year d.month d.day (omega (arith, signed_arith, d.year_in)) d.month_in.0 d.month_in.1 d.day_in.0
+jiff_day d =
+    jiff_number d.year d.month d.day (omega (arith, signed_arith, d.year_in)) d.month_in.0 d.month_in.1 d.day_in.0
 
 -- a date is its year's first day and its place in the year
-pub jiff_place : (d : Date) → day_number_of gregorian_rules d.year d.month d.day +ℤ pos 1 ≡ day_number_of gregorian_rules d.year 1 1 +ℤ pos (ordinal d)
+pub jiff_place : (d : Date) → day_number_of gregorian_rules d.year d.month d.day +ℤ pos 1
+    ≡ day_number_of gregorian_rules d.year 1 1 +ℤ pos (ordinal d)
 jiff_place d = omega (arith, signed_arith, month_before d.year d.month d.month_in.0 d.month_in.1)
 
 pub jiff_range : (d : Date) → IsDayNumber (day_number_of gregorian_rules d.year d.month d.day)
@@ -118,19 +154,25 @@ pub first_date : (d : Date) → d.year ≡ pos 1 → pos d.month ≡ pos 1 → p
 first_date d y m k =
     let month : d.month ≡ 1 = omega (arith, signed_arith) in
     let day : d.day ≡ 1 = omega (arith, signed_arith) in
-    let one : day_number_of gregorian_rules d.year d.month d.day ≡ pos 1 = rw (y, month, day) (omega (arith, signed_arith, gregorian_start (pos 1) tt)) in
+    let one : day_number_of gregorian_rules d.year d.month d.day ≡ pos 1 =
+    rw (y, month, day) (omega (arith, signed_arith, gregorian_start (pos 1) tt)) in
     omega (arith, signed_arith, jiff_day d, one)
 
-pub can_reach : (first : Date) (n step : ℤ) → epoch_day first ≡ negsuc 719_161 → step ≡ n -ℤ pos 1 → IsDayNumber n → IsEpochDay (epoch_day first +ℤ step)
+pub can_reach : (first : Date) (n step : ℤ) → epoch_day first ≡ negsuc 719_161 → step ≡ n -ℤ pos 1 → IsDayNumber n
+    → IsEpochDay (epoch_day first +ℤ step)
 can_reach first n step e s h = omega (arith, signed_arith, e, s, h)
 
-pub reached : (first d : Date) (n step : ℤ) → epoch_day first ≡ negsuc 719_161 → step ≡ n -ℤ pos 1 → epoch_day d ≡ epoch_day first +ℤ step → day_number_of gregorian_rules d.year d.month d.day ≡ n
+pub reached : (first d : Date) (n step : ℤ) → epoch_day first ≡ negsuc 719_161 → step ≡ n -ℤ pos 1
+    → epoch_day d ≡ epoch_day first +ℤ step → day_number_of gregorian_rules d.year d.month d.day ≡ n
 reached first d n step e s h = omega (arith, signed_arith, e, s, h, jiff_day d)
 
 -- each date of jiff is one of the rules
 pub jiff_date_valid : (d : Date) → IsDateOf gregorian_rules d.year d.month d.day
-jiff_date_valid d = (jiff_valid d.year d.month d.day d.year_in).0 (d.year_in, omega (arith, signed_arith, d.month_in), omega (arith, signed_arith, d.day_in))
+jiff_date_valid d =
+    (jiff_valid d.year d.month d.day d.year_in).0
+    (d.year_in, omega (arith, signed_arith, d.month_in), omega (arith, signed_arith, d.day_in))
 
 -- and lies before the end of its year
-pub jiff_in_year : (d : Date) (n : ℤ) → day_number_of gregorian_rules d.year d.month d.day ≡ n → n <ℤ (year_start gregorian_rules d.year +ℤ pos (year_length gregorian_rules d.year))
+pub jiff_in_year : (d : Date) (n : ℤ) → day_number_of gregorian_rules d.year d.month d.day ≡ n
+    → n <ℤ (year_start gregorian_rules d.year +ℤ pos (year_length gregorian_rules d.year))
 jiff_in_year d n e = rw e at ((date_in_year gregorian_rules d.year d.month d.day (jiff_date_valid d)).1)

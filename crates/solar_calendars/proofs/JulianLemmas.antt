@@ -11,7 +11,8 @@ use Rattle.solar_calendars.specs.Julian.{julian_rules, years_before}
 abbrev pub closed : ℤ → ℤ
 closed y = pos 365 *ℤ years_before y +ℤ int_div_euclid (years_before y) (pos 4) -ℤ pos 1
 
-julian_next : (y : ℤ) → HasYear without_zero y → closed (next_year without_zero y) ≡ closed y +ℤ pos (year_length julian_rules y)
+julian_next : (y : ℤ) → HasYear without_zero y
+    → closed (next_year without_zero y) ≡ closed y +ℤ pos (year_length julian_rules y)
 julian_next (pos zero) h = absurd h
 julian_next (pos (suc n)) h = grind (arith, nat_tests, signed_arith)
 julian_next (negsuc zero) h = refl
@@ -27,20 +28,28 @@ before_next (negsuc zero) h = refl
 before_next (negsuc (suc n)) h = omega (arith, signed_arith)
 
 -- the years before n fill at most the days before n, and one more year fills more
-quotient : (n b : ℤ) → b ≡ int_div_euclid (pos 4 *ℤ n +ℤ pos 7) (pos 1461) → ((pos 365 *ℤ b +ℤ int_div_euclid b (pos 4) -ℤ pos 1) ≤ℤ n) × (n <ℤ (pos 365 *ℤ (b +ℤ pos 1) +ℤ int_div_euclid (b +ℤ pos 1) (pos 4) -ℤ pos 1))
+quotient : (n b : ℤ) → b ≡ int_div_euclid (pos 4 *ℤ n +ℤ pos 7) (pos 1461)
+    → ((pos 365 *ℤ b +ℤ int_div_euclid b (pos 4) -ℤ pos 1) ≤ℤ n)
+    × (n <ℤ (pos 365 *ℤ (b +ℤ pos 1) +ℤ int_div_euclid (b +ℤ pos 1) (pos 4) -ℤ pos 1))
 quotient n b e = omega (arith, signed_arith, e)
 
 -- so the year after them holds the day n
-pub julian_year_on : (n y x q : ℤ) → HasYear without_zero y → years_before y ≡ q → q ≡ int_div_euclid x (pos 1461) → x ≡ pos 4 *ℤ n +ℤ pos 7 → (year_start julian_rules y ≤ℤ n) × (n <ℤ (year_start julian_rules y +ℤ pos (year_length julian_rules y)))
+pub julian_year_on : (n y x q : ℤ) → HasYear without_zero y → years_before y ≡ q → q ≡ int_div_euclid x (pos 1461)
+    → x ≡ pos 4 *ℤ n +ℤ pos 7 → (year_start julian_rules y ≤ℤ n)
+    × (n <ℤ (year_start julian_rules y +ℤ pos (year_length julian_rules y)))
 julian_year_on n y x q h e d k =
     let q = quotient n (years_before y) (e ∙ d ∙ ap (λ z. int_div_euclid z (pos 1461)) k) in
-    let next : closed (next_year without_zero y) ≡ pos 365 *ℤ (years_before y +ℤ pos 1) +ℤ int_div_euclid (years_before y +ℤ pos 1) (pos 4) -ℤ pos 1 = ap (λ z. pos 365 *ℤ z +ℤ int_div_euclid z (pos 4) -ℤ pos 1) (before_next y h) in
+    let next : closed (next_year without_zero y)
+    ≡ pos 365 *ℤ (years_before y +ℤ pos 1) +ℤ int_div_euclid (years_before y +ℤ pos 1) (pos 4)
+    -ℤ pos 1 = ap (λ z. pos 365 *ℤ z +ℤ int_div_euclid z (pos 4) -ℤ pos 1) (before_next y h) in
     rw (← julian_start y h, ← julian_next y h) (q.0, rw next q.1)
 
-pub before_near : (y : ℤ) → IsBetween (neg_ℤ (pos 99_999)) (pos 99_999) y → IsBetween (neg_ℤ (pos 100_000)) (pos 100_000) (years_before y)
+pub before_near : (y : ℤ) → IsBetween (neg_ℤ (pos 99_999)) (pos 99_999) y
+    → IsBetween (neg_ℤ (pos 100_000)) (pos 100_000) (years_before y)
 before_near (pos n) h = omega (arith, signed_arith)
 before_near (negsuc n) h = omega (arith, signed_arith)
 
 -- the code's sum is the first day of the year
-pub julian_sum : (y b q z : ℤ) → HasYear without_zero y → b ≡ years_before y → q ≡ int_div_euclid b (pos 4) → z ≡ pos 365 *ℤ b +ℤ q -ℤ pos 1 → z ≡ year_start julian_rules y
+pub julian_sum : (y b q z : ℤ) → HasYear without_zero y → b ≡ years_before y → q ≡ int_div_euclid b (pos 4)
+    → z ≡ pos 365 *ℤ b +ℤ q -ℤ pos 1 → z ≡ year_start julian_rules y
 julian_sum y b q z h e f g = g ∙ rw (f, e) refl ∙ julian_start y h

@@ -38,7 +38,8 @@ made p q e h = subst (λ r. (g : AreParts r) → make p h ≡ make r g) e (λ g.
 
 roman_same : (d e : RomanDate) → parts_of d ≡ parts_of e → d ≡ e
 unfolding make
-roman_same d e p = made (parts_of d) (parts_of e) p (d.year_in, d.month_in, d.count_in) (e.year_in, e.month_in, e.count_in)
+roman_same d e p =
+    made (parts_of d) (parts_of e) p (d.year_in, d.month_in, d.count_in) (e.year_in, e.month_in, e.count_in)
 
 -- two valid Roman dates of one day are one date: both are the name of one Julian date
 pub one_roman_date : OneRomanDate

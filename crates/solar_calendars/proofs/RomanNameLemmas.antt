@@ -151,7 +151,8 @@ after_ides : (py y : ℤ) (pm m d : ℕ) (two : Bool) (name : RomanName) → day
     → two ≡ ((pm == 2) && is_julian_leap py) → name_after two (month_length py pm) d ≡ name
     → parts_on py pm d ≡ record { year = y; month = m; name = name }
 after_ides py y pm m d two name more e f t x =
-    rw (lt-leb d (day_of_ides pm) more) (same_parts e f (ap (λ (b : Bool). name_after b (month_length py pm) d) (sym t) ∙ x))
+    rw (lt-leb d (day_of_ides pm) more)
+    (same_parts e f (ap (λ (b : Bool). name_after b (month_length py pm) d) (sym t) ∙ x))
 
 last_month : (y : ℤ) (m : ℕ) (name : RomanName) (d : ℕ) → HasYear without_zero y → 1 ≤ m → m ≤ 12 → HasPlace y m name
     → prior_ides m < d → d ≤ prior_length y m → place (has_two_sixths y m) (day_of_ides m) name ≡ pos d -ℤ pos 1 -ℤ pos

@@ -15,10 +15,17 @@ length_is is_leap n = grind arith
 third_of_four_step : (n : ℕ) → cond (is_third_of_four (pos n)) 1 0 + n / 4 ≡ suc n / 4
 third_of_four_step n = grind (arith, nat_tests)
 
-pub third_of_four_sum : (n : ℕ) → days_of_years (λ y. total_days (thirteen_months (is_third_of_four y))) n ≡ 365 * n + (n + 1) / 4
+pub third_of_four_sum : (n : ℕ)
+    → days_of_years (λ y. total_days (thirteen_months (is_third_of_four y))) n ≡ 365 * n + (n + 1) / 4
 third_of_four_sum zero = years-zero _
 third_of_four_sum (suc n) =
-    omega (arith, years-suc (length_by is_third_of_four) n, length_is is_third_of_four (suc n), third_of_four_step (suc n), third_of_four_sum n)
+    omega (
+      arith,
+      years-suc (length_by is_third_of_four) n,
+      length_is is_third_of_four (suc n),
+      third_of_four_step (suc n),
+      third_of_four_sum n,
+    )
 
 pub never_sum : (n : ℕ) → days_of_years (λ y. total_days (thirteen_months (is_never y))) n ≡ 365 * n
 never_sum zero = years-zero _

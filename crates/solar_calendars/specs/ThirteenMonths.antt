@@ -13,7 +13,8 @@ thirteen_months leap =
 
 -- the calendar with this first day and these leap years
 abbrev pub thirteen_month_rules : ℤ → (ℤ → Bool) → Rules
-thirteen_month_rules first is_leap = record { epoch = first; years = from_one; months = λ y. thirteen_months (is_leap y) }
+thirteen_month_rules first is_leap =
+    record { epoch = first; years = from_one; months = λ y. thirteen_months (is_leap y) }
 
 -- the years 3, 7, 11, ..
 abbrev pub is_third_of_four : ℤ → Bool

@@ -6,4 +6,5 @@ use Rattle.day_numbers.specs.Rules.{numbered_from}
 
 -- a leap year has its leap day in February
 abbrev pub twelve_months : Bool → List Month
-twelve_months leap = numbered_from 1 (31 ∷ (if leap then 29 else 28) ∷ 31 ∷ 30 ∷ 31 ∷ 30 ∷ 31 ∷ 31 ∷ 30 ∷ 31 ∷ 30 ∷ 31 ∷ [])
+twelve_months leap =
+    numbered_from 1 (31 ∷ (if leap then 29 else 28) ∷ 31 ∷ 30 ∷ 31 ∷ 30 ∷ 31 ∷ 31 ∷ 30 ∷ 31 ∷ 30 ∷ 31 ∷ [])

@@ -1,7 +1,8 @@
-ghost use Rattle.std.specs.Prelude.{◌≡◌, pos, neg_ℤ, ◌+ℤ◌, ◌-ℤ◌, ◌*ℤ◌, ◌≤ℤ◌, ◌<ℤ◌, ◌↔◌, IsSome, IfSome};
+ghost use Rattle.std.specs.Prelude.{◌≡◌, pos, neg_ℤ, ◌+ℤ◌, ◌*ℤ◌, ◌≤ℤ◌, ◌<ℤ◌, ◌↔◌, IsSome, IfSome};
 ghost use Rattle.day_numbers.specs.Days.{IsDayNumber, IsBetween};
 ghost use Rattle.day_numbers.specs.Dates.{IsYear};
-ghost use Rattle.day_numbers.specs.Rules.{IsDateOf, day_number_of, year_start as start, year_length, HasDayOf, first_day_of};
+ghost use Rattle.day_numbers.specs.Rules.{IsDateOf, day_number_of, year_start as start, year_length, HasDayOf};
+ghost use Rattle.day_numbers.specs.Rules.{first_day_of};
 ghost use Rattle.day_numbers.proofs.DateLemmas.{rules_one_date, rules_have_days};
 ghost use Rattle.solar_calendars.specs.Gregorian.{gregorian_rules, is_gregorian_leap};
 

@@ -1,7 +1,8 @@
 ghost use Rattle.std.specs.Prelude.{◌≡◌, pos, neg_ℤ, ◌+ℤ◌, ◌≤ℤ◌, ◌<ℤ◌};
 ghost use Rattle.day_numbers.specs.Days.{IsBetween, IsDayNumber};
 ghost use Rattle.day_numbers.specs.Dates.{IsYear};
-ghost use Rattle.day_numbers.specs.Rules.{HasYear, without_zero, year_start as start, year_length, IsDateOf, day_number_of, first_day_of};
+ghost use Rattle.day_numbers.specs.Rules.{HasYear, without_zero, year_start as start, year_length, IsDateOf};
+ghost use Rattle.day_numbers.specs.Rules.{day_number_of, first_day_of};
 ghost use Rattle.day_numbers.proofs.DateLemmas.{rules_one_date, rules_have_days};
 ghost use Rattle.solar_calendars.specs.Julian.{julian_rules, is_julian_leap, years_before as count_before};
 

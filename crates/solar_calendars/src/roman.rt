@@ -4,8 +4,8 @@
 //! month: a name says how far a day lies from the Kalends of the month in the date, and a Julian day of the month has
 //! one name.
 
-ghost use Rattle.std.specs.Prelude.{◌≡◌, ◌↔◌, ◌≤◌, ◌<◌, ◌+◌, ◌-◌, ℕ, ℤ, pos, neg_ℤ, ◌+ℤ◌, ◌-ℤ◌, Bool};
-ghost use Rattle.std.specs.Prelude.{IsTrue, IsOk, IsSome, IfOk, IfSome, Err};
+ghost use Rattle.std.specs.Prelude.{◌≡◌, ◌↔◌, ◌≤◌, ◌<◌, ◌+◌, ◌-◌, pos, neg_ℤ, ◌-ℤ◌};
+ghost use Rattle.std.specs.Prelude.{IsOk, IsSome, IfOk, IfSome, Err};
 ghost use Rattle.day_numbers.specs.Days.{IsBetween, IsDayNumber};
 ghost use Rattle.day_numbers.specs.Dates.{IsYear};
 ghost use Rattle.day_numbers.specs.Rules.{HasYear, without_zero};
@@ -13,7 +13,8 @@ ghost use Rattle.solar_calendars.specs.Roman.{day_of_nones as nones_spec, day_of
 ghost use Rattle.solar_calendars.specs.Roman.{kalends as kalends_spec};
 ghost use Rattle.solar_calendars.specs.Roman.{has_two_sixths as two_sixths, days_back, count_of};
 ghost use Rattle.solar_calendars.specs.Roman.{roman_day_number, IsRomanDate};
-ghost use Rattle.solar_calendars.specs.RomanPlaces.{month_length, prior_length, prior_ides, HasPlace, place as place_spec};
+ghost use Rattle.solar_calendars.specs.RomanPlaces.{month_length, prior_length, prior_ides, HasPlace};
+ghost use Rattle.solar_calendars.specs.RomanPlaces.{place as place_spec};
 ghost use Rattle.solar_calendars.specs.RomanPlaces.{name_within as within_spec, name_after as after_spec};
 ghost use Rattle.solar_calendars.specs.RomanPlaces.{year_of_next_month as next_year_spec, parts_on, parts_of};
 ghost use Rattle.solar_calendars.specs.declared.roman_date.RomanDate.{RomanDate};

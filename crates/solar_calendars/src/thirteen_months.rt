@@ -5,7 +5,8 @@
 ghost use Rattle.std.specs.Prelude.{◌≡◌, ◌≤◌, ◌<◌, ◌+◌, Bool, ℤ, pos, neg_ℤ, IsTrue, length};
 ghost use Rattle.day_numbers.specs.Days.{IsBetween};
 ghost use Rattle.day_numbers.specs.Rules.{days_of_years as days_of, total_days, are_months};
-ghost use Rattle.solar_calendars.specs.ThirteenMonths.{thirteen_months as thirteen_months_of, is_third_of_four, is_never};
+ghost use Rattle.solar_calendars.specs.ThirteenMonths.{thirteen_months as thirteen_months_of, is_third_of_four};
+ghost use Rattle.solar_calendars.specs.ThirteenMonths.{is_never};
 
 use day_numbers::from_year_one::FromYearOne;
 use day_numbers::rules::Month;

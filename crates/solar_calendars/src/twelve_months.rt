@@ -1,6 +1,6 @@
 //! The months of the Gregorian and the Julian year.
 
-ghost use Rattle.std.specs.Prelude.{◌≡◌, ◌≤◌, Bool, IsTrue, length};
+ghost use Rattle.std.specs.Prelude.{◌≡◌, ◌≤◌, IsTrue, length};
 ghost use Rattle.day_numbers.specs.Rules.{are_months};
 ghost use Rattle.solar_calendars.specs.TwelveMonths.{twelve_months as twelve_months_of};
 

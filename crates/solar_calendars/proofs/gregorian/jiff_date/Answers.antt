@@ -13,5 +13,6 @@ returns-clause-valid c =
     let y : FitsSigned w32 c.year.result = search rules in
     let y16 : FitsSigned w16 c.year.result = omega (arith, signed_arith) in
     let succeeds = simp to_z-of_z at c.new.ensures.succeeds in
-    let dated : IsOk c.new.result ↔ IsDate c.args.date.year (pos c.args.date.month) (pos c.args.date.day) = rw (c.year.ensures, month, day) at succeeds in
+    let dated : IsOk c.new.result ↔ IsDate c.args.date.year (pos c.args.date.month) (pos c.args.date.day) =
+    rw (c.year.ensures, month, day) at succeeds in
     (λ some. valid.0 (dated.0 (sym c.ok.ensures.variant ∙ some)), λ date. c.ok.ensures.variant ∙ dated.1 (valid.1 date))

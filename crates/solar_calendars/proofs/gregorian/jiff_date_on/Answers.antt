@@ -20,4 +20,5 @@ returns c =
     let only = simp to_z-of_z at c.days.ensures in
     let first = first_date c.date.result c.date.ensures.0 c.date.ensures.1 c.date.ensures.2 in
     let value = rw c.unwrap.ensures at c.checked_add.ensures.value in
-    reached c.date.result c.unwrap.result c.args.day _ first refl (value ∙ date_add-days c.date.result (c.args.day -ℤ pos 1) c.days.result only)
+    reached c.date.result c.unwrap.result c.args.day _ first refl
+    (value ∙ date_add-days c.date.result (c.args.day -ℤ pos 1) c.days.result only)

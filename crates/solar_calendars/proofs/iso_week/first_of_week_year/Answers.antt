@@ -11,4 +11,5 @@ returns-clause-value c =
     let third : FitsSigned w64 (c.first_of_year.result +ℤ pos 3) = omega (arith, signed_arith) in
     let first_is = simp to_z-of_z at c.first_of_year.ensures.value in
     let monday_is = simp to_z-of_z at c.monday_on_or_before.ensures in
-    simp to_z-of_z (week_year_is c.args.year c.first_of_year.result _ c.monday_on_or_before.result first_is refl monday_is)
+    simp to_z-of_z (week_year_is c.args.year c.first_of_year.result _ c.monday_on_or_before.result first_is refl
+    monday_is)

@@ -8,7 +8,9 @@ returns-then-number-first_of_week_year-clause-valid c =
     let r : FitsSigned w64 c.number_of-number.result = search rules in
     let y64 : FitsSigned w64 c.year-year.result = omega (arith, signed_arith) in
     let next : FitsSigned w64 (c.year-year.result +ℤ pos 1) = omega (arith, signed_arith) in
-    let number = rw (c.year-year.ensures, c.month-week.ensures, c.day-weekday.ensures) at (simp to_z-of_z at c.number_of-number.ensures) in
+    let number =
+    rw (c.year-year.ensures, c.month-week.ensures, c.day-weekday.ensures)
+    at (simp to_z-of_z at c.number_of-number.ensures) in
     let f : FitsSigned w64 c.first_of_week_year.result = search rules in
     let end = rw c.year-year.ensures at (simp to_z-of_z at c.first_of_week_year.ensures.value) in
     let less = simp to_z-of_z at c.if-number-first_of_week_year.true in
@@ -20,7 +22,9 @@ returns-then-number-first_of_week_year-clause-value c =
     let r : FitsSigned w64 c.number_of-number.result = search rules in
     let y64 : FitsSigned w64 c.year-year.result = omega (arith, signed_arith) in
     let next : FitsSigned w64 (c.year-year.result +ℤ pos 1) = omega (arith, signed_arith) in
-    let number = rw (c.year-year.ensures, c.month-week.ensures, c.day-weekday.ensures) at (simp to_z-of_z at c.number_of-number.ensures) in
+    let number =
+    rw (c.year-year.ensures, c.month-week.ensures, c.day-weekday.ensures)
+    at (simp to_z-of_z at c.number_of-number.ensures) in
     simp to_z-of_z number
 
 pub returns-else-number-first_of_week_year-clause-valid : goal.returns-else-number-first_of_week_year-clause-valid
@@ -29,7 +33,9 @@ returns-else-number-first_of_week_year-clause-valid c =
     let r : FitsSigned w64 c.number_of-number.result = search rules in
     let y64 : FitsSigned w64 c.year-year.result = omega (arith, signed_arith) in
     let next : FitsSigned w64 (c.year-year.result +ℤ pos 1) = omega (arith, signed_arith) in
-    let number = rw (c.year-year.ensures, c.month-week.ensures, c.day-weekday.ensures) at (simp to_z-of_z at c.number_of-number.ensures) in
+    let number =
+    rw (c.year-year.ensures, c.month-week.ensures, c.day-weekday.ensures)
+    at (simp to_z-of_z at c.number_of-number.ensures) in
     let f : FitsSigned w64 c.first_of_week_year.result = search rules in
     let end = rw c.year-year.ensures at (simp to_z-of_z at c.first_of_week_year.ensures.value) in
     let less = simp to_z-of_z at c.if-number-first_of_week_year.false in

@@ -43,5 +43,7 @@ returns-clause-value c =
     let start_is = simp to_z-of_z at c.first_of_week_year.ensures.value in
     let days = simp to_z-of_z at c.days_before-days.ensures.value in
     let value = simp to_z-of_z at c.new.ensures.value in
-    let date = week_date_is c.number-number.result c.week_year_on-year.result c.first_of_week_year.result c.days_before-days.result (after, before) start_is days in
+    let date =
+    week_date_is c.number-number.result c.week_year_on-year.result c.first_of_week_year.result
+    c.days_before-days.result (after, before) start_is days in
     IfSome_then c.new.result value (λ d e. rw (e.0, e.1, e.2, ← c.number-number.ensures.value) date)

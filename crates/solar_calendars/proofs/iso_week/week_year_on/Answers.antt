@@ -13,7 +13,8 @@ returns-clause-after c =
     let thursday : FitsSigned w64 (c.monday_on_or_before-monday.result +ℤ pos 3) = omega (arith, signed_arith) in
     let after = simp to_z-of_z at c.year_on.ensures.after in
     let before = simp to_z-of_z at c.year_on.ensures.before in
-    simp to_z-of_z ((in_week_year c.args.day c.monday_on_or_before-monday.result c.year_on.result monday after before).0)
+    simp to_z-of_z ((in_week_year c.args.day c.monday_on_or_before-monday.result c.year_on.result monday after
+    before).0)
 
 pub returns-clause-before : goal.returns-clause-before
 returns-clause-before c =
@@ -25,4 +26,5 @@ returns-clause-before c =
     let thursday : FitsSigned w64 (c.monday_on_or_before-monday.result +ℤ pos 3) = omega (arith, signed_arith) in
     let after = simp to_z-of_z at c.year_on.ensures.after in
     let before = simp to_z-of_z at c.year_on.ensures.before in
-    simp to_z-of_z ((in_week_year c.args.day c.monday_on_or_before-monday.result c.year_on.result monday after before).1)
+    simp to_z-of_z ((in_week_year c.args.day c.monday_on_or_before-monday.result c.year_on.result monday after
+    before).1)

@@ -10,7 +10,8 @@ returns-clause-value c =
     let before_is = simp to_z-of_z at c.years_before-before.ensures in
     let quotient_is = simp to_z-of_z at c.div_euclid.ensures in
     let near = before_near c.args.year c.requires.near in
-    julian_sum c.args.year c.years_before-before.result c.div_euclid.result _ c.requires.has before_is quotient_is (omega (arith, signed_arith, near, before_is, quotient_is))
+    julian_sum c.args.year c.years_before-before.result c.div_euclid.result _ c.requires.has before_is quotient_is
+    (omega (arith, signed_arith, near, before_is, quotient_is))
 
 pub returns-clause-near : goal.returns-clause-near
 returns-clause-near c =

@@ -14,6 +14,7 @@ returns-else-days_of_years-days-clause-after c =
 
 pub returns-else-days_of_years-days-clause-before : goal.returns-else-days_of_years-days-clause-before
 returns-else-days_of_years-days-clause-before c =
-    let at_least_one : 1 ≤ 4_000 * (c.args.days + 2) / 1_460_969 = omega (arith, french_sum (4_000 * (c.args.days + 2) / 1_460_969)) in
+    let at_least_one : 1 ≤ 4_000 * (c.args.days + 2) / 1_460_969 =
+    omega (arith, french_sum (4_000 * (c.args.days + 2) / 1_460_969)) in
     let same : 4_000 * (c.args.days + 2) / 1_460_969 - 1 + 1 ≡ 4_000 * (c.args.days + 2) / 1_460_969 = omega arith in
     rw same (omega (arith, french_sum (4_000 * (c.args.days + 2) / 1_460_969)))

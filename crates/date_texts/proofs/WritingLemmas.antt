@@ -24,6 +24,17 @@ hundred_and n h =
     let rest : (100 + n) % 100 ≡ n = omega arith in
     decimal_pair (100 + n) (omega arith) (omega arith) ∙ rw (hundreds, rest, decimal_digit 1 (omega arith)) refl
 
+-- a digit after a digit one
+ten_and : (n : ℕ) → n ≤ 9 → decimal (10 + n) ≡ 49 ∷ (48 + n) ∷ []
+ten_and n h =
+    let tens : (10 + n) / 10 ≡ 1 = omega arith in
+    let ones : (10 + n) % 10 ≡ n = omega arith in
+    decimal_two (10 + n) (omega arith) (omega arith) ∙ rw (tens, ones) refl
+
+-- a number of two digits
+pub two_wide : (n : ℕ) → 10 ≤ n → n ≤ 99 → padded 2 n ≡ decimal n
+two_wide n g h = two_digits n h ∙ sym (decimal_two n g (omega arith))
+
 -- a year of four digits or fewer
 small_year : (n : ℕ) → n < 100 → padded 4 n ≡ 48 ∷ 48 ∷ padded 2 n
 small_year n h =
@@ -69,3 +80,15 @@ three_long n digits h p = ap length (p ∙ hundred_and n h)
 
 pub two_long : (n : ℕ) → n ≤ 99 → length (padded 2 n) ≡ 2
 two_long n h = ap length (two_digits n h)
+
+-- the last of two digits
+pub last_one : (n : ℕ) (digits part : List ℕ) → n ≤ 9 → digits ≡ decimal (10 + n) → part ≡ take 1 (drop 1 digits)
+    → part ≡ decimal n
+last_one n digits part h p e =
+    e ∙ ap (λ (ds : List ℕ). take 1 (drop 1 ds)) (p ∙ ten_and n h) ∙ sym (decimal_digit n (omega arith))
+
+pub ten_long : (n : ℕ) (digits : List ℕ) → n ≤ 9 → digits ≡ decimal (10 + n) → length digits ≡ 2
+ten_long n digits h p = ap length (p ∙ ten_and n h)
+
+pub one_long : (n : ℕ) → n ≤ 9 → length (decimal n) ≡ 1
+one_long n h = length_one n (omega arith)

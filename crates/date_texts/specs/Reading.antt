@@ -1,5 +1,5 @@
--- Reading from left to right, as the reader's private functions do. The grammar in `DateText` stands
--- apart from it, and lemmas tie the two.
+-- Reading from left to right, as the reader's private functions do. No public contract cites this file: the grammar
+-- in `DateText` stands apart from it, and lemmas tie the two.
 use Rattle.std.specs.Prelude.{ℕ, zero, suc, ◌+◌, ◌-◌, ◌*◌, List, [], ◌∷◌, Option, Some, None, ℤ, pos, neg_ℤ, ◌==◌}
 use Rattle.std.specs.Prelude.{if◌then◌else◌, codes}
 use Rattle.std.specs.Char.{is_ascii_digit, to_ascii_lowercase}

@@ -60,6 +60,7 @@ fn push_cell(text: &mut ArrayString<24>, target: Target, day: Day)
 /// that the calendar has on that day, and empty before the calendar's first day. For the haab it is the
 /// day of the month, without leading zeros, a space and the name of the month, and for the tzolkin the
 /// number, a space and the name.
+#[inline(always)]
 pub fn cell(target: Target, day: Day) -> ArrayString<24>
     ensures value { IsCell target day.number result.bytes }
     ensures only { (text : List ℕ) → IsCell target day.number text → text ≡ result.bytes }

@@ -103,6 +103,17 @@ pub fn push_two_digits(text: &mut ArrayString<24>, number: u8)
     text.push_str(&Buffer::new().format(100 + number as u16)[1..3]);
 }
 
+/// Appends a number of one digit.
+fn push_digit(text: &mut ArrayString<24>, number: u8)
+    requires room { array_string_len text.old ≤ 23 }
+    requires small { number ≤ 9 }
+    ensures bytes { text.new.bytes ≡ text.old.bytes ++ decimal number }
+    ensures len { array_string_len text.new ≡ array_string_len text.old + 1 }
+{
+    // The last of always two digits.
+    text.push_str(&Buffer::new().format(10 + number as u16)[1..2]);
+}
+
 /// Appends a number in decimal.
 pub fn push_number(text: &mut ArrayString<24>, number: u16)
     requires room { array_string_len text.old ≤ 20 }
@@ -110,6 +121,15 @@ pub fn push_number(text: &mut ArrayString<24>, number: u16)
     ensures bytes { text.new.bytes ≡ text.old.bytes ++ decimal number }
     ensures len { array_string_len text.new ≤ array_string_len text.old + 4 }
 {
+    // Most numbers have one digit or two.
+    if number < 10 {
+        push_digit(text, number as u8);
+        return;
+    }
+    if number < 100 {
+        push_two_digits(text, number as u8);
+        return;
+    }
     text.push_str(Buffer::new().format(number));
 }
 

@@ -7,7 +7,7 @@ use day_numbers::DateFault;
 /// Why a record is refused. A record is refused by the first that applies, in this order.
 #[derive(Clone, Copy, PartialEq, Eq, Debug)]
 pub enum Refusal {
-    /// The record has not three fields.
+    /// The record has not as many fields as a register of its form.
     FieldCount,
     /// A field is over its limit in bytes.
     FieldTooLong,

@@ -311,6 +311,7 @@ fn check_cells(rt: &impl Abort, line: &str) -> Result<(), Fail> {
     let (number, cells) = line.split_once(',').ok_or("a line of cells")?;
     let number = number.parse().ok().ok_or("a number")?;
     let day = Day::new(number).ok_or("a day in range")?;
+    assert_eq!(rt; cells.split(',').count(), MAX_TARGETS, "in {line}");
     for (target, text) in Target::ALL.into_iter().zip(cells.split(',')) {
         assert_eq!(rt; cell(target, day).as_str(), text, "at {}", target.name());
     }

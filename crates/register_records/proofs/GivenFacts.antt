@@ -1,12 +1,15 @@
 -- What a step of a reader of entries does to those that it gave.
-use Rattle.std.proofs.Common.{◌≡◌, suc, ◌<◌, ◌≤◌, ◌+◌, ◌++◌, ℕ, List, [], ◌∷◌, length, Bool, Option, Some, None, true, false, refl, sym, ap, ◌∙◌, arith, append_assoc}
+use Rattle.std.proofs.Common.{◌≡◌, suc, ◌<◌, ◌≤◌, ◌+◌, ◌++◌, ℕ, List, [], ◌∷◌, length, Bool, Option, Some, None, true}
+use Rattle.std.proofs.Common.{false, refl, sym, ap, ◌∙◌, arith, append_assoc}
 use Rattle.std.specs.Prelude.{IfSome, nat_lt, option_map}
 use Rattle.std.proofs.Math.Logic.{∥∥₁_map}
 use Rattle.std.proofs.lemmas.Bool.Decides.{nat_tests}
 use Rattle.std.proofs.lemmas.List.{append-nil, append_cancel_left, length-append}
 use Rattle.std.specs.declared.snapshot.Snapshot.{Snapshot}
 use Rattle.register_records.specs.Headers.{IsHeader}
-use Rattle.register_records.specs.Entries.{Fields, Format, HasEntries, HasFirstEntries, HasTooMany, IsNotSealed, Numbered, body_of, body_seen, entries_from, format_by, record_limit, text_records}
+use Rattle.register_records.specs.Entries.{Fields, Format, HasEntries, HasFirstEntries, HasTooMany, IsNotSealed}
+use Rattle.register_records.specs.Entries.{Numbered, body_of, body_seen, entries_from, format_by, record_limit}
+use Rattle.register_records.specs.Entries.{text_records}
 use Rattle.register_records.specs.Seals.{AreClosed, before_seal, entry_records, is_seal}
 use Rattle.register_records.specs.Seen.{entries_shown, entry_body, entry_number, entry_seen}
 use Rattle.register_records.specs.ReadingState.{EndsAt, Gives, HasEntry, IsNoSeal, LacksSeal, Stands, TakesFirst}
@@ -19,7 +22,8 @@ if-some None P Q f h = tt
 if-some (Some x) P Q f h = f x h
 
 -- a record that is no seal comes before the first seal
-pub no-seal-first : (form : Form) (r : Fields) (rest : List Fields) → IsNoSeal form r → entry_records form (r ∷ rest) ≡ r ∷ entry_records form rest
+pub no-seal-first : (form : Form) (r : Fields) (rest : List Fields) → IsNoSeal form r
+    → entry_records form (r ∷ rest) ≡ r ∷ entry_records form rest
 unfolding before_seal
 no-seal-first Plain r rest h = refl
 no-seal-first Sealed r rest h = rw h refl
@@ -49,7 +53,8 @@ entries-none form k = refl
 
 -- a first record that is a header
 pub stands-first : (o : Option (List ℕ)) (y : Option (List Fields)) (format : Format) (f : Fields)
-    → TakesFirst (option_map (text_records format.delimiter) o) y f → IsHeader format.form f → IfSome o (λ text. Stands format text false false y [])
+    → TakesFirst (option_map (text_records format.delimiter) o) y f → IsHeader format.form f
+    → IfSome o (λ text. Stands format text false false y [])
 stands-first None y format f t h = tt
 stands-first (Some text) None format f t h = absurd t
 stands-first (Some text) (Some rest) format f t h =
@@ -70,15 +75,19 @@ module _ (format : Format) (text : List ℕ) where
 
   -- one more entry
   stands-more : (left left2 : Option (List Fields)) (given : List Numbered) (f : Fields) (x : Numbered)
-      → Stands format text false false left given → TakesFirst left left2 f → IsNoSeal form f → length given < record_limit
-      → x ≡ record { number = length given + 1; body = body_of form f } → Stands format text false false left2 (given ++ x ∷ [])
-  stands-more None left2 given f x s t n h e = absurd (let q : ◌≡◌ {A = Option (List Fields)} None (Some s.rest) = s.left_is refl refl in cc)
+      → Stands format text false false left given → TakesFirst left left2 f → IsNoSeal form f
+      → length given < record_limit
+      → x ≡ record { number = length given + 1; body = body_of form f }
+      → Stands format text false false left2 (given ++ x ∷ [])
+  stands-more None left2 given f x s t n h e =
+      absurd (let q : ◌≡◌ {A = Option (List Fields)} None (Some s.rest) = s.left_is refl refl in cc)
   stands-more (Some rows) None given f x s t n h e = absurd t
   stands-more (Some rows) (Some rest2) given f x s t n h e =
       let same : rows ≡ s.rest = cc (s.left_is refl refl) in
       let rest_is : s.rest ≡ f ∷ rest2 = sym same ∙ t in
       let longer : length (given ++ x ∷ []) ≡ length given + 1 = length-append given (x ∷ []) in
-      let joined : (s.past ++ f ∷ []) ++ rest2 ≡ s.past ++ s.rest = append_assoc s.past (f ∷ []) rest2 ∙ ap (λ (t : List Fields). s.past ++ t) (sym rest_is) in
+      let joined : (s.past ++ f ∷ []) ++ rest2 ≡ s.past ++ s.rest =
+      append_assoc s.past (f ∷ []) rest2 ∙ ap (λ (t : List Fields). s.past ++ t) (sym rest_is) in
       record {
         past = s.past ++ f ∷ [];
         rest = rest2;
@@ -87,20 +96,28 @@ module _ (format : Format) (text : List ℕ) where
         no_seal = λ more.
             ap (entry_records form) (append_assoc s.past (f ∷ []) more)
             ∙ (s.no_seal (f ∷ more)
-            ∙ (ap (λ (t : List Fields). s.past ++ t) (no-seal-first form f more n) ∙ sym (append_assoc s.past (f ∷ []) (entry_records form more))));
+            ∙ (ap (λ (t : List Fields). s.past ++ t) (no-seal-first form f more n)
+            ∙ sym (append_assoc s.past (f ∷ []) (entry_records form more))));
         followed = λ more.
             ap (entries_from form 0) (append_assoc s.past (f ∷ []) more)
-            ∙ (s.followed (f ∷ more) ∙ rw (longer, e, first-entry form (length given) f more h) (sym (append_assoc given _ _)));
+            ∙ (s.followed (f ∷ more) ∙ rw (longer, e, first-entry form (length given) f more h)
+            (sym (append_assoc given _ _)));
         left_is = λ _ _. refl;
         ended = λ d. absurd (cc);
       }
 
-  first-given : (failed done : Bool) (left : Option (List Fields)) (given : List Numbered) → Stands format text failed done left given → HasFirstEntries format text given
-  first-given failed done left given s =
-      (s.past ++ s.rest, entries_from form (length given) (entry_records form s.rest), s.accepted, ap (entries_from form 0) (s.no_seal s.rest) ∙ s.followed (entry_records form s.rest))
+  first-given : (failed done : Bool) (left : Option (List Fields)) (given : List Numbered)
+      → Stands format text failed done left given → HasFirstEntries format text given
+  first-given failed done left given s = (
+    s.past ++ s.rest,
+    entries_from form (length given) (entry_records form s.rest),
+    s.accepted,
+    ap (entries_from form 0) (s.no_seal s.rest) ∙ s.followed (entry_records form s.rest),
+  )
 
   -- those before the end
-  past-records : (failed done : Bool) (left : Option (List Fields)) (given : List Numbered) (s : Stands format text failed done left given)
+  past-records : (failed done : Bool) (left : Option (List Fields)) (given : List Numbered)
+      (s : Stands format text failed done left given)
       → entry_records form s.rest ≡ [] → entry_records form (s.past ++ s.rest) ≡ s.past
   past-records failed done left given s e = s.no_seal s.rest ∙ rw e (append-nil s.past)
 
@@ -108,19 +125,22 @@ module _ (format : Format) (text : List ℕ) where
   ends-none Plain count rows e = e
   ends-none Sealed count rows e = rw e.1 (seal-first e.0 [] e.2)
 
-  closed-so : (k : Form) (past rest : List Fields) → entry_records k (past ++ rest) ≡ past → EndsAt k (length past) rest → AreClosed k (past ++ rest)
+  closed-so : (k : Form) (past rest : List Fields) → entry_records k (past ++ rest) ≡ past → EndsAt k (length past) rest
+      → AreClosed k (past ++ rest)
   closed-so Plain past rest e h = tt
   closed-so Sealed past rest e h = (h.0, rw (e, h.1) refl, h.2, rw e h.3)
 
   -- what a text of these records that is closed says of the rest
-  ends-so : (k : Form) (past rest : List Fields) → entry_records k rest ≡ [] → entry_records k (past ++ rest) ≡ past → AreClosed k (past ++ rest) → EndsAt k (length past) rest
+  ends-so : (k : Form) (past rest : List Fields) → entry_records k rest ≡ [] → entry_records k (past ++ rest) ≡ past
+      → AreClosed k (past ++ rest) → EndsAt k (length past) rest
   ends-so Plain past rest n e c = n
   ends-so Sealed past rest n e c = (c.0, append_cancel_left past rest (c.0 ∷ []) (c.1 ∙ rw e refl), c.2, rw e at c.3)
 
   -- the text ends after the entries given
   all-given : (left : Option (List Fields)) (given : List Numbered) → Stands format text false false left given
       → IfSome left (EndsAt form (length given)) → length given ≤ record_limit → HasEntries format text given
-  all-given None given s e h = absurd (let q : ◌≡◌ {A = Option (List Fields)} None (Some s.rest) = s.left_is refl refl in cc)
+  all-given None given s e h =
+      absurd (let q : ◌≡◌ {A = Option (List Fields)} None (Some s.rest) = s.left_is refl refl in cc)
   all-given (Some rows) given s e h =
       let same : rows ≡ s.rest = cc (s.left_is refl refl) in
       let ends : EndsAt form (length given) s.rest = rw (← same) e in
@@ -128,11 +148,13 @@ module _ (format : Format) (text : List ℕ) where
         s.past ++ s.rest,
         s.accepted,
         (rw before (omega (arith, s.counted, h)), closed-so form s.past s.rest before (rw s.counted ends)),
-        sym (ap (entries_from form 0) (before ∙ sym (append-nil s.past)) ∙ (s.followed [] ∙ rw (entries-none form (length given)) (append-nil given))),
+        sym (ap (entries_from form 0) (before ∙ sym (append-nil s.past))
+            ∙ (s.followed [] ∙ rw (entries-none form (length given)) (append-nil given))),
       )
 
   stands-end : (left left2 : Option (List Fields)) (given : List Numbered) → Stands format text false false left given
-      → IfSome left (EndsAt form (length given)) → length given ≤ record_limit → Stands format text false true left2 given
+      → IfSome left (EndsAt form (length given)) → length given ≤ record_limit
+      → Stands format text false true left2 given
   stands-end left left2 given s e h =
       record {
         past = s.past;
@@ -146,7 +168,8 @@ module _ (format : Format) (text : List ℕ) where
       }
 
   -- a call failed
-  stands-failed : (failed done : Bool) (left left2 : Option (List Fields)) (given : List Numbered) → Stands format text failed done left given → Stands format text true done left2 given
+  stands-failed : (failed done : Bool) (left left2 : Option (List Fields)) (given : List Numbered)
+      → Stands format text failed done left given → Stands format text true done left2 given
   stands-failed failed done left left2 given s =
       record {
         past = s.past;
@@ -159,9 +182,11 @@ module _ (format : Format) (text : List ℕ) where
         ended = s.ended;
       }
 
-  too-many : (left : Option (List Fields)) (given : List Numbered) → Stands format text false false left given → IfSome left (HasEntry form)
+  too-many : (left : Option (List Fields)) (given : List Numbered) → Stands format text false false left given
+      → IfSome left (HasEntry form)
       → length given ≡ record_limit → HasTooMany format text
-  too-many None given s some e = absurd (let q : ◌≡◌ {A = Option (List Fields)} None (Some s.rest) = s.left_is refl refl in cc)
+  too-many None given s some e =
+      absurd (let q : ◌≡◌ {A = Option (List Fields)} None (Some s.rest) = s.left_is refl refl in cc)
   too-many (Some rows) given s some e =
       let same : rows ≡ s.rest = cc (s.left_is refl refl) in
       let more : 0 < length (entry_records form s.rest) = rw (← same) some in (
@@ -172,7 +197,8 @@ module _ (format : Format) (text : List ℕ) where
 
   not-sealed : (left : Option (List Fields)) (given : List Numbered) → Stands format text false false left given
       → IfSome left (LacksSeal form (length given)) → length given ≤ record_limit → IsNotSealed format text
-  not-sealed None given s lacks h = absurd (let q : ◌≡◌ {A = Option (List Fields)} None (Some s.rest) = s.left_is refl refl in cc)
+  not-sealed None given s lacks h =
+      absurd (let q : ◌≡◌ {A = Option (List Fields)} None (Some s.rest) = s.left_is refl refl in cc)
   not-sealed (Some rows) given s lacks h =
       let same : rows ≡ s.rest = cc (s.left_is refl refl) in
       let without : LacksSeal form (length given) s.rest = rw (← same) lacks in
@@ -183,12 +209,14 @@ module _ (format : Format) (text : List ℕ) where
         λ closed. without.1 (rw (← s.counted) (ends-so form s.past s.rest without.0 before closed)),
       )
 
-  going : (failed done : Bool) (left : Option (List Fields)) (given : List Numbered) → failed ≡ false → done ≡ false → Stands format text failed done left given
+  going : (failed done : Bool) (left : Option (List Fields)) (given : List Numbered) → failed ≡ false → done ≡ false
+      → Stands format text failed done left given
       → Stands format text false false left given
   going failed done left given e f s = rw (e, f) at s
 
 -- an entry that a snapshot was taken of
-pub shown-more : (given : List (Snapshot Entry)) (s : Snapshot Entry) (e : Entry) → s.value ≡ e → entries_shown (given ++ s ∷ []) ≡ entries_shown given ++ entry_seen e ∷ []
+pub shown-more : (given : List (Snapshot Entry)) (s : Snapshot Entry) (e : Entry) → s.value ≡ e
+    → entries_shown (given ++ s ∷ []) ≡ entries_shown given ++ entry_seen e ∷ []
 shown-more [] s e h = rw h refl
 shown-more (x ∷ given) s e h = ap (λ (t : List Numbered). entry_seen x.value ∷ t) (shown-more given s e h)
 
@@ -196,7 +224,8 @@ pub shown-length : (given : List (Snapshot Entry)) → length (entries_shown giv
 shown-length [] = refl
 shown-length (x ∷ given) = ap suc (shown-length given)
 
-entry-is : (form : Form) (e : Entry) (k : ℕ) (f : Fields) → entry_number e ≡ k + 1 → body_seen (entry_body e) ≡ body_of form f
+entry-is : (form : Form) (e : Entry) (k : ℕ) (f : Fields) → entry_number e ≡ k + 1
+    → body_seen (entry_body e) ≡ body_of form f
     → entry_seen e ≡ record { number = k + 1; body = body_of form f }
 entry-is form e k f n b = rw (n, b) refl
 
@@ -207,40 +236,57 @@ MayStand o format failed done left given = ∥ IfSome o (λ text. Stands format 
 may : (o : Option (List ℕ)) (P Q : List ℕ → Type 0) → ((t : List ℕ) → P t → Q t) → ∥ IfSome o P ∥₁ → ∥ IfSome o Q ∥₁
 may o P Q f h = ∥∥₁_map h (if-some o P Q f)
 
-pub first-step : (o p : Option (List ℕ)) (left : Option (List Fields)) (d e : ℕ) (j k : Form) (given : List Numbered) (f : Fields) → p ≡ o → e ≡ d → k ≡ j
-    → given ≡ [] → TakesFirst (option_map (text_records d) o) left f → IsHeader j f → MayStand p (format_by e k) false false left given
-first-step o p left d e j k given f a b c h t i = let s = stands-first o left (format_by d j) f t i in rw (a, b, c, h) (∣ s ∣₁)
+pub first-step : (o p : Option (List ℕ)) (left : Option (List Fields)) (d e : ℕ) (j k : Form) (given : List Numbered)
+    (f : Fields) → p ≡ o → e ≡ d → k ≡ j
+    → given ≡ [] → TakesFirst (option_map (text_records d) o) left f → IsHeader j f
+    → MayStand p (format_by e k) false false left given
+first-step o p left d e j k given f a b c h t i =
+    let s = stands-first o left (format_by d j) f t i in rw (a, b, c, h) (∣ s ∣₁)
 
-module _ (o : Option (List ℕ)) (format : Format) (failed done : Bool) (left : Option (List Fields)) (given : List Numbered)
+module _ (o : Option (List ℕ)) (format : Format) (failed done : Bool) (left : Option (List Fields))
+    (given : List Numbered)
     (stands : MayStand o format failed done left given) where
   pub may-first : ∥ IfSome o (λ text. HasFirstEntries format text given) ∥₁
   may-first = may o _ _ (λ t x. first-given format t failed done left given x) stands
 
-  pub may-fail : (left2 : Option (List Fields)) (given2 : List Numbered) → given2 ≡ given → MayStand o format true done left2 given2
+  pub may-fail : (left2 : Option (List Fields)) (given2 : List Numbered) → given2 ≡ given
+      → MayStand o format true done left2 given2
   may-fail left2 given2 e = rw e (may o _ _ (λ t x. stands-failed format t failed done left left2 given x) stands)
 
   pub may-ended : done ≡ true → ∥ IfSome o (λ text. HasEntries format text given) ∥₁
   may-ended e = may o _ _ (λ t x. x.ended e) stands
 
   module _ (goes : failed ≡ false) (before : done ≡ false) (count : ℕ) (counted : count ≡ length given) where
-    pub may-more : (left2 : Option (List Fields)) (given2 : List Numbered) (x : Entry) → Gives format.form count left left2 x → count < record_limit
+    pub may-more : (left2 : Option (List Fields)) (given2 : List Numbered) (x : Entry)
+        → Gives format.form count left left2 x → count < record_limit
         → given2 ≡ given ++ entry_seen x ∷ [] → MayStand o format failed done left2 given2
     may-more left2 given2 x g h e =
         let number : entry_number x ≡ length given + 1 = rw (← counted) g.number in
         rw (goes, before, e)
         (may o _ _
-        (λ t s. stands-more format t left left2 given g.fields (entry_seen x) (going format t failed done left given goes before s) g.first g.no_seal
+        (λ t s. stands-more format t left left2 given g.fields (entry_seen x)
+        (going format t failed done left given goes before s) g.first g.no_seal
         (rw (← counted) h) (entry-is format.form x (length given) g.fields number g.body)) stands)
 
     module _ (few : length given ≤ record_limit) where
       pub may-all : IfSome left (EndsAt format.form count) → ∥ IfSome o (λ text. HasEntries format text given) ∥₁
-      may-all e = may o _ _ (λ t s. all-given format t left given (going format t failed done left given goes before s) (rw (← counted) e) few) stands
+      may-all e =
+          may o _ _ (λ t s. all-given format t left given (going format t failed done left given goes before s)
+          (rw (← counted) e) few) stands
 
-      pub may-end : (left2 : Option (List Fields)) → IfSome left (EndsAt format.form count) → MayStand o format failed true left2 given
-      may-end left2 e = rw goes (may o _ _ (λ t s. stands-end format t left left2 given (going format t failed done left given goes before s) (rw (← counted) e) few) stands)
+      pub may-end : (left2 : Option (List Fields)) → IfSome left (EndsAt format.form count)
+          → MayStand o format failed true left2 given
+      may-end left2 e =
+          rw goes (may o _ _ (λ t s. stands-end format t left left2 given
+          (going format t failed done left given goes before s) (rw (← counted) e) few) stands)
 
       pub may-lack : IfSome left (LacksSeal format.form count) → ∥ IfSome o (λ text. IsNotSealed format text) ∥₁
-      may-lack e = may o _ _ (λ t s. not-sealed format t left given (going format t failed done left given goes before s) (rw (← counted) e) few) stands
+      may-lack e =
+          may o _ _ (λ t s. not-sealed format t left given (going format t failed done left given goes before s)
+          (rw (← counted) e) few) stands
 
-    pub may-many : IfSome left (HasEntry format.form) → count ≡ record_limit → ∥ IfSome o (λ text. HasTooMany format text) ∥₁
-    may-many e full = may o _ _ (λ t s. too-many format t left given (going format t failed done left given goes before s) e (rw (← counted) full)) stands
+    pub may-many : IfSome left (HasEntry format.form) → count ≡ record_limit
+        → ∥ IfSome o (λ text. HasTooMany format text) ∥₁
+    may-many e full =
+        may o _ _ (λ t s. too-many format t left given (going format t failed done left given goes before s) e
+        (rw (← counted) full)) stands

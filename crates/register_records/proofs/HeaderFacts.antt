@@ -1,5 +1,6 @@
 -- The byte order mark at the start of a text.
-use Rattle.std.proofs.Common.{◌≡◌, ◌≤◌, ◌-◌, ℕ, List, [], ◌∷◌, length, take, drop, get_or, false, refl, arith, ◌==◌, ◌&&◌}
+use Rattle.std.proofs.Common.{◌≡◌, ◌≤◌, ◌-◌, ℕ, List, [], ◌∷◌, length, take, drop, get_or, false, refl, arith, ◌==◌}
+use Rattle.std.proofs.Common.{◌&&◌}
 use Rattle.std.proofs.lemmas.List.{length-drop, take_all}
 use Rattle.csv.specs.Reading.{strip_bom}
 
@@ -7,14 +8,16 @@ pub rest-of : (s : List ℕ) (i : ℕ) → take (length s - i) (drop i s) ≡ dr
 rest-of s i = let e = length-drop i s in take_all (length s - i) (drop i s) (omega (arith, e))
 
 -- a byte order mark goes
-pub mark-there : (s : List ℕ) → 3 ≤ length s → get_or s 0 0 ≡ 239 → get_or s 1 0 ≡ 187 → get_or s 2 0 ≡ 191 → strip_bom s ≡ drop 3 s
+pub mark-there : (s : List ℕ) → 3 ≤ length s → get_or s 0 0 ≡ 239 → get_or s 1 0 ≡ 187 → get_or s 2 0 ≡ 191
+    → strip_bom s ≡ drop 3 s
 unfolding strip_bom
 mark-there [] h a b c = absurd (omega arith)
 mark-there (x ∷ []) h a b c = absurd (omega arith)
 mark-there (x ∷ y ∷ []) h a b c = absurd (omega arith)
 mark-there (x ∷ y ∷ z ∷ rest) h a b c = rw (a, b, c) refl
 
-pub mark-not : (s : List ℕ) → 3 ≤ length s → ((get_or s 0 0 == 239) && (get_or s 1 0 == 187) && (get_or s 2 0 == 191)) ≡ false → strip_bom s ≡ s
+pub mark-not : (s : List ℕ) → 3 ≤ length s
+    → ((get_or s 0 0 == 239) && (get_or s 1 0 == 187) && (get_or s 2 0 == 191)) ≡ false → strip_bom s ≡ s
 unfolding strip_bom
 mark-not [] h a = absurd (omega arith)
 mark-not (x ∷ []) h a = absurd (omega arith)

@@ -1,5 +1,6 @@
 -- Where records of a sealed register are taken out, its seal does not agree.
-use Rattle.std.proofs.Common.{inl, inr, ◌⊎◌, ◌≡◌, ◌+◌, ◌++◌, ℕ, List, [], ◌∷◌, length, Bool, true, false, refl, sym, ap, ◌∙◌, arith}
+use Rattle.std.proofs.Common.{inl, inr, ◌⊎◌, ◌≡◌, ◌+◌, ◌++◌, ℕ, List, [], ◌∷◌, length, Bool, true, false, refl, sym, ap}
+use Rattle.std.proofs.Common.{◌∙◌, arith}
 use Rattle.std.specs.Prelude.{if◌then◌else◌}
 use Rattle.std.proofs.lemmas.List.{length-append}
 use Rattle.register_records.specs.Headers.{IsHeader}
@@ -35,7 +36,8 @@ unfolding before_seal
 before-no-seal [] r h = absurd h
 before-no-seal (x ∷ rs) r h = by (is_seal x) refl (before-no-seal rs r) h
   where
-    by : (b : Bool) → is_seal x ≡ b → (IsOne r (before_seal rs) → is_seal r ≡ false) → IsOne r (if b then [] else x ∷ before_seal rs) → is_seal r ≡ false
+    by : (b : Bool) → is_seal x ≡ b → (IsOne r (before_seal rs) → is_seal r ≡ false)
+        → IsOne r (if b then [] else x ∷ before_seal rs) → is_seal r ≡ false
     by true e later h = absurd h
     by false e later (inl same) = rw same e
     by false e later (inr more) = later more
@@ -55,7 +57,8 @@ one-number (x ∷ y ∷ z ∷ rest) n m a b = absurd a
 -- of these records only the last is a seal
 only-seal : (header : Fields) (after : List Fields) (seal r : Fields) → IsHeader Sealed header → is_seal r ≡ true
     → IsOne r (header ∷ (before_seal after ++ seal ∷ [])) → r ≡ seal
-only-seal header after seal r ok is (inl e) = let other = header-no-seal header ok in absurd (let clash : true ≡ false = sym is ∙ (ap is_seal e ∙ other) in cc)
+only-seal header after seal r ok is (inl e) =
+    let other = header-no-seal header ok in absurd (let clash : true ≡ false = sym is ∙ (ap is_seal e ∙ other) in cc)
 only-seal header after seal r ok is (inr h) =
     elim (one-of-two r (before_seal after) (seal ∷ []) h) [
       | inl before ↦ absurd (let clash : true ≡ false = sym is ∙ before-no-seal after r before in cc)
@@ -64,13 +67,20 @@ only-seal header after seal r ok is (inr h) =
     ]
 
 pub no-loss : NoLossIsSealed
-no-loss records left (after, (header, first, ok), (few, (seal, ends, is, agrees))) are_left shorter (after2, (header2, first2, ok2), (few2, (seal2, ends2, is2, agrees2))) =
-    let all : records ≡ header ∷ (before_seal after ++ seal ∷ []) = first ∙ ap (λ (rs : List Fields). header ∷ rs) ends in
-    let all2 : left ≡ header2 ∷ (before_seal after2 ++ seal2 ∷ []) = first2 ∙ ap (λ (rs : List Fields). header2 ∷ rs) ends2 in
+no-loss records left (after, (header, first, ok), (few, (seal, ends, is, agrees))) are_left shorter
+    (after2, (header2, first2, ok2), (few2, (seal2, ends2, is2, agrees2))) =
+    let all : records ≡ header ∷ (before_seal after ++ seal ∷ []) =
+    first ∙ ap (λ (rs : List Fields). header ∷ rs) ends in
+    let all2 : left ≡ header2 ∷ (before_seal after2 ++ seal2 ∷ []) =
+    first2 ∙ ap (λ (rs : List Fields). header2 ∷ rs) ends2 in
     let there : IsOne seal2 left = rw all2 (inr (last-is-one seal2 (before_seal after2))) in
-    let was : IsOne seal2 (header ∷ (before_seal after ++ seal ∷ [])) = rw all at (was-one records left seal2 are_left there) in
+    let was : IsOne seal2 (header ∷ (before_seal after ++ seal ∷ [])) =
+    rw all at (was-one records left seal2 are_left there) in
     let same : seal2 ≡ seal = only-seal header after seal seal2 ok is2 was in
-    let count : length (before_seal after) ≡ length (before_seal after2) = one-number seal _ _ agrees (rw same at agrees2) in
-    let long : length records ≡ length (before_seal after) + 2 = ap length all ∙ rw (length-append (before_seal after) (seal ∷ [])) (omega arith) in
-    let long2 : length left ≡ length (before_seal after2) + 2 = ap length all2 ∙ rw (length-append (before_seal after2) (seal2 ∷ [])) (omega arith) in
+    let count : length (before_seal after) ≡ length (before_seal after2) =
+    one-number seal _ _ agrees (rw same at agrees2) in
+    let long : length records ≡ length (before_seal after) + 2 =
+    ap length all ∙ rw (length-append (before_seal after) (seal ∷ [])) (omega arith) in
+    let long2 : length left ≡ length (before_seal after2) + 2 =
+    ap length all2 ∙ rw (length-append (before_seal after2) (seal2 ∷ [])) (omega arith) in
     omega (arith, shorter, count, long, long2)

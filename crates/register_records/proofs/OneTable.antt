@@ -8,7 +8,9 @@ use Rattle.date_texts.specs.DateText.{IsDateText}
 use Rattle.register_records.specs.Entries.{Format, HasEntries, Numbered, Texts, entries_of}
 use Rattle.register_records.specs.Laws.{OneTable}
 use Rattle.date_texts.specs.Names.{IsNamed}
-use Rattle.register_records.specs.Outcomes.{AreCells, AreCellsOn, AreRowsOf, IsOutcome, IsRowOf, Says, TableRow, accepted, no_date_text, no_such_date, out_of_range, refused, unknown_calendar}
+use Rattle.register_records.specs.Outcomes.{AreCells, AreCellsOn, AreRowsOf, IsOutcome, IsRowOf, Says, TableRow}
+use Rattle.register_records.specs.Outcomes.{accepted, no_date_text, no_such_date, out_of_range, refused}
+use Rattle.register_records.specs.Outcomes.{unknown_calendar}
 use Rattle.date_texts.specs.declared.calendar.Calendar.{Calendar}
 use Rattle.date_texts.specs.declared.calendar.Target.{Target}
 use Rattle.date_texts.specs.declared.date.Date.{Date}
@@ -24,11 +26,13 @@ module _ (one-calendar : OneCalendar) (one_date_text : OneDateText) (one_cell : 
       one_date_text c text d f h.dated (rw (← same) k.dated)
 
   -- a text says no date, or it says one
-  text-clash : (name text : List ℕ) (c e : Calendar) (d : Date) → IsNamed name (calendar_name c) → ((f : Date) → ¬ (IsDateText c text f)) → Says name text e d → ⊥
+  text-clash : (name text : List ℕ) (c e : Calendar) (d : Date) → IsNamed name (calendar_name c)
+      → ((f : Date) → ¬ (IsDateText c text f)) → Says name text e d → ⊥
   text-clash name text c e d n none s = let same = one-calendar name e c s.named n in none d (rw (← same) s.dated)
 
   -- after each outcome of a body, the other is the same
-  after-refused : (b : Result Texts Refusal) (p : Result ℤ Refusal) (r : Refusal) → IsOutcome b p → b ≡ Err r → Err r ≡ p
+  after-refused : (b : Result Texts Refusal) (p : Result ℤ Refusal) (r : Refusal) → IsOutcome b p → b ≡ Err r
+      → Err r ≡ p
   after-refused b p r (refused {r = q}) e = let same : q ≡ r = cc in ap Err (sym same)
   after-refused b p r (unknown_calendar {t = u} none) e = cc
   after-refused b p r (no_date_text {t = u} c named none) e = cc
@@ -37,33 +41,46 @@ module _ (one-calendar : OneCalendar) (one_date_text : OneDateText) (one_cell : 
   after-refused b p r (accepted {t = u} c d says is within) e = cc
 
   module _ (t : Texts) where
-    after-unknown : (b : Result Texts Refusal) (p : Result ℤ Refusal) → IsOutcome b p → b ≡ Ok t → ((c : Calendar) → ¬ (IsNamed t.calendar (calendar_name c))) → Err refusal.UnknownCalendar ≡ p
+    after-unknown : (b : Result Texts Refusal) (p : Result ℤ Refusal) → IsOutcome b p → b ≡ Ok t
+        → ((c : Calendar) → ¬ (IsNamed t.calendar (calendar_name c))) → Err refusal.UnknownCalendar ≡ p
     after-unknown b p (refused {r = r}) e absent = cc
     after-unknown b p (unknown_calendar {t = u} none) e absent = refl
-    after-unknown b p (no_date_text {t = u} c named none) e absent = let same : u ≡ t = cc in absurd (absent c (rw same at named))
-    after-unknown b p (no_such_date {t = u} c d says none) e absent = let same : u ≡ t = cc in absurd (absent c (rw same at says).named)
-    after-unknown b p (out_of_range {t = u} c d says is out) e absent = let same : u ≡ t = cc in absurd (absent c (rw same at says).named)
-    after-unknown b p (accepted {t = u} c d says is within) e absent = let same : u ≡ t = cc in absurd (absent c (rw same at says).named)
+    after-unknown b p (no_date_text {t = u} c named none) e absent =
+        let same : u ≡ t = cc in absurd (absent c (rw same at named))
+    after-unknown b p (no_such_date {t = u} c d says none) e absent =
+        let same : u ≡ t = cc in absurd (absent c (rw same at says).named)
+    after-unknown b p (out_of_range {t = u} c d says is out) e absent =
+        let same : u ≡ t = cc in absurd (absent c (rw same at says).named)
+    after-unknown b p (accepted {t = u} c d says is within) e absent =
+        let same : u ≡ t = cc in absurd (absent c (rw same at says).named)
 
-    after-no-text : (b : Result Texts Refusal) (p : Result ℤ Refusal) → IsOutcome b p → b ≡ Ok t → (a : Calendar) → IsNamed t.calendar (calendar_name a)
+    after-no-text : (b : Result Texts Refusal) (p : Result ℤ Refusal) → IsOutcome b p → b ≡ Ok t → (a : Calendar)
+        → IsNamed t.calendar (calendar_name a)
         → ((f : Date) → ¬ (IsDateText a t.date f)) → Err refusal.DateText ≡ p
     after-no-text b p (refused {r = r}) e a n absent = cc
-    after-no-text b p (unknown_calendar {t = u} none) e a n absent = let same : t ≡ u = cc in absurd (none a (rw same at n))
+    after-no-text b p (unknown_calendar {t = u} none) e a n absent =
+        let same : t ≡ u = cc in absurd (none a (rw same at n))
     after-no-text b p (no_date_text {t = u} c named none) e a n absent = refl
-    after-no-text b p (no_such_date {t = u} c d says none) e a n absent = let same : u ≡ t = cc in absurd (text-clash _ _ a c d n absent (rw same at says))
-    after-no-text b p (out_of_range {t = u} c d says is out) e a n absent = let same : u ≡ t = cc in absurd (text-clash _ _ a c d n absent (rw same at says))
-    after-no-text b p (accepted {t = u} c d says is within) e a n absent = let same : u ≡ t = cc in absurd (text-clash _ _ a c d n absent (rw same at says))
+    after-no-text b p (no_such_date {t = u} c d says none) e a n absent =
+        let same : u ≡ t = cc in absurd (text-clash _ _ a c d n absent (rw same at says))
+    after-no-text b p (out_of_range {t = u} c d says is out) e a n absent =
+        let same : u ≡ t = cc in absurd (text-clash _ _ a c d n absent (rw same at says))
+    after-no-text b p (accepted {t = u} c d says is within) e a n absent =
+        let same : u ≡ t = cc in absurd (text-clash _ _ a c d n absent (rw same at says))
 
     -- what a date says of the outcome
     abbrev DateOutcome : Date → Result ℤ Refusal → Type 0
     DateOutcome f o =
-        (¬ (IsDateOfCalendar f) → o ≡ Err refusal.NoSuchDate) × (IsDateOfCalendar f → ¬ (IsDayNumber (day_number_of_date f)) → o ≡ Err refusal.OutOfRange)
+        (¬ (IsDateOfCalendar f) → o ≡ Err refusal.NoSuchDate)
+        × (IsDateOfCalendar f → ¬ (IsDayNumber (day_number_of_date f)) → o ≡ Err refusal.OutOfRange)
         × (IsDateOfCalendar f → IsDayNumber (day_number_of_date f) → o ≡ Ok (day_number_of_date f))
 
-    of-date : (b : Result Texts Refusal) (p : Result ℤ Refusal) → IsOutcome b p → b ≡ Ok t → (a : Calendar) (f : Date) → Says t.calendar t.date a f → DateOutcome f p
+    of-date : (b : Result Texts Refusal) (p : Result ℤ Refusal) → IsOutcome b p → b ≡ Ok t → (a : Calendar) (f : Date)
+        → Says t.calendar t.date a f → DateOutcome f p
     of-date b p (refused {r = r}) e a f s = cc
     of-date b p (unknown_calendar {t = u} none) e a f s = let same : t ≡ u = cc in absurd (none a (rw same at s).named)
-    of-date b p (no_date_text {t = u} c named none) e a f s = let same : t ≡ u = cc in absurd (text-clash _ _ c a f named none (rw same at s))
+    of-date b p (no_date_text {t = u} c named none) e a f s =
+        let same : t ≡ u = cc in absurd (text-clash _ _ c a f named none (rw same at s))
     of-date b p (no_such_date {t = u} c d says none) e a f s =
         let same : u ≡ t = cc in
         let date = one-date _ _ c a d f (rw same at says) s in
@@ -86,7 +103,8 @@ module _ (one-calendar : OneCalendar) (one_date_text : OneDateText) (one_cell : 
   one-outcome b o p (out_of_range {t = t} c d says is out) k = sym ((of-date t b p k refl c d says).1 is out)
   one-outcome b o p (accepted {t = t} c d says is within) k = sym ((of-date t b p k refl c d says).2 is within)
 
-  one-cells-on : (n : ℤ) (targets : List Target) (xs ys : List (List ℕ)) → AreCellsOn n targets xs → AreCellsOn n targets ys → xs ≡ ys
+  one-cells-on : (n : ℤ) (targets : List Target) (xs ys : List (List ℕ)) → AreCellsOn n targets xs
+      → AreCellsOn n targets ys → xs ≡ ys
   one-cells-on n [] [] [] a b = refl
   one-cells-on n [] [] (y ∷ ys) a b = absurd b
   one-cells-on n [] (x ∷ xs) ys a b = absurd a
@@ -97,20 +115,26 @@ module _ (one-calendar : OneCalendar) (one_date_text : OneDateText) (one_cell : 
       let rest = one-cells-on n targets xs ys a.1 b.1 in
       cc
 
-  one-cells : (targets : List Target) (o : Result ℤ Refusal) (xs ys : List (List ℕ)) → AreCells targets o xs → AreCells targets o ys → xs ≡ ys
+  one-cells : (targets : List Target) (o : Result ℤ Refusal) (xs ys : List (List ℕ)) → AreCells targets o xs
+      → AreCells targets o ys → xs ≡ ys
   one-cells targets (Ok n) xs ys a b = one-cells-on n targets xs ys a b
   one-cells targets (Err r) xs ys a b = a ∙ sym b
 
-  made-row : (n m : ℕ) (b c : Result Texts Refusal) (o p : Result ℤ Refusal) (xs ys : List (List ℕ)) → n ≡ m → b ≡ c → o ≡ p → xs ≡ ys
-      → ◌≡◌ {A = TableRow} (record { number = n; body = b; outcome = o; cells = xs }) (record { number = m; body = c; outcome = p; cells = ys })
+  made-row : (n m : ℕ) (b c : Result Texts Refusal) (o p : Result ℤ Refusal) (xs ys : List (List ℕ)) → n ≡ m → b ≡ c
+      → o ≡ p → xs ≡ ys
+      → ◌≡◌ {A = TableRow} (record { number = n; body = b; outcome = o; cells = xs })
+      (record { number = m; body = c; outcome = p; cells = ys })
   made-row n m b c o p xs ys e f g h = rw (e, f, g, h) refl
 
-  one-row : (targets : List Target) (entry : Numbered) (r s : TableRow) → IsRowOf targets entry r → IsRowOf targets entry s → r ≡ s
+  one-row : (targets : List Target) (entry : Numbered) (r s : TableRow) → IsRowOf targets entry r
+      → IsRowOf targets entry s → r ≡ s
   one-row targets entry r s a b =
       let same = one-outcome entry.body r.outcome s.outcome a.outcome b.outcome in
-      made-row _ _ _ _ _ _ _ _ (a.number ∙ sym b.number) (a.body ∙ sym b.body) same (one-cells targets s.outcome r.cells s.cells (rw same at a.cells) b.cells)
+      made-row _ _ _ _ _ _ _ _ (a.number ∙ sym b.number) (a.body ∙ sym b.body) same
+      (one-cells targets s.outcome r.cells s.cells (rw same at a.cells) b.cells)
 
-  one-rows : (targets : List Target) (entries : List Numbered) (rows more : List TableRow) → AreRowsOf targets entries rows → AreRowsOf targets entries more → rows ≡ more
+  one-rows : (targets : List Target) (entries : List Numbered) (rows more : List TableRow)
+      → AreRowsOf targets entries rows → AreRowsOf targets entries more → rows ≡ more
   one-rows targets [] [] [] a b = refl
   one-rows targets [] [] (y ∷ more) a b = absurd b
   one-rows targets [] (x ∷ rows) more a b = absurd a
@@ -121,8 +145,10 @@ module _ (one-calendar : OneCalendar) (one_date_text : OneDateText) (one_cell : 
       let rest = one-rows targets entries rows more a.1 b.1 in
       cc
 
-  one-list : (format : Format) (text : List ℕ) (entries others : List Numbered) → HasEntries format text entries → HasEntries format text others → entries ≡ others
-  one-list format text entries others (records, (header, is, ok), all, made) (records2, (header2, is2, ok2), all2, made2) =
+  one-list : (format : Format) (text : List ℕ) (entries others : List Numbered) → HasEntries format text entries
+      → HasEntries format text others → entries ≡ others
+  one-list format text entries others (records, (header, is, ok), all, made)
+      (records2, (header2, is2, ok2), all2, made2) =
       let same : records ≡ records2 = cc in
       made ∙ (ap (entries_of format.form) same ∙ sym made2)
 

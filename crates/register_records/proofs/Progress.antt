@@ -1,5 +1,6 @@
 -- How far the table of a source has come.
-use Rattle.std.proofs.Common.{◌≡◌, ◌≤◌, ◌+◌, ◌++◌, ℕ, List, [], ◌∷◌, length, Option, refl, sym, ap, ◌∙◌, arith, append_assoc, inl, inr, true}
+use Rattle.std.proofs.Common.{◌≡◌, ◌≤◌, ◌+◌, ◌++◌, ℕ, List, [], ◌∷◌, length, Option, refl, sym, ap, ◌∙◌, arith}
+use Rattle.std.proofs.Common.{append_assoc, inl, inr, true}
 use Rattle.std.specs.Prelude.{IfSome, IsSomeAnd, None, OnOk, Result, Ok, Err, Some, ℤ}
 use Rattle.std.specs.Result.{is_ok}
 use Rattle.std.specs.Io.KnownBytes.{Appends}
@@ -25,7 +26,8 @@ use Rattle.register_records.specs.declared.writing.RowFault.{RowFault}
 use Rattle.register_records.specs.declared.writing.RowFault.TheVariants as row
 
 -- the rows of these entries are written
-pub record Progress (layout : Layout) (old now : Option (List ℕ)) (entries : List Numbered) (journal : List Note) : Type 0 where
+pub record Progress (layout : Layout) (old now : Option (List ℕ)) (entries : List Numbered)
+    (journal : List Note) : Type 0 where
   pub rows : List TableRow
   pub bytes : List ℕ
   pub table : IsTableOf layout entries rows bytes
@@ -51,7 +53,8 @@ lines_last : (layout : Layout) (rows : List TableRow) (row : TableRow)
 unfolding lines_text
 lines_last layout [] row = append-nil (row_line layout row)
 lines_last layout (x ∷ rows) row =
-    ap (λ (t : List ℕ). row_line layout x ++ t) (lines_last layout rows row) ∙ sym (append_assoc (row_line layout x) _ _)
+    ap (λ (t : List ℕ). row_line layout x ++ t) (lines_last layout rows row)
+    ∙ sym (append_assoc (row_line layout x) _ _)
 
 journal_last : (rows : List TableRow) (row : TableRow)
     → journal_of (rows ++ row ∷ []) ≡ journal_of rows ++ notes_of row.number row.outcome
@@ -64,12 +67,14 @@ journal_last (x ∷ rows) row =
 table_last : (layout : Layout) (rows : List TableRow) (row : TableRow)
     → table_text layout (rows ++ row ∷ []) ≡ table_text layout rows ++ row_line layout row
 table_last layout rows row =
-    ap (λ (t : List ℕ). heading_line layout ++ t) (lines_last layout rows row) ∙ sym (append_assoc (heading_line layout) _ _)
+    ap (λ (t : List ℕ). heading_line layout ++ t) (lines_last layout rows row)
+    ∙ sym (append_assoc (heading_line layout) _ _)
 
 pub tables_grow : TablesGrow
 tables_grow layout rows row = (table_last layout rows row, journal_last rows row)
 
-pub start : (layout : Layout) (old now : Option (List ℕ)) → Appends old now (heading_line layout) → Progress layout old now [] []
+pub start : (layout : Layout) (old now : Option (List ℕ)) → Appends old now (heading_line layout)
+    → Progress layout old now [] []
 unfolding lines_text journal_of
 start layout old now a =
     record {
@@ -81,7 +86,8 @@ start layout old now a =
       noted = refl;
     }
 
-pub step : (layout : Layout) (old now now2 : Option (List ℕ)) (entries : List Numbered) (journal : List Note) (x : Numbered) (row : TableRow)
+pub step : (layout : Layout) (old now now2 : Option (List ℕ)) (entries : List Numbered) (journal : List Note)
+    (x : Numbered) (row : TableRow)
     → Progress layout old now entries journal → x.number ≡ length entries + 1 → IsRowOf layout.targets x row
     → Appends now now2 (row_line layout row)
     → Progress layout old now2 (entries ++ x ∷ []) (journal ++ notes_of row.number row.outcome)
@@ -100,7 +106,8 @@ step layout old now now2 entries journal x row p n r a =
     }
 
 -- what the last call leaves
-pub finish : (layout : Layout) (e : Format) (text told old now : Option (List ℕ)) (entries given : List Numbered) (journal : List Note) (count refused : ℕ)
+pub finish : (layout : Layout) (e : Format) (text told old now : Option (List ℕ)) (entries given : List Numbered)
+    (journal : List Note) (count refused : ℕ)
     → Progress layout old now entries journal → told ≡ text → e ≡ layout.format → given ≡ entries
     → ∥ IfSome told (λ t. HasEntries e t given) ∥₁ → count ≡ length entries → refused ≡ length journal
     → ∥ Gains old now (IsWholeTable layout text count refused journal) ∥₁
@@ -120,7 +127,8 @@ finish layout e text told old now entries given journal count refused p a b f h 
     ))
 
 -- what was written is a front of the table
-pub first_rows : (layout : Layout) (e : Format) (text told old now : Option (List ℕ)) (entries : List Numbered) (journal : List Note) (count : ℕ)
+pub first_rows : (layout : Layout) (e : Format) (text told old now : Option (List ℕ)) (entries : List Numbered)
+    (journal : List Note) (count : ℕ)
     → Progress layout old now entries journal → told ≡ text → e ≡ layout.format
     → ∥ IfSome told (λ t. HasFirstEntries e t entries) ∥₁ → count ≡ length entries
     → ∥ Gains old now (IsFrontOfTable layout text count) ∥₁
@@ -135,7 +143,8 @@ part_of : (layout : Layout) (text old now : Option (List ℕ)) (count : ℕ)
     → Gains old now (IsFrontOfTable layout text count) → Gains old now (ArePartOfTable layout text)
 part_of layout text old now count (bytes, front, gained) = (bytes, inr (count, front), gained)
 
-pub front : (layout : Layout) (e : Format) (text told old now : Option (List ℕ)) (entries : List Numbered) (journal : List Note)
+pub front : (layout : Layout) (e : Format) (text told old now : Option (List ℕ)) (entries : List Numbered)
+    (journal : List Note)
     → Progress layout old now entries journal → told ≡ text → e ≡ layout.format
     → ∥ IfSome told (λ t. HasFirstEntries e t entries) ∥₁ → ∥ Gains old now (ArePartOfTable layout text) ∥₁
 front layout e text told old now entries journal p a b h =
@@ -143,7 +152,8 @@ front layout e text told old now entries journal p a b h =
     (part_of layout text old now (length entries))
 
 -- nothing was written
-pub nothing : (layout : Layout) (text old now : Option (List ℕ)) → Appends old now [] → ∥ Gains old now (ArePartOfTable layout text) ∥₁
+pub nothing : (layout : Layout) (text old now : Option (List ℕ)) → Appends old now []
+    → ∥ Gains old now (ArePartOfTable layout text) ∥₁
 nothing layout text old now a = ∣ ([], inl refl, a) ∣₁
 
 -- what holds of a source that this cause broke off
@@ -153,7 +163,8 @@ if_broken None end P h f = absurd h
 if_broken (Some c) end P h f = rw h (f c refl)
 
 -- the one fault of reading that has this cause
-pub only_too_many : (f : EntryFault) (c : Cause) → entry_fault_cause f ≡ Some c → c ≡ cause.TooManyRecords → f ≡ entry.TooManyRecords
+pub only_too_many : (f : EntryFault) (c : Cause) → entry_fault_cause f ≡ Some c → c ≡ cause.TooManyRecords
+    → f ≡ entry.TooManyRecords
 only_too_many entry.OutOfMemory c a k = cc
 only_too_many entry.ReadFault c a k = cc
 only_too_many entry.BadHeader c a k = cc
@@ -161,7 +172,8 @@ only_too_many entry.TooManyRecords c a k = refl
 only_too_many entry.NotSealed c a k = cc
 only_too_many entry.Failed c a k = cc
 
-pub only_not_sealed : (f : EntryFault) (c : Cause) → entry_fault_cause f ≡ Some c → c ≡ cause.NotSealed → f ≡ entry.NotSealed
+pub only_not_sealed : (f : EntryFault) (c : Cause) → entry_fault_cause f ≡ Some c → c ≡ cause.NotSealed
+    → f ≡ entry.NotSealed
 only_not_sealed entry.OutOfMemory c a k = cc
 only_not_sealed entry.ReadFault c a k = cc
 only_not_sealed entry.BadHeader c a k = cc
@@ -169,12 +181,14 @@ only_not_sealed entry.TooManyRecords c a k = cc
 only_not_sealed entry.NotSealed c a k = refl
 only_not_sealed entry.Failed c a k = cc
 
-pub told_of : (Is : Format → List ℕ → Type 0) (d e : Format) (text told : Option (List ℕ)) → told ≡ text → e ≡ d → ∥ IfSome told (λ t. Is e t) ∥₁
+pub told_of : (Is : Format → List ℕ → Type 0) (d e : Format) (text told : Option (List ℕ)) → told ≡ text → e ≡ d
+    → ∥ IfSome told (λ t. Is e t) ∥₁
     → ∥ IfSome text (λ t. Is d t) ∥₁
 told_of Is d e text told a b h = rw (a, b) at h
 
 -- a fault of a row that is no fault of the output
-pub only_memory : (f : RowFault) (c : Cause) → row_fault_cause f ≡ Some c → (c ≡ cause.SinkFault → ⊥) → f ≡ row.OutOfMemory
+pub only_memory : (f : RowFault) (c : Cause) → row_fault_cause f ≡ Some c → (c ≡ cause.SinkFault → ⊥)
+    → f ≡ row.OutOfMemory
 only_memory row.OutOfMemory c a k = refl
 only_memory row.WriteFault c a k = absurd (k cc)
 only_memory row.Failed c a k = cc

@@ -13,5 +13,6 @@ pub cells-read-back : CanonicalTextsReadBack → CellsReadBack
 cells-read-back law calendar n texts within named (on_date date of is day text) some =
     let written = subst (λ x. IsDateText (calendar_of_date date) x date) (sym text) (law date) in
     let dated = subst (λ c. IsDateText c texts.date date) of written in
-    subst (λ m. IsOutcome (Ok texts) (Ok m)) day (accepted calendar date (record { named = named; dated = dated }) is (subst IsDayNumber (sym day) within))
+    subst (λ m. IsOutcome (Ok texts) (Ok m)) day
+    (accepted calendar date (record { named = named; dated = dated }) is (subst IsDayNumber (sym day) within))
 cells-read-back law calendar n texts within named (before_first_day before empty) some = absurd (some empty)

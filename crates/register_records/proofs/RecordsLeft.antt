@@ -1,5 +1,6 @@
 -- The records of a text, one after the other.
-use Rattle.std.proofs.Common.{◌≡◌, ◌<◌, ◌≤◌, ◌+◌, ℕ, zero, suc, List, [], ◌∷◌, ◌++◌, length, Option, Some, None, Bool, true, false, refl, sym, ap, ◌∙◌, arith, add-one}
+use Rattle.std.proofs.Common.{◌≡◌, ◌<◌, ◌≤◌, ◌+◌, ℕ, zero, suc, List, [], ◌∷◌, ◌++◌, length, Option, Some, None, Bool}
+use Rattle.std.proofs.Common.{true, false, refl, sym, ap, ◌∙◌, arith, add-one}
 use Rattle.std.specs.Prelude.{if◌then◌else◌}
 use Rattle.csv.specs.Machine.{Read, ends_at_end, field_after, fields_after, is_end, next_record, step}
 use Rattle.csv.specs.Reading.{AreRecords, Reached, records_from, records_next}
@@ -10,28 +11,36 @@ use Rattle.register_records.specs.Entries.{Fields}
 use Rattle.register_records.specs.ReadingState.{all_after}
 
 -- one of two ways to a record
-either-way : (b : Bool) (first : Read) (more : Option Read) (p : Read) (n : ℕ) → (if b then Some first else more) ≡ Some p → length first.2 ≤ n
+either-way : (b : Bool) (first : Read) (more : Option Read) (p : Read) (n : ℕ)
+    → (if b then Some first else more) ≡ Some p → length first.2 ≤ n
     → ((q : Read) → more ≡ Some q → length q.2 ≤ n) → length p.2 ≤ n
 either-way true first more p n e h g = let same : first ≡ p = cc in rw (← same) h
 either-way false first more p n e h g = g p e
 
 -- a record leaves no more than there was, and takes a byte where there is one
-leaves : (cfg : Config) (xs : List ℕ) (s : State) (fs : Fields) (f : List ℕ) (p : Read) → next_record cfg s fs f xs ≡ Some p → length p.2 ≤ length xs
+leaves : (cfg : Config) (xs : List ℕ) (s : State) (fs : Fields) (f : List ℕ) (p : Read)
+    → next_record cfg s fs f xs ≡ Some p → length p.2 ≤ length xs
 unfolding next_record
-leaves cfg [] s fs f p e = either-way (ends_at_end s) (fs ++ (f ∷ []), st.StartRecord, []) None p 0 e (omega arith) (λ q x. cc)
+leaves cfg [] s fs f p e =
+    either-way (ends_at_end s) (fs ++ (f ∷ []), st.StartRecord, []) None p 0 e (omega arith) (λ q x. cc)
 leaves cfg (c ∷ rest) s fs f p e =
     let h =
     either-way (is_end (step cfg s c).1) (fields_after (step cfg s c).1 fs f, (step cfg s c).0, rest)
-    (next_record cfg (step cfg s c).0 (fields_after (step cfg s c).1 fs f) (field_after (step cfg s c).1 c f) rest) p (length rest) e (omega arith)
-    (λ q x. leaves cfg rest (step cfg s c).0 (fields_after (step cfg s c).1 fs f) (field_after (step cfg s c).1 c f) q x)
+    (next_record cfg (step cfg s c).0 (fields_after (step cfg s c).1 fs f) (field_after (step cfg s c).1 c f) rest) p
+    (length rest) e (omega arith)
+    (λ q x. leaves cfg rest (step cfg s c).0 (fields_after (step cfg s c).1 fs f)
+    (field_after (step cfg s c).1 c f) q x)
     in omega (arith, h)
 
-takes : (cfg : Config) (c : ℕ) (rest : List ℕ) (s : State) (fs : Fields) (f : List ℕ) (p : Read) → next_record cfg s fs f (c ∷ rest) ≡ Some p → length p.2 ≤ length rest
+takes : (cfg : Config) (c : ℕ) (rest : List ℕ) (s : State) (fs : Fields) (f : List ℕ) (p : Read)
+    → next_record cfg s fs f (c ∷ rest) ≡ Some p → length p.2 ≤ length rest
 unfolding next_record
 takes cfg c rest s fs f p e =
     either-way (is_end (step cfg s c).1) (fields_after (step cfg s c).1 fs f, (step cfg s c).0, rest)
-    (next_record cfg (step cfg s c).0 (fields_after (step cfg s c).1 fs f) (field_after (step cfg s c).1 c f) rest) p (length rest) e (omega arith)
-    (λ q x. leaves cfg rest (step cfg s c).0 (fields_after (step cfg s c).1 fs f) (field_after (step cfg s c).1 c f) q x)
+    (next_record cfg (step cfg s c).0 (fields_after (step cfg s c).1 fs f) (field_after (step cfg s c).1 c f) rest) p
+    (length rest) e (omega arith)
+    (λ q x. leaves cfg rest (step cfg s c).0 (fields_after (step cfg s c).1 fs f)
+    (field_after (step cfg s c).1 c f) q x)
 
 -- nothing is left of no text
 none-left : (cfg : Config) (n : ℕ) → records_from cfg n st.StartRecord [] ≡ []
@@ -40,53 +49,66 @@ none-left cfg zero = refl
 none-left cfg (suc n) = refl
 
 -- at the end of a text there is one record at most, and then none
-end-state : (b : Bool) (first : Fields) (p : Read) → (if b then Some (first, st.StartRecord, []) else None) ≡ Some p → (p.1 ≡ st.StartRecord) × (p.2 ≡ [])
+end-state : (b : Bool) (first : Fields) (p : Read) → (if b then Some (first, st.StartRecord, []) else None) ≡ Some p
+    → (p.1 ≡ st.StartRecord) × (p.2 ≡ [])
 end-state true first p e = let same : (first, st.StartRecord, []) ≡ p = cc in rw (← same) (refl, refl)
 end-state false first p e = cc
 
-after-end : (cfg : Config) (s : State) (p : Read) (n : ℕ) → next_record cfg s [] [] [] ≡ Some p → records_from cfg n p.1 p.2 ≡ []
+after-end : (cfg : Config) (s : State) (p : Read) (n : ℕ) → next_record cfg s [] [] [] ≡ Some p
+    → records_from cfg n p.1 p.2 ≡ []
 unfolding next_record
 after-end cfg s p n e = let h = end-state (ends_at_end s) ([] ∷ []) p e in rw (h.0, h.1) (none-left cfg n)
 
 -- what two counts of turns do alike
-next-alike : (more other : State → List ℕ → List Fields) (o : Option Read) → ((p : Read) → o ≡ Some p → more p.1 p.2 ≡ other p.1 p.2) → records_next more o ≡ records_next other o
+next-alike : (more other : State → List ℕ → List Fields) (o : Option Read)
+    → ((p : Read) → o ≡ Some p → more p.1 p.2 ≡ other p.1 p.2) → records_next more o ≡ records_next other o
 next-alike more other None h = refl
 next-alike more other (Some p) h = ap (λ (t : List Fields). p.0 ∷ t) (h p refl)
 
 -- turns enough are turns enough
-stable : (cfg : Config) (n m : ℕ) (s : State) (xs : List ℕ) → length xs < n → length xs < m → records_from cfg n s xs ≡ records_from cfg m s xs
+stable : (cfg : Config) (n m : ℕ) (s : State) (xs : List ℕ) → length xs < n → length xs < m
+    → records_from cfg n s xs ≡ records_from cfg m s xs
 unfolding records_from
 stable cfg zero m s xs a b = absurd (omega arith)
 stable cfg (suc n) zero s xs a b = absurd (omega arith)
-stable cfg (suc n) (suc m) s [] a b = next-alike (records_from cfg n) (records_from cfg m) (next_record cfg s [] [] []) (λ p e. after-end cfg s p n e ∙ sym (after-end cfg s p m e))
+stable cfg (suc n) (suc m) s [] a b =
+    next-alike (records_from cfg n) (records_from cfg m) (next_record cfg s [] [] []) (λ p e. after-end cfg s p n e
+    ∙ sym (after-end cfg s p m e))
 stable cfg (suc n) (suc m) s (c ∷ rest) a b =
     next-alike (records_from cfg n) (records_from cfg m) (next_record cfg s [] [] (c ∷ rest))
     (λ p e. let h = takes cfg c rest s [] [] p e in stable cfg n m p.1 p.2 (omega (arith, h)) (omega (arith, h)))
 
 -- the first turn
-first-turn : (cfg : Config) (s : State) (xs : List ℕ) → all_after cfg s xs ≡ records_next (records_from cfg (length xs)) (next_record cfg s [] [] xs)
+first-turn : (cfg : Config) (s : State) (xs : List ℕ)
+    → all_after cfg s xs ≡ records_next (records_from cfg (length xs)) (next_record cfg s [] [] xs)
 unfolding records_from
 first-turn cfg s xs = rw add-one refl
 
 -- the next record, and those after it
-pub all-more : (cfg : Config) (s : State) (xs : List ℕ) (p : Read) → next_record cfg s [] [] xs ≡ Some p → all_after cfg s xs ≡ p.0 ∷ all_after cfg p.1 p.2
+pub all-more : (cfg : Config) (s : State) (xs : List ℕ) (p : Read) → next_record cfg s [] [] xs ≡ Some p
+    → all_after cfg s xs ≡ p.0 ∷ all_after cfg p.1 p.2
 all-more cfg s [] p e =
-    first-turn cfg s [] ∙ rw e (ap (λ (t : List Fields). p.0 ∷ t) (after-end cfg s p 0 e ∙ sym (after-end cfg s p (length p.2 + 1) e)))
+    first-turn cfg s []
+    ∙ rw e (ap (λ (t : List Fields). p.0 ∷ t)
+    (after-end cfg s p 0 e ∙ sym (after-end cfg s p (length p.2 + 1) e)))
 all-more cfg s (c ∷ rest) p e =
     let h = takes cfg c rest s [] [] p e in
     first-turn cfg s (c ∷ rest)
-    ∙ rw e (ap (λ (t : List Fields). p.0 ∷ t) (stable cfg (length (c ∷ rest)) (length p.2 + 1) p.1 p.2 (omega (arith, h)) (omega arith)))
+    ∙ rw e (ap (λ (t : List Fields). p.0 ∷ t)
+    (stable cfg (length (c ∷ rest)) (length p.2 + 1) p.1 p.2 (omega (arith, h)) (omega arith)))
 
 -- none
 pub all-none : (cfg : Config) (s : State) (xs : List ℕ) → next_record cfg s [] [] xs ≡ None → all_after cfg s xs ≡ []
 all-none cfg s xs e = first-turn cfg s xs ∙ rw e refl
 
 -- what csv calls all the records of a text are the records that the function gives
-pub are-all : (cfg : Config) (s : State) (xs : List ℕ) (rows : List Fields) → AreRecords cfg s xs rows → all_after cfg s xs ≡ rows
+pub are-all : (cfg : Config) (s : State) (xs : List ℕ) (rows : List Fields) → AreRecords cfg s xs rows
+    → all_after cfg s xs ≡ rows
 unfolding Reached
 are-all cfg s xs rows h = reach cfg s xs rows h.0 h.1 h.2 h.3
   where
-    reach : (cfg : Config) (s : State) (xs : List ℕ) (rows : List Fields) (s2 : State) (ys : List ℕ) → Reached cfg s xs rows s2 ys → next_record cfg s2 [] [] ys ≡ None → all_after cfg s xs ≡ rows
+    reach : (cfg : Config) (s : State) (xs : List ℕ) (rows : List Fields) (s2 : State) (ys : List ℕ)
+        → Reached cfg s xs rows s2 ys → next_record cfg s2 [] [] ys ≡ None → all_after cfg s xs ≡ rows
     reach cfg s xs [] s2 ys h e = all-none cfg s xs (rw (h.0, h.1) e)
     reach cfg s xs (r ∷ rows) s2 ys h e =
         let (p, next, first, more) = h in

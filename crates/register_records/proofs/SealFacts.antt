@@ -1,5 +1,6 @@
 -- When a record is a seal, and with what number of entries it agrees.
-use Rattle.std.proofs.Common.{◌≡◌, ◌≢◌, ◌<◌, ◌≤◌, ◌+◌, ◌-◌, ◌*◌, ◌^◌, ◌++◌, ℕ, zero, suc, List, [], ◌∷◌, length, take, get_or, Option, None, Some, true, false, refl, arith, codes}
+use Rattle.std.proofs.Common.{◌≡◌, ◌≢◌, ◌<◌, ◌≤◌, ◌+◌, ◌-◌, ◌*◌, ◌^◌, ◌++◌, ℕ, zero, suc, List, [], ◌∷◌, length, take}
+use Rattle.std.proofs.Common.{get_or, Option, None, Some, true, false, refl, arith, codes}
 use Rattle.std.specs.Prelude.{◌↔◌, IsTrue, nat_eq}
 use Rattle.std.specs.Char.{is_ascii_digit}
 use Rattle.std.specs.Str.{bytes_eq}
@@ -20,7 +21,8 @@ not_two (a ∷ b ∷ []) n = absurd (n refl)
 not_two (a ∷ b ∷ c ∷ rest) n = refl
 
 -- a record of two
-pub seal_by_first : (fs : Fields) (a : List ℕ) → length fs ≡ 2 → Some a ≡ field_at fs 0 → is_seal fs ≡ bytes_eq (trimmed a) (codes "END")
+pub seal_by_first : (fs : Fields) (a : List ℕ) → length fs ≡ 2 → Some a ≡ field_at fs 0
+    → is_seal fs ≡ bytes_eq (trimmed a) (codes "END")
 unfolding field_at
 seal_by_first [] a n e = absurd (omega arith)
 seal_by_first (x ∷ []) a n e = absurd (omega arith)
@@ -34,7 +36,8 @@ second-there [] h e = absurd (cc)
 second-there (x ∷ []) h e = absurd (cc)
 second-there (x ∷ y ∷ rest) h e = absurd (cc)
 
-pub agrees-by-second : (fs : Fields) (b : List ℕ) (n : ℕ) → is_seal fs ≡ true → Some b ≡ field_at fs 1 → Agrees fs n ↔ IsNumeral 7 (trimmed b) n
+pub agrees-by-second : (fs : Fields) (b : List ℕ) (n : ℕ) → is_seal fs ≡ true → Some b ≡ field_at fs 1
+    → Agrees fs n ↔ IsNumeral 7 (trimmed b) n
 unfolding field_at
 agrees-by-second [] b n h e = absurd (cc)
 agrees-by-second (x ∷ []) b n h e = absurd (cc)
@@ -42,24 +45,31 @@ agrees-by-second (x ∷ y ∷ []) b n h e = let same : y ≡ b = cc in (λ a. rw
 agrees-by-second (x ∷ y ∷ z ∷ rest) b n h e = absurd (cc)
 
 -- a number that was read, and compared
-pub compared : (number count : ℕ) (P : ℕ → Type 0) → ((n : ℕ) → (◌≡◌ {A = Option ℕ} (Some number) (Some n)) ↔ P n) → IsTrue (nat_eq number count) ↔ P count
-compared number count P h =
-    (λ e. let same : number ≡ count = grind (arith, nat_tests) in rw (← same) ((h number).0 refl), λ p. let same = (h count).1 p in grind (arith, nat_tests))
+pub compared : (number count : ℕ) (P : ℕ → Type 0) → ((n : ℕ) → (◌≡◌ {A = Option ℕ} (Some number) (Some n)) ↔ P n)
+    → IsTrue (nat_eq number count) ↔ P count
+compared number count P h = (
+  λ e. let same : number ≡ count = grind (arith, nat_tests) in
+      rw (← same) ((h number).0 refl),
+  λ p. let same = (h count).1 p in grind (arith, nat_tests),
+)
 
 -- the number that digits spell, one digit after the other
 all-more : (xs : List ℕ) (c : ℕ) → all_digits xs ≡ true → is_ascii_digit c ≡ true → all_digits (xs ++ c ∷ []) ≡ true
 all-more [] c h k = rw k refl
-all-more (x ∷ xs) c h k = let both = and_parts (is_ascii_digit x) (all_digits xs) h in rw (both.0, all-more xs c both.1 k) refl
+all-more (x ∷ xs) c h k =
+    let both = and_parts (is_ascii_digit x) (all_digits xs) h in rw (both.0, all-more xs c both.1 k) refl
 
 value-more : (n : ℕ) (xs : List ℕ) (c : ℕ) → value_after n (xs ++ c ∷ []) ≡ 10 * value_after n xs + (c - 48)
 value-more n [] c = refl
 value-more n (x ∷ xs) c = value-more (10 * n + (x - 48)) xs c
 
-pub digits-more : (xs : List ℕ) (i d : ℕ) → i < length xs → all_digits (take i xs) ≡ true → is_ascii_digit (get_or xs i d) ≡ true
+pub digits-more : (xs : List ℕ) (i d : ℕ) → i < length xs → all_digits (take i xs) ≡ true
+    → is_ascii_digit (get_or xs i d) ≡ true
     → all_digits (take (i + 1) xs) ≡ true
 digits-more xs i d lt h k = rw (take_more xs i d lt) (all-more (take i xs) (get_or xs i d) h k)
 
-pub number-more : (xs : List ℕ) (i d n : ℕ) → i < length xs → n ≡ value_after 0 (take i xs) → 10 * n + (get_or xs i d - 48) ≡ value_after 0 (take (i + 1) xs)
+pub number-more : (xs : List ℕ) (i d n : ℕ) → i < length xs → n ≡ value_after 0 (take i xs)
+    → 10 * n + (get_or xs i d - 48) ≡ value_after 0 (take (i + 1) xs)
 number-more xs i d n lt h = rw (take_more xs i d lt, value-more 0 (take i xs) (get_or xs i d), h) refl
 
 -- digits alone

@@ -1,5 +1,6 @@
 -- The records and the entries of a text.
-use Rattle.std.specs.Prelude.{◌≡◌, ◌≤◌, ◌<◌, ◌+◌, ◌++◌, ⊤, ◌&&◌, Bool, true, false, nat_le, nat_lt, ℕ, List, [], ◌∷◌, length, Result, Ok, Err, if◌then◌else◌, Option, Some, None}
+use Rattle.std.specs.Prelude.{◌≡◌, ◌≤◌, ◌<◌, ◌+◌, ◌++◌, ⊤, ◌&&◌, Bool, true, false, nat_le, nat_lt, ℕ, List, [], ◌∷◌}
+use Rattle.std.specs.Prelude.{length, Result, Ok, Err, if◌then◌else◌, Option, Some, None}
 use Rattle.std.specs.Str.{is_utf8}
 use Rattle.csv.specs.declared.parser.Config.{Config}
 use Rattle.csv.specs.Reading.{default_config, records, strip_bom}
@@ -48,7 +49,8 @@ are_short t =
 abbrev pub are_utf8 : Texts → Bool
 are_utf8 t = is_utf8 t.id && is_utf8 t.calendar && is_utf8 t.date && is_utf8 t.note
 
--- the body of a record with as many fields as the form wants: its texts as they stand, or the first refusal that applies
+-- the body of a record with as many fields as the form wants: its texts as they stand, or the first refusal that
+-- applies
 abbrev pub body_of_texts : Texts → Result Texts Refusal
 body_of_texts t =
     if are_short t then (if are_utf8 t then Ok t else Err refusal.NotUtf8) else Err refusal.FieldTooLong
@@ -95,7 +97,8 @@ record_limit = 1000000
 unfoldable pub entries_from : Form → ℕ → List Fields → List Numbered
 entries_from form k [] = []
 entries_from form k (r ∷ rest) =
-    if nat_lt k record_limit then record { number = k + 1; body = body_of form r } ∷ entries_from form (k + 1) rest else []
+    if nat_lt k record_limit then record { number = k + 1; body = body_of form r } ∷ entries_from form (k + 1) rest
+    else []
 
 -- the entries of a text, by the records after its header
 abbrev pub entries_of : Form → List Fields → List Numbered
@@ -112,7 +115,8 @@ AreAccepted form records = (after : List Fields) × AreAfterHeader form records 
 -- the text is accepted, and these are its entries
 abbrev pub HasEntries : Format → List ℕ → List Numbered → Type 0
 HasEntries format text entries =
-    (after : List Fields) × HasRecords format text after × AreAll format.form after × (entries ≡ entries_of format.form after)
+    (after : List Fields) × HasRecords format text after × AreAll format.form after
+    × (entries ≡ entries_of format.form after)
 
 -- the text has an accepted header, and these are its first entries
 abbrev pub HasFirstEntries : Format → List ℕ → List Numbered → Type 0

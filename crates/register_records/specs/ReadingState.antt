@@ -1,13 +1,16 @@
 -- What an `EntryReader` knows of what it has yet to give. No public contract cites this file.
-use Rattle.std.specs.Prelude.{◌≡◌, ◌⊎◌, ◌<◌, ◌+◌, ◌++◌, ⊤, Bool, true, false, ℕ, List, [], ◌∷◌, length, Option, Some, None, IfSome, IsTrue, option_map}
-use Rattle.csv.specs.Reading.{Ready, is_flexible, reader_config, reader_state, reader_trim, records_from, source_of, took_first}
+use Rattle.std.specs.Prelude.{◌≡◌, ◌⊎◌, ◌<◌, ◌+◌, ◌++◌, ⊤, Bool, true, false, ℕ, List, [], ◌∷◌, length, Option, Some}
+use Rattle.std.specs.Prelude.{None, IfSome, IsTrue, option_map}
+use Rattle.csv.specs.Reading.{Ready, is_flexible, reader_config, reader_state, reader_trim, records_from, source_of}
+use Rattle.csv.specs.Reading.{took_first}
 use Rattle.csv.specs.declared.error.ErrorKind.{ErrorKind}
 use Rattle.csv.specs.declared.error.ErrorKind.TheVariants as kind
 use Rattle.csv.specs.declared.parser.Config.{Config}
 use Rattle.csv.specs.declared.parser.State.{State}
 use Rattle.csv.specs.declared.reader.Reader.{Reader}
 use Rattle.csv.specs.declared.reader.Trim.TheVariants as trim
-use Rattle.register_records.specs.Entries.{Fields, Format, HasEntries, HasRecords, Numbered, body_of, body_seen, entries_from}
+use Rattle.register_records.specs.Entries.{Fields, Format, HasEntries, HasRecords, Numbered, body_of, body_seen}
+use Rattle.register_records.specs.Entries.{entries_from}
 use Rattle.register_records.specs.Seals.{Agrees, entry_records, is_seal}
 use Rattle.register_records.specs.Seen.{entry_body, entry_number}
 use Rattle.register_records.specs.declared.entries.Entry.{Entry}
@@ -82,9 +85,10 @@ LacksSeal form count rows = (entry_records form rows ≡ []) × ¬ (EndsAt form 
 abbrev pub HasEntry : Form → List Fields → Type 0
 HasEntry form rows = 0 < length (entry_records form rows)
 
--- these entries are the first of a text. While no call failed and none answered that no entry is left, those of the records
--- that are left follow them; once a call answered so, they are all
-pub record Stands (format : Format) (text : List ℕ) (failed done : Bool) (left : Option (List Fields)) (given : List Numbered)
+-- these entries are the first of a text. While no call failed and none answered that no entry is left, those of the
+-- records that are left follow them; once a call answered so, they are all
+pub record Stands (format : Format) (text : List ℕ) (failed done : Bool) (left : Option (List Fields))
+    (given : List Numbered)
     : Type 0 where
   pub past : List Fields
   pub rest : List Fields

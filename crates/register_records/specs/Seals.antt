@@ -27,9 +27,10 @@ abbrev pub entry_records : Form → List Fields → List Fields
 entry_records Plain after = after
 entry_records Sealed after = before_seal after
 
--- the records after the header end as the form wants it: under a sealed form the first seal stands last, and agrees with
--- the number of those before it
+-- the records after the header end as the form wants it: under a sealed form the first seal stands last, and agrees
+-- with the number of those before it
 abbrev pub AreClosed : Form → List Fields → Type 0
 AreClosed Plain after = ⊤
 AreClosed Sealed after =
-    (seal : Fields) × (after ≡ before_seal after ++ seal ∷ []) × IsTrue (is_seal seal) × Agrees seal (length (before_seal after))
+    (seal : Fields) × (after ≡ before_seal after ++ seal ∷ []) × IsTrue (is_seal seal)
+    × Agrees seal (length (before_seal after))

@@ -3,7 +3,8 @@ use Rattle.std.specs.Prelude.{◌==◌, if◌then◌else◌, ℕ, ℤ, List, [],
 use Rattle.std.specs.Fmt.{decimal, signed_decimal}
 use Rattle.day_numbers.specs.Days.{weekday_name, weekday_number}
 use Rattle.day_numbers.specs.declared.day.Weekday.{Weekday}
-use Rattle.day_numbers.specs.declared.day.Weekday.TheVariants.{Sunday, Monday, Tuesday, Wednesday, Thursday, Friday, Saturday}
+use Rattle.day_numbers.specs.declared.day.Weekday.TheVariants.{Sunday, Monday, Tuesday, Wednesday, Thursday, Friday}
+use Rattle.day_numbers.specs.declared.day.Weekday.TheVariants.{Saturday}
 use Rattle.date_texts.specs.Calendars.{target_name}
 use Rattle.register_records.specs.Entries.{Format, Texts}
 use Rattle.register_records.specs.Lines.{line_text}
@@ -47,7 +48,8 @@ weekday_at n =
 
 -- the day number, the weekday, the cells and an empty refusal; or all of these empty but the refusal's number
 abbrev pub outcome_fields : List Target → Result ℤ Refusal → List (List ℕ) → List (List ℕ)
-outcome_fields targets (Ok n) cells = (signed_decimal n ∷ weekday_name (weekday_at (weekday_number n)) ∷ cells) ++ ([] ∷ [])
+outcome_fields targets (Ok n) cells =
+    (signed_decimal n ∷ weekday_name (weekday_at (weekday_number n)) ∷ cells) ++ ([] ∷ [])
 outcome_fields targets (Err r) cells = ([] ∷ [] ∷ map (λ _. []) targets) ++ (decimal (refusal_number r) ∷ [])
 
 -- the fields that a row has of its entry: its number and the texts

@@ -30,7 +30,7 @@ fn without_mark(field: &[u8]) -> &[u8]
     }
 }
 
-///! Whether a record is the header.
+/// Whether a record is the header.
 pub(crate) fn is_header(row: &ByteRecord, form: Form) -> bool
     ensures { IsTrue result ↔ IsHeader form (fields_of row.now) }
 {

@@ -34,7 +34,7 @@ pub use entries::{Body, Entry};
 pub use outputs::{Output, OutputFault, PlainOutput, send};
 pub use reading::{EntryFault, EntryReader};
 pub use rows::Row;
-pub use setups::{Form, Setup, SetupFault};
+pub use setups::{Form, MAX_RING, MAX_STRIPES, Setup, SetupFault};
 pub use sources::{Cause, Note, SourceEnd, convert_source};
 pub use writing::{RowFault, RowWriter};
 

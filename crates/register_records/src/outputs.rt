@@ -1,6 +1,7 @@
 //! Where the bytes of a table go.
 
-ghost use Rattle.std.specs.Prelude.{◌≡◌, ◌≤◌, ◌||◌, true, false, ℕ, Bool, List, Option, length, take, IfOk, OnOk, OnErr, is_err};
+ghost use Rattle.std.specs.Prelude.{◌≡◌, ◌≤◌, ◌||◌, true, false, ℕ, Bool, List, Option, length, take, IfOk, OnOk};
+ghost use Rattle.std.specs.Prelude.{OnErr, is_err};
 ghost use Rattle.std.specs.Io.KnownBytes.{Appends, Keeps};
 ghost use Rattle.register_records.specs.Outputs.{took_none};
 

@@ -1,11 +1,12 @@
 //! The entries of a text, in order.
 
-ghost use Rattle.std.specs.Prelude.{◌≡◌, ◌+◌, ◌++◌, ◌∷◌, [], ◌≤◌, true, false, List, length, OnOk, OnErr, IfOk, IfErr};
-ghost use Rattle.std.specs.Prelude.{IfSome, IsErr, Ok, Err, Option, None};
+ghost use Rattle.std.specs.Prelude.{◌≡◌, ◌+◌, ◌++◌, ◌∷◌, [], ◌≤◌, true, false, length, OnOk, OnErr, IfOk, IfErr};
+ghost use Rattle.std.specs.Prelude.{IfSome, Ok, Err, Option, None};
 ghost use Rattle.csv.specs.Reading.{error_kind, has_failed, stops_reader};
 ghost use Rattle.csv.specs.Records.{fields_of};
 ghost use Rattle.register_records.specs.Entries.{HasFirstEntries, format_by, record_limit};
-ghost use Rattle.register_records.specs.ReadingState.{EndsAt, Gives, HasBegun, HasEntry, IsLive, IsOfReading, LacksSeal, Reads, Stands};
+ghost use Rattle.register_records.specs.ReadingState.{EndsAt, Gives, HasBegun, HasEntry, IsLive, IsOfReading};
+ghost use Rattle.register_records.specs.ReadingState.{LacksSeal, Reads, Stands};
 ghost use Rattle.register_records.specs.ReadingState.{fault_of, records_left};
 ghost use Rattle.register_records.specs.Retrying.{inner_remaining};
 ghost use Rattle.register_records.specs.Seen.{entries_shown, entry_number};
@@ -107,7 +108,8 @@ fn read_entry<R: Read>(
     requires live { HasBegun records.old }
     requires few { count ≤ record_limit }
     ensures live { OnOk result (HasBegun records.new) }
-    ensures gives { IfOk result (λ o. IfSome o (Gives form count (records_left (inner_remaining R.remaining) records.old)
+    ensures gives { IfOk result (λ o.
+        IfSome o (Gives form count (records_left (inner_remaining R.remaining) records.old)
         (records_left (inner_remaining R.remaining) records.new))) }
     ensures number { IfOk result (λ o. IfSome o (λ e. (entry_number e ≡ count + 1) × (entry_number e ≤ record_limit))) }
     ensures ends { result ≡ Ok None
@@ -142,7 +144,8 @@ fn read_entry<R: Read>(
 impl<R: Read + Drop> EntryReader<R> {
     ghost use Rattle.register_records.specs.Entries.{HasEntries, HasNoHeader, HasTooMany, IsNotSealed};
     ghost use Rattle.register_records.specs.Seen.{entry_seen};
-    ghost use Rattle.register_records.specs.Views.{format_of, given_of, is_stopped, reading_ended, reading_failed, reads_by, text_of};
+    ghost use Rattle.register_records.specs.Views.{format_of, given_of, is_stopped, reading_ended, reading_failed};
+    ghost use Rattle.register_records.specs.Views.{reads_by, text_of};
 
     /// Reads the header of a text: a first record of three fields that are `id`, `calendar` and `date`,
     /// and under a sealed form a fourth that is `note`, once spaces and tabs round them are taken off, in

@@ -1,6 +1,6 @@
 //! What a conversion is asked for.
 
-ghost use Rattle.std.specs.Prelude.{◌≡◌, ◌≤◌, ◌<◌, ◌↔◌, ◌≢◌, ℕ, length, IsTrue, IfOk, Err, true, false, slice_get};
+ghost use Rattle.std.specs.Prelude.{◌≡◌, ◌≤◌, ◌<◌, ◌↔◌, ◌≢◌, ℕ, length, IfOk, Err, true, false, slice_get};
 ghost use Rattle.register_records.specs.ShortLists.{items_in};
 ghost use Rattle.register_records.specs.SetupRules.{NamesTwice, is_delimiter, is_ring_size, is_stripe_count};
 
@@ -10,10 +10,10 @@ use date_texts::{Calendar, MAX_TARGETS, Target};
 use thiserror::Error;
 
 /// The largest ring.
-const MAX_RING: usize = 4096;
+pub const MAX_RING: usize = 4096;
 
 /// The most converters of a source.
-const MAX_STRIPES: usize = 4;
+pub const MAX_STRIPES: usize = 4;
 
 /// Whether a register has seals.
 #[derive(Clone, Copy, PartialEq, Eq, Debug)]
@@ -199,8 +199,10 @@ fn listed(targets: &[Target]) -> ShortList<Target>
 
 /// Whether a target stands at two places.
 fn names_twice(targets: &[Target]) -> bool
-    ensures some { result ≡ true → (i : ℕ) × (j : ℕ) × (i < j) × (j < length targets.now) × (slice_get targets.now i ≡ slice_get targets.now j) }
-    ensures none { result ≡ false → (i : ℕ) → (j : ℕ) → i < j → j < length targets.now → slice_get targets.now i ≢ slice_get targets.now j }
+    ensures some { result ≡ true → (i : ℕ) × (j : ℕ) × (i < j) × (j < length targets.now)
+        × (slice_get targets.now i ≡ slice_get targets.now j) }
+    ensures none { result ≡ false → (i : ℕ) → (j : ℕ) → i < j → j < length targets.now
+        → slice_get targets.now i ≢ slice_get targets.now j }
 {
     'later: for j in 0..targets.len() {
         'earlier: for i in 0..j {

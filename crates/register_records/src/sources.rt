@@ -2,7 +2,8 @@
 
 ghost use Rattle.std.specs.Prelude.{◌≡◌, ◌≢◌, ◌≤◌, true, length, IfSome, IsSome, IsSomeAnd, OnOk, ◌++◌};
 ghost use Rattle.register_records.specs.Entries.{HasNoHeader, HasTooMany, IsNotSealed, record_limit};
-ghost use Rattle.register_records.specs.Sources.{ArePartOfTable, Gains, IfBroken, IfWhole, IsFrontOfTable, IsWholeTable, cause_number, is_whole_end};
+ghost use Rattle.register_records.specs.Sources.{ArePartOfTable, Gains, IfBroken, IfWhole, IsFrontOfTable};
+ghost use Rattle.register_records.specs.Sources.{IsWholeTable, cause_number, is_whole_end};
 ghost use Rattle.register_records.specs.Tables.{notes_of};
 ghost use Rattle.register_records.specs.declared.setups.Form.TheVariants.{Sealed};
 ghost use Rattle.register_records.specs.Views.{form_of, format_of, layout_of, row_seen};
@@ -101,7 +102,8 @@ fn broken(cause: Option<Cause>) -> SourceEnd
 
 /// Notes a row that was refused.
 fn push_note(journal: &mut Vec<Note>, row: &Row) -> Result<(), AllocError>
-    ensures { OnOk result (journal.new.items ≡ journal.old.items ++ notes_of (row_seen row.now).number (row_seen row.now).outcome) }
+    ensures { OnOk result (journal.new.items
+        ≡ journal.old.items ++ notes_of (row_seen row.now).number (row_seen row.now).outcome) }
 {
     if let Some(note) = row.note() {
         journal.push(note)?;

@@ -1,6 +1,7 @@
 //! Rows as lines, each completed before its first byte goes out.
 
-ghost use Rattle.std.specs.Prelude.{◌≡◌, ◌++◌, [], true, false, length, OnOk, OnErr, IfOk, IfErr, Ok, Err, if◌then◌else◌};
+ghost use Rattle.std.specs.Prelude.{◌≡◌, ◌++◌, [], true, false, length, OnOk, OnErr, IfOk, IfErr, Ok, Err};
+ghost use Rattle.std.specs.Prelude.{if◌then◌else◌};
 ghost use Rattle.std.specs.Io.KnownBytes.{Appends};
 
 use crate::lines::{LINE_ROOM, Line};
@@ -158,7 +159,8 @@ impl RowWriter {
         ensures flushed { OnOk result (W.is_flushed output.new ≡ true) }
         ensures by { writes_by self.new ≡ writes_by self.old }
         ensures goes { OnOk result ((W.has_failed output.new ≡ W.has_failed output.old)
-            × (writing_failed self.new ≡ writing_failed self.old) × (has_sunk self.old ≡ false) × (has_sunk self.new ≡ false)) }
+            × (writing_failed self.new ≡ writing_failed self.old) × (has_sunk self.old ≡ false)
+            × (has_sunk self.new ≡ false)) }
         ensures fails { OnErr result ((writing_failed self.new ≡ true) × (has_sunk self.new ≡ true)) }
         ensures fault { IfErr result (λ e. e ≡ RowFault.WriteFault → W.has_failed output.new ≡ true) }
         ensures told { IfErr result (λ e. e ≡ RowFault.OutOfMemory → ⊥) }

@@ -5,21 +5,27 @@ use Rattle.register_records.proofs.FieldFacts.{field-there, plain-texts, sealed-
 use Rattle.register_records.proofs.columns.columns_in.Goals as goal
 
 pub returns-in_err-id : goal.returns-in_err-id
-returns-in_err-id c = field-there c.args.form (fields_of c.args.row.now) 0 (omega arith) (omega (arith, three-or-four c.args.form)) c.in_err-id.ensures.value
+returns-in_err-id c =
+    field-there c.args.form (fields_of c.args.row.now) 0 (omega arith)
+    (omega (arith, three-or-four c.args.form)) c.in_err-id.ensures.value
 
 pub returns-in_err-calendar : goal.returns-in_err-calendar
 returns-in_err-calendar c =
-    field-there c.args.form (fields_of c.args.row.now) 1 (omega arith) (omega (arith, three-or-four c.args.form)) c.in_err-calendar.ensures.value
+    field-there c.args.form (fields_of c.args.row.now) 1 (omega arith)
+    (omega (arith, three-or-four c.args.form)) c.in_err-calendar.ensures.value
 
 pub returns-in_err-date : goal.returns-in_err-date
-returns-in_err-date c = field-there c.args.form (fields_of c.args.row.now) 2 (omega arith) (omega (arith, three-or-four c.args.form)) c.in_err-date.ensures.value
+returns-in_err-date c =
+    field-there c.args.form (fields_of c.args.row.now) 2 (omega arith)
+    (omega (arith, three-or-four c.args.form)) c.in_err-date.ensures.value
 
 pub returns-in-Plain : goal.returns-in-Plain
 returns-in-Plain c =
     let fields = fields_of c.args.row.now in
     let long : length fields ≡ field_count c.args.form = omega arith in
     rw c.in-Plain.is
-    (plain-texts fields _ _ _ (long ∙ ap field_count c.in-Plain.is) c.in_ok-id.ensures.value c.in_ok-calendar.ensures.value c.in_ok-date.ensures.value)
+    (plain-texts fields _ _ _ (long ∙ ap field_count c.in-Plain.is)
+    c.in_ok-id.ensures.value c.in_ok-calendar.ensures.value c.in_ok-date.ensures.value)
 
 pub returns-in_err-get-in-Sealed : goal.returns-in_err-get-in-Sealed
 returns-in_err-get-in-Sealed c =
@@ -31,4 +37,6 @@ returns-in_ok-get-in-Sealed c =
     let fields = fields_of c.args.row.now in
     let long : length fields ≡ field_count c.args.form = omega arith in
     rw c.in-Sealed.is
-    (sealed-texts fields _ _ _ _ (long ∙ ap field_count c.in-Sealed.is) c.in_ok-id.ensures.value c.in_ok-calendar.ensures.value c.in_ok-date.ensures.value c.in_ok-get-in-Sealed.ensures.value)
+    (sealed-texts fields _ _ _ _ (long ∙ ap field_count c.in-Sealed.is)
+    c.in_ok-id.ensures.value c.in_ok-calendar.ensures.value c.in_ok-date.ensures.value
+    c.in_ok-get-in-Sealed.ensures.value)

@@ -8,7 +8,14 @@ use Rattle.register_records.proofs.seals.is_seal.Goals as goal
 pub returns-in-Some : goal.returns-in-Some
 returns-in-Some c =
     c.eq.ensures
-    ∙ (ap (λ text. bytes_eq text (codes "END")) c.trimmed.ensures ∙ sym (seal_by_first (fields_of c.args.row.now) c.in-Some.first.now (omega arith) c.in-Some.ensures.value))
+    ∙ (ap (λ text. bytes_eq text (codes "END")) c.trimmed.ensures
+    ∙ sym (seal_by_first (fields_of c.args.row.now) c.in-Some.first.now (omega arith) c.in-Some.ensures.value))
 
 pub returns-in-None : goal.returns-in-None
-returns-in-None c = absurd (omega (arith, missing-field (fields_of c.args.row.now) 0 c.in-None.ensures.value, c.if-len-ne2.false, c.len.ensures))
+returns-in-None c =
+    absurd (omega (
+      arith,
+      missing-field (fields_of c.args.row.now) 0 c.in-None.ensures.value,
+      c.if-len-ne2.false,
+      c.len.ensures,
+    ))

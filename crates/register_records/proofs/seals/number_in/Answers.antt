@@ -8,5 +8,7 @@ returns-in_err-second c = second-there (fields_of c.args.seal.now) c.requires c.
 pub returns : goal.returns
 returns c n =
     let read = c.number_of.ensures n in
-    let same = agrees-by-second (fields_of c.args.seal.now) c.in_ok-second.second.now n c.requires c.in_ok-second.ensures.value in
+    let same =
+    agrees-by-second (fields_of c.args.seal.now) c.in_ok-second.second.now n c.requires c.in_ok-second.ensures.value
+    in
     (λ e. same.1 (rw (← c.trimmed.ensures) (read.0 e)), λ a. read.1 (rw c.trimmed.ensures (same.0 a)))

@@ -6,18 +6,22 @@ pub returns-then-not-is_ascii_digit : goal.returns-then-not-is_ascii_digit
 returns-then-not-is_ascii_digit c n =
     let other = sym c.is_ascii_digit.ensures.value ∙ c.if-not-is_ascii_digit.true in (
       λ e. cc,
-      λ is. absurd (let clash : true ≡ false = sym (digit-at c.args.text.now c.digits.digit-index _ c.digits-test.true is.digits) ∙ other in cc),
+      λ is. absurd (let clash : true
+          ≡ false = sym (digit-at c.args.text.now c.digits.digit-index _ c.digits-test.true is.digits) ∙ other in cc),
     )
 
 pub overflow_mul-number : goal.overflow_mul-number
 overflow_mul-number c =
-    let fits = places-more c.digits.digit-index c.digits.number 0 (omega arith) c.digits.invariant.small (omega arith) in
+    let fits =
+    places-more c.digits.digit-index c.digits.number 0 (omega arith) c.digits.invariant.small (omega arith) in
     omega (arith, fits.1)
 
 pub overflow_add-number : goal.overflow_add-number
 overflow_add-number c =
     let is = sym c.is_ascii_digit.ensures.value ∙ c.if-not-is_ascii_digit.false in
-    let fits = digit-fits c.digits.digit-index c.digits.number (get_or c.args.text.now c.digits.digit-index 0) (omega arith) c.digits.invariant.small is in
+    let fits =
+    digit-fits c.digits.digit-index c.digits.number (get_or c.args.text.now c.digits.digit-index 0)
+    (omega arith) c.digits.invariant.small is in
     omega (arith, fits)
 
 pub digits-preserved : goal.digits-preserved

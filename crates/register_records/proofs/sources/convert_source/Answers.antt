@@ -9,7 +9,8 @@ use Rattle.register_records.specs.Views.{format_of, layout_of, line_of, row_seen
 use Rattle.std.specs.Io.KnownBytes.{Appends}
 use Rattle.date_texts.specs.declared.calendar.Target.{Target}
 use Rattle.register_records.specs.declared.sources.Note.{Note}
-use Rattle.register_records.proofs.Progress.{finish, first_rows, front, if_broken, nothing, notes_few, ok_so, only_memory, only_not_sealed, only_too_many, start, step, told_of}
+use Rattle.register_records.proofs.Progress.{finish, first_rows, front, if_broken, nothing, notes_few, ok_so}
+use Rattle.register_records.proofs.Progress.{only_memory, only_not_sealed, only_too_many, start, step, told_of}
 use Rattle.register_records.proofs.sources.convert_source.Goals as goal
 
 pub entries-init : goal.entries-init
@@ -41,7 +42,8 @@ returns-in-Ok-None-clause-whole g c =
     let inv = c.entries.invariant in
     let all = (rw c.in-Ok-None.field-0-is at c.in-Ok-None.ensures.all) refl in
     let kept = (rw c.in-Ok-None.field-0-is at c.in-Ok-None.ensures.ends) refl in
-    finish _ _ _ _ _ _ _ _ _ _ _ inv.come (c.next.ensures.text.0 ∙ inv.text) (c.next.ensures.text.1 ∙ inv.reads_by) kept.1 all inv.counted (search rules)
+    finish _ _ _ _ _ _ _ _ _ _ _ inv.come (c.next.ensures.text.0 ∙ inv.text)
+    (c.next.ensures.text.1 ∙ inv.reads_by) kept.1 all inv.counted (search rules)
 
 pub returns-then-is_err-clause-part : goal.returns-then-is_err-clause-part
 returns-then-is_err-clause-part g c =
@@ -53,7 +55,8 @@ returns-in-Err-put-clause-part g c =
     let inv = c.entries.invariant in
     if_broken _ _ _ c.broken-in-Err-put.ensures (λ cause is h.
     let memory = only_memory _ cause (sym c.cause-in-Err-put.ensures ∙ is) h in
-    rw (c.in-Err-put.ensures.memory memory) (front _ _ _ _ _ _ _ _ inv.come inv.text inv.reads_by c.entries.entries.first))
+    rw (c.in-Err-put.ensures.memory memory)
+    (front _ _ _ _ _ _ _ _ inv.come inv.text inv.reads_by c.entries.entries.first))
 
 pub entries-preserved : goal.entries-preserved
 entries-preserved g c =
@@ -66,8 +69,12 @@ entries-preserved g c =
     let setup = c.args.setup.now in
     let same_line : line_of c.entries.writer row ≡ row_line (layout_of setup) (row_seen row)
     = ap (λ (format : Format). row_line (record { format = format; targets = row_targets row }) (row_seen row)) inv.by
-    ∙ ap (λ (targets : List Target). row_line (record { format = format_of setup; targets = targets }) (row_seen row)) c.convert-row.ensures.targets in
-    let line = subst (λ (bytes : List ℕ). Appends (g.W.Output.contents c.entries.output) (g.W.Output.contents c.put.new.output) bytes) same_line (rw inv.none_waits at c.in_default.ensures.ok) in
+    ∙ ap (λ (targets : List Target).
+    row_line (record { format = format_of setup; targets = targets }) (row_seen row))
+    c.convert-row.ensures.targets in
+    let line =
+    subst (λ (bytes : List ℕ). Appends (g.W.Output.contents c.entries.output)
+    (g.W.Output.contents c.put.new.output) bytes) same_line (rw inv.none_waits at c.in_default.ensures.ok) in
     let same : c.number-rows.result ≡ entry_number c.in-Ok-Some.entry = cc in
     let few = notes_few (row_seen c.convert-row.result).number (row_seen c.convert-row.result).outcome in
     let longer = length-append {A = Numbered} (given_of c.entries.entries) (entry_seen c.in-Ok-Some.entry ∷ []) in

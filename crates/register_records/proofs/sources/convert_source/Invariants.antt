@@ -1,6 +1,7 @@
 use Rattle.std.proofs.Common.{◌≡◌, [], ◌≤◌, ◌-◌, true, false, length}
 use Rattle.register_records.specs.Entries.{record_limit}
-use Rattle.register_records.specs.Views.{format_of, given_of, layout_of, pending_of, reading_failed, reads_by, text_of, writes_by, writing_failed}
+use Rattle.register_records.specs.Views.{format_of, given_of, layout_of, pending_of, reading_failed, reads_by, text_of}
+use Rattle.register_records.specs.Views.{writes_by, writing_failed}
 use Rattle.register_records.proofs.Progress.{Progress}
 use Rattle.register_records.proofs.sources.convert_source.Given as goal
 

@@ -1,5 +1,7 @@
-use Rattle.std.proofs.Common.{◌≡◌, ℕ, ◌+◌, ◌-◌, ◌<◌, ◌≤◌, List, ◌++◌, suc, length, take, drop, get_or, sym, ap, ◌∙◌, arith}
-use Rattle.std.proofs.Common.{append_assoc, drop-cons, drop-drop, length-append, length-drop, length-take, length-take-le, take-append-drop, take_at}
+use Rattle.std.proofs.Common.{◌≡◌, ℕ, ◌+◌, ◌-◌, ◌<◌, ◌≤◌, List, ◌++◌, suc, length, take, drop, get_or, sym, ap, ◌∙◌}
+use Rattle.std.proofs.Common.{arith}
+use Rattle.std.proofs.Common.{append_assoc, drop-cons, drop-drop, length-append, length-drop, length-take}
+use Rattle.std.proofs.Common.{length-take-le, take-append-drop, take_at}
 use Rattle.std.specs.Prelude.{Vec, min}
 use Rattle.std.specs.declared.alloc.Global.{Global}
 use Rattle.register_records.specs.Faults.{bytes_left, chunk_bytes}
@@ -14,7 +16,8 @@ left_at s p given d b h is e =
     ∙ ap (λ (x : List ℕ). drop given x ++ more) (sym e))
 
 -- n bytes more of a chunk are given: a copy of them, and what is left
-given_more : (b more copy rest : List ℕ) (given n : ℕ) → n ≤ length b - given → copy ≡ take ((given + n) - given) (drop given b)
+given_more : (b more copy rest : List ℕ) (given n : ℕ) → n ≤ length b - given
+    → copy ≡ take ((given + n) - given) (drop given b)
     → drop given b ++ more ≡ take n (copy ++ rest) ++ (drop (given + n) b ++ more)
 given_more b more copy rest given n few cp =
     let back : (given + n) - given ≡ n = omega arith in
@@ -28,7 +31,8 @@ given_more b more copy rest given n few cp =
     rw (take_at copy rest n count) (ap (λ (x : List ℕ). x ++ more) halves ∙ append_assoc copy (drop (given + n) b) more)
 
 -- where there is room and a chunk is not spent, some bytes are given
-gives_some : (b copy buf : List ℕ) (given n : ℕ) → length copy ≡ length (take n buf) → n ≡ min (length buf) (length b - given)
+gives_some : (b copy buf : List ℕ) (given n : ℕ) → length copy ≡ length (take n buf)
+    → n ≡ min (length buf) (length b - given)
     → given < length b → n ≡ 0 → 0 < length (copy ++ drop n buf) → ⊥
 gives_some b copy buf given n same few left none some =
     omega (arith, length-append copy (drop n buf), length-drop n buf, length-take n buf)

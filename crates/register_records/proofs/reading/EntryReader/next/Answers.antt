@@ -5,21 +5,26 @@ use Rattle.register_records.specs.ReadingState.{records_left}
 use Rattle.register_records.specs.Retrying.{inner_remaining}
 use Rattle.register_records.specs.Seen.{entries_shown}
 use Rattle.register_records.specs.Views.{given_of}
-use Rattle.register_records.proofs.GivenFacts.{may-all, may-end, may-ended, may-fail, may-first, may-lack, may-many, may-more, shown-length, shown-more}
+use Rattle.register_records.proofs.GivenFacts.{may-all, may-end, may-ended, may-fail, may-first, may-lack, may-many}
+use Rattle.register_records.proofs.GivenFacts.{may-more, shown-length, shown-more}
 use Rattle.register_records.proofs.reading.EntryReader.next.Goals as goal
 
 pub returns-then-self-2-clause-all : goal.returns-then-self-2-clause-all
 returns-then-self-2-clause-all g c _ =
     let self = c.args.self.now in
-    may-ended (g.R.Read.remaining self.source.value) (format_by self.delimiter self.form) self.failed self.done (records_left (inner_remaining g.R.Read.remaining) self.records) (given_of self) self.stands c.if-self-2.true
+    may-ended (g.R.Read.remaining self.source.value) (format_by self.delimiter self.form) self.failed self.done
+    (records_left (inner_remaining g.R.Read.remaining) self.records) (given_of self) self.stands c.if-self-2.true
 
 pub invariant_of-self : goal.invariant_of-self
 invariant_of-self g c =
     let self = c.args.self.now in
     let refused : is_ok c.push.result ≡ false = search rules in
     let kept = rw refused at c.push.ensures.items in
-    let stands = may-fail (g.R.Read.remaining self.source.value) (format_by self.delimiter self.form) self.failed self.done (records_left (inner_remaining g.R.Read.remaining) self.records) (given_of self) self.stands
-    (records_left (inner_remaining g.R.Read.remaining) c.read_entry.new.records) (entries_shown c.push.new.self.items) (ap entries_shown kept) in
+    let stands =
+    may-fail (g.R.Read.remaining self.source.value) (format_by self.delimiter self.form) self.failed self.done
+    (records_left (inner_remaining g.R.Read.remaining) self.records) (given_of self) self.stands
+    (records_left (inner_remaining g.R.Read.remaining) c.read_entry.new.records) (entries_shown c.push.new.self.items)
+    (ap entries_shown kept) in
     record { live = λ e. cc; few = rw kept self.few; stands = stands; first = may-first _ _ _ _ _ _ stands }
 
 pub invariant_of-self-else-is_err : goal.invariant_of-self-else-is_err
@@ -31,38 +36,70 @@ invariant_of-self-else-is_err g c =
     let gives = rw c.in-Ok-Some.field-0-is at c.in-Ok-Some.ensures.gives in
     let number = rw c.in-Ok-Some.field-0-is at c.in-Ok-Some.ensures.number in
     let room : length self.given.items < record_limit = omega (arith, number.0, number.1, c.len-count.ensures) in
-    let stands = may-more (g.R.Read.remaining self.source.value) (format_by self.delimiter self.form) self.failed self.done (records_left (inner_remaining g.R.Read.remaining) self.records) (given_of self) self.stands c.if-self.false c.if-self-2.false c.len-count.result (omega (arith, c.len-count.ensures, shown-length self.given.items))
-    (records_left (inner_remaining g.R.Read.remaining) c.read_entry.new.records) (entries_shown c.push.new.self.items) c.in-Ok-Some.entry gives (omega (arith, number.0, number.1))
+    let stands =
+    may-more (g.R.Read.remaining self.source.value) (format_by self.delimiter self.form) self.failed self.done
+    (records_left (inner_remaining g.R.Read.remaining) self.records)
+    (given_of self) self.stands c.if-self.false c.if-self-2.false c.len-count.result
+    (omega (arith, c.len-count.ensures, shown-length self.given.items))
+    (records_left (inner_remaining g.R.Read.remaining) c.read_entry.new.records)
+    (entries_shown c.push.new.self.items) c.in-Ok-Some.entry gives (omega (arith, number.0, number.1))
     (ap entries_shown more ∙ shown-more self.given.items c.of.result c.in-Ok-Some.entry c.of.ensures) in
-    record { live = λ _. c.in-Ok-Some.ensures.live; few = omega (arith, longer, room); stands = stands; first = may-first _ _ _ _ _ _ stands }
+    record {
+      live = λ _. c.in-Ok-Some.ensures.live;
+      few = omega (arith, longer, room);
+      stands = stands;
+      first = may-first _ _ _ _ _ _ stands;
+    }
 
 pub invariant_of-self-in-Ok-None-clause-stands : goal.invariant_of-self-in-Ok-None-clause-stands
 invariant_of-self-in-Ok-None-clause-stands g c =
     let self = c.args.self.now in
     let ends = (rw c.in-Ok-None.field-0-is at c.in-Ok-None.ensures.ends) refl in
-    may-end (g.R.Read.remaining self.source.value) (format_by self.delimiter self.form) self.failed self.done (records_left (inner_remaining g.R.Read.remaining) self.records) (given_of self) self.stands c.if-self.false c.if-self-2.false c.len-count.result (omega (arith, c.len-count.ensures, shown-length self.given.items)) (rw (shown-length self.given.items) self.few) _ ends
+    may-end (g.R.Read.remaining self.source.value) (format_by self.delimiter self.form) self.failed self.done
+    (records_left (inner_remaining g.R.Read.remaining) self.records)
+    (given_of self) self.stands c.if-self.false c.if-self-2.false c.len-count.result
+    (omega (arith, c.len-count.ensures, shown-length self.given.items))
+    (rw (shown-length self.given.items) self.few) _ ends
 
 pub returns-in-Ok-None-clause-all : goal.returns-in-Ok-None-clause-all
 returns-in-Ok-None-clause-all g c _ =
     let self = c.args.self.now in
     let ends = (rw c.in-Ok-None.field-0-is at c.in-Ok-None.ensures.ends) refl in
-    may-all (g.R.Read.remaining self.source.value) (format_by self.delimiter self.form) self.failed self.done (records_left (inner_remaining g.R.Read.remaining) self.records) (given_of self) self.stands c.if-self.false c.if-self-2.false c.len-count.result (omega (arith, c.len-count.ensures, shown-length self.given.items)) (rw (shown-length self.given.items) self.few) ends
+    may-all (g.R.Read.remaining self.source.value) (format_by self.delimiter self.form) self.failed self.done
+    (records_left (inner_remaining g.R.Read.remaining) self.records)
+    (given_of self) self.stands c.if-self.false c.if-self-2.false c.len-count.result
+    (omega (arith, c.len-count.ensures, shown-length self.given.items))
+    (rw (shown-length self.given.items) self.few) ends
 
 pub invariant_of-self-in-Err-clause-stands : goal.invariant_of-self-in-Err-clause-stands
 invariant_of-self-in-Err-clause-stands g c =
     let self = c.args.self.now in
-    may-fail (g.R.Read.remaining self.source.value) (format_by self.delimiter self.form) self.failed self.done (records_left (inner_remaining g.R.Read.remaining) self.records) (given_of self) self.stands _ (given_of self) refl
+    may-fail (g.R.Read.remaining self.source.value) (format_by self.delimiter self.form) self.failed self.done
+    (records_left (inner_remaining g.R.Read.remaining) self.records) (given_of self) self.stands _
+    (given_of self) refl
 
 pub returns-in-Err-clause-many : goal.returns-in-Err-clause-many
 returns-in-Err-clause-many g c e =
     let self = c.args.self.now in
-    let counted : c.len-count.result ≡ length (given_of self) = omega (arith, c.len-count.ensures, shown-length self.given.items) in
-    let many = c.in-Err.ensures.many e in
-    (sym counted ∙ many.0, may-many (g.R.Read.remaining self.source.value) (format_by self.delimiter self.form) self.failed self.done (records_left (inner_remaining g.R.Read.remaining) self.records) (given_of self) self.stands c.if-self.false c.if-self-2.false c.len-count.result counted many.1 many.0)
+    let counted : c.len-count.result ≡ length (given_of self) =
+    omega (arith, c.len-count.ensures, shown-length self.given.items) in
+    let many = c.in-Err.ensures.many e in (
+      sym counted ∙ many.0,
+      may-many (g.R.Read.remaining self.source.value)
+          (format_by self.delimiter self.form) self.failed self.done
+          (records_left (inner_remaining g.R.Read.remaining) self.records)
+          (given_of self) self.stands c.if-self.false c.if-self-2.false c.len-count.result counted many.1 many.0,
+    )
 
 pub returns-in-Err-clause-not_sealed : goal.returns-in-Err-clause-not_sealed
 returns-in-Err-clause-not_sealed g c e =
     let self = c.args.self.now in
-    let counted : c.len-count.result ≡ length (given_of self) = omega (arith, c.len-count.ensures, shown-length self.given.items) in
-    let lacks = c.in-Err.ensures.not_sealed e in
-    (lacks.0, may-lack (g.R.Read.remaining self.source.value) (format_by self.delimiter self.form) self.failed self.done (records_left (inner_remaining g.R.Read.remaining) self.records) (given_of self) self.stands c.if-self.false c.if-self-2.false c.len-count.result counted (rw (shown-length self.given.items) self.few) lacks.1)
+    let counted : c.len-count.result ≡ length (given_of self) =
+    omega (arith, c.len-count.ensures, shown-length self.given.items) in
+    let lacks = c.in-Err.ensures.not_sealed e in (
+      lacks.0,
+      may-lack (g.R.Read.remaining self.source.value) (format_by self.delimiter self.form) self.failed self.done
+          (records_left (inner_remaining g.R.Read.remaining) self.records)
+          (given_of self) self.stands c.if-self.false c.if-self-2.false c.len-count.result counted
+          (rw (shown-length self.given.items) self.few) lacks.1,
+    )

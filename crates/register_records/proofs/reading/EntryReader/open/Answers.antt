@@ -11,7 +11,8 @@ use Rattle.register_records.proofs.EntrySteps.{at-start, refuses, refuses-none}
 use Rattle.register_records.proofs.GivenFacts.{first-step, may-first}
 use Rattle.register_records.proofs.StepFacts.{found, found-none}
 use Rattle.register_records.proofs.reading.EntryReader.open.Goals as goal
-use Rattle.register_records.proofs.reading.EntryReader.open.Goals.{then-not-found-via-else-not-found+then-not-is_header, then-not-found-via-then-not-found}
+use Rattle.register_records.proofs.reading.EntryReader.open.Goals.{then-not-found-via-else-not-found+then-not-is_header}
+use Rattle.register_records.proofs.reading.EntryReader.open.Goals.{then-not-found-via-then-not-found}
 
 pub read_record-requires : goal.read_record-requires
 read_record-requires g c =
@@ -24,10 +25,13 @@ pub returns-then-not-found-clause-bad : goal.returns-then-not-found-clause-bad
 returns-then-not-found-clause-bad g c _ =
     let fr = c.from_reader-records.ensures in
     let config : reader_config c.from_reader-records.result ≡ reading (delimiter_of c.args.setup.now) = search rules in
-    let start = at-start (inner_remaining g.R.Read.remaining) c.from_reader-records.result (delimiter_of c.args.setup.now) (g.R.Read.remaining c.args.reader) config fr.state (rw (← c.new-patient.ensures) fr.source) in
+    let start =
+    at-start (inner_remaining g.R.Read.remaining) c.from_reader-records.result (delimiter_of c.args.setup.now)
+    (g.R.Read.remaining c.args.reader) config fr.state (rw (← c.new-patient.ensures) fr.source) in
     let read = rw start at c.in_ok-found.ensures.reads in
     elim c.then-not-found.branch [
-      | then-not-found-via-then-not-found w ↦ refuses-none _ (format_of c.args.setup.now) (found-none _ _ _ _ read w.if-not-found.true)
+      | then-not-found-via-then-not-found w ↦ refuses-none _ (format_of c.args.setup.now)
+          (found-none _ _ _ _ read w.if-not-found.true)
       | then-not-found-via-else-not-found+then-not-is_header w ↦
           refuses _ _ (format_of c.args.setup.now) _ (found _ _ _ _ read w.if-not-found.false)
           (λ h. cc (w.is_header.ensures.1 (rw w.form.ensures h), w.if-not-is_header.true))
@@ -37,10 +41,21 @@ pub invariant_of-result : goal.invariant_of-result
 invariant_of-result g c =
     let fr = c.from_reader-records.ensures in
     let config : reader_config c.from_reader-records.result ≡ reading (delimiter_of c.args.setup.now) = search rules in
-    let start = at-start (inner_remaining g.R.Read.remaining) c.from_reader-records.result (delimiter_of c.args.setup.now) (g.R.Read.remaining c.args.reader) config fr.state (rw (← c.new-patient.ensures) fr.source) in
+    let start =
+    at-start (inner_remaining g.R.Read.remaining) c.from_reader-records.result (delimiter_of c.args.setup.now)
+    (g.R.Read.remaining c.args.reader) config fr.state (rw (← c.new-patient.ensures) fr.source) in
     let read = rw start at c.in_ok-found.ensures.reads in
-    let stands = first-step (g.R.Read.remaining c.args.reader) (g.R.Read.remaining c.of-source.result.value) (records_left (inner_remaining g.R.Read.remaining) c.read_record.new.records)
-    (delimiter_of c.args.setup.now) c.delimiter-3.result c.form.result c.form-2.result (entries_shown c.new-2.result.items) (fields_of c.read_record.new.row)
-    (ap g.R.Read.remaining c.of-source.ensures) c.delimiter-3.ensures.value (c.form-2.ensures ∙ sym c.form.ensures) (ap entries_shown c.new-2.ensures.items)
+    let stands =
+    first-step (g.R.Read.remaining c.args.reader) (g.R.Read.remaining c.of-source.result.value)
+    (records_left (inner_remaining g.R.Read.remaining) c.read_record.new.records)
+    (delimiter_of c.args.setup.now) c.delimiter-3.result c.form.result c.form-2.result
+    (entries_shown c.new-2.result.items) (fields_of c.read_record.new.row)
+    (ap g.R.Read.remaining c.of-source.ensures) c.delimiter-3.ensures.value
+    (c.form-2.ensures ∙ sym c.form.ensures) (ap entries_shown c.new-2.ensures.items)
     (found _ _ _ _ read c.if-not-found.false) (c.is_header.ensures.0 c.if-not-is_header.false) in
-    record { live = λ _. c.in_ok-found.ensures.live; few = rw c.new-2.ensures.items (omega arith); stands = stands; first = may-first _ _ _ _ _ _ stands }
+    record {
+      live = λ _. c.in_ok-found.ensures.live;
+      few = rw c.new-2.ensures.items (omega arith);
+      stands = stands;
+      first = may-first _ _ _ _ _ _ stands;
+    }

@@ -9,8 +9,10 @@ use Rattle.register_run.specs.Feeds.{PassedBy, Took, fed_by, fed_from}
 use Rattle.register_run.specs.Links.{Passed, started_by, started_on}
 use Rattle.register_run.specs.Passages.{HasPassed}
 
-pub feed_passed : {R : Type 0} (text : R → Option (List ℕ)) (feed : Feed R) (l : Link R) (outcome : Result ℕ Cause) → feed.link ≡ Ok l
-    → started_on l ≡ fed_from feed → started_by l ≡ fed_by feed → HasPassed (text (started_on l)) (format_of (started_by l)) outcome (Passed l)
+pub feed_passed : {R : Type 0} (text : R → Option (List ℕ)) (feed : Feed R) (l : Link R) (outcome : Result ℕ Cause)
+    → feed.link ≡ Ok l
+    → started_on l ≡ fed_from feed → started_by l ≡ fed_by feed
+    → HasPassed (text (started_on l)) (format_of (started_by l)) outcome (Passed l)
     → HasPassed (text (fed_from feed)) (format_of (fed_by feed)) outcome (Took feed)
 feed_passed text feed l outcome e on by h =
     subst (λ k. HasPassed (text (fed_from feed)) (format_of (fed_by feed)) outcome (PassedBy k)) (sym e)

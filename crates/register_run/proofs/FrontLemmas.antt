@@ -1,5 +1,6 @@
 -- Entries that are numbered in order are the first of those among which they stand.
-use Rattle.std.proofs.Common.{◌≡◌, ◌∙◌, ap, refl, sym, subst, ℕ, zero, suc, ◌+◌, ◌≤◌, List, [], ◌∷◌, ◌++◌, length, arith, append_assoc, length-append, append-nil, Option, None, Some}
+use Rattle.std.proofs.Common.{◌≡◌, ◌∙◌, ap, refl, sym, subst, ℕ, zero, suc, ◌+◌, ◌≤◌, List, [], ◌∷◌, ◌++◌, length}
+use Rattle.std.proofs.Common.{arith, append_assoc, length-append, append-nil, Option, None, Some}
 use Rattle.std.specs.Prelude.{IfSome}
 use Rattle.std.specs.List.{Contains}
 use Rattle.register_records.specs.Entries.{AreNumberedFrom, Format, HasFirstEntries, Numbered}
@@ -11,33 +12,45 @@ use Rattle.register_run.specs.TablesWritten.{entries_seen}
 
 later : (k : ℕ) (ys : List Numbered) (z : Numbered) → AreNumberedFrom k ys → Contains ys z → k ≤ z.number
 later k [] z h c = absurd (omega (arith, c.1))
-later k (y ∷ ys) z h (zero, below, is) = let e : y.number ≡ z.number = ap (λ (n : Numbered). n.number) is in let f = h.0 in omega arith
+later k (y ∷ ys) z h (zero, below, is) =
+    let e : y.number ≡ z.number = ap (λ (n : Numbered). n.number) is in let f = h.0 in omega arith
 later k (y ∷ ys) z h (suc i, below, is) = let m = later (k + 1) ys z h.1 (i, omega arith, is) in omega arith
 
-in_rest : (k : ℕ) (y : Numbered) (ys : List Numbered) (z : Numbered) → y.number ≡ k → k + 1 ≤ z.number → Contains (y ∷ ys) z → Contains ys z
-in_rest k y ys z e f (zero, below, is) = absurd (let g : y.number ≡ z.number = ap (λ (n : Numbered). n.number) is in omega arith)
+in_rest : (k : ℕ) (y : Numbered) (ys : List Numbered) (z : Numbered) → y.number ≡ k → k + 1 ≤ z.number
+    → Contains (y ∷ ys) z → Contains ys z
+in_rest k y ys z e f (zero, below, is) =
+    absurd (let g : y.number ≡ z.number = ap (λ (n : Numbered). n.number) is in omega arith)
 in_rest k y ys z e f (suc i, below, is) = (i, omega arith, is)
 
-is_first : (k : ℕ) (y : Numbered) (ys : List Numbered) (z : Numbered) → AreNumberedFrom (k + 1) ys → z.number ≡ k → Contains (y ∷ ys) z → y ≡ z
+is_first : (k : ℕ) (y : Numbered) (ys : List Numbered) (z : Numbered) → AreNumberedFrom (k + 1) ys → z.number ≡ k
+    → Contains (y ∷ ys) z → y ≡ z
 is_first k y ys z h e (zero, below, is) = is
 is_first k y ys z h e (suc i, below, is) = absurd (let m = later (k + 1) ys z h (i, omega arith, is) in omega arith)
 
-pub front : (given xs : List Numbered) (k : ℕ) → AreNumberedFrom k given → AreNumberedFrom k xs → ((n : Numbered) → Contains xs n → Contains given n) → (rest : List Numbered) × (given ≡ xs ++ rest)
+pub front : (given xs : List Numbered) (k : ℕ) → AreNumberedFrom k given → AreNumberedFrom k xs
+    → ((n : Numbered) → Contains xs n → Contains given n) → (rest : List Numbered) × (given ≡ xs ++ rest)
 front given [] k g n all = (given, refl)
 front [] (x ∷ xs) k g n all = absurd (let c = all x (0, omega arith, refl) in omega (arith, c.1))
 front (y ∷ ys) (x ∷ xs) k g n all =
     let same : y ≡ x = is_first k y ys x g.1 n.0 (all x (0, omega arith, refl)) in
-    let more = front ys xs (k + 1) g.1 n.1 (λ z c. in_rest k y ys z g.0 (later (k + 1) xs z n.1 c) (all z (suc c.0, omega (arith, c.1), c.2))) in
+    let more =
+    front ys xs (k + 1) g.1 n.1 (λ z c.
+    in_rest k y ys z g.0 (later (k + 1) xs z n.1 c) (all z (suc c.0, omega (arith, c.1), c.2))) in
     (more.0, ap (λ l. y ∷ l) more.1 ∙ ap (λ e. e ∷ (xs ++ more.0)) same)
 
 -- what holds of the entry of each row holds of each of the entries
-pub each_entry : (P : Numbered → Type 0) (rows : List Row) → ((row : Row) → Contains rows row → P (entry_seen (row_entry row))) → (n : Numbered) → Contains (entries_seen rows) n → P n
+pub each_entry : (P : Numbered → Type 0) (rows : List Row)
+    → ((row : Row) → Contains rows row → P (entry_seen (row_entry row))) → (n : Numbered)
+    → Contains (entries_seen rows) n → P n
 each_entry P [] all n c = absurd (omega (arith, c.1))
 each_entry P (row ∷ rest) all n (zero, below, is) = subst P is (all row (0, omega arith, refl))
-each_entry P (row ∷ rest) all n (suc i, below, is) = each_entry P rest (λ r c. all r (suc c.0, omega (arith, c.1), c.2)) n (i, omega arith, is)
+each_entry P (row ∷ rest) all n (suc i, below, is) =
+    each_entry P rest (λ r c. all r (suc c.0, omega (arith, c.1), c.2)) n (i, omega arith, is)
 
 -- the entries of rows that were taken, as a front of those given
-pub rows_front : (given : List Numbered) (rows : List Row) → AreNumberedFrom 1 given → AreNumberedFrom 1 (entries_seen rows) → ((row : Row) → Contains rows row → IsOfGiven given row) → (rest : List Numbered) × (given ≡ entries_seen rows ++ rest)
+pub rows_front : (given : List Numbered) (rows : List Row) → AreNumberedFrom 1 given
+    → AreNumberedFrom 1 (entries_seen rows) → ((row : Row) → Contains rows row → IsOfGiven given row)
+    → (rest : List Numbered) × (given ≡ entries_seen rows ++ rest)
 rows_front given rows g n all = front given (entries_seen rows) 1 g n (each_entry (λ e. Contains given e) rows all)
 
 none_more : (xs rest : List Numbered) → length (xs ++ rest) ≡ length xs → xs ++ rest ≡ xs
@@ -47,6 +60,8 @@ none_more xs (y ∷ rest) e = absurd (omega (arith, length-append xs (y ∷ rest
 pub front_all : (given xs rest : List Numbered) → given ≡ xs ++ rest → length given ≡ length xs → given ≡ xs
 front_all given xs rest e len = e ∙ none_more xs rest (sym (ap length e) ∙ len)
 
-pub first_of_first : (format : Format) (text : Option (List ℕ)) (given xs rest : List Numbered) → given ≡ xs ++ rest → IfSome text (λ t. HasFirstEntries format t given) → IfSome text (λ t. HasFirstEntries format t xs)
+pub first_of_first : (format : Format) (text : Option (List ℕ)) (given xs rest : List Numbered) → given ≡ xs ++ rest
+    → IfSome text (λ t. HasFirstEntries format t given) → IfSome text (λ t. HasFirstEntries format t xs)
 first_of_first format None given xs rest e h = h
-first_of_first format (Some t) given xs rest e (after, more, has, is) = (after, rest ++ more, has, is ∙ ap (λ l. l ++ more) e ∙ append_assoc xs rest more)
+first_of_first format (Some t) given xs rest e (after, more, has, is) =
+    (after, rest ++ more, has, is ∙ ap (λ l. l ++ more) e ∙ append_assoc xs rest more)

@@ -1,9 +1,11 @@
 -- What a reader gave of a text, by how it ended.
-use Rattle.std.proofs.Common.{◌≡◌, sym, subst, refl, ℕ, ◌+◌, List, [], ◌∷◌, ◌++◌, length, Option, inl, inr, arith, ◌<◌, get_or, set}
+use Rattle.std.proofs.Common.{◌≡◌, sym, subst, refl, ℕ, ◌+◌, List, [], ◌∷◌, ◌++◌, length, Option, inl, inr, arith, ◌<◌}
+use Rattle.std.proofs.Common.{get_or, set}
 use Rattle.std.specs.Prelude.{All, Err, IfErr, IfSome, Ok, OnOk, Result}
 use Rattle.std.proofs.lemmas.List.Elements.{All-set}
 use Rattle.std.proofs.Math.Logic.{∥∥₁_elim, ∥∥₁_map, ∥∥₁_prop}
-use Rattle.register_records.specs.Entries.{AreNumberedFrom, Format, HasEntries, HasFirstEntries, HasNoHeader, HasTooMany, IsNotSealed, Numbered}
+use Rattle.register_records.specs.Entries.{AreNumberedFrom, Format, HasEntries, HasFirstEntries, HasNoHeader}
+use Rattle.register_records.specs.Entries.{HasTooMany, IsNotSealed, Numbered}
 use Rattle.register_records.specs.declared.reading.EntryFault.{EntryFault}
 use Rattle.register_records.specs.declared.reading.EntryFault.TheVariants as fault
 use Rattle.register_records.specs.declared.setups.Form.TheVariants.{Sealed}
@@ -19,7 +21,8 @@ use Rattle.register_records.specs.declared.rows.Row.{Row}
 use Rattle.register_run.specs.Passages.{AreAmong, HasPassed, IsCauseOf, IsGiven, IsNotSunk, IsOfThreads, Sends}
 use Rattle.register_run.proofs.PassageLemmas.{among_given, among_send}
 
-pub numbered_more : (k : ℕ) (given : List Numbered) (n : Numbered) → AreNumberedFrom k given → n.number ≡ k + length given → AreNumberedFrom k (given ++ n ∷ [])
+pub numbered_more : (k : ℕ) (given : List Numbered) (n : Numbered) → AreNumberedFrom k given
+    → n.number ≡ k + length given → AreNumberedFrom k (given ++ n ∷ [])
 numbered_more k [] n h e = (omega arith, tt)
 numbered_more k (first ∷ rest) n h e = (h.0, numbered_more (k + 1) rest n h.1 (omega arith))
 
@@ -59,7 +62,8 @@ unsealed_told fault.Failed c is e = cc
 module _ (text : Option (List ℕ)) (format : Format) where
   -- the text was not opened
   pub given_none : (f : EntryFault) (c : Cause) → IsCauseOf f c
-      → (f ≡ fault.BadHeader → IfSome text (λ t. HasNoHeader format t)) → (f ≡ fault.TooManyRecords → ⊥) → (f ≡ fault.NotSealed → ⊥)
+      → (f ≡ fault.BadHeader → IfSome text (λ t. HasNoHeader format t)) → (f ≡ fault.TooManyRecords → ⊥)
+      → (f ≡ fault.NotSealed → ⊥)
       → IsGiven text format (Err c) []
   given_none f c is bad many unsealed = record {
     numbered = tt;
@@ -70,9 +74,12 @@ module _ (text : Option (List ℕ)) (format : Format) where
     not_sealed = λ e. absurd (unsealed (unsealed_told f c is e));
   }
 
-  stopped_so : (f : EntryFault) (c : Cause) (given : List Numbered) → IsCauseOf f c → (f ≡ fault.BadHeader → ⊥) → AreNumberedFrom 1 given
-      → IfSome text (λ t. HasFirstEntries format t given) → (f ≡ fault.TooManyRecords → IfSome text (λ t. HasTooMany format t))
-      → (f ≡ fault.NotSealed → (format.form ≡ Sealed) × IfSome text (λ t. IsNotSealed format t)) → IsGiven text format (Err c) given
+  stopped_so : (f : EntryFault) (c : Cause) (given : List Numbered) → IsCauseOf f c → (f ≡ fault.BadHeader → ⊥)
+      → AreNumberedFrom 1 given
+      → IfSome text (λ t. HasFirstEntries format t given)
+      → (f ≡ fault.TooManyRecords → IfSome text (λ t. HasTooMany format t))
+      → (f ≡ fault.NotSealed → (format.form ≡ Sealed) × IfSome text (λ t. IsNotSealed format t))
+      → IsGiven text format (Err c) given
   stopped_so f c given is bad numbered first many unsealed = record {
     numbered = numbered;
     first = inr first;
@@ -85,19 +92,27 @@ module _ (text : Option (List ℕ)) (format : Format) where
   -- the reading stopped after these entries
   pub given_stopped : (f : EntryFault) (c : Cause) (given : List Numbered) → IsCauseOf f c → (f ≡ fault.BadHeader → ⊥)
       → (f ≡ fault.TooManyRecords → ∥ IfSome text (λ t. HasTooMany format t) ∥₁)
-      → (f ≡ fault.NotSealed → (format.form ≡ Sealed) × ∥ IfSome text (λ t. IsNotSealed format t) ∥₁) → AreNumberedFrom 1 given
+      → (f ≡ fault.NotSealed → (format.form ≡ Sealed) × ∥ IfSome text (λ t. IsNotSealed format t) ∥₁)
+      → AreNumberedFrom 1 given
       → ∥ IfSome text (λ t. HasFirstEntries format t given) ∥₁ → ∥ IsGiven text format (Err c) given ∥₁
   given_stopped fault.TooManyRecords c given is bad many unsealed numbered first =
-      ∥∥₁_elim first ∥∥₁_prop (λ s. ∥∥₁_map (many refl) (λ m. stopped_so fault.TooManyRecords c given is bad numbered s (λ e. m) (λ e. cc)))
+      ∥∥₁_elim first ∥∥₁_prop (λ s.
+      ∥∥₁_map (many refl) (λ m. stopped_so fault.TooManyRecords c given is bad numbered s (λ e. m) (λ e. cc)))
   given_stopped fault.NotSealed c given is bad many unsealed numbered first =
-      ∥∥₁_elim first ∥∥₁_prop (λ s. ∥∥₁_map (unsealed refl).1 (λ u. stopped_so fault.NotSealed c given is bad numbered s (λ e. cc) (λ e. ((unsealed refl).0, u))))
-  given_stopped fault.OutOfMemory c given is bad many unsealed numbered first = ∥∥₁_map first (λ s. stopped_so fault.OutOfMemory c given is bad numbered s (λ e. cc) (λ e. cc))
-  given_stopped fault.ReadFault c given is bad many unsealed numbered first = ∥∥₁_map first (λ s. stopped_so fault.ReadFault c given is bad numbered s (λ e. cc) (λ e. cc))
+      ∥∥₁_elim first ∥∥₁_prop (λ s.
+      ∥∥₁_map (unsealed refl).1 (λ u.
+      stopped_so fault.NotSealed c given is bad numbered s (λ e. cc) (λ e. ((unsealed refl).0, u))))
+  given_stopped fault.OutOfMemory c given is bad many unsealed numbered first =
+      ∥∥₁_map first (λ s. stopped_so fault.OutOfMemory c given is bad numbered s (λ e. cc) (λ e. cc))
+  given_stopped fault.ReadFault c given is bad many unsealed numbered first =
+      ∥∥₁_map first (λ s. stopped_so fault.ReadFault c given is bad numbered s (λ e. cc) (λ e. cc))
   given_stopped fault.BadHeader c given is bad many unsealed numbered first = absurd (bad refl)
-  given_stopped fault.Failed c given is bad many unsealed numbered first = ∥∥₁_map first (λ s. stopped_so fault.Failed c given is bad numbered s (λ e. cc) (λ e. cc))
+  given_stopped fault.Failed c given is bad many unsealed numbered first =
+      ∥∥₁_map first (λ s. stopped_so fault.Failed c given is bad numbered s (λ e. cc) (λ e. cc))
 
   -- a converter was gone after these entries
-  pub given_gone : (given : List Numbered) → AreNumberedFrom 1 given → ∥ IfSome text (λ t. HasFirstEntries format t given) ∥₁ → ∥ IsGiven text format (Err cause.Unconfirmed) given ∥₁
+  pub given_gone : (given : List Numbered) → AreNumberedFrom 1 given
+      → ∥ IfSome text (λ t. HasFirstEntries format t given) ∥₁ → ∥ IsGiven text format (Err cause.Unconfirmed) given ∥₁
   given_gone given numbered first = ∥∥₁_map first (λ f. record {
     numbered = numbered;
     first = inr f;
@@ -108,7 +123,9 @@ module _ (text : Option (List ℕ)) (format : Format) where
   })
 
   -- these are all
-  pub given_all : (n : ℕ) (given : List Numbered) → n ≡ length given → AreNumberedFrom 1 given → ∥ IfSome text (λ t. HasFirstEntries format t given) ∥₁ → ∥ IfSome text (λ t. HasEntries format t given) ∥₁ → ∥ IsGiven text format (Ok n) given ∥₁
+  pub given_all : (n : ℕ) (given : List Numbered) → n ≡ length given → AreNumberedFrom 1 given
+      → ∥ IfSome text (λ t. HasFirstEntries format t given) ∥₁ → ∥ IfSome text (λ t. HasEntries format t given) ∥₁
+      → ∥ IsGiven text format (Ok n) given ∥₁
   given_all n given count numbered first all = ∥∥₁_elim first ∥∥₁_prop (λ f. ∥∥₁_map all (λ a. record {
     numbered = numbered;
     first = inr f;
@@ -119,39 +136,56 @@ module _ (text : Option (List ℕ)) (format : Format) where
   }))
 
 -- what holds of one text and format holds of the same
-along : (P : Option (List ℕ) → Format → Type 0) (text text' : Option (List ℕ)) (d d' : Format) → text' ≡ text → d' ≡ d → P text' d' → P text d
+along : (P : Option (List ℕ) → Format → Type 0) (text text' : Option (List ℕ)) (d d' : Format) → text' ≡ text → d' ≡ d
+    → P text' d' → P text d
 along P text text' d d' e f h = subst (λ t. P t d) e (subst (λ n. P text' n) f h)
 
-module _ (text text' : Option (List ℕ)) (d d' : Format) (same : text' ≡ text) (by : d' ≡ d) (given old : List Numbered) (kept : given ≡ old) (numbered : AreNumberedFrom 1 old)
-    (first : ∥ IfSome text' (λ t. HasFirstEntries d' t given) ∥₁) (senders : List (Sender Entry)) (among : All (λ s. AreAmong old (sent s)) senders) where
+module _ (text text' : Option (List ℕ)) (d d' : Format) (same : text' ≡ text) (by : d' ≡ d) (given old : List Numbered)
+    (kept : given ≡ old) (numbered : AreNumberedFrom 1 old)
+    (first : ∥ IfSome text' (λ t. HasFirstEntries d' t given) ∥₁) (senders : List (Sender Entry))
+    (among : All (λ s. AreAmong old (sent s)) senders) where
   first' : ∥ IfSome text (λ t. HasFirstEntries d t old) ∥₁
-  first' = subst (λ g. ∥ IfSome text (λ t. HasFirstEntries d t g) ∥₁) kept (along (λ o n. ∥ IfSome o (λ t. HasFirstEntries n t given) ∥₁) text text' d d' same by first)
+  first' =
+      subst (λ g. ∥ IfSome text (λ t. HasFirstEntries d t g) ∥₁) kept
+      (along (λ o n. ∥ IfSome o (λ t. HasFirstEntries n t given) ∥₁) text text' d d' same by first)
 
-  pub sends_all : (n : ℕ) → n ≡ length old → ∥ IfSome text' (λ t. HasEntries d' t given) ∥₁ → ∥ Sends text d (Ok n) senders ∥₁
+  pub sends_all : (n : ℕ) → n ≡ length old → ∥ IfSome text' (λ t. HasEntries d' t given) ∥₁
+      → ∥ Sends text d (Ok n) senders ∥₁
   sends_all n count all =
-      let all' = subst (λ g. ∥ IfSome text (λ t. HasEntries d t g) ∥₁) kept (along (λ o n. ∥ IfSome o (λ t. HasEntries n t given) ∥₁) text text' d d' same by all) in
+      let all' =
+      subst (λ g. ∥ IfSome text (λ t. HasEntries d t g) ∥₁) kept
+      (along (λ o n. ∥ IfSome o (λ t. HasEntries n t given) ∥₁) text text' d d' same by all) in
       ∥∥₁_map (given_all text d n old count numbered first' all') (λ is. (old, is, among))
 
   pub sends_stopped : (f : EntryFault) (c : Cause) → IsCauseOf f c → (f ≡ fault.BadHeader → ⊥)
       → (f ≡ fault.TooManyRecords → ∥ IfSome text' (λ t. HasTooMany d' t) ∥₁)
-      → (f ≡ fault.NotSealed → (d'.form ≡ Sealed) × ∥ IfSome text' (λ t. IsNotSealed d' t) ∥₁) → ∥ Sends text d (Err c) senders ∥₁
+      → (f ≡ fault.NotSealed → (d'.form ≡ Sealed) × ∥ IfSome text' (λ t. IsNotSealed d' t) ∥₁)
+      → ∥ Sends text d (Err c) senders ∥₁
   sends_stopped f c is bad many unsealed =
-      let many' = λ (e : f ≡ fault.TooManyRecords). along (λ o n. ∥ IfSome o (λ t. HasTooMany n t) ∥₁) text text' d d' same by (many e) in
-      let unsealed' = λ (e : f ≡ fault.NotSealed). along (λ o n. (n.form ≡ Sealed) × ∥ IfSome o (λ t. IsNotSealed n t) ∥₁) text text' d d' same by (unsealed e) in
+      let many' =
+      λ (e : f ≡ fault.TooManyRecords).
+      along (λ o n. ∥ IfSome o (λ t. HasTooMany n t) ∥₁) text text' d d' same by (many e) in
+      let unsealed' =
+      λ (e : f ≡ fault.NotSealed). along (λ o n. (n.form ≡ Sealed)
+      × ∥ IfSome o (λ t. IsNotSealed n t) ∥₁) text text' d d' same by (unsealed e) in
       ∥∥₁_map (given_stopped text d f c old is bad many' unsealed' numbered first') (λ is'. (old, is', among))
 
   pub sends_gone : ∥ Sends text d (Err cause.Unconfirmed) senders ∥₁
   sends_gone = ∥∥₁_map (given_gone text d old numbered first') (λ is. (old, is, among))
 
 -- one more entry was given, and sent to one of the converters if it was there
-pub all_among : (given more : List Numbered) (senders : List (Sender Entry)) (at : ℕ) (old new : Sender Entry) (e : Entry) (r : Result (Unit {0}) (Gone Entry))
+pub all_among : (given more : List Numbered) (senders : List (Sender Entry)) (at : ℕ) (old new : Sender Entry)
+    (e : Entry) (r : Result (Unit {0}) (Gone Entry))
     → old ≡ get_or senders at old → at < length senders → more ≡ given ++ entry_seen e ∷ []
     → OnOk r (sent new ≡ sent old ++ item.Entry e ∷ []) → IfErr r (λ g. (g.value ≡ e) × (sent new ≡ sent old))
     → All (λ s. AreAmong given (sent s)) senders → All (λ s. AreAmong more (sent s)) (set senders at new)
 all_among given more senders at old new e r is below m ok gone all =
     let before : AreAmong given (sent old) = subst (λ s. AreAmong given (sent s)) (sym is) (all at old below) in
-    All-set (λ s. AreAmong more (sent s)) senders at new (among_send given more (sent old) (sent new) e r m ok gone before) (λ k d at'. among_given given more (sent (get_or senders k d)) (entry_seen e) m (all k d at'))
+    All-set (λ s. AreAmong more (sent s)) senders
+    at new (among_send given more (sent old) (sent new) e r m ok gone before)
+    (λ k d at'. among_given given more (sent (get_or senders k d)) (entry_seen e) m (all k d at'))
 
 -- an answer that does not speak of the text says nothing
-pub passed_not : (text : Option (List ℕ)) (d : Format) (c : Cause) (took : Row → Type 0) → IsOfThreads c → HasPassed text d (Err c) took
+pub passed_not : (text : Option (List ℕ)) (d : Format) (c : Cause) (took : Row → Type 0) → IsOfThreads c
+    → HasPassed text d (Err c) took
 passed_not text d c took is = record { not_sunk = is.1; rows = λ told. absurd (let k = is.0 in cc) }

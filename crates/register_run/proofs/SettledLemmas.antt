@@ -1,5 +1,6 @@
 -- What is known of a source that has ended.
-use Rattle.std.proofs.Common.{◌≡◌, ◌≢◌, ◌∙◌, ap, refl, sym, subst, ℕ, List, [], ◌∷◌, ◌++◌, length, Option, None, Some, inl, inr, arith, append-nil, length-append, true, false, Bool}
+use Rattle.std.proofs.Common.{◌≡◌, ◌≢◌, ◌∙◌, ap, refl, sym, subst, ℕ, List, [], ◌∷◌, ◌++◌, length, Option, None, Some}
+use Rattle.std.proofs.Common.{inl, inr, arith, append-nil, length-append, true, false, Bool}
 use Rattle.std.specs.Prelude.{Err, IfErr, IfOk, IfSome, Ok, Result}
 use Rattle.std.specs.Option.{is_some}
 use Rattle.std.specs.List.{Contains}
@@ -30,17 +31,23 @@ use Rattle.register_run.specs.TablesWritten.{AllSent, Holds, Stands, entries_see
 use Rattle.register_run.proofs.FrontLemmas.{first_of_first, front_all, rows_front}
 
 -- rows that were made for these targets are the rows of their entries
-pub rows_are : (targets : List Target) (rows : List Row) → ((row : Row) → Contains rows row → row_targets row ≡ targets) → ∥ AreRowsOf targets (entries_seen rows) (rows_seen rows) ∥₁
+pub rows_are : (targets : List Target) (rows : List Row) → ((row : Row) → Contains rows row → row_targets row ≡ targets)
+    → ∥ AreRowsOf targets (entries_seen rows) (rows_seen rows) ∥₁
 rows_are targets [] all = ∣ tt ∣₁
 rows_are targets (row ∷ rest) all =
-    ∥∥₁_elim row.is_row ∥∥₁_prop (λ is. ∥∥₁_map (rows_are targets rest (λ r c. all r (Contains-append_right (row ∷ []) rest r c)))
-    (λ more. (subst (λ ts. IsRowOf ts (entry_seen (row_entry row)) (row_seen row)) (all row (0, omega arith, refl)) is, more)))
+    ∥∥₁_elim row.is_row ∥∥₁_prop (λ is.
+    ∥∥₁_map (rows_are targets rest (λ r c. all r (Contains-append_right (row ∷ []) rest r c)))
+    (λ more. (
+      subst (λ ts. IsRowOf ts (entry_seen (row_entry row)) (row_seen row)) (all row (0, omega arith, refl)) is,
+      more,
+    )))
 
 appends_nothing : (given output : Option (List ℕ)) → output ≡ given → Appends given output []
 appends_nothing None output e = tt
 appends_nothing (Some xs) output e = subst (λ o. Appends (Some xs) o []) (sym e) (sym (append-nil xs))
 
-appends_waited : (given output : Option (List ℕ)) (pending table : List ℕ) → pending ≡ [] → Appends given (append_known output pending) table → Appends given output table
+appends_waited : (given output : Option (List ℕ)) (pending table : List ℕ) → pending ≡ []
+    → Appends given (append_known output pending) table → Appends given output table
 appends_waited None output pending table e h = tt
 appends_waited (Some xs) None pending table e h = h
 appends_waited (Some xs) (Some ys) pending table e h = sym (append-nil ys) ∙ ap (λ p. ys ++ p) (sym e) ∙ h
@@ -49,43 +56,70 @@ not_true : (b : Bool) → (b ≡ true → ⊥) → b ≡ false
 not_true true h = absurd (h refl)
 not_true false h = refl
 
-nothing_so : {W : Type 0} (o : outputs.Ghosts W) (layout : Layout) (given output : W) (w : Option RowWriter) (rows : List Row) → is_some w ≡ false → Stands o layout given output w rows → (output ≡ given) × (rows ≡ [])
+nothing_so : {W : Type 0} (o : outputs.Ghosts W) (layout : Layout) (given output : W) (w : Option RowWriter)
+    (rows : List Row) → is_some w ≡ false → Stands o layout given output w rows → (output ≡ given) × (rows ≡ [])
 nothing_so o layout given output None rows e h = h
 nothing_so o layout given output (Some w) rows e h = absurd (cc)
 
-table_so : {W : Type 0} (o : outputs.Ghosts W) (layout : Layout) (given output : W) (w : Option RowWriter) (rows : List Row) → is_some w ≡ true → waiting_of w ≡ [] → Stands o layout given output w rows
+table_so : {W : Type 0} (o : outputs.Ghosts W) (layout : Layout) (given output : W) (w : Option RowWriter)
+    (rows : List Row) → is_some w ≡ true → waiting_of w ≡ [] → Stands o layout given output w rows
     → Appends (o.contents given) (o.contents output) (table_text layout (rows_seen rows)) × (o.is_flushed output ≡ true)
 table_so o layout given output None rows e none h = absurd (cc)
-table_so o layout given output (Some w) rows e none h = (appends_waited (o.contents given) (o.contents output) (pending_of w) (table_text layout (rows_seen rows)) none h.0, h.1)
+table_so o layout given output (Some w) rows e none h = (
+  appends_waited (o.contents given) (o.contents output) (pending_of w) (table_text layout (rows_seen rows)) none h.0,
+  h.1,
+)
 
-module _ {W : Type 0} (o : outputs.Ghosts W) (text : Option (List ℕ)) (table : Table W o) (rows : List Row) (passed : Result ℕ Cause) (holds : Holds table rows) (sent : AllSent table)
-    (has : HasPassed text (format_of table.setup) passed (λ row. Contains rows row)) (headed : Bool) (is_headed : headed ≡ is_some table.writer) where
+module _ {W : Type 0} (o : outputs.Ghosts W) (text : Option (List ℕ)) (table : Table W o) (rows : List Row)
+    (passed : Result ℕ Cause) (holds : Holds table rows) (sent : AllSent table)
+    (has : HasPassed text (format_of table.setup) passed (λ row. Contains rows row)) (headed : Bool)
+    (is_headed : headed ≡ is_some table.writer) where
   entries_len : length (entries_seen rows) ≡ table.rows
   entries_len = length-map rows (λ (row : Row). entry_seen (row_entry row)) ∙ holds.counted
 
-  table_is : AreRowsOf (layout_of table.setup).targets (entries_seen rows) (rows_seen rows) → IsTableOf (layout_of table.setup) (entries_seen rows) (rows_seen rows) (table_text (layout_of table.setup) (rows_seen rows))
+  table_is : AreRowsOf (layout_of table.setup).targets (entries_seen rows) (rows_seen rows)
+      → IsTableOf (layout_of table.setup) (entries_seen rows) (rows_seen rows)
+      (table_text (layout_of table.setup) (rows_seen rows))
   table_is are = record { numbered = holds.numbered; converted = are; written = refl }
 
   unwritten : table.sunk ≡ false → is_some table.writer ≡ false → (table.output ≡ table.given.value) × (rows ≡ [])
-  unwritten dry none = nothing_so o (layout_of table.setup) table.given.value table.output table.writer rows none (holds.stands dry)
+  unwritten dry none =
+      nothing_so o (layout_of table.setup) table.given.value table.output table.writer rows none (holds.stands dry)
 
-  written : table.sunk ≡ false → is_some table.writer ≡ true → Appends (o.contents table.given.value) (o.contents table.output) (table_text (layout_of table.setup) (rows_seen rows)) × (o.is_flushed table.output ≡ true)
-  written dry some = table_so o (layout_of table.setup) table.given.value table.output table.writer rows some (sent dry) (holds.stands dry)
+  written : table.sunk ≡ false → is_some table.writer ≡ true
+      → Appends (o.contents table.given.value) (o.contents table.output)
+      (table_text (layout_of table.setup) (rows_seen rows)) × (o.is_flushed table.output ≡ true)
+  written dry some =
+      table_so o (layout_of table.setup) table.given.value table.output table.writer rows some (sent dry)
+      (holds.stands dry)
 
-  in_order_so : (b : Bool) → is_some table.writer ≡ b → table.sunk ≡ false → AreRowsOf (layout_of table.setup).targets (entries_seen rows) (rows_seen rows)
+  in_order_so : (b : Bool) → is_some table.writer ≡ b → table.sunk ≡ false
+      → AreRowsOf (layout_of table.setup).targets (entries_seen rows) (rows_seen rows)
       → Gains (o.contents table.given.value) (o.contents table.output) (AreRowsInOrder (layout_of table.setup))
-  in_order_so false b dry are = ([], inl refl, appends_nothing (o.contents table.given.value) (o.contents table.output) (ap o.contents (unwritten dry b).0))
-  in_order_so true b dry are = (table_text (layout_of table.setup) (rows_seen rows), inr (entries_seen rows, rows_seen rows, table_is are), (written dry b).0)
+  in_order_so false b dry are = (
+    [],
+    inl refl,
+    appends_nothing (o.contents table.given.value) (o.contents table.output)
+        (ap o.contents (unwritten dry b).0),
+  )
+  in_order_so true b dry are = (
+    table_text (layout_of table.setup) (rows_seen rows),
+    inr (entries_seen rows, rows_seen rows, table_is are),
+    (written dry b).0,
+  )
 
   not_failed : o.has_failed table.output ≡ false → table.sunk ≡ false
   not_failed good = not_true table.sunk (λ s. let f = table.failed s in absurd (cc))
 
-  module _ (given : List Numbered) (is : IsGiven text (format_of table.setup) passed given) (all : (row : Row) → Contains rows row → IsOfGiven given row) where
+  module _ (given : List Numbered) (is : IsGiven text (format_of table.setup) passed given)
+      (all : (row : Row) → Contains rows row → IsOfGiven given row) where
     taken_front : (rest : List Numbered) × (given ≡ entries_seen rows ++ rest)
     taken_front = rows_front given rows is.numbered holds.numbered all
 
     none_given : given ≡ [] → table.rows ≡ 0
-    none_given e = let n = ap length (sym taken_front.1 ∙ e) in let l = entries_len in omega (arith, length-append (entries_seen rows) taken_front.0)
+    none_given e =
+        let n = ap length (sym taken_front.1 ∙ e) in let l = entries_len in
+        omega (arith, length-append (entries_seen rows) taken_front.0)
 
     first_so : table.rows ≢ 0 → IfSome text (λ t. HasFirstEntries (format_of table.setup) t (entries_seen rows))
     first_so some = elim is.first [
@@ -93,24 +127,49 @@ module _ {W : Type 0} (o : outputs.Ghosts W) (text : Option (List ℕ)) (table :
       | inr f ↦ first_of_first (format_of table.setup) text given (entries_seen rows) taken_front.0 taken_front.1 f
     ]
 
-    part_so : (b : Bool) → is_some table.writer ≡ b → table.sunk ≡ false → (headed ≡ true → table.rows ≢ 0) → AreRowsOf (layout_of table.setup).targets (entries_seen rows) (rows_seen rows)
+    part_so : (b : Bool) → is_some table.writer ≡ b → table.sunk ≡ false → (headed ≡ true → table.rows ≢ 0)
+        → AreRowsOf (layout_of table.setup).targets (entries_seen rows) (rows_seen rows)
         → Gains (o.contents table.given.value) (o.contents table.output) (ArePartOfTable (layout_of table.setup) text)
-    part_so false b dry some are = ([], inl refl, appends_nothing (o.contents table.given.value) (o.contents table.output) (ap o.contents (unwritten dry b).0))
+    part_so false b dry some are = (
+      [],
+      inl refl,
+      appends_nothing (o.contents table.given.value) (o.contents table.output)
+          (ap o.contents (unwritten dry b).0),
+    )
     part_so true b dry some are = (
       table_text (layout_of table.setup) (rows_seen rows),
-      inr (length (rows_seen rows), record { entries = entries_seen rows; rows = rows_seen rows; table = table_is are; counted = refl; first = first_so (some (is_headed ∙ b)) }),
+      inr (
+        length (rows_seen rows),
+        record {
+          entries = entries_seen rows;
+          rows = rows_seen rows;
+          table = table_is are;
+          counted = refl;
+          first = first_so (some (is_headed ∙ b));
+        },
+      ),
       (written dry b).0,
     )
 
-  reading_so : (c : Cause) → is_of_reading c ≡ true → (passed ≡ Err c) × (table.fault ≡ None) × (headed ≡ true → table.rows ≢ 0)
-      → ∥ IsSettled o.contents o.has_failed o.is_flushed (layout_of table.setup) text table.given.value table.output (end.Broken c) ∥₁
+  reading_so : (c : Cause) → is_of_reading c ≡ true
+      → (passed ≡ Err c) × (table.fault ≡ None) × (headed ≡ true → table.rows ≢ 0)
+      → ∥ IsSettled o.contents o.has_failed o.is_flushed (layout_of table.setup) text table.given.value table.output
+      (end.Broken c) ∥₁
   reading_so c reading fact =
       let dry = table.faultless fact.1 in
       let told : tells_of_text passed ≡ true = ap tells_of_text fact.0 ∙ reading in
-      ∥∥₁_elim (has.rows told) ∥∥₁_prop (λ (given, is, all). ∥∥₁_map (rows_are (layout_of table.setup).targets rows holds.targets) (λ are.
-      let bad = subst (λ p. IfErr p (λ d. d ≡ cause.BadHeader → (given ≡ []) × IfSome text (λ t. HasNoHeader (format_of table.setup) t))) fact.0 is.bad_header in
-      let many = subst (λ p. IfErr p (λ d. d ≡ cause.TooManyRecords → IfSome text (λ t. HasTooMany (format_of table.setup) t))) fact.0 is.too_many in
-      let unsealed = subst (λ p. IfErr p (λ d. d ≡ cause.NotSealed → (form_of table.setup ≡ Sealed) × IfSome text (λ t. IsNotSealed (format_of table.setup) t))) fact.0 is.not_sealed in record {
+      ∥∥₁_elim (has.rows told) ∥∥₁_prop
+      (λ (given, is, all). ∥∥₁_map (rows_are (layout_of table.setup).targets rows holds.targets) (λ are.
+      let bad =
+      subst (λ p. IfErr p (λ d. d ≡ cause.BadHeader
+      → (given ≡ []) × IfSome text (λ t. HasNoHeader (format_of table.setup) t))) fact.0 is.bad_header in
+      let many =
+      subst (λ p. IfErr p (λ d. d ≡ cause.TooManyRecords
+      → IfSome text (λ t. HasTooMany (format_of table.setup) t))) fact.0 is.too_many in
+      let unsealed =
+      subst (λ p. IfErr p (λ d. d ≡ cause.NotSealed
+      → (form_of table.setup ≡ Sealed)
+      × IfSome text (λ t. IsNotSealed (format_of table.setup) t))) fact.0 is.not_sealed in record {
         whole = tt;
         flushed = tt;
         good = tt;
@@ -124,7 +183,8 @@ module _ {W : Type 0} (o : outputs.Ghosts W) (text : Option (List ℕ)) (table :
       }))
 
   threads_so : (c : Cause) → is_of_reading c ≡ false → (c ≡ cause.SinkFault → table.fault ≡ Some cause.SinkFault)
-      → ∥ IsSettled o.contents o.has_failed o.is_flushed (layout_of table.setup) text table.given.value table.output (end.Broken c) ∥₁
+      → ∥ IsSettled o.contents o.has_failed o.is_flushed (layout_of table.setup) text table.given.value table.output
+      (end.Broken c) ∥₁
   threads_so c other sink = ∥∥₁_map (rows_are (layout_of table.setup).targets rows holds.targets) (λ are. record {
     whole = tt;
     flushed = tt;
@@ -138,13 +198,18 @@ module _ {W : Type 0} (o : outputs.Ghosts W) (text : Option (List ℕ)) (table :
     kept = λ e. absurd (cc);
   })
 
-  broken_so : (b : Bool) (c : Cause) → is_of_reading c ≡ b → (is_of_reading c ≡ true → (passed ≡ Err c) × (table.fault ≡ None) × (headed ≡ true → table.rows ≢ 0))
-      → (c ≡ cause.SinkFault → table.fault ≡ Some cause.SinkFault) → ∥ IsSettled o.contents o.has_failed o.is_flushed (layout_of table.setup) text table.given.value table.output (end.Broken c) ∥₁
+  broken_so : (b : Bool) (c : Cause) → is_of_reading c ≡ b
+      → (is_of_reading c ≡ true → (passed ≡ Err c) × (table.fault ≡ None) × (headed ≡ true → table.rows ≢ 0))
+      → (c ≡ cause.SinkFault → table.fault ≡ Some cause.SinkFault)
+      → ∥ IsSettled o.contents o.has_failed o.is_flushed (layout_of table.setup) text table.given.value table.output
+      (end.Broken c) ∥₁
   broken_so true c b reading sink = reading_so c b (reading b)
   broken_so false c b reading sink = threads_so c b sink
 
   -- a source with another header has no table
-  pub headless : (e : SourceEnd) → IfBroken e (λ c. is_of_reading c ≡ true → (passed ≡ Err c) × (table.fault ≡ None) × (headed ≡ true → table.rows ≢ 0))
+  pub headless : (e : SourceEnd)
+      → IfBroken e (λ c. is_of_reading c ≡ true
+      → (passed ≡ Err c) × (table.fault ≡ None) × (headed ≡ true → table.rows ≢ 0))
       → e ≡ end.Broken cause.BadHeader → (is_some table.writer ≡ false) × (table.sunk ≡ false)
   headless (end.Whole count refused journal) reading is = absurd (cc)
   headless (end.Broken c) reading is =
@@ -152,22 +217,30 @@ module _ {W : Type 0} (o : outputs.Ghosts W) (text : Option (List ℕ)) (table :
       let fact = reading (ap is_of_reading same) in
       let told : tells_of_text passed ≡ true = ap tells_of_text fact.0 ∙ ap is_of_reading same in (
         not_true (is_some table.writer) (λ some. ∥∥₁_elim (has.rows told) (Prim.hlevel props) (λ (given, so, all).
-            let bad = subst (λ p. IfErr p (λ d. d ≡ cause.BadHeader → (given ≡ []) × IfSome text (λ t. HasNoHeader (format_of table.setup) t))) fact.0 so.bad_header in
+            let bad =
+            subst (λ p. IfErr p (λ d. d ≡ cause.BadHeader
+            → (given ≡ []) × IfSome text (λ t. HasNoHeader (format_of table.setup) t))) fact.0 so.bad_header in
             fact.2 (is_headed ∙ some) (none_given given so all (bad same).0))),
         table.faultless fact.1,
       )
 
   pub settled : (e : SourceEnd)
-      → IfWhole e (λ count refused notes. (passed ≡ Ok count) × (table.fault ≡ None) × (headed ≡ true) × (count ≡ table.rows) × (refused ≡ length notes) × (notes ≡ table.journal.items))
-      → IfBroken e (λ c. is_of_reading c ≡ true → (passed ≡ Err c) × (table.fault ≡ None) × (headed ≡ true → table.rows ≢ 0))
+      → IfWhole e (λ count refused notes. (passed ≡ Ok count) × (table.fault ≡ None) × (headed ≡ true)
+      × (count ≡ table.rows) × (refused ≡ length notes) × (notes ≡ table.journal.items))
+      → IfBroken e (λ c. is_of_reading c ≡ true
+      → (passed ≡ Err c) × (table.fault ≡ None) × (headed ≡ true → table.rows ≢ 0))
       → IfBroken e (λ c. c ≡ cause.SinkFault → table.fault ≡ Some cause.SinkFault)
-      → ∥ IsSettled o.contents o.has_failed o.is_flushed (layout_of table.setup) text table.given.value table.output e ∥₁
+      → ∥ IsSettled o.contents o.has_failed o.is_flushed
+      (layout_of table.setup) text table.given.value table.output e ∥₁
   settled (end.Broken c) whole reading sink = broken_so (is_of_reading c) c refl reading sink
   settled (end.Whole count refused journal) whole reading sink =
       let dry = table.faultless whole.1 in
       let told : tells_of_text passed ≡ true = ap tells_of_text whole.0 in
-      ∥∥₁_elim (has.rows told) ∥∥₁_prop (λ (given, is, all). ∥∥₁_map (rows_are (layout_of table.setup).targets rows holds.targets) (λ are.
-      let ended = subst (λ p. IfOk p (λ n. (n ≡ length given) × IfSome text (λ t. HasEntries (format_of table.setup) t given))) whole.0 is.all in
+      ∥∥₁_elim (has.rows told) ∥∥₁_prop
+      (λ (given, is, all). ∥∥₁_map (rows_are (layout_of table.setup).targets rows holds.targets) (λ are.
+      let ended =
+      subst (λ p. IfOk p (λ n. (n ≡ length given)
+      × IfSome text (λ t. HasEntries (format_of table.setup) t given))) whole.0 is.all in
       let front = taken_front given is all in
       let len : length given ≡ length (entries_seen rows) = sym ended.0 ∙ whole.3 ∙ sym entries_len in
       let same = front_all given (entries_seen rows) front.0 front.1 len in

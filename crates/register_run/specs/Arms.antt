@@ -1,4 +1,4 @@
--- What a link sees of its arms.
+-- What a link sees of its arms. No public contract cites this file.
 use Rattle.std.specs.Prelude.{List, [], ◌∷◌, ◌++◌, ◌⊎◌}
 use Rattle.std.specs.List.{Contains}
 use Rattle.lane_rings.specs.declared.item.Item.TheVariants as item
@@ -14,7 +14,7 @@ feeding_lane arm = sender_lane arm.feeding.value
 unfoldable pub ArmTook : Arm → Row → Type 0
 ArmTook arm row = Contains (taken arm.rows ++ waiting arm.rows) (item.Entry row)
 
--- the row was taken from one of these arms
+-- the row was taken from one of these arms, or was seen to be next
 abbrev pub AnyTook : List Arm → Row → Type 0
 AnyTook [] row = ⊥
 AnyTook (arm ∷ rest) row = ArmTook arm row ⊎ AnyTook rest row

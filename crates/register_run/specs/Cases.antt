@@ -1,4 +1,4 @@
--- The sources of a run, each with the output for it and the setup.
+-- The sources of a run, each with the output for it and the setup. No public contract cites this file.
 use Rattle.std.specs.Prelude.{List, [], ◌∷◌}
 use Rattle.std.specs.declared.io.traits.Read as reads
 use Rattle.register_records.specs.declared.outputs.Output as outputs

@@ -1,4 +1,4 @@
--- What the writer sees of a feed.
+-- What the writer sees of a feed. No public contract cites this file.
 use Rattle.std.specs.Prelude.{Ok, Err, Result}
 use Rattle.register_records.specs.declared.rows.Row.{Row}
 use Rattle.register_records.specs.declared.setups.Setup.{Setup}
@@ -19,6 +19,6 @@ module _ {R : Type 0} where
   PassedBy (Ok link) row = Passed link row
   PassedBy (Err fault) row = ⊥
 
-  -- the row was taken
+  -- the row was taken, or was seen to be next
   abbrev pub Took : Feed R → Row → Type 0
   Took feed row = PassedBy feed.link row

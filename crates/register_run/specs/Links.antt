@@ -1,4 +1,4 @@
--- What a feed sees of a link.
+-- What a feed sees of a link. No public contract cites this file.
 use Rattle.register_records.specs.declared.rows.Row.{Row}
 use Rattle.register_records.specs.declared.setups.Setup.{Setup}
 use Rattle.register_run.specs.declared.links.Link.{Link}
@@ -13,6 +13,6 @@ module _ {R : Type 0} where
   abbrev pub started_by : Link R → Setup
   started_by link = link.reader.promise.setup.value
 
-  -- the row was taken
+  -- the row was taken, or was seen to be next
   abbrev pub Passed : Link R → Row → Type 0
   Passed link row = AnyTook link.arms.items row

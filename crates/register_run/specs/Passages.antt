@@ -1,5 +1,6 @@
 -- What the threads of a source owe, by the lanes that they were given.
-use Rattle.std.specs.Prelude.{◌≡◌, ◌⊎◌, ⊤, ℕ, List, [], ◌∷◌, length, All, Option, Some, IfSome, MatchOption, Result, Ok, Err, IfOk, IfErr, Bool, true, false}
+use Rattle.std.specs.Prelude.{◌≡◌, ◌⊎◌, ⊤, ℕ, List, [], ◌∷◌, length, All, Option, Some, IfSome, MatchOption, Result, Ok}
+use Rattle.std.specs.Prelude.{Err, IfOk, IfErr, Bool, true, false}
 use Rattle.std.specs.List.{Contains}
 use Rattle.lane_rings.specs.declared.item.Item.{Item}
 use Rattle.lane_rings.specs.declared.item.Item.TheVariants as item
@@ -7,7 +8,8 @@ use Rattle.lane_rings.specs.declared.sender.Sender.{Sender}
 use Rattle.lane_rings.specs.declared.sender.Closed.{Closed}
 use Rattle.lane_rings.specs.Lane.{Lane, HasConfirmation, all_sent, closed_lane, receiver_lane, sent, taken}
 use Rattle.register_records.specs.Causes.{entry_fault_cause}
-use Rattle.register_records.specs.Entries.{AreNumberedFrom, Format, HasEntries, HasFirstEntries, HasNoHeader, HasTooMany, IsNotSealed, Numbered}
+use Rattle.register_records.specs.Entries.{AreNumberedFrom, Format, HasEntries, HasFirstEntries, HasNoHeader}
+use Rattle.register_records.specs.Entries.{HasTooMany, IsNotSealed, Numbered}
 use Rattle.register_records.specs.Seen.{entry_seen}
 use Rattle.register_records.specs.Views.{row_entry}
 use Rattle.register_records.specs.declared.entries.Entry.{Entry}
@@ -31,13 +33,15 @@ AreOfLanes (lane ∷ lanes) [] = ⊥
 AreOfLanes (lane ∷ lanes) (c ∷ closed) = IsOfLane lane c × AreOfLanes lanes closed
 
 -- the entries that a reader gave of a text, by how it ended: with their count, or for a cause
-pub record IsGiven (text : Option (List ℕ)) (format : Format) (outcome : Result ℕ Cause) (given : List Numbered) : Type 0 where
+pub record IsGiven (text : Option (List ℕ)) (format : Format) (outcome : Result ℕ Cause)
+    (given : List Numbered) : Type 0 where
   pub numbered : AreNumberedFrom 1 given
   pub first : (given ≡ []) ⊎ IfSome text (λ t. HasFirstEntries format t given)
   pub all : IfOk outcome (λ n. (n ≡ length given) × IfSome text (λ t. HasEntries format t given))
   pub bad_header : IfErr outcome (λ c. c ≡ cause.BadHeader → (given ≡ []) × IfSome text (λ t. HasNoHeader format t))
   pub too_many : IfErr outcome (λ c. c ≡ cause.TooManyRecords → IfSome text (λ t. HasTooMany format t))
-  pub not_sealed : IfErr outcome (λ c. c ≡ cause.NotSealed → (format.form ≡ Sealed) × IfSome text (λ t. IsNotSealed format t))
+  pub not_sealed : IfErr outcome (λ c. c ≡ cause.NotSealed
+      → (format.form ≡ Sealed) × IfSome text (λ t. IsNotSealed format t))
 
 -- the output is not the cause
 abbrev pub IsNotSunk : Result ℕ Cause → Type 0
@@ -59,7 +63,8 @@ Sends text format outcome senders =
 -- the same, of lanes that were ended
 abbrev pub HasSent : Option (List ℕ) → Format → Result ℕ Cause → List (Closed Entry) → Type 0
 HasSent text format outcome closed =
-    (given : List Numbered) × IsGiven text format outcome given × All (λ c. HasConfirmation c → AreAmong given (all_sent c)) closed
+    (given : List Numbered) × IsGiven text format outcome given
+    × All (λ c. HasConfirmation c → AreAmong given (all_sent c)) closed
 
 -- a reader of this text, which was given the senders of these lanes, may answer so
 pub record IsReading (text : Option (List ℕ)) (format : Format) (lanes : List Lane) (r : Reading) : Type 0 where
@@ -69,7 +74,8 @@ pub record IsReading (text : Option (List ℕ)) (format : Format) (lanes : List 
 
 -- of the rows among the items, one at most is new: the row of this entry
 abbrev pub GainsRowOf : List (Item Row) → List (Item Row) → Entry → Type 0
-GainsRowOf old new entry = (row : Row) → Contains new (item.Entry row) → Contains old (item.Entry row) ⊎ (row_entry row ≡ entry)
+GainsRowOf old new entry =
+    (row : Row) → Contains new (item.Entry row) → Contains old (item.Entry row) ⊎ (row_entry row ≡ entry)
 
 -- each row that was sent is the row of an entry that was taken
 abbrev pub AreOfTaken : List (Item Entry) → List (Item Row) → Type 0
@@ -112,6 +118,7 @@ Passes text format outcome took =
 
 -- the threads of a source have ended with this answer: where it speaks of the text, all that the reader
 -- sent has passed on
-pub record HasPassed (text : Option (List ℕ)) (format : Format) (outcome : Result ℕ Cause) (took : Row → Type 0) : Type 0 where
+pub record HasPassed (text : Option (List ℕ)) (format : Format) (outcome : Result ℕ Cause)
+    (took : Row → Type 0) : Type 0 where
   pub not_sunk : IsNotSunk outcome
   pub rows : tells_of_text outcome ≡ true → ∥ Passes text format outcome took ∥₁

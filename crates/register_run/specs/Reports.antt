@@ -22,10 +22,12 @@ abbrev pub OfEachSource : {R W : Type 0} → List R → List W → Report W → 
 OfEachSource sources given report Holds = AtEachPlace sources given report.outputs.items report.ends.items Holds
 
 -- each source has ended as it should, and the report says how
-pub record IsReport {R W : Type 0} (remaining : R → Option (List ℕ)) (contents : W → Option (List ℕ)) (has_failed is_flushed : W → Bool) (own_mark : W → ℕ)
+pub record IsReport {R W : Type 0} (remaining : R → Option (List ℕ)) (contents : W → Option (List ℕ))
+    (has_failed is_flushed : W → Bool) (own_mark : W → ℕ)
     (layout : Layout) (sources : List R) (given : List W) (report : Report W) : Type 0 where
   pub places : OfEachSource sources given report (λ source before after end.
-      ∥ IsSettled contents has_failed is_flushed layout (remaining source) before after end ∥₁ × (end ≡ ended.Broken cause.BadHeader → after ≡ before))
+      ∥ IsSettled contents has_failed is_flushed layout (remaining source) before after end ∥₁
+      × (end ≡ ended.Broken cause.BadHeader → after ≡ before))
   pub verdict : (report.verdict ≡ Complete) ↔ All (λ e. is_whole_end e ≡ true) report.ends.items
   pub marks : map own_mark report.outputs.items ≡ map own_mark given
   pub lengths : (length report.outputs.items ≡ length given) × (length report.ends.items ≡ length sources)

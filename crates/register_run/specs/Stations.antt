@@ -1,4 +1,4 @@
--- What a station keeps.
+-- What a station keeps. No public contract cites this file.
 use Rattle.register_records.specs.declared.outputs.Output as outputs
 use Rattle.register_run.specs.declared.stations.Station.{Station}
 use Rattle.register_run.specs.Cases.{Case, case}

@@ -1,4 +1,4 @@
--- What a source's table holds, by the rows that were taken from its threads.
+-- What a source's table holds, by the rows that were taken from its threads. No public contract cites this file.
 use Rattle.std.specs.Prelude.{ℕ, List, Option, Result}
 use Rattle.std.specs.List.{Contains}
 use Rattle.register_records.specs.declared.outputs.Output as outputs

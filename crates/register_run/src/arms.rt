@@ -183,7 +183,8 @@ impl Arm {
         closed: Closed<Entry>,
     ) -> Result<bool, Unconfirmed>
         requires { IsOfLane (feeding_lane self) closed }
-        ensures passed { OnOk result ((given : List Numbered) → (HasConfirmation closed → AreAmong given (all_sent closed))
+        ensures passed { OnOk result ((given : List Numbered)
+            → (HasConfirmation closed → AreAmong given (all_sent closed))
             → (row : Row) → ArmTook self row → IsOfGiven given row) }
     {
         let Arm {

@@ -23,7 +23,8 @@ pub(crate) fn join_arms(
     closed: Vec<Closed<Entry>>,
 ) -> Result<bool, Unconfirmed>
     requires { AreOfLanes (map feeding_lane arms.items) closed.items }
-    ensures { OnOk result ((given : List Numbered) → All (λ c. HasConfirmation c → AreAmong given (all_sent c)) closed.items
+    ensures { OnOk result ((given : List Numbered)
+        → All (λ c. HasConfirmation c → AreAmong given (all_sent c)) closed.items
         → (row : Row) → AnyTook arms.items row → IsOfGiven given row) }
 {
     let mut confirmed = true;

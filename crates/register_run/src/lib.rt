@@ -23,7 +23,7 @@ mod tables;
 
 pub use gates::{Gate, Open};
 pub use reports::{Report, RunFault, RunFaultKind, Verdict};
-pub use running::{run, run_gated};
+pub use running::{MAX_SOURCES, run, run_gated};
 
 #[cfg(test)]
 mod tests;

@@ -45,7 +45,8 @@ pub(crate) struct ReaderTask<R> {
 impl<R: Read> Promise<Reading> for ReaderTask<R> {
     ghost use Rattle.register_run.specs.Passages.{IsReading};
 
-    ghost kept_by = { λ p r. IsReading (R.remaining p.source.value) (format_of p.setup.value) (map sender_lane p.senders.value.items) r };
+    ghost kept_by = { λ p r. IsReading (R.remaining p.source.value) (format_of p.setup.value)
+        (map sender_lane p.senders.value.items) r };
 }
 
 /// A reader and its arms.
@@ -95,8 +96,10 @@ impl<R: Read + Drop> Link<R> {
         let reader = scope.spawn_with(
             task,
             move || -> Reading
-                requires { (0 < vec_len senders) × (vec_len senders ≤ vec_capacity closed) × (closed.items ≡ []) × All (λ s. sent s ≡ []) senders.items }
-                ensures { IsReading (R.remaining source) (format_of setup.entry.now) (map sender_lane senders.items) result }
+                requires { (0 < vec_len senders) × (vec_len senders ≤ vec_capacity closed) × (closed.items ≡ [])
+                    × All (λ s. sent s ≡ []) senders.items }
+                ensures { IsReading (R.remaining source) (format_of setup.entry.now)
+                    (map sender_lane senders.items) result }
             { read_source(rt, alloc, source, setup, senders, closed) },
         );
         match reader {
@@ -244,7 +247,8 @@ impl Fan {
         setup: &'e Setup,
     ) -> Result<Fan, StartFault>
         ensures fed { IfOk result (λ f. map feeding_lane f.arms.items ≡ map sender_lane f.senders.items) }
-        ensures count { IfOk result (λ f. (vec_len f.senders ≡ stripes_of setup.entry.now) × (vec_len f.arms ≡ stripes_of setup.entry.now)) }
+        ensures count { IfOk result (λ f. (vec_len f.senders ≡ stripes_of setup.entry.now)
+            × (vec_len f.arms ≡ stripes_of setup.entry.now)) }
         ensures fresh { IfOk result (λ f. All (λ s. sent s ≡ []) f.senders.items) }
     {
         let stripes = setup.stripes();

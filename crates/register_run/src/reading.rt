@@ -131,7 +131,8 @@ fn share_of(count: u32, turn: usize, stripes: usize) -> u64
 /// Ends a lane with this count, or with a stop where there is none.
 fn close_one(rt: &impl Wait, sender: Sender<Entry>, count: Option<u64>) -> Closed<Entry>
     ensures lane { IsOfLane (sender_lane sender) result }
-    ensures sent { (given : List Numbered) → AreAmong given (sent sender) → HasConfirmation result → AreAmong given (all_sent result) }
+    ensures sent { (given : List Numbered) → AreAmong given (sent sender) → HasConfirmation result
+        → AreAmong given (all_sent result) }
 {
     match count {
         Some(count) => sender.close(rt, count),

@@ -1,6 +1,7 @@
 //! The run over a list of sources.
 
-ghost use Rattle.std.specs.Prelude.{◌≡◌, ◌≢◌, ◌<◌, ◌≤◌, ◌↔◌, [], All, IfErr, IfOk, IfSome, IsErrAnd, map, true, false, vec_capacity, vec_len};
+ghost use Rattle.std.specs.Prelude.{◌≡◌, ◌≢◌, ◌<◌, ◌≤◌, ◌↔◌, [], All, IfErr, IfOk, IfSome, IsErrAnd, map, true, false};
+ghost use Rattle.std.specs.Prelude.{vec_capacity, vec_len};
 ghost use Rattle.register_records.specs.Entries.{HasNoHeader, HasTooMany, IsNotSealed};
 ghost use Rattle.register_records.specs.Sources.{ArePartOfTable, Gains, IfBroken, IfWhole, IsWholeTable, is_whole_end};
 ghost use Rattle.register_records.specs.Views.{form_of, format_of, layout_of};
@@ -22,7 +23,7 @@ use std::thread;
 use std::thread::{Scope, Threads};
 
 /// The most sources of a run.
-const MAX_SOURCES: usize = 32;
+pub const MAX_SOURCES: usize = 32;
 
 /// Starts the threads of each source.
 fn start_all<
@@ -160,7 +161,8 @@ struct Lists<R: Read, W: Output> {
     outputs: Vec<W>,
     ends: Vec<SourceEnd>,
     ghost empty: { (stations.items ≡ []) × (settled.items ≡ []) × (outputs.items ≡ []) × (ends.items ≡ []) },
-    ghost room: { (count ≤ vec_capacity stations) × (count ≤ vec_capacity settled) × (count ≤ vec_capacity outputs) × (count ≤ vec_capacity ends) },
+    ghost room: { (count ≤ vec_capacity stations) × (count ≤ vec_capacity settled) × (count ≤ vec_capacity outputs)
+        × (count ≤ vec_capacity ends) },
 }
 
 /// Makes the lists, with room for so many sources.
@@ -213,7 +215,8 @@ fn run_all<
     lists: Lists<R, W>,
 ) -> Report<W>
     requires { (vec_len sources ≡ lists.count) × (vec_len outputs ≡ lists.count) }
-    ensures { IsReport R.remaining W.contents W.has_failed W.is_flushed W.own_mark (layout_of setup.entry.now) sources.items outputs.items result }
+    ensures { IsReport R.remaining W.contents W.has_failed W.is_flushed W.own_mark
+        (layout_of setup.entry.now) sources.items outputs.items result }
 {
     let Lists {
         count: _,
@@ -239,25 +242,27 @@ fn run_in_scope<T: Threads + Wait + Sync, R: Read + Send + Drop, W: Output + Dro
     lists: Lists<R, W>,
 ) -> Report<W>
     requires { (vec_len sources ≡ lists.count) × (vec_len outputs ≡ lists.count) }
-    ensures { IsReport R.remaining W.contents W.has_failed W.is_flushed W.own_mark (layout_of setup.now) sources.items outputs.items result }
+    ensures { IsReport R.remaining W.contents W.has_failed W.is_flushed W.own_mark
+        (layout_of setup.now) sources.items outputs.items result }
 {
     thread::scope(
         thread::scope_env(),
         rt,
         move |scope| -> Report<W>
             requires { (vec_len sources ≡ lists.count) × (vec_len outputs ≡ lists.count) }
-            ensures { IsReport R.remaining W.contents W.has_failed W.is_flushed W.own_mark (layout_of setup.entry.now) sources.items outputs.items result }
+            ensures { IsReport R.remaining W.contents W.has_failed W.is_flushed W.own_mark
+                (layout_of setup.entry.now) sources.items outputs.items result }
         { run_all(scope, rt, gate, alloc, setup, sources, outputs, lists) },
     )
 }
 
 /// Converts many sources at once: each source is read on a thread of its own and converted on further ones, and this
 /// thread writes the tables, that of each source to the output at its place. `setup` says for which targets, with which
-/// delimiter, in which form, and with how many converters and how large rings for each source. Before the row of an entry
-/// is sent, its converter passes `gate`.
+/// delimiter, in which form, and with how many converters and how large rings for each source. Before the row of an
+/// entry is sent, its converter passes `gate`.
 ///
-/// A source ends `Whole` where its table was written, and else `Broken` with the lowest of the causes that were met. The
-/// faults of one source leave the others alone.
+/// A source ends `Whole` where its table was written, and else `Broken` with the lowest of the causes that were met.
+/// The faults of one source leave the others alone.
 ///
 /// # Errors
 ///
@@ -279,7 +284,8 @@ pub fn run_gated<T: Threads + Wait + Sync, R: Read + Send + Drop, W: Output + Dr
         (IsWholeTable (layout_of setup.now) (R.remaining source) rows refused journal) ∥₁))) }
     ensures handed_on { IfOk result (λ r. OfEachSource sources.items outputs.items r (λ source given written end.
         IfWhole end (λ rows refused journal. W.is_flushed written ≡ true))) }
-    ensures verdict { IfOk result (λ r. (r.verdict ≡ Verdict.Complete) ↔ All (λ e. is_whole_end e ≡ true) r.ends.items) }
+    ensures verdict { IfOk result (λ r. (r.verdict ≡ Verdict.Complete)
+        ↔ All (λ e. is_whole_end e ≡ true) r.ends.items) }
     ensures marks { IfOk result (λ r. map W.own_mark r.outputs.items ≡ map W.own_mark outputs.items) }
     ensures lengths { IfOk result (λ r. (vec_len r.outputs ≡ vec_len outputs) × (vec_len r.ends ≡ vec_len sources)) }
 
@@ -302,8 +308,8 @@ pub fn run_gated<T: Threads + Wait + Sync, R: Read + Send + Drop, W: Output + Dr
         IfBroken end (λ c. W.has_failed written ≡ false → ∥ Gains (W.contents given) (W.contents written)
         (AreRowsInOrder (layout_of setup.now)) ∥₁))) }
 
-    // An output is the cause only where it has failed, and it has failed no more than before with a whole source and with
-    // the causes of reading.
+    // An output is the cause only where it has failed, and it has failed no more than before with a whole source and
+    // with the causes of reading.
     ensures sink { IfOk result (λ r. OfEachSource sources.items outputs.items r (λ source given written end.
         IfBroken end (λ c. c ≡ Cause.SinkFault → W.has_failed written ≡ true))) }
     ensures kept { IfOk result (λ r. OfEachSource sources.items outputs.items r (λ source given written end.
@@ -312,11 +318,14 @@ pub fn run_gated<T: Threads + Wait + Sync, R: Read + Send + Drop, W: Output + Dr
         IfWhole end (λ rows refused journal. W.has_failed written ≡ W.has_failed given))) }
 
     // All of this in one word, for a caller that hands it on.
-    ensures report { IfOk result (λ r. IsReport R.remaining W.contents W.has_failed W.is_flushed W.own_mark (layout_of setup.now) sources.items outputs.items r) }
+    ensures report { IfOk result (λ r.
+        IsReport R.remaining W.contents W.has_failed W.is_flushed W.own_mark
+        (layout_of setup.now) sources.items outputs.items r) }
 
     // A run that did not begin.
     ensures unchanged { IfErr result (λ e. (e.sources ≡ sources) × (e.outputs ≡ outputs)) }
-    ensures too_many_sources { IsErrAnd result (λ e. e.kind ≡ RunFaultKind.TooManySources) ↔ (MAX_SOURCES < vec_len sources) }
+    ensures too_many_sources { IsErrAnd result (λ e. e.kind ≡ RunFaultKind.TooManySources)
+        ↔ (MAX_SOURCES < vec_len sources) }
     ensures output_count { IsErrAnd result (λ e. e.kind ≡ RunFaultKind.OutputCount)
         ↔ ((vec_len sources ≤ MAX_SOURCES) × (vec_len outputs ≢ vec_len sources)) }
 {
@@ -352,7 +361,8 @@ pub fn run<T: Threads + Wait + Sync, R: Read + Send + Drop, W: Output + Drop>(
         (IsWholeTable (layout_of setup.now) (R.remaining source) rows refused journal) ∥₁))) }
     ensures handed_on { IfOk result (λ r. OfEachSource sources.items outputs.items r (λ source given written end.
         IfWhole end (λ rows refused journal. W.is_flushed written ≡ true))) }
-    ensures verdict { IfOk result (λ r. (r.verdict ≡ Verdict.Complete) ↔ All (λ e. is_whole_end e ≡ true) r.ends.items) }
+    ensures verdict { IfOk result (λ r. (r.verdict ≡ Verdict.Complete)
+        ↔ All (λ e. is_whole_end e ≡ true) r.ends.items) }
     ensures marks { IfOk result (λ r. map W.own_mark r.outputs.items ≡ map W.own_mark outputs.items) }
     ensures lengths { IfOk result (λ r. (vec_len r.outputs ≡ vec_len outputs) × (vec_len r.ends ≡ vec_len sources)) }
 
@@ -375,8 +385,8 @@ pub fn run<T: Threads + Wait + Sync, R: Read + Send + Drop, W: Output + Drop>(
         IfBroken end (λ c. W.has_failed written ≡ false → ∥ Gains (W.contents given) (W.contents written)
         (AreRowsInOrder (layout_of setup.now)) ∥₁))) }
 
-    // An output is the cause only where it has failed, and it has failed no more than before with a whole source and with
-    // the causes of reading.
+    // An output is the cause only where it has failed, and it has failed no more than before with a whole source and
+    // with the causes of reading.
     ensures sink { IfOk result (λ r. OfEachSource sources.items outputs.items r (λ source given written end.
         IfBroken end (λ c. c ≡ Cause.SinkFault → W.has_failed written ≡ true))) }
     ensures kept { IfOk result (λ r. OfEachSource sources.items outputs.items r (λ source given written end.
@@ -385,11 +395,14 @@ pub fn run<T: Threads + Wait + Sync, R: Read + Send + Drop, W: Output + Drop>(
         IfWhole end (λ rows refused journal. W.has_failed written ≡ W.has_failed given))) }
 
     // All of this in one word, for a caller that hands it on.
-    ensures report { IfOk result (λ r. IsReport R.remaining W.contents W.has_failed W.is_flushed W.own_mark (layout_of setup.now) sources.items outputs.items r) }
+    ensures report { IfOk result (λ r.
+        IsReport R.remaining W.contents W.has_failed W.is_flushed W.own_mark
+        (layout_of setup.now) sources.items outputs.items r) }
 
     // A run that did not begin.
     ensures unchanged { IfErr result (λ e. (e.sources ≡ sources) × (e.outputs ≡ outputs)) }
-    ensures too_many_sources { IsErrAnd result (λ e. e.kind ≡ RunFaultKind.TooManySources) ↔ (MAX_SOURCES < vec_len sources) }
+    ensures too_many_sources { IsErrAnd result (λ e. e.kind ≡ RunFaultKind.TooManySources)
+        ↔ (MAX_SOURCES < vec_len sources) }
     ensures output_count { IsErrAnd result (λ e. e.kind ≡ RunFaultKind.OutputCount)
         ↔ ((vec_len sources ≤ MAX_SOURCES) × (vec_len outputs ≢ vec_len sources)) }
 {

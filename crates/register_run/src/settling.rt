@@ -22,7 +22,8 @@ pub(crate) struct Settled<R: Read, W: Output> {
     pub(crate) end: SourceEnd,
     pub ghost marked: { W.own_mark output ≡ W.own_mark given.value },
     pub ghost untouched: { end ≡ ended.Broken cause.BadHeader → output ≡ given.value },
-    pub ghost settled: { ∥ IsSettled W.contents W.has_failed W.is_flushed (layout_of setup.value) (R.remaining source.value) given.value output end ∥₁ },
+    pub ghost settled: { ∥ IsSettled W.contents W.has_failed W.is_flushed (layout_of setup.value)
+        (R.remaining source.value) given.value output end ∥₁ },
 }
 
 /// The lower of two causes, which is the one that is told.
@@ -49,9 +50,11 @@ pub(crate) fn end_of_source(
     requires few { vec_len journal ≤ rows }
     requires not_sunk { IsNotSunk passed }
     requires not_reading { IfSome fault (λ c. is_of_reading c ≡ false) }
-    ensures whole { IfWhole result (λ count refused notes. (passed ≡ Ok count) × (fault ≡ None) × (headed ≡ true) × (count ≡ rows)
+    ensures whole { IfWhole result (λ count refused notes. (passed ≡ Ok count) × (fault ≡ None) × (headed ≡ true)
+        × (count ≡ rows)
         × (refused ≡ length notes) × (notes ≡ journal.items)) }
-    ensures reading { IfBroken result (λ c. is_of_reading c ≡ true → (passed ≡ Err c) × (fault ≡ None) × (headed ≡ true → rows ≢ 0)) }
+    ensures reading { IfBroken result (λ c. is_of_reading c ≡ true
+        → (passed ≡ Err c) × (fault ≡ None) × (headed ≡ true → rows ≢ 0)) }
     ensures sink { IfBroken result (λ c. c ≡ cause.SinkFault → fault ≡ Some cause.SinkFault) }
 {
     match passed {

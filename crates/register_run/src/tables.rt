@@ -1,6 +1,7 @@
 //! The table of a source, as far as it was written.
 
-ghost use Rattle.std.specs.Prelude.{◌≡◌, ◌+◌, ◌<◌, ◌≤◌, ◌⊎◌, [], ◌∷◌, ◌++◌, None, Some, IfSome, true, false, vec_capacity, vec_len};
+ghost use Rattle.std.specs.Prelude.{◌≡◌, ◌+◌, ◌<◌, ◌≤◌, ◌⊎◌, [], ◌∷◌, ◌++◌, None, Some, IfSome, true, false};
+ghost use Rattle.std.specs.Prelude.{vec_capacity, vec_len};
 ghost use Rattle.std.specs.Option.{is_some};
 ghost use Rattle.std.proofs.Props.{props};
 ghost use Rattle.register_records.specs.Entries.{record_limit};
@@ -88,7 +89,8 @@ impl<W: Output + Drop> Table<W> {
     pub(crate) fn add(&mut self, row: &Row)
         ensures output { made_for self.new ≡ made_for self.old }
         ensures setup { made_by self.new ≡ made_by self.old }
-        ensures rows { (rows : List Row) → Holds self.old rows → Holds self.new rows ⊎ Holds self.new (rows ++ row.now ∷ []) }
+        ensures rows { (rows : List Row) → Holds self.old rows
+            → Holds self.new rows ⊎ Holds self.new (rows ++ row.now ∷ []) }
     {
         self.head();
         if self.fault.is_some() {
@@ -126,7 +128,8 @@ impl<W: Output + Drop> Table<W> {
         requires targets { row_targets row.now ≡ targets_of (made_by self.old) }
         ensures output { made_for self.new ≡ made_for self.old }
         ensures setup { made_by self.new ≡ made_by self.old }
-        ensures rows { (rows : List Row) → Holds self.old rows → Holds self.new rows ⊎ Holds self.new (rows ++ row.now ∷ []) }
+        ensures rows { (rows : List Row) → Holds self.old rows
+            → Holds self.new rows ⊎ Holds self.new (rows ++ row.now ∷ []) }
     {
         tables_grow();
         let Some(writer) = &mut self.writer else {
@@ -208,7 +211,8 @@ impl<W: Output + Drop> Table<W> {
 /// Notes a row that was refused, in a journal with room for it.
 fn push_note(journal: &mut Vec<Note>, row: &Row)
     requires { vec_len journal.old < vec_capacity journal.old }
-    ensures items { journal.new.items ≡ journal.old.items ++ notes_of (row_seen row.now).number (row_seen row.now).outcome }
+    ensures items { journal.new.items
+        ≡ journal.old.items ++ notes_of (row_seen row.now).number (row_seen row.now).outcome }
     ensures len { vec_len journal.new ≤ vec_len journal.old + 1 }
 {
     if let Some(note) = row.note() {

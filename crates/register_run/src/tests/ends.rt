@@ -116,8 +116,8 @@ const RIGHT: u64 = 1;
 
 const WRONG: u64 = 2;
 
-/// Sends items until the receiver is gone, and notes whether this was told of the item that was sent, and not before the
-/// receiver was to be dropped.
+/// Sends items until the receiver is gone, and notes whether this was told of the item that was sent, and not before
+/// the receiver was to be dropped.
 fn send_until_gone(
     rt: &impl Wait,
     sender: Sender<u32>,
@@ -201,6 +201,38 @@ fn one_is_taken(rt: &(impl Threads + Wait + Sync), alloc: Global) -> Result<bool
 fn an_item_that_was_sent_just_before_its_end_is_taken(rt: HostRuntime) -> Result<(), Fail> {
     for _ in 0..300 {
         assert!(rt; one_is_taken(&rt, rt.alloc())?);
+    }
+    Ok(())
+}
+
+/// Looks until an item is there or the sender is gone, and says whether it is that item.
+fn is_seen(receiver: Receiver<u32>) -> bool {
+    let mut receiver = receiver;
+    for _ in 0..MOST_LOOKS {
+        match receiver.look() {
+            Ok(true) => return receiver.next() == Some(&Item::Entry(7)),
+            Ok(false) => thread::yield_now(),
+            Err(_) => return false,
+        }
+    }
+    false
+}
+
+/// Whether that item is seen by looks without a wait.
+fn one_is_seen(rt: &(impl Threads + Wait + Sync), alloc: Global) -> Result<bool, AllocError> {
+    let (sender, receiver) = lane::<u32>(alloc, 2)?;
+    let seen = thread::scope(thread::scope_env(), rt, move |scope| {
+        let started = scope.spawn(move || send_one(rt, sender));
+        is_seen(receiver) && started.is_ok()
+    });
+    Ok(seen)
+}
+
+// The same where the receiver looks again and again.
+#[test]
+fn an_item_that_was_sent_just_before_its_end_is_seen(rt: HostRuntime) -> Result<(), Fail> {
+    for _ in 0..300 {
+        assert!(rt; one_is_seen(&rt, rt.alloc())?);
     }
     Ok(())
 }

@@ -32,7 +32,8 @@ const ROOM: usize = 4096;
 /// More reads, writes or flushes than three records need.
 const MANY: u32 = 20;
 
-/// The numbers of the read, of the write and of the flush that fail, from 1, or 0 for none; and the most bytes of an offer.
+/// The numbers of the read, of the write and of the flush that fail, from 1, or 0 for none; and the most bytes of an
+/// offer.
 #[derive(Clone, Copy, Debug)]
 struct Faults {
     read: u32,
@@ -53,8 +54,8 @@ static OTHER_TEXT: &[u8] = b"id,calendar,date\nb,julian,1582-10-05\n";
 static OTHER_TABLE: &[u8] =
     b"row,id,calendar,date,rd,weekday,refusal\n1,b,julian,1582-10-05,577736,Friday,\n";
 
-/// Runs a text with these faults beside another text. The other one is whole with its table, and the answer is the cause of
-/// the first, or 0, and its output.
+/// Runs a text with these faults beside another text. The other one is whole with its table, and the answer is the
+/// cause of the first, or 0, and its output.
 fn cause_beside_whole(
     rt: &(impl Threads + Wait + Sync + Abort),
     alloc: Global,
@@ -289,8 +290,8 @@ fn run_in_need(
     Ok(run(rt, alloc, sources, outputs, setup))
 }
 
-// It passes whichever allocation is refused: then the run does not begin, and says so, or one source alone is broken, for
-// want of memory, of a thread or of a confirmation.
+// It passes whichever allocation is refused: then the run does not begin, and says so, or one source alone is broken,
+// for want of memory, of a thread or of a confirmation.
 #[test]
 fn a_run_that_is_refused_memory_does_not_begin_or_breaks_one_source(rt: HostRuntime) {
     let Ok(setup) = plain_setup(1, 2) else {

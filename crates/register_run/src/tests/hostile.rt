@@ -13,8 +13,8 @@ use std::sync::Wait;
 use std::test::Fail;
 use std::thread::Threads;
 
-/// Texts, in which the substitute U+001A stands for the byte FF, which is nowhere in UTF-8. Each has the cause that is told,
-/// or 0, and the rows below the heading.
+/// Texts, in which the substitute U+001A stands for the byte FF, which is nowhere in UTF-8. Each has the cause that is
+/// told, or 0, and the rows below the heading.
 const TEXTS: [(&str, u8, &str); 16] = [
     (
         "id,calendar,date\n\

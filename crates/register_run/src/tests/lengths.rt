@@ -13,8 +13,8 @@ use std::test::Fail;
 /// The most records of a source.
 const MOST: u32 = 1_000_000;
 
-/// The bytes of their table, which a Python program added up, line by line: record k has an id of k modulo 41 quotes, the
-/// calendar `gregorian` with k modulo 8 spaces behind it, and the date 1970-01-01 behind k modulo 23 spaces.
+/// The bytes of their table, which a Python program added up, line by line: record k has an id of k modulo 41 quotes,
+/// the calendar `gregorian` with k modulo 8 spaces behind it, and the date 1970-01-01 behind k modulo 23 spaces.
 const BYTES_OF_MOST: u64 = 102_339_821;
 
 /// A reader that makes these records.

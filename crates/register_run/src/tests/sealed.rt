@@ -1,5 +1,5 @@
-// Sealed registers: which are whole, why the others are not, and what stands in their tables. The rows are worked by hand
-// from the calendars' rules: 5 October 1582 in the Julian calendar is day 577736, a Friday.
+// Sealed registers: which are whole, why the others are not, and what stands in their tables. The rows are worked by
+// hand from the calendars' rules: 5 October 1582 in the Julian calendar is day 577736, a Friday.
 
 use super::{GREGORIAN, cause_of, outputs_of};
 use crate::{Report, run};
@@ -24,8 +24,8 @@ const ROWS: &str = "1,a,julian,1582-10-05,parish book,577736,Friday,1582-10-15,\
 /// The row of a third record that has not four fields.
 const THIRD_ROW: &str = "3,,,,,,,,1\n";
 
-/// What stands behind the two records, the cause that is told, 0 where the register is whole, and what stands in the table
-/// behind the two rows.
+/// What stands behind the two records, the cause that is told, 0 where the register is whole, and what stands in the
+/// table behind the two rows.
 const ENDS: [(&str, u8, &str); 17] = [
     ("END,2\n", 0, ""),
     (" END , 02\n", 0, ""),

@@ -11,7 +11,8 @@ use Rattle.register_run.proofs.joining.join_arms.Given as goal
 abbrev pub invariant-loop-arm : goal.invariant-loop-arm
 invariant-loop-arm g l = let arms = into_iter_items l.arm-iterator in let closed = into_iter_items l.rest in record {
   from : AreOfLanes (map feeding_lane arms) closed;
-  rows : l.confirmed ≡ true → (given : List Numbered) → All (λ c. HasConfirmation c → AreAmong given (all_sent c)) l.fn.closed.items
+  rows : l.confirmed ≡ true → (given : List Numbered)
+      → All (λ c. HasConfirmation c → AreAmong given (all_sent c)) l.fn.closed.items
       → (row : Row) → AnyTook l.fn.arms.items row → IsOfGiven given row ⊎ AnyTook arms row;
   sent : (given : List Numbered) → All (λ c. HasConfirmation c → AreAmong given (all_sent c)) l.fn.closed.items
       → All (λ c. HasConfirmation c → AreAmong given (all_sent c)) closed;

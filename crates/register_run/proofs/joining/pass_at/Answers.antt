@@ -5,7 +5,11 @@ use Rattle.register_run.proofs.ArmLemmas.{any_set}
 use Rattle.register_run.proofs.joining.pass_at.Goals as goal
 
 pub returns-clause-lanes : goal.returns-clause-lanes
-returns-clause-lanes c = map-set_same feeding_lane c.args.arms.now.items c.args.at c.pass.new.self c.index_mut-arm.result.now (c.pass.ensures.lane ∙ ap feeding_lane c.index_mut-arm.ensures.value)
+returns-clause-lanes c =
+    map-set_same feeding_lane c.args.arms.now.items c.args.at c.pass.new.self c.index_mut-arm.result.now
+    (c.pass.ensures.lane ∙ ap feeding_lane c.index_mut-arm.ensures.value)
 
 pub returns-clause-kept : goal.returns-clause-kept
-returns-clause-kept c = λ row h. any_set c.args.arms.now.items c.args.at c.pass.new.self c.index_mut-arm.result.now row (λ a. c.pass.ensures.kept row (subst (λ x. ArmTook x row) (sym c.index_mut-arm.ensures.value) a)) h
+returns-clause-kept c =
+    λ row h. any_set c.args.arms.now.items c.args.at c.pass.new.self c.index_mut-arm.result.now row
+    (λ a. c.pass.ensures.kept row (subst (λ x. ArmTook x row) (sym c.index_mut-arm.ensures.value) a)) h

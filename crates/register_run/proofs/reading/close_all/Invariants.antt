@@ -11,7 +11,9 @@ use Rattle.register_run.proofs.reading.close_all.Given as goal
 abbrev pub invariant-loop-sender : goal.invariant-loop-sender
 invariant-loop-sender g l = let left = into_iter_items l.sender-iterator in record {
   room : vec_len l.closed + into_iter_len l.sender-iterator ≤ vec_capacity l.closed;
-  from : (more : List (Closed Entry)) → AreOfLanes (map sender_lane left) more → AreOfLanes (map sender_lane l.fn.senders.items) (l.closed.items ++ more);
+  from : (more : List (Closed Entry)) → AreOfLanes (map sender_lane left) more
+      → AreOfLanes (map sender_lane l.fn.senders.items) (l.closed.items ++ more);
   sent : (given : List Numbered) → All (λ s. AreAmong given (sent s)) l.fn.senders.items
-      → All (λ s. AreAmong given (sent s)) left × All (λ c. HasConfirmation c → AreAmong given (all_sent c)) l.closed.items;
+      → All (λ s. AreAmong given (sent s)) left
+      × All (λ c. HasConfirmation c → AreAmong given (all_sent c)) l.closed.items;
 }

@@ -1,4 +1,5 @@
-use Rattle.std.proofs.Common.{◌≡◌, ◌∙◌, ◌-◌, ◌%◌, ◌<◌, [], ◌∷◌, get_or, ap, refl, sym, subst, arith, length, length-append}
+use Rattle.std.proofs.Common.{◌≡◌, ◌∙◌, ◌-◌, ◌%◌, ◌<◌, [], ◌∷◌, get_or, ap, refl, sym, subst, arith, length}
+use Rattle.std.proofs.Common.{length-append}
 use Rattle.std.proofs.Math.Seq.{map-set_same}
 use Rattle.lane_rings.specs.Lane.{sender_lane, sent}
 use Rattle.register_records.specs.Entries.{AreNumberedFrom, Numbered}
@@ -10,7 +11,10 @@ use Rattle.register_run.proofs.reading.send_entries.Goals as goal
 
 pub returns-in-Err-clause-sends : goal.returns-in-Err-clause-sends
 returns-in-Err-clause-sends g c =
-    let is = given_none (g.R.Read.remaining c.args.source) (format_of c.args.setup.now) c.in-Err.fault c.cause_of.result c.cause_of.ensures c.in-Err.ensures.bad c.in-Err.ensures.told.0 c.in-Err.ensures.told.2 in
+    let is =
+    given_none (g.R.Read.remaining c.args.source)
+    (format_of c.args.setup.now) c.in-Err.fault c.cause_of.result c.cause_of.ensures c.in-Err.ensures.bad
+    c.in-Err.ensures.told.0 c.in-Err.ensures.told.2 in
     ∣ ([], is, λ k d below. among_none [] (sent (get_or c.args.senders.now.items k d)) (c.requires.fresh k d below)) ∣₁
 
 pub returns-in-Ok-None-clause-sends : goal.returns-in-Ok-None-clause-sends
@@ -18,48 +22,75 @@ returns-in-Ok-None-clause-sends g c =
     let inv = c.loop.invariant in let new = c.next-in-loop.new.self in
     let all = (rw c.in-Ok-None.field-0-is at c.in-Ok-None.ensures.all) refl in
     let kept = (rw c.in-Ok-None.field-0-is at c.in-Ok-None.ensures.ends) refl in
-    sends_all (g.R.Read.remaining c.args.source) (text_of new) (format_of c.args.setup.now) (reads_by new) (c.next-in-loop.ensures.text.0 ∙ inv.text) (c.next-in-loop.ensures.text.1 ∙ inv.by)
-    (given_of new) (given_of c.loop.entries) kept.1 inv.numbered new.first c.loop.senders.items inv.sent c.loop.count inv.count all
+    sends_all (g.R.Read.remaining c.args.source) (text_of new) (format_of c.args.setup.now) (reads_by new)
+    (c.next-in-loop.ensures.text.0 ∙ inv.text) (c.next-in-loop.ensures.text.1 ∙ inv.by)
+    (given_of new) (given_of c.loop.entries) kept.1 inv.numbered new.first c.loop.senders.items inv.sent c.loop.count
+    inv.count all
 
 pub returns-in-Err-next-clause-sends : goal.returns-in-Err-next-clause-sends
 returns-in-Err-next-clause-sends g c =
     let inv = c.loop.invariant in let new = c.next-in-loop.new.self in
-    sends_stopped (g.R.Read.remaining c.args.source) (text_of new) (format_of c.args.setup.now) (reads_by new) (c.next-in-loop.ensures.text.0 ∙ inv.text) (c.next-in-loop.ensures.text.1 ∙ inv.by)
-    (given_of new) (given_of c.loop.entries) c.in-Err-next.ensures.kept inv.numbered new.first c.loop.senders.items inv.sent
-    c.in-Err-next.fault _ c.cause_of-in-Err-next.ensures c.in-Err-next.ensures.no_header (λ e. (c.in-Err-next.ensures.many e).1) c.in-Err-next.ensures.not_sealed
+    sends_stopped (g.R.Read.remaining c.args.source) (text_of new) (format_of c.args.setup.now) (reads_by new)
+    (c.next-in-loop.ensures.text.0 ∙ inv.text) (c.next-in-loop.ensures.text.1 ∙ inv.by)
+    (given_of new) (given_of c.loop.entries) c.in-Err-next.ensures.kept inv.numbered new.first c.loop.senders.items
+    inv.sent
+    c.in-Err-next.fault _ c.cause_of-in-Err-next.ensures c.in-Err-next.ensures.no_header
+    (λ e. (c.in-Err-next.ensures.many e).1) c.in-Err-next.ensures.not_sealed
 
 pub returns-then-is_err-clause-lanes : goal.returns-then-is_err-clause-lanes
 returns-then-is_err-clause-lanes g c =
     let items = c.loop.senders.items in let at = (c.number-count.result - 1) % c.len.result in
-    map-set_same sender_lane items at c.send.new.self c.index_mut-sender.result.now (c.send.ensures.lane ∙ ap sender_lane c.index_mut-sender.ensures.value) ∙ c.loop.invariant.lanes
+    map-set_same sender_lane items
+    at c.send.new.self c.index_mut-sender.result.now
+    (c.send.ensures.lane ∙ ap sender_lane c.index_mut-sender.ensures.value) ∙ c.loop.invariant.lanes
 
 pub returns-then-is_err-clause-sends : goal.returns-then-is_err-clause-sends
 returns-then-is_err-clause-sends g c =
     let inv = c.loop.invariant in let new = c.next-in-loop.new.self in
     let items = c.loop.senders.items in let at = (c.number-count.result - 1) % c.len.result in
-    let below : at < length items = (let a = c.len.ensures in let b = c.requires.some in let k = inv.len in let o = c.loop.senders.ok.0 in omega arith) in
+    let below : at < length items =
+    (let a = c.len.ensures in let b = c.requires.some in let k = inv.len in let o = c.loop.senders.ok.0 in
+    omega arith) in
     let gives = rw c.in-Ok-Some.field-0-is at c.in-Ok-Some.ensures.gives in
     let number = rw c.in-Ok-Some.field-0-is at c.in-Ok-Some.ensures.number in
-    let numbered = subst (λ l. AreNumberedFrom 1 l) (sym gives) (numbered_more 1 (given_of c.loop.entries) (entry_seen c.in-Ok-Some.entry) inv.numbered (let n = number.0 in omega arith)) in
-    let among = all_among (given_of c.loop.entries) (given_of new) items at c.index_mut-sender.result.now c.send.new.self c.in-Ok-Some.entry c.send.result c.index_mut-sender.ensures.value below gives c.send.ensures.ok c.send.ensures.gone inv.sent in
-    sends_gone (g.R.Read.remaining c.args.source) (text_of new) (format_of c.args.setup.now) (reads_by new) (c.next-in-loop.ensures.text.0 ∙ inv.text) (c.next-in-loop.ensures.text.1 ∙ inv.by)
+    let numbered =
+    subst (λ l. AreNumberedFrom 1 l) (sym gives)
+    (numbered_more 1 (given_of c.loop.entries) (entry_seen c.in-Ok-Some.entry) inv.numbered
+    (let n = number.0 in omega arith)) in
+    let among =
+    all_among (given_of c.loop.entries) (given_of new) items
+    at c.index_mut-sender.result.now c.send.new.self c.in-Ok-Some.entry c.send.result
+    c.index_mut-sender.ensures.value below gives c.send.ensures.ok c.send.ensures.gone inv.sent in
+    sends_gone (g.R.Read.remaining c.args.source) (text_of new) (format_of c.args.setup.now) (reads_by new)
+    (c.next-in-loop.ensures.text.0 ∙ inv.text) (c.next-in-loop.ensures.text.1 ∙ inv.by)
     (given_of new) (given_of new) refl numbered new.first _ among
 
 pub loop-preserved : goal.loop-preserved
 loop-preserved g c =
     let inv = c.loop.invariant in let new = c.next-in-loop.new.self in
     let items = c.loop.senders.items in let at = (c.number-count.result - 1) % c.len.result in
-    let below : at < length items = (let a = c.len.ensures in let b = c.requires.some in let k = inv.len in let o = c.loop.senders.ok.0 in omega arith) in
+    let below : at < length items =
+    (let a = c.len.ensures in let b = c.requires.some in let k = inv.len in let o = c.loop.senders.ok.0 in
+    omega arith) in
     let gives = rw c.in-Ok-Some.field-0-is at c.in-Ok-Some.ensures.gives in
     let number = rw c.in-Ok-Some.field-0-is at c.in-Ok-Some.ensures.number in
     let longer = length-append {A = Numbered} (given_of c.loop.entries) (entry_seen c.in-Ok-Some.entry ∷ []) in
     let same : c.number-count.result ≡ entry_number c.in-Ok-Some.entry = c.number-count.ensures.value in record {
       len = inv.len;
-      lanes = map-set_same sender_lane items at c.send.new.self c.index_mut-sender.result.now (c.send.ensures.lane ∙ ap sender_lane c.index_mut-sender.ensures.value) ∙ inv.lanes;
+      lanes =
+          map-set_same sender_lane items
+          at c.send.new.self c.index_mut-sender.result.now
+          (c.send.ensures.lane ∙ ap sender_lane c.index_mut-sender.ensures.value) ∙ inv.lanes;
       text = c.next-in-loop.ensures.text.0 ∙ inv.text;
       by = c.next-in-loop.ensures.text.1 ∙ inv.by;
       goes = c.in-Ok-Some.ensures.goes;
       count = same ∙ number.0 ∙ rw gives (omega (arith, longer));
-      numbered = subst (λ l. AreNumberedFrom 1 l) (sym gives) (numbered_more 1 (given_of c.loop.entries) (entry_seen c.in-Ok-Some.entry) inv.numbered (let n = number.0 in omega arith));
-      sent = all_among (given_of c.loop.entries) (given_of new) items at c.index_mut-sender.result.now c.send.new.self c.in-Ok-Some.entry c.send.result c.index_mut-sender.ensures.value below gives c.send.ensures.ok c.send.ensures.gone inv.sent;
+      numbered =
+          subst (λ l. AreNumberedFrom 1 l) (sym gives)
+          (numbered_more 1 (given_of c.loop.entries) (entry_seen c.in-Ok-Some.entry) inv.numbered
+          (let n = number.0 in omega arith));
+      sent =
+          all_among (given_of c.loop.entries) (given_of new) items
+          at c.index_mut-sender.result.now c.send.new.self c.in-Ok-Some.entry c.send.result
+          c.index_mut-sender.ensures.value below gives c.send.ensures.ok c.send.ensures.gone inv.sent;
     }

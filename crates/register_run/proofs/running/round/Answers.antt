@@ -8,5 +8,7 @@ loop-i-preserved g c =
     let items = c.loop-i.stations.items in let was = c.index_mut-station.result.now in record {
       end = c.loop-i.invariant.end;
       len = c.loop-i.invariant.len;
-      cases = map-set_same case_of items c.loop-i.i c.visit.new.self was (c.visit.ensures ∙ ap case_of c.index_mut-station.ensures.value) ∙ c.loop-i.invariant.cases;
+      cases =
+          map-set_same case_of items c.loop-i.i c.visit.new.self was
+          (c.visit.ensures ∙ ap case_of c.index_mut-station.ensures.value) ∙ c.loop-i.invariant.cases;
     }

@@ -8,5 +8,6 @@ abbrev pub invariant-loop-station : goal.invariant-loop-station
 invariant-loop-station g l = record {
   room : vec_len l.settled + into_iter_len l.station-iterator ≤ vec_capacity l.settled;
   len : vec_len l.settled + into_iter_len l.station-iterator ≡ vec_len l.fn.stations;
-  cases : map ended_case l.settled.items ++ map case_of (into_iter_items l.station-iterator) ≡ map case_of l.fn.stations.items;
+  cases : map ended_case l.settled.items ++ map case_of (into_iter_items l.station-iterator)
+      ≡ map case_of l.fn.stations.items;
 }

@@ -8,6 +8,9 @@ use Rattle.register_run.proofs.stations.Station.finish.Goals as goal
 pub conclude-requires : goal.conclude-requires
 conclude-requires g c = let s = c.args.self in let has = c.finish-source.ensures.passed in record {
   not_sunk = has.not_sunk;
-  passed = concludes s.feed s.table (g.R.Read.remaining c.finish-source.result.0.value) c.finish-source.result.1 s.by_one_setup
-      (subst (λ r. HasPassed (g.R.Read.remaining r) (format_of (fed_by s.feed)) c.finish-source.result.1 (Took s.feed)) (sym c.finish-source.ensures.source) has) s.wrote;
+  passed =
+      concludes s.feed s.table (g.R.Read.remaining c.finish-source.result.0.value) c.finish-source.result.1
+      s.by_one_setup
+      (subst (λ r. HasPassed (g.R.Read.remaining r) (format_of (fed_by s.feed)) c.finish-source.result.1 (Took s.feed))
+      (sym c.finish-source.ensures.source) has) s.wrote;
 }

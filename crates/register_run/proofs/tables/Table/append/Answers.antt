@@ -11,10 +11,16 @@ pub returns-clause-rows : goal.returns-clause-rows
 returns-clause-rows g c = λ rows h.
     let old = c.args.self.now in let layout = layout_of old.setup in let row = c.args.row.now in
     let next = c.number-self.ensures.value ∙ ap (λ e. (entry_seen e).number) c.entry.ensures in inr (record {
-      stands = λ dry. stands_more g.W.Output layout old.given.value old.output c.in-Some.writer c.add.new.self rows row c.tables_grow.ensures
-          (subst (λ w. Stands g.W.Output layout old.given.value old.output w rows) c.in-Some.is (h.stands dry)) c.in-Ok-add.ensures.ok c.add.ensures.by c.requires.targets;
+      stands =
+          λ dry. stands_more g.W.Output layout old.given.value old.output c.in-Some.writer c.add.new.self rows row
+          c.tables_grow.ensures
+          (subst (λ w. Stands g.W.Output layout old.given.value old.output w rows) c.in-Some.is (h.stands dry))
+          c.in-Ok-add.ensures.ok c.add.ensures.by c.requires.targets;
       numbered = numbered_row rows row old.rows h.numbered h.counted c.requires.number;
       counted = counted_row rows row old.rows h.counted ∙ sym c.requires.number ∙ sym next;
       targets = targets_row (λ (r : Row). row_targets r ≡ targets_of old.setup) rows row h.targets c.requires.targets;
-      noted = noted_row rows row old.journal.items c.push_note.new.journal.items c.tables_grow.ensures h.noted (c.push_note.ensures.items ∙ ap (λ b. b ++ notes_of (row_seen row).number (row_seen row).outcome) c.reserve.ensures.items);
+      noted =
+          noted_row rows row old.journal.items c.push_note.new.journal.items c.tables_grow.ensures h.noted
+          (c.push_note.ensures.items ∙ ap (λ b.
+          b ++ notes_of (row_seen row).number (row_seen row).outcome) c.reserve.ensures.items);
     })

@@ -10,7 +10,8 @@ use Rattle.std.proofs.lemmas.Slice.Eq.{bytes_eq-Decides}
 use Rattle.clap.proofs.WalkLemmas.{both}
 use Rattle.date_texts.specs.Calendars.{all_targets, target_name}
 use Rattle.date_texts.specs.declared.calendar.Target.{Target}
-use Rattle.register_records.specs.SetupRules.{NamesTwice, is_delimiter, is_ring_size, is_stripe_count}
+use Rattle.register_records.specs.SetupRules.{NamesTwice, is_delimiter, is_ring_size, is_stripe_count, largest_ring}
+use Rattle.register_records.specs.SetupRules.{most_stripes}
 use Rattle.register_records.specs.declared.setups.Setup.{Setup}
 use Rattle.register_records.specs.declared.setups.SetupFault.{SetupFault}
 use Rattle.register_records.specs.declared.setups.SetupFault.TheVariants.{TargetTwice, RingSize, Delimiter, Stripes}
@@ -69,11 +70,11 @@ within low high n over under = rw (le-leb low n over, le-leb n high under) refl
 
 pub asked_ring : (value : Option (List ℕ)) (ring : ℕ) → IsRingOf value ring → is_ring_size ring ≡ true
 asked_ring None ring is = rw is refl
-asked_ring (Some word) ring is = within 1 4096 ring is.some is.no_more
+asked_ring (Some word) ring is = within 1 largest_ring ring is.some is.no_more
 
 pub asked_stripes : (value : Option (List ℕ)) (stripes : ℕ) → IsStripesOf value stripes → is_stripe_count stripes ≡ true
 asked_stripes None stripes is = rw is refl
-asked_stripes (Some word) stripes is = within 1 4 stripes is.some is.no_more
+asked_stripes (Some word) stripes is = within 1 most_stripes stripes is.some is.no_more
 
 -- so there is such a setup
 pub no_fault : (made : Result Setup SetupFault) (fault : SetupFault) (targets : List Target) (ring byte stripes : ℕ)

@@ -9,6 +9,7 @@ use Rattle.clap.specs.declared.error.kind.ErrorKind.{ErrorKind}
 use Rattle.clap.specs.declared.error.kind.ErrorKind.TheVariants.{DisplayHelp, DisplayVersion, OutOfMemory}
 use Rattle.date_texts.specs.Laws.{OneTarget}
 use Rattle.date_texts.specs.declared.calendar.Target.{Target}
+use Rattle.register_records.specs.SetupRules.{largest_ring, most_stripes}
 use Rattle.register_app.specs.Answers.{AreWrong}
 use Rattle.register_app.specs.Faults.{Fault, IsOfWords, fault_told, usage, bad_ring, unknown_delimiter, bad_stripes}
 use Rattle.register_app.specs.Faults.{unknown_target, target_twice, too_many_files, file_twice}
@@ -17,7 +18,13 @@ use Rattle.register_records.specs.Entries.{Format}
 use Rattle.register_records.specs.Tables.{Layout}
 use Rattle.register_records.specs.declared.setups.Form.{Form}
 use Rattle.register_records.specs.declared.setups.Form.TheVariants.{Plain, Sealed}
-use Rattle.register_app.specs.Requests.{AreTaken, AreTargetsOf, AskForHelp, AskForVersion, AsksFor, FailsFirst, HaveDelimiter, HaveRing, HaveStripes, HaveTargets, IsDelimiterFault, IsDelimiterOf, IsFaultFromDelimiter, IsFaultFromRing, IsFaultFromStripes, IsFaultFromTargets, IsFaultOf, IsFileFault, IsRingFault, IsRingOf, IsStripesFault, IsStripesOf, IsTargetFault, IsUsageFault, Mean, MeanJust, Meaning, Task, command_line, files_in, refusal_status, value_in, help, version, table, wrong}
+use Rattle.register_app.specs.Requests.{AreTaken, AreTargetsOf, AskForHelp, AskForVersion, AsksFor, FailsFirst}
+use Rattle.register_app.specs.Requests.{HaveDelimiter, HaveRing, HaveStripes, HaveTargets, IsDelimiterFault}
+use Rattle.register_app.specs.Requests.{IsDelimiterOf, IsFaultFromDelimiter, IsFaultFromRing, IsFaultFromStripes}
+use Rattle.register_app.specs.Requests.{IsFaultFromTargets, IsFaultOf, IsFileFault, IsRingFault, IsRingOf}
+use Rattle.register_app.specs.Requests.{IsStripesFault, IsStripesOf, IsTargetFault, IsUsageFault, Mean, MeanJust}
+use Rattle.register_app.specs.Requests.{Meaning, Task, command_line, files_in, refusal_status, value_in, help, version}
+use Rattle.register_app.specs.Requests.{table, wrong}
 use Rattle.register_app.specs.declared.refusals.Refusal.{Refusal}
 use Rattle.register_app.specs.declared.refusals.Refusal.TheVariants as refusal
 use Rattle.register_app.proofs.FileFacts.{fit_no_fault, one_file_fault}
@@ -54,12 +61,12 @@ one_delimiter (Some word) byte other is same = one_byte word byte other is same
 
 one_ring : (value : Option Text) (ring other : ℕ) → IsRingOf value ring → IsRingOf value other → ring ≡ other
 one_ring None ring other is same = is ∙ sym same
-one_ring (Some word) ring other is same = one_number 4096 word ring other is same
+one_ring (Some word) ring other is same = one_number largest_ring word ring other is same
 
 one_stripes : (value : Option Text) (stripes other : ℕ) → IsStripesOf value stripes → IsStripesOf value other
     → stripes ≡ other
 one_stripes None stripes other is same = is ∙ sym same
-one_stripes (Some word) stripes other is same = one_number 4 word stripes other is same
+one_stripes (Some word) stripes other is same = one_number most_stripes word stripes other is same
 
 -- a value that asks for something has no fault
 no_delimiter_fault : (value : Option Text) (byte : ℕ) (fault : Fault) → IsDelimiterOf value byte
@@ -159,9 +166,11 @@ module _ (one : OneTarget) (words : List Text) where
       (no_target_fault one (value_in words (codes "to")) task.layout.targets fault asks.targets_asked)
       (passed (IsRingFault (value_in words (codes "ring"))) (HaveRing words) (IsFaultFromDelimiter words) fault
       (no_ring_fault (value_in words (codes "ring")) task.ring fault asks.ring_asked)
-      (passed (IsDelimiterFault (value_in words (codes "delimiter"))) (HaveDelimiter words) (IsFaultFromStripes words) fault
+      (passed (IsDelimiterFault (value_in words (codes "delimiter"))) (HaveDelimiter words)
+      (IsFaultFromStripes words) fault
       (no_delimiter_fault (value_in words (codes "delimiter")) task.layout.format.delimiter fault asks.delimiter_asked)
-      (passed (IsStripesFault (value_in words (codes "stripes"))) (HaveStripes words) (IsFileFault (files_in words)) fault
+      (passed (IsStripesFault (value_in words (codes "stripes"))) (HaveStripes words)
+      (IsFileFault (files_in words)) fault
       (no_stripes_fault (value_in words (codes "stripes")) task.stripes fault asks.stripes_asked)
       (fit_no_fault (files_in words) fault asks.files_fit)))))
 
@@ -170,19 +179,27 @@ module _ (one : OneTarget) (words : List Text) where
       let targets = one_list one (value_in words (codes "to")) task.layout.targets other.layout.targets
       asks.targets_asked same.targets_asked in
       let ring = one_ring (value_in words (codes "ring")) task.ring other.ring asks.ring_asked same.ring_asked in
-      let delimiter = one_delimiter (value_in words (codes "delimiter")) task.layout.format.delimiter other.layout.format.delimiter asks.delimiter_asked same.delimiter_asked in
-      let stripes = one_stripes (value_in words (codes "stripes")) task.stripes other.stripes asks.stripes_asked same.stripes_asked in
+      let delimiter =
+      one_delimiter (value_in words (codes "delimiter")) task.layout.format.delimiter other.layout.format.delimiter
+      asks.delimiter_asked same.delimiter_asked in
+      let stripes =
+      one_stripes (value_in words (codes "stripes")) task.stripes other.stripes asks.stripes_asked
+      same.stripes_asked in
       let form = one_form _ task.layout.format.form other.layout.format.form asks.form_asked same.form_asked in
       let summary = one_summary _ task.summary other.summary asks.summary_asked same.summary_asked in
       let files = asks.files_asked ∙ sym same.files_asked in
-      ap table (same_task task other (same_layout task.layout other.layout targets delimiter form) ring stripes summary files)
+      ap table (same_task task other
+      (same_layout task.layout other.layout targets delimiter form) ring stripes summary files)
     where
-      same_layout : (a b : Layout) → a.targets ≡ b.targets → a.format.delimiter ≡ b.format.delimiter → a.format.form ≡ b.format.form → a ≡ b
+      same_layout : (a b : Layout) → a.targets ≡ b.targets → a.format.delimiter ≡ b.format.delimiter
+          → a.format.form ≡ b.format.form → a ≡ b
       same_layout a b targets delimiter form =
-          let format : a.format ≡ b.format = ap₂ (λ (d : ℕ) (f : Form). record { delimiter = d; form = f }) delimiter form in
+          let format : a.format ≡ b.format =
+          ap₂ (λ (d : ℕ) (f : Form). record { delimiter = d; form = f }) delimiter form in
           ap₂ (λ (ts : List Target) (f : Format). record { format = f; targets = ts }) targets format
 
-      same_task : (a b : Task) → a.layout ≡ b.layout → a.ring ≡ b.ring → a.stripes ≡ b.stripes → a.summary ≡ b.summary → a.files ≡ b.files → a ≡ b
+      same_task : (a b : Task) → a.layout ≡ b.layout → a.ring ≡ b.ring → a.stripes ≡ b.stripes → a.summary ≡ b.summary
+          → a.files ≡ b.files → a ≡ b
       same_task a b layout ring stripes summary files =
           ap₂ (λ (l : Layout) (n : ℕ). record a { layout = l; ring = n }) layout ring
           ∙ ap₂ (λ (n : ℕ) (s : Bool). record a { layout = b.layout; ring = b.ring; stripes = n; summary = s }) stripes

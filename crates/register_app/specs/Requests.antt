@@ -8,10 +8,12 @@ use Rattle.clap.specs.declared.error.kind.ErrorKind.{ErrorKind}
 use Rattle.clap.specs.declared.error.kind.ErrorKind.TheVariants.{DisplayHelp, DisplayVersion}
 use Rattle.date_texts.specs.Calendars.{all_targets}
 use Rattle.date_texts.specs.declared.calendar.Target.{Target}
+use Rattle.register_records.specs.SetupRules.{largest_ring, most_stripes}
 use Rattle.register_records.specs.Tables.{Layout}
 use Rattle.register_records.specs.Views.{layout_of, ring_of, stripes_of}
 use Rattle.register_records.specs.declared.setups.Form.TheVariants.{Sealed}
-use Rattle.register_app.specs.Faults.{Fault, usage, bad_ring, unknown_delimiter, bad_stripes, too_many_files, file_twice}
+use Rattle.register_app.specs.Faults.{Fault, usage, bad_ring, unknown_delimiter, bad_stripes, too_many_files}
+use Rattle.register_app.specs.Faults.{file_twice}
 use Rattle.register_app.specs.OptionValues.{AsksForTargets, IsDelimiterWord, IsListFault, IsNumberWord}
 use Rattle.register_app.specs.declared.refusals.Refusal.{Refusal}
 use Rattle.register_app.specs.declared.refusals.Refusal.TheVariants as refusal
@@ -19,8 +21,8 @@ use Rattle.register_app.specs.declared.requests.Job.{Job}
 use Rattle.register_app.specs.declared.requests.Request.{Request}
 use Rattle.register_app.specs.declared.requests.Request.TheVariants as request
 
--- what words can ask of a run: how its registers are written and its tables laid out, the size of its rings, the converters of
--- a source, whether a summary is wanted, and the files
+-- what words can ask of a run: how its registers are written and its tables laid out, the size of its rings, the
+-- converters of a source, whether a summary is wanted, and the files
 pub record Task : Type 0 where
   pub layout : Layout
   pub ring : ℕ
@@ -76,7 +78,7 @@ AreTargetsOf (Some list) targets = AsksForTargets list targets
 -- this is the size of a ring that the option asks for, from 1 to 4096; without it, 16
 abbrev pub IsRingOf : Option Text → ℕ → Type 0
 IsRingOf None ring = ring ≡ 16
-IsRingOf (Some word) ring = IsNumberWord 4096 word ring
+IsRingOf (Some word) ring = IsNumberWord largest_ring word ring
 
 -- this is the byte that the option asks for; without it, a comma (44)
 abbrev pub IsDelimiterOf : Option Text → ℕ → Type 0
@@ -86,7 +88,7 @@ IsDelimiterOf (Some word) byte = IsDelimiterWord word byte
 -- this is the number of converters that the option asks for, from 1 to 4; without it, 1
 abbrev pub IsStripesOf : Option Text → ℕ → Type 0
 IsStripesOf None stripes = stripes ≡ 1
-IsStripesOf (Some word) stripes = IsNumberWord 4 word stripes
+IsStripesOf (Some word) stripes = IsNumberWord most_stripes word stripes
 
 -- the file stands at a place of the list, and at an earlier place too
 pub record IsNamedTwice (files : List Text) (file : Text) : Type 0 where
@@ -103,9 +105,13 @@ pub record IsFirstTwice (files : List Text) (file : Text) : Type 0 where
   pub named : Contains before file
   pub first : (other : Text) → ¬ IsNamedTwice before other
 
+-- the most files of a command line
+abbrev pub most_files : ℕ
+most_files = 32
+
 -- at most 32 files, each named once
 abbrev pub AreFilesToConvert : List Text → Type 0
-AreFilesToConvert files = (length files ≤ 32) × ((file : Text) → ¬ IsNamedTwice files file)
+AreFilesToConvert files = (length files ≤ most_files) × ((file : Text) → ¬ IsNamedTwice files file)
 
 -- the words are options as they are taken, and ask for this task
 pub record AsksFor (words : List Text) (task : Task) : Type 0 where
@@ -156,7 +162,7 @@ IsTargetFault (Some list) fault = IsListFault list fault
 -- what is wrong with the value of `--ring`: it names no size of a ring
 abbrev pub IsRingFault : Option Text → Fault → Type 0
 IsRingFault value fault = (word : Text) × (fault ≡ bad_ring word) × (value ≡ Some word)
-    × ((ring : ℕ) → ¬ IsNumberWord 4096 word ring)
+    × ((ring : ℕ) → ¬ IsNumberWord largest_ring word ring)
 
 -- what is wrong with the value of `--delimiter`: it is none of the words
 abbrev pub IsDelimiterFault : Option Text → Fault → Type 0
@@ -166,13 +172,13 @@ IsDelimiterFault value fault = (word : Text) × (fault ≡ unknown_delimiter wor
 -- what is wrong with the value of `--stripes`: it names no number of converters
 abbrev pub IsStripesFault : Option Text → Fault → Type 0
 IsStripesFault value fault = (word : Text) × (fault ≡ bad_stripes word) × (value ≡ Some word)
-    × ((stripes : ℕ) → ¬ IsNumberWord 4 word stripes)
+    × ((stripes : ℕ) → ¬ IsNumberWord most_stripes word stripes)
 
 -- what is wrong with the files: there are too many, or else one is named twice
 abbrev pub IsFileFault : List Text → Fault → Type 0
 IsFileFault files fault =
-    ((fault ≡ too_many_files) × (32 < length files))
-    ⊎ ((file : Text) × (fault ≡ file_twice file) × (length files ≤ 32) × IsFirstTwice files file)
+    ((fault ≡ too_many_files) × (most_files < length files))
+    ⊎ ((file : Text) × (fault ≡ file_twice file) × (length files ≤ most_files) × IsFirstTwice files file)
 
 -- a check fails with this fault; or it passes, and a later one fails with it
 abbrev pub FailsFirst : (Fault → Type 0) → Type 0 → (Fault → Type 0) → Fault → Type 0

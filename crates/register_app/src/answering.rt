@@ -7,7 +7,7 @@ ghost use Rattle.register_app.specs.Answers.{AreConverted, AreWrong, AskForPage,
 ghost use Rattle.register_records.specs.Sources.{is_whole_end};
 ghost use Rattle.register_app.specs.Openings.{AreMade};
 ghost use Rattle.register_app.specs.Reports.{lines_from};
-ghost use Rattle.register_app.specs.Requests.{MeanJust, Task, refusal_status, table, task_of};
+ghost use Rattle.register_app.specs.Requests.{MeanJust, Task, most_files, refusal_status, table, task_of};
 
 use crate::help::{HELP, PRINT_FAULT};
 use crate::opening::{Opened, open_files};
@@ -246,7 +246,7 @@ fn convert_files<
     P: Places<R, W>,
     E: Output,
 >(rt: &T, alloc: Global, output: W, places: &P, errors: &mut E, job: &Job<'_>) -> Answered<W>
-    requires few { length job.now.files.items ≤ 32 }
+    requires few { length job.now.files.items ≤ most_files }
     ensures converted { result.status ≢ 3 → AreConverted R.remaining W.contents W.has_failed W.is_flushed W.own_mark
         E.contents E.has_failed
         (P.is_opened places.now) (P.is_made places.now) (task_of job.now) result.status result.outputs.items errors.old

@@ -2,7 +2,7 @@
 
 ghost use Rattle.std.specs.Prelude.{◌≡◌, ◌≤◌, ◌++◌, length, IfErr, IfOk, map};
 ghost use Rattle.std.specs.String.{string_bytes};
-ghost use Rattle.register_app.specs.Requests.{refusal_status};
+ghost use Rattle.register_app.specs.Requests.{most_files, refusal_status};
 ghost use Rattle.register_app.specs.Openings.{AreMade, AreOpened};
 
 use crate::places::Places;
@@ -62,7 +62,7 @@ fn make_outputs<'a, R, W: Drop, P: Places<R, W>>(
     places: &P,
     files: &[&'a str],
 ) -> Result<Vec<W>, Refusal<'a>>
-    requires few { length files.now ≤ 32 }
+    requires few { length files.now ≤ most_files }
     ensures made { IfOk result (λ outputs. AreMade (P.is_made places.now) (map (λ file. file.now) files.now)
         outputs.items) }
     ensures status { IfErr result (λ refusal. refusal_status refusal ≡ 3) }
@@ -99,7 +99,7 @@ pub fn open_files<'a, R: Drop, W: Drop, P: Places<R, W>>(
     places: &P,
     files: &[&'a str],
 ) -> Result<Opened<R, W>, Refusal<'a>>
-    requires few { length files.now ≤ 32 }
+    requires few { length files.now ≤ most_files }
     ensures opened { IfOk result (λ o. AreOpened (P.is_opened places.now) (map (λ file. file.now) files.now)
         o.sources.items) }
     ensures made { IfOk result (λ o. AreMade (P.is_made places.now) (map (λ file. file.now) files.now)

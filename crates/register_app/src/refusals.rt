@@ -2,6 +2,7 @@
 
 ghost use Rattle.std.specs.Prelude.{◌≡◌};
 
+use crate::opening::SUFFIX;
 use date_texts::Target;
 use thiserror::Error;
 
@@ -39,7 +40,7 @@ pub enum Refusal<'a> {
     #[error("cannot open {0}")]
     CannotOpen(&'a str),
     /// A file whose output could not be made.
-    #[error("cannot make {0}.out.csv")]
+    #[error("cannot make {}{}", .0, SUFFIX)]
     CannotMake(&'a str),
 }
 

@@ -5,7 +5,11 @@ ghost use Rattle.std.specs.Prelude.{option_map, unwrap_or, [], Some, true, false
 ghost use Rattle.std.specs.String.{string_bytes};
 ghost use Rattle.clap.specs.Words.{HasKind, all_of, app_of, fault_of, found_of, one_of, rows_of, rule_of};
 ghost use Rattle.register_app.specs.Faults.{IsOfWords, fault_told};
-ghost use Rattle.register_app.specs.Requests.{AreFilesToConvert, AreTargetsOf, IsDelimiterFault, IsDelimiterOf, IsFileFault, IsFirstTwice, IsGiven, IsNamedTwice, IsRingFault, IsRingOf, IsStripesFault, IsStripesOf, IsTargetFault, MeanJust, bare_command, command_line, files_in, flag_rule, meaning_of, option_rule, value_in, word_rule, wrong};
+ghost use Rattle.register_app.specs.Requests.{AreFilesToConvert, AreTargetsOf, IsDelimiterFault, IsDelimiterOf};
+ghost use Rattle.register_app.specs.Requests.{IsFileFault, IsFirstTwice, IsGiven, IsNamedTwice, IsRingFault, IsRingOf};
+ghost use Rattle.register_app.specs.Requests.{IsStripesFault, IsStripesOf, IsTargetFault, MeanJust, bare_command};
+ghost use Rattle.register_app.specs.Requests.{command_line, files_in, flag_rule, meaning_of, option_rule, value_in};
+ghost use Rattle.register_app.specs.Requests.{word_rule, wrong};
 
 use crate::option_values::{delimiter_named, number_named, read_targets};
 use crate::refusals::Refusal;
@@ -13,7 +17,8 @@ use clap::error::ErrorKind;
 use clap::{Arg, ArgAction, ArgMatches, Command};
 use date_texts::Target;
 use date_texts::laws::{default_targets, one_target};
-use register_records::{Form, Setup};
+use register_records::{Form, MAX_RING, MAX_STRIPES, Setup};
+use register_run::MAX_SOURCES;
 use std::alloc::{AllocError, Global};
 
 /// The version of the program.
@@ -22,17 +27,8 @@ pub const VERSION: &str = "1.0.0";
 /// How many items a ring holds where the words do not say.
 const RING: usize = 16;
 
-/// The largest ring.
-const MAX_RING: usize = 4096;
-
 /// How many converters a source has where the words do not say.
 const STRIPES: usize = 1;
-
-/// The most converters of a source.
-const MAX_STRIPES: usize = 4;
-
-/// The most files of a command line.
-const MAX_FILES: usize = 32;
 
 /// A conversion that the words ask for.
 #[derive(Drop)]
@@ -150,8 +146,10 @@ fn read_options<'a>(alloc: Global, words: &'a [String]) -> Result<Options<'a>, c
         ≡ value_in (map string_bytes words.entry.now) (codes "stripes")) }
     ensures delimiter { IfOk result (λ o. option_map (λ v. v.now) o.delimiter
         ≡ value_in (map string_bytes words.entry.now) (codes "delimiter")) }
-    ensures sealed { IfOk result (λ o. (o.sealed ≡ true) ↔ IsGiven (codes "sealed") (map string_bytes words.entry.now)) }
-    ensures summary { IfOk result (λ o. (o.summary ≡ true) ↔ IsGiven (codes "summary") (map string_bytes words.entry.now)) }
+    ensures sealed { IfOk result (λ o. (o.sealed ≡ true)
+        ↔ IsGiven (codes "sealed") (map string_bytes words.entry.now)) }
+    ensures summary { IfOk result (λ o. (o.summary ≡ true)
+        ↔ IsGiven (codes "summary") (map string_bytes words.entry.now)) }
     ensures files { IfOk result (λ o. map (λ f. f.now) o.files.items ≡ files_in (map string_bytes words.entry.now)) }
     ensures kinds { IfErr result (HasKind (fault_of command_line (map string_bytes words.entry.now))) }
 {
@@ -262,7 +260,7 @@ fn check_files<'a>(files: &[&'a str]) -> Result<(), Refusal<'a>>
     ensures fault { IfErr result (λ refusal. IsSomeAnd (fault_told refusal)
         (IsFileFault (map (λ f. f.now) files.now))) }
 {
-    if files.len() > MAX_FILES {
+    if files.len() > MAX_SOURCES {
         return Err(Refusal::TooManyFiles);
     }
     match file_named_twice(files) {

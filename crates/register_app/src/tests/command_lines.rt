@@ -15,10 +15,19 @@ struct Line {
 /// The text that the command lines are run on.
 const TEXT: &[u8] = b"id,calendar,date\nb,julian,1582-10-05\n";
 
-const LINES: [Line; 17] = [
+const LINES: [Line; 18] = [
     // Every target, in the default order.
     Line {
         words: &[],
+        status: 0,
+        output: b"row,id,calendar,date,rd,weekday,gregorian,iso,julian,coptic,ethiopic,egyptian,armenian,islamic,hebrew,longcount,french,roman,haab,tzolkin,refusal\n1,b,julian,1582-10-05,577736,Friday,1582-10-15,1582-W41-5,1582-10-05,1299-02-08,1575-02-08,2331-03-14,1031-12-14,0990-09-17,5343-07-19,11.18.3.9.18,,1582-10-N3,11 Tzec,13 Etznab,\n",
+        errors: b"",
+    },
+    Line {
+        words: &[
+            "--to",
+            "gregorian,iso,julian,coptic,ethiopic,egyptian,armenian,islamic,hebrew,longcount,french,roman,haab,tzolkin",
+        ],
         status: 0,
         output: b"row,id,calendar,date,rd,weekday,gregorian,iso,julian,coptic,ethiopic,egyptian,armenian,islamic,hebrew,longcount,french,roman,haab,tzolkin,refusal\n1,b,julian,1582-10-05,577736,Friday,1582-10-15,1582-W41-5,1582-10-05,1299-02-08,1575-02-08,2331-03-14,1031-12-14,0990-09-17,5343-07-19,11.18.3.9.18,,1582-10-N3,11 Tzec,13 Etznab,\n",
         errors: b"",

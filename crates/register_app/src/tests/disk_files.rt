@@ -18,6 +18,12 @@ const REGISTER: &str = "files_of_the_test/register.csv";
 const SAME_REGISTER: &str = "files_of_the_test/./register.csv";
 
 const TABLE: &str = "files_of_the_test/register.csv.out.csv";
+
+/// The names of another register there and of its table.
+const OTHER_REGISTER: &str = "files_of_the_test/other.csv";
+
+const OTHER_TABLE: &str = "files_of_the_test/other.csv.out.csv";
+
 /// Runs the program's answer to these words over the files of the system.
 fn hear_on_disk<T: Threads + Wait + Sync + Files>(
     rt: &T,
@@ -56,6 +62,13 @@ fn files_on_disk_get_their_tables(rt: HostRuntime) -> Result<(), Fail> {
     assert_eq!(rt; heard.status, 0);
     assert!(rt; heard.errors.is_empty());
     assert_eq!(rt; fs::read(&rt, TABLE)?.as_slice(), ONE_ROW);
+
+    // Two files.
+    fs::write(&rt, OTHER_REGISTER, ONE_RECORD)?;
+    let heard = hear_on_disk(&rt, alloc, &["--to", "gregorian", REGISTER, OTHER_REGISTER])?;
+    assert_eq!(rt; heard.status, 0);
+    assert_eq!(rt; fs::read(&rt, TABLE)?.as_slice(), ONE_ROW);
+    assert_eq!(rt; fs::read(&rt, OTHER_TABLE)?.as_slice(), ONE_ROW);
 
     // A folder, a file that is not there, and two names of one file.
     let heard = hear_on_disk(&rt, alloc, &[FOLDER])?;

@@ -5,7 +5,7 @@ ghost use Rattle.std.specs.Prelude.{⊤};
 use crate::places::Places;
 use crate::tests::helpers::{ONE_RECORD, ONE_ROW, hear};
 use register_records::PlainOutput;
-use std::alloc::Global;
+use std::alloc::{AllocError, Global};
 use std::io;
 use std::io::ErrorKind;
 use std::test::Fail;
@@ -26,6 +26,7 @@ impl Places<&'static [u8], PlainOutput<Vec<u8>>> for Shelf {
             "a.csv" => Ok(ONE_RECORD),
             "b.csv" => Ok(b""),
             "c.csv" => Ok(b"id,calendar,date\nc,gregorian,1700-02-29\n"),
+            name if name.starts_with("many/") => Ok(ONE_RECORD),
             _ => Err(io::Error::from(ErrorKind::NotFound)),
         }
     }
@@ -127,6 +128,46 @@ fn files_get_their_tables(rt: HostRuntime) -> Result<(), Fail> {
         for output in heard.outputs {
             let Some(table) = tables.next() else { break };
             assert_eq!(rt; output.into_inner().as_slice(), *table);
+        }
+    }
+    Ok(())
+}
+
+/// The words for so many files of one record each, and these besides.
+fn words_of_many(alloc: Global, count: usize, word: &str) -> Result<Vec<String>, AllocError> {
+    let mut words = Vec::new(alloc);
+    words.push(String::from_str(alloc, word)?)?;
+    words.push(String::from_str(alloc, "--to=gregorian")?)?;
+    for place in 0..count {
+        words.push(format!(in alloc; "many/{place}.csv")?)?;
+    }
+    Ok(words)
+}
+
+#[test]
+fn as_many_files_as_there_may_be_get_their_tables(rt: HostRuntime) -> Result<(), Fail> {
+    let alloc = rt.alloc();
+    for word in ["--stripes=1", "--stripes=4"] {
+        let many = words_of_many(alloc, 32, word)?;
+        let mut words: Vec<&str> = Vec::new(alloc);
+        for word in &many {
+            words.push(word.as_str())?;
+        }
+        let input: &'static [u8] = b"";
+        let heard = hear(
+            &rt,
+            alloc,
+            words.as_slice(),
+            input,
+            Vec::new(alloc),
+            &Shelf { alloc },
+            Vec::new(alloc),
+        )?;
+        assert_eq!(rt; heard.status, 0);
+        assert!(rt; heard.errors.is_empty());
+        assert_eq!(rt; heard.outputs.len(), 32);
+        for output in heard.outputs {
+            assert_eq!(rt; output.into_inner().as_slice(), ONE_ROW);
         }
     }
     Ok(())

@@ -68,7 +68,9 @@ returns-clause-delimiter c =
 pub returns-clause-sealed : goal.returns-clause-sealed
 returns-clause-sealed c =
     let found = found_of c.in_ok-matches.matches in
-    let same = read_at (one_of (codes "sealed")) (app_of c.in_ok-command.field-0) (map string_bytes c.args.words.now) (rows_of found) c.in_ok-command.ensures
+    let same =
+    read_at (one_of (codes "sealed")) (app_of c.in_ok-command.field-0) (map string_bytes c.args.words.now)
+    (rows_of found) c.in_ok-command.ensures
     (λ h. (c.in_ok-matches.ensures.matches h).0) in
     rw (← same) c.is_given.ensures
 

@@ -5,7 +5,10 @@ use Rattle.std.specs.String.{string_bytes}
 use Rattle.clap.proofs.TakesLemmas.{passed_up}
 use Rattle.clap.specs.Words.{Text}
 use Rattle.register_app.specs.Faults.{IsOfWords, fault_told, usage}
-use Rattle.register_app.specs.Requests.{AreFilesToConvert, AreTargetsOf, AsksFor, IsDelimiterFault, IsDelimiterOf, IsFileFault, IsGiven, IsRingFault, IsRingOf, IsStripesFault, IsStripesOf, IsTargetFault, MeanJust, files_in, help, table, task_of, value_in, version, wrong}
+use Rattle.register_app.specs.Requests.{AreFilesToConvert, AreTargetsOf, AsksFor, IsDelimiterFault, IsDelimiterOf}
+use Rattle.register_app.specs.Requests.{IsFileFault, IsGiven, IsRingFault, IsRingOf, IsStripesFault, IsStripesOf}
+use Rattle.register_app.specs.Requests.{IsTargetFault, MeanJust, files_in, help, table, task_of, value_in, version}
+use Rattle.register_app.specs.Requests.{wrong}
 use Rattle.register_records.specs.declared.setups.Form.{Form}
 use Rattle.register_records.specs.declared.setups.Form.TheVariants.{Sealed}
 use Rattle.register_app.specs.declared.refusals.Refusal.{Refusal}
@@ -156,10 +159,17 @@ returns-clause-asked c =
     let setup = c.in-Ok-new.setup in
     let task = task_of (record { setup = setup; summary = c.in-Ok.options.summary; files = c.in-Ok.options.files }) in
     let fields = c.in-Ok-new.ensures.value in
-    let targets = subst (λ (v : Option Text). AreTargetsOf v c.in_ok-targets.targets.items) c.in-Ok.ensures.to c.in_ok-targets.ensures.value in
-    let ring = subst (λ (v : Option Text). IsRingOf v c.in_ok-ring.ring) c.in-Ok.ensures.ring c.in_ok-ring.ensures.value in
-    let delimiter = subst (λ (v : Option Text). IsDelimiterOf v c.in_ok-delimiter.delimiter) c.in-Ok.ensures.delimiter c.in_ok-delimiter.ensures.value in
-    let stripes = subst (λ (v : Option Text). IsStripesOf v c.in_ok-stripes.stripes) c.in-Ok.ensures.stripes c.in_ok-stripes.ensures.value in
+    let targets =
+    subst (λ (v : Option Text). AreTargetsOf v c.in_ok-targets.targets.items) c.in-Ok.ensures.to
+    c.in_ok-targets.ensures.value in
+    let ring =
+    subst (λ (v : Option Text). IsRingOf v c.in_ok-ring.ring) c.in-Ok.ensures.ring c.in_ok-ring.ensures.value in
+    let delimiter =
+    subst (λ (v : Option Text). IsDelimiterOf v c.in_ok-delimiter.delimiter) c.in-Ok.ensures.delimiter
+    c.in_ok-delimiter.ensures.value in
+    let stripes =
+    subst (λ (v : Option Text). IsStripesOf v c.in_ok-stripes.stripes) c.in-Ok.ensures.stripes
+    c.in_ok-stripes.ensures.value in
     let form : (c.chosen_form-form.result ≡ Sealed) ↔ IsGiven (codes "sealed") words
     = (
       λ e. c.in-Ok.ensures.sealed.0 (c.chosen_form-form.ensures.0 e),

@@ -37,6 +37,3 @@ pub use rows::Row;
 pub use setups::{Form, MAX_RING, MAX_STRIPES, Setup, SetupFault};
 pub use sources::{Cause, Note, SourceEnd, convert_source};
 pub use writing::{RowFault, RowWriter};
-
-#[cfg(test)]
-mod tests;

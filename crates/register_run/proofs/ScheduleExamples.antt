@@ -1,5 +1,6 @@
 -- The machine at work: a schedule that pops every row, the most that can stand in a stripe, and checksums of the states
--- that all short schedules lead to. A plain program of its own, in src/laws/tests.rt, comes to the same checksums.
+-- that all short schedules lead to. A plain program of its own, a test of register_run_tests,
+-- comes to the same checksums.
 use Rattle.std.proofs.Common.{◌≡◌, ◌+◌, ◌*◌, ◌++◌, ℕ, zero, suc, List, [], ◌∷◌, Err, refl}
 use Rattle.std.specs.Prelude.{◌==◌, ◌%◌, if◌then◌else◌, fold, map, option_to_list}
 use Rattle.date_texts.specs.declared.refusal.Refusal.TheVariants as refusal

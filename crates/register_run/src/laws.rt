@@ -26,6 +26,3 @@ pub fn every_schedule()
     ensures few_standing { AfterEverySchedule (λ w _ s. standing w s ≤ w.converters * (2 * w.ring + 1)) }
     ensures goes_on { AfterEverySchedule (λ w _ s. GoesOn w s) }
 {}
-
-#[cfg(test)]
-mod tests;

@@ -24,6 +24,3 @@ mod tables;
 pub use gates::{Gate, Open};
 pub use reports::{Report, RunFault, RunFaultKind, Verdict};
 pub use running::{MAX_SOURCES, run, run_gated};
-
-#[cfg(test)]
-mod tests;

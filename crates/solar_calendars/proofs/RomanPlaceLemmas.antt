@@ -1,6 +1,6 @@
 -- Roman names by the days of the month.
-use Rattle.std.proofs.Common.{inl, inr, ◌≡◌, ◌↔◌, ◌⊎◌, ℕ, zero, suc, ◌+◌, ◌-◌, ◌<◌, ◌≤◌, true, false, refl, arith, ℤ}
-use Rattle.std.proofs.Common.{pos, negsuc, neg_ℤ, ◌+ℤ◌, ◌-ℤ◌, ◌≤ℤ◌, ◌<ℤ◌}
+use Rattle.std.proofs.Common.{inl, inr, ◌≡◌, ◌↔◌, ◌⊎◌, ℕ, ◌+◌, ◌-◌, ◌<◌, ◌≤◌, true, refl, arith, ℤ}
+use Rattle.std.proofs.Common.{pos, neg_ℤ, ◌+ℤ◌, ◌-ℤ◌, ◌≤ℤ◌, ◌<ℤ◌}
 use Rattle.std.proofs.lemmas.Bool.Decides.{nat_tests}
 use Rattle.day_numbers.specs.Rules.{without_zero, HasYear}
 use Rattle.day_numbers.specs.Days.{IsBetween}
@@ -11,7 +11,7 @@ use Rattle.solar_calendars.specs.Roman.{year_of_month_before, has_two_sixths, da
 use Rattle.solar_calendars.specs.Roman.{IsRomanDate}
 use Rattle.solar_calendars.specs.declared.roman_date.RomanName.{RomanName}
 use Rattle.solar_calendars.specs.declared.roman_date.RomanName.TheVariants.{Kalends, Nones, Ides, SecondSixth}
-use Rattle.solar_calendars.specs.RomanPlaces.{HasPlace, place, prior_length, prior_ides, name_within, name_after}
+use Rattle.solar_calendars.specs.RomanPlaces.{HasPlace, place, prior_length, prior_ides}
 use Rattle.solar_calendars.proofs.RomanMonthLemmas.{follows, ides_small, months_small}
 
 -- the arithmetic of a principal day, the one before it and a day that is counted back

@@ -1,6 +1,6 @@
 // The tables that are wanted are worked by hand from the calendars' rules and from published day numbers.
 
-use crate::{
+use register_records::{
     Body, Cause, Entry, EntryFault, Form, Note, Output, PlainOutput, Row, RowFault, RowWriter,
     Setup, SourceEnd, convert, convert_source,
 };

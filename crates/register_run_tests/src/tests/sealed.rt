@@ -2,7 +2,7 @@
 // hand from the calendars' rules: 5 October 1582 in the Julian calendar is day 577736, a Friday.
 
 use super::{GREGORIAN, cause_of, outputs_of};
-use crate::{Report, run};
+use register_run::{Report, run};
 use date_texts::Refusal;
 use register_records::{Form, Note, PlainOutput, Setup, SourceEnd};
 use std::alloc::{AllocError, Global};

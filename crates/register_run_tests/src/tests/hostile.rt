@@ -2,7 +2,7 @@
 
 use super::faults::plain_setup;
 use super::{HEADING, RECORD, cause_of};
-use crate::run;
+use register_run::run;
 use register_records::faults::{Chunks, Sink};
 use register_records::{PlainOutput, Setup, SourceEnd, convert_source};
 use std::alloc::{AllocError, Global};

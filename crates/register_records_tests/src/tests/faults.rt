@@ -2,8 +2,8 @@
 // 1970-01-01, and R.D. 577736, a Friday, is 1582-10-05 of the Julian calendar.
 
 use super::cause_of;
-use crate::faults::{Chunks, Sink};
-use crate::{
+use register_records::faults::{Chunks, Sink};
+use register_records::{
     Body, Entry, EntryFault, EntryReader, Form, Output, PlainOutput, RowFault, RowWriter, Setup,
     SetupFault, SourceEnd, convert, convert_source,
 };

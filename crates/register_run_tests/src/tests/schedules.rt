@@ -2,7 +2,7 @@
 // state after it: the law holds there, and each wrong machine breaks it where its name says. The states are those of
 // the definition, which comes to the same checksums in proofs/ScheduleExamples.antt.
 
-use crate::laws::every_schedule;
+use register_run::laws::every_schedule;
 use std::test::Fail;
 
 /// The numbers of the entries or rows in a lane, in order, and then zeros.

@@ -1,6 +1,6 @@
 // The tables that are wanted are worked by hand from the calendars' rules.
 
-use crate::{Report, RunFaultKind, Verdict, run};
+use register_run::{Report, RunFaultKind, Verdict, run};
 use date_texts::{Calendar, Target};
 use register_records::{Form, Output, PlainOutput, Setup, SourceEnd};
 use std::alloc::{AllocError, Global};
@@ -14,6 +14,7 @@ mod faults;
 mod gates;
 mod hostile;
 mod lengths;
+mod schedules;
 mod sealed;
 
 const HEADING: &[u8] = b"row,id,calendar,date,rd,weekday,refusal\n";

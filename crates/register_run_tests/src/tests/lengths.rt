@@ -2,7 +2,7 @@
 
 use super::faults::plain_setup;
 use super::hostile::Counter;
-use crate::run;
+use register_run::run;
 use register_records::{PlainOutput, SourceEnd, convert_source};
 use std::alloc::Global;
 use std::io;

@@ -89,13 +89,14 @@ fn count_over_lane(
 ) -> Result<u32, AllocError> {
     let (sender, receiver) = lane::<u32>(alloc, 2)?;
     let count = thread::scope(thread::scope_env(), rt, move |scope| {
-        let started = scope.spawn(move || send_items(rt, sender, slow == Slow::Sender));
-        let count = if waits {
+        let Ok(_started) = scope.spawn(move || send_items(rt, sender, slow == Slow::Sender)) else {
+            return 0;
+        };
+        if waits {
             take_items(rt, receiver, slow == Slow::Receiver)
         } else {
             try_items(receiver, slow == Slow::Receiver)
-        };
-        if started.is_ok() { count } else { 0 }
+        }
     });
     Ok(count)
 }
@@ -164,8 +165,9 @@ fn told_to_sender(
         let started = scope.spawn(move || {
             send_until_gone(rt, sender, slow == Slow::Sender, dropping_seen, told_seen)
         });
-        take_few(rt, receiver, slow == Slow::Receiver, dropping_seen);
-        drop(started);
+        if started.is_ok() {
+            take_few(rt, receiver, slow == Slow::Receiver, dropping_seen);
+        }
     });
     Ok(told.load(Ordering::SeqCst))
 }
@@ -188,10 +190,11 @@ fn send_one(rt: &impl Wait, sender: Sender<u32>) {
 fn one_is_taken(rt: &(impl Threads + Wait + Sync), alloc: Global) -> Result<bool, AllocError> {
     let (sender, receiver) = lane::<u32>(alloc, 2)?;
     let taken = thread::scope(thread::scope_env(), rt, move |scope| {
-        let started = scope.spawn(move || send_one(rt, sender));
+        let Ok(_started) = scope.spawn(move || send_one(rt, sender)) else {
+            return false;
+        };
         let mut receiver = receiver;
-        let first = receiver.take(rt) == Ok(Item::Entry(7));
-        first && receiver.take(rt).is_err() && started.is_ok()
+        receiver.take(rt) == Ok(Item::Entry(7)) && receiver.take(rt).is_err()
     });
     Ok(taken)
 }
@@ -222,8 +225,10 @@ fn is_seen(receiver: Receiver<u32>) -> bool {
 fn one_is_seen(rt: &(impl Threads + Wait + Sync), alloc: Global) -> Result<bool, AllocError> {
     let (sender, receiver) = lane::<u32>(alloc, 2)?;
     let seen = thread::scope(thread::scope_env(), rt, move |scope| {
-        let started = scope.spawn(move || send_one(rt, sender));
-        is_seen(receiver) && started.is_ok()
+        let Ok(_started) = scope.spawn(move || send_one(rt, sender)) else {
+            return false;
+        };
+        is_seen(receiver)
     });
     Ok(seen)
 }

@@ -40,9 +40,9 @@ month_names =
 abbrev pub month_name : ℕ → List ℕ
 month_name number = unwrap_or (slice_get month_names (number - 1)) []
 
--- the last day of the month of this number: 4 in Uayeb, and 19 in the others
+-- the last day of the month of this number: 4 in Uayeb, which is month 19, and 19 in the others
 abbrev pub last_day : ℕ → ℕ
-last_day month = if month == month_number Uayeb then 4 else 19
+last_day month = if month == 19 then 4 else 19
 
 -- the haab after a haab, each as its day and the number of its month: a day more, and after the last day
 -- of a month day 0 of the next, where Pop follows Uayeb
@@ -54,6 +54,6 @@ abbrev pub haab_before : ℕ × ℕ → ℕ × ℕ
 haab_before (day, month) =
     if day == 0 then (last_day (number_before 19 month), number_before 19 month) else (day - 1, month)
 
--- the haab of a day; that of the epoch is 8 Cumku
+-- the haab of a day; that of the epoch is 8 Cumku, which is month 18
 abbrev pub haab_of : ℤ → ℕ × ℕ
-haab_of day = after_days haab_after haab_before (8, month_number Cumku) (day -ℤ epoch)
+haab_of day = after_days haab_after haab_before (8, 18) (day -ℤ epoch)

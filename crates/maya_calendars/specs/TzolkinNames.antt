@@ -41,9 +41,9 @@ name_texts =
 abbrev pub name_text : ℕ → List ℕ
 name_text place = unwrap_or (slice_get name_texts (place - 1)) []
 
--- the tzolkin of a day, as its number and the place of its name; that of the epoch is 4 Ahau
+-- the tzolkin of a day, as its number and the place of its name; that of the epoch is 4 Ahau, the last name
 abbrev pub tzolkin_of : ℤ → ℕ × ℕ
-tzolkin_of day = (round_number 13 4 day, round_number 20 (name_place Ahau) day)
+tzolkin_of day = (round_number 13 4 day, round_number 20 20 day)
 
 -- the tzolkin after a tzolkin
 abbrev pub tzolkin_after : ℕ × ℕ → ℕ × ℕ

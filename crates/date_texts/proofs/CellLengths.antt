@@ -1,5 +1,5 @@
 -- The lengths of cells.
-use Rattle.std.proofs.Common.{◌≡◌, ℕ, zero, suc, ◌-◌, ◌≤◌, List, [], ◌∷◌, ◌++◌, Bool, true, ◌&&◌, IsTrue, ℤ, refl, ap}
+use Rattle.std.proofs.Common.{ℕ, zero, suc, ◌-◌, ◌≤◌, List, [], ◌∷◌, ◌++◌, Bool, true, ◌&&◌, IsTrue, ℤ, refl, ap}
 use Rattle.std.proofs.Common.{arith, length, length-append}
 use Rattle.std.specs.Prelude.{slice_get, unwrap_or, nat_le}
 use Rattle.std.specs.Fmt.{decimal}
@@ -116,7 +116,8 @@ day_name_length : (place : ℕ) → length (name_text place) ≤ 8
 unfolding all_short
 day_name_length place = short_at name_texts (place - 1) refl
 
-numbered_length : (number : ℕ) (name : List ℕ) → number ≤ 99 → length name ≤ 8 → length (decimal number ++ 32 ∷ name) ≤ 16
+numbered_length : (number : ℕ) (name : List ℕ) → number ≤ 99 → length name ≤ 8
+    → length (decimal number ++ 32 ∷ name) ≤ 16
 numbered_length number name small h = omega (arith, length-append {A = ℕ}, two_digits number small, h)
 
 -- a cell has 16 bytes at most

@@ -7,7 +7,36 @@ use Rattle.maya_calendars.specs.declared.haab.HaabMonth.TheVariants.{Pop, Uo, Zi
 use Rattle.maya_calendars.specs.declared.haab.HaabMonth.TheVariants.{Yax, Zac, Ceh, Mac, Kankin, Muan, Pax, Kayab}
 use Rattle.maya_calendars.specs.declared.haab.HaabMonth.TheVariants.{Cumku, Uayeb}
 
--- the months in their order, from 1 to 19
+-- the names of the months in their order, from month 1 to month 19
+abbrev pub month_names : List (List ℕ)
+month_names =
+    codes "Pop" ∷ codes "Uo" ∷ codes "Zip" ∷ codes "Zotz" ∷ codes "Tzec" ∷ codes "Xul" ∷ codes "Yaxkin" ∷ codes "Mol"
+    ∷ codes "Chen" ∷ codes "Yax" ∷ codes "Zac" ∷ codes "Ceh" ∷ codes "Mac" ∷ codes "Kankin" ∷ codes "Muan" ∷ codes "Pax"
+    ∷ codes "Kayab" ∷ codes "Cumku" ∷ codes "Uayeb" ∷ []
+
+-- the name of the month of this number
+abbrev pub month_name : ℕ → List ℕ
+month_name number = unwrap_or (slice_get month_names (number - 1)) []
+
+-- the last day of the month of this number: 4 in Uayeb, which is month 19, and 19 in the others
+abbrev pub last_day : ℕ → ℕ
+last_day month = if month == 19 then 4 else 19
+
+-- the haab after a haab, each as its day and the number of its month: a day more, and after the last day
+-- of a month day 0 of the next, where Pop follows Uayeb
+abbrev pub haab_after : ℕ × ℕ → ℕ × ℕ
+haab_after (day, month) = if day == last_day month then (0, number_after 19 month) else (day + 1, month)
+
+-- and the haab before it
+abbrev pub haab_before : ℕ × ℕ → ℕ × ℕ
+haab_before (day, month) =
+    if day == 0 then (last_day (number_before 19 month), number_before 19 month) else (day - 1, month)
+
+-- the haab of a day; that of the epoch is 8 Cumku, which is month 18
+abbrev pub haab_of : ℤ → ℕ × ℕ
+haab_of day = after_days haab_after haab_before (8, 18) (day -ℤ epoch)
+
+-- the number of each month that the code has; nothing above rests on it
 abbrev pub month_number : HaabMonth → ℕ
 month_number Pop = 1
 month_number Uo = 2
@@ -28,32 +57,3 @@ month_number Pax = 16
 month_number Kayab = 17
 month_number Cumku = 18
 month_number Uayeb = 19
-
--- the names of the months in their order
-abbrev pub month_names : List (List ℕ)
-month_names =
-    codes "Pop" ∷ codes "Uo" ∷ codes "Zip" ∷ codes "Zotz" ∷ codes "Tzec" ∷ codes "Xul" ∷ codes "Yaxkin" ∷ codes "Mol"
-    ∷ codes "Chen" ∷ codes "Yax" ∷ codes "Zac" ∷ codes "Ceh" ∷ codes "Mac" ∷ codes "Kankin" ∷ codes "Muan" ∷ codes "Pax"
-    ∷ codes "Kayab" ∷ codes "Cumku" ∷ codes "Uayeb" ∷ []
-
--- the name of the month of this number
-abbrev pub month_name : ℕ → List ℕ
-month_name number = unwrap_or (slice_get month_names (number - 1)) []
-
--- the last day of the month of this number: 4 in Uayeb, and 19 in the others
-abbrev pub last_day : ℕ → ℕ
-last_day month = if month == month_number Uayeb then 4 else 19
-
--- the haab after a haab, each as its day and the number of its month: a day more, and after the last day
--- of a month day 0 of the next, where Pop follows Uayeb
-abbrev pub haab_after : ℕ × ℕ → ℕ × ℕ
-haab_after (day, month) = if day == last_day month then (0, number_after 19 month) else (day + 1, month)
-
--- and the haab before it
-abbrev pub haab_before : ℕ × ℕ → ℕ × ℕ
-haab_before (day, month) =
-    if day == 0 then (last_day (number_before 19 month), number_before 19 month) else (day - 1, month)
-
--- the haab of a day; that of the epoch is 8 Cumku
-abbrev pub haab_of : ℤ → ℕ × ℕ
-haab_of day = after_days haab_after haab_before (8, month_number Cumku) (day -ℤ epoch)

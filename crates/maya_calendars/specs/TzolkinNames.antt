@@ -7,7 +7,26 @@ use Rattle.maya_calendars.specs.declared.tzolkin.TzolkinName.TheVariants.{Imix, 
 use Rattle.maya_calendars.specs.declared.tzolkin.TzolkinName.TheVariants.{Lamat, Muluc, Oc, Chuen, Eb, Ben, Ix, Men}
 use Rattle.maya_calendars.specs.declared.tzolkin.TzolkinName.TheVariants.{Cib, Caban, Etznab, Cauac, Ahau}
 
--- the names in their order, from 1 to 20
+-- the names in their order, from place 1 to place 20
+abbrev pub name_texts : List (List ℕ)
+name_texts =
+    codes "Imix" ∷ codes "Ik" ∷ codes "Akbal" ∷ codes "Kan" ∷ codes "Chicchan" ∷ codes "Cimi" ∷ codes "Manik"
+    ∷ codes "Lamat" ∷ codes "Muluc" ∷ codes "Oc" ∷ codes "Chuen" ∷ codes "Eb" ∷ codes "Ben" ∷ codes "Ix" ∷ codes "Men"
+    ∷ codes "Cib" ∷ codes "Caban" ∷ codes "Etznab" ∷ codes "Cauac" ∷ codes "Ahau" ∷ []
+
+-- the name at this place
+abbrev pub name_text : ℕ → List ℕ
+name_text place = unwrap_or (slice_get name_texts (place - 1)) []
+
+-- the tzolkin of a day, as its number and the place of its name; that of the epoch is 4 Ahau, the last name
+abbrev pub tzolkin_of : ℤ → ℕ × ℕ
+tzolkin_of day = (round_number 13 4 day, round_number 20 20 day)
+
+-- the tzolkin after a tzolkin
+abbrev pub tzolkin_after : ℕ × ℕ → ℕ × ℕ
+tzolkin_after (number, name) = (number_after 13 number, number_after 20 name)
+
+-- the place of each name that the code has; nothing above rests on it
 abbrev pub name_place : TzolkinName → ℕ
 name_place Imix = 1
 name_place Ik = 2
@@ -29,22 +48,3 @@ name_place Caban = 17
 name_place Etznab = 18
 name_place Cauac = 19
 name_place Ahau = 20
-
--- the names as they are written, in their order
-abbrev pub name_texts : List (List ℕ)
-name_texts =
-    codes "Imix" ∷ codes "Ik" ∷ codes "Akbal" ∷ codes "Kan" ∷ codes "Chicchan" ∷ codes "Cimi" ∷ codes "Manik"
-    ∷ codes "Lamat" ∷ codes "Muluc" ∷ codes "Oc" ∷ codes "Chuen" ∷ codes "Eb" ∷ codes "Ben" ∷ codes "Ix" ∷ codes "Men"
-    ∷ codes "Cib" ∷ codes "Caban" ∷ codes "Etznab" ∷ codes "Cauac" ∷ codes "Ahau" ∷ []
-
--- the name at this place
-abbrev pub name_text : ℕ → List ℕ
-name_text place = unwrap_or (slice_get name_texts (place - 1)) []
-
--- the tzolkin of a day, as its number and the place of its name; that of the epoch is 4 Ahau
-abbrev pub tzolkin_of : ℤ → ℕ × ℕ
-tzolkin_of day = (round_number 13 4 day, round_number 20 (name_place Ahau) day)
-
--- the tzolkin after a tzolkin
-abbrev pub tzolkin_after : ℕ × ℕ → ℕ × ℕ
-tzolkin_after (number, name) = (number_after 13 number, number_after 20 name)

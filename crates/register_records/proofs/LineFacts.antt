@@ -1,5 +1,6 @@
 -- The fields of a line, while they are appended.
-use Rattle.std.proofs.Common.{◌≡◌, ◌<◌, ◌≤◌, ◌+◌, ◌^◌, ◌%◌, ◌++◌, ℕ, List, [], ◌∷◌, true, false, refl, sym, ap, ◌∙◌, arith, append_assoc, append-nil, length, length-append, map, take, get_or}
+use Rattle.std.proofs.Common.{◌≡◌, ◌<◌, ◌≤◌, ◌+◌, ◌^◌, ◌%◌, ◌++◌, ℕ, List, [], ◌∷◌, true, false, refl, sym, ap, ◌∙◌}
+use Rattle.std.proofs.Common.{arith, append_assoc, append-nil, length, length-append, map, take, get_or}
 use Rattle.std.specs.Prelude.{ℤ, pos, negsuc, zero, suc, Ok, Err}
 use Rattle.std.specs.Fmt.{decimal, signed_decimal}
 use Rattle.std.proofs.lemmas.Int.{ints}
@@ -13,7 +14,8 @@ use Rattle.csv.specs.Writing.{field_text, fields_text, is_blank, needs_byte, nee
 use Rattle.csv.proofs.WriteFacts.{fields-snoc}
 use Rattle.day_numbers.specs.Days.{IsDayNumber, weekday_name, weekday_number, weekday_place}
 use Rattle.day_numbers.specs.declared.day.Weekday.{Weekday}
-use Rattle.day_numbers.specs.declared.day.Weekday.TheVariants.{Sunday, Monday, Tuesday, Wednesday, Thursday, Friday, Saturday}
+use Rattle.day_numbers.specs.declared.day.Weekday.TheVariants.{Sunday, Monday, Tuesday, Wednesday, Thursday, Friday}
+use Rattle.day_numbers.specs.declared.day.Weekday.TheVariants.{Saturday}
 use Rattle.register_records.specs.Lines.{line_text, writing}
 use Rattle.register_records.specs.SetupRules.{is_delimiter}
 use Rattle.register_records.specs.Outcomes.{AreCellsOn, TableRow}
@@ -32,64 +34,87 @@ use Rattle.register_records.specs.declared.setups.Form.{Form}
 abbrev pub body : ℕ → List (List ℕ) → List ℕ
 body d fields = row_body (writing d) fields
 
-pub one-more : (d : ℕ) (fields : List (List ℕ)) (field old mid new : List ℕ) → 1 ≤ length fields → old ≡ body d fields → mid ≡ old ++ d ∷ [] → new ≡ mid ++ field_text (writing d) field
-    → new ≡ body d (fields ++ field ∷ [])
+pub one-more : (d : ℕ) (fields : List (List ℕ)) (field old mid new : List ℕ) → 1 ≤ length fields → old ≡ body d fields
+    → mid ≡ old ++ d ∷ [] → new ≡ mid ++ field_text (writing d) field → new ≡ body d (fields ++ field ∷ [])
 one-more d [] field old mid new some is m n = absurd (omega arith)
 one-more d (f ∷ fs) field old mid new some is m n =
-    rw (n, m, is, fields-snoc (writing d) fs field, append_assoc (field_text (writing d) f ++ fields_text (writing d) fs) (d ∷ []) (field_text (writing d) field))
+    rw (
+      n,
+      m,
+      is,
+      fields-snoc (writing d) fs field,
+      append_assoc (field_text (writing d) f ++ fields_text (writing d) fs) (d ∷ []) (field_text (writing d) field),
+    )
     (append_assoc (field_text (writing d) f) (fields_text (writing d) fs) (d ∷ field_text (writing d) field))
 
 -- a field that needs no quotes
-pub plain-text : (d : ℕ) (field : List ℕ) → needs_quotes (writing d) field ≡ false → field_text (writing d) field ≡ field
+pub plain-text : (d : ℕ) (field : List ℕ) → needs_quotes (writing d) field ≡ false
+    → field_text (writing d) field ≡ field
 plain-text d field h = rw h refl
 
-pub only-field : (d : ℕ) (field bytes : List ℕ) → needs_quotes (writing d) field ≡ false → bytes ≡ field → bytes ≡ body d (field ∷ [])
+pub only-field : (d : ℕ) (field bytes : List ℕ) → needs_quotes (writing d) field ≡ false → bytes ≡ field
+    → bytes ≡ body d (field ∷ [])
 unfolding fields_text
 only-field d field bytes h e = e ∙ rw (plain-text d field h) (sym (append-nil field))
 
 -- a line of two fields or more is never blank
-pub ended : (d : ℕ) (fields : List (List ℕ)) (old new : List ℕ) → 2 ≤ length fields → old ≡ body d fields → new ≡ old ++ 10 ∷ [] → new ≡ line_text d fields
+pub ended : (d : ℕ) (fields : List (List ℕ)) (old new : List ℕ) → 2 ≤ length fields → old ≡ body d fields
+    → new ≡ old ++ 10 ∷ [] → new ≡ line_text d fields
 unfolding is_blank
 ended d [] old new some is n = absurd (omega arith)
 ended d (a ∷ []) old new some is n = absurd (omega arith)
 ended d (a ∷ b ∷ rest) old new some is n = rw (n, is) refl
 
 -- one more of the fields that the items of a list give
-pub one-item : {X : Type 0} (f : X → List ℕ) (d : ℕ) (first : List (List ℕ)) (xs : List X) (i : ℕ) (e : X) (field new : List ℕ) → i < length xs → field ≡ f (get_or xs i e)
+pub one-item : {X : Type 0} (f : X → List ℕ) (d : ℕ) (first : List (List ℕ)) (xs : List X) (i : ℕ) (e : X)
+    (field new : List ℕ) → i < length xs → field ≡ f (get_or xs i e)
     → new ≡ body d ((first ++ map f (take i xs)) ++ field ∷ []) → new ≡ body d (first ++ map f (take (i + 1) xs))
 one-item f d first xs i e field new lt is n =
-    n ∙ ap (body d) (rw (take_more xs i e lt, map-append f (take i xs) (get_or xs i e ∷ []), is) (append_assoc first _ _))
+    n ∙ ap (body d) (rw (take_more xs i e lt, map-append f (take i xs) (get_or xs i e ∷ []), is)
+    (append_assoc first _ _))
 
 -- a digit or a minus sign needs no quotes
 plain-byte : (d c : ℕ) → is_delimiter d ≡ true → 45 ≤ c → c < 58 → needs_byte (writing d) c ≡ false
 plain-byte d c h low high = grind (arith, nat_tests)
 
-pub plain-decimal : (d : ℕ) → is_delimiter d ≡ true → (n : ℕ) → n < 2 ^ 64 → needs_quotes (writing d) (decimal n) ≡ false
+pub plain-decimal : (d : ℕ) → is_delimiter d ≡ true → (n : ℕ) → n < 2 ^ 64
+    → needs_quotes (writing d) (decimal n) ≡ false
 plain-decimal d h =
-    decimal_by_steps (λ n ds. needs_quotes (writing d) ds ≡ false) (λ n lt. rw (plain-byte d (48 + n) h (omega arith) (omega arith)) refl)
-    (λ n ds ge before. rw (list_any-append (needs_byte (writing d)) ds ((48 + n % 10) ∷ []), before, plain-byte d (48 + n % 10) h (omega arith) (omega arith)) refl)
+    decimal_by_steps (λ n ds. needs_quotes (writing d) ds ≡ false)
+    (λ n lt. rw (plain-byte d (48 + n) h (omega arith) (omega arith)) refl)
+    (λ n ds ge before. rw (
+      list_any-append (needs_byte (writing d)) ds ((48 + n % 10) ∷ []),
+      before,
+      plain-byte d (48 + n % 10) h (omega arith) (omega arith),
+    ) refl)
 
 -- a number of a day
-pub plain-day : (d : ℕ) → is_delimiter d ≡ true → (z : ℤ) → IsDayNumber z → needs_quotes (writing d) (signed_decimal z) ≡ false
+pub plain-day : (d : ℕ) → is_delimiter d ≡ true → (z : ℤ) → IsDayNumber z
+    → needs_quotes (writing d) (signed_decimal z) ≡ false
 plain-day d h (pos n) r = plain-decimal d h n (omega (arith, ints, r.0, r.1))
-plain-day d h (negsuc n) r = rw (plain-byte d 45 h (omega arith) (omega arith), plain-decimal d h (suc n) (omega (arith, ints, r.0, r.1))) refl
+plain-day d h (negsuc n) r =
+    rw (plain-byte d 45 h (omega arith) (omega arith), plain-decimal d h (suc n) (omega (arith, ints, r.0, r.1))) refl
 
 -- the bytes of cells need no quotes
 plain-cell-byte : (d c : ℕ) → is_delimiter d ≡ true → is_plain c ≡ true → needs_byte (writing d) c ≡ false
 plain-cell-byte d c h p = grind (arith, nat_tests)
 
-plain-bytes : (d : ℕ) → is_delimiter d ≡ true → (text : List ℕ) → list_all is_plain text ≡ true → needs_quotes (writing d) text ≡ false
+plain-bytes : (d : ℕ) → is_delimiter d ≡ true → (text : List ℕ) → list_all is_plain text ≡ true
+    → needs_quotes (writing d) text ≡ false
 plain-bytes d h [] p = refl
 plain-bytes d h (c ∷ text) p =
     let both = and_parts (is_plain c) (list_all is_plain text) p in
     rw (plain-cell-byte d c h both.0, plain-bytes d h text both.1) refl
 
-pub plain-cell : CellsArePlain → (d : ℕ) → is_delimiter d ≡ true → (n : ℤ) (targets : List Target) (cells : List CellText) (i : ℕ) (e : CellText) → i < length cells
-    → AreCellsOn n targets (cells_seen cells) → needs_quotes (writing d) (cell_bytes (get_or cells i e)) ≡ false
+pub plain-cell : CellsArePlain → (d : ℕ) → is_delimiter d ≡ true → (n : ℤ) (targets : List Target)
+    (cells : List CellText) (i : ℕ) (e : CellText) → i < length cells → AreCellsOn n targets (cells_seen cells)
+    → needs_quotes (writing d) (cell_bytes (get_or cells i e)) ≡ false
 plain-cell law d h n targets [] i e lt are = absurd (omega arith)
 plain-cell law d h n [] (cell ∷ cells) i e lt are = absurd are
-plain-cell law d h n (target ∷ targets) (cell ∷ cells) zero e lt are = plain-bytes d h (cell_bytes cell) (law target n (cell_bytes cell) are.0)
-plain-cell law d h n (target ∷ targets) (cell ∷ cells) (suc i) e lt are = plain-cell law d h n targets cells i e (omega arith) are.1
+plain-cell law d h n (target ∷ targets) (cell ∷ cells) zero e lt are =
+    plain-bytes d h (cell_bytes cell) (law target n (cell_bytes cell) are.0)
+plain-cell law d h n (target ∷ targets) (cell ∷ cells) (suc i) e lt are =
+    plain-cell law d h n targets cells i e (omega arith) are.1
 
 -- the name of a weekday, by its number
 pub weekday-name : (w : Weekday) (k : ℕ) → weekday_place w ≡ k → weekday_name w ≡ weekday_name (weekday_at k)
@@ -105,38 +130,52 @@ weekday-name w k e = rw (← e) (named w)
     named Saturday = refl
 
 -- equal fields
-pub same-body : (d : ℕ) (fields wanted : List (List ℕ)) (bytes : List ℕ) → fields ≡ wanted → bytes ≡ body d fields → bytes ≡ body d wanted
+pub same-body : (d : ℕ) (fields wanted : List (List ℕ)) (bytes : List ℕ) → fields ≡ wanted → bytes ≡ body d fields
+    → bytes ≡ body d wanted
 same-body d fields wanted bytes e h = h ∙ ap (body d) e
 
-pub same-line : (d e : ℕ) (fields wanted : List (List ℕ)) (bytes : List ℕ) → d ≡ e → fields ≡ wanted → bytes ≡ line_text d fields → bytes ≡ line_text e wanted
+pub same-line : (d e : ℕ) (fields wanted : List (List ℕ)) (bytes : List ℕ) → d ≡ e → fields ≡ wanted
+    → bytes ≡ line_text d fields → bytes ≡ line_text e wanted
 same-line d e fields wanted bytes p q h = rw (← p, ← q) h
 
 -- two more fields
-pub two-more : (fields : List (List ℕ)) (x y a b : List ℕ) → x ≡ a → y ≡ b → (fields ++ x ∷ []) ++ y ∷ [] ≡ (fields ++ (a ∷ b ∷ [])) ++ []
-two-more fields x y a b p q = rw (p, q, append_assoc fields (a ∷ []) (b ∷ [])) (sym (append-nil (fields ++ (a ∷ b ∷ []))))
+pub two-more : (fields : List (List ℕ)) (x y a b : List ℕ) → x ≡ a → y ≡ b
+    → (fields ++ x ∷ []) ++ y ∷ [] ≡ (fields ++ (a ∷ b ∷ [])) ++ []
+two-more fields x y a b p q =
+    rw (p, q, append_assoc fields (a ∷ []) (b ∷ [])) (sym (append-nil (fields ++ (a ∷ b ∷ []))))
 
 -- the fields of a row, from the first to the last
-pub joined : (first : List (List ℕ)) (a b last : List ℕ) (rest : List (List ℕ)) → ((first ++ (a ∷ b ∷ [])) ++ rest) ++ last ∷ [] ≡ first ++ ((a ∷ b ∷ rest) ++ last ∷ [])
+pub joined : (first : List (List ℕ)) (a b last : List ℕ) (rest : List (List ℕ))
+    → ((first ++ (a ∷ b ∷ [])) ++ rest) ++ last ∷ [] ≡ first ++ ((a ∷ b ∷ rest) ++ last ∷ [])
 joined first a b last rest = simp append_assoc refl
 
 -- the fields of an accepted row, and of a refused one
 pub accepted-fields : (form : Form) (targets : List Target) (row : TableRow) (n : ℤ) → row.outcome ≡ Ok n
-    → ((entry_fields form row ++ (signed_decimal n ∷ weekday_name (weekday_at (weekday_number n)) ∷ [])) ++ row.cells) ++ [] ∷ [] ≡ row_fields form targets row
+    → ((entry_fields form row ++ (signed_decimal n ∷ weekday_name (weekday_at (weekday_number n)) ∷ [])) ++ row.cells)
+    ++ [] ∷ [] ≡ row_fields form targets row
 accepted-fields form targets row n e = joined (entry_fields form row) _ _ [] row.cells ∙ rw e refl
 
-pub refused-fields : (form : Form) (targets : List Target) (row : TableRow) (r : Refusal) (last : List ℕ) → row.outcome ≡ Err r → last ≡ decimal (refusal_number r)
-    → ((entry_fields form row ++ ([] ∷ [] ∷ [])) ++ map (λ (t : Target). []) targets) ++ last ∷ [] ≡ row_fields form targets row
-refused-fields form targets row r last e z = joined (entry_fields form row) [] [] last (map (λ (t : Target). []) targets) ∙ rw (e, z) refl
+pub refused-fields : (form : Form) (targets : List Target) (row : TableRow) (r : Refusal) (last : List ℕ)
+    → row.outcome ≡ Err r → last ≡ decimal (refusal_number r)
+    → ((entry_fields form row ++ ([] ∷ [] ∷ [])) ++ map (λ (t : Target). []) targets) ++ last ∷ []
+    ≡ row_fields form targets row
+refused-fields form targets row r last e z =
+    joined (entry_fields form row) [] [] last (map (λ (t : Target). []) targets) ∙ rw (e, z) refl
 
 -- one more of the empty fields that stand for the cells of a refused row
 pub one-empty : {X : Type 0} (first : List (List ℕ)) (xs : List X) (i : ℕ) → i < length xs
-    → (first ++ map {A = X} {B = List ℕ} (λ x. []) (take i xs)) ++ [] ∷ [] ≡ first ++ map {A = X} {B = List ℕ} (λ x. []) (take (i + 1) xs)
+    → (first ++ map {A = X} {B = List ℕ} (λ x. []) (take i xs)) ++ [] ∷ []
+    ≡ first ++ map {A = X} {B = List ℕ} (λ x. []) (take (i + 1) xs)
 one-empty first xs i lt = append_assoc first _ _ ∙ ap (λ (fields : List (List ℕ)). first ++ fields) (empties xs i lt)
   where
-    empties : {X : Type 0} (xs : List X) (i : ℕ) → i < length xs → map {A = X} {B = List ℕ} (λ x. []) (take i xs) ++ [] ∷ [] ≡ map {A = X} {B = List ℕ} (λ x. []) (take (i + 1) xs)
+    empties : {X : Type 0} (xs : List X) (i : ℕ) → i < length xs
+        → map {A = X} {B = List ℕ} (λ x. []) (take i xs) ++ [] ∷ []
+        ≡ map {A = X} {B = List ℕ} (λ x. []) (take (i + 1) xs)
     empties [] i lt = absurd (omega arith)
     empties (x ∷ xs) zero lt = refl
-    empties (x ∷ xs) (suc i) lt = let e : suc i + 1 ≡ suc (i + 1) = omega arith in rw e (ap (λ (fields : List (List ℕ)). [] ∷ fields) (empties xs i (omega arith)))
+    empties (x ∷ xs) (suc i) lt =
+        let e : suc i + 1 ≡ suc (i + 1) = omega arith in
+        rw e (ap (λ (fields : List (List ℕ)). [] ∷ fields) (empties xs i (omega arith)))
 
 pub two-fields : (fields : List (List ℕ)) (last : List ℕ) → 1 ≤ length fields → 2 ≤ length (fields ++ last ∷ [])
 two-fields fields last some = rw (length-append fields (last ∷ [])) (omega arith)

@@ -1,5 +1,6 @@
 -- What the calls that read a record's texts say of its outcome.
-use Rattle.std.proofs.Common.{◌≡◌, ◌<◌, ◌+◌, ◌++◌, ℕ, List, [], ◌∷◌, Option, Some, None, refl, length, take, get_or, IfOk}
+use Rattle.std.proofs.Common.{◌≡◌, ◌<◌, ◌+◌, ◌++◌, ℕ, List, [], ◌∷◌, Option, Some, None, refl, length, take, get_or}
+use Rattle.std.proofs.Common.{IfOk}
 use Rattle.std.specs.Prelude.{◌↔◌, ℤ, IsOk, Result, Ok, Err}
 use Rattle.std.proofs.lemmas.List.{map-append, take_more}
 use Rattle.register_records.specs.CellTexts.{cell_bytes}
@@ -21,7 +22,8 @@ use Rattle.date_texts.specs.declared.refusal.Refusal.{Refusal}
 use Rattle.date_texts.specs.declared.refusal.Refusal.TheVariants as refusal
 
 -- a name that was not found names no calendar
-pub no-calendar : (name : List ℕ) (found : Option Calendar) → found ≡ None → ((calendar : Calendar) → (found ≡ Some calendar) ↔ IsNamed name (calendar_name calendar))
+pub no-calendar : (name : List ℕ) (found : Option Calendar) → found ≡ None
+    → ((calendar : Calendar) → (found ≡ Some calendar) ↔ IsNamed name (calendar_name calendar))
     → (calendar : Calendar) → ¬ (IsNamed name (calendar_name calendar))
 no-calendar name found e h calendar named = let some = (h calendar).1 named in cc
 
@@ -33,8 +35,10 @@ module _ (t : Texts) (c : Calendar) (d : Date) where
   -- what the day of a date says
   abbrev SaysDay : Result Day Refusal → Type 0
   SaysDay r =
-      (IsOk r ↔ (IsDateOfCalendar d × IsDayNumber (day_number_of_date d))) × IfOk r (λ day. day.number ≡ day_number_of_date d)
-      × ((r ≡ Err refusal.NoSuchDate) ↔ ¬ (IsDateOfCalendar d)) × ((r ≡ Err refusal.OutOfRange) ↔ (IsDateOfCalendar d × ¬ (IsDayNumber (day_number_of_date d))))
+      (IsOk r ↔ (IsDateOfCalendar d × IsDayNumber (day_number_of_date d)))
+      × IfOk r (λ day. day.number ≡ day_number_of_date d)
+      × ((r ≡ Err refusal.NoSuchDate) ↔ ¬ (IsDateOfCalendar d))
+      × ((r ≡ Err refusal.OutOfRange) ↔ (IsDateOfCalendar d × ¬ (IsDayNumber (day_number_of_date d))))
 
   other-refusal : (r : Refusal) → ¬ (r ≡ refusal.NoSuchDate) → ¬ (r ≡ refusal.OutOfRange) → SaysDay (Err r) → ⊥
   other-refusal r n o h =
@@ -46,7 +50,8 @@ module _ (t : Texts) (c : Calendar) (d : Date) where
       same : (a b : Refusal) → ◌≡◌ {A = Result Day Refusal} (Err a) (Err b) → a ≡ b
       same a b e = cc
 
-  pub day-outcome : Says t.calendar t.date c d → (r : Result Day Refusal) → SaysDay r → IsOutcome (Ok t) (outcome_seen r)
+  pub day-outcome : Says t.calendar t.date c d → (r : Result Day Refusal) → SaysDay r
+      → IsOutcome (Ok t) (outcome_seen r)
   day-outcome s (Ok day) h = rw h.1 (outcome.accepted c d s (h.0.0 refl).0 (h.0.0 refl).1)
   day-outcome s (Err refusal.NoSuchDate) h = outcome.no_such_date c d s (h.2.0 refl)
   day-outcome s (Err refusal.OutOfRange) h = outcome.out_of_range c d s (h.3.0 refl).0 (h.3.0 refl).1
@@ -56,14 +61,17 @@ module _ (t : Texts) (c : Calendar) (d : Date) where
   day-outcome s (Err refusal.UnknownCalendar) h = absurd (other-refusal refusal.UnknownCalendar (λ e. cc) (λ e. cc) h)
   day-outcome s (Err refusal.DateText) h = absurd (other-refusal refusal.DateText (λ e. cc) (λ e. cc) h)
 
-cells-last : (n : ℤ) (ts : List Target) (texts : List (List ℕ)) (t : Target) (text : List ℕ) → AreCellsOn n ts texts → IsCell t n text → AreCellsOn n (ts ++ t ∷ []) (texts ++ text ∷ [])
+cells-last : (n : ℤ) (ts : List Target) (texts : List (List ℕ)) (t : Target) (text : List ℕ) → AreCellsOn n ts texts
+    → IsCell t n text → AreCellsOn n (ts ++ t ∷ []) (texts ++ text ∷ [])
 cells-last n [] [] t text a h = (h, tt)
 cells-last n [] (x ∷ texts) t text a h = absurd a
 cells-last n (s ∷ ts) [] t text a h = absurd a
 cells-last n (s ∷ ts) (x ∷ texts) t text a h = (a.0, cells-last n ts texts t text a.1 h)
 
 -- one more cell
-pub cells-more : (n : ℤ) (ts : List Target) (i : ℕ) (d : Target) (made made2 : List CellText) (cell : CellText) → i < length ts
-    → AreCellsOn n (take i ts) (cells_seen made) → IsCell (get_or ts i d) n (cell_bytes cell) → made2 ≡ made ++ cell ∷ [] → AreCellsOn n (take (i + 1) ts) (cells_seen made2)
+pub cells-more : (n : ℤ) (ts : List Target) (i : ℕ) (d : Target) (made made2 : List CellText) (cell : CellText)
+    → i < length ts → AreCellsOn n (take i ts) (cells_seen made) → IsCell (get_or ts i d) n (cell_bytes cell)
+    → made2 ≡ made ++ cell ∷ [] → AreCellsOn n (take (i + 1) ts) (cells_seen made2)
 cells-more n ts i d made made2 cell lt h is e =
-    rw (e, map-append cell_bytes made (cell ∷ []), take_more ts i d lt) (cells-last n (take i ts) (cells_seen made) (get_or ts i d) (cell_bytes cell) h is)
+    rw (e, map-append cell_bytes made (cell ∷ []), take_more ts i d lt)
+    (cells-last n (take i ts) (cells_seen made) (get_or ts i d) (cell_bytes cell) h is)

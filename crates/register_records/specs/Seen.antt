@@ -41,5 +41,5 @@ cells_seen cells = map cell_bytes cells
 
 -- the row that an entry, an outcome and cells make
 abbrev pub row_made : Entry → Result Day Refusal → List CellText → TableRow
-row_made entry outcome cells =
-    record { number = entry.number; body = body_seen entry.body; outcome = outcome_seen outcome; cells = cells_seen cells }
+row_made e outcome cells =
+    record { number = e.number; body = body_seen e.body; outcome = outcome_seen outcome; cells = cells_seen cells }

@@ -25,4 +25,6 @@ returns-in-Ok c =
     let named = (rw c.as_str.ensures.value at c.in-Some.ensures) c.in-Some.calendar in
     let dated = (rw c.as_str-in-Fields.ensures.value at c.in-Ok.ensures.value) c.in-Ok.date in
     let day = c.day_of_date.ensures in
-    rw c.in-Fields.is (day-outcome _ c.in-Some.calendar c.in-Ok.date (record { named = named.0 refl; dated = dated.0 refl }) c.day_of_date.result (day.succeeds, day.value, day.no_such_date, day.out_of_range))
+    rw c.in-Fields.is (day-outcome _ c.in-Some.calendar c.in-Ok.date
+    (record { named = named.0 refl; dated = dated.0 refl }) c.day_of_date.result
+    (day.succeeds, day.value, day.no_such_date, day.out_of_range))

@@ -3,10 +3,6 @@ use Rattle.std.proofs.lemmas.Bool.Decides.{nat_tests}
 use Rattle.register_records.proofs.HeaderFacts.{mark-not, mark-there, rest-of}
 use Rattle.csv.proofs.ReadFacts.{strip-short}
 use Rattle.register_records.proofs.header.without_mark.Goals as goal
-use Rattle.register_records.proofs.header.without_mark.Goals.{else-field-ge3-via-else-field-ge3}
-use Rattle.register_records.proofs.header.without_mark.Goals.{else-field-ge3-via-then-field-ge3+else-field}
-use Rattle.register_records.proofs.header.without_mark.Goals.{else-field-ge3-via-then-field-ge3+then-field+else-field-2}
-use Rattle.register_records.proofs.header.without_mark.Goals.{else-field-ge3-via-then-field-ge3+then-field+then-field-2+else-field-3}
 
 pub returns-then-field-3 : goal.returns-then-field-3
 returns-then-field-3 c =
@@ -16,11 +12,11 @@ returns-then-field-3 c =
 pub returns-else-field-ge3 : goal.returns-else-field-ge3
 returns-else-field-ge3 c =
     elim c.else-field-ge3.branch [
-      | else-field-ge3-via-then-field-ge3+then-field+then-field-2+else-field-3 w ↦
+      | goal.else-field-ge3-via-then-field-ge3+then-field+then-field-2+else-field-3 w ↦
           sym (mark-not c.args.field.now (omega arith) (grind (arith, nat_tests)))
-      | else-field-ge3-via-then-field-ge3+then-field+else-field-2 w ↦
+      | goal.else-field-ge3-via-then-field-ge3+then-field+else-field-2 w ↦
           sym (mark-not c.args.field.now (omega arith) (grind (arith, nat_tests)))
-      | else-field-ge3-via-then-field-ge3+else-field w ↦
+      | goal.else-field-ge3-via-then-field-ge3+else-field w ↦
           sym (mark-not c.args.field.now (omega arith) (grind (arith, nat_tests)))
-      | else-field-ge3-via-else-field-ge3 w ↦ sym (strip-short c.args.field.now (omega arith))
+      | goal.else-field-ge3-via-else-field-ge3 w ↦ sym (strip-short c.args.field.now (omega arith))
     ]

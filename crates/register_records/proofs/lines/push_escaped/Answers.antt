@@ -6,7 +6,12 @@ use Rattle.register_records.proofs.lines.push_escaped.Goals as goal
 pub returns-in_ok-push-2 : goal.returns-in_ok-push-2
 returns-in_ok-push-2 c =
     let quote : c.args.b ≡ 34 = search rules in
-    rw (escaped-double (writing c.args.delimiter) c.args.b quote refl, quote, c.in_ok-push-2.ensures.items, c.in_ok-push.ensures.items) (append_assoc c.args.line.now.items (34 ∷ []) (34 ∷ []))
+    rw (
+      escaped-double (writing c.args.delimiter) c.args.b quote refl,
+      quote,
+      c.in_ok-push-2.ensures.items,
+      c.in_ok-push.ensures.items,
+    ) (append_assoc c.args.line.now.items (34 ∷ []) (34 ∷ []))
 
 pub returns-in_ok-push-3 : goal.returns-in_ok-push-3
 returns-in_ok-push-3 c =

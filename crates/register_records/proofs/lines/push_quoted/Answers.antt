@@ -11,4 +11,5 @@ bytes-init c = c.in_ok-push.ensures.items
 pub bytes-preserved : goal.bytes-preserved
 bytes-preserved c =
     let lt : c.bytes.i < length c.args.field.now = omega arith in
-    c.in_ok-push_escaped.ensures ∙ rw (c.bytes.invariant, append_assoc) (ap (λ t. c.args.line.now.items ++ t) (quoted-step (writing c.args.delimiter) 34 c.args.field.now c.bytes.i lt))
+    c.in_ok-push_escaped.ensures ∙ rw (c.bytes.invariant, append_assoc)
+    (ap (λ t. c.args.line.now.items ++ t) (quoted-step (writing c.args.delimiter) 34 c.args.field.now c.bytes.i lt))

@@ -5,5 +5,7 @@ pub returns-clause-value : goal.returns-clause-value
 returns-clause-value c =
     let one = c.in_ok-push_plain.ensures.value (codes "row" ∷ []) (omega arith) c.in_ok-start.ensures.value in
     let two = c.in_ok-push_plain-2.ensures.value (codes "row" ∷ codes "id" ∷ []) (omega arith) one in
-    let three = c.in_ok-push_plain-3.ensures.value (codes "row" ∷ codes "id" ∷ codes "calendar" ∷ []) (omega arith) two in
-    c.in_ok-push_note.ensures.value (codes "row" ∷ codes "id" ∷ codes "calendar" ∷ codes "date" ∷ []) (omega arith) three
+    let three =
+    c.in_ok-push_plain-3.ensures.value (codes "row" ∷ codes "id" ∷ codes "calendar" ∷ []) (omega arith) two in
+    c.in_ok-push_note.ensures.value (codes "row" ∷ codes "id" ∷ codes "calendar" ∷ codes "date" ∷ [])
+    (omega arith) three

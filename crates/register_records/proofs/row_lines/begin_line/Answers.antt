@@ -11,7 +11,8 @@ use Rattle.register_records.proofs.row_lines.begin_line.Goals as goal
 pub start-requires : goal.start-requires
 start-requires c =
     rw (c.as_bytes.ensures.value, c.format.ensures.text)
-    (plain-decimal (line_delimiter c.args.line.now) c.args.line.now.separated c.number.result (omega (arith, c.number.ensures.limited)))
+    (plain-decimal (line_delimiter c.args.line.now) c.args.line.now.separated c.number.result
+    (omega (arith, c.number.ensures.limited)))
 
 pub returns-clause-value : goal.returns-clause-value
 returns-clause-value c =
@@ -26,8 +27,12 @@ returns-clause-value c =
     let two = c.in_ok-push-2.ensures.value (n ∷ id ∷ []) (omega arith) one in
     let three = c.in_ok-push-3.ensures.value (n ∷ id ∷ calendar ∷ []) (omega arith) two in
     let four = c.in_ok-push_note.ensures.value (n ∷ id ∷ calendar ∷ date ∷ []) (omega arith) three in
-    let number : n ≡ decimal (entry_number (row_entry row)) = c.as_bytes.ensures.value ∙ c.format.ensures.text ∙ ap decimal (c.number.ensures.value ∙ ap entry_number c.entry-2.ensures) in
-    let texts = sym (ap (λ body. text_fields form (body_seen body)) (c.body.ensures.value ∙ ap entry_body c.entry.ensures)) ∙ c.texts_of.ensures form in
+    let number : n ≡ decimal (entry_number (row_entry row)) =
+    c.as_bytes.ensures.value ∙ c.format.ensures.text
+    ∙ ap decimal (c.number.ensures.value ∙ ap entry_number c.entry-2.ensures) in
+    let texts =
+    sym (ap (λ body. text_fields form (body_seen body)) (c.body.ensures.value ∙ ap entry_body c.entry.ensures))
+    ∙ c.texts_of.ensures form in
     let noted = ap (note_fields form) c.as_bytes-5.ensures.value in
     same-body _ (n ∷ id ∷ calendar ∷ date ∷ note_fields form note) (entry_fields form (row_seen row)) _
     (cc (number, texts, noted, c.as_bytes-2.ensures.value, c.as_bytes-3.ensures.value, c.as_bytes-4.ensures.value)) four

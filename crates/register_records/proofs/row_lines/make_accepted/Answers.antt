@@ -13,20 +13,25 @@ use Rattle.register_records.specs.Seen.{entry_seen}
 use Rattle.register_records.specs.Outcomes.{IsRowOf}
 use Rattle.register_records.specs.Tables.{entry_fields, row_fields, weekday_at}
 use Rattle.register_records.specs.Seen.{outcome_seen}
-use Rattle.register_records.proofs.LineFacts.{accepted-fields, one-item, plain-cell, plain-day, same-body, same-line, two-fields, two-more, weekday-name}
+use Rattle.register_records.proofs.LineFacts.{accepted-fields, one-item, plain-cell, plain-day, same-body, same-line}
+use Rattle.register_records.proofs.LineFacts.{two-fields, two-more, weekday-name}
 use Rattle.register_records.proofs.row_lines.make_accepted.Goals as goal
 
 pub push_plain-requires : goal.push_plain-requires
 push_plain-requires c =
     let day : c.as_bytes.result.now ≡ signed_decimal c.args.day.number = grind (arith, common_steps) in
-    rw day (plain-day (line_delimiter c.begin_line.new.line) c.begin_line.new.line.separated c.args.day.number c.args.day.in_range)
+    rw day (plain-day (line_delimiter c.begin_line.new.line) c.begin_line.new.line.separated c.args.day.number
+    c.args.day.in_range)
 
 pub push_cell-requires : goal.push_cell-requires
 push_cell-requires c =
     let row = c.args.row.now in
     let here = rw c.cells-cell-items.ensures.value at c.cell-item.is in
-    let plain = ∥∥₁_elim c.cells-cell-items.ensures.row (Bool-set _ _) (λ (is : IsRowOf (row_targets row) (entry_seen (row_entry row)) (row_seen row)).
-    plain-cell c.cells_are_plain.ensures (line_delimiter c.cells.line) c.cells.line.separated c.args.day.number (row_targets row) (row_cells row) c.cells.cell-index c.cell-item.result
+    let plain =
+    ∥∥₁_elim c.cells-cell-items.ensures.row (Bool-set _ _)
+    (λ (is : IsRowOf (row_targets row) (entry_seen (row_entry row)) (row_seen row)).
+    plain-cell c.cells_are_plain.ensures (line_delimiter c.cells.line) c.cells.line.separated c.args.day.number
+    (row_targets row) (row_cells row) c.cells.cell-index c.cell-item.result
     (rw (← c.cells-cell-items.ensures.value) c.cells-test.true) (rw c.requires at is.cells)) in
     rw (← here) at plain
 
@@ -42,7 +47,8 @@ cells-init c =
 pub cells-preserved : goal.cells-preserved
 cells-preserved c =
     let inv = c.cells.invariant in
-    let first = entry_fields c.args.form (row_seen c.args.row.now) ++ (signed_decimal c.args.day.number ∷ weekday_name (weekday_at (weekday_number c.args.day.number)) ∷ []) in
+    let first = entry_fields c.args.form (row_seen c.args.row.now)
+    ++ (signed_decimal c.args.day.number ∷ weekday_name (weekday_at (weekday_number c.args.day.number)) ∷ []) in
     let fields = first ++ map cell_bytes (take c.cells.cell-index (row_cells c.args.row.now)) in
     let here = rw c.cells-cell-items.ensures.value at c.cell-item.is in
     record {
@@ -55,10 +61,15 @@ pub returns-clause-value : goal.returns-clause-value
 returns-clause-value c =
     let inv = c.cells.invariant in
     let row = c.args.row.now in
-    let first = entry_fields c.args.form (row_seen row) ++ (signed_decimal c.args.day.number ∷ weekday_name (weekday_at (weekday_number c.args.day.number)) ∷ []) in
+    let first = entry_fields c.args.form (row_seen row)
+    ++ (signed_decimal c.args.day.number ∷ weekday_name (weekday_at (weekday_number c.args.day.number)) ∷ []) in
     let cells = λ (items : List CellText). (first ++ map cell_bytes items) ++ [] ∷ [] in
-    let all = take_all c.cells.cell-index (row_cells row) (rw (← c.cells-cell-items.ensures.value) c.cells-test.false) in
+    let all =
+    take_all c.cells.cell-index (row_cells row) (rw (← c.cells-cell-items.ensures.value) c.cells-test.false) in
     let fields = first ++ map cell_bytes (take c.cells.cell-index (row_cells row)) in
     let last = c.in_ok-push_plain-3.ensures.value fields (omega arith) inv.begun in
-    same-line _ _ (fields ++ [] ∷ []) (row_fields c.args.form (row_targets row) (row_seen row)) _ (c.in_ok-push_plain-3.ensures.kept ∙ inv.kept)
-    (ap cells all ∙ accepted-fields c.args.form (row_targets row) (row_seen row) c.args.day.number (ap outcome_seen c.requires)) (c.in_ok-end.ensures.value (fields ++ [] ∷ []) (two-fields fields [] (omega arith)) last)
+    same-line _ _ (fields ++ [] ∷ []) (row_fields c.args.form (row_targets row) (row_seen row)) _
+    (c.in_ok-push_plain-3.ensures.kept ∙ inv.kept)
+    (ap cells all ∙ accepted-fields c.args.form (row_targets row) (row_seen row) c.args.day.number
+    (ap outcome_seen c.requires))
+    (c.in_ok-end.ensures.value (fields ++ [] ∷ []) (two-fields fields [] (omega arith)) last)

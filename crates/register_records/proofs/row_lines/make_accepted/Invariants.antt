@@ -10,6 +10,8 @@ use Rattle.register_records.proofs.row_lines.make_accepted.Given as goal
 abbrev pub invariant-cells : goal.invariant-cells
 invariant-cells l =
     record {
-      begun : Begins ((entry_fields l.fn.form (row_seen l.row) ++ (signed_decimal l.fn.day.number ∷ weekday_name (weekday_at (weekday_number l.fn.day.number)) ∷ [])) ++ map cell_bytes (take l.cell-index (row_cells l.row))) l.line;
+      begun : Begins ((entry_fields l.fn.form (row_seen l.row)
+          ++ (signed_decimal l.fn.day.number ∷ weekday_name (weekday_at (weekday_number l.fn.day.number)) ∷ []))
+          ++ map cell_bytes (take l.cell-index (row_cells l.row))) l.line;
       kept : line_delimiter l.line ≡ line_delimiter l.fn.line;
     }

@@ -7,6 +7,7 @@ use Rattle.register_records.proofs.row_lines.make_heading.Given as goal
 abbrev pub invariant-targets : goal.invariant-targets
 invariant-targets l =
     record {
-      begun : Begins ((entry_heading l.fn.form ++ (codes "rd" ∷ codes "weekday" ∷ [])) ++ map target_name (take l.target-index l.targets)) l.line;
+      begun : Begins ((entry_heading l.fn.form ++ (codes "rd" ∷ codes "weekday" ∷ []))
+          ++ map target_name (take l.target-index l.targets)) l.line;
       kept : line_delimiter l.line ≡ line_delimiter l.fn.line;
     }

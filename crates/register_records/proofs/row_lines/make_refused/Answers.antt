@@ -6,7 +6,8 @@ use Rattle.register_records.specs.LineViews.{line_delimiter}
 use Rattle.register_records.specs.Views.{row_seen, row_targets}
 use Rattle.register_records.specs.Tables.{entry_fields, row_fields}
 use Rattle.register_records.specs.Seen.{outcome_seen}
-use Rattle.register_records.proofs.LineFacts.{one-empty, plain-decimal, refused-fields, same-body, same-line, two-fields, two-more}
+use Rattle.register_records.proofs.LineFacts.{one-empty, plain-decimal, refused-fields, same-body, same-line}
+use Rattle.register_records.proofs.LineFacts.{two-fields, two-more}
 use Rattle.register_records.proofs.row_lines.make_refused.Goals as goal
 
 pub targets-init : goal.targets-init
@@ -23,13 +24,19 @@ targets-preserved c =
     let first = entry_fields c.args.form (row_seen c.args.row.now) ++ ([] ∷ [] ∷ []) in
     let fields = first ++ map {A = Target} {B = List ℕ} (λ target. []) (take c.targets._target-index targets) in
     record {
-      begun = same-body _ _ _ _ (one-empty first targets c.targets._target-index (rw (← c.targets-target-items.ensures.value) c.targets-test.true)) (c.in_ok-push_plain-3.ensures.value fields (omega arith) inv.begun);
+      begun =
+          same-body _ _ _ _
+          (one-empty first targets c.targets._target-index
+          (rw (← c.targets-target-items.ensures.value) c.targets-test.true))
+          (c.in_ok-push_plain-3.ensures.value fields (omega arith) inv.begun);
       kept = c.in_ok-push_plain-3.ensures.kept ∙ inv.kept;
     }
 
 pub push_plain-requires-3 : goal.push_plain-requires-3
 push_plain-requires-3 c =
-    rw (c.as_bytes.ensures.value, c.format.ensures.text) (plain-decimal (line_delimiter c.targets.line) c.targets.line.separated c.number.result (omega (arith, c.number.type_inv)))
+    rw (c.as_bytes.ensures.value, c.format.ensures.text)
+    (plain-decimal (line_delimiter c.targets.line) c.targets.line.separated c.number.result
+    (omega (arith, c.number.type_inv)))
 
 pub returns-clause-value : goal.returns-clause-value
 returns-clause-value c =
@@ -37,10 +44,15 @@ returns-clause-value c =
     let row = c.args.row.now in
     let first = entry_fields c.args.form (row_seen row) ++ ([] ∷ [] ∷ []) in
     let told = c.as_bytes.result.now in
-    let all = take_all c.targets._target-index (row_targets row) (rw (← c.targets-target-items.ensures.value) c.targets-test.false) in
-    let fields = first ++ map {A = Target} {B = List ℕ} (λ target. []) (take c.targets._target-index (row_targets row)) in
+    let all = take_all c.targets._target-index (row_targets row)
+    (rw (← c.targets-target-items.ensures.value) c.targets-test.false) in
+    let fields =
+    first ++ map {A = Target} {B = List ℕ} (λ target. []) (take c.targets._target-index (row_targets row)) in
     let last = c.in_ok-push_plain-4.ensures.value fields (omega arith) inv.begun in
     let number = c.as_bytes.ensures.value ∙ c.format.ensures.text ∙ ap decimal c.number.ensures in
-    same-line _ _ (fields ++ told ∷ []) (row_fields c.args.form (row_targets row) (row_seen row)) _ (c.in_ok-push_plain-4.ensures.kept ∙ inv.kept)
-    (ap (λ (targets : List Target). (first ++ map {A = Target} {B = List ℕ} (λ target. []) targets) ++ told ∷ []) all ∙ refused-fields c.args.form (row_targets row) (row_seen row) c.args.refusal told (ap outcome_seen c.requires) number)
+    same-line _ _ (fields ++ told ∷ []) (row_fields c.args.form (row_targets row) (row_seen row)) _
+    (c.in_ok-push_plain-4.ensures.kept ∙ inv.kept)
+    (ap (λ (targets : List Target). (first ++ map {A = Target} {B = List ℕ} (λ target. []) targets) ++ told ∷ []) all
+    ∙ refused-fields c.args.form (row_targets row) (row_seen row) c.args.refusal told
+    (ap outcome_seen c.requires) number)
     (c.in_ok-end.ensures.value (fields ++ told ∷ []) (two-fields fields told (omega arith)) last)

@@ -7,6 +7,7 @@ use Rattle.register_records.proofs.row_lines.make_refused.Given as goal
 abbrev pub invariant-targets : goal.invariant-targets
 invariant-targets l =
     record {
-      begun : Begins ((entry_fields l.fn.form (row_seen l.row) ++ ([] ∷ [] ∷ [])) ++ map (λ target. []) (take l._target-index (row_targets l.row))) l.line;
+      begun : Begins ((entry_fields l.fn.form (row_seen l.row) ++ ([] ∷ [] ∷ []))
+          ++ map (λ target. []) (take l._target-index (row_targets l.row))) l.line;
       kept : line_delimiter l.line ≡ line_delimiter l.fn.line;
     }

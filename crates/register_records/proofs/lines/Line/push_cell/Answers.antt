@@ -11,5 +11,12 @@ returns-clause-value c fields some begun =
     let mid = c.push.new.self.items in
     let long : c.len.result ≡ length mid = search (rules, c.len.ensures) in
     one-more (line_delimiter c.args.self.now) fields (cell_bytes cell) _ mid _ some begun c.in_ok-push.ensures.items
-    (rw (plain-text (line_delimiter c.args.self.now) (cell_bytes cell) c.requires, c.truncate.ensures.items, c.in_ok-extend_from_slice.ensures.items, c.room.ensures, long, c.len-2.ensures.value)
+    (rw (
+      plain-text (line_delimiter c.args.self.now) (cell_bytes cell) c.requires,
+      c.truncate.ensures.items,
+      c.in_ok-extend_from_slice.ensures.items,
+      c.room.ensures,
+      long,
+      c.len-2.ensures.value,
+    )
     (take-append-add mid cell.places cell.count))

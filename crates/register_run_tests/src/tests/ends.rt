@@ -186,58 +186,108 @@ fn send_one(rt: &impl Wait, sender: Sender<u32>) {
     let _ = sender.send(rt, 7);
 }
 
-/// Whether that item is taken, and then the sender is gone.
-fn one_is_taken(rt: &(impl Threads + Wait + Sync), alloc: Global) -> Result<bool, AllocError> {
-    let (sender, receiver) = lane::<u32>(alloc, 2)?;
-    let taken = thread::scope(thread::scope_env(), rt, move |scope| {
-        let Ok(_started) = scope.spawn(move || send_one(rt, sender)) else {
-            return false;
-        };
-        let mut receiver = receiver;
-        receiver.take(rt) == Ok(Item::Entry(7)) && receiver.take(rt).is_err()
-    });
-    Ok(taken)
+/// How many lanes are looked at, one after the other.
+const LANES: usize = 2000;
+
+/// Waits a moment after many looks in vain.
+fn rest_after(look: u32) {
+    if look % 1000 == 999 {
+        thread::yield_now();
+    }
 }
 
-// The item may come between a look at the ring and a look at the sender.
-#[test]
-fn an_item_that_was_sent_just_before_its_end_is_taken(rt: HostRuntime) -> Result<(), Fail> {
-    for _ in 0..300 {
-        assert!(rt; one_is_taken(&rt, rt.alloc())?);
+/// Sends an item over each lane and drops its sender at once, when this lane is looked at.
+fn send_one_each(rt: &impl Wait, senders: Vec<Sender<u32>>, looked_at: &AtomicU64) {
+    for (place, sender) in senders.into_iter().enumerate() {
+        for look in 0..MOST_LOOKS {
+            if looked_at.load(Ordering::SeqCst) >= place as u64 {
+                break;
+            }
+            rest_after(look);
+        }
+        send_one(rt, sender);
     }
-    Ok(())
 }
 
 /// Looks until an item is there or the sender is gone, and says whether it is that item.
 fn is_seen(receiver: Receiver<u32>) -> bool {
     let mut receiver = receiver;
-    for _ in 0..MOST_LOOKS {
+    for look in 0..MOST_LOOKS {
         match receiver.look() {
             Ok(true) => return receiver.next() == Some(&Item::Entry(7)),
-            Ok(false) => thread::yield_now(),
+            Ok(false) => rest_after(look),
             Err(_) => return false,
         }
     }
     false
 }
 
-/// Whether that item is seen by looks without a wait.
-fn one_is_seen(rt: &(impl Threads + Wait + Sync), alloc: Global) -> Result<bool, AllocError> {
-    let (sender, receiver) = lane::<u32>(alloc, 2)?;
-    let seen = thread::scope(thread::scope_env(), rt, move |scope| {
-        let Ok(_started) = scope.spawn(move || send_one(rt, sender)) else {
-            return false;
-        };
-        is_seen(receiver)
-    });
-    Ok(seen)
+/// How the receivers of many lanes get what is there.
+#[derive(Clone, Copy, PartialEq)]
+enum Way {
+    Look,
+    Take,
 }
 
-// The same where the receiver looks again and again.
+/// How many of these lanes give their item.
+fn count_items(
+    rt: &impl Wait,
+    receivers: Vec<Receiver<u32>>,
+    looked_at: &AtomicU64,
+    way: Way,
+) -> usize {
+    let mut count = 0usize;
+    for (place, receiver) in receivers.into_iter().enumerate() {
+        looked_at.store(place as u64, Ordering::SeqCst);
+        let mut receiver = receiver;
+        let came = match way {
+            Way::Look => is_seen(receiver),
+            Way::Take => receiver.take(rt) == Ok(Item::Entry(7)) && receiver.take(rt).is_err(),
+        };
+        if came {
+            count = count.saturating_add(1);
+        }
+    }
+    count
+}
+
+/// How many of the lanes give an item that is sent just before the sender is dropped, while the receiver waits.
+fn count_over_lanes(
+    rt: &(impl Threads + Wait + Sync),
+    alloc: Global,
+    way: Way,
+) -> Result<usize, AllocError> {
+    let mut senders = Vec::new(alloc);
+    let mut receivers = Vec::new(alloc);
+    for _ in 0..LANES {
+        let (sender, receiver) = lane::<u32>(alloc, 2)?;
+        senders.push(sender)?;
+        receivers.push(receiver)?;
+    }
+    let looked_at = AtomicU64::new(0);
+    let looked_at_seen = &looked_at;
+    let count = thread::scope(thread::scope_env(), rt, move |scope| {
+        let Ok(_started) = scope.spawn(move || send_one_each(rt, senders, looked_at_seen)) else {
+            return 0;
+        };
+        count_items(rt, receivers, looked_at_seen, way)
+    });
+    Ok(count)
+}
+
+// The item may come after a look at the ring that was in vain, and the sender leave before the look at it.
 #[test]
 fn an_item_that_was_sent_just_before_its_end_is_seen(rt: HostRuntime) -> Result<(), Fail> {
-    for _ in 0..300 {
-        assert!(rt; one_is_seen(&rt, rt.alloc())?);
+    for _ in 0..5 {
+        assert_eq!(rt; count_over_lanes(&rt, rt.alloc(), Way::Look)?, LANES);
+    }
+    Ok(())
+}
+
+#[test]
+fn an_item_that_was_sent_just_before_its_end_is_taken(rt: HostRuntime) -> Result<(), Fail> {
+    for _ in 0..5 {
+        assert_eq!(rt; count_over_lanes(&rt, rt.alloc(), Way::Take)?, LANES);
     }
     Ok(())
 }

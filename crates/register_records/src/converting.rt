@@ -14,8 +14,9 @@ use crate::entries::{Body, Entry};
 use crate::rows::Row;
 use crate::setups::Setup;
 use crate::short_lists::ShortList;
+use arrayvec::ArrayString;
 use date_texts::laws::cells_are_short;
-use date_texts::{MAX_TARGETS, Refusal, Target, calendar_named, cell, day_of_date, read_date};
+use date_texts::{MAX_TARGETS, Refusal, Target, calendar_named, day_of_date, push_cell, read_date};
 use day_numbers::Day;
 
 /// The day of a body, or the first refusal that applies.
@@ -44,7 +45,8 @@ fn short_cell(target: Target, day: Day) -> CellText
     ensures { IsCell target day.number (cell_bytes result) }
 {
     cells_are_short();
-    let text = cell(target, day);
+    let mut text = ArrayString::new();
+    push_cell(&mut text, target, day);
     CellText::copied(text.as_str())
 }
 

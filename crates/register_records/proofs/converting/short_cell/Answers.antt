@@ -4,9 +4,9 @@ use Rattle.register_records.proofs.converting.short_cell.Goals as goal
 
 pub copied-requires : goal.copied-requires
 copied-requires c =
-    rw c.as_str.ensures.value (c.cells_are_short.ensures c.args.target c.args.day.number _ c.cell-text.ensures.value)
+    rw c.as_str.ensures.value (c.cells_are_short.ensures c.args.target c.args.day.number _ c.push_cell.ensures)
 
 pub returns : goal.returns
 returns c =
     subst (λ text. IsCell c.args.target c.args.day.number text) (sym (c.copied.ensures ∙ c.as_str.ensures.value))
-    c.cell-text.ensures.value
+    c.push_cell.ensures

@@ -80,8 +80,8 @@ pub fn convert(entry: Entry, setup: &Setup) -> Row
     fill(&mut cells, setup.targets(), outcome);
     Row {
         entry,
-        targets: setup.target_list(),
         outcome,
+        targets: setup.target_list(),
         cells,
     }
 }

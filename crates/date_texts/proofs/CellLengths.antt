@@ -1,5 +1,5 @@
 -- The lengths of cells.
-use Rattle.std.proofs.Common.{◌≡◌, ℕ, zero, suc, ◌-◌, ◌≤◌, List, [], ◌∷◌, ◌++◌, Bool, true, ◌&&◌, IsTrue, ℤ, refl, ap}
+use Rattle.std.proofs.Common.{ℕ, zero, suc, ◌-◌, ◌≤◌, List, [], ◌∷◌, ◌++◌, Bool, true, ◌&&◌, IsTrue, ℤ, refl, ap}
 use Rattle.std.proofs.Common.{arith, length, length-append}
 use Rattle.std.specs.Prelude.{slice_get, unwrap_or, nat_le}
 use Rattle.std.specs.Fmt.{decimal}

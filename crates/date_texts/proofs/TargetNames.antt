@@ -95,6 +95,13 @@ pub named_by_search : (o : Option Target) (name text : List ℕ) (t : Target)
     → (o ≡ Some t) ↔ IsNamed text (target_name t)
 named_by_search o name text t e f = rw (e, f) (target_found (str_to_ascii_lowercase (trimmed text)) t)
 
+-- a name in small letters is found as it stands
+pub named_as_spelled : (u : Target) (name text : List ℕ) (t : Target) → name ≡ target_name u → name ≡ trimmed text
+    → (Some u ≡ Some t) ↔ IsNamed text (target_name t)
+named_as_spelled u name text t e f =
+    let found = ap str_to_ascii_lowercase e ∙ small_letters u in
+    named_by_search (Some u) name text t (sym (ap target_by_name found ∙ finds_own u)) f
+
 no_some : {A : Type 0} {x : A} → None ≡ Some x → ⊥
 no_some e = cc
 

@@ -38,8 +38,8 @@ fn push_numbered(text: &mut ArrayString<24>, number: u8, name: &str)
     text.push_str(name);
 }
 
-/// Writes the cell of a day into an empty text.
-fn push_cell(text: &mut ArrayString<24>, target: Target, day: Day)
+/// Writes the [`cell`] of a day into an empty text.
+pub fn push_cell(text: &mut ArrayString<24>, target: Target, day: Day)
     requires { text.old.bytes ≡ [] }
     ensures { IsCell target day.number text.new.bytes }
 {

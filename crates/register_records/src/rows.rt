@@ -18,8 +18,8 @@ use day_numbers::Day;
 #[derive(Drop)]
 pub struct Row {
     pub(crate) entry: Entry,
-    pub(crate) targets: ShortList<Target>,
     pub(crate) outcome: Result<Day, Refusal>,
+    pub(crate) targets: ShortList<Target>,
     pub(crate) cells: ShortList<CellText>,
     pub ghost is_row: { ∥ IsRowOf (items_in targets) (entry_seen entry) (row_made entry outcome (items_in cells)) ∥₁ },
 }

@@ -4,8 +4,14 @@ use Rattle.std.proofs.lemmas.Iterator.{YieldsList-from_slice}
 use Rattle.std.proofs.lemmas.Iterator.Search.{find_from_yields_List}
 use Rattle.date_texts.specs.Calendars.{all_targets}
 use Rattle.date_texts.specs.Trimmed.{trimmed}
-use Rattle.date_texts.proofs.TargetNames.{has_name, named_by_search, compared}
+use Rattle.date_texts.proofs.TargetNames.{has_name, named_as_spelled, named_by_search, compared}
 use Rattle.date_texts.proofs.names.target_named.Goals as goal
+
+pub returns-in-Some : goal.returns-in-Some
+returns-in-Some c =
+    λ target. named_as_spelled c.in-Some.target c.trimmed-name.result.now c.args.text.now target
+    (c.target_spelled.ensures c.in-Some.target c.in-Some.is)
+    (c.trimmed-name.ensures ∙ ap trimmed c.as_bytes.ensures.value)
 
 pub returns : goal.returns
 returns c =

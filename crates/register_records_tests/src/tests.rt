@@ -1,11 +1,11 @@
 // The tables that are wanted are worked by hand from the calendars' rules and from published day numbers.
 
+use arrayvec::ArrayString;
+use date_texts::{Calendar, Refusal, Target};
 use register_records::{
     Body, Cause, Entry, EntryFault, Form, Note, Output, PlainOutput, Row, RowFault, RowWriter,
     Setup, SourceEnd, convert, convert_source,
 };
-use arrayvec::ArrayString;
-use date_texts::{Calendar, Refusal, Target};
 use std::alloc::Global;
 use std::io;
 use std::io::{ErrorKind, Read, Write};

@@ -1,8 +1,8 @@
 // The tables that are wanted are worked by hand from the calendars' rules.
 
-use register_run::{Report, RunFaultKind, Verdict, run};
 use date_texts::{Calendar, Target};
 use register_records::{Form, Output, PlainOutput, Setup, SourceEnd};
+use register_run::{Report, RunFaultKind, Verdict, run};
 use std::alloc::{AllocError, Global};
 use std::process::Abort;
 use std::sync::Wait;

@@ -2,13 +2,13 @@
 // 1970-01-01, and R.D. 577736, a Friday, is 1582-10-05 of the Julian calendar.
 
 use super::cause_of;
+use arrayvec::ArrayString;
+use date_texts::Target;
 use register_records::faults::{Chunks, Sink};
 use register_records::{
     Body, Entry, EntryFault, EntryReader, Form, Output, PlainOutput, RowFault, RowWriter, Setup,
     SetupFault, SourceEnd, convert, convert_source,
 };
-use arrayvec::ArrayString;
-use date_texts::Target;
 use std::alloc::{AllocError, Global};
 use std::io;
 use std::io::{ErrorKind, Write};

@@ -2,9 +2,9 @@
 
 use super::faults::READ_AFTER_CHUNK;
 use super::{GREGORIAN, bytes_of, cause_of, converted};
+use date_texts::Target;
 use register_records::faults::Chunks;
 use register_records::{Form, PlainOutput, Setup, SourceEnd, convert_source};
-use date_texts::Target;
 use std::alloc::Global;
 use std::io;
 use std::io::{Read, Write};

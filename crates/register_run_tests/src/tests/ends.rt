@@ -275,7 +275,7 @@ fn count_over_lanes(
     Ok(count)
 }
 
-// The item may come after a look at the ring that was in vain, and the sender leave before the look at it.
+// The item may come after a look at the ring, and the sender leave before the look at the sender.
 #[test]
 fn an_item_that_was_sent_just_before_its_end_is_seen(rt: HostRuntime) -> Result<(), Fail> {
     for _ in 0..5 {

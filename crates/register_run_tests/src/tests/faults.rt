@@ -1,9 +1,9 @@
 // Sources and outputs that fail at each place in turn, and memory that is refused, beside sources that do not fail.
 
 use super::{WHOLE_TEXT, cause_of, is_complete, table_of, text_of};
-use register_run::{Report, RunFault, RunFaultKind, run};
 use register_records::faults::{Chunks, Sink};
 use register_records::{Form, Output, PlainOutput, Setup, SetupFault};
+use register_run::{Report, RunFault, RunFaultKind, run};
 use std::alloc::{AllocError, Global};
 use std::io;
 use std::io::{ErrorKind, Read, Write};

@@ -2,8 +2,8 @@
 // them looks only so often: where what it waits for does not come, it fails.
 
 use super::{RECORD, WHOLE_TEXT, is_complete, outputs_of, text_of};
-use register_run::{Gate, run, run_gated};
 use register_records::{Form, PlainOutput, Setup};
+use register_run::{Gate, run, run_gated};
 use std::alloc::{AllocError, Global};
 use std::io::{ErrorKind, Read, Write};
 use std::sync::Wait;

@@ -2,9 +2,9 @@
 
 use super::faults::plain_setup;
 use super::{HEADING, RECORD, cause_of};
-use register_run::run;
 use register_records::faults::{Chunks, Sink};
 use register_records::{PlainOutput, Setup, SourceEnd, convert_source};
+use register_run::run;
 use std::alloc::{AllocError, Global};
 use std::io;
 use std::io::{Read, Write};

@@ -2,8 +2,8 @@
 
 use super::faults::plain_setup;
 use super::hostile::Counter;
-use register_run::run;
 use register_records::{PlainOutput, SourceEnd, convert_source};
+use register_run::run;
 use std::alloc::Global;
 use std::io;
 use std::io::Read;

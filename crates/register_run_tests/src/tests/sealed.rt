@@ -2,9 +2,9 @@
 // hand from the calendars' rules: 5 October 1582 in the Julian calendar is day 577736, a Friday.
 
 use super::{GREGORIAN, cause_of, outputs_of};
-use register_run::{Report, run};
 use date_texts::Refusal;
 use register_records::{Form, Note, PlainOutput, Setup, SourceEnd};
+use register_run::{Report, run};
 use std::alloc::{AllocError, Global};
 use std::io;
 use std::io::{ErrorKind, Read};

@@ -32,6 +32,3 @@ pub use refusal::Refusal;
 pub use solar_calendars::{RomanDate, RomanName};
 pub use trim::trimmed;
 pub use write::write_date;
-
-#[cfg(test)]
-mod tests;

@@ -16,6 +16,3 @@ mod ymd;
 pub use calendar::{ArithmeticCalendar, DateFault};
 pub use day::{Day, Weekday};
 pub use ymd::Ymd;
-
-#[cfg(test)]
-mod tests;

@@ -9,6 +9,3 @@ mod islamic;
 
 pub use hebrew::{Hebrew, hebrew_new_year, hebrew_year_length};
 pub use islamic::Islamic;
-
-#[cfg(test)]
-mod tests;

@@ -17,6 +17,3 @@ pub use haab::{Haab, haab_on};
 pub use long_count::LongCount;
 pub use long_days::{long_day_of, long_on};
 pub use tzolkin::{Tzolkin, tzolkin_on};
-
-#[cfg(test)]
-mod tests;

@@ -31,6 +31,3 @@ pub use iso_week::IsoWeek;
 pub use julian::Julian;
 pub use roman::{roman_day_of, roman_on};
 pub use roman_date::{RomanDate, RomanName};
-
-#[cfg(test)]
-mod tests;

@@ -1,8 +1,8 @@
 //! Roman dates of known days, and a walk through four centuries that counts the names by hand.
 
-use crate::RomanName::{Ides, Kalends, Nones, SecondSixth};
-use crate::{RomanDate, RomanName, roman_day_of, roman_on};
 use day_numbers::{DateFault, Day};
+use solar_calendars::RomanName::{Ides, Kalends, Nones, SecondSixth};
+use solar_calendars::{RomanDate, RomanName, roman_day_of, roman_on};
 use std::process::Abort;
 use std::test::Fail;
 

@@ -3,8 +3,8 @@
 //! time.
 
 use super::check;
-use crate::*;
 use day_numbers::{ArithmeticCalendar, DateFault, Ymd};
+use solar_calendars::{Armenian, Coptic, Egyptian, Ethiopic, French, Gregorian, IsoWeek, Julian};
 use std::process::Abort;
 use std::test::Fail;
 

@@ -1,4 +1,4 @@
-use crate::*;
+use day_numbers::{DateFault, Day, Weekday, Ymd};
 use std::test::Fail;
 
 #[test]

@@ -4,7 +4,10 @@
 //! the fixed day number of that date, or why the date has none: `none` where the calendar has no such date, and `out`
 //! where its day is out of range.
 
-use crate::*;
+use date_texts::{
+    Calendar, CivilDate, Date, LongCount, MAX_TARGETS, Refusal, RomanDate, RomanName, Target,
+    calendar_named, cell, day_of_date, read_date, target_named, write_date,
+};
 use day_numbers::{Day, Ymd};
 use std::process::Abort;
 use std::test::Fail;

@@ -1,5 +1,5 @@
-use crate::*;
 use day_numbers::{ArithmeticCalendar, DateFault, Day, Ymd};
+use lunar_calendars::{Hebrew, Islamic, hebrew_new_year, hebrew_year_length};
 use std::process::Abort;
 use std::test::Fail;
 

@@ -1,5 +1,5 @@
-use crate::*;
 use day_numbers::{DateFault, Day};
+use maya_calendars::{LongCount, haab_on, long_day_of, long_on, tzolkin_on};
 use std::test::Fail;
 
 /// The fixed day number of 0.0.0.0.0.

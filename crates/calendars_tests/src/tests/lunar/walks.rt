@@ -4,8 +4,8 @@
 // Tuesday from 9 hours 204 parts on; a Monday from 15 hours 589 parts on after a leap year); for Islamic years it adds
 // the years up.
 
-use crate::*;
 use day_numbers::{ArithmeticCalendar, DateFault, Day, Ymd};
+use lunar_calendars::{Hebrew, Islamic};
 use std::process::Abort;
 use std::test::Fail;
 

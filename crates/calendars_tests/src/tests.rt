@@ -1,0 +1,4 @@
+mod days;
+mod lunar;
+mod maya;
+mod solar;

@@ -1,7 +1,7 @@
 -- From the sources that have ended, each by itself, to the lists of a report.
 use Rattle.std.proofs.Common.{◌≡◌, ◌∙◌, ap, refl, sym, subst, ℕ, zero, suc, List, [], ◌∷◌, ◌++◌, Option, Some, None}
 use Rattle.std.proofs.Common.{map, length, append_assoc, append-nil, arith, true, false, Bool}
-use Rattle.std.specs.Prelude.{◌↔◌, All, IfSome}
+use Rattle.std.specs.Prelude.{◌↔◌, All, Err, IfOk, IfSome, Ok, Result}
 use Rattle.std.proofs.lemmas.List.{map-append}
 use Rattle.std.proofs.Math.Logic.{∥∥₁_elim, ∥∥₁_map}
 use Rattle.std.proofs.Props.{props}
@@ -24,7 +24,7 @@ use Rattle.register_run.specs.declared.stations.Station.{Station}
 use Rattle.register_run.specs.Cases.{Case, case, cases, end_of, ended_case, output_of}
 use Rattle.register_run.specs.Headline.{AreRowsInOrder, AtEachPlace, IsSettled}
 use Rattle.register_run.specs.Passages.{is_of_reading}
-use Rattle.register_run.specs.Reports.{IsReport}
+use Rattle.register_run.specs.Reports.{IsReport, OfEachSource}
 use Rattle.register_run.specs.Stations.{case_of}
 
 module _ {R W : Type 0} {o : outputs.Ghosts W} where
@@ -201,3 +201,17 @@ module _ {R W : Type 0} {r : reads.Ghosts R} {o : outputs.Ghosts W} where
         marks = ap (map o.own_mark) wrote ∙ marks_kept setup all sources given len is;
         lengths = (ap length wrote ∙ lens.0, ap length ends ∙ lens.1);
       }
+
+-- what follows for each source from what a report says of it
+module _ {R W : Type 0} {remaining : R → Option (List ℕ)} {contents : W → Option (List ℕ)}
+    {has_failed is_flushed : W → Bool} {layout : Layout} where
+  pub of_each : {E : Type 0} (answer : Result (Report W) E) (own_mark : W → ℕ) (sources : List R) (given : List W)
+      → IfOk answer (λ r. IsReport remaining contents has_failed is_flushed own_mark layout sources given r)
+      → (Holds : R → W → W → SourceEnd → Type 0)
+      → ((source : R) (before after : W) (e : SourceEnd)
+      → ∥ IsSettled contents has_failed is_flushed layout (remaining source) before after e ∥₁
+      → (e ≡ end.Broken cause.BadHeader → after ≡ before) → Holds source before after e)
+      → IfOk answer (λ r. OfEachSource sources given r Holds)
+  of_each (Ok r) own_mark sources given report Holds so = λ i s b a e p q k t.
+      let known = report.places i s b a e p q k t in so s b a e known.0 known.1
+  of_each (Err e) own_mark sources given report Holds so = tt

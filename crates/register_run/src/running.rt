@@ -259,7 +259,7 @@ fn run_in_scope<T: Threads + Wait + Sync, R: Read + Send + Drop, W: Output + Dro
 /// Converts many sources at once: each source is read on a thread of its own and converted on further ones, and this
 /// thread writes the tables, that of each source to the output at its place. `setup` says for which targets, with which
 /// delimiter, in which form, and with how many converters and how large rings for each source. Before the row of an
-/// entry is sent, its converter passes `gate`.
+/// entry is sent, its converter passes `gate`. What is promised is the same for every gate, and what [`run`] promises.
 ///
 /// A source ends `Whole` where its table was written, and else `Broken` with the lowest of the causes that were met.
 /// The faults of one source leave the others alone.
@@ -277,47 +277,7 @@ pub fn run_gated<T: Threads + Wait + Sync, R: Read + Send + Drop, W: Output + Dr
     setup: &Setup,
     gate: &G,
 ) -> Result<Report<W>, RunFault<R, W>>
-    // The headline. A source that is whole has its table in its output: the output there has gained exactly the table
-    // of the source's text, and nothing else.
-    ensures whole { IfOk result (λ r. OfEachSource sources.items outputs.items r (λ source given written end.
-        IfWhole end (λ rows refused journal. ∥ Gains (W.contents given) (W.contents written)
-        (IsWholeTable (layout_of setup.now) (R.remaining source) rows refused journal) ∥₁))) }
-    ensures handed_on { IfOk result (λ r. OfEachSource sources.items outputs.items r (λ source given written end.
-        IfWhole end (λ rows refused journal. W.is_flushed written ≡ true))) }
-    ensures verdict { IfOk result (λ r. (r.verdict ≡ Verdict.Complete)
-        ↔ All (λ e. is_whole_end e ≡ true) r.ends.items) }
-    ensures marks { IfOk result (λ r. map W.own_mark r.outputs.items ≡ map W.own_mark outputs.items) }
-    ensures lengths { IfOk result (λ r. (vec_len r.outputs ≡ vec_len outputs) × (vec_len r.ends ≡ vec_len sources)) }
-
-    // A source that is broken for a cause of reading leaves a front of its table, or nothing.
-    ensures part { IfOk result (λ r. OfEachSource sources.items outputs.items r (λ source given written end.
-        IfBroken end (λ c. is_of_reading c ≡ true → ∥ Gains (W.contents given) (W.contents written)
-        (ArePartOfTable (layout_of setup.now) (R.remaining source)) ∥₁))) }
-    ensures bad_header { IfOk result (λ r. OfEachSource sources.items outputs.items r (λ source given written end.
-        IfBroken end (λ c. c ≡ Cause.BadHeader → (written ≡ given)
-        × IfSome (R.remaining source) (λ text. HasNoHeader (format_of setup.now) text)))) }
-    ensures too_many_records { IfOk result (λ r. OfEachSource sources.items outputs.items r (λ source given written end.
-        IfBroken end (λ c. c ≡ Cause.TooManyRecords
-        → ∥ IfSome (R.remaining source) (λ text. HasTooMany (format_of setup.now) text) ∥₁))) }
-    ensures not_sealed { IfOk result (λ r. OfEachSource sources.items outputs.items r (λ source given written end.
-        IfBroken end (λ c. c ≡ Cause.NotSealed → (form_of setup.now ≡ Form.Sealed)
-        × ∥ IfSome (R.remaining source) (λ text. IsNotSealed (format_of setup.now) text) ∥₁))) }
-
-    // Whatever the cause, an output that has not failed has gained rows in the order of their numbers, from 1.
-    ensures in_order { IfOk result (λ r. OfEachSource sources.items outputs.items r (λ source given written end.
-        IfBroken end (λ c. W.has_failed written ≡ false → ∥ Gains (W.contents given) (W.contents written)
-        (AreRowsInOrder (layout_of setup.now)) ∥₁))) }
-
-    // An output is the cause only where it has failed, and it has failed no more than before with a whole source and
-    // with the causes of reading.
-    ensures sink { IfOk result (λ r. OfEachSource sources.items outputs.items r (λ source given written end.
-        IfBroken end (λ c. c ≡ Cause.SinkFault → W.has_failed written ≡ true))) }
-    ensures kept { IfOk result (λ r. OfEachSource sources.items outputs.items r (λ source given written end.
-        IfBroken end (λ c. is_of_reading c ≡ true → W.has_failed written ≡ W.has_failed given))) }
-    ensures good { IfOk result (λ r. OfEachSource sources.items outputs.items r (λ source given written end.
-        IfWhole end (λ rows refused journal. W.has_failed written ≡ W.has_failed given))) }
-
-    // All of this in one word, for a caller that hands it on.
+    // The headline in one word: what the clauses of `run` say one by one.
     ensures report { IfOk result (λ r.
         IsReport R.remaining W.contents W.has_failed W.is_flushed W.own_mark
         (layout_of setup.now) sources.items outputs.items r) }
@@ -342,7 +302,8 @@ pub fn run_gated<T: Threads + Wait + Sync, R: Read + Send + Drop, W: Output + Dr
     Ok(run_in_scope(rt, gate, alloc, setup, sources, outputs, lists))
 }
 
-/// Converts many sources at once, as [`run_gated`] does with the gate [`Open`].
+/// Converts many sources at once, as [`run_gated`] does with the gate [`Open`]. The clauses say what its report says, one
+/// by one.
 ///
 /// # Errors
 ///

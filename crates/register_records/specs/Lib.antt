@@ -13,6 +13,7 @@ pub mod SetupRules
 pub mod Outputs
 pub mod Views
 pub mod Laws
+pub mod LineRoom
 pub mod LineViews
 pub mod ReadingState
 pub mod Retrying

@@ -3,19 +3,24 @@
 //! The writer of `csv` is made anew for each record and moves a buffer of 8 KiB several times, which
 //! costs more than all else in a row. A line by hand into memory that is used again takes a twentieth.
 
-ghost use Rattle.std.specs.Prelude.{◌≡◌, ◌≤◌, ◌++◌, ◌∷◌, [], ℕ, List, true, false, length, IfOk, OnOk};
+ghost use Rattle.std.specs.Prelude.{◌≡◌, ◌≤◌, ◌+◌, ◌++◌, ◌∷◌, [], ℕ, List, true, false, length, IfOk, IsOk, OnOk};
+ghost use Rattle.std.specs.Prelude.{vec_capacity, vec_len};
 ghost use Rattle.csv.specs.Writing as Spec;
+ghost use Rattle.date_texts.specs.declared.cells.TheConstants.{MAX_CELL};
 ghost use Rattle.register_records.specs.CellTexts.{cell_bytes};
+ghost use Rattle.register_records.specs.LineRoom.{field_room};
 ghost use Rattle.register_records.specs.Lines.{line_text, writing};
 ghost use Rattle.register_records.specs.SetupRules.{is_delimiter};
+ghost use Rattle.register_records.specs.declared.lines.TheConstants.{LINE_ROOM};
 
 use crate::cell_texts::CellText;
 use std::alloc::{AllocError, Global};
 
 const QUOTE: u8 = b'"';
 
-/// Room for the longest line: the three texts quoted with a quote in each place, the cells and the rest.
-pub(crate) const LINE_ROOM: usize = 1024;
+/// Room for the longest line of a row, which has no more bytes than this: the texts quoted with a quote in each place,
+/// the cells and the rest.
+pub const LINE_ROOM: usize = 1024;
 
 /// A line while its fields are appended, in memory that serves again for the next line.
 #[derive(Drop)]
@@ -23,6 +28,7 @@ pub(crate) struct Line {
     bytes: Vec<u8>,
     delimiter: u8,
     ghost separated: { is_delimiter delimiter ≡ true },
+    ghost roomy: { LINE_ROOM ≤ vec_capacity bytes },
 }
 
 /// Whether a field with this byte must be quoted.
@@ -41,7 +47,10 @@ fn needs_quotes(delimiter: u8, field: &[u8]) -> bool
 
 /// Appends a byte of a quoted field: a quote is doubled.
 fn push_escaped(line: &mut Vec<u8>, delimiter: u8, b: u8) -> Result<(), AllocError>
-    ensures { OnOk result (line.new.items ≡ line.old.items ++ Spec.escaped (writing delimiter) (b ∷ [])) }
+    ensures value { OnOk result (line.new.items ≡ line.old.items ++ Spec.escaped (writing delimiter) (b ∷ [])) }
+    ensures room { vec_len line.old + 2 ≤ vec_capacity line.old → IsOk result }
+    ensures grows { OnOk result (vec_len line.new ≤ vec_len line.old + 2) }
+    ensures capacity { vec_capacity line.old ≤ vec_capacity line.new }
 {
     if b == QUOTE {
         line.push(QUOTE)?;
@@ -54,7 +63,10 @@ fn push_escaped(line: &mut Vec<u8>, delimiter: u8, b: u8) -> Result<(), AllocErr
 
 /// Appends a field between quotes.
 fn push_quoted(line: &mut Vec<u8>, delimiter: u8, field: &[u8]) -> Result<(), AllocError>
-    ensures { OnOk result (line.new.items ≡ line.old.items ++ Spec.quoted (writing delimiter) field.now) }
+    ensures value { OnOk result (line.new.items ≡ line.old.items ++ Spec.quoted (writing delimiter) field.now) }
+    ensures room { vec_len line.old + field_room (length field.now) ≤ vec_capacity line.old → IsOk result }
+    ensures grows { OnOk result (vec_len line.new ≤ vec_len line.old + field_room (length field.now)) }
+    ensures capacity { vec_capacity line.old ≤ vec_capacity line.new }
 {
     line.push(QUOTE)?;
     'bytes: for i in 0..field.len() {
@@ -66,7 +78,10 @@ fn push_quoted(line: &mut Vec<u8>, delimiter: u8, field: &[u8]) -> Result<(), Al
 
 /// Appends a field, quoted where it must be.
 fn push_field(line: &mut Vec<u8>, delimiter: u8, field: &[u8]) -> Result<(), AllocError>
-    ensures { OnOk result (line.new.items ≡ line.old.items ++ Spec.field_text (writing delimiter) field.now) }
+    ensures value { OnOk result (line.new.items ≡ line.old.items ++ Spec.field_text (writing delimiter) field.now) }
+    ensures room { vec_len line.old + field_room (length field.now) ≤ vec_capacity line.old → IsOk result }
+    ensures grows { OnOk result (vec_len line.new ≤ vec_len line.old + field_room (length field.now)) }
+    ensures capacity { vec_capacity line.old ≤ vec_capacity line.new }
 {
     if needs_quotes(delimiter, field) {
         push_quoted(line, delimiter, field)?;
@@ -77,7 +92,7 @@ fn push_field(line: &mut Vec<u8>, delimiter: u8, field: &[u8]) -> Result<(), All
 }
 
 impl Line {
-    ghost use Rattle.register_records.specs.LineViews.{Begins, line_bytes, line_delimiter};
+    ghost use Rattle.register_records.specs.LineViews.{Begins, line_bytes, line_delimiter, line_len};
 
     /// A line of no field, whose fields this delimiter will separate.
     pub fn new(alloc: Global, delimiter: u8) -> Result<Line, AllocError>
@@ -108,6 +123,8 @@ impl Line {
         requires { Spec.needs_quotes (writing (line_delimiter self.old)) field.now ≡ false }
         ensures value { OnOk result (Begins (field.now ∷ []) self.new) }
         ensures kept { line_delimiter self.new ≡ line_delimiter self.old }
+        ensures room { length field.now ≤ LINE_ROOM → IsOk result }
+        ensures grows { OnOk result (line_len self.new ≤ length field.now) }
     {
         self.bytes.clear();
         self.bytes.extend_from_slice(field)?;
@@ -119,6 +136,8 @@ impl Line {
         requires { Spec.needs_quotes (writing (line_delimiter self.old)) field.now ≡ false }
         ensures value { (fields : List (List ℕ)) → 1 ≤ length fields → Begins fields self.old → OnOk result (Begins (fields ++ field.now ∷ []) self.new) }
         ensures kept { line_delimiter self.new ≡ line_delimiter self.old }
+        ensures room { line_len self.old + (1 + length field.now) ≤ LINE_ROOM → IsOk result }
+        ensures grows { OnOk result (line_len self.new ≤ line_len self.old + (1 + length field.now)) }
     {
         self.bytes.push(self.delimiter)?;
         self.bytes.extend_from_slice(field)?;
@@ -129,6 +148,8 @@ impl Line {
     pub fn push(&mut self, field: &[u8]) -> Result<(), AllocError>
         ensures value { (fields : List (List ℕ)) → 1 ≤ length fields → Begins fields self.old → OnOk result (Begins (fields ++ field.now ∷ []) self.new) }
         ensures kept { line_delimiter self.new ≡ line_delimiter self.old }
+        ensures room { line_len self.old + (1 + field_room (length field.now)) ≤ LINE_ROOM → IsOk result }
+        ensures grows { OnOk result (line_len self.new ≤ line_len self.old + (1 + field_room (length field.now))) }
     {
         self.bytes.push(self.delimiter)?;
         push_field(&mut self.bytes, self.delimiter, field)?;
@@ -142,6 +163,8 @@ impl Line {
         ensures value { (fields : List (List ℕ)) → 1 ≤ length fields → Begins fields self.old
             → OnOk result (Begins (fields ++ cell_bytes cell.now ∷ []) self.new) }
         ensures kept { line_delimiter self.new ≡ line_delimiter self.old }
+        ensures room { line_len self.old + (1 + MAX_CELL) ≤ LINE_ROOM → IsOk result }
+        ensures grows { OnOk result (line_len self.new ≤ line_len self.old + (1 + MAX_CELL)) }
     {
         self.bytes.push(self.delimiter)?;
         let end = self.bytes.len() + cell.len();
@@ -155,6 +178,8 @@ impl Line {
         ensures value { (fields : List (List ℕ)) → 2 ≤ length fields → Begins fields self.old
             → OnOk result (line_bytes self.new ≡ line_text (line_delimiter self.old) fields) }
         ensures kept { line_delimiter self.new ≡ line_delimiter self.old }
+        ensures room { line_len self.old + 1 ≤ LINE_ROOM → IsOk result }
+        ensures grows { OnOk result (line_len self.new ≤ line_len self.old + 1) }
     {
         self.bytes.push(b'\n')?;
         Ok(())

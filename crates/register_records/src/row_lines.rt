@@ -1,12 +1,16 @@
 //! The lines of a table: its heading and its rows.
 
-ghost use Rattle.std.specs.Prelude.{◌≡◌, ◌≤◌, ◌∷◌, ◌++◌, [], ℕ, List, length, OnOk, Ok, Err};
+ghost use Rattle.std.specs.Prelude.{◌≡◌, ◌≤◌, ◌+◌, ◌∷◌, ◌++◌, [], ℕ, List, length, IsOk, OnOk, Ok, Err};
 ghost use Rattle.register_records.specs.Entries.{body_seen};
-ghost use Rattle.register_records.specs.LineViews.{Begins, line_bytes, line_delimiter};
+ghost use Rattle.register_records.specs.LineRoom.{entry_room, field_room};
+ghost use Rattle.register_records.specs.LineViews.{Begins, line_bytes, line_delimiter, line_len};
 ghost use Rattle.register_records.specs.Lines.{line_text};
 ghost use Rattle.register_records.specs.Tables.{entry_fields, entry_heading, heading, note_fields, row_fields};
 ghost use Rattle.register_records.specs.Tables.{text_fields};
 ghost use Rattle.register_records.specs.Views.{row_outcome, row_seen, row_targets};
+ghost use Rattle.register_records.specs.declared.entries.TheConstants.{CALENDAR_LIMIT, DATE_LIMIT, ID_LIMIT};
+ghost use Rattle.register_records.specs.declared.entries.TheConstants.{NOTE_LIMIT};
+ghost use Rattle.register_records.specs.declared.lines.TheConstants.{LINE_ROOM};
 
 use crate::entries::Body;
 use crate::lines::Line;
@@ -20,8 +24,10 @@ use std::alloc::AllocError;
 
 /// The texts of a body, which are empty where it was refused.
 fn texts_of(body: &Body) -> (&str, &str, &str, &str)
-    ensures { (form : Form) → text_fields form (body_seen body.now)
+    ensures value { (form : Form) → text_fields form (body_seen body.now)
         ≡ result.0.now ∷ result.1.now ∷ result.2.now ∷ note_fields form result.3.now }
+    ensures short { (length result.0.now ≤ ID_LIMIT) × (length result.1.now ≤ CALENDAR_LIMIT)
+        × (length result.2.now ≤ DATE_LIMIT) × (length result.3.now ≤ NOTE_LIMIT) }
 {
     match body {
         Body::Fields {
@@ -39,6 +45,8 @@ fn push_note(line: &mut Line, form: Form, note: &[u8]) -> Result<(), AllocError>
     ensures value { (fields : List (List ℕ)) → 1 ≤ length fields → Begins fields line.old
         → OnOk result (Begins (fields ++ note_fields form note.now) line.new) }
     ensures kept { line_delimiter line.new ≡ line_delimiter line.old }
+    ensures room { line_len line.old + (1 + field_room (length note.now)) ≤ LINE_ROOM → IsOk result }
+    ensures grows { OnOk result (line_len line.new ≤ line_len line.old + (1 + field_room (length note.now))) }
 {
     match form {
         Form::Plain => Ok(()),
@@ -83,6 +91,8 @@ pub(crate) fn make_heading(
 fn begin_line(line: &mut Line, form: Form, row: &Row) -> Result<(), AllocError>
     ensures value { OnOk result (Begins (entry_fields form (row_seen row.now)) line.new) }
     ensures kept { line_delimiter line.new ≡ line_delimiter line.old }
+    ensures room { IsOk result }
+    ensures short { line_len line.new ≤ entry_room }
 {
     let (id, calendar, date, note) = texts_of(row.entry().body());
     line.start(Buffer::new().format(row.entry().number()).as_bytes())?;
@@ -99,6 +109,8 @@ fn make_accepted(line: &mut Line, form: Form, row: &Row, day: Day) -> Result<(),
     ensures value { OnOk result (line_bytes line.new ≡ line_text (line_delimiter line.old)
         (row_fields form (row_targets row.now) (row_seen row.now))) }
     ensures kept { line_delimiter line.new ≡ line_delimiter line.old }
+    ensures room { IsOk result }
+    ensures short { line_len line.new ≤ LINE_ROOM }
 {
     begin_line(line, form, row)?;
     line.push_plain(Buffer::new().format(day.number()).as_bytes())?;
@@ -118,6 +130,8 @@ fn make_refused(line: &mut Line, form: Form, row: &Row, refusal: Refusal) -> Res
     ensures value { OnOk result (line_bytes line.new ≡ line_text (line_delimiter line.old)
         (row_fields form (row_targets row.now) (row_seen row.now))) }
     ensures kept { line_delimiter line.new ≡ line_delimiter line.old }
+    ensures room { IsOk result }
+    ensures short { line_len line.new ≤ LINE_ROOM }
 {
     begin_line(line, form, row)?;
     line.push_plain(b"")?;
@@ -135,6 +149,8 @@ pub(crate) fn make_row(line: &mut Line, form: Form, row: &Row) -> Result<(), All
     ensures value { OnOk result (line_bytes line.new ≡ line_text (line_delimiter line.old)
         (row_fields form (row_targets row.now) (row_seen row.now))) }
     ensures kept { line_delimiter line.new ≡ line_delimiter line.old }
+    ensures room { IsOk result }
+    ensures short { line_len line.new ≤ LINE_ROOM }
 {
     match row.outcome() {
         Ok(day) => make_accepted(line, form, row, day),

@@ -1,8 +1,10 @@
 //! Rows as lines, each completed before its first byte goes out.
 
-ghost use Rattle.std.specs.Prelude.{◌≡◌, ◌++◌, [], true, false, length, OnOk, OnErr, IfOk, IfErr, Ok, Err};
-ghost use Rattle.std.specs.Prelude.{if◌then◌else◌};
+ghost use Rattle.std.specs.Prelude.{◌≡◌, ◌≤◌, ◌+◌, ◌++◌, [], true, false, length, OnOk, OnErr, IfOk, IfErr, Ok, Err};
+ghost use Rattle.std.specs.Prelude.{if◌then◌else◌, vec_capacity};
 ghost use Rattle.std.specs.Io.KnownBytes.{Appends};
+ghost use Rattle.register_records.specs.declared.lines.TheConstants.{LINE_ROOM};
+ghost use Rattle.register_records.specs.declared.writing.TheConstants.{MOST_WAITING, ROOM};
 
 use crate::lines::{LINE_ROOM, Line};
 use crate::outputs::{Output, send};
@@ -26,8 +28,11 @@ pub enum RowFault {
     Failed,
 }
 
+/// Where no more bytes of lines wait, one more line takes no memory.
+pub const MOST_WAITING: usize = 16 * 1024;
+
 /// How many bytes of lines may wait before more memory is taken for them.
-const ROOM: usize = 16 * 1024 + LINE_ROOM;
+const ROOM: usize = MOST_WAITING + LINE_ROOM;
 
 /// Writes rows to an output that is lent to each call. Lines may wait until they are sent together.
 #[derive(Drop)]
@@ -41,6 +46,7 @@ pub struct RowWriter {
     // The output failed.
     sunk: bool,
     ghost sinks: { failed ≡ false → sunk ≡ false },
+    ghost roomy: { ROOM ≤ vec_capacity pending },
 }
 
 impl RowWriter {
@@ -94,22 +100,23 @@ impl RowWriter {
     /// Makes the line of a row.
     fn complete(&mut self, row: &Row) -> Result<(), RowFault>
         ensures line { OnOk result (line_bytes self.new.line ≡ line_of self.old row.now) }
+        ensures short { OnOk result (length (line_bytes self.new.line) ≤ LINE_ROOM) }
         ensures pending { self.new.pending ≡ self.old.pending }
         ensures by { writes_by self.new ≡ writes_by self.old }
         ensures sunk { has_sunk self.new ≡ has_sunk self.old }
         ensures goes { OnOk result ((writing_failed self.old ≡ false) × (writing_failed self.new ≡ false)) }
         ensures fails { OnErr result (writing_failed self.new ≡ true) }
         ensures told { IfErr result (λ e. e ≡ RowFault.WriteFault → ⊥) }
+        ensures roomy { IfErr result (λ e. e ≡ RowFault.OutOfMemory → ⊥) }
         ensures only_failed { writing_failed self.old ≡ false → IfErr result (λ e. e ≡ RowFault.Failed → ⊥) }
         ensures failed { writing_failed self.old ≡ true → (result ≡ Err RowFault.Failed) × (self.new ≡ self.old) }
     {
         if self.failed {
             return Err(RowFault::Failed);
         }
-        if make_row(&mut self.line, self.form, row).is_err() {
-            self.failed = true;
-            return Err(RowFault::OutOfMemory);
-        }
+        let Ok(()) = make_row(&mut self.line, self.form, row) else {
+            unreachable!();
+        };
         Ok(())
     }
 
@@ -117,15 +124,19 @@ impl RowWriter {
     ///
     /// # Errors
     ///
-    /// `OutOfMemory`, and `Failed` after a fault; then the same lines wait as before.
+    /// `OutOfMemory`, which never comes where at most `MOST_WAITING` bytes of lines wait, and `Failed` after a fault;
+    /// then the same lines wait as before.
     pub fn add(&mut self, row: &Row) -> Result<(), RowFault>
         ensures ok { OnOk result (pending_of self.new ≡ pending_of self.old ++ line_of self.old row.now) }
+        ensures short { OnOk result (length (pending_of self.new) ≤ length (pending_of self.old) + LINE_ROOM) }
         ensures kept { OnErr result (pending_of self.new ≡ pending_of self.old) }
         ensures by { writes_by self.new ≡ writes_by self.old }
         ensures sunk { has_sunk self.new ≡ has_sunk self.old }
         ensures goes { OnOk result ((writing_failed self.old ≡ false) × (writing_failed self.new ≡ false)) }
         ensures fails { OnErr result (writing_failed self.new ≡ true) }
         ensures told { IfErr result (λ e. e ≡ RowFault.WriteFault → ⊥) }
+        ensures roomy { length (pending_of self.old) ≤ MOST_WAITING
+            → IfErr result (λ e. e ≡ RowFault.OutOfMemory → ⊥) }
         ensures only_failed { writing_failed self.old ≡ false → IfErr result (λ e. e ≡ RowFault.Failed → ⊥) }
         ensures failed { writing_failed self.old ≡ true → (result ≡ Err RowFault.Failed) × (self.new ≡ self.old) }
     {
@@ -185,8 +196,8 @@ impl RowWriter {
     ///
     /// # Errors
     ///
-    /// `OutOfMemory`, with the output as it was; `WriteFault` where the output has failed; and `Failed`
-    /// after a fault: then nothing is written.
+    /// `OutOfMemory`, with the output as it was, which never comes where at most `MOST_WAITING` bytes of lines wait;
+    /// `WriteFault` where the output has failed; and `Failed` after a fault: then nothing is written.
     pub fn put<W: Output>(&mut self, output: &mut W, row: &Row) -> Result<(), RowFault>
         ensures ok { OnOk result (Appends (W.contents output.old) (W.contents output.new)
             (pending_of self.old ++ line_of self.old row.now)) }
@@ -197,6 +208,8 @@ impl RowWriter {
             × (writing_failed self.old ≡ false) × (writing_failed self.new ≡ false)) }
         ensures fails { OnErr result (writing_failed self.new ≡ true) }
         ensures memory { IfErr result (λ e. e ≡ RowFault.OutOfMemory → output.new ≡ output.old) }
+        ensures roomy { length (pending_of self.old) ≤ MOST_WAITING
+            → IfErr result (λ e. e ≡ RowFault.OutOfMemory → ⊥) }
         ensures fault { IfErr result (λ e. e ≡ RowFault.WriteFault → W.has_failed output.new ≡ true) }
         ensures only_failed { writing_failed self.old ≡ false → IfErr result (λ e. e ≡ RowFault.Failed → ⊥) }
         ensures failed { writing_failed self.old ≡ true

@@ -12,13 +12,10 @@ ghost use Rattle.register_run.specs.Passages.{is_of_reading};
 
 use crate::settling::{Settled, end_of_source};
 use register_records::laws::tables_grow;
-use register_records::{Cause, Note, Output, Row, RowFault, RowWriter, Setup};
+use register_records::{Cause, MOST_WAITING, Note, Output, Row, RowFault, RowWriter, Setup};
 use std::alloc::Global;
 use std::io::Read;
 use std::snapshot::Snapshot;
-
-/// How many bytes of lines wait at most before they are written, but for the last line.
-const MOST_WAITING: usize = 16 * 1024;
 
 /// An output and what was written to it: the heading, and the lines of the rows that were taken so far, of which some
 /// may wait to be written together.
@@ -76,7 +73,7 @@ impl<W: Output + Drop> Table<W> {
         }
     }
 
-    /// Whether so many lines wait that they are to be written.
+    /// Whether so many lines wait that they are to be written. Until then a row takes no memory for its line.
     pub(crate) fn is_full(&self) -> bool {
         match &self.writer {
             Some(writer) => writer.pending_len() >= MOST_WAITING,

@@ -6,8 +6,8 @@ use arrayvec::ArrayString;
 use date_texts::Target;
 use register_records::faults::{Chunks, Sink};
 use register_records::{
-    Body, Entry, EntryFault, EntryReader, Form, Output, PlainOutput, RowFault, RowWriter, Setup,
-    SetupFault, SourceEnd, convert, convert_source,
+    Body, Entry, EntryFault, EntryReader, Form, LINE_ROOM, MOST_WAITING, Output, PlainOutput,
+    RowFault, RowWriter, Setup, SetupFault, SourceEnd, convert, convert_source,
 };
 use std::alloc::{AllocError, Global};
 use std::io;
@@ -281,19 +281,19 @@ fn interrupted_writes_are_tried_again(rt: HostRuntime) -> Result<(), Fail> {
     Ok(())
 }
 
-/// A row of the last number, whose three fields have these bytes and whose day is that of the targets' cells.
-fn longest_row(
-    alloc: Global,
-    setup: &Setup,
-    [id, calendar, date]: [&str; 3],
-) -> Result<Sink, Fail> {
-    let fields = Body::Fields {
+/// The fields of a record that has no note.
+fn fields_of([id, calendar, date]: [&str; 3]) -> Result<Body, Fail> {
+    Ok(Body::Fields {
         id: ArrayString::from(id)?,
         calendar: ArrayString::from(calendar)?,
         date: ArrayString::from(date)?,
         note: ArrayString::new(),
-    };
-    let entry = Entry::new(1_000_000, fields).ok_or("no entry")?;
+    })
+}
+
+/// A row of the last number, whose three fields have these bytes and whose day is that of the targets' cells.
+fn longest_row(alloc: Global, setup: &Setup, fields: [&str; 3]) -> Result<Sink, Fail> {
+    let entry = Entry::new(1_000_000, fields_of(fields)?).ok_or("no entry")?;
     let mut sink = Sink::new(alloc, 7, ROOM, 0, 0, ROOM)?;
     let mut writer = RowWriter::open(alloc, &mut sink, setup)?;
     writer.put(&mut sink, &convert(entry, setup))?;
@@ -334,6 +334,31 @@ fn the_longest_fields_and_the_last_number_fit_a_row(rt: HostRuntime) -> Result<(
         "\n1000000,\"{id}{id}\",\"{calendar}{calendar}\",\"{date}{date}\",,,4\n"
     )?;
     assert!(rt; sink.bytes().ends_with(row.as_bytes()));
+    Ok(())
+}
+
+// It passes whichever allocation is refused: once a writer was opened, lines wait in memory that it has.
+#[test]
+fn lines_that_wait_take_no_memory(rt: HostRuntime) -> Result<(), Fail> {
+    let setup = Setup::new(&Target::ALL, 1, b',', 1, Form::Plain)?;
+    let entry = Entry::new(1_000_000, fields_of(LONG_FIELDS)?).ok_or("no entry")?;
+    let row = convert(entry, &setup);
+    let Ok(mut sink) = Sink::new(rt.alloc(), 7, ROOM, 0, 0, ROOM) else {
+        return Ok(());
+    };
+    let Ok(mut writer) = RowWriter::open(rt.alloc(), &mut sink, &setup) else {
+        return Ok(());
+    };
+    for _ in 0..MOST_WAITING {
+        let waiting = writer.pending_len();
+        if waiting > MOST_WAITING {
+            break;
+        }
+        assert!(rt; writer.add(&row).is_ok());
+        assert!(rt; writer.pending_len() > waiting && writer.pending_len() <= waiting + LINE_ROOM);
+    }
+    assert!(rt; writer.pending_len() > MOST_WAITING);
+    writer.end()?;
     Ok(())
 }
 

@@ -3,8 +3,8 @@ use Rattle.csv.proofs.WriteFacts.{escaped-double, escaped-other}
 use Rattle.register_records.specs.Lines.{writing}
 use Rattle.register_records.proofs.lines.push_escaped.Goals as goal
 
-pub returns-in_ok-push-2 : goal.returns-in_ok-push-2
-returns-in_ok-push-2 c =
+pub returns-in_ok-push-2-clause-value : goal.returns-in_ok-push-2-clause-value
+returns-in_ok-push-2-clause-value c =
     let quote : c.args.b ≡ 34 = search rules in
     rw (
       escaped-double (writing c.args.delimiter) c.args.b quote refl,
@@ -13,7 +13,7 @@ returns-in_ok-push-2 c =
       c.in_ok-push.ensures.items,
     ) (append_assoc c.args.line.now.items (34 ∷ []) (34 ∷ []))
 
-pub returns-in_ok-push-3 : goal.returns-in_ok-push-3
-returns-in_ok-push-3 c =
+pub returns-in_ok-push-3-clause-value : goal.returns-in_ok-push-3-clause-value
+returns-in_ok-push-3-clause-value c =
     let other : c.args.b ≢ 34 = search rules in
     rw (escaped-other (writing c.args.delimiter) c.args.b other) c.in_ok-push-3.ensures.items

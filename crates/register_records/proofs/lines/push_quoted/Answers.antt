@@ -6,10 +6,21 @@ use Rattle.register_records.proofs.lines.push_quoted.Goals as goal
 
 pub bytes-init : goal.bytes-init
 unfolding escaped
-bytes-init c = c.in_ok-push.ensures.items
+bytes-init c =
+    record {
+      escaped = c.in_ok-push.ensures.items;
+      grown = omega (arith, c.in_ok-push.ensures.len);
+      kept = c.in_ok-push.ensures.capacity;
+    }
 
 pub bytes-preserved : goal.bytes-preserved
 bytes-preserved c =
     let lt : c.bytes.i < length c.args.field.now = omega arith in
-    c.in_ok-push_escaped.ensures ∙ rw (c.bytes.invariant, append_assoc)
-    (ap (λ t. c.args.line.now.items ++ t) (quoted-step (writing c.args.delimiter) 34 c.args.field.now c.bytes.i lt))
+    let inv = c.bytes.invariant in
+    record {
+      escaped = c.in_ok-push_escaped.ensures.value ∙ rw (inv.escaped, append_assoc)
+          (ap (λ t. c.args.line.now.items ++ t)
+          (quoted-step (writing c.args.delimiter) 34 c.args.field.now c.bytes.i lt));
+      grown = omega (arith, c.in_ok-push_escaped.ensures.grows, inv.grown);
+      kept = omega (arith, c.in_ok-push_escaped.ensures.capacity, inv.kept);
+    }

@@ -1,7 +1,13 @@
-use Rattle.std.proofs.Common.{◌≡◌, ◌++◌, ◌∷◌, take}
+use Rattle.std.proofs.Common.{◌≡◌, ◌≤◌, ◌+◌, ◌*◌, ◌++◌, ◌∷◌, take}
+use Rattle.std.specs.Prelude.{vec_capacity, vec_len}
 use Rattle.csv.specs.Writing.{escaped}
 use Rattle.register_records.specs.Lines.{writing}
 use Rattle.register_records.proofs.lines.push_quoted.Given as goal
 
 abbrev pub invariant-bytes : goal.invariant-bytes
-invariant-bytes l = l.line.items ≡ l.fn.line.items ++ (34 ∷ escaped (writing l.delimiter) (take l.i l.field))
+invariant-bytes l =
+    record {
+      escaped : l.line.items ≡ l.fn.line.items ++ (34 ∷ escaped (writing l.delimiter) (take l.i l.field));
+      grown : vec_len l.line ≤ vec_len l.fn.line + (1 + 2 * l.i);
+      kept : vec_capacity l.fn.line ≤ vec_capacity l.line;
+    }

@@ -32,7 +32,7 @@ returns-clause-value c =
     ∙ ap decimal (c.number.ensures.value ∙ ap entry_number c.entry-2.ensures) in
     let texts =
     sym (ap (λ body. text_fields form (body_seen body)) (c.body.ensures.value ∙ ap entry_body c.entry.ensures))
-    ∙ c.texts_of.ensures form in
+    ∙ c.texts_of.ensures.value form in
     let noted = ap (note_fields form) c.as_bytes-5.ensures.value in
     same-body _ (n ∷ id ∷ calendar ∷ date ∷ note_fields form note) (entry_fields form (row_seen row)) _
     (cc (number, texts, noted, c.as_bytes-2.ensures.value, c.as_bytes-3.ensures.value, c.as_bytes-4.ensures.value)) four

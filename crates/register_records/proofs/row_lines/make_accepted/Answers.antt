@@ -1,4 +1,4 @@
-use Rattle.std.proofs.Common.{◌≡◌, ◌∷◌, ◌++◌, [], ◌∙◌, List, ap, arith, map, take}
+use Rattle.std.proofs.Common.{◌≡◌, ◌≤◌, ◌∷◌, ◌++◌, [], ◌∙◌, List, ap, arith, length, map, take}
 use Rattle.std.proofs.Math.Logic.{∥∥₁_elim}
 use Rattle.std.proofs.lemmas.Grind.{common_steps}
 use Rattle.std.proofs.lemmas.List.{take_all}
@@ -14,7 +14,7 @@ use Rattle.register_records.specs.Outcomes.{IsRowOf}
 use Rattle.register_records.specs.Tables.{entry_fields, row_fields, weekday_at}
 use Rattle.register_records.specs.Seen.{outcome_seen}
 use Rattle.register_records.proofs.LineFacts.{accepted-fields, one-item, plain-cell, plain-day, same-body, same-line}
-use Rattle.register_records.proofs.LineFacts.{two-fields, two-more, weekday-name}
+use Rattle.register_records.proofs.LineFacts.{two-fields, two-more, weekday-name, weekday-short}
 use Rattle.register_records.proofs.row_lines.make_accepted.Goals as goal
 
 pub push_plain-requires : goal.push_plain-requires
@@ -42,7 +42,17 @@ cells-init c =
     let named = c.as_bytes-2.ensures.value ∙ c.name.ensures ∙ weekday-name _ _ c.weekday.ensures in
     let one = c.in_ok-push_plain.ensures.value entry (omega arith) c.in_ok-begin_line.ensures.value in
     let two = c.in_ok-push_plain-2.ensures.value (entry ++ c.as_bytes.result.now ∷ []) (omega arith) one in
-    record { begun = same-body _ _ _ _ (two-more entry _ _ _ _ day named) two; kept = cc }
+    let one-long = c.in_ok-push_plain.ensures.grows in
+    let two-long = c.in_ok-push_plain-2.ensures.grows in
+    let day-short : length c.as_bytes.result.now ≤ 40 =
+    omega (arith, ap length c.as_bytes.ensures.value, c.format.ensures.short) in
+    let name-short : length c.as_bytes-2.result.now ≤ 9 =
+    omega (arith, ap length (c.as_bytes-2.ensures.value ∙ c.name.ensures), weekday-short c.weekday.result) in
+    record {
+      begun = same-body _ _ _ _ (two-more entry _ _ _ _ day named) two;
+      kept = cc;
+      short = omega (arith, c.begin_line.ensures.short, one-long, two-long, day-short, name-short);
+    }
 
 pub cells-preserved : goal.cells-preserved
 cells-preserved c =
@@ -55,6 +65,7 @@ cells-preserved c =
       begun = one-item cell_bytes _ first _ _ _ _ _ (rw (← c.cells-cell-items.ensures.value) c.cells-test.true)
           (ap cell_bytes here) (c.in_ok-push_cell.ensures.value fields (omega arith) inv.begun);
       kept = c.in_ok-push_cell.ensures.kept ∙ inv.kept;
+      short = omega (arith, c.in_ok-push_cell.ensures.grows, inv.short);
     }
 
 pub returns-clause-value : goal.returns-clause-value

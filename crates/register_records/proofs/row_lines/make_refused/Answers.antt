@@ -15,7 +15,16 @@ targets-init c =
     let entry = entry_fields c.args.form (row_seen c.args.row.now) in
     let one = c.in_ok-push_plain.ensures.value entry (omega arith) c.in_ok-begin_line.ensures.value in
     let two = c.in_ok-push_plain-2.ensures.value (entry ++ [] ∷ []) (omega arith) one in
-    record { begun = same-body _ _ _ _ (two-more entry [] [] [] [] refl refl) two; kept = cc }
+    record {
+      begun = same-body _ _ _ _ (two-more entry [] [] [] [] refl refl) two;
+      kept = cc;
+      short = omega (
+        arith,
+        c.begin_line.ensures.short,
+        c.in_ok-push_plain.ensures.grows,
+        c.in_ok-push_plain-2.ensures.grows,
+      );
+    }
 
 pub targets-preserved : goal.targets-preserved
 targets-preserved c =
@@ -30,6 +39,7 @@ targets-preserved c =
           (rw (← c.targets-target-items.ensures.value) c.targets-test.true))
           (c.in_ok-push_plain-3.ensures.value fields (omega arith) inv.begun);
       kept = c.in_ok-push_plain-3.ensures.kept ∙ inv.kept;
+      short = omega (arith, c.in_ok-push_plain-3.ensures.grows, inv.short);
     }
 
 pub push_plain-requires-3 : goal.push_plain-requires-3

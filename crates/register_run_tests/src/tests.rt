@@ -2,8 +2,9 @@
 
 use date_texts::{Calendar, Target};
 use register_records::{Form, Output, PlainOutput, Setup, SourceEnd};
-use register_run::{Report, RunFaultKind, Verdict, run};
+use register_run::{Gate, Report, RunFault, RunFaultKind, Verdict, run, run_gated};
 use std::alloc::{AllocError, Global};
+use std::io::Read;
 use std::process::Abort;
 use std::sync::Wait;
 use std::test::Fail;
@@ -69,13 +70,59 @@ fn outputs_of(alloc: Global, count: usize) -> Result<Vec<PlainOutput<Vec<u8>>>, 
     Ok(outputs)
 }
 
+/// What `run` answers. This function promises nothing of it, so that a test that calls it is proved without all that is
+/// proved of a run.
+fn answer_of<T: Threads + Wait + Sync, R: Read + Send + Drop, W: Output + Drop>(
+    rt: &T,
+    alloc: Global,
+    sources: Vec<R>,
+    outputs: Vec<W>,
+    setup: &Setup,
+) -> Result<Report<W>, RunFault<R, W>> {
+    run(rt, alloc, sources, outputs, setup)
+}
+
+/// The report of a run that begins. Nothing is promised of it either.
+fn report_of<T: Threads + Wait + Sync, R: Read + Send + Drop, W: Output + Drop>(
+    rt: &T,
+    alloc: Global,
+    sources: Vec<R>,
+    outputs: Vec<W>,
+    setup: &Setup,
+) -> Result<Report<W>, Fail> {
+    match answer_of(rt, alloc, sources, outputs, setup) {
+        Ok(report) => Ok(report),
+        Err(_) => Err(Fail::from("the run did not begin")),
+    }
+}
+
+/// The report of a run with a gate. Nothing is promised of it either.
+fn gated_report_of<
+    T: Threads + Wait + Sync,
+    R: Read + Send + Drop,
+    W: Output + Drop,
+    G: Gate + Sync,
+>(
+    rt: &T,
+    alloc: Global,
+    sources: Vec<R>,
+    outputs: Vec<W>,
+    setup: &Setup,
+    gate: &G,
+) -> Result<Report<W>, Fail> {
+    match run_gated(rt, alloc, sources, outputs, setup, gate) {
+        Ok(report) => Ok(report),
+        Err(_) => Err(Fail::from("the run did not begin")),
+    }
+}
+
 /// Runs sources of so many records each under this setup, and compares each output with its table.
 fn run_counts(
     rt: &(impl Threads + Wait + Sync + Abort),
     alloc: Global,
     counts: &[usize],
     setup: &Setup,
-) -> Result<(), AllocError> {
+) -> Result<(), Fail> {
     let mut texts = Vec::new(alloc);
     for count in counts {
         texts.push(text_of(alloc, *count)?)?;
@@ -85,18 +132,19 @@ fn run_counts(
         sources.push(text.as_slice())?;
     }
     let outputs = outputs_of(alloc, counts.len())?;
-    let Ok(report) = run(rt, alloc, sources, outputs, setup) else {
-        panic!(rt; "the run did not begin");
-    };
+    let report = report_of(rt, alloc, sources, outputs, setup)?;
     assert!(rt; is_complete(&report));
     assert_eq!(rt; report.ends.len(), counts.len());
     let mut outputs = report.outputs.into_iter();
+    let mut ends = report.ends.iter();
     for (place, count) in counts.iter().enumerate() {
-        let SourceEnd::Whole {
-            rows,
-            refused,
-            journal,
-        } = &report.ends[place]
+        let Some(
+            SourceEnd::Whole {
+                rows,
+                refused,
+                journal,
+            },
+        ) = ends.next()
         else {
             panic!(rt; "a source is broken");
         };
@@ -145,9 +193,7 @@ fn a_broken_source_leaves_the_other_one_alone(rt: HostRuntime) -> Result<(), Fai
     sources.push(b"")?;
     sources.push(b"id,calendar,date\nb,julian,1582-10-05\n")?;
     let outputs = outputs_of(rt.alloc(), 2)?;
-    let Ok(report) = run(&rt, rt.alloc(), sources, outputs, &setup) else {
-        return Err(Fail::from("the run did not begin"));
-    };
+    let report = report_of(&rt, rt.alloc(), sources, outputs, &setup)?;
     assert_eq!(rt; report.verdict, Verdict::Incomplete);
     let mut causes = report.ends.iter().map(cause_of);
     assert_eq!(rt; causes.next(), Some(6));
@@ -177,7 +223,7 @@ fn a_run_with_too_many_sources_or_other_outputs_does_not_begin(
             sources.push(b"id,calendar,date\n")?;
         }
         let outputs = outputs_of(rt.alloc(), 1)?;
-        let Err(fault) = run(&rt, rt.alloc(), sources, outputs, &setup) else {
+        let Err(fault) = answer_of(&rt, rt.alloc(), sources, outputs, &setup) else {
             return Err(Fail::from("the run began"));
         };
         assert_eq!(rt; fault.kind, kind);

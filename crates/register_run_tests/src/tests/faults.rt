@@ -1,9 +1,9 @@
 // Sources and outputs that fail at each place in turn, and memory that is refused, beside sources that do not fail.
 
-use super::{WHOLE_TEXT, cause_of, is_complete, table_of, text_of};
+use super::{WHOLE_TEXT, answer_of, cause_of, is_complete, report_of, table_of, text_of};
 use register_records::faults::{Chunks, Sink};
 use register_records::{Form, Output, PlainOutput, Setup, SetupFault};
-use register_run::{Report, RunFault, RunFaultKind, run};
+use register_run::{Report, RunFault, RunFaultKind};
 use std::alloc::{AllocError, Global};
 use std::io;
 use std::io::{ErrorKind, Read, Write};
@@ -69,9 +69,7 @@ fn cause_beside_whole(
     let mut outputs = Vec::new(alloc);
     outputs.push(Sink::new(alloc, 1, ROOM, faults.write, faults.flush, faults.most)?)?;
     outputs.push(Sink::new(alloc, 2, ROOM, 0, 0, ROOM)?)?;
-    let Ok(report) = run(rt, alloc, sources, outputs, setup) else {
-        return Err(Fail::from("the run did not begin"));
-    };
+    let report = report_of(rt, alloc, sources, outputs, setup)?;
     let complete = is_complete(&report);
     let mut causes = report.ends.iter().map(cause_of);
     let (Some(cause), Some(other)) = (causes.next(), causes.next()) else {
@@ -259,9 +257,7 @@ fn interrupted_reads_and_writes_are_tried_again(rt: HostRuntime) -> Result<(), F
         sources.push(Nervous::new(text.as_slice()))?;
         let mut outputs = Vec::new(rt.alloc());
         outputs.push(PlainOutput::new(Nervous::new(Vec::new(rt.alloc())), 1))?;
-        let Ok(report) = run(&rt, rt.alloc(), sources, outputs, &setup) else {
-            return Err(Fail::from("the run did not begin"));
-        };
+        let report = report_of(&rt, rt.alloc(), sources, outputs, &setup)?;
         assert!(rt; is_complete(&report));
         let output = report.outputs.into_iter().next().ok_or("no output")?;
         assert_eq!(rt; output.into_inner().stream.as_slice(), table.as_slice());
@@ -287,7 +283,7 @@ fn run_in_need(
         outputs.push(Sink::new(alloc, 7, ROOM, 0, 0, ROOM)?)?;
         tables.push(table_of(alloc, count)?)?;
     }
-    Ok(run(rt, alloc, sources, outputs, setup))
+    Ok(answer_of(rt, alloc, sources, outputs, setup))
 }
 
 // It passes whichever allocation is refused: then the run does not begin, and says so, or one source alone is broken,

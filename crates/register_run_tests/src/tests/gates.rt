@@ -1,14 +1,16 @@
 // Tests with a gate or with readers that wait show that the work of several threads goes on at the same time. Each of
 // them looks only so often: where what it waits for does not come, it fails.
 
-use super::{RECORD, WHOLE_TEXT, is_complete, outputs_of, text_of};
-use register_records::{Form, PlainOutput, Setup};
-use register_run::{Gate, run, run_gated};
+use super::{RECORD, WHOLE_TEXT, gated_report_of, is_complete, outputs_of, report_of, text_of};
+use register_records::{Form, Output, PlainOutput, Setup};
+use register_run::Gate;
 use std::alloc::{AllocError, Global};
 use std::io::{ErrorKind, Read, Write};
+use std::process::Abort;
 use std::sync::Wait;
 use std::sync::atomic::{AtomicU64, Ordering};
 use std::test::Fail;
+use std::thread::Threads;
 use std::{io, thread};
 
 /// How often a test looks for what it waits for.
@@ -119,9 +121,7 @@ fn two_readers_meet(rt: HostRuntime) -> Result<(), Fail> {
         sources.push(Chunks::new(&chunks, &first, 1, &second))?;
         sources.push(Chunks::new(&chunks, &second, 1, &first))?;
         let outputs = outputs_of(rt.alloc(), 2)?;
-        let Ok(report) = run(&rt, rt.alloc(), sources, outputs, &setup) else {
-            return Err(Fail::from("the run did not begin"));
-        };
+        let report = report_of(&rt, rt.alloc(), sources, outputs, &setup)?;
         assert!(rt; is_complete(&report));
     }
     Ok(())
@@ -137,9 +137,7 @@ fn first_row_before_second_record(rt: HostRuntime) -> Result<(), Fail> {
         let mut sources = Vec::new(rt.alloc());
         sources.push(Chunks::new(&chunks, &asked, 2, &rows))?;
         let outputs = watched_outputs(rt.alloc(), 1, &rows)?;
-        let Ok(report) = run(&rt, rt.alloc(), sources, outputs, &setup) else {
-            return Err(Fail::from("the run did not begin"));
-        };
+        let report = report_of(&rt, rt.alloc(), sources, outputs, &setup)?;
         assert!(rt; is_complete(&report));
     }
     Ok(())
@@ -166,10 +164,27 @@ impl Gate for Held<'_> {
     }
 }
 
+/// Runs sources with this gate: all are whole, what the gate waited for has come, and so many entries came to it.
+fn run_held<R: Read + Send + Drop, W: Output + Drop>(
+    rt: &(impl Threads + Wait + Sync + Abort),
+    alloc: Global,
+    sources: Vec<R>,
+    outputs: Vec<W>,
+    stripes: usize,
+    gate: &Held<'_>,
+    entries: u64,
+) -> Result<(), Fail> {
+    let setup = Setup::new(&[], 16, b',', stripes, Form::Plain)?;
+    let report = gated_report_of(rt, alloc, sources, outputs, &setup, gate)?;
+    assert!(rt; is_complete(&report));
+    assert_eq!(rt; gate.late.load(Ordering::SeqCst), 0);
+    assert_eq!(rt; gate.came.load(Ordering::SeqCst), entries);
+    Ok(())
+}
+
 // The gate holds the first entry until the second chunk was asked for.
 #[test]
 fn reader_beside_converter(rt: HostRuntime) -> Result<(), Fail> {
-    let setup = Setup::new(&[], 16, b',', 1, Form::Plain)?;
     let (asked, came, open) = (AtomicU64::new(0), AtomicU64::new(0), AtomicU64::new(1));
     let chunks = [WHOLE_TEXT, RECORD];
     let mut sources = Vec::new(rt.alloc());
@@ -182,19 +197,13 @@ fn reader_beside_converter(rt: HostRuntime) -> Result<(), Fail> {
         wanted: 2,
         late: AtomicU64::new(0),
     };
-    let Ok(report) = run_gated(&rt, rt.alloc(), sources, outputs, &setup, &gate) else {
-        return Err(Fail::from("the run did not begin"));
-    };
-    assert!(rt; is_complete(&report));
-    assert_eq!(rt; gate.late.load(Ordering::SeqCst), 0);
-    assert_eq!(rt; came.load(Ordering::SeqCst), 2);
+    run_held(&rt, rt.alloc(), sources, outputs, 1, &gate, 2)?;
     Ok(())
 }
 
 // The gate holds the first entry that comes until a row stands in an output.
 #[test]
 fn converter_beside_writer(rt: HostRuntime) -> Result<(), Fail> {
-    let setup = Setup::new(&[], 16, b',', 1, Form::Plain)?;
     let (came, rows) = (AtomicU64::new(0), AtomicU64::new(0));
     let mut sources = Vec::new(rt.alloc());
     sources.push(WHOLE_TEXT)?;
@@ -207,12 +216,7 @@ fn converter_beside_writer(rt: HostRuntime) -> Result<(), Fail> {
         wanted: 1,
         late: AtomicU64::new(0),
     };
-    let Ok(report) = run_gated(&rt, rt.alloc(), sources, outputs, &setup, &gate) else {
-        return Err(Fail::from("the run did not begin"));
-    };
-    assert!(rt; is_complete(&report));
-    assert_eq!(rt; gate.late.load(Ordering::SeqCst), 0);
-    assert_eq!(rt; came.load(Ordering::SeqCst), 2);
+    run_held(&rt, rt.alloc(), sources, outputs, 1, &gate, 2)?;
     Ok(())
 }
 
@@ -220,7 +224,6 @@ fn converter_beside_writer(rt: HostRuntime) -> Result<(), Fail> {
 #[test]
 fn all_converters_at_once(rt: HostRuntime) -> Result<(), Fail> {
     for stripes in 2..5usize {
-        let setup = Setup::new(&[], 16, b',', stripes, Form::Plain)?;
         let came = AtomicU64::new(0);
         let text = text_of(rt.alloc(), stripes)?;
         let mut sources = Vec::new(rt.alloc());
@@ -233,12 +236,15 @@ fn all_converters_at_once(rt: HostRuntime) -> Result<(), Fail> {
             wanted: stripes as u64,
             late: AtomicU64::new(0),
         };
-        let Ok(report) = run_gated(&rt, rt.alloc(), sources, outputs, &setup, &gate) else {
-            return Err(Fail::from("the run did not begin"));
-        };
-        assert!(rt; is_complete(&report));
-        assert_eq!(rt; gate.late.load(Ordering::SeqCst), 0);
-        assert_eq!(rt; came.load(Ordering::SeqCst), stripes as u64);
+        run_held(
+            &rt,
+            rt.alloc(),
+            sources,
+            outputs,
+            stripes,
+            &gate,
+            stripes as u64,
+        )?;
     }
     Ok(())
 }
@@ -279,9 +285,7 @@ fn bounded_run_ahead(rt: HostRuntime) -> Result<(), Fail> {
         asked: &asked,
         seen: AtomicU64::new(0),
     };
-    let Ok(report) = run_gated(&rt, rt.alloc(), sources, outputs, &setup, &gate) else {
-        return Err(Fail::from("the run did not begin"));
-    };
+    let report = gated_report_of(&rt, rt.alloc(), sources, outputs, &setup, &gate)?;
     assert!(rt; is_complete(&report));
     assert!(rt; (1..=10).contains(&gate.seen.load(Ordering::SeqCst)));
     Ok(())
@@ -317,9 +321,7 @@ fn no_row_before_the_gate(rt: HostRuntime) -> Result<(), Fail> {
         early: AtomicU64::new(0),
         came: AtomicU64::new(0),
     };
-    let Ok(report) = run_gated(&rt, rt.alloc(), sources, outputs, &setup, &gate) else {
-        return Err(Fail::from("the run did not begin"));
-    };
+    let report = gated_report_of(&rt, rt.alloc(), sources, outputs, &setup, &gate)?;
     assert!(rt; is_complete(&report));
     assert_eq!(rt; gate.early.load(Ordering::SeqCst), 0);
     assert_eq!(rt; gate.came.load(Ordering::SeqCst), 1);

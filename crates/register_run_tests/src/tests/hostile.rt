@@ -1,10 +1,9 @@
 // Texts that are meant to harm, converted on one thread and by runs, read at once and a byte at a time.
 
 use super::faults::plain_setup;
-use super::{HEADING, RECORD, cause_of};
+use super::{HEADING, RECORD, cause_of, report_of};
 use register_records::faults::{Chunks, Sink};
 use register_records::{PlainOutput, Setup, SourceEnd, convert_source};
-use register_run::run;
 use std::alloc::{AllocError, Global};
 use std::io;
 use std::io::{Read, Write};
@@ -137,9 +136,7 @@ fn told_by_all(
             sources.push(reader_of(alloc, text, size)?)?;
             outputs.push(Sink::new(alloc, 1, ROOM, 0, 0, ROOM)?)?;
         }
-        let Ok(report) = run(rt, alloc, sources, outputs, &plain_setup(1, stripes)?) else {
-            return Err(Fail::from("the run did not begin"));
-        };
+        let report = report_of(rt, alloc, sources, outputs, &plain_setup(1, stripes)?)?;
         let sinks = report.outputs;
         for (end, sink) in report.ends.iter().zip(sinks) {
             told.push(Told::new(end, sink))?;
@@ -270,9 +267,7 @@ fn run_millions(
         sources.push(Records::new(count))?;
         outputs.push(PlainOutput::new(Counter { bytes: 0 }, 1))?;
     }
-    let Ok(report) = run(rt, alloc, sources, outputs, setup) else {
-        return Err(Fail::from("the run did not begin"));
-    };
+    let report = report_of(rt, alloc, sources, outputs, setup)?;
     assert_eq!(rt; report.ends.len(), counts.len());
     let outputs = report.outputs;
     for ((end, output), count) in report.ends.iter().zip(outputs).zip(counts) {

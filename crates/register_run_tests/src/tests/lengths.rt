@@ -2,8 +2,8 @@
 
 use super::faults::plain_setup;
 use super::hostile::Counter;
+use super::report_of;
 use register_records::{PlainOutput, SourceEnd, convert_source};
-use register_run::run;
 use std::alloc::Global;
 use std::io;
 use std::io::Read;
@@ -102,9 +102,7 @@ fn runs_convert_fields_of_all_lengths(rt: HostRuntime) -> Result<(), Fail> {
         let mut outputs = Vec::new(rt.alloc());
         outputs.push(PlainOutput::new(Counter { bytes: 0 }, 1))?;
         let setup = plain_setup(64, stripes)?;
-        let Ok(report) = run(&rt, rt.alloc(), sources, outputs, &setup) else {
-            return Err(Fail::from("the run did not begin"));
-        };
+        let report = report_of(&rt, rt.alloc(), sources, outputs, &setup)?;
         let output = report.outputs.into_iter().next().ok_or("no output")?;
         let end = report.ends.first().ok_or("no end")?;
         check_end(&rt, end, output)?;

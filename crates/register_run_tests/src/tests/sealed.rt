@@ -1,10 +1,10 @@
 // Sealed registers: which are whole, why the others are not, and what stands in their tables. The rows are worked by
 // hand from the calendars' rules: 5 October 1582 in the Julian calendar is day 577736, a Friday.
 
-use super::{GREGORIAN, cause_of, outputs_of};
+use super::{GREGORIAN, cause_of, outputs_of, report_of};
 use date_texts::Refusal;
 use register_records::{Form, Note, PlainOutput, Setup, SourceEnd};
-use register_run::{Report, run};
+use register_run::Report;
 use std::alloc::{AllocError, Global};
 use std::io;
 use std::io::{ErrorKind, Read};
@@ -75,10 +75,7 @@ fn run_sealed<R: Read + Send + Drop>(
 ) -> Result<Report<PlainOutput<Vec<u8>>>, Fail> {
     let setup = Setup::new(&[GREGORIAN], 1, b',', stripes, Form::Sealed)?;
     let outputs = outputs_of(alloc, sources.len())?;
-    match run(rt, alloc, sources, outputs, &setup) {
-        Ok(report) => Ok(report),
-        Err(_) => Err(Fail::from("the run did not begin")),
-    }
+    report_of(rt, alloc, sources, outputs, &setup)
 }
 
 #[test]

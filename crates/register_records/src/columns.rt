@@ -9,6 +9,7 @@ use crate::setups::Form;
 use csv::ByteRecord;
 
 /// The fields of a record by their columns. The note is empty where the form has none.
+#[derive(Drop)]
 pub(crate) struct Columns<'a> {
     pub(crate) id: &'a [u8],
     pub(crate) calendar: &'a [u8],

@@ -1,12 +1,12 @@
 //! An entry, and how it is made of a record.
 
-ghost use Rattle.std.specs.Prelude.{◌≡◌, ◌≤◌, ◌↔◌, length, MatchOption, IfSome, IsSome, IsTrue};
+ghost use Rattle.std.specs.Prelude.{◌≡◌, ◌≤◌, ◌↔◌, [], length, IfSome, IsSome, IsTrue};
 ghost use Rattle.std.specs.Prelude.{true, false};
 ghost use Rattle.std.specs.Str.{is_utf8};
 ghost use Rattle.csv.specs.Records.{fields_of};
 ghost use Rattle.register_records.specs.Entries.{body_of, body_seen, may_hold, record_limit};
 
-use crate::columns::{Columns, columns_in};
+use crate::columns::columns_in;
 use crate::setups::Form;
 use arrayvec::ArrayString;
 use csv::ByteRecord;
@@ -110,23 +110,20 @@ fn is_allowed(body: &Body) -> bool
     }
 }
 
-/// A text of a fixed capacity.
-fn copied<const N: usize>(text: &str) -> ArrayString<N>
-    requires { length text.now ≤ N }
-    ensures { result.bytes ≡ text.now }
-{
-    let mut copy = ArrayString::new();
-    copy.push_str(text);
-    copy
-}
-
-/// A field as text, where it is UTF-8.
-fn text(field: &[u8]) -> Option<&str>
-    ensures { MatchOption result (is_utf8 field.now ≡ false) (λ t. (is_utf8 field.now ≡ true) × (t.now ≡ field.now)) }
+/// Copies a field to an empty text, where it is UTF-8, and says whether it is.
+#[inline(always)]
+fn copies<const N: usize>(copy: &mut ArrayString<N>, field: &[u8]) -> bool
+    requires empty { copy.old.bytes ≡ [] }
+    requires fits { length field.now ≤ N }
+    ensures is_text { result ≡ is_utf8 field.now }
+    ensures copied { result ≡ true → copy.new.bytes ≡ field.now }
 {
     match str::from_utf8(field) {
-        Ok(text) => Some(text),
-        Err(_) => None,
+        Ok(text) => {
+            copy.push_str(text);
+            true
+        }
+        Err(_) => false,
     }
 }
 
@@ -135,36 +132,36 @@ fn read_body(row: &ByteRecord, form: Form) -> Body
     ensures value { body_seen result ≡ body_of form (fields_of row.now) }
     ensures held { IsTrue (may_hold result) }
 {
-    let Some(
-        Columns {
-            id,
-            calendar,
-            date,
-            note,
-        },
-    ) = columns_in(row, form)
-    else {
-        return Body::Refused(Refusal::FieldCount);
+    // The texts are copied to where they stay, and the body leaves at one place: else it would be copied once more.
+    let mut body = Body::Fields {
+        id: ArrayString::new(),
+        calendar: ArrayString::new(),
+        date: ArrayString::new(),
+        note: ArrayString::new(),
     };
-    if id.len() > ID_LIMIT
-        || calendar.len() > CALENDAR_LIMIT
-        || date.len() > DATE_LIMIT
-        || note.len() > NOTE_LIMIT
-    {
-        return Body::Refused(Refusal::FieldTooLong);
+    match columns_in(row, form) {
+        Some(columns) => {
+            if columns.id.len() > ID_LIMIT
+                || columns.calendar.len() > CALENDAR_LIMIT
+                || columns.date.len() > DATE_LIMIT
+                || columns.note.len() > NOTE_LIMIT
+            {
+                body = Body::Refused(Refusal::FieldTooLong);
+            } else if let Body::Fields {
+                id,
+                calendar,
+                date,
+                note,
+            } = &mut body
+                && !(copies(id, columns.id)
+                    && copies(calendar, columns.calendar)
+                    && copies(date, columns.date)
+                    && copies(note, columns.note))
+            {
+                body = Body::Refused(Refusal::NotUtf8);
+            }
+        }
+        None => body = Body::Refused(Refusal::FieldCount),
     }
-    let (Some(id), Some(calendar), Some(date), Some(note)) = (
-        text(id),
-        text(calendar),
-        text(date),
-        text(note),
-    ) else {
-        return Body::Refused(Refusal::NotUtf8);
-    };
-    Body::Fields {
-        id: copied(id),
-        calendar: copied(calendar),
-        date: copied(date),
-        note: copied(note),
-    }
+    body
 }

@@ -231,22 +231,18 @@ impl<R: Read + Drop> EntryReader<R> {
             return Ok(None);
         }
         let count = self.given.len() as u32;
-        match read_entry(&mut self.records, &mut self.record, self.form, count) {
+        let answer = read_entry(&mut self.records, &mut self.record, self.form, count);
+        // The answer is looked at where it lies, since an entry is large.
+        match &answer {
             Ok(Some(entry)) => {
-                if self.given.push(Snapshot::of(&entry)).is_err() {
+                if self.given.push(Snapshot::of(entry)).is_err() {
                     self.failed = true;
                     return Err(EntryFault::OutOfMemory);
                 }
-                Ok(Some(entry))
             }
-            Ok(None) => {
-                self.done = true;
-                Ok(None)
-            }
-            Err(fault) => {
-                self.failed = true;
-                Err(fault)
-            }
+            Ok(None) => self.done = true,
+            Err(_) => self.failed = true,
         }
+        answer
     }
 }

@@ -1,4 +1,5 @@
 use Rattle.std.proofs.Common.{◌≡◌, ◌<◌, ◌∷◌, [], ◌∙◌, ap, arith, length, length-append, refl, rules, sym, true, false}
+use Rattle.std.proofs.Common.{Some, None}
 use Rattle.std.specs.Result.{is_ok}
 use Rattle.register_records.specs.Entries.{format_by, record_limit}
 use Rattle.register_records.specs.ReadingState.{records_left}
@@ -23,8 +24,8 @@ invariant_of-self g c =
     let stands =
     may-fail (g.R.Read.remaining self.source.value) (format_by self.delimiter self.form) self.failed self.done
     (records_left (inner_remaining g.R.Read.remaining) self.records) (given_of self) self.stands
-    (records_left (inner_remaining g.R.Read.remaining) c.read_entry.new.records) (entries_shown c.push.new.self.items)
-    (ap entries_shown kept) in
+    (records_left (inner_remaining g.R.Read.remaining) c.read_entry-answer.new.records)
+    (entries_shown c.push.new.self.items) (ap entries_shown kept) in
     record { live = λ e. cc; few = rw kept self.few; stands = stands; first = may-first _ _ _ _ _ _ stands }
 
 pub invariant_of-self-else-is_err : goal.invariant_of-self-else-is_err
@@ -33,19 +34,20 @@ invariant_of-self-else-is_err g c =
     let pushed : is_ok c.push.result ≡ true = search rules in
     let more = rw pushed at c.push.ensures.items in
     let longer = ap length more ∙ length-append self.given.items (c.of.result ∷ []) in
-    let gives = rw c.in-Ok-Some.field-0-is at c.in-Ok-Some.ensures.gives in
-    let number = rw c.in-Ok-Some.field-0-is at c.in-Ok-Some.ensures.number in
+    let some : c.in-Ok-Some.field-0 ≡ Some c.in-Ok-Some.entry = search rules in
+    let gives = rw (c.in-Ok-Some.is, some) at c.read_entry-answer.ensures.gives in
+    let number = rw (c.in-Ok-Some.is, some) at c.read_entry-answer.ensures.number in
     let room : length self.given.items < record_limit = omega (arith, number.0, number.1, c.len-count.ensures) in
     let stands =
     may-more (g.R.Read.remaining self.source.value) (format_by self.delimiter self.form) self.failed self.done
     (records_left (inner_remaining g.R.Read.remaining) self.records)
     (given_of self) self.stands c.if-self.false c.if-self-2.false c.len-count.result
     (omega (arith, c.len-count.ensures, shown-length self.given.items))
-    (records_left (inner_remaining g.R.Read.remaining) c.read_entry.new.records)
+    (records_left (inner_remaining g.R.Read.remaining) c.read_entry-answer.new.records)
     (entries_shown c.push.new.self.items) c.in-Ok-Some.entry gives (omega (arith, number.0, number.1))
     (ap entries_shown more ∙ shown-more self.given.items c.of.result c.in-Ok-Some.entry c.of.ensures) in
     record {
-      live = λ _. c.in-Ok-Some.ensures.live;
+      live = λ _. rw c.in-Ok-Some.is at c.read_entry-answer.ensures.live;
       few = omega (arith, longer, room);
       stands = stands;
       first = may-first _ _ _ _ _ _ stands;
@@ -54,22 +56,13 @@ invariant_of-self-else-is_err g c =
 pub invariant_of-self-in-Ok-None-clause-stands : goal.invariant_of-self-in-Ok-None-clause-stands
 invariant_of-self-in-Ok-None-clause-stands g c =
     let self = c.args.self.now in
-    let ends = (rw c.in-Ok-None.field-0-is at c.in-Ok-None.ensures.ends) refl in
+    let none : c.in-Ok-None.field-0 ≡ None = search rules in
+    let ends = (rw (c.in-Ok-None.is, none) at c.read_entry-answer.ensures.ends) refl in
     may-end (g.R.Read.remaining self.source.value) (format_by self.delimiter self.form) self.failed self.done
     (records_left (inner_remaining g.R.Read.remaining) self.records)
     (given_of self) self.stands c.if-self.false c.if-self-2.false c.len-count.result
     (omega (arith, c.len-count.ensures, shown-length self.given.items))
     (rw (shown-length self.given.items) self.few) _ ends
-
-pub returns-in-Ok-None-clause-all : goal.returns-in-Ok-None-clause-all
-returns-in-Ok-None-clause-all g c _ =
-    let self = c.args.self.now in
-    let ends = (rw c.in-Ok-None.field-0-is at c.in-Ok-None.ensures.ends) refl in
-    may-all (g.R.Read.remaining self.source.value) (format_by self.delimiter self.form) self.failed self.done
-    (records_left (inner_remaining g.R.Read.remaining) self.records)
-    (given_of self) self.stands c.if-self.false c.if-self-2.false c.len-count.result
-    (omega (arith, c.len-count.ensures, shown-length self.given.items))
-    (rw (shown-length self.given.items) self.few) ends
 
 pub invariant_of-self-in-Err-clause-stands : goal.invariant_of-self-in-Err-clause-stands
 invariant_of-self-in-Err-clause-stands g c =
@@ -78,28 +71,40 @@ invariant_of-self-in-Err-clause-stands g c =
     (records_left (inner_remaining g.R.Read.remaining) self.records) (given_of self) self.stands _
     (given_of self) refl
 
+pub returns-in-Ok-None-clause-all : goal.returns-in-Ok-None-clause-all
+returns-in-Ok-None-clause-all g c e =
+    let self = c.args.self.now in
+    let ends = c.read_entry-answer.ensures.ends e in
+    may-all (g.R.Read.remaining self.source.value) (format_by self.delimiter self.form) self.failed self.done
+    (records_left (inner_remaining g.R.Read.remaining) self.records)
+    (given_of self) self.stands c.if-self.false c.if-self-2.false c.len-count.result
+    (omega (arith, c.len-count.ensures, shown-length self.given.items))
+    (rw (shown-length self.given.items) self.few) ends
+
 pub returns-in-Err-clause-many : goal.returns-in-Err-clause-many
-returns-in-Err-clause-many g c e =
+returns-in-Err-clause-many g c =
+    rw c.in-Err.is (λ e.
     let self = c.args.self.now in
     let counted : c.len-count.result ≡ length (given_of self) =
     omega (arith, c.len-count.ensures, shown-length self.given.items) in
-    let many = c.in-Err.ensures.many e in (
+    let many = (rw c.in-Err.is at c.read_entry-answer.ensures.many) e in (
       sym counted ∙ many.0,
       may-many (g.R.Read.remaining self.source.value)
           (format_by self.delimiter self.form) self.failed self.done
           (records_left (inner_remaining g.R.Read.remaining) self.records)
           (given_of self) self.stands c.if-self.false c.if-self-2.false c.len-count.result counted many.1 many.0,
-    )
+    ))
 
 pub returns-in-Err-clause-not_sealed : goal.returns-in-Err-clause-not_sealed
-returns-in-Err-clause-not_sealed g c e =
+returns-in-Err-clause-not_sealed g c =
+    rw c.in-Err.is (λ e.
     let self = c.args.self.now in
     let counted : c.len-count.result ≡ length (given_of self) =
     omega (arith, c.len-count.ensures, shown-length self.given.items) in
-    let lacks = c.in-Err.ensures.not_sealed e in (
+    let lacks = (rw c.in-Err.is at c.read_entry-answer.ensures.not_sealed) e in (
       lacks.0,
       may-lack (g.R.Read.remaining self.source.value) (format_by self.delimiter self.form) self.failed self.done
           (records_left (inner_remaining g.R.Read.remaining) self.records)
           (given_of self) self.stands c.if-self.false c.if-self-2.false c.len-count.result counted
           (rw (shown-length self.given.items) self.few) lacks.1,
-    )
+    ))

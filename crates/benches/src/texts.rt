@@ -13,52 +13,89 @@ use std::time::{Clock, Instant};
 /// Names as registers write them.
 const NAMES: [&str; 4] = ["gregorian", " Julian", "HEBREW", "french"];
 
-/// Prints what the dates of a calendar cost, and sums of what the calls gave, so that no call is left out.
+/// The dates of a calendar on a sample of days, and their texts. Each method makes a call for each of them, and answers a
+/// sum of what the calls gave, so that none is left out.
+#[derive(Drop)]
+struct Dates {
+    calendar: Calendar,
+    texts: Vec<ArrayString<24>>,
+    dates: Vec<Date>,
+}
+
+impl Dates {
+    /// The dates of this calendar.
+    fn new(alloc: Global, calendar: Calendar) -> io::Result<Dates> {
+        let mut texts: Vec<ArrayString<24>> = Vec::new(alloc);
+        let mut dates: Vec<Date> = Vec::new(alloc);
+        for day in &sample(alloc)? {
+            let text = cell(Target::Date(calendar), *day);
+            if let Ok(date) = read_date(calendar, text.as_str()) {
+                texts.push(text)?;
+                dates.push(date)?;
+            }
+        }
+        Ok(Dates {
+            calendar,
+            texts,
+            dates,
+        })
+    }
+
+    /// Reads each text.
+    fn read(&self) -> u64 {
+        let mut days = 0u64;
+        for text in &self.texts {
+            if let Ok(Date::Civil(date)) = read_date(self.calendar, text.as_str()) {
+                days = days.wrapping_add(date.ymd().day() as u64);
+            }
+        }
+        days
+    }
+
+    /// Writes each date.
+    fn write(&self) -> u64 {
+        let mut bytes = 0u64;
+        for date in &self.dates {
+            bytes = bytes.wrapping_add(write_date(date).len() as u64);
+        }
+        bytes
+    }
+
+    /// Finds the day of each date.
+    fn find_days(&self) -> u64 {
+        let mut numbers = 0u64;
+        for date in &self.dates {
+            if let Ok(day) = day_of_date(date) {
+                numbers = numbers.wrapping_add(day.number() as u64);
+            }
+        }
+        numbers
+    }
+}
+
+/// Prints what the dates of a calendar cost, and the sums.
 fn measure_dates<R: Clock + Print>(
     rt: &R,
     alloc: Global,
     rounds: Option<u64>,
     calendar: Calendar,
 ) -> io::Result<()> {
-    let mut texts: Vec<ArrayString<24>> = Vec::new(alloc);
-    let mut dates: Vec<Date> = Vec::new(alloc);
-    for day in &sample(alloc)? {
-        let text = cell(Target::Date(calendar), *day);
-        if let Ok(date) = read_date(calendar, text.as_str()) {
-            texts.push(text)?;
-            dates.push(date)?;
-        }
-    }
+    let dates = Dates::new(alloc, calendar)?;
     let times = rounds.unwrap_or(1);
-
-    let mut read = 0u64;
+    let (mut read, mut written, mut numbers) = (0u64, 0u64, 0u64);
     let start = Instant::now(rt)?;
     for _ in 0..times {
-        for text in &texts {
-            if let Ok(Date::Civil(date)) = read_date(calendar, text.as_str()) {
-                read = read.wrapping_add(date.ymd().day() as u64);
-            }
-        }
+        read = read.wrapping_add(dates.read());
     }
     let read_cost = cost(rt, &start, calls(times))?;
-
-    let mut written = 0u64;
     let start = Instant::now(rt)?;
     for _ in 0..times {
-        for date in &dates {
-            written = written.wrapping_add(write_date(date).len() as u64);
-        }
+        written = written.wrapping_add(dates.write());
     }
     let write_cost = cost(rt, &start, calls(times))?;
-
-    let mut numbers = 0i64;
     let start = Instant::now(rt)?;
     for _ in 0..times {
-        for date in &dates {
-            if let Ok(day) = day_of_date(date) {
-                numbers = numbers.wrapping_add(day.number());
-            }
-        }
+        numbers = numbers.wrapping_add(dates.find_days());
     }
     let day_cost = cost(rt, &start, calls(times))?;
     if rounds.is_some() {

@@ -66,7 +66,7 @@ impl Dates {
         let mut numbers = 0u64;
         for date in &self.dates {
             if let Ok(day) = day_of_date(date) {
-                numbers = numbers.wrapping_add(day.number() as u64);
+                numbers = numbers.wrapping_add(day.number().unsigned_abs());
             }
         }
         numbers

@@ -205,15 +205,17 @@ impl RowWriter {
         ensures flushed { OnOk result (W.is_flushed output.new ≡ true) }
         ensures by { writes_by self.new ≡ writes_by self.old }
         ensures goes { OnOk result ((W.has_failed output.new ≡ W.has_failed output.old)
-            × (writing_failed self.old ≡ false) × (writing_failed self.new ≡ false)) }
+            × (writing_failed self.old ≡ false) × (writing_failed self.new ≡ false) × (has_sunk self.new ≡ false)) }
         ensures fails { OnErr result (writing_failed self.new ≡ true) }
-        ensures memory { IfErr result (λ e. e ≡ RowFault.OutOfMemory → output.new ≡ output.old) }
+        ensures memory { IfErr result (λ e. e ≡ RowFault.OutOfMemory → (output.new ≡ output.old)
+            × (pending_of self.new ≡ pending_of self.old) × (has_sunk self.new ≡ has_sunk self.old)) }
         ensures roomy { length (pending_of self.old) ≤ MOST_WAITING
             → IfErr result (λ e. e ≡ RowFault.OutOfMemory → ⊥) }
-        ensures fault { IfErr result (λ e. e ≡ RowFault.WriteFault → W.has_failed output.new ≡ true) }
+        ensures fault { IfErr result (λ e. e ≡ RowFault.WriteFault
+            → (W.has_failed output.new ≡ true) × (has_sunk self.new ≡ true)) }
         ensures only_failed { writing_failed self.old ≡ false → IfErr result (λ e. e ≡ RowFault.Failed → ⊥) }
         ensures failed { writing_failed self.old ≡ true
-            → (result ≡ Err RowFault.Failed) × (output.new ≡ output.old) }
+            → (result ≡ Err RowFault.Failed) × (output.new ≡ output.old) × (self.new ≡ self.old) }
         ensures mark { W.own_mark output.new ≡ W.own_mark output.old }
     {
         if !self.pending.is_empty() {

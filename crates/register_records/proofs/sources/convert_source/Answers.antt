@@ -55,7 +55,7 @@ returns-in-Err-put-clause-part g c =
     let inv = c.entries.invariant in
     if_broken _ _ _ c.broken-in-Err-put.ensures (λ cause is h.
     let memory = only_memory _ cause (sym c.cause-in-Err-put.ensures ∙ is) h in
-    rw (c.in-Err-put.ensures.memory memory)
+    rw (c.in-Err-put.ensures.memory memory).0
     (front _ _ _ _ _ _ _ _ inv.come inv.text inv.reads_by c.entries.entries.first))
 
 pub entries-preserved : goal.entries-preserved

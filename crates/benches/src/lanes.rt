@@ -1,7 +1,7 @@
 //! What an item costs on its way through a lane, beside a plain ring: on one thread, and from one thread to another.
 //!
-//! Each line has the words of an item and the slots of the ring, and then the nanoseconds per item: for the ring and for
-//! the lane on one thread, and for the ring and for the lane between two.
+//! Each line has the words of an item and the slots of the ring, and then the nanoseconds per item: for the ring and
+//! for the lane on one thread, and for the ring and for the lane between two.
 
 ghost use Rattle.std.specs.Prelude.{◌≤◌};
 

@@ -1,18 +1,19 @@
 //! What calls cost. Without arguments each part is run for a moment and no times are printed. With arguments:
 //!
-//! - `calendars N`: for each calendar the nanoseconds of one `date_on` and one `day_of`, over N rounds of a sample of days;
+//! - `calendars N`: for each calendar the nanoseconds of one `date_on` and one `day_of`, over N rounds of a sample of
+//!   days;
 //! - `texts N`: those of reading and writing a date, of finding a calendar's name, and of a cell of each target;
 //! - `lanes N`: those of an item on its way through a lane and through a plain ring, over N items;
 //! - `memory N`: registers of N records, over all calendars and of Gregorian dates alone, from memory to an output that
 //!   only counts, with every target and with none: records a second and nanoseconds a record, without a system call;
-//! - `runs N`: one source and four, of N records each, converted by a run over threads and on one thread, with none of the
-//!   targets;
-//! - `stress SEED SECONDS`: registers at random by a run and on one thread, compared, until the seconds are over or the two
-//!   differ;
+//! - `runs N`: one source and four, of N records each, converted by a run over threads and on one thread, with none of
+//!   the targets;
+//! - `stress SEED SECONDS`: registers at random by a run and on one thread, compared, until the seconds are over or the
+//!   two differ;
 //! - `make mixed|gregorian N FILE`: writes such a register to a file;
 //! - `files all|none INPUT OUTPUT`: converts a file to a file;
-//! - `lines INPUT OUTPUT`: writes the lines of a file to another by one write for each, which is what any program pays that
-//!   hands on each row.
+//! - `lines INPUT OUTPUT`: writes the lines of a file to another by one write for each, which is what any program pays
+//!   that hands on each row.
 #![tactic(auto)]
 
 mod calendars;

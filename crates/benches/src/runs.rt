@@ -1,8 +1,8 @@
 //! What a run over threads costs, beside the same sources converted one after the other on one thread, from memory to
 //! outputs that only count.
 //!
-//! Each line has the sources of a run, the converters of each and the items of a ring, and then the nanoseconds of a record:
-//! on one thread, and in the run. Each is the median of several conversions, the two in turn.
+//! Each line has the sources of a run, the converters of each and the items of a ring, and then the nanoseconds of a
+//! record: on one thread, and in the run. Each is the median of several conversions, the two in turn.
 
 use crate::records::counter::Counter;
 use crate::records::inputs::{Kind, register};
@@ -89,8 +89,8 @@ fn median(times: Vec<u128>) -> io::Result<u128> {
     Ok(*times.get(times.len() / 2).unwrap_or(&0))
 }
 
-/// Converts sources of so many records; where there is no number, of a few, once, and no times are printed. `false` where
-/// a source was not whole.
+/// Converts sources of so many records; where there is no number, of a few, once, and no times are printed. `false`
+/// where a source was not whole.
 pub(crate) fn measure_runs<R: Threads + Wait + Sync + Clock + Print>(
     rt: &R,
     alloc: Global,

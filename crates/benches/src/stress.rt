@@ -1,8 +1,8 @@
-//! Registers at random, converted by a run over threads, and by `convert_source` on one thread: both must end in the same
-//! way with the same bytes.
+//! Registers at random, converted by a run over threads, and by `convert_source` on one thread: both must end in the
+//! same way with the same bytes.
 //!
-//! Each run has a seed of its own, which says all of it: how many sources, their texts, in which pieces they are read and
-//! written, which of them fail and where, the targets, the ring, the stripes and whether the registers are sealed.
+//! Each run has a seed of its own, which says all of it: how many sources, their texts, in which pieces they are read
+//! and written, which of them fail and where, the targets, the ring, the stripes and whether the registers are sealed.
 
 mod streams;
 mod texts;

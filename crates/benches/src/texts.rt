@@ -13,8 +13,8 @@ use std::time::{Clock, Instant};
 /// Names as registers write them.
 const NAMES: [&str; 4] = ["gregorian", " Julian", "HEBREW", "french"];
 
-/// The dates of a calendar on a sample of days, and their texts. Each method makes a call for each of them, and answers a
-/// sum of what the calls gave, so that none is left out.
+/// The dates of a calendar on a sample of days, and their texts. Each method makes a call for each of them, and answers
+/// a sum of what the calls gave, so that none is left out.
 #[derive(Drop)]
 struct Dates {
     calendar: Calendar,
@@ -100,7 +100,8 @@ fn measure_dates<R: Clock + Print>(
     let day_cost = cost(rt, &start, calls(times))?;
     if rounds.is_some() {
         println!(rt;
-            "{:<10} read {read_cost:>4} ns  write {write_cost:>4} ns  day {day_cost:>4} ns  ({read} {written} {numbers})",
+            "{:<10} read {read_cost:>4} ns  write {write_cost:>4} ns  day {day_cost:>4} ns  \
+            ({read} {written} {numbers})",
             calendar.name()
         )?;
     }

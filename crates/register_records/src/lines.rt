@@ -134,7 +134,8 @@ impl Line {
     /// Appends a field that needs no quotes.
     pub fn push_plain(&mut self, field: &[u8]) -> Result<(), AllocError>
         requires { Spec.needs_quotes (writing (line_delimiter self.old)) field.now ≡ false }
-        ensures value { (fields : List (List ℕ)) → 1 ≤ length fields → Begins fields self.old → OnOk result (Begins (fields ++ field.now ∷ []) self.new) }
+        ensures value { (fields : List (List ℕ)) → 1 ≤ length fields → Begins fields self.old
+            → OnOk result (Begins (fields ++ field.now ∷ []) self.new) }
         ensures kept { line_delimiter self.new ≡ line_delimiter self.old }
         ensures room { line_len self.old + (1 + length field.now) ≤ LINE_ROOM → IsOk result }
         ensures grows { OnOk result (line_len self.new ≤ line_len self.old + (1 + length field.now)) }
@@ -146,7 +147,8 @@ impl Line {
 
     /// Appends a field, quoted where it must be.
     pub fn push(&mut self, field: &[u8]) -> Result<(), AllocError>
-        ensures value { (fields : List (List ℕ)) → 1 ≤ length fields → Begins fields self.old → OnOk result (Begins (fields ++ field.now ∷ []) self.new) }
+        ensures value { (fields : List (List ℕ)) → 1 ≤ length fields → Begins fields self.old
+            → OnOk result (Begins (fields ++ field.now ∷ []) self.new) }
         ensures kept { line_delimiter self.new ≡ line_delimiter self.old }
         ensures room { line_len self.old + (1 + field_room (length field.now)) ≤ LINE_ROOM → IsOk result }
         ensures grows { OnOk result (line_len self.new ≤ line_len self.old + (1 + field_room (length field.now))) }

@@ -27,7 +27,8 @@ pub struct Row {
 impl Row {
     ghost use Rattle.std.specs.Prelude.{◌↔◌, ◌∷◌, [], true, MatchOption};
     ghost use Rattle.register_records.specs.Tables.{notes_of};
-    ghost use Rattle.register_records.specs.Views.{row_cells, row_entry, row_outcome, row_seen, row_targets, targets_of};
+    ghost use Rattle.register_records.specs.Views.{row_cells, row_entry, row_outcome, row_seen, row_targets};
+    ghost use Rattle.register_records.specs.Views.{targets_of};
 
     /// The entry.
     pub fn entry(&self) -> &Entry

@@ -302,8 +302,8 @@ pub fn run_gated<T: Threads + Wait + Sync, R: Read + Send + Drop, W: Output + Dr
     Ok(run_in_scope(rt, gate, alloc, setup, sources, outputs, lists))
 }
 
-/// Converts many sources at once, as [`run_gated`] does with the gate [`Open`]. The clauses say what its report says, one
-/// by one.
+/// Converts many sources at once, as [`run_gated`] does with the gate [`Open`]. The clauses say what its report says,
+/// one by one.
 ///
 /// # Errors
 ///

@@ -3,8 +3,9 @@
 use crate::refusals::Refusal;
 use crate::requests::{Job, Request, read_request};
 use crate::tests::helpers::words_of;
-use register_records::Form;
+use register_records::{Form, Setup};
 use std::alloc::{AllocError, Global};
+use std::process::Abort;
 use std::test::Fail;
 
 /// A command line that is refused with status 2, and the text.
@@ -54,18 +55,25 @@ fn told(alloc: Global, refusal: &Refusal<'_>) -> Result<(u8, String), AllocError
     Ok((refusal.status(), text))
 }
 
+/// The exit status and the text of the refusal of these words.
+///
+/// # Errors
+///
+/// Want of memory, and words that are not refused.
+fn refusal_of(alloc: Global, words: &[String]) -> Result<(u8, String), Fail> {
+    match read_request(alloc, words) {
+        Ok(_) => Err(Fail::from("the words are not refused")),
+        Err(refusal) => Ok(told(alloc, &refusal)?),
+    }
+}
+
 #[test]
 fn words_are_refused_by_the_first_fault(rt: HostRuntime) -> Result<(), Fail> {
     for line in &REFUSED {
         let words = words_of(rt.alloc(), line.words)?;
-        match read_request(rt.alloc(), words.as_slice()) {
-            Ok(_) => assert!(rt; false),
-            Err(refusal) => {
-                let (status, text) = told(rt.alloc(), &refusal)?;
-                assert_eq!(rt; status, 2);
-                assert_eq!(rt; text.as_str(), line.text);
-            }
-        }
+        let (status, text) = refusal_of(rt.alloc(), words.as_slice())?;
+        assert_eq!(rt; status, 2);
+        assert_eq!(rt; text.as_str(), line.text);
     }
     Ok(())
 }
@@ -133,14 +141,9 @@ const MISUSES: [Misuse; 9] = [
 fn misused_words_are_refused(rt: HostRuntime) -> Result<(), Fail> {
     for misuse in &MISUSES {
         let words = words_of(rt.alloc(), misuse.words)?;
-        match read_request(rt.alloc(), words.as_slice()) {
-            Ok(_) => assert!(rt; false),
-            Err(refusal) => {
-                let (status, text) = told(rt.alloc(), &refusal)?;
-                assert_eq!(rt; status, 2);
-                assert!(rt; text.as_str().starts_with(misuse.message));
-            }
-        }
+        let (status, text) = refusal_of(rt.alloc(), words.as_slice())?;
+        assert_eq!(rt; status, 2);
+        assert!(rt; text.as_str().starts_with(misuse.message));
     }
     Ok(())
 }
@@ -245,16 +248,21 @@ fn listed(alloc: Global, files: &[&str]) -> Result<String, AllocError> {
     Ok(text)
 }
 
+/// Asserts that this is what is asked of each table and of the run.
+fn assert_setup(rt: &impl Abort, setup: &Setup, line: &Asked) {
+    assert_eq!(rt; setup.ring(), line.ring);
+    assert_eq!(rt; setup.stripes(), line.stripes);
+    assert_eq!(rt; setup.delimiter(), line.delimiter);
+    assert_eq!(rt; setup.form(), line.form);
+    assert_eq!(rt; setup.targets().len(), line.targets);
+}
+
 #[test]
 fn words_ask_for_conversions(rt: HostRuntime) -> Result<(), Fail> {
     for line in &ASKED {
         let words = words_of(rt.alloc(), line.words)?;
         let job = job_of(rt.alloc(), words.as_slice()).expect(&rt, "a conversion");
-        assert_eq!(rt; job.setup.ring(), line.ring);
-        assert_eq!(rt; job.setup.stripes(), line.stripes);
-        assert_eq!(rt; job.setup.delimiter(), line.delimiter);
-        assert_eq!(rt; job.setup.form(), line.form);
-        assert_eq!(rt; job.setup.targets().len(), line.targets);
+        assert_setup(&rt, &job.setup, line);
         assert_eq!(rt; job.summary, line.summary);
         let files = listed(rt.alloc(), job.files.as_slice())?;
         assert_eq!(rt; files.as_str(), line.files);
@@ -283,14 +291,9 @@ fn files_may_be_32(rt: HostRuntime) -> Result<(), Fail> {
 fn files_are_no_more_than_32(rt: HostRuntime) -> Result<(), Fail> {
     let mut words = many_files(rt.alloc(), 32)?;
     words.push(String::from_str(rt.alloc(), "0.csv")?)?;
-    match read_request(rt.alloc(), words.as_slice()) {
-        Ok(_) => assert!(rt; false),
-        Err(refusal) => {
-            let (status, text) = told(rt.alloc(), &refusal)?;
-            assert_eq!(rt; status, 2);
-            assert_eq!(rt; text.as_str(), "more than 32 files");
-        }
-    }
+    let (status, text) = refusal_of(rt.alloc(), words.as_slice())?;
+    assert_eq!(rt; status, 2);
+    assert_eq!(rt; text.as_str(), "more than 32 files");
     Ok(())
 }
 
@@ -304,25 +307,23 @@ const FOR_VERSION: [&[&str]; 4] = [
     &["a", "a", "--version"],
 ];
 
+/// Whether these words ask for help, and whether they ask for the version.
+fn pages_asked(alloc: Global, words: &[&str]) -> Result<(bool, bool), AllocError> {
+    let words = words_of(alloc, words)?;
+    let request = read_request(alloc, words.as_slice());
+    Ok((
+        matches!(&request, Ok(Request::Help)),
+        matches!(&request, Ok(Request::Version)),
+    ))
+}
+
 #[test]
 fn help_and_version_come_first(rt: HostRuntime) -> Result<(), Fail> {
     for words in &FOR_HELP {
-        let words = words_of(rt.alloc(), words)?;
-        assert!(rt;
-            matches!(
-                read_request(rt.alloc(), words.as_slice()),
-                Ok(Request::Help)
-            )
-        );
+        assert_eq!(rt; pages_asked(rt.alloc(), words)?, (true, false));
     }
     for words in &FOR_VERSION {
-        let words = words_of(rt.alloc(), words)?;
-        assert!(rt;
-            matches!(
-                read_request(rt.alloc(), words.as_slice()),
-                Ok(Request::Version)
-            )
-        );
+        assert_eq!(rt; pages_asked(rt.alloc(), words)?, (false, true));
     }
     Ok(())
 }

@@ -9,12 +9,23 @@ use register_records::PlainOutput;
 use std::alloc::{AllocError, Global};
 use std::io;
 use std::io::{ErrorKind, Write};
+use std::process::Abort;
 use std::sync::Wait;
 use std::test::Fail;
 use std::thread::Threads;
 
 /// Room for all that these tests write.
 const ROOM: usize = 8192;
+
+/// Where a stream breaks: where it has so many bytes, or at each flush.
+#[derive(Clone, Copy, Debug)]
+enum Break {
+    After(usize),
+    AtFlush,
+}
+
+/// A stream breaks nowhere.
+const NOWHERE: Break = Break::After(ROOM);
 
 /// A stream over memory that breaks where its room is used up, or at each flush. It takes all its memory at once.
 #[derive(Drop)]
@@ -25,21 +36,16 @@ struct Breaking {
 }
 
 impl Breaking {
-    /// A stream with room for so many bytes.
-    fn after(alloc: Global, room: usize) -> Result<Breaking, AllocError> {
+    /// A stream that breaks there.
+    fn new(alloc: Global, place: Break) -> Result<Breaking, AllocError> {
+        let (room, breaks_at_flush) = match place {
+            Break::After(room) => (room, false),
+            Break::AtFlush => (ROOM, true),
+        };
         Ok(Breaking {
             bytes: Vec::with_capacity(alloc, ROOM)?,
             room,
-            breaks_at_flush: false,
-        })
-    }
-
-    /// A stream with room for all, which cannot be flushed.
-    fn at_flush(alloc: Global) -> Result<Breaking, AllocError> {
-        Ok(Breaking {
-            bytes: Vec::with_capacity(alloc, ROOM)?,
-            room: ROOM,
-            breaks_at_flush: true,
+            breaks_at_flush,
         })
     }
 }
@@ -85,7 +91,7 @@ impl Places<&'static [u8], PlainOutput<Breaking>> for Folder {
         if name == "locked.csv.out.csv" {
             return Err(io::Error::from(ErrorKind::PermissionDenied));
         }
-        let table = Breaking::after(self.alloc, ROOM)?;
+        let table = Breaking::new(self.alloc, NOWHERE)?;
         Ok(PlainOutput::new(table, mark))
     }
 
@@ -190,14 +196,15 @@ const CASES: [Case; 12] = [
     },
 ];
 
-/// What these words give where standard error is this stream.
+/// What these words give where standard error breaks there.
 fn hear_with(
     rt: &(impl Threads + Wait + Sync),
     alloc: Global,
     case: &Case,
-    errors: Breaking,
+    errors: Break,
 ) -> Result<Heard<Breaking, Breaking>, AllocError> {
-    let output = Breaking::after(alloc, ROOM)?;
+    let output = Breaking::new(alloc, NOWHERE)?;
+    let errors = Breaking::new(alloc, errors)?;
     hear(
         rt,
         alloc,
@@ -210,96 +217,107 @@ fn hear_with(
 }
 
 /// Whether the status, standard output and the tables are as they are wanted.
-fn is_as_wanted(heard: Heard<Breaking, Breaking>, case: &Case) -> bool {
-    let mut tables = case.tables.iter();
-    let mut right = heard.status == case.status
+fn is_as_wanted(heard: &Heard<Breaking, Breaking>, case: &Case) -> bool {
+    heard.status == case.status
         && heard.output.bytes.as_slice() == case.output
-        && heard.outputs.len() == case.tables.len();
-    for output in heard.outputs {
-        let Some(table) = tables.next() else {
-            return false;
-        };
-        right = right && output.into_inner().bytes.as_slice() == *table;
-    }
-    right
+        && heard.outputs.len() == case.tables.len()
+        && heard
+            .outputs
+            .iter()
+            .zip(case.tables)
+            .all(|(output, table)| output.bytes.as_slice() == *table)
+}
+
+/// What stands on standard error that breaks there, beside a status, an output and tables that are as they are wanted.
+fn told_beside(
+    rt: &(impl Threads + Wait + Sync + Abort),
+    alloc: Global,
+    case: &Case,
+    errors: Break,
+) -> Result<Vec<u8>, AllocError> {
+    let heard = hear_with(rt, alloc, case, errors)?;
+    assert!(rt; is_as_wanted(&heard, case), "{case:?}, {errors:?}");
+    Ok(heard.errors.bytes)
 }
 
 #[test]
 fn standard_error_that_breaks_changes_neither_status_nor_tables(
     rt: HostRuntime,
 ) -> Result<(), Fail> {
-    let alloc = rt.alloc();
     for case in &CASES {
         for room in 0..case.errors.len() {
-            let heard = hear_with(&rt, alloc, case, Breaking::after(alloc, room)?)?;
-            let told = heard.errors.bytes.as_slice();
-            assert_eq!(rt; told.len(), room, "{case:?}");
-            assert!(rt; case.errors.starts_with(told), "{case:?} at {room}");
-            assert!(rt; is_as_wanted(heard, case), "{case:?} at {room}");
+            let told = told_beside(&rt, rt.alloc(), case, Break::After(room))?;
+            assert_eq!(rt; told.as_slice(), &case.errors[..room], "{case:?}");
         }
-        let heard = hear_with(&rt, alloc, case, Breaking::at_flush(alloc)?)?;
+        let told = told_beside(&rt, rt.alloc(), case, Break::AtFlush)?;
         assert!(rt;
-            case.errors.starts_with(heard.errors.bytes.as_slice())
-                || heard.errors.bytes.as_slice().starts_with(case.errors),
+            case.errors.starts_with(told.as_slice()) || told.starts_with(case.errors),
             "{case:?}"
         );
-        assert!(rt; is_as_wanted(heard, case), "{case:?} at its flush");
-        let heard = hear_with(&rt, alloc, case, Breaking::after(alloc, ROOM)?)?;
-        assert!(rt;
-            heard.errors.bytes.as_slice().starts_with(case.errors),
-            "{case:?}"
-        );
-        assert!(rt; is_as_wanted(heard, case), "{case:?}");
+        let told = told_beside(&rt, rt.alloc(), case, NOWHERE)?;
+        assert!(rt; told.starts_with(case.errors), "{case:?}");
     }
     Ok(())
 }
 
+/// The words that ask for a page, and the page.
+const PAGES: [(&str, &str); 4] = [
+    ("--help", HELP),
+    ("-h", HELP),
+    ("--version", "register 1.0.0\n"),
+    ("-V", "register 1.0.0\n"),
+];
+
 const CANNOT_PRINT: &[u8] = b"register: cannot write to standard output\n";
 
-/// What a page gives where standard output and standard error are these streams.
+/// What a page gives where standard output and standard error break there.
 fn hear_page(
     rt: &(impl Threads + Wait + Sync),
     alloc: Global,
     word: &str,
-    output: Breaking,
-    errors: Breaking,
+    output: Break,
+    errors: Break,
 ) -> Result<Heard<Breaking, Breaking>, AllocError> {
     let text: &'static [u8] = b"";
+    let output = Breaking::new(alloc, output)?;
+    let errors = Breaking::new(alloc, errors)?;
     hear(rt, alloc, &[word], text, output, &NoPlaces, errors)
+}
+
+/// What stands on standard output of a page, where it breaks there. Standard error breaks there too, the status is 1,
+/// and this is told.
+fn printed_of(
+    rt: &(impl Threads + Wait + Sync + Abort),
+    alloc: Global,
+    word: &str,
+    output: Break,
+    errors: Break,
+    told: &[u8],
+) -> Result<Vec<u8>, AllocError> {
+    let heard = hear_page(rt, alloc, word, output, errors)?;
+    assert_eq!(rt; heard.status, 1, "{word}, {output:?}, {errors:?}");
+    assert_eq!(rt; heard.errors.bytes.as_slice(), told);
+    Ok(heard.output.bytes)
 }
 
 #[test]
 fn a_page_that_cannot_be_printed_is_told(rt: HostRuntime) -> Result<(), Fail> {
     let alloc = rt.alloc();
-    for (word, page) in [
-        ("--help", HELP),
-        ("-h", HELP),
-        ("--version", "register 1.0.0\n"),
-        ("-V", "register 1.0.0\n"),
-    ] {
+    for (word, page) in PAGES {
         let size = page.len();
         for room in [0, 1, size / 2, size.saturating_sub(1)] {
-            let output = Breaking::after(alloc, room)?;
-            let heard = hear_page(&rt, alloc, word, output, Breaking::after(alloc, ROOM)?)?;
-            assert_eq!(rt; heard.status, 1, "{word} at {room}");
-            assert_eq!(rt; heard.output.bytes.len(), room);
-            assert!(rt; page.as_bytes().starts_with(heard.output.bytes.as_slice()));
-            assert_eq!(rt; heard.errors.bytes.as_slice(), CANNOT_PRINT);
+            let printed = printed_of(&rt, alloc, word, Break::After(room), NOWHERE, CANNOT_PRINT)?;
+            assert_eq!(rt; printed.len(), room);
+            assert!(rt; page.as_bytes().starts_with(printed.as_slice()));
         }
-        let output = Breaking::at_flush(alloc)?;
-        let heard = hear_page(&rt, alloc, word, output, Breaking::after(alloc, ROOM)?)?;
-        assert_eq!(rt; heard.status, 1, "{word} at its flush");
-        assert_eq!(rt; heard.errors.bytes.as_slice(), CANNOT_PRINT);
+        printed_of(&rt, alloc, word, Break::AtFlush, NOWHERE, CANNOT_PRINT)?;
         // Standard error breaks too, at each byte.
         for room in 0..CANNOT_PRINT.len() {
-            let output = Breaking::after(alloc, 0)?;
-            let heard = hear_page(&rt, alloc, word, output, Breaking::after(alloc, room)?)?;
-            assert_eq!(rt; heard.status, 1, "{word} at {room}");
-            assert!(rt; CANNOT_PRINT.starts_with(heard.errors.bytes.as_slice()));
+            let told = &CANNOT_PRINT[..room];
+            printed_of(&rt, alloc, word, Break::After(0), Break::After(room), told)?;
         }
         // A page that is printed says nothing on standard error, so it may break.
-        let output = Breaking::after(alloc, size)?;
-        let heard = hear_page(&rt, alloc, word, output, Breaking::after(alloc, 0)?)?;
+        let heard = hear_page(&rt, alloc, word, Break::After(size), Break::After(0))?;
         assert_eq!(rt; heard.status, 0, "{word}");
         assert_eq!(rt; heard.output.bytes.as_slice(), page.as_bytes());
     }
@@ -336,80 +354,73 @@ fn are_lines_of_memory(errors: &[u8], wanted: &[u8]) -> bool {
 }
 
 /// Whether a run that was refused memory once has left whole lines at the front of each table.
-fn has_fronts(heard: Heard<Breaking, Breaking>, case: &Case) -> bool {
-    let mut tables = case.tables.iter();
-    let mut right = is_front(heard.output.bytes.as_slice(), case.output)
-        && heard.outputs.len() == case.tables.len();
-    for output in heard.outputs {
-        let Some(table) = tables.next() else {
-            return false;
-        };
-        right = right && is_front(output.into_inner().bytes.as_slice(), table);
-    }
-    right
+fn has_fronts(heard: &Heard<Breaking, Breaking>, case: &Case) -> bool {
+    is_front(heard.output.bytes.as_slice(), case.output)
+        && heard.outputs.len() == case.tables.len()
+        && heard
+            .outputs
+            .iter()
+            .zip(case.tables)
+            .all(|(output, table)| is_front(output.bytes.as_slice(), table))
 }
 
 /// Whether nothing was written to standard output and to the tables.
-fn is_unwritten(heard: Heard<Breaking, Breaking>) -> bool {
-    let mut right = heard.output.bytes.is_empty();
-    for output in heard.outputs {
-        right = right && output.into_inner().bytes.is_empty();
-    }
-    right
+fn is_unwritten(heard: &Heard<Breaking, Breaking>) -> bool {
+    heard.output.bytes.is_empty() && heard.outputs.iter().all(|output| output.bytes.is_empty())
 }
 
-// It passes whichever allocation is refused: then this is told, with nothing written, or one source is broken. A table
-// that is refused its memory cannot be made.
+/// Whether this tells that there was no memory before the run, or what is wanted where no allocation is refused.
+fn tells_status_3(told: &[u8], case: &Case) -> bool {
+    let as_wanted = case.status == 3 && told == case.errors;
+    let cannot_make = told.starts_with(b"register: cannot make ");
+    as_wanted || cannot_make || told == OUT_OF_MEMORY
+}
+
+/// Whether these words may be answered so where one allocation is refused: this is told, with nothing written, or one
+/// source is broken. A table that is refused its memory cannot be made.
+fn fits_refused_memory(heard: &Heard<Breaking, Breaking>, case: &Case) -> bool {
+    let told = heard.errors.bytes.as_slice();
+    match heard.status {
+        3 => tells_status_3(told, case) && is_unwritten(heard),
+        1 => {
+            case.status <= 1 && are_lines_of_memory(told, case.errors) && has_fronts(heard, case)
+        }
+        _ => told.starts_with(case.errors) && is_as_wanted(heard, case),
+    }
+}
+
+// It passes whichever allocation is refused.
 #[test]
 fn words_that_are_refused_memory_are_told(rt: HostRuntime) {
-    let alloc = rt.alloc();
     for case in &CASES {
-        let Ok(errors) = Breaking::after(alloc, ROOM) else {
+        let Ok(heard) = hear_with(&rt, rt.alloc(), case, NOWHERE) else {
             return;
         };
-        let Ok(heard) = hear_with(&rt, alloc, case, errors) else {
-            return;
-        };
-        let told = heard.errors.bytes.as_slice();
-        if heard.status == 3 {
-            let as_wanted = case.status == 3 && told == case.errors;
-            let cannot_make = told.starts_with(b"register: cannot make ");
-            assert!(rt;
-                as_wanted || cannot_make || told == OUT_OF_MEMORY,
-                "{case:?}"
-            );
-            assert!(rt; is_unwritten(heard), "{case:?}");
-        } else if heard.status == 1 {
-            assert!(rt; case.status <= 1, "{case:?}");
-            assert!(rt; are_lines_of_memory(told, case.errors), "{case:?}");
-            assert!(rt; has_fronts(heard, case), "{case:?}");
-        } else {
-            assert!(rt; told.starts_with(case.errors), "{case:?}");
-            assert!(rt; is_as_wanted(heard, case), "{case:?}");
-        }
+        let status = heard.status;
+        assert!(rt;
+            fits_refused_memory(&heard, case),
+            "{case:?}: status {status}"
+        );
     }
 }
 
-// The same of a page, which is printed or not.
+/// Whether a page is printed, with nothing told, or this is told for want of memory, with nothing printed.
+fn is_printed_or_told(heard: &Heard<Breaking, Breaking>, page: &str) -> bool {
+    let printed = heard.output.bytes.as_slice();
+    let told = heard.errors.bytes.as_slice();
+    match heard.status {
+        3 => told == OUT_OF_MEMORY && printed.is_empty(),
+        status => status == 0 && told.is_empty() && printed == page.as_bytes(),
+    }
+}
+
+// The same of a page.
 #[test]
 fn a_page_that_is_refused_memory_is_told(rt: HostRuntime) {
-    let alloc = rt.alloc();
     for (word, page) in [("--help", HELP), ("--version", "register 1.0.0\n")] {
-        let (Ok(output), Ok(errors)) = (Breaking::after(alloc, ROOM), Breaking::after(alloc, ROOM))
-        else {
+        let Ok(heard) = hear_page(&rt, rt.alloc(), word, NOWHERE, NOWHERE) else {
             return;
         };
-        let Ok(heard) = hear_page(&rt, alloc, word, output, errors) else {
-            return;
-        };
-        let told = heard.errors.bytes.as_slice();
-        if heard.status == 3 {
-            assert_eq!(rt; told, OUT_OF_MEMORY);
-            assert!(rt; heard.output.bytes.is_empty());
-        } else {
-            assert_eq!(rt; heard.status, 0);
-            assert!(rt; told.is_empty());
-            assert_eq!(rt; heard.output.bytes.as_slice(), page.as_bytes());
-        }
+        assert!(rt; is_printed_or_told(&heard, page), "{word}");
     }
 }

@@ -1,148 +1,145 @@
 //! Command lines over one text, and the answers to them.
 
-use crate::tests::helpers::hear_text;
+use crate::tests::helpers::{TextCase, assert_answers, hear_text};
 use std::test::Fail;
-
-/// What a command line gives for one text: the status, the output and standard error.
-#[derive(Clone, Copy)]
-struct Line {
-    words: &'static [&'static str],
-    status: u8,
-    output: &'static [u8],
-    errors: &'static [u8],
-}
 
 /// The text that the command lines are run on.
 const TEXT: &[u8] = b"id,calendar,date\nb,julian,1582-10-05\n";
 
-const LINES: [Line; 18] = [
+/// Its table with every target.
+const EVERY_TARGET: &[u8] = b"\
+    row,id,calendar,date,rd,weekday,\
+    gregorian,iso,julian,coptic,ethiopic,egyptian,armenian,\
+    islamic,hebrew,longcount,french,roman,haab,tzolkin,refusal\n\
+    1,b,julian,1582-10-05,577736,Friday,\
+    1582-10-15,1582-W41-5,1582-10-05,1299-02-08,1575-02-08,2331-03-14,1031-12-14,\
+    0990-09-17,5343-07-19,11.18.3.9.18,,1582-10-N3,11 Tzec,13 Etznab,\n";
+
+/// A command line that is taken.
+const TAKEN: TextCase = TextCase {
+    words: &[],
+    input: TEXT,
+    status: 0,
+    output: b"",
+    errors: b"",
+};
+
+/// A command line that is refused.
+const REFUSED: TextCase = TextCase { status: 2, ..TAKEN };
+
+const LINES: [TextCase; 18] = [
     // Every target, in the default order.
-    Line {
-        words: &[],
-        status: 0,
-        output: b"row,id,calendar,date,rd,weekday,gregorian,iso,julian,coptic,ethiopic,egyptian,armenian,islamic,hebrew,longcount,french,roman,haab,tzolkin,refusal\n1,b,julian,1582-10-05,577736,Friday,1582-10-15,1582-W41-5,1582-10-05,1299-02-08,1575-02-08,2331-03-14,1031-12-14,0990-09-17,5343-07-19,11.18.3.9.18,,1582-10-N3,11 Tzec,13 Etznab,\n",
-        errors: b"",
+    TextCase {
+        output: EVERY_TARGET,
+        ..TAKEN
     },
-    Line {
+    TextCase {
         words: &[
             "--to",
             "gregorian,iso,julian,coptic,ethiopic,egyptian,armenian,islamic,hebrew,longcount,french,roman,haab,tzolkin",
         ],
-        status: 0,
-        output: b"row,id,calendar,date,rd,weekday,gregorian,iso,julian,coptic,ethiopic,egyptian,armenian,islamic,hebrew,longcount,french,roman,haab,tzolkin,refusal\n1,b,julian,1582-10-05,577736,Friday,1582-10-15,1582-W41-5,1582-10-05,1299-02-08,1575-02-08,2331-03-14,1031-12-14,0990-09-17,5343-07-19,11.18.3.9.18,,1582-10-N3,11 Tzec,13 Etznab,\n",
-        errors: b"",
+        output: EVERY_TARGET,
+        ..TAKEN
     },
     // The targets that are named, in their order, in either letter case and with blanks.
-    Line {
+    TextCase {
         words: &["--to", "gregorian"],
-        status: 0,
-        output: b"row,id,calendar,date,rd,weekday,gregorian,refusal\n1,b,julian,1582-10-05,577736,Friday,1582-10-15,\n",
-        errors: b"",
+        output: b"\
+            row,id,calendar,date,rd,weekday,gregorian,refusal\n\
+            1,b,julian,1582-10-05,577736,Friday,1582-10-15,\n",
+        ..TAKEN
     },
-    Line {
+    TextCase {
         words: &["--to", " Julian ,\tGREGORIAN"],
-        status: 0,
-        output: b"row,id,calendar,date,rd,weekday,julian,gregorian,refusal\n1,b,julian,1582-10-05,577736,Friday,1582-10-05,1582-10-15,\n",
-        errors: b"",
+        output: b"\
+            row,id,calendar,date,rd,weekday,julian,gregorian,refusal\n\
+            1,b,julian,1582-10-05,577736,Friday,1582-10-05,1582-10-15,\n",
+        ..TAKEN
     },
-    Line {
+    TextCase {
         words: &["--to=julian"],
-        status: 0,
-        output: b"row,id,calendar,date,rd,weekday,julian,refusal\n1,b,julian,1582-10-05,577736,Friday,1582-10-05,\n",
-        errors: b"",
+        output: b"\
+            row,id,calendar,date,rd,weekday,julian,refusal\n\
+            1,b,julian,1582-10-05,577736,Friday,1582-10-05,\n",
+        ..TAKEN
     },
-    Line {
+    TextCase {
         words: &["--to", "none"],
-        status: 0,
-        output: b"row,id,calendar,date,rd,weekday,refusal\n1,b,julian,1582-10-05,577736,Friday,\n",
-        errors: b"",
+        output: b"\
+            row,id,calendar,date,rd,weekday,refusal\n\
+            1,b,julian,1582-10-05,577736,Friday,\n",
+        ..TAKEN
     },
     // A comma, in words.
-    Line {
+    TextCase {
         words: &["--delimiter", "comma", "--to", "none"],
-        status: 0,
-        output: b"row,id,calendar,date,rd,weekday,refusal\n1,b,julian,1582-10-05,577736,Friday,\n",
-        errors: b"",
+        output: b"\
+            row,id,calendar,date,rd,weekday,refusal\n\
+            1,b,julian,1582-10-05,577736,Friday,\n",
+        ..TAKEN
     },
     // Names of targets that are none, and targets named twice: the first from the left.
-    Line {
+    TextCase {
         words: &["--to", "none,julian"],
-        status: 2,
-        output: b"",
         errors: b"register: unknown target: none\n",
+        ..REFUSED
     },
-    Line {
+    TextCase {
         words: &["--to", "None"],
-        status: 2,
-        output: b"",
         errors: b"register: unknown target: None\n",
+        ..REFUSED
     },
-    Line {
+    TextCase {
         words: &["--to", ""],
-        status: 2,
-        output: b"",
         errors: b"register: unknown target: \n",
+        ..REFUSED
     },
-    Line {
+    TextCase {
         words: &["--to", "julian,"],
-        status: 2,
-        output: b"",
         errors: b"register: unknown target: \n",
+        ..REFUSED
     },
-    Line {
+    TextCase {
         words: &["--to", "julian, Mayan ,julian"],
-        status: 2,
-        output: b"",
         errors: b"register: unknown target:  Mayan \n",
+        ..REFUSED
     },
-    Line {
+    TextCase {
         words: &["--to", "julian,Julian"],
-        status: 2,
-        output: b"",
         errors: b"register: target named twice: julian\n",
+        ..REFUSED
     },
-    Line {
+    TextCase {
         words: &["--to", "gregorian,julian, GREGORIAN ,x"],
-        status: 2,
-        output: b"",
         errors: b"register: target named twice: gregorian\n",
+        ..REFUSED
     },
     // Delimiters that are none; a fault of the targets comes before one of the delimiter.
-    Line {
+    TextCase {
         words: &["--delimiter", ";"],
-        status: 2,
-        output: b"",
         errors: b"register: unknown delimiter: ;\n",
+        ..REFUSED
     },
-    Line {
+    TextCase {
         words: &["--delimiter", "Tab"],
-        status: 2,
-        output: b"",
         errors: b"register: unknown delimiter: Tab\n",
+        ..REFUSED
     },
-    Line {
+    TextCase {
         words: &["--delimiter="],
-        status: 2,
-        output: b"",
         errors: b"register: unknown delimiter: \n",
+        ..REFUSED
     },
-    Line {
+    TextCase {
         words: &["--delimiter", "y", "--to", "x"],
-        status: 2,
-        output: b"",
         errors: b"register: unknown target: x\n",
+        ..REFUSED
     },
 ];
 
 #[test]
 fn command_lines_get_their_answers(rt: HostRuntime) -> Result<(), Fail> {
-    for line in &LINES {
-        let heard = hear_text(&rt, rt.alloc(), line.words, TEXT)?;
-        assert_eq!(rt; heard.status, line.status);
-        assert_eq!(rt; heard.output.as_slice(), line.output);
-        assert_eq!(rt; heard.errors.as_slice(), line.errors);
-    }
-    Ok(())
+    assert_answers(&rt, rt.alloc(), &LINES)
 }
 
 /// A command line that is not written as the options are taken, and how the text about it begins.

@@ -4,6 +4,7 @@ use crate::disk::{Disk, Sink, Source};
 use crate::tests::helpers::{Heard, ONE_RECORD, ONE_ROW, hear};
 use std::alloc::{AllocError, Global};
 use std::fs;
+use std::process::Abort;
 use std::rt::Files;
 use std::sync::Wait;
 use std::test::Fail;
@@ -46,49 +47,80 @@ where
     )
 }
 
-#[test]
-fn files_on_disk_get_their_tables(rt: HostRuntime) -> Result<(), Fail> {
-    let alloc = rt.alloc();
-    let _ = fs::remove_dir_all(&rt, FOLDER);
-    fs::create_dir(&rt, FOLDER)?;
-    fs::write(&rt, REGISTER, ONE_RECORD)?;
+/// Asserts that a file on disk gets its table.
+fn assert_one_table<T: Threads + Wait + Sync + Files + AllocGlobal + Abort>(
+    rt: &T,
+) -> Result<(), Fail>
+where
+    T::File: Send,
+{
+    fs::write(rt, REGISTER, ONE_RECORD)?;
     // What stood in the table's file is gone.
     fs::write(
-        &rt,
+        rt,
         TABLE,
         b"an older and longer text that stands where the table comes to stand, and more\n".as_slice(),
     )?;
-    let heard = hear_on_disk(&rt, alloc, &["--to", "gregorian", REGISTER])?;
+    let heard = hear_on_disk(rt, rt.alloc(), &["--to", "gregorian", REGISTER])?;
     assert_eq!(rt; heard.status, 0);
     assert!(rt; heard.errors.is_empty());
-    assert_eq!(rt; fs::read(&rt, TABLE)?.as_slice(), ONE_ROW);
+    assert_eq!(rt; fs::read(rt, TABLE)?.as_slice(), ONE_ROW);
+    Ok(())
+}
 
-    // Two files.
-    fs::write(&rt, OTHER_REGISTER, ONE_RECORD)?;
-    let heard = hear_on_disk(&rt, alloc, &["--to", "gregorian", REGISTER, OTHER_REGISTER])?;
+/// Asserts that two files on disk get their tables.
+fn assert_two_tables<T: Threads + Wait + Sync + Files + AllocGlobal + Abort>(
+    rt: &T,
+) -> Result<(), Fail>
+where
+    T::File: Send,
+{
+    fs::write(rt, OTHER_REGISTER, ONE_RECORD)?;
+    let heard = hear_on_disk(
+        rt,
+        rt.alloc(),
+        &["--to", "gregorian", REGISTER, OTHER_REGISTER],
+    )?;
     assert_eq!(rt; heard.status, 0);
-    assert_eq!(rt; fs::read(&rt, TABLE)?.as_slice(), ONE_ROW);
-    assert_eq!(rt; fs::read(&rt, OTHER_TABLE)?.as_slice(), ONE_ROW);
+    assert_eq!(rt; fs::read(rt, TABLE)?.as_slice(), ONE_ROW);
+    assert_eq!(rt; fs::read(rt, OTHER_TABLE)?.as_slice(), ONE_ROW);
+    Ok(())
+}
 
-    // A folder, a file that is not there, and two names of one file.
-    let heard = hear_on_disk(&rt, alloc, &[FOLDER])?;
-    assert_eq!(rt; heard.status, 3);
-    assert_eq!(rt;
-        heard.errors.as_slice(),
-        b"register: cannot open files_of_the_test\n".as_slice()
-    );
-    let heard = hear_on_disk(&rt, alloc, &["files_of_the_test/none.csv"])?;
-    assert_eq!(rt; heard.status, 3);
-    assert_eq!(rt;
-        heard.errors.as_slice(),
-        b"register: cannot open files_of_the_test/none.csv\n".as_slice()
-    );
-    let heard = hear_on_disk(&rt, alloc, &[REGISTER, SAME_REGISTER])?;
-    assert_eq!(rt; heard.status, 3);
-    assert_eq!(rt;
-        heard.errors.as_slice(),
-        b"register: cannot make files_of_the_test/./register.csv.out.csv\n".as_slice()
-    );
+/// Files that are refused, and what is told.
+#[derive(Clone, Copy)]
+struct Refused {
+    files: &'static [&'static str],
+    told: &'static [u8],
+}
+
+/// A folder, a file that is not there, and two names of one file.
+const REFUSED: [Refused; 3] = [
+    Refused {
+        files: &[FOLDER],
+        told: b"register: cannot open files_of_the_test\n",
+    },
+    Refused {
+        files: &["files_of_the_test/none.csv"],
+        told: b"register: cannot open files_of_the_test/none.csv\n",
+    },
+    Refused {
+        files: &[REGISTER, SAME_REGISTER],
+        told: b"register: cannot make files_of_the_test/./register.csv.out.csv\n",
+    },
+];
+
+#[test]
+fn files_on_disk_get_their_tables(rt: HostRuntime) -> Result<(), Fail> {
+    let _ = fs::remove_dir_all(&rt, FOLDER);
+    fs::create_dir(&rt, FOLDER)?;
+    assert_one_table(&rt)?;
+    assert_two_tables(&rt)?;
+    for refused in &REFUSED {
+        let heard = hear_on_disk(&rt, rt.alloc(), refused.files)?;
+        assert_eq!(rt; heard.status, 3);
+        assert_eq!(rt; heard.errors.as_slice(), refused.told);
+    }
     fs::remove_dir_all(&rt, FOLDER)?;
     Ok(())
 }

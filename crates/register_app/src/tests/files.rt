@@ -3,12 +3,14 @@
 ghost use Rattle.std.specs.Prelude.{⊤};
 
 use crate::places::Places;
-use crate::tests::helpers::{ONE_RECORD, ONE_ROW, hear};
+use crate::tests::helpers::{Heard, ONE_RECORD, ONE_ROW, hear};
 use register_records::PlainOutput;
 use std::alloc::{AllocError, Global};
 use std::io;
 use std::io::ErrorKind;
+use std::sync::Wait;
 use std::test::Fail;
+use std::thread::Threads;
 
 /// Files in memory: a text for each name, and an output for each that is made.
 #[derive(Clone, Copy)]
@@ -106,29 +108,41 @@ const FILES: [FilesCase; 8] = [
     },
 ];
 
+/// What these words give over the shelf, with nothing on standard input.
+fn hear_files(
+    rt: &(impl Threads + Wait + Sync),
+    alloc: Global,
+    words: &[&str],
+) -> Result<Heard<Vec<u8>, Vec<u8>>, AllocError> {
+    let input: &'static [u8] = b"";
+    hear(
+        rt,
+        alloc,
+        words,
+        input,
+        Vec::new(alloc),
+        &Shelf { alloc },
+        Vec::new(alloc),
+    )
+}
+
+/// Whether the outputs are these tables.
+fn are_tables(outputs: &[Vec<u8>], tables: &[&[u8]]) -> bool {
+    outputs.len() == tables.len()
+        && outputs
+            .iter()
+            .zip(tables)
+            .all(|(output, table)| output.as_slice() == *table)
+}
+
 #[test]
 fn files_get_their_tables(rt: HostRuntime) -> Result<(), Fail> {
-    let alloc = rt.alloc();
     for case in &FILES {
-        let input: &'static [u8] = b"";
-        let heard = hear(
-            &rt,
-            alloc,
-            case.words,
-            input,
-            Vec::new(alloc),
-            &Shelf { alloc },
-            Vec::new(alloc),
-        )?;
+        let heard = hear_files(&rt, rt.alloc(), case.words)?;
         assert_eq!(rt; heard.status, case.status);
         assert!(rt; heard.output.is_empty());
         assert_eq!(rt; heard.errors.as_slice(), case.errors);
-        assert_eq!(rt; heard.outputs.len(), case.tables.len());
-        let mut tables = case.tables.iter();
-        for output in heard.outputs {
-            let Some(table) = tables.next() else { break };
-            assert_eq!(rt; output.into_inner().as_slice(), *table);
-        }
+        assert!(rt; are_tables(heard.outputs.as_slice(), case.tables));
     }
     Ok(())
 }
@@ -144,31 +158,27 @@ fn words_of_many(alloc: Global, count: usize, word: &str) -> Result<Vec<String>,
     Ok(words)
 }
 
+/// What 32 files of one record each give, and this word besides.
+fn hear_many(
+    rt: &(impl Threads + Wait + Sync),
+    alloc: Global,
+    word: &str,
+) -> Result<Heard<Vec<u8>, Vec<u8>>, AllocError> {
+    let many = words_of_many(alloc, 32, word)?;
+    let mut words: Vec<&str> = Vec::new(alloc);
+    for word in &many {
+        words.push(word.as_str())?;
+    }
+    hear_files(rt, alloc, words.as_slice())
+}
+
 #[test]
 fn as_many_files_as_there_may_be_get_their_tables(rt: HostRuntime) -> Result<(), Fail> {
-    let alloc = rt.alloc();
     for word in ["--stripes=1", "--stripes=4"] {
-        let many = words_of_many(alloc, 32, word)?;
-        let mut words: Vec<&str> = Vec::new(alloc);
-        for word in &many {
-            words.push(word.as_str())?;
-        }
-        let input: &'static [u8] = b"";
-        let heard = hear(
-            &rt,
-            alloc,
-            words.as_slice(),
-            input,
-            Vec::new(alloc),
-            &Shelf { alloc },
-            Vec::new(alloc),
-        )?;
+        let heard = hear_many(&rt, rt.alloc(), word)?;
         assert_eq!(rt; heard.status, 0);
         assert!(rt; heard.errors.is_empty());
-        assert_eq!(rt; heard.outputs.len(), 32);
-        for output in heard.outputs {
-            assert_eq!(rt; output.into_inner().as_slice(), ONE_ROW);
-        }
+        assert!(rt; are_tables(heard.outputs.as_slice(), &[ONE_ROW; 32]));
     }
     Ok(())
 }

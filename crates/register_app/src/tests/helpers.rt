@@ -2,21 +2,24 @@
 
 ghost use Rattle.std.specs.Prelude.{⊤};
 
-use crate::answering::answer;
+use crate::answering::{Answered, answer};
 use crate::places::Places;
 use register_records::PlainOutput;
 use std::alloc::{AllocError, Global};
 use std::io;
 use std::io::{ErrorKind, Read, Write};
+use std::process::Abort;
 use std::sync::Wait;
+use std::test::Fail;
 use std::thread::Threads;
 
 /// The text of one record.
 pub const ONE_RECORD: &[u8] = b"id,calendar,date\na,gregorian,1945-11-12\n";
 
 /// Its table, with the column that `--to gregorian` asks for.
-pub const ONE_ROW: &[u8] =
-    b"row,id,calendar,date,rd,weekday,gregorian,refusal\n1,a,gregorian,1945-11-12,710347,Monday,1945-11-12,\n";
+pub const ONE_ROW: &[u8] = b"\
+    row,id,calendar,date,rd,weekday,gregorian,refusal\n\
+    1,a,gregorian,1945-11-12,710347,Monday,1945-11-12,\n";
 
 /// The words of a command line.
 pub fn words_of(alloc: Global, words: &[&str]) -> Result<Vec<String>, AllocError> {
@@ -32,8 +35,41 @@ pub fn words_of(alloc: Global, words: &[&str]) -> Result<Vec<String>, AllocError
 pub struct Heard<W, E> {
     pub status: u8,
     pub output: W,
-    pub outputs: Vec<PlainOutput<W>>,
+    pub outputs: Vec<W>,
     pub errors: E,
+}
+
+/// What the program answers to these words. Nothing is promised of it, so that a test that calls this is proved without
+/// all that is proved of an answer.
+fn answered<
+    T: Threads + Wait + Sync,
+    R: Read + Send + Drop,
+    W: Write + Drop,
+    E: Write + Drop,
+    P: Places<R, PlainOutput<W>>,
+>(
+    rt: &T,
+    alloc: Global,
+    words: &[String],
+    input: R,
+    output: W,
+    places: &P,
+    errors: &mut PlainOutput<E>,
+) -> Answered<PlainOutput<W>> {
+    let output = PlainOutput::new(output, 1);
+    answer(rt, alloc, words, input, output, places, errors)
+}
+
+/// The writers of these outputs.
+fn writers_of<W: Write + Drop>(
+    alloc: Global,
+    outputs: Vec<PlainOutput<W>>,
+) -> Result<Vec<W>, AllocError> {
+    let mut writers = Vec::new(alloc);
+    for output in outputs {
+        writers.push(output.into_inner())?;
+    }
+    Ok(writers)
 }
 
 /// Runs the program's answer to these words.
@@ -53,9 +89,12 @@ pub fn hear<
     errors: E,
 ) -> Result<Heard<W, E>, AllocError> {
     let words = words_of(alloc, words)?;
-    let output = PlainOutput::new(output, 1);
     let mut errors = PlainOutput::new(errors, 0);
-    let answered = answer(
+    let Answered {
+        status,
+        output,
+        outputs,
+    } = answered(
         rt,
         alloc,
         words.as_slice(),
@@ -65,9 +104,9 @@ pub fn hear<
         &mut errors,
     );
     Ok(Heard {
-        status: answered.status,
-        output: answered.output.into_inner(),
-        outputs: answered.outputs,
+        status,
+        output: output.into_inner(),
+        outputs: writers_of(alloc, outputs)?,
         errors: errors.into_inner(),
     })
 }
@@ -94,8 +133,8 @@ impl<R, W> Places<R, W> for NoPlaces {
 }
 
 /// Runs the program's answer to these words over a text, without files.
-pub fn hear_text<T: Threads + Wait + Sync>(
-    rt: &T,
+pub fn hear_text(
+    rt: &(impl Threads + Wait + Sync),
     alloc: Global,
     words: &[&str],
     text: &'static [u8],
@@ -109,4 +148,29 @@ pub fn hear_text<T: Threads + Wait + Sync>(
         &NoPlaces,
         Vec::new(alloc),
     )
+}
+
+/// Words with a text for standard input, without files, and what they give: the status, the table and standard error.
+#[derive(Clone, Copy)]
+pub struct TextCase {
+    pub words: &'static [&'static str],
+    pub input: &'static [u8],
+    pub status: u8,
+    pub output: &'static [u8],
+    pub errors: &'static [u8],
+}
+
+/// Asserts that the program answers as is wanted.
+pub fn assert_answers(
+    rt: &(impl Threads + Wait + Sync + Abort),
+    alloc: Global,
+    cases: &[TextCase],
+) -> Result<(), Fail> {
+    for case in cases {
+        let heard = hear_text(rt, alloc, case.words, case.input)?;
+        assert_eq!(rt; heard.status, case.status);
+        assert_eq!(rt; heard.output.as_slice(), case.output);
+        assert_eq!(rt; heard.errors.as_slice(), case.errors);
+    }
+    Ok(())
 }

@@ -4,13 +4,16 @@ ghost use Rattle.std.specs.Prelude.{⊤};
 
 use crate::help::HELP;
 use crate::places::Places;
-use crate::tests::helpers::{NoPlaces, hear};
+use crate::tests::helpers::{Heard, NoPlaces, hear};
 use register_records::PlainOutput;
-use std::alloc::Global;
+use std::alloc::{AllocError, Global};
 use std::io;
 use std::io::{ErrorKind, Read, Write};
+use std::process::Abort;
+use std::sync::Wait;
 use std::sync::atomic::{AtomicU32, Ordering};
 use std::test::Fail;
+use std::thread::Threads;
 
 /// How often something was read, opened and made.
 #[derive(Drop)]
@@ -121,36 +124,45 @@ const TOUCHINGS: [Touching; 6] = [
     },
 ];
 
+/// The status that these words give over a text and files that count.
+fn status_of<'a>(
+    rt: &(impl Threads + Wait + Sync),
+    alloc: Global,
+    words: &[&str],
+    input: &'a Counts,
+    files: &'a Counts,
+) -> Result<u8, AllocError> {
+    let input = CountedText { counts: input };
+    let files = CountedFiles {
+        alloc,
+        counts: files,
+    };
+    let heard = hear(
+        rt,
+        alloc,
+        words,
+        input,
+        Vec::new(alloc),
+        &files,
+        Vec::new(alloc),
+    )?;
+    Ok(heard.status)
+}
+
 #[test]
 fn nothing_is_touched_that_is_not_asked_for(rt: HostRuntime) -> Result<(), Fail> {
-    let alloc = rt.alloc();
     for touching in &TOUCHINGS {
-        let input_counts = Counts::none();
-        let counts = Counts::none();
-        let input = CountedText {
-            counts: &input_counts,
-        };
-        let files = CountedFiles {
-            alloc,
-            counts: &counts,
-        };
-        let heard = hear(
-            &rt,
-            alloc,
-            touching.words,
-            input,
-            Vec::new(alloc),
-            &files,
-            Vec::new(alloc),
-        )?;
-        assert_eq!(rt; heard.status, touching.status);
-        assert_eq!(rt; counts.opened.load(Ordering::SeqCst), touching.files);
-        assert_eq!(rt; counts.made.load(Ordering::SeqCst), touching.files);
+        let input = Counts::none();
+        let files = Counts::none();
+        let status = status_of(&rt, rt.alloc(), touching.words, &input, &files)?;
+        assert_eq!(rt; status, touching.status);
+        assert_eq!(rt; files.opened.load(Ordering::SeqCst), touching.files);
+        assert_eq!(rt; files.made.load(Ordering::SeqCst), touching.files);
         assert_eq!(rt;
-            input_counts.reads.load(Ordering::SeqCst) > 0,
+            input.reads.load(Ordering::SeqCst) > 0,
             touching.reads_input
         );
-        assert_eq!(rt; counts.reads.load(Ordering::SeqCst) > 0, touching.files > 0);
+        assert_eq!(rt; files.reads.load(Ordering::SeqCst) > 0, touching.files > 0);
     }
     Ok(())
 }
@@ -175,29 +187,46 @@ impl Write for Broken {
     }
 }
 
-#[test]
-fn broken_streams_are_told(rt: HostRuntime) -> Result<(), Fail> {
-    let alloc = rt.alloc();
-    let heard = hear(
-        &rt,
-        alloc,
-        &[],
-        Broken,
-        Vec::new(alloc),
-        &NoPlaces,
-        Vec::new(alloc),
-    )?;
+/// What these words give where standard input breaks.
+fn hear_broken<E: Write + Drop>(
+    rt: &(impl Threads + Wait + Sync),
+    alloc: Global,
+    words: &[&str],
+    errors: E,
+) -> Result<Heard<Vec<u8>, E>, AllocError> {
+    hear(rt, alloc, words, Broken, Vec::new(alloc), &NoPlaces, errors)
+}
+
+/// Asserts that an input that breaks is told.
+fn assert_broken_input_told(
+    rt: &(impl Threads + Wait + Sync + Abort),
+    alloc: Global,
+) -> Result<(), Fail> {
+    let heard = hear_broken(rt, alloc, &[], Vec::new(alloc))?;
     assert_eq!(rt; heard.status, 1);
     assert!(rt; heard.output.is_empty());
     assert_eq!(rt; heard.errors.as_slice(), b"source 1: cause 5\n".as_slice());
+    Ok(())
+}
 
+/// Asserts that an output that breaks is told.
+fn assert_broken_output_told(
+    rt: &(impl Threads + Wait + Sync + Abort),
+    alloc: Global,
+) -> Result<(), Fail> {
     let text: &'static [u8] = b"id,calendar,date\n";
-    let heard = hear(&rt, alloc, &[], text, Broken, &NoPlaces, Vec::new(alloc))?;
+    let heard = hear(rt, alloc, &[], text, Broken, &NoPlaces, Vec::new(alloc))?;
     assert_eq!(rt; heard.status, 1);
     assert_eq!(rt; heard.errors.as_slice(), b"source 1: cause 4\n".as_slice());
+    Ok(())
+}
 
+#[test]
+fn broken_streams_are_told(rt: HostRuntime) -> Result<(), Fail> {
+    assert_broken_input_told(&rt, rt.alloc())?;
+    assert_broken_output_told(&rt, rt.alloc())?;
     // Standard error that fails changes neither the status nor the output.
-    let heard = hear(&rt, alloc, &[], Broken, Vec::new(alloc), &NoPlaces, Broken)?;
+    let heard = hear_broken(&rt, rt.alloc(), &[], Broken)?;
     assert_eq!(rt; heard.status, 1);
     assert!(rt; heard.output.is_empty());
     Ok(())
@@ -215,15 +244,7 @@ const FOR_HELP: [&[&str]; 4] = [
 fn help_reads_nothing(rt: HostRuntime) -> Result<(), Fail> {
     let alloc = rt.alloc();
     for words in &FOR_HELP {
-        let heard = hear(
-            &rt,
-            alloc,
-            words,
-            Broken,
-            Vec::new(alloc),
-            &NoPlaces,
-            Vec::new(alloc),
-        )?;
+        let heard = hear_broken(&rt, alloc, words, Vec::new(alloc))?;
         assert_eq!(rt; heard.status, 0);
         assert_eq!(rt; heard.output.as_slice(), HELP.as_bytes());
         assert!(rt; heard.errors.is_empty());

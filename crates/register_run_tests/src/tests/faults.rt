@@ -87,22 +87,26 @@ fn cause_beside_whole(
     Ok((cause, sink))
 }
 
+/// The same of a text of three records, with so many stripes.
+fn cause_of_three(
+    rt: &(impl Threads + Wait + Sync + Abort),
+    alloc: Global,
+    stripes: usize,
+    faults: Faults,
+) -> Result<(u8, Sink), Fail> {
+    let setup = plain_setup(1, stripes)?;
+    let text = text_of(alloc, 3)?;
+    cause_beside_whole(rt, alloc, &setup, text.as_slice(), faults)
+}
+
 #[test]
 fn a_read_fails_at_each_place(rt: HostRuntime) -> Result<(), Fail> {
-    let text = text_of(rt.alloc(), 3)?;
     let table = table_of(rt.alloc(), 3)?;
     for stripes in [1, 4] {
-        let setup = plain_setup(1, stripes)?;
         let mut broken = 0u32;
         for read in 1..MANY {
             let faults = Faults { read, ..NO_FAULT };
-            let (cause, sink) = cause_beside_whole(
-                &rt,
-                rt.alloc(),
-                &setup,
-                text.as_slice(),
-                faults,
-            )?;
+            let (cause, sink) = cause_of_three(&rt, rt.alloc(), stripes, faults)?;
             assert!(rt; !sink.has_failed());
             if cause == 0 {
                 assert_eq!(rt; sink.bytes(), table.as_slice());
@@ -124,10 +128,8 @@ fn a_read_fails_at_each_place(rt: HostRuntime) -> Result<(), Fail> {
 
 #[test]
 fn a_write_and_a_flush_fail_at_each_place(rt: HostRuntime) -> Result<(), Fail> {
-    let text = text_of(rt.alloc(), 3)?;
     let table = table_of(rt.alloc(), 3)?;
     for (stripes, by_flush) in [(1, false), (1, true), (4, false), (4, true)] {
-        let setup = plain_setup(1, stripes)?;
         let mut broken = 0u32;
         for place in 1..MANY {
             let faults = if by_flush {
@@ -141,13 +143,7 @@ fn a_write_and_a_flush_fail_at_each_place(rt: HostRuntime) -> Result<(), Fail> {
                     ..NO_FAULT
                 }
             };
-            let (cause, sink) = cause_beside_whole(
-                &rt,
-                rt.alloc(),
-                &setup,
-                text.as_slice(),
-                faults,
-            )?;
+            let (cause, sink) = cause_of_three(&rt, rt.alloc(), stripes, faults)?;
             assert_eq!(rt; sink.has_failed(), cause == 4, "{faults:?}");
             if cause == 0 {
                 assert_eq!(rt; sink.bytes(), table.as_slice());
@@ -164,12 +160,10 @@ fn a_write_and_a_flush_fail_at_each_place(rt: HostRuntime) -> Result<(), Fail> {
 
 #[test]
 fn an_output_may_take_one_byte_but_not_none(rt: HostRuntime) -> Result<(), Fail> {
-    let text = text_of(rt.alloc(), 3)?;
     let table = table_of(rt.alloc(), 3)?;
     for (stripes, most, wanted) in [(1, 1, 0), (1, 0, 4), (4, 1, 0), (4, 0, 4)] {
-        let setup = plain_setup(1, stripes)?;
         let faults = Faults { most, ..NO_FAULT };
-        let (cause, sink) = cause_beside_whole(&rt, rt.alloc(), &setup, text.as_slice(), faults)?;
+        let (cause, sink) = cause_of_three(&rt, rt.alloc(), stripes, faults)?;
         assert_eq!(rt; cause, wanted);
         if wanted == 0 {
             assert_eq!(rt; sink.bytes(), table.as_slice());

@@ -3,6 +3,7 @@
 ghost use Rattle.std.specs.Prelude.{◌≡◌, ◌≤◌, ◌<◌, ◌+◌, List, ℤ, pos, neg_ℤ, IsTrue, length};
 ghost use Rattle.day_numbers.specs.Days.{IsBetween};
 ghost use Rattle.day_numbers.specs.Rules.{from_one, days_of_years as days_of, total_days, are_months};
+ghost use Rattle.day_numbers.specs.Rules.{days_of_month, days_before_month};
 ghost use Rattle.day_numbers.specs.declared.rules.Month.{Month};
 
 use crate::rules::{Month, RuledCalendar, Year};
@@ -40,6 +41,17 @@ pub trait FromYearOne {
         ensures value { result.now ≡ months_of (pos year) }
         ensures few { length result.now ≤ 13 }
         ensures numbered { IsTrue (are_months result.now) };
+
+    /// The number of the month that a place in the year lies in, counted from 0, and its day of that month; the year is
+    /// from 1 to 99999.
+    fn month_at(&self, year: u32, place: u16) -> (u8, u8)
+        requires low { 1 ≤ year }
+        requires high { year ≤ 99_999 }
+        requires inside { place < total_days (months_of (pos year)) }
+        ensures first { 1 ≤ result.1 }
+        ensures last { result.1 ≤ days_of_month (months_of (pos year)) result.0 }
+        ensures sum { days_before_month (months_of (pos year)) result.0 + result.1 ≡ place + 1 }
+        ensures small { (result.0 ≤ 99) × (result.1 ≤ 99) };
 }
 
 /// Such a calendar as one that is given by rules.
@@ -69,5 +81,9 @@ impl<'a, C: FromYearOne> RuledCalendar for YearsFromOne<'a, C> {
     fn year_with(&self, day: i64) -> Year {
         let years_before = self.0.years_in((day - self.0.epoch()) as u32);
         self.year(years_before as i32 + 1)
+    }
+
+    fn month_at(&self, year: Year, place: u16) -> (u8, u8) {
+        self.0.month_at(year.number as u32, place)
     }
 }

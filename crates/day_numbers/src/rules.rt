@@ -72,6 +72,21 @@ pub trait RuledCalendar {
 
         ensures few { length result.months.now ≤ 13 }
         ensures numbered { IsTrue (are_months result.months.now) };
+
+    /// The number of the month that a place in the year lies in, counted from 0, and its day of that month.
+    fn month_at(&self, year: Year, place: u16) -> (u8, u8)
+        requires has { HasYear rules.years year.number }
+        requires in_range { IsYear year.number }
+        requires months { year.months.now ≡ rules.months year.number }
+        requires numbered { IsTrue (are_months year.months.now) }
+        requires inside { place < total_days year.months.now }
+        ensures first { 1 ≤ result.1 }
+        ensures last { result.1 ≤ days_of_month year.months.now result.0 }
+        ensures sum { days_before_month year.months.now result.0 + result.1 ≡ place + 1 }
+        ensures small { (result.0 ≤ 99) × (result.1 ≤ 99) }
+    {
+        month_at_place(year.months, place)
+    }
 }
 
 /// The days of the months before the month of this number, and that month's days; all the days and 0
@@ -162,7 +177,7 @@ fn some_date_by_rules<C: RuledCalendar>(calendar: &C, day: Day) -> Option<Ymd>
     }
     let year = calendar.year_with(number);
     let place = number - year.start;
-    let (month, day) = month_at_place(year.months, place as u16);
+    let (month, day) = calendar.month_at(year, place as u16);
     Ymd::new(year.number, month, day)
 }
 

@@ -1,10 +1,10 @@
 -- Hebrew new years in days from the Monday of the epoch.
 use Rattle.std.proofs.Common.{◌≡◌, ℕ, zero, suc, ◌+◌, ◌-◌, ◌*◌, ◌/◌, ◌%◌, ◌≤◌, Bool, true, false, not, ◌&&◌, ◌||◌, ◌==◌}
-use Rattle.std.proofs.Common.{nat_le, cond, if◌then◌else◌, refl, arith, ℤ, pos, ◌+ℤ◌}
+use Rattle.std.proofs.Common.{nat_le, nat_lt, cond, if◌then◌else◌, refl, arith, ℤ, pos, ◌+ℤ◌}
 use Rattle.std.proofs.lemmas.Bool.Decides.{nat_tests}
 use Rattle.day_numbers.specs.Days.{weekday_number}
 use Rattle.day_numbers.proofs.SignedArithmetic.{signed_arith}
-use Rattle.lunar_calendars.specs.Hebrew.{is_leap_year, months_before, epoch, next_allowed, postponed, new_year_of}
+use Rattle.lunar_calendars.specs.Hebrew.{is_leap_year, epoch, next_allowed, postponed, new_year_of}
 use Rattle.lunar_calendars.proofs.MonthSums.{months_closed}
 
 weekday_after : (d : ℕ) → weekday_number (epoch +ℤ pos d) ≡ (d + 1) % 7
@@ -48,6 +48,26 @@ postponed_after leap after_leap d t =
     (chosen (not leap && falls_on_place 2 d && nat_le 9_924 t) _ _ _ _ (later d 2)
     (chosen (after_leap && falls_on_place 1 d && nat_le 16_789 t) _ _ _ _ (later d 1) (next_allowed_after noon)))
 
+-- the same by the days that a year is put off by and the time of the molad from which it is
+put_off : (leap after_leap : Bool) (d t days from : ℕ)
+    → days ≡ (if is_closed d || falls_on_place 1 d then 1 else 2)
+    → from ≡ (if not leap && falls_on_place 2 d then 9_924
+    else (if after_leap && falls_on_place 1 d then 16_789 else (if is_closed d then 0 else 19_440)))
+    → (if nat_le from t then d + days else d) ≡ opening leap after_leap d t
+unfolding allowed
+put_off true true d t days from p q = grind (arith, nat_tests)
+put_off true false d t days from p q = grind (arith, nat_tests)
+put_off false true d t days from p q = grind (arith, nat_tests)
+put_off false false d t days from p q = grind (arith, nat_tests)
+
+pub put_off_by : (leap after_leap : Bool) (d t days from r : ℕ)
+    → days ≡ (if is_closed d || falls_on_place 1 d then 1 else 2)
+    → from ≡ (if not leap && falls_on_place 2 d then 9_924
+    else (if after_leap && falls_on_place 1 d then 16_789 else (if is_closed d then 0 else 19_440)))
+    → r ≡ (if nat_le from t then d + days else d) → epoch +ℤ pos r ≡ postponed leap after_leap (epoch +ℤ pos d) t
+put_off_by leap after_leap d t days from r p q e =
+    rw (postponed_after leap after_leap d t, ← put_off leap after_leap d t days from p q, e) refl
+
 -- the parts from that Monday to the molad of the year after n years, and the days to that new year
 abbrev pub parts_after : ℕ → ℕ
 parts_after n = 5_604 + 765_433 * ((235 * n + 1) / 19)
@@ -78,13 +98,25 @@ unfolding new_year_after
 new_year_bounds n =
     opening_bounds (is_leap_year (suc n)) (is_leap_year n) (parts_after n / 25_920) (parts_after n % 25_920)
 
+-- a year and the one before are leap years by the part of a month that the months before the year have left
+leap_by_part : (n : ℕ) → nat_le 12 ((235 * n + 1) % 19) ≡ is_leap_year (suc n)
+leap_by_part n = grind (arith, nat_tests)
+
+after_leap_by_part : (n : ℕ) → nat_lt ((235 * n + 1) % 19) 7 ≡ is_leap_year n
+after_leap_by_part n = grind (arith, nat_tests)
+
 -- what the code finds by one quotient is the new year
-pub new_year_by : (year d t r : ℕ) (leap after_leap : Bool) → 1 ≤ year → leap ≡ is_leap_year year
-    → after_leap ≡ is_leap_year (year - 1) → d ≡ (5_604 + 765_433 * ((235 * year - 234) / 19)) / 25_920
+pub new_year_by : (year d t r : ℕ) → 1 ≤ year → d ≡ (5_604 + 765_433 * ((235 * year - 234) / 19)) / 25_920
     → t ≡ (5_604 + 765_433 * ((235 * year - 234) / 19)) % 25_920
-    → epoch +ℤ pos r ≡ postponed leap after_leap (epoch +ℤ pos d) t → epoch +ℤ pos r ≡ new_year_of year
+    → epoch +ℤ pos r
+    ≡ postponed (nat_le 12 ((235 * year - 234) % 19)) (nat_lt ((235 * year - 234) % 19) 7) (epoch +ℤ pos d) t
+    → epoch +ℤ pos r ≡ new_year_of year
 unfolding new_year_of
-new_year_by zero d t r leap after_leap low a b p q e = absurd (omega arith)
-new_year_by (suc n) d t r leap after_leap low a b p q e =
-    let months : (235 * suc n - 234) / 19 ≡ months_before (suc n) = omega (arith, months_closed n) in
-    rw (← months, ← a, ← b, ← p, ← q) e
+new_year_by zero d t r low p q e = absurd (omega arith)
+new_year_by (suc n) d t r low p q e =
+    let same : 235 * suc n - 234 ≡ 235 * n + 1 = omega arith in
+    let before : suc n - 1 ≡ n = omega arith in
+    let parts = rw same at p in
+    let time = rw same at q in
+    let opens = rw (same, leap_by_part n, after_leap_by_part n) at e in
+    rw (months_closed n, before, ← parts, ← time) opens

@@ -1,5 +1,5 @@
-ghost use Rattle.std.specs.Prelude.{◌≡◌, ◌≤◌, ◌+◌, pos, ◌+ℤ◌, ◌-ℤ◌, ◌≤ℤ◌, ◌<ℤ◌, nat_le, if◌then◌else◌, IsTrue, length};
-ghost use Rattle.std.specs.Prelude.{Contains};
+ghost use Rattle.std.specs.Prelude.{◌≡◌, ◌≤◌, ◌<◌, ◌+◌, pos, ◌+ℤ◌, ◌-ℤ◌, ◌≤ℤ◌, ◌<ℤ◌, IsTrue, length};
+ghost use Rattle.std.specs.Prelude.{Contains, not, ◌&&◌, ◌||◌, ◌==◌, if◌then◌else◌};
 ghost use Rattle.day_numbers.specs.Rules.{total_days, are_months, year_start, IsDateOf, day_number_of, first_day_of};
 ghost use Rattle.day_numbers.proofs.DateLemmas.{rules_one_date, rules_have_days};
 ghost use Rattle.lunar_calendars.specs.Hebrew.{is_leap_year, epoch, postponed, new_year_of, days_in_year, year_lengths};
@@ -27,15 +27,8 @@ const PARTS_OF_MONTH: u64 = 765_433;
 /// 18 hours into the day.
 const NOON: u32 = 19_440;
 
-const SUNDAY: u32 = 0;
-
+/// Weekdays are counted from Sunday as 0.
 const MONDAY: u32 = 1;
-
-const TUESDAY: u32 = 2;
-
-const WEDNESDAY: u32 = 3;
-
-const FRIDAY: u32 = 5;
 
 fn is_leap(year: u32) -> bool
     requires { year ≤ 100_000 }
@@ -44,16 +37,7 @@ fn is_leap(year: u32) -> bool
     (7 * year + 1) % 19 < 7
 }
 
-/// The day, or so many days later where the time is `from` or later.
-fn put_off(day: u32, days: u32, time: u32, from: u32) -> u32
-    requires in_range { day ≤ 49_999_998 }
-    requires few { days ≤ 2 }
-    ensures { result ≡ (if nat_le from time then day + days else day) }
-{
-    if time >= from { day + days } else { day }
-}
-
-/// The day that a year opens on, from the day and the time of its molad.
+/// By how many days a year is put off whose molad is on this weekday, and from which time of that day on it is.
 ///
 /// No year opens on a Sunday, a Wednesday or a Friday, and none on the day of a molad at noon or later, so
 /// each weekday of a molad has one time from which the year is put off. A molad of a day that is not allowed
@@ -61,18 +45,29 @@ fn put_off(day: u32, days: u32, time: u32, from: u32) -> u32
 /// Thursday's or Saturday's past the next day, which is not allowed. Two come earlier: a Tuesday's in a common
 /// year, which would have 356 days, from 9 hours and 204 parts, and a Monday's after a leap year, which would
 /// have had 382 days, from 15 hours and 589 parts.
+fn postponement(leap: bool, after_leap: bool, weekday: u32) -> (u32, u32)
+    requires { weekday < 7 }
+    ensures days { result.0 ≡ (if (weekday == 0) || (weekday == 3) || (weekday == 5) || (weekday == 1) then 1 else 2) }
+    ensures from { result.1 ≡ (if not leap && (weekday == 2) then 9_924
+        else if after_leap && (weekday == 1) then 16_789
+        else if (weekday == 0) || (weekday == 3) || (weekday == 5) then 0 else 19_440) }
+{
+    let monday = if after_leap { 16_789 } else { NOON };
+    let tuesday = if leap { NOON } else { 9_924 };
+    let from = [0, monday, tuesday, 0, NOON, 0, NOON][weekday as usize];
+    // The next day is allowed after a day that is not, and after a Monday.
+    let days = if from == 0 || weekday == MONDAY { 1 } else { 2 };
+    (days, from)
+}
+
+/// The day that a year opens on, from the day and the time of its molad.
 fn opening_day(leap: bool, after_leap: bool, day: u32, time: u32) -> u32
     requires { day ≤ 49_999_998 }
     ensures opens { epoch +ℤ pos result ≡ postponed leap after_leap (epoch +ℤ pos day) time }
     ensures near { result ≤ day + 2 }
 {
-    match (day + 1) % 7 {
-        SUNDAY | WEDNESDAY | FRIDAY => day + 1,
-        MONDAY if after_leap => put_off(day, 1, time, 16_789),
-        MONDAY => put_off(day, 1, time, NOON),
-        TUESDAY if !leap => put_off(day, 2, time, 9_924),
-        _ => put_off(day, 2, time, NOON),
-    }
+    let (days, from) = postponement(leap, after_leap, (day + 1) % 7);
+    if time >= from { day + days } else { day }
 }
 
 /// The day of the new year.
@@ -82,11 +77,13 @@ fn new_year(year: u32) -> u32
     ensures value { epoch +ℤ pos result ≡ new_year_of year }
     ensures near { result ≤ 50_000_000 }
 {
-    let months = (235 * year - 234) / 19;
-    let molad = 5_604 + PARTS_OF_MONTH * months as u64;
+    // A year has 12 months and 7 nineteenths of one. A leap year is one in which these nineteenths become a month more.
+    let nineteenths = 235 * year - 234;
+    let part = nineteenths % 19;
+    let molad = 5_604 + PARTS_OF_MONTH * (nineteenths / 19) as u64;
     opening_day(
-        is_leap(year),
-        is_leap(year - 1),
+        part >= 12,
+        part < 7,
         (molad / PARTS_OF_DAY) as u32,
         (molad % PARTS_OF_DAY) as u32,
     )

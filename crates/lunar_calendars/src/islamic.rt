@@ -93,6 +93,13 @@ impl FromYearOne for Islamic {
             &COMMON_YEAR
         }
     }
+
+    fn month_at(&self, _year: u32, place: u16) -> (u8, u8) {
+        // By turns of 30 and 29 days, the months before the month of index i have (59 * i + 1) / 2.
+        let index = (11 * place + 5) / 325;
+        let before = (59 * index + 1) / 2;
+        (index as u8 + 1, (place - before) as u8 + 1)
+    }
 }
 
 impl ArithmeticCalendar for Islamic {

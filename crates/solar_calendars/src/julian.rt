@@ -6,7 +6,7 @@ ghost use Rattle.day_numbers.specs.Rules.{day_number_of, first_day_of};
 ghost use Rattle.day_numbers.proofs.DateLemmas.{rules_one_date, rules_have_days};
 ghost use Rattle.solar_calendars.specs.Julian.{julian_rules, is_julian_leap, years_before as count_before};
 
-use crate::twelve_months::twelve_months;
+use crate::twelve_months::{month_at, twelve_months};
 use day_numbers::rules::{RuledCalendar, Year, date_by_rules, day_by_rules};
 use day_numbers::{ArithmeticCalendar, DateFault, Day, Ymd};
 
@@ -98,6 +98,10 @@ impl RuledCalendar for Julian {
 
     fn year_with(&self, day: i64) -> Year {
         self.year(year_on(day))
+    }
+
+    fn month_at(&self, year: Year, place: u16) -> (u8, u8) {
+        month_at(is_leap(year.number), place)
     }
 }
 

@@ -153,4 +153,8 @@ impl<'a, C: ThirteenMonthCalendar> FromYearOne for ThirteenMonths<'a, C> {
     fn months(&self, year: u32) -> &'static [Month] {
         thirteen_months(C::Leap::is_leap(year))
     }
+
+    fn month_at(&self, _year: u32, place: u16) -> (u8, u8) {
+        ((place / 30) as u8 + 1, (place % 30) as u8 + 1)
+    }
 }

@@ -1,7 +1,7 @@
 //! The months of the Gregorian and the Julian year.
 
-ghost use Rattle.std.specs.Prelude.{◌≡◌, ◌≤◌, IsTrue, length};
-ghost use Rattle.day_numbers.specs.Rules.{are_months};
+ghost use Rattle.std.specs.Prelude.{◌≡◌, ◌≤◌, ◌<◌, ◌+◌, IsTrue, length};
+ghost use Rattle.day_numbers.specs.Rules.{total_days, days_of_month, days_before_month, are_months};
 ghost use Rattle.solar_calendars.specs.TwelveMonths.{twelve_months as twelve_months_of};
 
 use day_numbers::rules::Month;
@@ -45,4 +45,24 @@ pub fn twelve_months(is_leap: bool) -> &'static [Month]
     ensures numbered { IsTrue (are_months result.now) }
 {
     if is_leap { &LEAP } else { &COMMON }
+}
+
+/// The number of the month that a place in the year lies in, counted from 0, and its day of that month.
+pub fn month_at(is_leap: bool, place: u16) -> (u8, u8)
+    requires { place < total_days (twelve_months_of is_leap) }
+    ensures first { 1 ≤ result.1 }
+    ensures last { result.1 ≤ days_of_month (twelve_months_of is_leap) result.0 }
+    ensures sum { days_before_month (twelve_months_of is_leap) result.0 + result.1 ≡ place + 1 }
+    ensures small { (result.0 ≤ 99) × (result.1 ≤ 99) }
+{
+    // With a February of 30 days, the months before the month of index i have (367 * i + 5) / 12 days.
+    let leap_days = is_leap as u16;
+    let place = if place < 59 + leap_days {
+        place
+    } else {
+        place + 2 - leap_days
+    };
+    let index = (12 * place + 6) / 367;
+    let before = (367 * index + 5) / 12;
+    (index as u8 + 1, (place - before) as u8 + 1)
 }

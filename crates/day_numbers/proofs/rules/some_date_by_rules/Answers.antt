@@ -19,8 +19,8 @@ overflow_cast-place g c =
     let before = simp to_z-of_z at c.year_with-year.ensures.before in
     omega (arith, ints, after, before, total-le c.year_with-year.result.months.now c.year_with-year.ensures.numbered)
 
-pub month_at_place-month-requires-clause-inside : goal.month_at_place-month-requires-clause-inside
-month_at_place-month-requires-clause-inside g c =
+pub month_at-month-requires-clause-inside : goal.month_at-month-requires-clause-inside
+month_at-month-requires-clause-inside g c =
     let n : FitsSigned w64 c.number-number.result = search rules in
     let after = simp to_z-of_z at c.year_with-year.ensures.after in
     let before = simp to_z-of_z at c.year_with-year.ensures.before in
@@ -37,8 +37,8 @@ returns-clause-dated g c =
       λ _.
           made.1 (
             c.year_with-year.ensures.in_range,
-            c.month_at_place-month.ensures.small.0,
-            c.month_at_place-month.ensures.small.1,
+            c.month_at-month.ensures.small.0,
+            c.month_at-month.ensures.small.1,
           ),
     )
 
@@ -52,9 +52,9 @@ returns-clause-value g c =
     let before = simp to_z-of_z at c.year_with-year.ensures.before in
     let at =
     date_at_place g.C.RuledCalendar.rules c.year_with-year.result.number c.number-number.result
-    c.year_with-year.result.start c.month_at_place-month.result.0 c.month_at_place-month.result.1 _
+    c.year_with-year.result.start c.month_at-month.result.0 c.month_at-month.result.1 _
     c.year_with-year.result.months.now c.year_with-year.ensures.months c.year_with-year.ensures.has
-    c.month_at_place-month.ensures.first c.month_at_place-month.ensures.last c.month_at_place-month.ensures.sum
+    c.month_at-month.ensures.first c.month_at-month.ensures.last c.month_at-month.ensures.sum
     c.year_with-year.ensures.start
     (omega (
       arith,

@@ -4,5 +4,4 @@ use Rattle.lunar_calendars.proofs.hebrew.new_year.Goals as goal
 
 pub returns-clause-value : goal.returns-clause-value
 returns-clause-value c =
-    new_year_by c.args.year _ _ c.opening_day.result c.is_leap.result c.is_leap-2.result c.requires.low
-    c.is_leap.ensures c.is_leap-2.ensures refl refl c.opening_day.ensures.opens
+    new_year_by c.args.year _ _ c.opening_day.result c.requires.low refl refl c.opening_day.ensures.opens

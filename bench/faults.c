@@ -1,7 +1,7 @@
 // Stands before the C library (LD_PRELOAD) and lets one of its calls fail: the one that the environment names.
-// FAULT_CALL is the function, FAULT_PLACE the number of the call among those of that function, from 1. FAULT_ERROR is the
-// number of the error, or 0 for a read or write of one byte alone. FAULT_MARK is a file that gets a line where the fault
-// came: the descriptor of a read or a write, and else -1.
+// FAULT_CALL is the function, FAULT_PLACE the number of the call among those of that function, from 1. FAULT_ERROR is
+// the number of the error, or 0 for a read or write of one byte alone. FAULT_MARK is a file that gets a line where the
+// fault came: the descriptor of a read or a write, and else -1.
 #define _GNU_SOURCE
 #include <dlfcn.h>
 #include <errno.h>

@@ -9,7 +9,7 @@ use std::alloc::AllocError;
 /// At most as many items as there are targets, in order. A place that holds none yet holds a blank.
 pub struct ShortList<T: Copy> {
     places: [T; MAX_TARGETS],
-    count: usize,
+    count: u8,
     ghost few: { count ≤ MAX_TARGETS },
 }
 
@@ -43,7 +43,7 @@ impl<T: Copy> ShortList<T> {
         ensures value { result.now ≡ items_in self.now }
         ensures few { length result.now ≤ MAX_TARGETS }
     {
-        &self.places[..self.count]
+        &self.places[..self.count as usize]
     }
 
     /// Appends an item.
@@ -51,7 +51,7 @@ impl<T: Copy> ShortList<T> {
         requires { length (items_in self.old) < MAX_TARGETS }
         ensures { items_in self.new ≡ items_in self.old ++ item ∷ [] }
     {
-        self.places[self.count] = item;
+        self.places[self.count as usize] = item;
         self.count += 1;
     }
 }

@@ -551,7 +551,7 @@ fn lines_wait_until_they_are_sent(rt: HostRuntime) -> Result<(), Fail> {
 #[test]
 fn rows_are_small(rt: HostRuntime) -> Result<(), Fail> {
     assert_eq!(rt; size_of::<Entry>(), 216);
-    assert_eq!(rt; size_of::<Row>(), 520);
+    assert_eq!(rt; size_of::<Row>(), 504);
     Ok(())
 }
 

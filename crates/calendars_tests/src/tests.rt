@@ -1,3 +1,4 @@
+mod answers;
 mod days;
 mod lunar;
 mod maya;

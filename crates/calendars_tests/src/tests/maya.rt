@@ -1,6 +1,5 @@
 use day_numbers::{DateFault, Day};
 use maya_calendars::{LongCount, haab_on, long_day_of, long_on, tzolkin_on};
-use std::test::Fail;
 
 /// The fixed day number of 0.0.0.0.0.
 const EPOCH: i64 = -1_137_142;
@@ -15,32 +14,57 @@ const NAMES: [&str; 20] = [
     "Eb", "Ben", "Ix", "Men", "Cib", "Caban", "Etznab", "Cauac", "Ahau",
 ];
 
+/// The places of a long count, from the baktun to the kin.
+type Places = (u16, u16, u16, u16, u16);
+
+/// Whether the day with this number has the long count of these places, which has that day.
+fn has_long_count(number: i64, (baktun, katun, tun, uinal, kin): Places) -> bool {
+    let (Some(day), Some(count)) = (
+        Day::new(number),
+        LongCount::new(baktun, katun, tun, uinal, kin),
+    ) else {
+        return false;
+    };
+    long_on(day) == Some(count) && long_day_of(count) == Ok(day)
+}
+
+/// Whether the day with this number is in range, and has no long count.
+fn has_no_long_count(number: i64) -> bool {
+    let Some(day) = Day::new(number) else {
+        return false;
+    };
+    long_on(day).is_none()
+}
+
 /// The first days of the long count, a day of 1945, the day that ends the thirteenth baktun, 21 December
 /// 2012, and the last day of the range.
 #[test]
-fn long_counts_and_days_are_inverse(rt: HostRuntime) -> Result<(), Fail> {
-    for (number, (baktun, katun, tun, uinal, kin)) in [
+fn long_counts_and_days_are_inverse(rt: HostRuntime) {
+    for (number, places) in [
         (EPOCH, (0, 0, 0, 0, 0)),
         (-1_137_130, (0, 0, 0, 0, 12)),
         (710_347, (12, 16, 11, 16, 9)),
         (734_858, (13, 0, 0, 0, 0)),
         (3_652_059, (33, 5, 3, 6, 1)),
     ] {
-        let day = Day::new(number).ok_or("a day in range")?;
-        let count = LongCount::new(baktun, katun, tun, uinal, kin).ok_or("places in range")?;
-        assert_eq!(rt; long_on(day), Some(count), "at {number}");
-        assert_eq!(rt; long_day_of(count), Ok(day), "at {number}");
+        assert!(rt; has_long_count(number, places), "at {number}");
     }
     for number in [-3_652_424, EPOCH - 1] {
-        let day = Day::new(number).ok_or("a day in range")?;
-        assert_eq!(rt; long_on(day), None, "at {number}");
+        assert!(rt; has_no_long_count(number), "at {number}");
     }
-    Ok(())
+}
+
+/// Whether the long count of these places has no day, for this fault.
+fn has_fault((baktun, katun, tun, uinal, kin): Places, fault: DateFault) -> bool {
+    let Some(count) = LongCount::new(baktun, katun, tun, uinal, kin) else {
+        return false;
+    };
+    long_day_of(count) == Err(fault)
 }
 
 #[test]
-fn long_counts_have_faults(rt: HostRuntime) -> Result<(), Fail> {
-    for ((baktun, katun, tun, uinal, kin), fault) in [
+fn long_counts_have_faults(rt: HostRuntime) {
+    for (places, fault) in [
         ((0, 0, 0, 18, 0), DateFault::NoSuchDate),
         ((0, 20, 0, 0, 0), DateFault::NoSuchDate),
         ((0, 0, 20, 0, 0), DateFault::NoSuchDate),
@@ -49,37 +73,61 @@ fn long_counts_have_faults(rt: HostRuntime) -> Result<(), Fail> {
         ((9_999, 0, 0, 0, 0), DateFault::OutOfRange),
         ((33, 5, 3, 6, 2), DateFault::OutOfRange),
     ] {
-        let count = LongCount::new(baktun, katun, tun, uinal, kin).ok_or("places in range")?;
-        assert_eq!(rt;
-            long_day_of(count),
-            Err(fault),
+        let (baktun, katun, tun, uinal, kin) = places;
+        assert!(rt;
+            has_fault(places, fault),
             "at {baktun}.{katun}.{tun}.{uinal}.{kin}"
         );
     }
-    Ok(())
+}
+
+/// Whether there is a long count of these places, which tells them.
+fn are_kept((baktun, katun, tun, uinal, kin): Places) -> bool {
+    let Some(count) = LongCount::new(baktun, katun, tun, uinal, kin) else {
+        return false;
+    };
+    count.baktun() == baktun
+        && count.katun() == katun
+        && count.tun() == tun
+        && count.uinal() == uinal
+        && count.kin() == kin
 }
 
 #[test]
-fn places_are_within_their_bounds(rt: HostRuntime) -> Result<(), Fail> {
-    let count = LongCount::new(9_999, 9_998, 9_997, 9_996, 9_995).ok_or("places in range")?;
-    assert_eq!(rt;
-        (count.baktun(), count.katun(), count.tun()),
-        (9_999, 9_998, 9_997)
-    );
-    assert_eq!(rt; (count.uinal(), count.kin()), (9_996, 9_995));
-    assert_eq!(rt; LongCount::new(10_000, 0, 0, 0, 0), None);
-    assert_eq!(rt; LongCount::new(0, 10_000, 0, 0, 0), None);
-    assert_eq!(rt; LongCount::new(0, 0, 10_000, 0, 0), None);
-    assert_eq!(rt; LongCount::new(0, 0, 0, 10_000, 0), None);
-    assert_eq!(rt; LongCount::new(0, 0, 0, 0, 10_000), None);
-    Ok(())
+fn places_are_within_their_bounds(rt: HostRuntime) {
+    assert!(rt; are_kept((9_999, 9_998, 9_997, 9_996, 9_995)));
+    for (baktun, katun, tun, uinal, kin) in [
+        (10_000, 0, 0, 0, 0),
+        (0, 10_000, 0, 0, 0),
+        (0, 0, 10_000, 0, 0),
+        (0, 0, 0, 10_000, 0),
+        (0, 0, 0, 0, 10_000),
+    ] {
+        assert!(rt;
+            LongCount::new(baktun, katun, tun, uinal, kin).is_none(),
+            "at {baktun}.{katun}.{tun}.{uinal}.{kin}"
+        );
+    }
+}
+
+/// Whether the day with this number has this day of this month of the haab, and this number and name of the tzolkin.
+fn has_names(number: i64, (day_of_month, month): (u8, &str), (count, name): (u8, &str)) -> bool {
+    let Some(day) = Day::new(number) else {
+        return false;
+    };
+    let haab = haab_on(day);
+    let tzolkin = tzolkin_on(day);
+    haab.day() == day_of_month
+        && haab.month_name() == month
+        && tzolkin.number() == count
+        && tzolkin.name() == name
 }
 
 /// The haab and the tzolkin of known days, of the day before the long count begins, and of the ends of
 /// the range.
 #[test]
-fn days_have_haab_and_tzolkin(rt: HostRuntime) -> Result<(), Fail> {
-    for (number, (day_of_month, month), (count, name)) in [
+fn days_have_haab_and_tzolkin(rt: HostRuntime) {
+    for (number, haab, tzolkin) in [
         (-3_652_424, (1, "Muan"), (1, "Etznab")),
         (EPOCH - 1, (7, "Cumku"), (3, "Cauac")),
         (EPOCH, (8, "Cumku"), (4, "Ahau")),
@@ -88,21 +136,8 @@ fn days_have_haab_and_tzolkin(rt: HostRuntime) -> Result<(), Fail> {
         (734_858, (3, "Kankin"), (4, "Ahau")),
         (3_652_059, (19, "Pop"), (5, "Imix")),
     ] {
-        let day = Day::new(number).ok_or("a day in range")?;
-        let haab = haab_on(day);
-        assert_eq!(rt;
-            (haab.day(), haab.month_name()),
-            (day_of_month, month),
-            "at {number}"
-        );
-        let tzolkin = tzolkin_on(day);
-        assert_eq!(rt;
-            (tzolkin.number(), tzolkin.name()),
-            (count, name),
-            "at {number}"
-        );
+        assert!(rt; has_names(number, haab, tzolkin), "at {number}");
     }
-    Ok(())
 }
 
 fn last_day(month: u8) -> u8 {
@@ -126,25 +161,27 @@ fn haab_before((day, month): (u8, u8)) -> (u8, u8) {
     }
 }
 
+/// Whether the haab of a day has this place and month, and the month's name.
+fn has_haab(number: i64, place: (u8, u8)) -> bool {
+    let Some(day) = Day::new(number) else {
+        return false;
+    };
+    let haab = haab_on(day);
+    (haab.day(), haab.month()) == place
+        && MONTHS.get(haab.month() as usize - 1) == Some(&haab.month_name())
+}
+
 /// A year on from the epoch and a year back, one place a day.
 #[test]
-fn haab_steps_through_a_year(rt: HostRuntime) -> Result<(), Fail> {
+fn haab_steps_through_a_year(rt: HostRuntime) {
     let mut later = (8, 18);
     let mut earlier = (8, 18);
     for days in 0..366u32 {
-        let haab = haab_on(Day::new(EPOCH + days as i64).ok_or("a day in range")?);
-        assert_eq!(rt; (haab.day(), haab.month()), later, "{days} days on");
-        assert_eq!(rt;
-            Some(&haab.month_name()),
-            MONTHS.get(haab.month() as usize - 1),
-            "{days} days on"
-        );
-        let haab = haab_on(Day::new(EPOCH - days as i64).ok_or("a day in range")?);
-        assert_eq!(rt; (haab.day(), haab.month()), earlier, "{days} days back");
+        assert!(rt; has_haab(EPOCH + days as i64, later), "{days} days on");
+        assert!(rt; has_haab(EPOCH - days as i64, earlier), "{days} days back");
         later = haab_after(later);
         earlier = haab_before(earlier);
     }
-    Ok(())
 }
 
 fn tzolkin_after((number, place): (u8, usize)) -> (u8, usize) {

@@ -6,7 +6,9 @@ use super::check;
 use day_numbers::{ArithmeticCalendar, DateFault, Ymd};
 use solar_calendars::{Armenian, Coptic, Egyptian, Ethiopic, French, Gregorian, IsoWeek, Julian};
 use std::process::Abort;
-use std::test::Fail;
+
+/// There is no such date.
+const NONE: Result<i64, DateFault> = Err(DateFault::NoSuchDate);
 
 const ROMAN: [u8; 12] = [31, 28, 31, 30, 31, 30, 31, 31, 30, 31, 30, 31];
 
@@ -113,71 +115,61 @@ impl MonthLengths for IsoWeek {
     }
 }
 
-/// The fixed day number of a date, from which a walk sets out.
-fn day_number<C: ArithmeticCalendar>(
-    calendar: &C,
-    year: i32,
-    month: u8,
-    day: u8,
-) -> Result<i64, Fail> {
-    let date = Ymd::new(year, month, day).ok_or("a date within its bounds")?;
-    Ok(calendar.day_of(date)?.number())
+/// The fixed day number of a date, from which a walk sets out; of a date that is none, a number that no day has.
+fn day_number<C: ArithmeticCalendar>(calendar: &C, year: i32, month: u8, day: u8) -> i64 {
+    let Some(date) = Ymd::new(year, month, day) else {
+        return i64::MAX;
+    };
+    calendar.day_of(date).map_or(i64::MAX, |day| day.number())
 }
 
-/// The date has this fixed day number, and is the date on that day; or there is no such date.
-fn check_number<C: ArithmeticCalendar>(
+/// Looks at the first and the last day of a month, both ways, and at the days beside them, which are none of it.
+fn check_month<C: ArithmeticCalendar>(
     rt: &impl Abort,
     calendar: &C,
-    (year, month, day): (i32, u8, u8),
-    number: Option<i64>,
-) -> Result<(), Fail> {
-    let date = Ymd::new(year, month, day).ok_or("a date within its bounds")?;
-    check(rt, calendar, date, number.ok_or(DateFault::NoSuchDate))
+    (year, month, length): (i32, u8, u8),
+    start: i64,
+) {
+    let end = start.saturating_add(length as i64).saturating_sub(1);
+    for (day, answer) in [
+        (0, NONE),
+        (1, Ok(start)),
+        (length, Ok(end)),
+        (length.saturating_add(1), NONE),
+    ] {
+        check(rt, calendar, (year, month, day), answer);
+    }
 }
 
-/// Walks through the months of the years from `first` to `last`: looks at the first and the last day of
-/// each, both ways, and at the days beside them, which are none of the month.
-fn walk<C: MonthLengths>(
-    rt: &impl Abort,
-    calendar: &C,
-    epoch: i64,
-    first: i32,
-    last: i32,
-) -> Result<(), Fail> {
+/// Walks through the months of the years from `first` to `last`: each month begins on the day after the one before,
+/// and there are no months beside those of a year.
+fn walk<C: MonthLengths>(rt: &impl Abort, calendar: &C, epoch: i64, first: i32, last: i32) {
     let mut expected = None;
     for year in first..=last {
         let mut month = 0u8;
-        check_number(rt, calendar, (year, month, 1), None)?;
+        check(rt, calendar, (year, month, 1), NONE);
         for &length in calendar.lengths(year) {
             month = month.saturating_add(1);
             let start = match expected {
                 Some(number) => number,
-                None => day_number(calendar, year, month, 1)?,
+                None => day_number(calendar, year, month, 1),
             };
-            if year == 1 && month == 1 {
-                assert_eq!(rt; start, epoch);
-            }
-            let next = start.saturating_add(length as i64);
-            let end = next.saturating_sub(1);
-            check_number(rt, calendar, (year, month, 0), None)?;
-            check_number(rt, calendar, (year, month, 1), Some(start))?;
-            check_number(rt, calendar, (year, month, length), Some(end))?;
-            check_number(rt, calendar, (year, month, length.saturating_add(1)), None)?;
-            expected = Some(next);
+            assert!(rt; (year, month) != (1, 1) || start == epoch);
+            check_month(rt, calendar, (year, month, length), start);
+            expected = Some(start.saturating_add(length as i64));
         }
-        check_number(rt, calendar, (year, month.saturating_add(1), 1), None)?;
+        check(rt, calendar, (year, month.saturating_add(1), 1), NONE);
     }
-    Ok(())
 }
 
 #[test]
-fn months_follow_each_other(rt: HostRuntime) -> Result<(), Fail> {
-    walk(&rt, &Gregorian, 1, -820, 820)?;
-    walk(&rt, &IsoWeek, 1, -820, 820)?;
-    walk(&rt, &Julian, -1, -820, 820)?;
-    walk(&rt, &Coptic, 103_605, -2, 820)?;
-    walk(&rt, &Ethiopic, 2_796, -2, 820)?;
-    walk(&rt, &Egyptian, -272_787, -2, 820)?;
-    walk(&rt, &Armenian, 201_443, -2, 820)?;
-    walk(&rt, &French, 654_415, -2, 8_100)
+fn months_follow_each_other(rt: HostRuntime) {
+    walk(&rt, &Gregorian, 1, -820, 820);
+    walk(&rt, &IsoWeek, 1, -820, 820);
+    walk(&rt, &Julian, -1, -820, 820);
+    walk(&rt, &Coptic, 103_605, -2, 820);
+    walk(&rt, &Ethiopic, 2_796, -2, 820);
+    walk(&rt, &Egyptian, -272_787, -2, 820);
+    walk(&rt, &Armenian, 201_443, -2, 820);
+    walk(&rt, &French, 654_415, -2, 8_100);
 }

@@ -4,32 +4,34 @@ use day_numbers::{DateFault, Day};
 use solar_calendars::RomanName::{Ides, Kalends, Nones, SecondSixth};
 use solar_calendars::{RomanDate, RomanName, roman_day_of, roman_on};
 use std::process::Abort;
-use std::test::Fail;
 
-/// The date has this fixed day number, and is the date on that day, or is refused with this fault.
-fn check(
-    rt: &impl Abort,
-    year: i32,
-    month: u8,
-    name: RomanName,
-    answer: Result<i64, DateFault>,
-) -> Result<(), Fail> {
-    let date = RomanDate::new(year, month, name).ok_or("a Roman date within its bounds")?;
-    match answer {
-        Ok(number) => {
-            let day = Day::new(number).ok_or("a day in range")?;
-            assert_eq!(rt; roman_day_of(&date), Ok(day), "at {date:?}");
-            assert_eq!(rt; roman_on(day), date, "at {number}");
-        }
-        Err(fault) => assert_eq!(rt; roman_day_of(&date), Err(fault), "at {date:?}"),
-    }
-    Ok(())
+/// Whether the date has this fixed day number, and is the date on that day, or is refused with this fault.
+fn has_answer(year: i32, month: u8, name: RomanName, answer: Result<i64, DateFault>) -> bool {
+    let Some(date) = RomanDate::new(year, month, name) else {
+        return false;
+    };
+    let number = match answer {
+        Ok(number) => number,
+        Err(fault) => return roman_day_of(&date) == Err(fault),
+    };
+    let Some(day) = Day::new(number) else {
+        return false;
+    };
+    roman_day_of(&date) == Ok(day) && roman_on(day) == date
+}
+
+/// The date has the answer.
+fn check(rt: &impl Abort, year: i32, month: u8, name: RomanName, answer: Result<i64, DateFault>) {
+    assert!(rt;
+        has_answer(year, month, name, answer),
+        "at {year}-{month} {name:?}"
+    );
 }
 
 /// Days that history tells by their Roman names, from Cicero's birth to the fall of Constantinople and the last day
 /// of the Julian calendar in Rome. Before the year 8 the Julian calendar is carried back.
 #[test]
-fn days_of_history(rt: HostRuntime) -> Result<(), Fail> {
+fn days_of_history(rt: HostRuntime) {
     for (year, month, name, number) in [
         (-106, 1, Nones(3), -38_716),
         (-63, 10, Kalends(9), -22_747),
@@ -45,15 +47,14 @@ fn days_of_history(rt: HostRuntime) -> Result<(), Fail> {
         (1582, 10, Nones(4), 577_735),
         (1945, 11, Kalends(3), 710_347),
     ] {
-        check(&rt, year, month, name, Ok(number))?;
+        check(&rt, year, month, name, Ok(number));
     }
-    Ok(())
 }
 
 /// The principal days and the days beside them, 24 and 25 February of a leap year and of a common year, the ends of
 /// a year, and the ends of the range.
 #[test]
-fn days_beside_principal_days(rt: HostRuntime) -> Result<(), Fail> {
+fn days_beside_principal_days(rt: HostRuntime) {
     for (year, month, name, number) in [
         (1, 1, Kalends(2), -2),
         (1, 1, Kalends(1), -1),
@@ -85,14 +86,13 @@ fn days_beside_principal_days(rt: HostRuntime) -> Result<(), Fail> {
         (9999, 11, Kalends(14), 3_652_059),
         (-10000, 4, Kalends(14), -3_652_424),
     ] {
-        check(&rt, year, month, name, Ok(number))?;
+        check(&rt, year, month, name, Ok(number));
     }
-    Ok(())
 }
 
 /// Dates that are none, and valid dates out of range.
 #[test]
-fn refused_roman_dates(rt: HostRuntime) -> Result<(), Fail> {
+fn refused_roman_dates(rt: HostRuntime) {
     for (year, month, name) in [
         (0, 1, Kalends(1)),
         (1, 0, Kalends(1)),
@@ -115,7 +115,7 @@ fn refused_roman_dates(rt: HostRuntime) -> Result<(), Fail> {
         (-4, 3, SecondSixth),
         (10_001, 3, SecondSixth),
     ] {
-        check(&rt, year, month, name, Err(DateFault::NoSuchDate))?;
+        check(&rt, year, month, name, Err(DateFault::NoSuchDate));
     }
     for (year, month, name) in [
         (9999, 11, Kalends(13)),
@@ -124,26 +124,35 @@ fn refused_roman_dates(rt: HostRuntime) -> Result<(), Fail> {
         (-99_999, 1, Kalends(2)),
         (10_000, 3, SecondSixth),
     ] {
-        check(&rt, year, month, name, Err(DateFault::OutOfRange))?;
+        check(&rt, year, month, name, Err(DateFault::OutOfRange));
     }
-    Ok(())
+}
+
+/// Whether these are within the bounds of a Roman date, which tells them.
+fn are_kept(year: i32, month: u8, name: RomanName) -> bool {
+    let Some(date) = RomanDate::new(year, month, name) else {
+        return false;
+    };
+    date.year() == year && date.month() == month && date.name() == name
 }
 
 /// What `RomanDate::new` takes and what it refuses.
 #[test]
-fn bounds_of_roman_dates(rt: HostRuntime) -> Result<(), Fail> {
-    let date = RomanDate::new(-99_999, 99, Ides(99)).ok_or("a Roman date within its bounds")?;
-    assert_eq!(rt;
-        (date.year(), date.month(), date.name()),
-        (-99_999, 99, Ides(99))
-    );
-    assert_eq!(rt; RomanDate::new(-100_000, 1, Kalends(1)), None);
-    assert_eq!(rt; RomanDate::new(100_000, 1, Kalends(1)), None);
-    assert_eq!(rt; RomanDate::new(1, 100, Kalends(1)), None);
-    for name in [Kalends(100), Nones(100), Ides(100)] {
-        assert_eq!(rt; RomanDate::new(1, 1, name), None);
+fn bounds_of_roman_dates(rt: HostRuntime) {
+    assert!(rt; are_kept(-99_999, 99, Ides(99)));
+    for (year, month, name) in [
+        (-100_000, 1, Kalends(1)),
+        (100_000, 1, Kalends(1)),
+        (1, 100, Kalends(1)),
+        (1, 1, Kalends(100)),
+        (1, 1, Nones(100)),
+        (1, 1, Ides(100)),
+    ] {
+        assert!(rt;
+            RomanDate::new(year, month, name).is_none(),
+            "at {year}-{month} {name:?}"
+        );
     }
-    Ok(())
 }
 
 const LENGTHS: [u8; 12] = [31, 28, 31, 30, 31, 30, 31, 31, 30, 31, 30, 31];
@@ -151,49 +160,68 @@ const LENGTHS: [u8; 12] = [31, 28, 31, 30, 31, 30, 31, 31, 30, 31, 30, 31];
 const NONES: [u8; 12] = [5, 5, 7, 5, 7, 5, 7, 5, 5, 7, 5, 5];
 
 /// The date is the one on the day with this fixed day number; gives the number of the next day.
-fn check_next(
-    rt: &impl Abort,
-    number: i64,
-    (year, month): (i32, u8),
-    name: RomanName,
-) -> Result<i64, Fail> {
-    check(rt, year, month, name, Ok(number))?;
-    Ok(number.saturating_add(1))
+fn check_next(rt: &impl Abort, number: i64, (year, month): (i32, u8), name: RomanName) -> i64 {
+    check(rt, year, month, name, Ok(number));
+    number.saturating_add(1)
 }
 
-/// Every day of the Julian years -200 to 200, in the order in which the names are counted: the Kalends, down to the
-/// Nones, eight days down to the Ides, and down to the next Kalends, with one more sixth day in a leap year.
+/// The month after this one. The year after the year -1 is the year 1.
+fn month_after(year: i32, month: u8) -> (i32, u8) {
+    match (year, month) {
+        (-1, 12) => (1, 1),
+        (_, 12) => (year.saturating_add(1), 1),
+        _ => (year, month.saturating_add(1)),
+    }
+}
+
+/// The days of a month of this length, from its Kalends on, which have this fixed day number: the Kalends, down to the
+/// Nones, eight days down to the Ides, and down to the next Kalends. Gives the number of the next Kalends.
+fn walk_month(
+    rt: &impl Abort,
+    first: i64,
+    (year, month): (i32, u8),
+    (length, nones): (u8, u8),
+    has_second_sixth: bool,
+) -> i64 {
+    let mut number = check_next(rt, first, (year, month), Kalends(1));
+    for count in (1..nones).rev() {
+        number = check_next(rt, number, (year, month), Nones(count));
+    }
+    for count in (1..=8).rev() {
+        number = check_next(rt, number, (year, month), Ides(count));
+    }
+    // The days after the Ides, and the next Kalends, which has the count 1.
+    let next = month_after(year, month);
+    let counts = length.saturating_sub(nones.saturating_add(7));
+    for count in (6..=counts).rev() {
+        number = check_next(rt, number, next, Kalends(count));
+    }
+    if has_second_sixth {
+        number = check_next(rt, number, (year, 3), SecondSixth);
+    }
+    for count in (2..=5).rev() {
+        number = check_next(rt, number, next, Kalends(count));
+    }
+    number
+}
+
+/// Every day of the Julian years -200 to 200, in the order in which the names are counted, with one more sixth day in
+/// a leap year.
 #[test]
-fn names_are_counted_down(rt: HostRuntime) -> Result<(), Fail> {
+fn names_are_counted_down(rt: HostRuntime) {
     let mut number = -73_051;
     for year in (-200i32..0).chain(1..=200) {
         let is_leap = year.rem_euclid(4) == if year < 0 { 3 } else { 0 };
         for (month, (&length, &nones)) in (1u8..=12).zip(LENGTHS.iter().zip(NONES.iter())) {
-            number = check_next(&rt, number, (year, month), Kalends(1))?;
-            for count in (1..nones).rev() {
-                number = check_next(&rt, number, (year, month), Nones(count))?;
-            }
-            for count in (1..=8).rev() {
-                number = check_next(&rt, number, (year, month), Ides(count))?;
-            }
-            let next = match (year, month) {
-                (-1, 12) => (1, 1),
-                (_, 12) => (year.saturating_add(1), 1),
-                _ => (year, month.saturating_add(1)),
-            };
-            // The days after the Ides, and the next Kalends, which has the count 1.
-            let counts = length.saturating_sub(nones.saturating_add(7));
-            for count in (6..=counts).rev() {
-                number = check_next(&rt, number, next, Kalends(count))?;
-            }
-            if is_leap && month == 2 {
-                number = check_next(&rt, number, (year, 3), SecondSixth)?;
-            }
-            for count in (2..=5).rev() {
-                number = check_next(&rt, number, next, Kalends(count))?;
-            }
+            let has_second_sixth = is_leap && month == 2;
+            number = walk_month(
+                &rt,
+                number,
+                (year, month),
+                (length, nones),
+                has_second_sixth,
+            );
         }
     }
-    assert_eq!(rt; number, 73_049);
-    Ok(())
+    assert!(rt; number == 73_049);
 }

@@ -174,8 +174,8 @@ fn month_after(year: i32, month: u8) -> (i32, u8) {
     }
 }
 
-/// The days of a month of this length, from its Kalends on, which have this fixed day number: the Kalends, down to the
-/// Nones, eight days down to the Ides, and down to the next Kalends. Gives the number of the next Kalends.
+/// The days of a month of this length, the first of which has this fixed day number: the Kalends, down to the Nones,
+/// eight days down to the Ides, and down to the next Kalends. Gives the number of the next Kalends.
 fn walk_month(
     rt: &impl Abort,
     first: i64,

@@ -1,12 +1,12 @@
 // The tables that are wanted are worked by hand from the calendars' rules and from published day numbers.
 
-use arrayvec::ArrayString;
+use self::faults::fields_of;
 use date_texts::{Calendar, Refusal, Target};
 use register_records::{
     Body, Cause, Entry, EntryFault, Form, Note, Output, PlainOutput, Row, RowFault, RowWriter,
     Setup, SourceEnd, convert, convert_source,
 };
-use std::alloc::Global;
+use std::alloc::{AllocError, Global};
 use std::io;
 use std::io::{ErrorKind, Read, Write};
 use std::mem::size_of;
@@ -30,8 +30,10 @@ const ROMAN: Target = Target::Date(Calendar::Roman);
 
 static HEADING: &str = "row,id,calendar,date,rd,weekday,gregorian,julian,refusal\n";
 
-fn both(delimiter: u8) -> Result<Setup, Fail> {
-    Ok(Setup::new(&[GREGORIAN, JULIAN], 16, delimiter, 1, Form::Plain)?)
+/// The setup of plain registers for these targets and this delimiter. Nothing is promised of it, nor of the functions
+/// below that call others of the crate, so that a test is proved without all that is proved of these.
+fn plain(targets: &[Target], delimiter: u8) -> Result<Setup, Fail> {
+    Ok(Setup::new(targets, 16, delimiter, 1, Form::Plain)?)
 }
 
 /// The output and the end of a source over memory.
@@ -41,11 +43,23 @@ fn converted(alloc: Global, input: &[u8], setup: &Setup) -> (Vec<u8>, SourceEnd)
     (output.into_inner(), end)
 }
 
+/// The number of the cause of an end, or 0 where the source is whole.
 fn cause_of(end: &SourceEnd) -> u8 {
     match end {
         SourceEnd::Whole { .. } => 0,
         SourceEnd::Broken { cause } => cause.number(),
     }
+}
+
+/// Whether a source over memory becomes this table, and ends with the cause of this number, or for 0 whole.
+fn becomes(alloc: Global, setup: &Setup, input: &[u8], table: &[u8], cause: u8) -> bool {
+    let (output, end) = converted(alloc, input, setup);
+    cause_of(&end) == cause && output.as_slice() == table
+}
+
+/// The row of an entry.
+fn row_of(entry: Entry, setup: &Setup) -> Row {
+    convert(entry, setup)
 }
 
 static REFORM: &str = "\
@@ -112,13 +126,27 @@ fn bytes_of(alloc: Global, text: &str) -> Result<Vec<u8>, Fail> {
     Ok(bytes)
 }
 
-/// The numbers and the refusals of the rows in a journal are these.
-fn check_journal(rt: &impl Abort, journal: &[Note], wanted: &[(u32, u8)]) {
-    assert_eq!(rt; journal.len(), wanted.len());
-    for (note, (number, refusal)) in journal.iter().zip(wanted) {
-        assert_eq!(rt; note.number, *number);
-        assert_eq!(rt; note.refusal.number(), *refusal);
-    }
+/// Whether the numbers and the refusals of the rows in a journal are these.
+fn are_notes(journal: &[Note], wanted: &[(u32, u8)]) -> bool {
+    journal.len() == wanted.len()
+        && journal.iter().zip(wanted).all(|(note, (number, refusal))| {
+            note.number == *number && note.refusal.number() == *refusal
+        })
+}
+
+/// Whether a source is whole with so many rows, and has these numbers and refusals of rows in its journal.
+fn is_whole_with(end: &SourceEnd, count: usize, wanted: &[(u32, u8)]) -> bool {
+    let SourceEnd::Whole {
+        rows,
+        refused,
+        journal,
+    } = end
+    else {
+        return false;
+    };
+    *rows as usize == count
+        && *refused as usize == wanted.len()
+        && are_notes(journal.as_slice(), wanted)
 }
 
 /// The text becomes the table, and the journal has these numbers and refusals of rows.
@@ -131,24 +159,17 @@ fn check_table(
 ) -> Result<(), Fail> {
     let input = bytes_of(alloc, text)?;
     let (output, end) = converted(alloc, input.as_slice(), setup);
-    assert_eq!(rt; output.as_slice(), table.as_bytes());
-    let SourceEnd::Whole {
-        rows,
-        refused,
-        journal,
-    } = end
-    else {
-        return Err(Fail::from("broken"));
-    };
-    assert_eq!(rt; (rows as usize).saturating_add(1), table.lines().count());
-    assert_eq!(rt; refused as usize, wanted.len());
-    check_journal(rt, journal.as_slice(), wanted);
+    let count = table.lines().count().saturating_sub(1);
+    assert!(rt;
+        output.as_slice() == table.as_bytes() && is_whole_with(&end, count, wanted),
+        "at {text:?}"
+    );
     Ok(())
 }
 
 #[test]
 fn a_refused_row_stands_in_the_table_and_the_journal(rt: HostRuntime) -> Result<(), Fail> {
-    let setup = Setup::new(&[GREGORIAN, JULIAN], 16, b',', 1, Form::Plain)?;
+    let setup = plain(&[GREGORIAN, JULIAN], b',')?;
     check_table(
         &rt,
         rt.alloc(),
@@ -160,13 +181,13 @@ fn a_refused_row_stands_in_the_table_and_the_journal(rt: HostRuntime) -> Result<
 
 #[test]
 fn semicolons_divide_a_table(rt: HostRuntime) -> Result<(), Fail> {
-    let setup = Setup::new(&[JULIAN], 16, b';', 1, Form::Plain)?;
+    let setup = plain(&[JULIAN], b';')?;
     check_table(&rt, rt.alloc(), &setup, (SEMICOLONS, SEMICOLONS_TABLE), &[])
 }
 
 #[test]
 fn each_refusal_of_a_record_has_its_row(rt: HostRuntime) -> Result<(), Fail> {
-    let setup = Setup::new(&[], 16, b',', 1, Form::Plain)?;
+    let setup = plain(&[], b',')?;
     check_table(
         &rt,
         rt.alloc(),
@@ -178,13 +199,13 @@ fn each_refusal_of_a_record_has_its_row(rt: HostRuntime) -> Result<(), Fail> {
 
 #[test]
 fn a_quoted_header_and_a_quoted_field(rt: HostRuntime) -> Result<(), Fail> {
-    let setup = Setup::new(&[], 16, b',', 1, Form::Plain)?;
+    let setup = plain(&[], b',')?;
     check_table(&rt, rt.alloc(), &setup, (QUOTES, QUOTES_TABLE), &[])
 }
 
 #[test]
 fn a_header_alone_becomes_a_heading(rt: HostRuntime) -> Result<(), Fail> {
-    let setup = Setup::new(&[], 16, b',', 1, Form::Plain)?;
+    let setup = plain(&[], b',')?;
     check_table(
         &rt,
         rt.alloc(),
@@ -196,7 +217,7 @@ fn a_header_alone_becomes_a_heading(rt: HostRuntime) -> Result<(), Fail> {
 
 #[test]
 fn tabs_divide_a_table(rt: HostRuntime) -> Result<(), Fail> {
-    let setup = Setup::new(&[], 16, b'\t', 1, Form::Plain)?;
+    let setup = plain(&[], b'\t')?;
     check_table(&rt, rt.alloc(), &setup, (TABS, TABS_TABLE), &[])
 }
 
@@ -267,25 +288,49 @@ h,roman,-99999-1-K2|8,h,roman,-99999-1-K2,,,,,7
 i,roman,1-1-X3|9,i,roman,1-1-X3,,,,,5
 ";
 
+/// Adds a line.
+fn push_line(text: &mut Vec<u8>, line: &str) -> Result<(), AllocError> {
+    text.extend_from_slice(line.as_bytes())?;
+    text.push(b'\n')?;
+    Ok(())
+}
+
+/// The record and the row of a line, on the sides of its bar.
+fn sides(line: &str) -> (&str, &str) {
+    line.split_once('|').unwrap_or(("no record", "no row"))
+}
+
+/// A header with the records of these lines.
+fn records_of(alloc: Global, lines: &str) -> Result<Vec<u8>, AllocError> {
+    let mut input = Vec::new(alloc);
+    push_line(&mut input, "id,calendar,date")?;
+    for line in lines.lines() {
+        push_line(&mut input, sides(line).0)?;
+    }
+    Ok(input)
+}
+
+/// The heading for these targets, with the rows of these lines.
+fn rows_of(alloc: Global, targets: &[Target], lines: &str) -> Result<Vec<u8>, AllocError> {
+    let mut table = Vec::new(alloc);
+    table.extend_from_slice(b"row,id,calendar,date,rd,weekday")?;
+    for target in targets {
+        table.push(b',')?;
+        table.extend_from_slice(target.name().as_bytes())?;
+    }
+    push_line(&mut table, ",refusal")?;
+    for line in lines.lines() {
+        push_line(&mut table, sides(line).1)?;
+    }
+    Ok(table)
+}
+
 /// The records before the bars become the rows after them, below the heading for these targets.
 fn check_rows(rt: &impl Abort, alloc: Global, targets: &[Target], lines: &str) -> Result<(), Fail> {
-    let setup = Setup::new(targets, 16, b',', 1, Form::Plain)?;
-    let mut input = Vec::new(alloc);
-    let mut output = Vec::new(alloc);
-    write!(input, "id,calendar,date\n")?;
-    write!(output, "row,id,calendar,date,rd,weekday")?;
-    for target in targets {
-        write!(output, ",{}", target.name())?;
-    }
-    write!(output, ",refusal\n")?;
-    for line in lines.lines() {
-        let (record, row) = line.split_once('|').ok_or("a record and its row")?;
-        write!(input, "{record}\n")?;
-        write!(output, "{row}\n")?;
-    }
-    let (text, end) = converted(alloc, input.as_slice(), &setup);
-    assert_eq!(rt; cause_of(&end), 0);
-    assert_eq!(rt; text.as_slice(), output.as_slice());
+    let setup = plain(targets, b',')?;
+    let input = records_of(alloc, lines)?;
+    let table = rows_of(alloc, targets, lines)?;
+    assert!(rt; becomes(alloc, &setup, input.as_slice(), table.as_slice(), 0));
     Ok(())
 }
 
@@ -324,12 +369,13 @@ id,calendar,\u{1a}\n|\u{feff}\u{feff}\u{feff}id,calendar,date\n";
 
 #[test]
 fn other_headers_are_refused(rt: HostRuntime) -> Result<(), Fail> {
-    let setup = both(b',')?;
+    let setup = plain(&[GREGORIAN, JULIAN], b',')?;
     for header in OTHER_HEADERS.split('|') {
         let input = bytes_of(rt.alloc(), header)?;
-        let (text, end) = converted(rt.alloc(), input.as_slice(), &setup);
-        assert_eq!(rt; cause_of(&end), 6, "at {header:?}");
-        assert!(rt; text.is_empty(), "at {header:?}");
+        assert!(rt;
+            becomes(rt.alloc(), &setup, input.as_slice(), b"", 6),
+            "at {header:?}"
+        );
     }
     Ok(())
 }
@@ -337,9 +383,8 @@ fn other_headers_are_refused(rt: HostRuntime) -> Result<(), Fail> {
 #[test]
 fn a_header_may_have_two_marks_blanks_and_capitals(rt: HostRuntime) -> Result<(), Fail> {
     let header = "\u{feff}\u{feff} id ,CALENDAR,date\n";
-    let (text, end) = converted(rt.alloc(), header.as_bytes(), &both(b',')?);
-    assert_eq!(rt; cause_of(&end), 0);
-    assert_eq!(rt; text.as_slice(), HEADING.as_bytes());
+    let setup = plain(&[GREGORIAN, JULIAN], b',')?;
+    assert!(rt; becomes(rt.alloc(), &setup, header.as_bytes(), HEADING.as_bytes(), 0));
     Ok(())
 }
 
@@ -402,9 +447,13 @@ fn interrupted_reads_are_tried_again(rt: HostRuntime) -> Result<(), Fail> {
         interrupted: false,
     };
     let mut output = PlainOutput::new(Vec::new(rt.alloc()), 1);
-    let end = convert_source(rt.alloc(), reader, &mut output, &both(b',')?);
-    assert!(rt; end.is_whole());
-    assert!(rt; output.into_inner() == first_lines(rt.alloc(), 3)?);
+    let end = convert_source(
+        rt.alloc(),
+        reader,
+        &mut output,
+        &plain(&[GREGORIAN, JULIAN], b',')?,
+    );
+    assert!(rt; end.is_whole() && output.into_inner().as_slice() == TABLE.as_bytes());
     Ok(())
 }
 
@@ -427,59 +476,71 @@ row,id,calendar,date,rd,weekday,gregorian,julian,refusal
 2,,,,,,,,1
 ";
 
-fn first_lines(alloc: Global, n: usize) -> Result<Vec<u8>, Fail> {
-    let mut text = Vec::new(alloc);
-    for line in TABLE.lines().take(n) {
-        text.extend_from_slice(line.as_bytes())?;
-        text.push(b'\n')?;
+/// How many lines these bytes are of the front of a table; else a number that no table has.
+fn lines_of_front(bytes: &[u8], table: &str) -> usize {
+    if !table.as_bytes().starts_with(bytes) || bytes.last().is_some_and(|byte| *byte != b'\n') {
+        return usize::MAX;
     }
-    Ok(text)
+    bytes.iter().filter(|byte| **byte == b'\n').count()
+}
+
+/// What the text gives on a paper: the number of the cause, the output's mark, and the paper.
+fn written(alloc: Global, setup: &Setup, most: usize, bad_call: usize) -> (u8, u32, Paper) {
+    let mut output = new_paper(alloc, most, bad_call);
+    let end = convert_source(alloc, INPUT.as_bytes(), &mut output, setup);
+    (cause_of(&end), output.mark(), output.into_inner())
+}
+
+/// Whether each call before the bad one wrote a line and was followed by a flush.
+fn stops_at(alloc: Global, setup: &Setup, bad_call: usize) -> bool {
+    let (cause, mark, paper) = written(alloc, setup, usize::MAX, bad_call);
+    cause == if bad_call == 3 { 0 } else { 4 }
+        && mark == 7
+        && paper.calls == bad_call
+        && paper.flushes == bad_call
+        && lines_of_front(paper.text.as_slice(), TABLE) == bad_call
 }
 
 #[test]
 fn each_row_is_one_write_and_a_flush(rt: HostRuntime) -> Result<(), Fail> {
-    let setup = both(b',')?;
+    let setup = plain(&[GREGORIAN, JULIAN], b',')?;
     for bad_call in 0..4 {
-        let mut output = new_paper(rt.alloc(), usize::MAX, bad_call);
-        let end = convert_source(rt.alloc(), INPUT.as_bytes(), &mut output, &setup);
-        assert_eq!(rt; cause_of(&end), if bad_call == 3 { 0 } else { 4 });
-        assert_eq!(rt; output.mark(), 7);
-        let paper = output.into_inner();
-        assert_eq!(rt; paper.calls, bad_call);
-        assert_eq!(rt; paper.flushes, bad_call);
-        assert!(rt;
-            paper.text == first_lines(rt.alloc(), bad_call)?,
-            "at {bad_call}"
-        );
+        assert!(rt; stops_at(rt.alloc(), &setup, bad_call), "at {bad_call}");
     }
-    let mut short = new_paper(rt.alloc(), 5, usize::MAX);
-    let end = convert_source(rt.alloc(), INPUT.as_bytes(), &mut short, &setup);
-    assert_eq!(rt; cause_of(&end), 0);
-    assert!(rt; short.into_inner().text == first_lines(rt.alloc(), 3)?);
-    let mut full = new_paper(rt.alloc(), 0, usize::MAX);
-    let end = convert_source(rt.alloc(), INPUT.as_bytes(), &mut full, &setup);
-    assert_eq!(rt; cause_of(&end), 4);
     Ok(())
 }
 
-/// The setup of these targets, ring, delimiter and stripes has the fault of this number, or for 0 keeps its parts.
-fn check_setup(
-    rt: &impl Abort,
-    targets: &[Target],
-    (ring, delimiter, stripes): (usize, u8, usize),
-    fault: u8,
-) {
-    let answer = match Setup::new(targets, ring, delimiter, stripes, Form::Plain) {
-        Ok(setup) => {
-            assert_eq!(rt; setup.ring(), ring);
-            assert_eq!(rt; setup.delimiter(), delimiter);
-            assert_eq!(rt; setup.stripes(), stripes);
-            assert_eq!(rt; setup.form(), Form::Plain);
-            0
-        }
-        Err(fault) => fault.number(),
-    };
-    assert_eq!(rt; answer, fault);
+#[test]
+fn a_write_may_take_a_part_but_not_nothing(rt: HostRuntime) -> Result<(), Fail> {
+    let setup = plain(&[GREGORIAN, JULIAN], b',')?;
+    let (cause, _, paper) = written(rt.alloc(), &setup, 5, usize::MAX);
+    assert!(rt; cause == 0 && paper.text.as_slice() == TABLE.as_bytes());
+    let (cause, ..) = written(rt.alloc(), &setup, 0, usize::MAX);
+    assert!(rt; cause == 4);
+    Ok(())
+}
+
+/// Whether a setup tells what it was made of.
+fn is_kept(setup: &Setup, (ring, delimiter, stripes): (usize, u8, usize)) -> bool {
+    setup.ring() == ring
+        && setup.delimiter() == delimiter
+        && setup.stripes() == stripes
+        && setup.form() == Form::Plain
+}
+
+/// Whether the setup of these targets, ring, delimiter and stripes has the fault of this number, or for 0 keeps its
+/// parts.
+fn has_fault(targets: &[Target], parts: (usize, u8, usize), fault: u8) -> bool {
+    let (ring, delimiter, stripes) = parts;
+    match Setup::new(targets, ring, delimiter, stripes, Form::Plain) {
+        Ok(setup) => fault == 0 && is_kept(&setup, parts),
+        Err(other) => other.number() == fault,
+    }
+}
+
+/// The setup has the fault.
+fn check_setup(rt: &impl Abort, targets: &[Target], parts: (usize, u8, usize), fault: u8) {
+    assert!(rt; has_fault(targets, parts, fault));
 }
 
 #[test]
@@ -495,56 +556,84 @@ fn setups_have_their_faults(rt: HostRuntime) {
     check_setup(&rt, &[], (1, b',', 4), 0);
 }
 
+/// The first day of the reform by the Julian calendar.
+const REFORM_FIELDS: [&str; 3] = ["", "Julian", "1582-10-05"];
+
+/// Whether this is the last row of a register with these two targets, and of no other setup.
+fn tells_its_parts(row: &Row, setup: &Setup, other: &Setup) -> bool {
+    row.entry().number() == 1_000_000
+        && row.targets().len() == 2
+        && row.outcome().is_ok_and(|day| day.number() == 577_736)
+        && row.cells().len() == 2
+        && row.is_for(setup)
+        && !row.is_for(other)
+        && row.note().is_none()
+}
+
 #[test]
-fn entries_and_rows_tell_their_parts(rt: HostRuntime) -> Result<(), Fail> {
-    let setup = both(b',')?;
-    assert!(rt; Entry::new(0, Body::Refused(Refusal::NotUtf8)).is_none());
-    assert!(rt; Entry::new(1_000_001, Body::Refused(Refusal::NotUtf8)).is_none());
-    assert!(rt; Entry::new(1, Body::Refused(Refusal::DateText)).is_none());
-    let fields = Body::Fields {
-        id: ArrayString::new(),
-        calendar: ArrayString::from("Julian")?,
-        date: ArrayString::from("1582-10-05")?,
-        note: ArrayString::new(),
-    };
-    let entry = Entry::new(1_000_000, fields).ok_or("no entry")?;
-    let row = convert(entry, &setup);
-    assert_eq!(rt; row.entry().number(), 1_000_000);
-    assert_eq!(rt; row.targets().len(), 2);
-    assert!(rt; row.outcome().is_ok_and(|day| day.number() == 577_736));
-    assert_eq!(rt; row.cells().len(), 2);
-    assert!(rt; row.is_for(&setup));
-    assert!(rt; !row.is_for(&Setup::new(&[JULIAN, GREGORIAN], 16, b',', 1, Form::Plain)?));
-    assert!(rt; row.note().is_none());
-    assert_eq!(rt; RowFault::WriteFault.cause(), Some(Cause::SinkFault));
-    assert_eq!(rt; EntryFault::Failed.cause(), None);
+fn rows_tell_their_parts(rt: HostRuntime) -> Result<(), Fail> {
+    let setup = plain(&[GREGORIAN, JULIAN], b',')?;
+    let other = plain(&[JULIAN, GREGORIAN], b',')?;
+    let last = Entry::new(1_000_000, fields_of(REFORM_FIELDS)?).ok_or("no entry")?;
+    let row = row_of(last, &setup);
+    assert!(rt; tells_its_parts(&row, &setup, &other));
     Ok(())
 }
 
 #[test]
+fn entries_have_their_limits_and_faults_their_causes(rt: HostRuntime) {
+    for (number, refusal) in [
+        (0, Refusal::NotUtf8),
+        (1_000_001, Refusal::NotUtf8),
+        (1, Refusal::DateText),
+    ] {
+        assert!(rt;
+            Entry::new(number, Body::Refused(refusal)).is_none(),
+            "at {number}"
+        );
+    }
+    assert!(rt; RowFault::WriteFault.cause() == Some(Cause::SinkFault));
+    assert!(rt; EntryFault::Failed.cause().is_none());
+}
+
+static REFUSED_LINE: &str = "1,,,,,,,,3\n";
+
+/// Whether two lines wait until they are sent, and a line then waits until another is put.
+fn wait_and_go(
+    writer: &mut RowWriter,
+    output: &mut PlainOutput<Vec<u8>>,
+    row: &Row,
+) -> Result<bool, RowFault> {
+    writer.add(row)?;
+    writer.add(row)?;
+    let two = writer.pending_len();
+    writer.send(output)?;
+    let none = writer.pending_len();
+    writer.send(output)?;
+    writer.add(row)?;
+    writer.put(output, row)?;
+    Ok(two == 2 * REFUSED_LINE.len() && none == 0)
+}
+
+/// Whether these are the heading and the line four times.
+fn are_four_lines(bytes: &[u8]) -> bool {
+    let Some(lines) = bytes.strip_prefix(HEADING.as_bytes()) else {
+        return false;
+    };
+    let line = REFUSED_LINE.as_bytes();
+    lines.len() == 4 * line.len() && lines.chunks(line.len()).all(|one| one == line)
+}
+
+#[test]
 fn lines_wait_until_they_are_sent(rt: HostRuntime) -> Result<(), Fail> {
-    let setup = both(b',')?;
+    let setup = plain(&[GREGORIAN, JULIAN], b',')?;
     let refused = Entry::new(1, Body::Refused(Refusal::NotUtf8)).ok_or("no entry")?;
-    let row = convert(refused, &setup);
+    let row = row_of(refused, &setup);
     let mut output = PlainOutput::new(Vec::new(rt.alloc()), 1);
     let mut writer = RowWriter::open(rt.alloc(), &mut output, &setup)?;
-    let line = "1,,,,,,,,3\n".as_bytes();
-    writer.add(&row)?;
-    writer.add(&row)?;
-    assert_eq!(rt; writer.pending_len(), 2 * line.len());
-    writer.send(&mut output)?;
-    assert_eq!(rt; writer.pending_len(), 0);
-    writer.send(&mut output)?;
-    writer.add(&row)?;
-    writer.put(&mut output, &row)?;
+    let have_waited = wait_and_go(&mut writer, &mut output, &row)?;
     writer.end()?;
-    let bytes = output.into_inner();
-    let lines = bytes
-        .as_slice()
-        .strip_prefix(HEADING.as_bytes())
-        .ok_or("no heading")?;
-    assert_eq!(rt; lines.len(), 4 * line.len());
-    assert!(rt; lines.chunks(line.len()).all(|one| one == line));
+    assert!(rt; have_waited && are_four_lines(output.into_inner().as_slice()));
     Ok(())
 }
 
@@ -555,18 +644,19 @@ fn rows_are_small(rt: HostRuntime) -> Result<(), Fail> {
     Ok(())
 }
 
+/// Whether the first cell of a row has this text.
+fn begins_with(row: &Row, text: &str) -> bool {
+    let Some(cell) = row.cells().first() else {
+        return false;
+    };
+    cell.as_str() == text && cell.as_bytes().len() == text.len()
+}
+
 #[test]
 fn cells_tell_their_texts(rt: HostRuntime) -> Result<(), Fail> {
-    let setup = both(b',')?;
-    let fields = Body::Fields {
-        id: ArrayString::new(),
-        calendar: ArrayString::from("Julian")?,
-        date: ArrayString::from("1582-10-05")?,
-        note: ArrayString::new(),
-    };
-    let row = convert(Entry::new(1, fields).ok_or("no entry")?, &setup);
-    let cell = row.cells().first().ok_or("no cell")?;
-    assert_eq!(rt; cell.as_str(), "1582-10-15");
-    assert_eq!(rt; cell.as_bytes().len(), 10);
+    let setup = plain(&[GREGORIAN, JULIAN], b',')?;
+    let entry = Entry::new(1, fields_of(REFORM_FIELDS)?).ok_or("no entry")?;
+    let row = row_of(entry, &setup);
+    assert!(rt; begins_with(&row, "1582-10-15"));
     Ok(())
 }

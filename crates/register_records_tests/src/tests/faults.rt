@@ -1,17 +1,18 @@
 // Readers and outputs that fail at each place in turn. The tables are worked by hand: R.D. 719163, a Thursday, is
 // 1970-01-01, and R.D. 577736, a Friday, is 1582-10-05 of the Julian calendar.
 
-use super::cause_of;
+use super::{cause_of, lines_of_front, row_of};
 use arrayvec::ArrayString;
 use date_texts::Target;
 use register_records::faults::{Chunks, Sink};
 use register_records::{
-    Body, Entry, EntryFault, EntryReader, Form, LINE_ROOM, MOST_WAITING, Output, PlainOutput,
-    RowFault, RowWriter, Setup, SetupFault, SourceEnd, convert, convert_source,
+    Body, Entry, EntryFault, EntryReader, Form, LINE_ROOM, MOST_WAITING, Output, PlainOutput, Row,
+    RowFault, RowWriter, Setup, SetupFault, SourceEnd, convert_source,
 };
 use std::alloc::{AllocError, Global};
 use std::io;
 use std::io::{ErrorKind, Write};
+use std::process::Abort;
 use std::test::Fail;
 
 /// A setup with no target, rings of one and a comma.
@@ -52,16 +53,6 @@ pub(super) fn lines_of(alloc: Global, text: &str) -> Result<Vec<Vec<u8>>, AllocE
     Ok(chunks)
 }
 
-/// The first lines of a table.
-fn first_lines(alloc: Global, table: &str, count: usize) -> Result<Vec<u8>, AllocError> {
-    let mut text = Vec::new(alloc);
-    for line in table.lines().take(count) {
-        text.extend_from_slice(line.as_bytes())?;
-        text.push(b'\n')?;
-    }
-    Ok(text)
-}
-
 /// How three records end that are read and written with these faults.
 fn ended(alloc: Global, fail_read: u32, sink: &mut Sink) -> Result<SourceEnd, Fail> {
     let reader = Chunks::new(lines_of(alloc, THREE_RECORDS)?, fail_read);
@@ -74,49 +65,61 @@ const ROOM: usize = 4096;
 /// More reads, writes or flushes than three records need.
 const MANY: u32 = 20;
 
+/// The number of the cause where the read of this number fails, and how many lines stand on the output, which has not
+/// failed.
+fn read_until(alloc: Global, fail_read: u32) -> Result<(u8, usize), Fail> {
+    let mut sink = Sink::new(alloc, 7, ROOM, 0, 0, ROOM)?;
+    let end = ended(alloc, fail_read, &mut sink)?;
+    if sink.has_failed() {
+        return Ok((cause_of(&end), usize::MAX));
+    }
+    Ok((cause_of(&end), lines_of_front(sink.bytes(), THREE_ROWS)))
+}
+
 #[test]
 fn a_read_fails_at_each_place(rt: HostRuntime) -> Result<(), Fail> {
     let mut lines = 0usize;
     for fail_read in 1..MANY {
-        let mut sink = Sink::new(rt.alloc(), 7, ROOM, 0, 0, ROOM)?;
-        let end = ended(rt.alloc(), fail_read, &mut sink)?;
-        assert!(rt; !sink.has_failed());
-        if end.is_whole() {
-            assert_eq!(rt; lines, 4, "at {fail_read}");
-            assert_eq!(rt; sink.bytes(), THREE_ROWS.as_bytes());
+        let (cause, read) = read_until(rt.alloc(), fail_read)?;
+        if cause == 0 {
+            assert!(rt; lines == 4 && read == 4, "at {fail_read}");
             return Ok(());
         }
-        assert_eq!(rt; cause_of(&end), 5, "at {fail_read}");
         // One read more is one line more at most, and the first gives none.
-        let before = first_lines(rt.alloc(), THREE_ROWS, lines)?;
-        if sink.bytes() != before.as_slice() {
-            lines = lines.saturating_add(1);
-            assert!(rt; fail_read > 1);
-        }
-        let front = first_lines(rt.alloc(), THREE_ROWS, lines)?;
-        assert_eq!(rt; sink.bytes(), front.as_slice());
+        let is_one_more = fail_read > 1 && read == lines.saturating_add(1);
+        assert!(rt;
+            cause == 5 && (read == lines || is_one_more),
+            "at {fail_read}"
+        );
+        lines = read;
     }
     Err(Fail::from("no run is whole"))
 }
 
+/// A text in chunks of one byte each.
+fn single_bytes(alloc: Global, text: &str) -> Result<Vec<Vec<u8>>, AllocError> {
+    let mut chunks = Vec::new(alloc);
+    for byte in text.as_bytes() {
+        chunks.push(vec![in alloc; *byte]?)?;
+    }
+    Ok(chunks)
+}
+
+/// Whether three records that are cut off after so many bytes end with a fault of reading, and give so many lines.
+fn is_cut_off(alloc: Global, cut: u32, lines: usize) -> Result<bool, Fail> {
+    let setup = plain_setup()?;
+    let reader = Chunks::new(single_bytes(alloc, THREE_RECORDS)?, cut.saturating_add(1));
+    let mut sink = Sink::new(alloc, 7, ROOM, 0, 0, ROOM)?;
+    let end = convert_source(alloc, reader, &mut sink, &setup);
+    Ok(cause_of(&end) == 5 && lines_of_front(sink.bytes(), THREE_ROWS) == lines)
+}
+
 #[test]
 fn a_text_that_is_cut_off_at_any_byte_gives_its_whole_lines(rt: HostRuntime) -> Result<(), Fail> {
-    let setup = plain_setup()?;
     let mut lines = 0usize;
     let mut cut = 0u32;
     for byte in THREE_RECORDS.as_bytes() {
-        let mut chunks = Vec::new(rt.alloc());
-        for byte in THREE_RECORDS.as_bytes() {
-            chunks.push(vec![in rt.alloc(); *byte]?)?;
-        }
-        let reader = Chunks::new(chunks, cut.saturating_add(1));
-        let mut sink = Sink::new(rt.alloc(), 7, ROOM, 0, 0, ROOM)?;
-        let end = convert_source(rt.alloc(), reader, &mut sink, &setup);
-        assert_eq!(rt; cause_of(&end), 5, "at {cut}");
-        assert_eq!(rt;
-            sink.bytes(),
-            first_lines(rt.alloc(), THREE_ROWS, lines)?.as_slice()
-        );
+        assert!(rt; is_cut_off(rt.alloc(), cut, lines)?, "at {cut}");
         cut = cut.saturating_add(1);
         if *byte == b'\n' {
             lines = lines.saturating_add(1);
@@ -132,56 +135,77 @@ enum Failing {
     Flush,
 }
 
+/// The number of the cause where the offer or the flush of this number fails, whether the output has failed, and how
+/// many lines stand on it, whose mark is as it was.
+fn written_until(alloc: Global, failing: Failing, place: u32) -> Result<(u8, bool, usize), Fail> {
+    let (fail_write, fail_flush) = match failing {
+        Failing::Offer => (place, 0),
+        Failing::Flush => (0, place),
+    };
+    let mut sink = Sink::new(alloc, 7, ROOM, fail_write, fail_flush, ROOM)?;
+    let end = ended(alloc, 0, &mut sink)?;
+    let lines = if sink.mark() == 7 {
+        lines_of_front(sink.bytes(), THREE_ROWS)
+    } else {
+        usize::MAX
+    };
+    Ok((cause_of(&end), sink.has_failed(), lines))
+}
+
+/// Each line but those before it is missing where its offer fails, and where its flush fails it is the last.
+fn check_failing(rt: &impl Abort, alloc: Global, failing: Failing) -> Result<(), Fail> {
+    let mut lines = 0usize;
+    for place in 1..MANY {
+        let (cause, has_failed, written) = written_until(alloc, failing, place)?;
+        if cause == 0 {
+            assert!(rt; lines == 4 && !has_failed && written == 4, "{failing:?}");
+            return Ok(());
+        }
+        let offered = match failing {
+            Failing::Offer => lines,
+            Failing::Flush => lines.saturating_add(1),
+        };
+        assert!(rt;
+            cause == 4 && has_failed && written == offered,
+            "{failing:?} {place}"
+        );
+        lines = lines.saturating_add(1);
+    }
+    Err(Fail::from("no run is whole"))
+}
+
 #[test]
 fn a_write_and_a_flush_fail_at_each_place(rt: HostRuntime) -> Result<(), Fail> {
-    for failing in [Failing::Offer, Failing::Flush] {
-        let mut lines = 0usize;
-        for place in 1..MANY {
-            let (fail_write, fail_flush) = match failing {
-                Failing::Offer => (place, 0),
-                Failing::Flush => (0, place),
-            };
-            let mut sink = Sink::new(rt.alloc(), 7, ROOM, fail_write, fail_flush, ROOM)?;
-            let end = ended(rt.alloc(), 0, &mut sink)?;
-            assert_eq!(rt; sink.mark(), 7);
-            if end.is_whole() {
-                assert_eq!(rt; lines, 4, "{failing:?}");
-                assert!(rt; !sink.has_failed());
-                assert_eq!(rt; sink.bytes(), THREE_ROWS.as_bytes());
-                break;
-            }
-            let offered = match failing {
-                Failing::Offer => lines,
-                Failing::Flush => lines.saturating_add(1),
-            };
-            assert_eq!(rt; cause_of(&end), 4, "{failing:?} {place}");
-            assert!(rt; sink.has_failed());
-            assert_eq!(rt;
-                sink.bytes(),
-                first_lines(rt.alloc(), THREE_ROWS, offered)?.as_slice()
-            );
-            lines = lines.saturating_add(1);
-        }
-        assert_eq!(rt; lines, 4, "{failing:?}");
+    check_failing(&rt, rt.alloc(), Failing::Offer)?;
+    check_failing(&rt, rt.alloc(), Failing::Flush)
+}
+
+/// The number of the cause where an output has this room and takes at most so many bytes a call, and how many bytes of
+/// the table stand on it.
+fn taken(alloc: Global, room: usize, most: usize) -> Result<(u8, usize), Fail> {
+    let mut sink = Sink::new(alloc, 7, room, 0, 0, most)?;
+    let end = ended(alloc, 0, &mut sink)?;
+    if !THREE_ROWS.as_bytes().starts_with(sink.bytes()) {
+        return Ok((cause_of(&end), usize::MAX));
     }
-    Ok(())
+    Ok((cause_of(&end), sink.bytes().len()))
 }
 
 #[test]
 fn an_output_may_take_one_byte_but_not_none(rt: HostRuntime) -> Result<(), Fail> {
-    let mut slow = Sink::new(rt.alloc(), 7, ROOM, 0, 0, 1)?;
-    assert!(rt; ended(rt.alloc(), 0, &mut slow)?.is_whole());
-    assert_eq!(rt; slow.bytes(), THREE_ROWS.as_bytes());
-    let mut closed = Sink::new(rt.alloc(), 7, ROOM, 0, 0, 0)?;
-    assert_eq!(rt; cause_of(&ended(rt.alloc(), 0, &mut closed)?), 4);
-    assert!(rt; closed.bytes().is_empty());
     let size = THREE_ROWS.len();
-    let mut full = Sink::new(rt.alloc(), 7, size - 1, 0, 0, ROOM)?;
-    assert_eq!(rt; cause_of(&ended(rt.alloc(), 0, &mut full)?), 4);
-    assert_eq!(rt; full.bytes().len(), size - 1);
-    let mut fitting = Sink::new(rt.alloc(), 7, size, 0, 0, ROOM)?;
-    assert!(rt; ended(rt.alloc(), 0, &mut fitting)?.is_whole());
-    assert_eq!(rt; fitting.bytes(), THREE_ROWS.as_bytes());
+    for (room, most, wanted_cause, wanted_length) in [
+        (ROOM, 1, 0, size),
+        (ROOM, 0, 4, 0),
+        (size - 1, ROOM, 4, size - 1),
+        (size, ROOM, 0, size),
+    ] {
+        let (cause, length) = taken(rt.alloc(), room, most)?;
+        assert!(rt;
+            cause == wanted_cause && length == wanted_length,
+            "{room}, {most}"
+        );
+    }
     Ok(())
 }
 
@@ -213,32 +237,71 @@ fn of_a_fault_of_writing_and_one_of_reading_that_of_writing_is_told(
     Ok(())
 }
 
+/// What a reader answers next.
+fn next_of(entries: &mut EntryReader<Chunks>) -> Result<Option<Entry>, EntryFault> {
+    entries.next()
+}
+
+/// What a writer answers to a row.
+fn put(writer: &mut RowWriter, sink: &mut Sink, row: &Row) -> Result<(), RowFault> {
+    writer.put(sink, row)
+}
+
+/// Whether the reader gives one entry, of number 1, meets a fault, and has failed from then on.
+fn fails_after_one(entries: &mut EntryReader<Chunks>) -> bool {
+    let Ok(Some(entry)) = next_of(entries) else {
+        return false;
+    };
+    entry.number() == 1
+        && next_of(entries).err() == Some(EntryFault::ReadFault)
+        && next_of(entries).err() == Some(EntryFault::Failed)
+}
+
 #[test]
-fn readers_and_writers_fail_from_a_fault_on(rt: HostRuntime) -> Result<(), Fail> {
+fn a_reader_fails_from_a_fault_on(rt: HostRuntime) -> Result<(), Fail> {
+    let reader = cut_text(rt.alloc(), WEEK_DATE)?;
+    let mut entries = EntryReader::open(rt.alloc(), reader, &plain_setup()?)?;
+    assert!(rt; fails_after_one(&mut entries));
+    Ok(())
+}
+
+/// The fields of the only record in the week date's text.
+const WEEK_FIELDS: [&str; 3] = ["a", "iso", "1970-W01-4"];
+
+/// Whether the writer meets a fault at the row, and has failed from then on.
+fn fails_at_a_row(mut writer: RowWriter, torn: &mut Sink, row: &Row) -> bool {
+    let first = put(&mut writer, torn, row);
+    let second = put(&mut writer, torn, row);
+    let last = writer.end();
+    first == Err(RowFault::WriteFault)
+        && second == Err(RowFault::Failed)
+        && last == Err(RowFault::Failed)
+}
+
+#[test]
+fn a_writer_fails_from_a_fault_on(rt: HostRuntime) -> Result<(), Fail> {
     let setup = plain_setup()?;
-    let mut entries = EntryReader::open(rt.alloc(), cut_text(rt.alloc(), WEEK_DATE)?, &setup)?;
-    let entry = entries.next()?.ok_or("no entry")?;
-    assert_eq!(rt; entry.number(), 1);
-    assert_eq!(rt; entries.next().err(), Some(EntryFault::ReadFault));
-    assert_eq!(rt; entries.next().err(), Some(EntryFault::Failed));
-    let row = convert(entry, &setup);
+    let entry = Entry::new(1, fields_of(WEEK_FIELDS)?).ok_or("no entry")?;
+    let row = row_of(entry, &setup);
     let mut torn = Sink::new(rt.alloc(), 7, ROOM, 2, 0, ROOM)?;
-    let mut writer = RowWriter::open(rt.alloc(), &mut torn, &setup)?;
-    assert_eq!(rt;
-        writer.put(&mut torn, &row).err(),
-        Some(RowFault::WriteFault)
+    let writer = RowWriter::open(rt.alloc(), &mut torn, &setup)?;
+    assert!(rt;
+        fails_at_a_row(writer, &mut torn, &row)
+            && lines_of_front(torn.bytes(), WEEK_DATE_TABLE) == 1
     );
-    assert_eq!(rt; writer.put(&mut torn, &row).err(), Some(RowFault::Failed));
-    assert_eq!(rt; writer.end().err(), Some(RowFault::Failed));
-    assert_eq!(rt;
-        torn.bytes(),
-        first_lines(rt.alloc(), WEEK_DATE_TABLE, 1)?.as_slice()
-    );
+    Ok(())
+}
+
+#[test]
+fn a_writer_without_a_fault_writes_the_row(rt: HostRuntime) -> Result<(), Fail> {
+    let setup = plain_setup()?;
+    let entry = Entry::new(1, fields_of(WEEK_FIELDS)?).ok_or("no entry")?;
+    let row = row_of(entry, &setup);
     let mut whole = Sink::new(rt.alloc(), 7, ROOM, 0, 0, ROOM)?;
     let mut writer = RowWriter::open(rt.alloc(), &mut whole, &setup)?;
-    writer.put(&mut whole, &row)?;
-    assert!(rt; writer.end().is_ok());
-    assert_eq!(rt; whole.bytes(), WEEK_DATE_TABLE.as_bytes());
+    put(&mut writer, &mut whole, &row)?;
+    writer.end()?;
+    assert!(rt; whole.bytes() == WEEK_DATE_TABLE.as_bytes());
     Ok(())
 }
 
@@ -282,7 +345,7 @@ fn interrupted_writes_are_tried_again(rt: HostRuntime) -> Result<(), Fail> {
 }
 
 /// The fields of a record that has no note.
-fn fields_of([id, calendar, date]: [&str; 3]) -> Result<Body, Fail> {
+pub(super) fn fields_of([id, calendar, date]: [&str; 3]) -> Result<Body, Fail> {
     Ok(Body::Fields {
         id: ArrayString::from(id)?,
         calendar: ArrayString::from(calendar)?,
@@ -296,7 +359,7 @@ fn longest_row(alloc: Global, setup: &Setup, fields: [&str; 3]) -> Result<Sink, 
     let entry = Entry::new(1_000_000, fields_of(fields)?).ok_or("no entry")?;
     let mut sink = Sink::new(alloc, 7, ROOM, 0, 0, ROOM)?;
     let mut writer = RowWriter::open(alloc, &mut sink, setup)?;
-    writer.put(&mut sink, &convert(entry, setup))?;
+    writer.put(&mut sink, &row_of(entry, setup))?;
     writer.end()?;
     Ok(sink)
 }
@@ -342,7 +405,7 @@ fn the_longest_fields_and_the_last_number_fit_a_row(rt: HostRuntime) -> Result<(
 fn lines_that_wait_take_no_memory(rt: HostRuntime) -> Result<(), Fail> {
     let setup = Setup::new(&Target::ALL, 1, b',', 1, Form::Plain)?;
     let entry = Entry::new(1_000_000, fields_of(LONG_FIELDS)?).ok_or("no entry")?;
-    let row = convert(entry, &setup);
+    let row = row_of(entry, &setup);
     let Ok(mut sink) = Sink::new(rt.alloc(), 7, ROOM, 0, 0, ROOM) else {
         return Ok(());
     };

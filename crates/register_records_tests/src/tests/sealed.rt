@@ -1,7 +1,7 @@
 // Registers with a seal at their end: a text that was cut off is not whole.
 
 use super::faults::READ_AFTER_CHUNK;
-use super::{GREGORIAN, bytes_of, cause_of, converted};
+use super::{GREGORIAN, becomes, bytes_of, cause_of};
 use date_texts::Target;
 use register_records::faults::Chunks;
 use register_records::{Form, PlainOutput, Setup, SourceEnd, convert_source};
@@ -30,9 +30,11 @@ row,id,calendar,date,note,rd,weekday,gregorian,refusal\n\
 /// Two entries with this after them give their two rows, and the cause of this number, or for 0 none.
 fn check_end(rt: &impl Abort, alloc: Global, after: &str, cause: u8) -> Result<(), Fail> {
     let text = format!(in alloc; "{TWO}{after}")?;
-    let (output, end) = converted(alloc, text.as_bytes(), &sealed(&[GREGORIAN])?);
-    assert_eq!(rt; cause_of(&end), cause, "at {after:?}");
-    assert_eq!(rt; output.as_slice(), TWO_ROWS.as_bytes(), "at {after:?}");
+    let setup = sealed(&[GREGORIAN])?;
+    assert!(rt;
+        becomes(alloc, &setup, text.as_bytes(), TWO_ROWS.as_bytes(), cause),
+        "at {after:?}"
+    );
     Ok(())
 }
 
@@ -81,9 +83,10 @@ fn check_table(
     cause: u8,
 ) -> Result<(), Fail> {
     let input = bytes_of(alloc, text)?;
-    let (output, end) = converted(alloc, input.as_slice(), setup);
-    assert_eq!(rt; cause_of(&end), cause, "at {text:?}");
-    assert_eq!(rt; output.as_slice(), table.as_bytes(), "at {text:?}");
+    assert!(rt;
+        becomes(alloc, setup, input.as_slice(), table.as_bytes(), cause),
+        "at {text:?}"
+    );
     Ok(())
 }
 
@@ -193,17 +196,31 @@ fn notes_have_their_limit_and_stand_as_they_are(rt: HostRuntime) -> Result<(), F
     )
 }
 
+/// Two entries with this seal in one chunk, and then a fault.
+fn chunk_with(alloc: Global, seal: &str) -> Result<Chunks, Fail> {
+    let mut chunk = bytes_of(alloc, TWO)?;
+    chunk.extend_from_slice(seal.as_bytes())?;
+    let mut chunks = Vec::new(alloc);
+    chunks.push(chunk)?;
+    Ok(Chunks::new(chunks, READ_AFTER_CHUNK))
+}
+
+/// Whether the reader's source gives the two rows, and then ends with a fault of reading.
+fn is_cut_after_two_rows(alloc: Global, setup: &Setup, reader: Chunks) -> bool {
+    let mut output = PlainOutput::new(Vec::new(alloc), 1);
+    let end = convert_source(alloc, reader, &mut output, setup);
+    cause_of(&end) == 5 && output.into_inner().as_slice() == TWO_ROWS.as_bytes()
+}
+
 #[test]
 fn a_fault_of_the_read_after_the_seal_is_told(rt: HostRuntime) -> Result<(), Fail> {
+    let setup = sealed(&[GREGORIAN])?;
     for seal in ["END,2\n", "END,3\n"] {
-        let text = format!(in rt.alloc(); "{TWO}{seal}")?;
-        let mut chunks = Vec::new(rt.alloc());
-        chunks.push(bytes_of(rt.alloc(), text.as_str())?)?;
-        let reader = Chunks::new(chunks, READ_AFTER_CHUNK);
-        let mut output = PlainOutput::new(Vec::new(rt.alloc()), 1);
-        let end = convert_source(rt.alloc(), reader, &mut output, &sealed(&[GREGORIAN])?);
-        assert_eq!(rt; cause_of(&end), 5);
-        assert_eq!(rt; output.into_inner().as_slice(), TWO_ROWS.as_bytes());
+        let reader = chunk_with(rt.alloc(), seal)?;
+        assert!(rt;
+            is_cut_after_two_rows(rt.alloc(), &setup, reader),
+            "at {seal:?}"
+        );
     }
     Ok(())
 }

@@ -484,7 +484,7 @@ fn lines_of_front(bytes: &[u8], table: &str) -> usize {
     bytes.iter().filter(|byte| **byte == b'\n').count()
 }
 
-/// What the text gives on a paper: the number of the cause, the output's mark, and the paper.
+/// What the text gives on a writer like this: the number of the cause, the mark of the output, and the writer.
 fn written(alloc: Global, setup: &Setup, most: usize, bad_call: usize) -> (u8, u32, Paper) {
     let mut output = new_paper(alloc, most, bad_call);
     let end = convert_source(alloc, INPUT.as_bytes(), &mut output, setup);

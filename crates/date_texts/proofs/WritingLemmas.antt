@@ -1,12 +1,13 @@
 -- Digits two at a time.
 use Rattle.std.proofs.Common.{◌≡◌, ℕ, ◌+◌, ◌-◌, ◌<◌, ◌≤◌, ◌%◌, ◌/◌, List, [], ◌∷◌, ◌++◌, length, replicate, take}
-use Rattle.std.proofs.Common.{drop, refl, sym, ap, ◌∙◌, arith, append_assoc, inl, inr, eq-zero-or-pos}
+use Rattle.std.proofs.Common.{pos, drop, refl, sym, ap, ◌∙◌, arith, append_assoc, inl, inr, eq-zero-or-pos}
 use Rattle.std.specs.Fmt.{decimal}
 use Rattle.std.proofs.lemmas.Fmt.{decimal_digit}
 use Rattle.itoa.proofs.Decimal.{pair, decimal_two, decimal_pair, length_one, length_pair, length_four}
 use Rattle.date_texts.specs.Numerals.{padded}
+use Rattle.date_texts.specs.CivilText.{canonical_civil}
 
-two_digits : (n : ℕ) → n ≤ 99 → padded 2 n ≡ pair n
+pub two_digits : (n : ℕ) → n ≤ 99 → padded 2 n ≡ pair n
 two_digits n h =
     elim (eq-zero-or-pos (n / 10)) [
       | inl z ↦
@@ -92,3 +93,20 @@ ten_long n digits h p = ap length (p ∙ ten_and n h)
 
 pub one_long : (n : ℕ) → n ≤ 9 → length (decimal n) ≡ 1
 one_long n h = length_one n (omega arith)
+
+-- ---- a civil date with a year of four digits, digit by digit
+four_digits : (n : ℕ) → n ≤ 9_999 → padded 4 n ≡ pair (n / 100) ++ pair (n % 100)
+four_digits n h =
+    year_by_pairs n (omega arith)
+    ∙ ap (λ (ds : List ℕ). ds ++ padded 2 (n % 100)) (two_digits (n / 100) (omega arith))
+    ∙ ap (λ (ds : List ℕ). pair (n / 100) ++ ds) (two_digits (n % 100) (omega arith))
+
+pub ten_bytes : (year month day : ℕ) → year ≤ 9_999 → month ≤ 99 → day ≤ 99
+    → (pair (year / 100) ++ pair (year % 100)) ++ 45 ∷ (pair month ++ 45 ∷ pair day)
+        ≡ canonical_civil (pos year) month day
+ten_bytes year month day h i j =
+    sym (ap (λ (ds : List ℕ). ds ++ 45 ∷ (padded 2 month ++ 45 ∷ padded 2 day)) (four_digits year h)
+    ∙ ap (λ (ds : List ℕ). (pair (year / 100) ++ pair (year % 100)) ++ 45 ∷ (ds ++ 45 ∷ padded 2 day))
+        (two_digits month i)
+    ∙ ap (λ (ds : List ℕ). (pair (year / 100) ++ pair (year % 100)) ++ 45 ∷ (pair month ++ 45 ∷ ds))
+        (two_digits day j))

@@ -1,11 +1,17 @@
 //! The cells of a table.
 
-ghost use Rattle.std.specs.Prelude.{◌≡◌, ◌≤◌, [], ℕ, List, length};
+ghost use Rattle.std.specs.Prelude.{◌≡◌, ◌≤◌, [], ℕ, List, length, take, pos, IfSome};
+ghost use Rattle.date_texts.specs.Calendars.{grammar};
 ghost use Rattle.date_texts.specs.Cells.{IsDateCell, IsCell, numbered_name};
+ghost use Rattle.date_texts.specs.CivilText.{canonical_civil};
+ghost use Rattle.date_texts.specs.DateText.{canonical_text};
+ghost use Rattle.date_texts.specs.declared.grammar.Grammar.TheVariants as grammars;
 
 use crate::calendar::{Calendar, Target};
+use crate::date::{CivilDate, Date};
 use crate::days::date_on_day;
-use crate::laws::one_cell;
+use crate::grammar::Grammar;
+use crate::laws::{cells_are_short, one_cell};
 use crate::numerals::push_number;
 use crate::write::push_date;
 use arrayvec::ArrayString;
@@ -69,4 +75,105 @@ pub fn cell(target: Target, day: Day) -> ArrayString<24>
     let mut text = ArrayString::new();
     push_cell(&mut text, target, day);
     text
+}
+
+/// The year of a civil date, where four digits say it.
+#[inline(always)]
+fn year_of_four_digits(civil: CivilDate) -> Option<u16>
+    ensures { IfSome result (λ year. (grammar civil.calendar ≡ grammars.Civil)
+        × (civil.ymd.year ≡ pos year) × (year ≤ 9_999)) }
+{
+    let year = civil.ymd().year();
+    if civil.calendar().grammar() == Grammar::Civil && year >= 0 && year <= 9_999 {
+        Some(year as u16)
+    } else {
+        None
+    }
+}
+
+/// Writes a year, a month and a day to the front of a cell's room, in one piece.
+#[inline(always)]
+fn write_ten(places: &mut [u8; MAX_CELL], year: u16, month: u8, day: u8)
+    requires year { year ≤ 9_999 }
+    requires month { month ≤ 99 }
+    requires day { day ≤ 99 }
+    ensures { take 10 places.new ≡ canonical_civil (pos year) month day }
+{
+    let century = (year / 100) as u8;
+    let rest = (year % 100) as u8;
+    *places = [
+        b'0' + century / 10,
+        b'0' + century % 10,
+        b'0' + rest / 10,
+        b'0' + rest % 10,
+        b'-',
+        b'0' + month / 10,
+        b'0' + month % 10,
+        b'-',
+        b'0' + day / 10,
+        b'0' + day % 10,
+        0,
+        0,
+        0,
+        0,
+        0,
+        0,
+    ];
+}
+
+/// Copies a text to the front of a cell's room, and says how many bytes it has.
+fn copy_cell(places: &mut [u8; MAX_CELL], text: &str) -> u8
+    requires { length text.now ≤ MAX_CELL }
+    ensures few { result ≤ MAX_CELL }
+    ensures value { take result places.new ≡ text.now }
+{
+    let bytes = text.as_bytes();
+    places[..bytes.len()].copy_from_slice(bytes);
+    bytes.len() as u8
+}
+
+/// Writes a date to the front of a cell's room, and says how many bytes it has.
+#[inline(always)]
+fn write_canonical(places: &mut [u8; MAX_CELL], date: Date) -> u8
+    requires { length (canonical_text date) ≤ MAX_CELL }
+    ensures few { result ≤ MAX_CELL }
+    ensures value { take result places.new ≡ canonical_text date }
+{
+    if let Date::Civil(civil) = date && let Some(year) = year_of_four_digits(civil) {
+        write_ten(places, year, civil.ymd().month(), civil.ymd().day());
+        return 10;
+    }
+    let mut text = ArrayString::new();
+    push_date(&mut text, date);
+    copy_cell(places, text.as_str())
+}
+
+/// Writes the one date that the calendar has on a day to the front of a cell's room, and says how many bytes
+/// it has: none before the calendar's first day.
+fn write_date_cell(places: &mut [u8; MAX_CELL], calendar: Calendar, day: Day) -> u8
+    ensures few { result ≤ MAX_CELL }
+    ensures value { IsDateCell calendar day.number (take result places.new) }
+{
+    cells_are_short();
+    match date_on_day(calendar, day) {
+        Some(date) => write_canonical(places, date),
+        None => 0,
+    }
+}
+
+/// Writes the [`cell`] of a day to the front of a cell's room, and says how many bytes it has.
+#[inline(never)]
+pub fn write_cell(places: &mut [u8; MAX_CELL], target: Target, day: Day) -> u8
+    ensures few { result ≤ MAX_CELL }
+    ensures value { IsCell target day.number (take result places.new) }
+{
+    match target {
+        Target::Date(calendar) => write_date_cell(places, calendar, day),
+        Target::Haab | Target::Tzolkin => {
+            cells_are_short();
+            let mut text = ArrayString::new();
+            push_cell(&mut text, target, day);
+            copy_cell(places, text.as_str())
+        }
+    }
 }

@@ -5,6 +5,7 @@ pub mod RecordsLeft
 pub mod EntrySteps
 pub mod GivenFacts
 pub mod StepFacts
+pub mod CellFacts
 pub mod LineFacts
 pub mod OutcomeFacts
 pub mod Progress

@@ -2,13 +2,13 @@
 
 ghost use Rattle.std.specs.Prelude.{◌≡◌, ◌≤◌, length, take, true};
 ghost use Rattle.std.specs.Str.{is_utf8};
+ghost use Rattle.date_texts.specs.Cells.{IsCell};
 ghost use Rattle.date_texts.specs.declared.cells.TheConstants.{MAX_CELL};
 
-use date_texts::MAX_CELL;
+use date_texts::laws::cells_are_plain;
+use date_texts::{MAX_CELL, Target, write_cell};
+use day_numbers::Day;
 use std::str;
-
-/// The bytes of a date such as 1945-11-12.
-const DATE_LENGTH: usize = 10;
 
 /// The text of a cell, with no more room than the longest cell needs: a row holds fourteen and travels
 /// between threads.
@@ -20,32 +20,10 @@ pub struct CellText {
     ghost is_text: { is_utf8 (take count places) ≡ true },
 }
 
-/// Copies bytes to the front of a cell's room.
-#[inline(always)]
-fn copy_to_front(places: &mut [u8; MAX_CELL], bytes: &[u8])
-    requires { length bytes.now ≤ MAX_CELL }
-    ensures { take (length bytes.now) places.new ≡ bytes.now }
-{
-    // Most cells are a date of ten bytes, and a copy of a fixed length is cheap.
-    if bytes.len() == DATE_LENGTH {
-        places[..DATE_LENGTH].copy_from_slice(&bytes[..DATE_LENGTH]);
-    } else {
-        places[..bytes.len()].copy_from_slice(bytes);
-    }
-}
-
 impl CellText {
     ghost use Rattle.register_records.specs.CellTexts.{cell_bytes};
 
-    /// The empty text.
-    pub(crate) fn empty() -> CellText {
-        CellText {
-            places: [0; MAX_CELL],
-            count: 0,
-        }
-    }
-
-    /// A copy of this text.
+    /// A copy of a text.
     #[inline(always)]
     pub(crate) fn copied(text: &str) -> CellText
         requires { length text.now ≤ MAX_CELL }
@@ -53,11 +31,20 @@ impl CellText {
     {
         let bytes = text.as_bytes();
         let mut places = [0; MAX_CELL];
-        copy_to_front(&mut places, bytes);
+        places[..bytes.len()].copy_from_slice(bytes);
         CellText {
             places,
             count: bytes.len() as u8,
         }
+    }
+
+    /// Makes this text the cell of a day in the column of a target, where it lies: a copy would wait for the bytes.
+    #[inline(always)]
+    pub(crate) fn set(&mut self, target: Target, day: Day)
+        ensures { IsCell target day.number (cell_bytes self.new) }
+    {
+        cells_are_plain();
+        self.count = write_cell(&mut self.places, target, day);
     }
 
     /// How many bytes the text has.

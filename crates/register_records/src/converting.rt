@@ -1,10 +1,8 @@
 //! The conversion of an entry.
 
-ghost use Rattle.std.specs.Prelude.{◌≡◌, ◌≤◌, ◌<◌, ◌∷◌, ◌++◌, [], length};
+ghost use Rattle.std.specs.Prelude.{◌≡◌, ◌≤◌, [], length};
+ghost use Rattle.date_texts.specs.declared.calendar.TheConstants.{MAX_TARGETS};
 ghost use Rattle.register_records.specs.Outcomes.{AreCells, IsOutcome, IsRowOf};
-ghost use Rattle.date_texts.specs.Cells.{IsCell};
-ghost use Rattle.register_records.specs.declared.cell_texts.CellText.{CellText};
-ghost use Rattle.register_records.specs.CellTexts.{cell_bytes};
 ghost use Rattle.register_records.specs.Entries.{body_seen};
 ghost use Rattle.register_records.specs.Seen.{cells_seen, entry_seen, outcome_seen};
 ghost use Rattle.register_records.specs.ShortLists.{items_in};
@@ -15,9 +13,7 @@ use crate::entries::{Body, Entry};
 use crate::rows::Row;
 use crate::setups::Setup;
 use crate::short_lists::ShortList;
-use arrayvec::ArrayString;
-use date_texts::laws::cells_are_short;
-use date_texts::{MAX_TARGETS, Refusal, Target, calendar_named, day_of_date, push_cell, read_date};
+use date_texts::{Refusal, Target, calendar_named, day_of_date, read_date};
 use day_numbers::Day;
 
 /// The day of a body, or the first refusal that applies.
@@ -39,20 +35,6 @@ fn day_of_body(body: &Body) -> Result<Day, Refusal>
     }
 }
 
-/// Appends the cell of a day to a list that has room for it.
-// Within the loop over a row's targets the optimizer would find the parts of every calendar for each row.
-#[inline(never)]
-fn push_short(cells: &mut ShortList<CellText>, target: Target, day: Day)
-    requires { length (items_in cells.old) < MAX_TARGETS }
-    ensures { (made : CellText) × IsCell target day.number (cell_bytes made)
-        × (items_in cells.new ≡ items_in cells.old ++ made ∷ []) }
-{
-    cells_are_short();
-    let mut text = ArrayString::new();
-    push_cell(&mut text, target, day);
-    cells.push(CellText::copied(text.as_str()));
-}
-
 /// Fills an empty list with the cells of an outcome: one for each target on a day, and none with a
 /// refusal. The list is lent, since it is large.
 fn fill(cells: &mut ShortList<CellText>, targets: &[Target], outcome: Result<Day, Refusal>)
@@ -64,7 +46,7 @@ fn fill(cells: &mut ShortList<CellText>, targets: &[Target], outcome: Result<Day
         return;
     };
     for target in targets {
-        push_short(cells, *target, day);
+        cells.push_cell(*target, day);
     }
 }
 
@@ -75,7 +57,7 @@ pub fn convert(entry: Entry, setup: &Setup) -> Row
     ensures targets { row_targets result ≡ targets_of setup.now }
     ensures row { IsRowOf (targets_of setup.now) (entry_seen entry) (row_seen result) }
 {
-    let mut cells = ShortList::new(CellText::empty());
+    let mut cells = ShortList::new(CellText::copied(""));
     let outcome = day_of_body(entry.body());
     fill(&mut cells, setup.targets(), outcome);
     Row {

@@ -5,8 +5,8 @@ use Rattle.register_records.proofs.converting.fill.Goals as goal
 
 pub loop-target-preserved : goal.loop-target-preserved
 loop-target-preserved c = record {
-  count = omega (arith, length-append {A = CellText}, ap length c.push_short.ensures.2, c.loop-target.invariant.count);
+  count = omega (arith, length-append {A = CellText}, ap length c.push_cell.ensures.2, c.loop-target.invariant.count);
   cells =
-      cells-more _ _ _ _ _ _ _ c.loop-target-test.true c.loop-target.invariant.cells c.push_short.ensures.1
-      c.push_short.ensures.2;
+      cells-more _ _ _ _ _ _ _ c.loop-target-test.true c.loop-target.invariant.cells c.push_cell.ensures.1
+      c.push_cell.ensures.2;
 }

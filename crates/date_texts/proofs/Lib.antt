@@ -1,3 +1,4 @@
+pub mod PairLemmas
 pub mod ReadingLemmas
 pub mod DateParts
 pub mod RomanTextLemmas

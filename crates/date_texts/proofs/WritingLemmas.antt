@@ -1,11 +1,11 @@
 -- Digits two at a time.
 use Rattle.std.proofs.Common.{◌≡◌, ℕ, ◌+◌, ◌-◌, ◌<◌, ◌≤◌, ◌%◌, ◌/◌, List, [], ◌∷◌, ◌++◌, length, replicate, take}
-use Rattle.std.proofs.Common.{pos, drop, refl, sym, ap, ◌∙◌, arith, append_assoc, inl, inr, eq-zero-or-pos}
+use Rattle.std.proofs.Common.{pos, codes, drop, refl, sym, ap, ◌∙◌, arith, append_assoc, inl, inr, eq-zero-or-pos}
 use Rattle.std.specs.Fmt.{decimal}
 use Rattle.std.proofs.lemmas.Fmt.{decimal_digit}
 use Rattle.itoa.proofs.Decimal.{pair, decimal_two, decimal_pair, length_one, length_pair, length_four}
 use Rattle.date_texts.specs.Numerals.{padded}
-use Rattle.date_texts.specs.CivilText.{canonical_civil}
+use Rattle.date_texts.specs.CivilText.{canonical_civil, canonical_week}
 
 pub two_digits : (n : ℕ) → n ≤ 99 → padded 2 n ≡ pair n
 two_digits n h =
@@ -101,12 +101,22 @@ four_digits n h =
     ∙ ap (λ (ds : List ℕ). ds ++ padded 2 (n % 100)) (two_digits (n / 100) (omega arith))
     ∙ ap (λ (ds : List ℕ). pair (n / 100) ++ ds) (two_digits (n % 100) (omega arith))
 
-pub ten_bytes : (year month day : ℕ) → year ≤ 9_999 → month ≤ 99 → day ≤ 99
+pub month_date_bytes : (year month day : ℕ) → year ≤ 9_999 → month ≤ 99 → day ≤ 99
     → (pair (year / 100) ++ pair (year % 100)) ++ 45 ∷ (pair month ++ 45 ∷ pair day)
         ≡ canonical_civil (pos year) month day
-ten_bytes year month day h i j =
+month_date_bytes year month day h i j =
     sym (ap (λ (ds : List ℕ). ds ++ 45 ∷ (padded 2 month ++ 45 ∷ padded 2 day)) (four_digits year h)
     ∙ ap (λ (ds : List ℕ). (pair (year / 100) ++ pair (year % 100)) ++ 45 ∷ (ds ++ 45 ∷ padded 2 day))
         (two_digits month i)
     ∙ ap (λ (ds : List ℕ). (pair (year / 100) ++ pair (year % 100)) ++ 45 ∷ (pair month ++ 45 ∷ ds))
         (two_digits day j))
+
+pub week_date_bytes : (year week weekday : ℕ) → year ≤ 9_999 → week ≤ 99 → weekday ≤ 9
+    → (pair (year / 100) ++ pair (year % 100)) ++ 45 ∷ (codes "W" ++ (pair week ++ 45 ∷ (48 + weekday) ∷ []))
+        ≡ canonical_week (pos year) week weekday
+week_date_bytes year week weekday h i j =
+    sym (ap (λ (ds : List ℕ). ds ++ 45 ∷ (codes "W" ++ (padded 2 week ++ 45 ∷ decimal weekday))) (four_digits year h)
+    ∙ ap (λ (ds : List ℕ). (pair (year / 100) ++ pair (year % 100))
+        ++ 45 ∷ (codes "W" ++ (ds ++ 45 ∷ decimal weekday))) (two_digits week i)
+    ∙ ap (λ (ds : List ℕ). (pair (year / 100) ++ pair (year % 100))
+        ++ 45 ∷ (codes "W" ++ (pair week ++ 45 ∷ ds))) (decimal_digit weekday (omega arith)))

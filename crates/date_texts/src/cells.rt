@@ -1,18 +1,17 @@
 //! The cells of a table.
 
-ghost use Rattle.std.specs.Prelude.{◌≡◌, ◌≤◌, [], ℕ, List, length, take, pos, IfSome};
-ghost use Rattle.date_texts.specs.Calendars.{grammar};
+ghost use Rattle.std.specs.Prelude.{◌≡◌, ◌≤◌, [], ℕ, List, length, take, pos, true};
 ghost use Rattle.date_texts.specs.Cells.{IsDateCell, IsCell, numbered_name};
-ghost use Rattle.date_texts.specs.CivilText.{canonical_civil};
+ghost use Rattle.date_texts.specs.CivilText.{canonical_civil, canonical_week};
 ghost use Rattle.date_texts.specs.DateText.{canonical_text};
-ghost use Rattle.date_texts.specs.declared.grammar.Grammar.TheVariants as grammars;
+ghost use Rattle.date_texts.specs.declared.date.Date.{Date};
 
 use crate::calendar::{Calendar, Target};
 use crate::date::{CivilDate, Date};
 use crate::days::date_on_day;
 use crate::grammar::Grammar;
 use crate::laws::{cells_are_short, one_cell};
-use crate::numerals::push_number;
+use crate::numerals::{push_number, two_digits};
 use crate::write::push_date;
 use arrayvec::ArrayString;
 use day_numbers::Day;
@@ -77,48 +76,58 @@ pub fn cell(target: Target, day: Day) -> ArrayString<24>
     text
 }
 
-/// The year of a civil date, where four digits say it.
-#[inline(always)]
-fn year_of_four_digits(civil: CivilDate) -> Option<u16>
-    ensures { IfSome result (λ year. (grammar civil.calendar ≡ grammars.Civil)
-        × (civil.ymd.year ≡ pos year) × (year ≤ 9_999)) }
-{
-    let year = civil.ymd().year();
-    if civil.calendar().grammar() == Grammar::Civil && year >= 0 && year <= 9_999 {
-        Some(year as u16)
-    } else {
-        None
-    }
-}
+/// How many bytes a civil date and a week date have whose year has four digits.
+const TEN: u8 = 10;
 
 /// Writes a year, a month and a day to the front of a cell's room, in one piece.
 #[inline(always)]
-fn write_ten(places: &mut [u8; MAX_CELL], year: u16, month: u8, day: u8)
+fn write_month_date(places: &mut [u8; MAX_CELL], year: u16, month: u8, day: u8)
     requires year { year ≤ 9_999 }
     requires month { month ≤ 99 }
     requires day { day ≤ 99 }
     ensures { take 10 places.new ≡ canonical_civil (pos year) month day }
 {
-    let century = (year / 100) as u8;
-    let rest = (year % 100) as u8;
-    *places = [
-        b'0' + century / 10,
-        b'0' + century % 10,
-        b'0' + rest / 10,
-        b'0' + rest % 10,
-        b'-',
-        b'0' + month / 10,
-        b'0' + month % 10,
-        b'-',
-        b'0' + day / 10,
-        b'0' + day % 10,
-        0,
-        0,
-        0,
-        0,
-        0,
-        0,
-    ];
+    let (a, b) = two_digits((year / 100) as u8);
+    let (c, d) = two_digits((year % 100) as u8);
+    let (e, f) = two_digits(month);
+    let (g, h) = two_digits(day);
+    *places = [a, b, c, d, b'-', e, f, b'-', g, h, 0, 0, 0, 0, 0, 0];
+}
+
+/// Writes a year, a week and a weekday to the front of a cell's room, in one piece.
+#[inline(always)]
+fn write_week_date(places: &mut [u8; MAX_CELL], year: u16, week: u8, weekday: u8)
+    requires year { year ≤ 9_999 }
+    requires week { week ≤ 99 }
+    requires weekday { weekday ≤ 9 }
+    ensures { take 10 places.new ≡ canonical_week (pos year) week weekday }
+{
+    let (a, b) = two_digits((year / 100) as u8);
+    let (c, d) = two_digits((year % 100) as u8);
+    let (e, f) = two_digits(week);
+    let g = b'0' + weekday;
+    *places = [a, b, c, d, b'-', b'W', e, f, b'-', g, 0, 0, 0, 0, 0, 0];
+}
+
+/// Writes a civil date or a week date to the front of a cell's room, where it has ten bytes, and says whether it has.
+#[inline(always)]
+fn write_ten(places: &mut [u8; MAX_CELL], civil: CivilDate) -> bool
+    ensures { result ≡ true → take 10 places.new ≡ canonical_text (Date.Civil civil) }
+{
+    let date = civil.ymd();
+    let Ok(year) = u16::try_from(date.year()) else {
+        return false;
+    };
+    let weekly = civil.calendar().grammar() == Grammar::Week;
+    if year > 9_999 || weekly && date.day() > 9 {
+        return false;
+    }
+    if weekly {
+        write_week_date(places, year, date.month(), date.day());
+    } else {
+        write_month_date(places, year, date.month(), date.day());
+    }
+    true
 }
 
 /// Copies a text to the front of a cell's room, and says how many bytes it has.
@@ -139,9 +148,8 @@ fn write_canonical(places: &mut [u8; MAX_CELL], date: Date) -> u8
     ensures few { result ≤ MAX_CELL }
     ensures value { take result places.new ≡ canonical_text date }
 {
-    if let Date::Civil(civil) = date && let Some(year) = year_of_four_digits(civil) {
-        write_ten(places, year, civil.ymd().month(), civil.ymd().day());
-        return 10;
+    if let Date::Civil(civil) = date && write_ten(places, civil) {
+        return TEN;
     }
     let mut text = ArrayString::new();
     push_date(&mut text, date);
@@ -161,6 +169,19 @@ fn write_date_cell(places: &mut [u8; MAX_CELL], calendar: Calendar, day: Day) ->
     }
 }
 
+/// Writes a number without leading zeros, one space and a name to the front of a cell's room, and says how many
+/// bytes these are.
+fn write_numbered(places: &mut [u8; MAX_CELL], number: u8, name: &str) -> u8
+    requires number { number ≤ 99 }
+    requires short { length name.now ≤ 13 }
+    ensures few { result ≤ MAX_CELL }
+    ensures value { take result places.new ≡ numbered_name number name.now }
+{
+    let mut text = ArrayString::new();
+    push_numbered(&mut text, number, name);
+    copy_cell(places, text.as_str())
+}
+
 /// Writes the [`cell`] of a day to the front of a cell's room, and says how many bytes it has.
 #[inline(never)]
 pub fn write_cell(places: &mut [u8; MAX_CELL], target: Target, day: Day) -> u8
@@ -169,11 +190,13 @@ pub fn write_cell(places: &mut [u8; MAX_CELL], target: Target, day: Day) -> u8
 {
     match target {
         Target::Date(calendar) => write_date_cell(places, calendar, day),
-        Target::Haab | Target::Tzolkin => {
-            cells_are_short();
-            let mut text = ArrayString::new();
-            push_cell(&mut text, target, day);
-            copy_cell(places, text.as_str())
+        Target::Haab => {
+            let haab = haab_on(day);
+            write_numbered(places, haab.day(), haab.month_name())
+        }
+        Target::Tzolkin => {
+            let tzolkin = tzolkin_on(day);
+            write_numbered(places, tzolkin.number(), tzolkin.name())
         }
     }
 }

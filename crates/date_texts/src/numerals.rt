@@ -1,6 +1,6 @@
 //! Numbers and years in date texts: read from the front of the bytes, and appended to a text.
 
-ghost use Rattle.std.specs.Prelude.{◌≡◌, ◌≤◌, ◌<◌, ◌+◌, ◌-◌, ◌*◌, ◌^◌, ◌++◌, IfSome};
+ghost use Rattle.std.specs.Prelude.{◌≡◌, ◌≤◌, ◌<◌, ◌+◌, ◌-◌, ◌*◌, ◌/◌, ◌%◌, ◌^◌, ◌++◌, IfSome};
 ghost use Rattle.std.specs.Fmt.{decimal};
 ghost use Rattle.day_numbers.specs.Dates.{IsYear};
 ghost use Rattle.arrayvec.specs.ArrayString.{array_string_len};
@@ -90,6 +90,20 @@ pub fn at_end<T: Copy>(rest: &[u8], value: T) -> Option<T>
         [] => Some(value),
         _ => None,
     }
+}
+
+/// The two digits of each number under a hundred.
+static PAIRS: [u8; 200] =
+    *b"00010203040506070809101112131415161718192021222324252627282930313233343536373839404142434445464748495051525354555657585960616263646566676869707172737475767778798081828384858687888990919293949596979899";
+
+/// The two digits of a number.
+#[inline(always)]
+pub fn two_digits(number: u8) -> (u8, u8)
+    requires { number ≤ 99 }
+    ensures { result ≡ (48 + number / 10, 48 + number % 10) }
+{
+    let place = 2 * number as usize;
+    (PAIRS[place], PAIRS[place + 1])
 }
 
 /// Appends a number as two digits.

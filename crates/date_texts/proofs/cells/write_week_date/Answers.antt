@@ -1,0 +1,7 @@
+use Rattle.date_texts.proofs.WritingLemmas.{week_date_bytes}
+use Rattle.date_texts.proofs.cells.write_week_date.Goals as goal
+
+pub returns : goal.returns
+returns c =
+    rw (c.two_digits-a.ensures, c.two_digits-c.ensures, c.two_digits-e.ensures)
+    (week_date_bytes c.args.year c.args.week c.args.weekday c.requires.year c.requires.week c.requires.weekday)

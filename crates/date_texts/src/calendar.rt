@@ -109,6 +109,7 @@ impl Calendar {
 
     /// The one date of the calendar whose day this is, or `None` exactly before its first day. Its dates are years,
     /// months and days, or years, weeks and weekdays.
+    #[inline(always)]
     pub(crate) fn date_on(self, day: Day) -> Option<Ymd>
         requires { IsCivil self }
         ensures dated { IsSome result ↔ IsSinceFirstDay (first_day_in self) day.number }

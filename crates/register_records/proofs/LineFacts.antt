@@ -1,13 +1,15 @@
 -- The fields of a line, while they are appended.
 use Rattle.std.proofs.Common.{◌≡◌, ◌<◌, ◌≤◌, ◌+◌, ◌^◌, ◌%◌, ◌++◌, ℕ, List, [], ◌∷◌, true, false, refl, sym, ap, ◌∙◌}
-use Rattle.std.proofs.Common.{arith, append_assoc, append-nil, length, length-append, map, take, get_or}
+use Rattle.std.proofs.Common.{arith, append_assoc, append-nil, length, length-append, length-set, map, set, take, get_or}
 use Rattle.std.specs.Prelude.{ℤ, pos, negsuc, zero, suc, Ok, Err}
 use Rattle.std.specs.Fmt.{decimal, signed_decimal}
 use Rattle.std.proofs.lemmas.Int.{ints}
 use Rattle.std.proofs.lemmas.Bool.{and_parts}
 use Rattle.std.proofs.lemmas.Bool.Decides.{nat_tests}
 use Rattle.std.proofs.lemmas.Fmt.{decimal_by_steps}
-use Rattle.std.proofs.lemmas.List.{map-append, take_more}
+use Rattle.std.proofs.lemmas.List.{map-append, take_more, take_more_set, take-append-le, length-take-le}
+use Rattle.std.proofs.Math.Seq.{take-append-add}
+use borrow.Rule.Slice.PartMut.{put_mid}
 use Rattle.std.proofs.lemmas.List.Folds.{list_any-append}
 use Rattle.std.specs.List.{list_all}
 use Rattle.csv.specs.Writing.{field_text, fields_text, is_blank, needs_byte, needs_quotes, row_body}
@@ -72,6 +74,49 @@ pub one-item : {X : Type 0} (f : X → List ℕ) (d : ℕ) (first : List (List �
 one-item f d first xs i e field new lt is n =
     n ∙ ap (body d) (rw (take_more xs i e lt, map-append f (take i xs) (get_or xs i e ∷ []), is)
     (append_assoc first _ _))
+
+-- more fields
+more-fields-text : (d : ℕ) (fields more : List (List ℕ))
+    → fields_text (writing d) (fields ++ more) ≡ fields_text (writing d) fields ++ fields_text (writing d) more
+unfolding fields_text
+more-fields-text d [] more = refl
+more-fields-text d (f ∷ fields) more =
+    ap (λ (t : List ℕ). d ∷ t)
+    (ap (λ (t : List ℕ). field_text (writing d) f ++ t) (more-fields-text d fields more)
+    ∙ sym (append_assoc (field_text (writing d) f) (fields_text (writing d) fields) (fields_text (writing d) more)))
+
+pub more-fields : (d : ℕ) (fields more : List (List ℕ)) (old new : List ℕ) → 1 ≤ length fields → old ≡ body d fields
+    → new ≡ old ++ fields_text (writing d) more → new ≡ body d (fields ++ more)
+more-fields d [] more old new some is n = absurd (omega arith)
+more-fields d (f ∷ fields) more old new some is n =
+    rw (n, is, more-fields-text d fields more)
+    (append_assoc (field_text (writing d) f) (fields_text (writing d) fields) (fields_text (writing d) more))
+
+-- one more cell that needs no quotes
+pub one-more-cell : (d : ℕ) (cells : List CellText) (i : ℕ) (e : CellText) (bytes : List ℕ) → i < length cells
+    → needs_quotes (writing d) (cell_bytes (get_or cells i e)) ≡ false
+    → bytes ≡ fields_text (writing d) (map cell_bytes (take i cells)) ++ d ∷ cell_bytes (get_or cells i e)
+    → bytes ≡ fields_text (writing d) (map cell_bytes (take (i + 1) cells))
+one-more-cell d cells i e bytes lt plain is =
+    is ∙ sym (rw (
+      take_more cells i e lt,
+      map-append cell_bytes (take i cells) (get_or cells i e ∷ []),
+      fields-snoc (writing d) (map cell_bytes (take i cells)) (cell_bytes (get_or cells i e)),
+      plain-text d (cell_bytes (get_or cells i e)) plain,
+    ) refl)
+
+-- a byte is set in a list, and others are written from the place after it: what lies before, the byte, and some of them
+pub put-after : (room places : List ℕ) (at d k count : ℕ) → at < length room → count ≤ length places
+    → take (at + 1 + count) (put_mid (at + 1) k (set room at d) places) ≡ take at room ++ d ∷ take count places
+put-after room places at d k count lt few =
+    let base = set room at d in
+    let front : at + 1 ≡ length (take (at + 1) base) =
+    omega (arith, length-take-le (at + 1) base (omega (arith, length-set room at d))) in
+    ap (λ n. take (n + count) (put_mid (at + 1) k base places)) front
+    ∙ take-append-add (take (at + 1) base) _ count
+    ∙ ap (λ (t : List ℕ). take (at + 1) base ++ t) (take-append-le count places _ few)
+    ∙ ap (λ (t : List ℕ). t ++ take count places) (take_more_set room at d lt)
+    ∙ append_assoc (take at room) (d ∷ []) (take count places)
 
 -- a digit or a minus sign needs no quotes
 plain-byte : (d c : ℕ) → is_delimiter d ≡ true → 45 ≤ c → c < 58 → needs_byte (writing d) c ≡ false

@@ -3,17 +3,19 @@
 //! The writer of `csv` is made anew for each record and moves a buffer of 8 KiB several times, which
 //! costs more than all else in a row. A line by hand into memory that is used again takes a twentieth.
 
-ghost use Rattle.std.specs.Prelude.{◌≡◌, ◌≤◌, ◌+◌, ◌++◌, ◌∷◌, [], ℕ, List, true, false, length, IfOk, IsOk, OnOk};
-ghost use Rattle.std.specs.Prelude.{vec_capacity, vec_len};
+ghost use Rattle.std.specs.Prelude.{◌≡◌, ◌≤◌, ◌<◌, ◌+◌, ◌*◌, ◌++◌, ◌∷◌, [], ℕ, List, true, false, length, map, take};
+ghost use Rattle.std.specs.Prelude.{IfOk, IsOk, OnOk, get_or, vec_capacity, vec_len};
 ghost use Rattle.csv.specs.Writing as Spec;
-ghost use Rattle.date_texts.specs.declared.cells.TheConstants.{MAX_CELL};
+ghost use Rattle.date_texts.specs.declared.calendar.TheConstants.{MAX_TARGETS};
 ghost use Rattle.register_records.specs.CellTexts.{cell_bytes};
-ghost use Rattle.register_records.specs.LineRoom.{field_room};
+ghost use Rattle.register_records.specs.declared.cell_texts.CellText.{CellText};
+ghost use Rattle.register_records.specs.LineRoom.{cell_room, field_room};
 ghost use Rattle.register_records.specs.Lines.{line_text, writing};
 ghost use Rattle.register_records.specs.SetupRules.{is_delimiter};
-ghost use Rattle.register_records.specs.declared.lines.TheConstants.{LINE_ROOM};
+ghost use Rattle.register_records.specs.declared.lines.TheConstants.{CELLS_ROOM, LINE_ROOM};
 
 use crate::cell_texts::CellText;
+use date_texts::{MAX_CELL, MAX_TARGETS};
 use std::alloc::{AllocError, Global};
 
 const QUOTE: u8 = b'"';
@@ -21,6 +23,9 @@ const QUOTE: u8 = b'"';
 /// Room for the longest line of a row, which has no more bytes than this: the texts quoted with a quote in each place,
 /// the cells and the rest.
 pub const LINE_ROOM: usize = 1024;
+
+/// Room for the cells of a row, each with a delimiter.
+const CELLS_ROOM: usize = MAX_TARGETS * (1 + MAX_CELL);
 
 /// A line while its fields are appended, in memory that serves again for the next line.
 #[derive(Drop)]
@@ -91,6 +96,19 @@ fn push_field(line: &mut Vec<u8>, delimiter: u8, field: &[u8]) -> Result<(), All
     Ok(())
 }
 
+/// Writes a delimiter and a cell to a place of the room, and says where they end. All the room of the cell is copied,
+/// and what lies behind its text is written over by the next: a copy of a fixed length is cheap.
+#[inline(always)]
+fn put_cell(room: &mut [u8; CELLS_ROOM], at: usize, delimiter: u8, cell: &CellText) -> usize
+    requires { at + cell_room ≤ CELLS_ROOM }
+    ensures value { take result room.new ≡ take at room.old ++ delimiter ∷ cell_bytes cell.now }
+    ensures grows { result ≤ at + cell_room }
+{
+    room[at] = delimiter;
+    room[at + 1..at + 1 + MAX_CELL].copy_from_slice(cell.room());
+    at + 1 + cell.len()
+}
+
 impl Line {
     ghost use Rattle.register_records.specs.LineViews.{Begins, line_bytes, line_delimiter, line_len};
 
@@ -158,20 +176,23 @@ impl Line {
         Ok(())
     }
 
-    /// Appends a cell that needs no quotes. All its room is appended and what lies behind the text is cut off again: a
-    /// copy of a fixed length is cheap.
-    pub fn push_cell(&mut self, cell: &CellText) -> Result<(), AllocError>
-        requires { Spec.needs_quotes (writing (line_delimiter self.old)) (cell_bytes cell.now) ≡ false }
+    /// Appends the cells of a row, which need no quotes.
+    pub fn push_cells(&mut self, cells: &[CellText]) -> Result<(), AllocError>
+        requires few { length cells.now ≤ MAX_TARGETS }
+        requires plain { (i : ℕ) (e : CellText) → i < length cells.now
+            → Spec.needs_quotes (writing (line_delimiter self.old)) (cell_bytes (get_or cells.now i e)) ≡ false }
         ensures value { (fields : List (List ℕ)) → 1 ≤ length fields → Begins fields self.old
-            → OnOk result (Begins (fields ++ cell_bytes cell.now ∷ []) self.new) }
+            → OnOk result (Begins (fields ++ map cell_bytes cells.now) self.new) }
         ensures kept { line_delimiter self.new ≡ line_delimiter self.old }
-        ensures room { line_len self.old + (1 + MAX_CELL) ≤ LINE_ROOM → IsOk result }
-        ensures grows { OnOk result (line_len self.new ≤ line_len self.old + (1 + MAX_CELL)) }
+        ensures room { line_len self.old + cell_room * length cells.now ≤ LINE_ROOM → IsOk result }
+        ensures grows { OnOk result (line_len self.new ≤ line_len self.old + cell_room * length cells.now) }
     {
-        self.bytes.push(self.delimiter)?;
-        let end = self.bytes.len() + cell.len();
-        self.bytes.extend_from_slice(cell.room())?;
-        self.bytes.truncate(end);
+        let mut room = [0; CELLS_ROOM];
+        let mut end = 0;
+        'cells: for cell in cells {
+            end = put_cell(&mut room, end, self.delimiter, cell);
+        }
+        self.bytes.extend_from_slice(&room[..end])?;
         Ok(())
     }
 

@@ -116,9 +116,7 @@ fn make_accepted(line: &mut Line, form: Form, row: &Row, day: Day) -> Result<(),
     line.push_plain(Buffer::new().format(day.number()).as_bytes())?;
     line.push_plain(day.weekday().name().as_bytes())?;
     cells_are_plain();
-    'cells: for cell in row.cells() {
-        line.push_cell(cell)?;
-    }
+    line.push_cells(row.cells())?;
     line.push_plain(b"")?;
     line.end()?;
     Ok(())

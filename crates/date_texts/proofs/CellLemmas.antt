@@ -1,6 +1,6 @@
 -- A target and a day have one cell.
 use Rattle.std.proofs.Common.{◌≡◌, ℕ, ◌+◌, ◌*◌, ◌≤◌, List}
-use Rattle.std.proofs.Common.{ℤ, ◌≤ℤ◌, sym, subst, ap, ◌∙◌, arith}
+use Rattle.std.proofs.Common.{ℤ, ◌≤ℤ◌, refl, sym, subst, ap, ◌∙◌, arith}
 use Rattle.std.proofs.lemmas.Int.{ints}
 use Rattle.day_numbers.specs.declared.ymd.Ymd.{Ymd}
 use Rattle.day_numbers.specs.Days.{IsSinceFirstDay}
@@ -17,9 +17,9 @@ use Rattle.date_texts.specs.declared.calendar.Target.TheVariants.{Date as DateTa
 use Rattle.date_texts.specs.declared.date.Date.{Date}
 use Rattle.date_texts.specs.declared.date.Date.TheVariants.{Civil, Long, Roman}
 use Rattle.date_texts.specs.Calendars.{Reckoning, by_rules, by_weeks, by_places, by_names, reckoning, IsDateBy}
-use Rattle.date_texts.specs.Calendars.{day_number_by, first_day_by, IsDateIn, day_number_in, first_day_in}
+use Rattle.date_texts.specs.Calendars.{IsCivil, grammar, day_number_by, first_day_by, IsDateIn, day_number_in, first_day_in}
 use Rattle.date_texts.specs.Dates.{calendar_of_date, IsDateOfCalendar, day_number_of_date}
-use Rattle.date_texts.specs.DateText.{canonical_text}
+use Rattle.date_texts.specs.DateText.{canonical_text, canonical_ymd}
 use Rattle.date_texts.specs.Cells.{IsDateCell, on_date, before_first_day, IsCell}
 use Rattle.date_texts.specs.Laws.{OneCell}
 use Rattle.date_texts.proofs.DateParts.{CountParts, civil_same, count_same}
@@ -100,3 +100,8 @@ one_cell one Tzolkin n x y = λ e f. e ∙ sym f
 
 pub date_cell_is : (t : Target) (c : Calendar) (n : ℤ) (x : List ℕ) → t ≡ DateTarget c → IsDateCell c n x → IsCell t n x
 date_cell_is t c n x e h = rw e h
+
+-- the canonical text of a year, a month and a day, or of a year, a week and a weekday, is a cell
+pub civil_cell_is : (c : Calendar) (n : ℤ) (d : Ymd) (x : List ℕ) → IsCivil c → IsDateIn c d → day_number_in c d ≡ n
+    → x ≡ canonical_ymd (grammar c) d → IsDateCell c n x
+civil_cell_is c n d x civil h i e = on_date (Civil (record { calendar = c; ymd = d; civil = civil })) refl h i e

@@ -116,7 +116,7 @@ day_name_length : (place : ℕ) → length (name_text place) ≤ 8
 unfolding all_short
 day_name_length place = short_at name_texts (place - 1) refl
 
-pub numbered_length : (number : ℕ) (name : List ℕ) → number ≤ 99 → length name ≤ 13
+numbered_length : (number : ℕ) (name : List ℕ) → number ≤ 99 → length name ≤ 8
     → length (decimal number ++ 32 ∷ name) ≤ 16
 numbered_length number name small h = omega (arith, length-append {A = ℕ}, two_digits number small, h)
 
@@ -124,8 +124,6 @@ numbered_length number name small h = omega (arith, length-append {A = ℕ}, two
 pub cells_are_short : HaabDaysInRange → TzolkinNumbersInRange → CellsAreShort
 cells_are_short days numbers (DateTarget c) n text h = date_cell_length c n text h
 cells_are_short days numbers Haab n text h =
-    rw h (numbered_length (haab_of n).0 _ (omega (arith, days n))
-    (omega (arith, month_length (haab_of n).1)))
+    rw h (numbered_length (haab_of n).0 _ (omega (arith, days n)) (month_length (haab_of n).1))
 cells_are_short days numbers Tzolkin n text h =
-    rw h (numbered_length (tzolkin_of n).0 _ (omega (arith, numbers n))
-    (omega (arith, day_name_length (tzolkin_of n).1)))
+    rw h (numbered_length (tzolkin_of n).0 _ (omega (arith, numbers n)) (day_name_length (tzolkin_of n).1))

@@ -1,13 +1,11 @@
 //! The cells of a table.
 
 ghost use Rattle.std.specs.Prelude.{◌≡◌, ◌≤◌, [], ℕ, List, length, take, pos, true};
+ghost use Rattle.date_texts.specs.Calendars.{IsCivil};
 ghost use Rattle.date_texts.specs.Cells.{IsDateCell, IsCell, numbered_name};
 ghost use Rattle.date_texts.specs.CivilText.{canonical_civil, canonical_week};
-ghost use Rattle.date_texts.specs.DateText.{canonical_text};
-ghost use Rattle.date_texts.specs.declared.date.Date.{Date};
 
 use crate::calendar::{Calendar, Target};
-use crate::date::{CivilDate, Date};
 use crate::days::date_on_day;
 use crate::grammar::Grammar;
 use crate::laws::{cells_are_short, one_cell};
@@ -109,16 +107,22 @@ fn write_week_date(places: &mut [u8; MAX_CELL], year: u16, week: u8, weekday: u8
     *places = [a, b, c, d, b'-', b'W', e, f, b'-', g, 0, 0, 0, 0, 0, 0];
 }
 
-/// Writes a civil date or a week date to the front of a cell's room, where it has ten bytes, and says whether it has.
+/// Writes the date that a calendar of civil or week dates has on a day to the front of a cell's room, where it has one
+/// of ten bytes, and says whether it has.
 #[inline(always)]
-fn write_ten(places: &mut [u8; MAX_CELL], civil: CivilDate) -> bool
-    ensures { result ≡ true → take 10 places.new ≡ canonical_text (Date.Civil civil) }
+fn write_ten(places: &mut [u8; MAX_CELL], calendar: Calendar, day: Day) -> bool
+    requires { IsCivil calendar }
+    ensures { result ≡ true → IsDateCell calendar day.number (take 10 places.new) }
 {
-    let date = civil.ymd();
+    // The date is looked at where it lies: a copy would wait for its parts.
+    let found = calendar.date_on(day);
+    let Some(date) = &found else {
+        return false;
+    };
     let Ok(year) = u16::try_from(date.year()) else {
         return false;
     };
-    let weekly = civil.calendar().grammar() == Grammar::Week;
+    let weekly = calendar.grammar() == Grammar::Week;
     if year > 9_999 || weekly && date.day() > 9 {
         return false;
     }
@@ -141,44 +145,15 @@ fn copy_cell(places: &mut [u8; MAX_CELL], text: &str) -> u8
     bytes.len() as u8
 }
 
-/// Writes a date to the front of a cell's room, and says how many bytes it has.
-#[inline(always)]
-fn write_canonical(places: &mut [u8; MAX_CELL], date: Date) -> u8
-    requires { length (canonical_text date) ≤ MAX_CELL }
+/// Writes the [`cell`] of a day to the front of a cell's room by way of a text, and says how many bytes it has.
+#[inline(never)]
+fn write_text(places: &mut [u8; MAX_CELL], target: Target, day: Day) -> u8
     ensures few { result ≤ MAX_CELL }
-    ensures value { take result places.new ≡ canonical_text date }
-{
-    if let Date::Civil(civil) = date && write_ten(places, civil) {
-        return TEN;
-    }
-    let mut text = ArrayString::new();
-    push_date(&mut text, date);
-    copy_cell(places, text.as_str())
-}
-
-/// Writes the one date that the calendar has on a day to the front of a cell's room, and says how many bytes
-/// it has: none before the calendar's first day.
-fn write_date_cell(places: &mut [u8; MAX_CELL], calendar: Calendar, day: Day) -> u8
-    ensures few { result ≤ MAX_CELL }
-    ensures value { IsDateCell calendar day.number (take result places.new) }
+    ensures value { IsCell target day.number (take result places.new) }
 {
     cells_are_short();
-    match date_on_day(calendar, day) {
-        Some(date) => write_canonical(places, date),
-        None => 0,
-    }
-}
-
-/// Writes a number without leading zeros, one space and a name to the front of a cell's room, and says how many
-/// bytes these are.
-fn write_numbered(places: &mut [u8; MAX_CELL], number: u8, name: &str) -> u8
-    requires number { number ≤ 99 }
-    requires short { length name.now ≤ 13 }
-    ensures few { result ≤ MAX_CELL }
-    ensures value { take result places.new ≡ numbered_name number name.now }
-{
     let mut text = ArrayString::new();
-    push_numbered(&mut text, number, name);
+    push_cell(&mut text, target, day);
     copy_cell(places, text.as_str())
 }
 
@@ -188,15 +163,11 @@ pub fn write_cell(places: &mut [u8; MAX_CELL], target: Target, day: Day) -> u8
     ensures few { result ≤ MAX_CELL }
     ensures value { IsCell target day.number (take result places.new) }
 {
-    match target {
-        Target::Date(calendar) => write_date_cell(places, calendar, day),
-        Target::Haab => {
-            let haab = haab_on(day);
-            write_numbered(places, haab.day(), haab.month_name())
-        }
-        Target::Tzolkin => {
-            let tzolkin = tzolkin_on(day);
-            write_numbered(places, tzolkin.number(), tzolkin.name())
-        }
+    if let Target::Date(calendar) = target
+        && let Grammar::Civil | Grammar::Week = calendar.grammar()
+        && write_ten(places, calendar, day)
+    {
+        return TEN;
     }
+    write_text(places, target, day)
 }

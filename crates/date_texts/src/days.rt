@@ -34,7 +34,6 @@ pub fn day_of_date(date: &Date) -> Result<Day, Refusal>
 }
 
 /// The one date of the calendar whose day this is, or `None` exactly before its first day.
-#[inline(always)]
 pub(crate) fn date_on_day(calendar: Calendar, day: Day) -> Option<Date>
     ensures dated { IsSome result ↔ IsSinceFirstDay (first_day_in calendar) day.number }
     ensures value { IfSome result (λ date. (calendar_of_date date ≡ calendar)

@@ -5,8 +5,8 @@
 //! where its day is out of range.
 
 use date_texts::{
-    Calendar, CivilDate, Date, LongCount, MAX_TARGETS, Refusal, RomanDate, RomanName, Target,
-    calendar_named, cell, day_of_date, read_date, target_named, write_date,
+    Calendar, CivilDate, Date, LongCount, MAX_CELL, MAX_TARGETS, Refusal, RomanDate, RomanName,
+    Target, calendar_named, cell, day_of_date, read_date, target_named, write_cell, write_date,
 };
 use day_numbers::{Day, Ymd};
 use std::process::Abort;
@@ -309,6 +309,13 @@ static CELLS_OF_ANOTHER_PROGRAM: &str = "\
 2182-04-23,6499-08-24,14.16.16.9.2,0947-03-07,2738-11-I5,10 Zip,11 Ik
 ";
 
+/// Whether this is the cell of the day in the target's column, as a text and at the front of a cell's room.
+fn has_cell(target: Target, day: Day, text: &str) -> bool {
+    let mut places = [b'?'; MAX_CELL];
+    let count = write_cell(&mut places, target, day);
+    cell(target, day).as_str() == text && &places[..count as usize] == text.as_bytes()
+}
+
 /// The day whose number stands first on the line has the cells after it.
 fn check_cells(rt: &impl Abort, line: &str) -> Result<(), Fail> {
     let (number, cells) = line.split_once(',').ok_or("a line of cells")?;
@@ -316,7 +323,7 @@ fn check_cells(rt: &impl Abort, line: &str) -> Result<(), Fail> {
     let day = Day::new(number).ok_or("a day in range")?;
     assert_eq!(rt; cells.split(',').count(), MAX_TARGETS, "in {line}");
     for (target, text) in Target::ALL.into_iter().zip(cells.split(',')) {
-        assert_eq!(rt; cell(target, day).as_str(), text, "at {}", target.name());
+        assert!(rt; has_cell(target, day, text), "{} in {line}", target.name());
     }
     Ok(())
 }
@@ -352,8 +359,11 @@ fn cells_begin_on_first_days(rt: HostRuntime) -> Result<(), Fail> {
     ] {
         let day = Day::new(number).ok_or("a day in range")?;
         let before = Day::new(number - 1).ok_or("a day in range")?;
-        assert_eq!(rt; cell(Target::Date(calendar), day).as_str(), first);
-        assert_eq!(rt; cell(Target::Date(calendar), before).as_str(), "");
+        assert!(rt; has_cell(Target::Date(calendar), day, first), "at {number}");
+        assert!(rt;
+            has_cell(Target::Date(calendar), before, ""),
+            "before {number}"
+        );
     }
     Ok(())
 }
@@ -375,7 +385,10 @@ fn days_have_cells_from_end_to_end(rt: HostRuntime) -> Result<(), Fail> {
             (Calendar::Julian, julian),
             (Calendar::Roman, roman),
         ] {
-            assert_eq!(rt; cell(Target::Date(calendar), day).as_str(), text);
+            assert!(rt;
+                has_cell(Target::Date(calendar), day, text),
+                "{text} at {number}"
+            );
         }
     }
     Ok(())

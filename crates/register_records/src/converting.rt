@@ -52,6 +52,8 @@ fn fill(cells: &mut ShortList<CellText>, targets: &[Target], outcome: Result<Day
 
 /// The row of an entry for the setup's targets: the refusal of its body, else `UnknownCalendar`,
 /// `DateText`, `NoSuchDate` or `OutOfRange`, the first that applies, else the day and its cells.
+// Inlined, so that the row, which is large, is made where the caller keeps it.
+#[inline(always)]
 pub fn convert(entry: Entry, setup: &Setup) -> Row
     ensures entry { row_entry result ≡ entry }
     ensures targets { row_targets result ≡ targets_of setup.now }

@@ -114,9 +114,7 @@ fn write_ten(places: &mut [u8; MAX_CELL], calendar: Calendar, day: Day) -> bool
     requires { IsCivil calendar }
     ensures { result ≡ true → IsDateCell calendar day.number (take 10 places.new) }
 {
-    // The date is looked at where it lies: a copy would wait for its parts.
-    let found = calendar.date_on(day);
-    let Some(date) = &found else {
+    let Some(date) = calendar.date_on(day) else {
         return false;
     };
     let Ok(year) = u16::try_from(date.year()) else {

@@ -42,7 +42,8 @@ fn push_numbered(text: &mut ArrayString<24>, number: u8, name: &str)
 }
 
 /// Writes the [`cell`] of a day into an empty text.
-pub fn push_cell(text: &mut ArrayString<24>, target: Target, day: Day)
+#[inline(always)]
+fn push_cell(text: &mut ArrayString<24>, target: Target, day: Day)
     requires { text.old.bytes ≡ [] }
     ensures { IsCell target day.number text.new.bytes }
 {

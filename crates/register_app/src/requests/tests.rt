@@ -2,11 +2,9 @@
 
 use crate::refusals::Refusal;
 use crate::requests::{Job, Request, read_request};
-use crate::tests::helpers::words_of;
+use crate::tests::helpers::{MANY_FILES, words_of};
 use register_records::{Form, Setup};
 use std::alloc::{AllocError, Global};
-use std::process::Abort;
-use std::test::Fail;
 
 /// A command line that is refused with status 2, and the text.
 #[derive(Clone, Copy)]
@@ -49,44 +47,64 @@ const REFUSED: [Refused; 26] = [
     Refused { words: &["a", "a", "--stripes", "5"], text: "bad stripes: 5" },
 ];
 
-/// The exit status and the text of a refusal.
-fn told(alloc: Global, refusal: &Refusal<'_>) -> Result<(u8, String), AllocError> {
-    let text = format!(in alloc; "{refusal}")?;
-    Ok((refusal.status(), text))
+/// The text of a refusal with this status. Nothing is promised of it, nor of the functions below that call others of
+/// the crate, so that a test is proved without all that is proved of these.
+fn text_of(alloc: Global, refusal: &Refusal<'_>, status: u8) -> Option<String> {
+    if refusal.status() != status {
+        return None;
+    }
+    format!(in alloc; "{refusal}").ok()
 }
 
-/// The exit status and the text of the refusal of these words.
-///
-/// # Errors
-///
-/// Want of memory, and words that are not refused.
-fn refusal_of(alloc: Global, words: &[String]) -> Result<(u8, String), Fail> {
+/// The text with which these words are refused, with status 2.
+fn refusal_of(alloc: Global, words: &[String]) -> Option<String> {
     match read_request(alloc, words) {
-        Ok(_) => Err(Fail::from("the words are not refused")),
-        Err(refusal) => Ok(told(alloc, &refusal)?),
+        Ok(_) => None,
+        Err(refusal) => text_of(alloc, &refusal, 2),
     }
 }
 
+/// Whether these words are refused with status 2 and this text.
+fn are_refused(alloc: Global, words: &[&str], text: &str) -> bool {
+    let Ok(words) = words_of(alloc, words) else {
+        return false;
+    };
+    let Some(told) = refusal_of(alloc, words.as_slice()) else {
+        return false;
+    };
+    told.as_str() == text
+}
+
 #[test]
-fn words_are_refused_by_the_first_fault(rt: HostRuntime) -> Result<(), Fail> {
+fn words_are_refused_by_the_first_fault(rt: HostRuntime) {
     for line in &REFUSED {
-        let words = words_of(rt.alloc(), line.words)?;
-        let (status, text) = refusal_of(rt.alloc(), words.as_slice())?;
-        assert_eq!(rt; status, 2);
-        assert_eq!(rt; text.as_str(), line.text);
+        assert!(rt;
+            are_refused(rt.alloc(), line.words, line.text),
+            "{:?}",
+            line.words
+        );
     }
-    Ok(())
+}
+
+/// Whether this refusal has status 3 and this text.
+fn is_of_files(alloc: Global, refusal: &Refusal<'_>, text: &str) -> bool {
+    let Some(told) = text_of(alloc, refusal, 3) else {
+        return false;
+    };
+    told.as_str() == text
 }
 
 #[test]
-fn files_that_are_missing_are_told(rt: HostRuntime) -> Result<(), Fail> {
-    let (status, text) = told(rt.alloc(), &Refusal::CannotOpen("a.csv"))?;
-    assert_eq!(rt; status, 3);
-    assert_eq!(rt; text.as_str(), "cannot open a.csv");
-    let (status, text) = told(rt.alloc(), &Refusal::CannotMake("a.csv"))?;
-    assert_eq!(rt; status, 3);
-    assert_eq!(rt; text.as_str(), "cannot make a.csv.out.csv");
-    Ok(())
+fn files_that_are_missing_are_told(rt: HostRuntime) {
+    let alloc = rt.alloc();
+    assert!(rt; is_of_files(alloc, &Refusal::CannotOpen("a.csv"), "cannot open a.csv"));
+    assert!(rt;
+        is_of_files(
+            alloc,
+            &Refusal::CannotMake("a.csv"),
+            "cannot make a.csv.out.csv"
+        )
+    );
 }
 
 /// A command line that clap refuses, and how the text about it begins.
@@ -137,15 +155,26 @@ const MISUSES: [Misuse; 9] = [
     },
 ];
 
+/// Whether these words are refused with status 2 and a text that begins so.
+fn are_misused(alloc: Global, words: &[&str], message: &str) -> bool {
+    let Ok(words) = words_of(alloc, words) else {
+        return false;
+    };
+    let Some(told) = refusal_of(alloc, words.as_slice()) else {
+        return false;
+    };
+    told.starts_with(message)
+}
+
 #[test]
-fn misused_words_are_refused(rt: HostRuntime) -> Result<(), Fail> {
+fn misused_words_are_refused(rt: HostRuntime) {
     for misuse in &MISUSES {
-        let words = words_of(rt.alloc(), misuse.words)?;
-        let (status, text) = refusal_of(rt.alloc(), words.as_slice())?;
-        assert_eq!(rt; status, 2);
-        assert!(rt; text.as_str().starts_with(misuse.message));
+        assert!(rt;
+            are_misused(rt.alloc(), misuse.words, misuse.message),
+            "{:?}",
+            misuse.words
+        );
     }
-    Ok(())
 }
 
 /// A command line that asks for a conversion, and what it asks for.
@@ -158,7 +187,7 @@ struct Asked {
     form: Form,
     targets: usize,
     summary: bool,
-    files: &'static str,
+    files: &'static [&'static str],
 }
 
 const ASKED: [Asked; 5] = [
@@ -170,7 +199,7 @@ const ASKED: [Asked; 5] = [
         form: Form::Plain,
         targets: 14,
         summary: false,
-        files: "",
+        files: &[],
     },
     Asked {
         words: &["--ring", "00016", "--stripes=00004", "--to", "none"],
@@ -180,7 +209,7 @@ const ASKED: [Asked; 5] = [
         form: Form::Plain,
         targets: 0,
         summary: false,
-        files: "",
+        files: &[],
     },
     Asked {
         words: &[
@@ -198,7 +227,7 @@ const ASKED: [Asked; 5] = [
         form: Form::Sealed,
         targets: 14,
         summary: true,
-        files: "",
+        files: &[],
     },
     // Files stand anywhere; names that differ in letter case differ.
     Asked {
@@ -211,7 +240,7 @@ const ASKED: [Asked; 5] = [
         form: Form::Plain,
         targets: 2,
         summary: false,
-        files: "b.csv|a.csv|B.csv|-||",
+        files: &["b.csv", "a.csv", "B.csv", "-", ""],
     },
     // The options end at two dashes.
     Asked {
@@ -222,7 +251,7 @@ const ASKED: [Asked; 5] = [
         form: Form::Plain,
         targets: 14,
         summary: true,
-        files: "-x.csv|--ring|0|--help|",
+        files: &["-x.csv", "--ring", "0", "--help"],
     },
 ];
 
@@ -238,63 +267,84 @@ fn job_of<'a>(alloc: Global, words: &'a [String]) -> Option<Job<'a>> {
     }
 }
 
-/// Files in one text, with a bar behind each.
-fn listed(alloc: Global, files: &[&str]) -> Result<String, AllocError> {
-    let mut text = String::new(alloc);
-    for file in files {
-        text.push_str(file)?;
-        text.push_str("|")?;
-    }
-    Ok(text)
+/// Whether this is what is asked of each table and of the run.
+fn is_setup(setup: &Setup, line: &Asked) -> bool {
+    setup.ring() == line.ring
+        && setup.stripes() == line.stripes
+        && setup.delimiter() == line.delimiter
+        && setup.form() == line.form
+        && setup.targets().len() == line.targets
 }
 
-/// Asserts that this is what is asked of each table and of the run.
-fn assert_setup(rt: &impl Abort, setup: &Setup, line: &Asked) {
-    assert_eq!(rt; setup.ring(), line.ring);
-    assert_eq!(rt; setup.stripes(), line.stripes);
-    assert_eq!(rt; setup.delimiter(), line.delimiter);
-    assert_eq!(rt; setup.form(), line.form);
-    assert_eq!(rt; setup.targets().len(), line.targets);
+/// Whether these are the files that are wanted.
+fn are_files(files: &[&str], wanted: &[&str]) -> bool {
+    files == wanted
+}
+
+/// Whether the words ask for the conversion that is wanted.
+fn ask_as_wanted(alloc: Global, line: &Asked) -> bool {
+    let Ok(words) = words_of(alloc, line.words) else {
+        return false;
+    };
+    let Some(job) = job_of(alloc, words.as_slice()) else {
+        return false;
+    };
+    is_setup(&job.setup, line)
+        && job.summary == line.summary
+        && are_files(job.files.as_slice(), line.files)
 }
 
 #[test]
-fn words_ask_for_conversions(rt: HostRuntime) -> Result<(), Fail> {
+fn words_ask_for_conversions(rt: HostRuntime) {
     for line in &ASKED {
-        let words = words_of(rt.alloc(), line.words)?;
-        let job = job_of(rt.alloc(), words.as_slice()).expect(&rt, "a conversion");
-        assert_setup(&rt, &job.setup, line);
-        assert_eq!(rt; job.summary, line.summary);
-        let files = listed(rt.alloc(), job.files.as_slice())?;
-        assert_eq!(rt; files.as_str(), line.files);
+        assert!(rt; ask_as_wanted(rt.alloc(), line), "{:?}", line.words);
     }
-    Ok(())
 }
 
-/// So many files, each with a name of its own.
-fn many_files(alloc: Global, count: usize) -> Result<Vec<String>, AllocError> {
-    let mut words = Vec::new(alloc);
-    for place in 0..count {
-        words.push(format!(in alloc; "{place}.csv")?)?;
-    }
+/// The words for 32 files and for one more, the first named again.
+fn words_of_too_many(alloc: Global) -> Result<Vec<String>, AllocError> {
+    let mut words = words_of(alloc, &MANY_FILES)?;
+    words.push(String::from_str(alloc, "many/0")?)?;
     Ok(words)
 }
 
-#[test]
-fn files_may_be_32(rt: HostRuntime) -> Result<(), Fail> {
-    let words = many_files(rt.alloc(), 32)?;
-    let job = job_of(rt.alloc(), words.as_slice()).expect(&rt, "a conversion");
-    assert_eq!(rt; job.files.len(), 32);
-    Ok(())
+/// Whether 32 files are those of a conversion.
+fn may_be_32_files(alloc: Global) -> bool {
+    let Ok(words) = words_of(alloc, &MANY_FILES) else {
+        return false;
+    };
+    let Some(job) = job_of(alloc, words.as_slice()) else {
+        return false;
+    };
+    job.files.len() == 32
+}
+
+/// Whether 33 files are too many, the first of which is named again.
+fn are_33_files_refused(alloc: Global) -> bool {
+    let Ok(words) = words_of_too_many(alloc) else {
+        return false;
+    };
+    let Some(told) = refusal_of(alloc, words.as_slice()) else {
+        return false;
+    };
+    told.as_str() == "more than 32 files"
 }
 
 #[test]
-fn files_are_no_more_than_32(rt: HostRuntime) -> Result<(), Fail> {
-    let mut words = many_files(rt.alloc(), 32)?;
-    words.push(String::from_str(rt.alloc(), "0.csv")?)?;
-    let (status, text) = refusal_of(rt.alloc(), words.as_slice())?;
-    assert_eq!(rt; status, 2);
-    assert_eq!(rt; text.as_str(), "more than 32 files");
-    Ok(())
+fn files_may_be_32(rt: HostRuntime) {
+    assert!(rt; may_be_32_files(rt.alloc()));
+}
+
+#[test]
+fn files_are_no_more_than_32(rt: HostRuntime) {
+    assert!(rt; are_33_files_refused(rt.alloc()));
+}
+
+/// A page that words ask for.
+#[derive(Clone, Copy)]
+enum Page {
+    Help,
+    Version,
 }
 
 /// Command lines that ask for help, and for the version: whichever comes first, before anything is wrong.
@@ -307,23 +357,24 @@ const FOR_VERSION: [&[&str]; 4] = [
     &["a", "a", "--version"],
 ];
 
-/// Whether these words ask for help, and whether they ask for the version.
-fn pages_asked(alloc: Global, words: &[&str]) -> Result<(bool, bool), AllocError> {
-    let words = words_of(alloc, words)?;
-    let request = read_request(alloc, words.as_slice());
-    Ok((
-        matches!(&request, Ok(Request::Help)),
-        matches!(&request, Ok(Request::Version)),
-    ))
+/// Whether these words ask for this page: for help, or for the version.
+fn ask_for_page(alloc: Global, words: &[&str], page: Page) -> bool {
+    let Ok(words) = words_of(alloc, words) else {
+        return false;
+    };
+    match read_request(alloc, words.as_slice()) {
+        Ok(Request::Help) => matches!(page, Page::Help),
+        Ok(Request::Version) => matches!(page, Page::Version),
+        _ => false,
+    }
 }
 
 #[test]
-fn help_and_version_come_first(rt: HostRuntime) -> Result<(), Fail> {
+fn help_and_version_come_first(rt: HostRuntime) {
     for words in &FOR_HELP {
-        assert_eq!(rt; pages_asked(rt.alloc(), words)?, (true, false));
+        assert!(rt; ask_for_page(rt.alloc(), words, Page::Help), "{words:?}");
     }
     for words in &FOR_VERSION {
-        assert_eq!(rt; pages_asked(rt.alloc(), words)?, (false, true));
+        assert!(rt; ask_for_page(rt.alloc(), words, Page::Version), "{words:?}");
     }
-    Ok(())
 }

@@ -9,9 +9,7 @@ use register_records::PlainOutput;
 use std::alloc::{AllocError, Global};
 use std::io;
 use std::io::{ErrorKind, Write};
-use std::process::Abort;
 use std::sync::Wait;
-use std::test::Fail;
 use std::thread::Threads;
 
 /// Room for all that these tests write.
@@ -102,7 +100,7 @@ impl Places<&'static [u8], PlainOutput<Breaking>> for Folder {
 
 /// Words with a text for standard input, and what they give: the status, standard output, the table of each file, and
 /// how standard error begins.
-#[derive(Clone, Copy, Debug)]
+#[derive(Clone, Copy)]
 struct Case {
     words: &'static [&'static str],
     text: &'static [u8],
@@ -216,48 +214,83 @@ fn hear_with(
     )
 }
 
-/// Whether the status, standard output and the tables are as they are wanted.
-fn is_as_wanted(heard: &Heard<Breaking, Breaking>, case: &Case) -> bool {
-    heard.status == case.status
-        && heard.output.bytes.as_slice() == case.output
+/// How much of a table stands on an output.
+#[derive(Clone, Copy)]
+enum Part {
+    Whole,
+    Front,
+}
+
+/// Whether these are whole lines at the front of a table.
+fn is_front(bytes: &[u8], table: &[u8]) -> bool {
+    table.starts_with(bytes) && bytes.last().is_none_or(|byte| *byte == b'\n')
+}
+
+/// Whether this part of a table stands on the output.
+fn holds(output: &Breaking, table: &[u8], part: Part) -> bool {
+    match part {
+        Part::Whole => output.bytes.as_slice() == table,
+        Part::Front => is_front(output.bytes.as_slice(), table),
+    }
+}
+
+/// Whether this part of each table that is wanted stands on its output.
+fn holds_tables(heard: &Heard<Breaking, Breaking>, case: &Case, part: Part) -> bool {
+    holds(&heard.output, case.output, part)
         && heard.outputs.len() == case.tables.len()
         && heard
             .outputs
             .iter()
             .zip(case.tables)
-            .all(|(output, table)| output.bytes.as_slice() == *table)
+            .all(|(output, table)| holds(output, table, part))
 }
 
-/// What stands on standard error that breaks there, beside a status, an output and tables that are as they are wanted.
-fn told_beside(
-    rt: &(impl Threads + Wait + Sync + Abort),
+/// Whether the status, standard output and the tables are as they are wanted.
+fn is_as_wanted(heard: &Heard<Breaking, Breaking>, case: &Case) -> bool {
+    heard.status == case.status && holds_tables(heard, case, Part::Whole)
+}
+
+/// Whether a stream that breaks there has taken all of this text that it could. More may follow a whole text.
+fn has_taken(bytes: &[u8], text: &[u8], place: Break) -> bool {
+    let is_front = text.starts_with(bytes);
+    let is_whole = bytes.starts_with(text);
+    match place {
+        Break::After(room) => (is_front && bytes.len() == room) || (is_whole && text.len() <= room),
+        Break::AtFlush => is_front || is_whole,
+    }
+}
+
+/// Whether all is as it is wanted where standard error breaks there, but that what is told breaks off.
+fn is_told_until(
+    rt: &(impl Threads + Wait + Sync),
     alloc: Global,
     case: &Case,
     errors: Break,
-) -> Result<Vec<u8>, AllocError> {
-    let heard = hear_with(rt, alloc, case, errors)?;
-    assert!(rt; is_as_wanted(&heard, case), "{case:?}, {errors:?}");
-    Ok(heard.errors.bytes)
+) -> bool {
+    let Ok(heard) = hear_with(rt, alloc, case, errors) else {
+        return false;
+    };
+    is_as_wanted(&heard, case) && has_taken(heard.errors.bytes.as_slice(), case.errors, errors)
 }
 
 #[test]
-fn standard_error_that_breaks_changes_neither_status_nor_tables(
-    rt: HostRuntime,
-) -> Result<(), Fail> {
+fn standard_error_that_breaks_changes_neither_status_nor_tables(rt: HostRuntime) {
     for case in &CASES {
         for room in 0..case.errors.len() {
-            let told = told_beside(&rt, rt.alloc(), case, Break::After(room))?;
-            assert_eq!(rt; told.as_slice(), &case.errors[..room], "{case:?}");
+            assert!(rt;
+                is_told_until(&rt, rt.alloc(), case, Break::After(room)),
+                "{:?}, after {room}",
+                case.words
+            );
         }
-        let told = told_beside(&rt, rt.alloc(), case, Break::AtFlush)?;
-        assert!(rt;
-            case.errors.starts_with(told.as_slice()) || told.starts_with(case.errors),
-            "{case:?}"
-        );
-        let told = told_beside(&rt, rt.alloc(), case, NOWHERE)?;
-        assert!(rt; told.starts_with(case.errors), "{case:?}");
+        for errors in [Break::AtFlush, NOWHERE] {
+            assert!(rt;
+                is_told_until(&rt, rt.alloc(), case, errors),
+                "{:?}, {errors:?}",
+                case.words
+            );
+        }
     }
-    Ok(())
 }
 
 /// The words that ask for a page, and the page.
@@ -284,44 +317,54 @@ fn hear_page(
     hear(rt, alloc, &[word], text, output, &NoPlaces, errors)
 }
 
-/// What stands on standard output of a page, where it breaks there. Standard error breaks there too, the status is 1,
-/// and this is told.
-fn printed_of(
-    rt: &(impl Threads + Wait + Sync + Abort),
+/// Whether a page gets this status where standard output and standard error break there, with as much of the page on
+/// the one, and on the other of the line that it cannot be printed, as they could take.
+fn is_printed_until(
+    rt: &(impl Threads + Wait + Sync),
     alloc: Global,
-    word: &str,
-    output: Break,
-    errors: Break,
-    told: &[u8],
-) -> Result<Vec<u8>, AllocError> {
-    let heard = hear_page(rt, alloc, word, output, errors)?;
-    assert_eq!(rt; heard.status, 1, "{word}, {output:?}, {errors:?}");
-    assert_eq!(rt; heard.errors.bytes.as_slice(), told);
-    Ok(heard.output.bytes)
+    (word, page): (&str, &str),
+    (output, errors): (Break, Break),
+    status: u8,
+) -> bool {
+    let Ok(heard) = hear_page(rt, alloc, word, output, errors) else {
+        return false;
+    };
+    let printed = heard.output.bytes.as_slice();
+    let told = heard.errors.bytes.as_slice();
+    heard.status == status
+        && printed.len() <= page.len()
+        && has_taken(printed, page.as_bytes(), output)
+        && told.len() <= CANNOT_PRINT.len()
+        && has_taken(told, CANNOT_PRINT, errors)
 }
 
 #[test]
-fn a_page_that_cannot_be_printed_is_told(rt: HostRuntime) -> Result<(), Fail> {
-    let alloc = rt.alloc();
+fn a_page_that_cannot_be_printed_is_told(rt: HostRuntime) {
     for (word, page) in PAGES {
         let size = page.len();
-        for room in [0, 1, size / 2, size.saturating_sub(1)] {
-            let printed = printed_of(&rt, alloc, word, Break::After(room), NOWHERE, CANNOT_PRINT)?;
-            assert_eq!(rt; printed.len(), room);
-            assert!(rt; page.as_bytes().starts_with(printed.as_slice()));
+        for (output, errors, status) in [
+            (Break::After(0), NOWHERE, 1),
+            (Break::After(1), NOWHERE, 1),
+            (Break::After(size / 2), NOWHERE, 1),
+            (Break::After(size.saturating_sub(1)), NOWHERE, 1),
+            (Break::AtFlush, NOWHERE, 1),
+            // A page that is printed says nothing on standard error, so it may break.
+            (Break::After(size), Break::After(0), 0),
+        ] {
+            assert!(rt;
+                is_printed_until(&rt, rt.alloc(), (word, page), (output, errors), status),
+                "{word}, {output:?}"
+            );
         }
-        printed_of(&rt, alloc, word, Break::AtFlush, NOWHERE, CANNOT_PRINT)?;
         // Standard error breaks too, at each byte.
         for room in 0..CANNOT_PRINT.len() {
-            let told = &CANNOT_PRINT[..room];
-            printed_of(&rt, alloc, word, Break::After(0), Break::After(room), told)?;
+            let places = (Break::After(0), Break::After(room));
+            assert!(rt;
+                is_printed_until(&rt, rt.alloc(), (word, page), places, 1),
+                "{word}, after {room}"
+            );
         }
-        // A page that is printed says nothing on standard error, so it may break.
-        let heard = hear_page(&rt, alloc, word, Break::After(size), Break::After(0))?;
-        assert_eq!(rt; heard.status, 0, "{word}");
-        assert_eq!(rt; heard.output.bytes.as_slice(), page.as_bytes());
     }
-    Ok(())
 }
 
 const OUT_OF_MEMORY: &[u8] = b"register: out of memory\n";
@@ -330,11 +373,6 @@ const OUT_OF_MEMORY: &[u8] = b"register: out of memory\n";
 fn is_of_memory(line: &[u8]) -> bool {
     line.starts_with(b"source ")
         && (line.ends_with(b": cause 1\n") || line.ends_with(b": cause 2\n"))
-}
-
-/// Whether these are whole lines at the front of a table.
-fn is_front(bytes: &[u8], table: &[u8]) -> bool {
-    table.starts_with(bytes) && bytes.last().is_none_or(|byte| *byte == b'\n')
 }
 
 /// Whether each line on standard error is one that is wanted, but for one of a source that is refused memory.
@@ -351,17 +389,6 @@ fn are_lines_of_memory(errors: &[u8], wanted: &[u8]) -> bool {
         }
     }
     of_memory <= 1
-}
-
-/// Whether a run that was refused memory once has left whole lines at the front of each table.
-fn has_fronts(heard: &Heard<Breaking, Breaking>, case: &Case) -> bool {
-    is_front(heard.output.bytes.as_slice(), case.output)
-        && heard.outputs.len() == case.tables.len()
-        && heard
-            .outputs
-            .iter()
-            .zip(case.tables)
-            .all(|(output, table)| is_front(output.bytes.as_slice(), table))
 }
 
 /// Whether nothing was written to standard output and to the tables.
@@ -383,9 +410,19 @@ fn fits_refused_memory(heard: &Heard<Breaking, Breaking>, case: &Case) -> bool {
     match heard.status {
         3 => tells_status_3(told, case) && is_unwritten(heard),
         1 => {
-            case.status <= 1 && are_lines_of_memory(told, case.errors) && has_fronts(heard, case)
+            case.status <= 1
+                && are_lines_of_memory(told, case.errors)
+                && holds_tables(heard, case, Part::Front)
         }
         _ => told.starts_with(case.errors) && is_as_wanted(heard, case),
+    }
+}
+
+/// Whether these words are answered so where one allocation is refused, which may be one of the test's own.
+fn fits_any_memory(rt: &(impl Threads + Wait + Sync), alloc: Global, case: &Case) -> bool {
+    match hear_with(rt, alloc, case, NOWHERE) {
+        Ok(heard) => fits_refused_memory(&heard, case),
+        Err(_) => true,
     }
 }
 
@@ -393,14 +430,7 @@ fn fits_refused_memory(heard: &Heard<Breaking, Breaking>, case: &Case) -> bool {
 #[test]
 fn words_that_are_refused_memory_are_told(rt: HostRuntime) {
     for case in &CASES {
-        let Ok(heard) = hear_with(&rt, rt.alloc(), case, NOWHERE) else {
-            return;
-        };
-        let status = heard.status;
-        assert!(rt;
-            fits_refused_memory(&heard, case),
-            "{case:?}: status {status}"
-        );
+        assert!(rt; fits_any_memory(&rt, rt.alloc(), case), "{:?}", case.words);
     }
 }
 
@@ -414,13 +444,26 @@ fn is_printed_or_told(heard: &Heard<Breaking, Breaking>, page: &str) -> bool {
     }
 }
 
+/// Whether a page is answered so where one allocation is refused, which may be one of the test's own.
+fn is_page_of_any_memory(
+    rt: &(impl Threads + Wait + Sync),
+    alloc: Global,
+    word: &str,
+    page: &str,
+) -> bool {
+    match hear_page(rt, alloc, word, NOWHERE, NOWHERE) {
+        Ok(heard) => is_printed_or_told(&heard, page),
+        Err(_) => true,
+    }
+}
+
 // The same of a page.
 #[test]
 fn a_page_that_is_refused_memory_is_told(rt: HostRuntime) {
     for (word, page) in [("--help", HELP), ("--version", "register 1.0.0\n")] {
-        let Ok(heard) = hear_page(&rt, rt.alloc(), word, NOWHERE, NOWHERE) else {
-            return;
-        };
-        assert!(rt; is_printed_or_told(&heard, page), "{word}");
+        assert!(rt;
+            is_page_of_any_memory(&rt, rt.alloc(), word, page),
+            "{word}"
+        );
     }
 }

@@ -1,7 +1,9 @@
 //! Command lines over one text, and the answers to them.
 
-use crate::tests::helpers::{TextCase, assert_answers, hear_text};
-use std::test::Fail;
+use crate::tests::helpers::{Heard, TextCase, assert_answers, hear_text};
+use std::alloc::Global;
+use std::sync::Wait;
+use std::thread::Threads;
 
 /// The text that the command lines are run on.
 const TEXT: &[u8] = b"id,calendar,date\nb,julian,1582-10-05\n";
@@ -138,8 +140,8 @@ const LINES: [TextCase; 18] = [
 ];
 
 #[test]
-fn command_lines_get_their_answers(rt: HostRuntime) -> Result<(), Fail> {
-    assert_answers(&rt, rt.alloc(), &LINES)
+fn command_lines_get_their_answers(rt: HostRuntime) {
+    assert_answers(&rt, rt.alloc(), &LINES);
 }
 
 /// A command line that is not written as the options are taken, and how the text about it begins.
@@ -174,14 +176,25 @@ const MISUSES: [Misuse; 5] = [
     },
 ];
 
-#[test]
-fn misused_options_are_refused(rt: HostRuntime) -> Result<(), Fail> {
-    for misuse in &MISUSES {
-        let heard = hear_text(&rt, rt.alloc(), misuse.words, TEXT)?;
-        assert_eq!(rt; heard.status, 2);
-        assert!(rt; heard.output.is_empty());
-        assert!(rt; heard.errors.as_slice().starts_with(misuse.message));
-        assert!(rt; heard.errors.as_slice().ends_with(b"\n"));
+/// Whether this is the answer to options that are refused: nothing on standard output, and this message.
+fn is_refusal(heard: &Heard<Vec<u8>, Vec<u8>>, message: &[u8]) -> bool {
+    heard.status == 2
+        && heard.output.is_empty()
+        && heard.errors.as_slice().starts_with(message)
+        && heard.errors.as_slice().ends_with(b"\n")
+}
+
+/// Whether these options are refused.
+fn is_refused(rt: &(impl Threads + Wait + Sync), alloc: Global, misuse: &Misuse) -> bool {
+    match hear_text(rt, alloc, misuse.words, TEXT) {
+        Ok(heard) => is_refusal(&heard, misuse.message),
+        Err(_) => false,
     }
-    Ok(())
+}
+
+#[test]
+fn misused_options_are_refused(rt: HostRuntime) {
+    for misuse in &MISUSES {
+        assert!(rt; is_refused(&rt, rt.alloc(), misuse), "{:?}", misuse.words);
+    }
 }

@@ -3,12 +3,11 @@
 use crate::disk::{Disk, Sink, Source};
 use crate::tests::helpers::{Heard, ONE_RECORD, ONE_ROW, hear};
 use std::alloc::{AllocError, Global};
-use std::fs;
-use std::process::Abort;
 use std::rt::Files;
 use std::sync::Wait;
 use std::test::Fail;
 use std::thread::Threads;
+use std::{fs, io};
 
 /// A folder of this test's own.
 const FOLDER: &str = "files_of_the_test";
@@ -47,44 +46,54 @@ where
     )
 }
 
-/// Asserts that a file on disk gets its table.
-fn assert_one_table<T: Threads + Wait + Sync + Files + AllocGlobal + Abort>(
+/// Whether these words get this status over the files of the system, and this is told.
+fn is_told<T: Threads + Wait + Sync + Files + AllocGlobal>(
     rt: &T,
-) -> Result<(), Fail>
+    words: &[&str],
+    status: u8,
+    told: &[u8],
+) -> bool
+where
+    T::File: Send,
+{
+    let Ok(heard) = hear_on_disk(rt, rt.alloc(), words) else {
+        return false;
+    };
+    heard.tells(status, told)
+}
+
+/// Whether the table of one record stands in a file.
+fn holds_one_row(rt: &(impl Files + AllocGlobal), name: &str) -> bool {
+    match fs::read(rt, name) {
+        Ok(table) => table.as_slice() == ONE_ROW,
+        Err(_) => false,
+    }
+}
+
+/// A text that stands where a table comes to stand.
+const OLDER_TEXT: &[u8] =
+    b"an older and longer text that stands where the table comes to stand, and more\n";
+
+/// Whether a file on disk gets its table, and what stood in the table's file is gone.
+fn gets_one_table<T: Threads + Wait + Sync + Files + AllocGlobal>(rt: &T) -> io::Result<bool>
 where
     T::File: Send,
 {
     fs::write(rt, REGISTER, ONE_RECORD)?;
-    // What stood in the table's file is gone.
-    fs::write(
-        rt,
-        TABLE,
-        b"an older and longer text that stands where the table comes to stand, and more\n".as_slice(),
-    )?;
-    let heard = hear_on_disk(rt, rt.alloc(), &["--to", "gregorian", REGISTER])?;
-    assert_eq!(rt; heard.status, 0);
-    assert!(rt; heard.errors.is_empty());
-    assert_eq!(rt; fs::read(rt, TABLE)?.as_slice(), ONE_ROW);
-    Ok(())
+    fs::write(rt, TABLE, OLDER_TEXT)?;
+    let is_quiet = is_told(rt, &["--to", "gregorian", REGISTER], 0, b"");
+    Ok(is_quiet && holds_one_row(rt, TABLE))
 }
 
-/// Asserts that two files on disk get their tables.
-fn assert_two_tables<T: Threads + Wait + Sync + Files + AllocGlobal + Abort>(
-    rt: &T,
-) -> Result<(), Fail>
+/// Whether two files on disk get their tables.
+fn get_two_tables<T: Threads + Wait + Sync + Files + AllocGlobal>(rt: &T) -> io::Result<bool>
 where
     T::File: Send,
 {
     fs::write(rt, OTHER_REGISTER, ONE_RECORD)?;
-    let heard = hear_on_disk(
-        rt,
-        rt.alloc(),
-        &["--to", "gregorian", REGISTER, OTHER_REGISTER],
-    )?;
-    assert_eq!(rt; heard.status, 0);
-    assert_eq!(rt; fs::read(rt, TABLE)?.as_slice(), ONE_ROW);
-    assert_eq!(rt; fs::read(rt, OTHER_TABLE)?.as_slice(), ONE_ROW);
-    Ok(())
+    let words = ["--to", "gregorian", REGISTER, OTHER_REGISTER];
+    let is_quiet = is_told(rt, &words, 0, b"");
+    Ok(is_quiet && holds_one_row(rt, TABLE) && holds_one_row(rt, OTHER_TABLE))
 }
 
 /// Files that are refused, and what is told.
@@ -114,12 +123,14 @@ const REFUSED: [Refused; 3] = [
 fn files_on_disk_get_their_tables(rt: HostRuntime) -> Result<(), Fail> {
     let _ = fs::remove_dir_all(&rt, FOLDER);
     fs::create_dir(&rt, FOLDER)?;
-    assert_one_table(&rt)?;
-    assert_two_tables(&rt)?;
+    assert!(rt; gets_one_table(&rt)?);
+    assert!(rt; get_two_tables(&rt)?);
     for refused in &REFUSED {
-        let heard = hear_on_disk(&rt, rt.alloc(), refused.files)?;
-        assert_eq!(rt; heard.status, 3);
-        assert_eq!(rt; heard.errors.as_slice(), refused.told);
+        assert!(rt;
+            is_told(&rt, refused.files, 3, refused.told),
+            "{:?}",
+            refused.files
+        );
     }
     fs::remove_dir_all(&rt, FOLDER)?;
     Ok(())

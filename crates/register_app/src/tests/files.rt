@@ -3,7 +3,7 @@
 ghost use Rattle.std.specs.Prelude.{⊤};
 
 use crate::places::Places;
-use crate::tests::helpers::{Heard, ONE_RECORD, ONE_ROW, hear};
+use crate::tests::helpers::{Heard, MANY_FILES, ONE_RECORD, ONE_ROW, hear};
 use register_records::PlainOutput;
 use std::alloc::{AllocError, Global};
 use std::io;
@@ -135,50 +135,56 @@ fn are_tables(outputs: &[Vec<u8>], tables: &[&[u8]]) -> bool {
             .all(|(output, table)| output.as_slice() == *table)
 }
 
-#[test]
-fn files_get_their_tables(rt: HostRuntime) -> Result<(), Fail> {
-    for case in &FILES {
-        let heard = hear_files(&rt, rt.alloc(), case.words)?;
-        assert_eq!(rt; heard.status, case.status);
-        assert!(rt; heard.output.is_empty());
-        assert_eq!(rt; heard.errors.as_slice(), case.errors);
-        assert!(rt; are_tables(heard.outputs.as_slice(), case.tables));
-    }
-    Ok(())
-}
-
-/// The words for so many files of one record each, and these besides.
-fn words_of_many(alloc: Global, count: usize, word: &str) -> Result<Vec<String>, AllocError> {
-    let mut words = Vec::new(alloc);
-    words.push(String::from_str(alloc, word)?)?;
-    words.push(String::from_str(alloc, "--to=gregorian")?)?;
-    for place in 0..count {
-        words.push(format!(in alloc; "many/{place}.csv")?)?;
-    }
-    Ok(words)
-}
-
-/// What 32 files of one record each give, and this word besides.
-fn hear_many(
+/// Whether these words give what is wanted over the shelf, with nothing on standard output.
+fn give_as_wanted(
     rt: &(impl Threads + Wait + Sync),
     alloc: Global,
-    word: &str,
-) -> Result<Heard<Vec<u8>, Vec<u8>>, AllocError> {
-    let many = words_of_many(alloc, 32, word)?;
-    let mut words: Vec<&str> = Vec::new(alloc);
-    for word in &many {
-        words.push(word.as_str())?;
+    words: &[&str],
+    case: &FilesCase,
+) -> bool {
+    let Ok(heard) = hear_files(rt, alloc, words) else {
+        return false;
+    };
+    heard.is_answer(case.status, b"", case.errors)
+        && are_tables(heard.outputs.as_slice(), case.tables)
+}
+
+#[test]
+fn files_get_their_tables(rt: HostRuntime) {
+    for case in &FILES {
+        assert!(rt;
+            give_as_wanted(&rt, rt.alloc(), case.words, case),
+            "{:?}",
+            case.words
+        );
     }
-    hear_files(rt, alloc, words.as_slice())
+}
+
+/// What 32 files of one record each give. Their names are added to the words.
+const MANY: FilesCase = FilesCase {
+    words: &[],
+    status: 0,
+    tables: &[ONE_ROW; 32],
+    errors: b"",
+};
+
+/// Whether 32 files of one record each get their tables with this word.
+fn give_many(
+    rt: &(impl Threads + Wait + Sync),
+    alloc: Global,
+    word: &'static str,
+) -> Result<bool, AllocError> {
+    let mut words = Vec::new(alloc);
+    words.push(word)?;
+    words.push("--to=gregorian")?;
+    words.extend_from_slice(&MANY_FILES)?;
+    Ok(give_as_wanted(rt, alloc, words.as_slice(), &MANY))
 }
 
 #[test]
 fn as_many_files_as_there_may_be_get_their_tables(rt: HostRuntime) -> Result<(), Fail> {
     for word in ["--stripes=1", "--stripes=4"] {
-        let heard = hear_many(&rt, rt.alloc(), word)?;
-        assert_eq!(rt; heard.status, 0);
-        assert!(rt; heard.errors.is_empty());
-        assert!(rt; are_tables(heard.outputs.as_slice(), &[ONE_ROW; 32]));
+        assert!(rt; give_many(&rt, rt.alloc(), word)?, "{word}");
     }
     Ok(())
 }

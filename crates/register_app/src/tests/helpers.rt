@@ -10,7 +10,6 @@ use std::io;
 use std::io::{ErrorKind, Read, Write};
 use std::process::Abort;
 use std::sync::Wait;
-use std::test::Fail;
 use std::thread::Threads;
 
 /// The text of one record.
@@ -30,6 +29,14 @@ pub fn words_of(alloc: Global, words: &[&str]) -> Result<Vec<String>, AllocError
     Ok(copied)
 }
 
+/// The names of as many files as there may be.
+pub const MANY_FILES: [&str; 32] = [
+    "many/0", "many/1", "many/2", "many/3", "many/4", "many/5", "many/6", "many/7", "many/8",
+    "many/9", "many/10", "many/11", "many/12", "many/13", "many/14", "many/15", "many/16",
+    "many/17", "many/18", "many/19", "many/20", "many/21", "many/22", "many/23", "many/24",
+    "many/25", "many/26", "many/27", "many/28", "many/29", "many/30", "many/31",
+];
+
 /// What the program answered: the status, standard output, the outputs of the files and standard error.
 #[derive(Drop)]
 pub struct Heard<W, E> {
@@ -37,6 +44,20 @@ pub struct Heard<W, E> {
     pub output: W,
     pub outputs: Vec<W>,
     pub errors: E,
+}
+
+impl<W> Heard<W, Vec<u8>> {
+    /// Whether the program gave this status, and told this.
+    pub fn tells(&self, status: u8, errors: &[u8]) -> bool {
+        self.status == status && self.errors.as_slice() == errors
+    }
+}
+
+impl Heard<Vec<u8>, Vec<u8>> {
+    /// Whether the program gave this status, wrote this to standard output, and told this.
+    pub fn is_answer(&self, status: u8, output: &[u8], errors: &[u8]) -> bool {
+        self.tells(status, errors) && self.output.as_slice() == output
+    }
 }
 
 /// What the program answers to these words. Nothing is promised of it, so that a test that calls this is proved without
@@ -160,17 +181,25 @@ pub struct TextCase {
     pub errors: &'static [u8],
 }
 
-/// Asserts that the program answers as is wanted.
+/// Whether the program answers as is wanted.
+fn is_answered(rt: &(impl Threads + Wait + Sync), alloc: Global, case: &TextCase) -> bool {
+    let Ok(heard) = hear_text(rt, alloc, case.words, case.input) else {
+        return false;
+    };
+    heard.is_answer(case.status, case.output, case.errors)
+}
+
+/// Asserts that the program answers each case as is wanted.
 pub fn assert_answers(
     rt: &(impl Threads + Wait + Sync + Abort),
     alloc: Global,
     cases: &[TextCase],
-) -> Result<(), Fail> {
-    for case in cases {
-        let heard = hear_text(rt, alloc, case.words, case.input)?;
-        assert_eq!(rt; heard.status, case.status);
-        assert_eq!(rt; heard.output.as_slice(), case.output);
-        assert_eq!(rt; heard.errors.as_slice(), case.errors);
+) {
+    for (place, case) in cases.iter().enumerate() {
+        assert!(rt;
+            is_answered(rt, alloc, case),
+            "case {place}: {:?}",
+            case.words
+        );
     }
-    Ok(())
 }

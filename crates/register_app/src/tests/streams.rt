@@ -9,10 +9,8 @@ use register_records::PlainOutput;
 use std::alloc::{AllocError, Global};
 use std::io;
 use std::io::{ErrorKind, Read, Write};
-use std::process::Abort;
 use std::sync::Wait;
 use std::sync::atomic::{AtomicU32, Ordering};
-use std::test::Fail;
 use std::thread::Threads;
 
 /// How often something was read, opened and made.
@@ -149,22 +147,33 @@ fn status_of<'a>(
     Ok(heard.status)
 }
 
+/// Whether these words get their status, and nothing is touched that they do not ask for.
+fn touches_as_wanted(
+    rt: &(impl Threads + Wait + Sync),
+    alloc: Global,
+    touching: &Touching,
+) -> bool {
+    let input = Counts::none();
+    let files = Counts::none();
+    let Ok(status) = status_of(rt, alloc, touching.words, &input, &files) else {
+        return false;
+    };
+    status == touching.status
+        && files.opened.load(Ordering::SeqCst) == touching.files
+        && files.made.load(Ordering::SeqCst) == touching.files
+        && (input.reads.load(Ordering::SeqCst) > 0) == touching.reads_input
+        && (files.reads.load(Ordering::SeqCst) > 0) == (touching.files > 0)
+}
+
 #[test]
-fn nothing_is_touched_that_is_not_asked_for(rt: HostRuntime) -> Result<(), Fail> {
+fn nothing_is_touched_that_is_not_asked_for(rt: HostRuntime) {
     for touching in &TOUCHINGS {
-        let input = Counts::none();
-        let files = Counts::none();
-        let status = status_of(&rt, rt.alloc(), touching.words, &input, &files)?;
-        assert_eq!(rt; status, touching.status);
-        assert_eq!(rt; files.opened.load(Ordering::SeqCst), touching.files);
-        assert_eq!(rt; files.made.load(Ordering::SeqCst), touching.files);
-        assert_eq!(rt;
-            input.reads.load(Ordering::SeqCst) > 0,
-            touching.reads_input
+        assert!(rt;
+            touches_as_wanted(&rt, rt.alloc(), touching),
+            "{:?}",
+            touching.words
         );
-        assert_eq!(rt; files.reads.load(Ordering::SeqCst) > 0, touching.files > 0);
     }
-    Ok(())
 }
 
 /// Fails at every read and every write.
@@ -197,39 +206,36 @@ fn hear_broken<E: Write + Drop>(
     hear(rt, alloc, words, Broken, Vec::new(alloc), &NoPlaces, errors)
 }
 
-/// Asserts that an input that breaks is told.
-fn assert_broken_input_told(
-    rt: &(impl Threads + Wait + Sync + Abort),
-    alloc: Global,
-) -> Result<(), Fail> {
-    let heard = hear_broken(rt, alloc, &[], Vec::new(alloc))?;
-    assert_eq!(rt; heard.status, 1);
-    assert!(rt; heard.output.is_empty());
-    assert_eq!(rt; heard.errors.as_slice(), b"source 1: cause 5\n".as_slice());
-    Ok(())
+/// Whether an input that breaks is told.
+fn is_broken_input_told(rt: &(impl Threads + Wait + Sync), alloc: Global) -> bool {
+    let Ok(heard) = hear_broken(rt, alloc, &[], Vec::new(alloc)) else {
+        return false;
+    };
+    heard.is_answer(1, b"", b"source 1: cause 5\n")
 }
 
-/// Asserts that an output that breaks is told.
-fn assert_broken_output_told(
-    rt: &(impl Threads + Wait + Sync + Abort),
-    alloc: Global,
-) -> Result<(), Fail> {
+/// Whether an output that breaks is told.
+fn is_broken_output_told(rt: &(impl Threads + Wait + Sync), alloc: Global) -> bool {
     let text: &'static [u8] = b"id,calendar,date\n";
-    let heard = hear(rt, alloc, &[], text, Broken, &NoPlaces, Vec::new(alloc))?;
-    assert_eq!(rt; heard.status, 1);
-    assert_eq!(rt; heard.errors.as_slice(), b"source 1: cause 4\n".as_slice());
-    Ok(())
+    let Ok(heard) = hear(rt, alloc, &[], text, Broken, &NoPlaces, Vec::new(alloc)) else {
+        return false;
+    };
+    heard.tells(1, b"source 1: cause 4\n")
+}
+
+/// Whether standard error that breaks changes neither the status nor the output.
+fn are_broken_errors_let_go(rt: &(impl Threads + Wait + Sync), alloc: Global) -> bool {
+    let Ok(heard) = hear_broken(rt, alloc, &[], Broken) else {
+        return false;
+    };
+    heard.status == 1 && heard.output.is_empty()
 }
 
 #[test]
-fn broken_streams_are_told(rt: HostRuntime) -> Result<(), Fail> {
-    assert_broken_input_told(&rt, rt.alloc())?;
-    assert_broken_output_told(&rt, rt.alloc())?;
-    // Standard error that fails changes neither the status nor the output.
-    let heard = hear_broken(&rt, rt.alloc(), &[], Broken)?;
-    assert_eq!(rt; heard.status, 1);
-    assert!(rt; heard.output.is_empty());
-    Ok(())
+fn broken_streams_are_told(rt: HostRuntime) {
+    assert!(rt; is_broken_input_told(&rt, rt.alloc()));
+    assert!(rt; is_broken_output_told(&rt, rt.alloc()));
+    assert!(rt; are_broken_errors_let_go(&rt, rt.alloc()));
 }
 
 /// Command lines that ask for help: before anything is wrong with them.
@@ -240,17 +246,20 @@ const FOR_HELP: [&[&str]; 4] = [
     &["--to", "x", "-h"],
 ];
 
+/// Whether these words get help, and nothing is told.
+fn get_help(rt: &(impl Threads + Wait + Sync), alloc: Global, words: &[&str]) -> bool {
+    let Ok(heard) = hear_broken(rt, alloc, words, Vec::new(alloc)) else {
+        return false;
+    };
+    heard.is_answer(0, HELP.as_bytes(), b"")
+}
+
 #[test]
-fn help_reads_nothing(rt: HostRuntime) -> Result<(), Fail> {
-    let alloc = rt.alloc();
+fn help_reads_nothing(rt: HostRuntime) {
     for words in &FOR_HELP {
-        let heard = hear_broken(&rt, alloc, words, Vec::new(alloc))?;
-        assert_eq!(rt; heard.status, 0);
-        assert_eq!(rt; heard.output.as_slice(), HELP.as_bytes());
-        assert!(rt; heard.errors.is_empty());
+        assert!(rt; get_help(&rt, rt.alloc(), words), "{words:?}");
     }
     for line in HELP.lines() {
-        assert!(rt; line.len() <= 80);
+        assert!(rt; line.len() <= 80, "{line}");
     }
-    Ok(())
 }

@@ -1,7 +1,6 @@
 //! Texts from standard input, and their tables.
 
 use crate::tests::helpers::{TextCase, assert_answers};
-use std::test::Fail;
 
 /// A text with nothing to be told.
 const TEXT: TextCase = TextCase {
@@ -118,8 +117,8 @@ const CASES: [TextCase; 8] = [
 ];
 
 #[test]
-fn texts_get_their_tables(rt: HostRuntime) -> Result<(), Fail> {
-    assert_answers(&rt, rt.alloc(), &CASES)
+fn texts_get_their_tables(rt: HostRuntime) {
+    assert_answers(&rt, rt.alloc(), &CASES);
 }
 
 const DELIMITERS: [TextCase; 2] = [
@@ -147,8 +146,8 @@ const DELIMITERS: [TextCase; 2] = [
 ];
 
 #[test]
-fn delimiters_stand_in_text_and_table(rt: HostRuntime) -> Result<(), Fail> {
-    assert_answers(&rt, rt.alloc(), &DELIMITERS)
+fn delimiters_stand_in_text_and_table(rt: HostRuntime) {
+    assert_answers(&rt, rt.alloc(), &DELIMITERS);
 }
 
 const SUMMARY: TextCase = TextCase {
@@ -174,6 +173,6 @@ const SUMMARY: TextCase = TextCase {
 };
 
 #[test]
-fn summaries_count_refusals(rt: HostRuntime) -> Result<(), Fail> {
-    assert_answers(&rt, rt.alloc(), &[SUMMARY])
+fn summaries_count_refusals(rt: HostRuntime) {
+    assert_answers(&rt, rt.alloc(), &[SUMMARY]);
 }

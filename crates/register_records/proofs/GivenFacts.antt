@@ -37,10 +37,6 @@ pub before-none : before_seal [] ≡ []
 unfolding before_seal
 before-none = refl
 
-entry-records-none : (form : Form) → entry_records form [] ≡ []
-entry-records-none Plain = refl
-entry-records-none Sealed = before-none
-
 -- the first of the entries that are left
 first-entry : (form : Form) (k : ℕ) (r : Fields) (rest : List Fields) → k < record_limit
     → entries_from form k (r ∷ rest) ≡ record { number = k + 1; body = body_of form r } ∷ entries_from form (k + 1) rest

@@ -174,15 +174,6 @@ weekday-name w k e = rw (← e) (named w)
     named Friday = refl
     named Saturday = refl
 
-pub weekday-short : (w : Weekday) → length (weekday_name w) ≤ 9
-weekday-short Sunday = omega arith
-weekday-short Monday = omega arith
-weekday-short Tuesday = omega arith
-weekday-short Wednesday = omega arith
-weekday-short Thursday = omega arith
-weekday-short Friday = omega arith
-weekday-short Saturday = omega arith
-
 -- equal fields
 pub same-body : (d : ℕ) (fields wanted : List (List ℕ)) (bytes : List ℕ) → fields ≡ wanted → bytes ≡ body d fields
     → bytes ≡ body d wanted

@@ -3,7 +3,7 @@ use Rattle.std.proofs.Common.{◌≡◌, ◌<◌, ◌≤◌, ◌+◌, ℕ, zero,
 use Rattle.std.proofs.Common.{true, false, refl, sym, ap, ◌∙◌, arith, add-one}
 use Rattle.std.specs.Prelude.{if◌then◌else◌}
 use Rattle.csv.specs.Machine.{Read, ends_at_end, field_after, fields_after, is_end, next_record, step}
-use Rattle.csv.specs.Reading.{AreRecords, Reached, records_from, records_next}
+use Rattle.csv.specs.Reading.{records_from, records_next}
 use Rattle.csv.specs.declared.parser.Config.{Config}
 use Rattle.csv.specs.declared.parser.State.{State}
 use Rattle.csv.specs.declared.parser.State.TheVariants as st
@@ -100,16 +100,3 @@ all-more cfg s (c ∷ rest) p e =
 -- none
 pub all-none : (cfg : Config) (s : State) (xs : List ℕ) → next_record cfg s [] [] xs ≡ None → all_after cfg s xs ≡ []
 all-none cfg s xs e = first-turn cfg s xs ∙ rw e refl
-
--- what csv calls all the records of a text are the records that the function gives
-pub are-all : (cfg : Config) (s : State) (xs : List ℕ) (rows : List Fields) → AreRecords cfg s xs rows
-    → all_after cfg s xs ≡ rows
-unfolding Reached
-are-all cfg s xs rows h = reach cfg s xs rows h.0 h.1 h.2 h.3
-  where
-    reach : (cfg : Config) (s : State) (xs : List ℕ) (rows : List Fields) (s2 : State) (ys : List ℕ)
-        → Reached cfg s xs rows s2 ys → next_record cfg s2 [] [] ys ≡ None → all_after cfg s xs ≡ rows
-    reach cfg s xs [] s2 ys h e = all-none cfg s xs (rw (h.0, h.1) e)
-    reach cfg s xs (r ∷ rows) s2 ys h e =
-        let (p, next, first, more) = h in
-        all-more cfg s xs p next ∙ rw (← first, reach cfg p.1 p.2 rows s2 ys more e) refl

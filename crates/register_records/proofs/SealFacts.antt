@@ -1,6 +1,6 @@
 -- When a record is a seal, and with what number of entries it agrees.
-use Rattle.std.proofs.Common.{◌≡◌, ◌≢◌, ◌<◌, ◌≤◌, ◌+◌, ◌-◌, ◌*◌, ◌^◌, ◌++◌, ℕ, zero, suc, List, [], ◌∷◌, length, take}
-use Rattle.std.proofs.Common.{get_or, Option, None, Some, true, false, refl, arith, codes}
+use Rattle.std.proofs.Common.{◌≡◌, ◌<◌, ◌≤◌, ◌+◌, ◌-◌, ◌*◌, ◌^◌, ◌++◌, ℕ, zero, suc, List, [], ◌∷◌, length, take}
+use Rattle.std.proofs.Common.{get_or, Option, None, Some, true, refl, arith, codes}
 use Rattle.std.specs.Prelude.{◌↔◌, IsTrue, nat_eq}
 use Rattle.std.specs.Char.{is_ascii_digit}
 use Rattle.std.specs.Str.{bytes_eq}
@@ -12,13 +12,6 @@ use Rattle.date_texts.specs.Numerals.{IsNumeral, all_digits, value_after}
 use Rattle.date_texts.specs.Trimmed.{trimmed}
 use Rattle.register_records.specs.Records.{Fields}
 use Rattle.register_records.specs.Seals.{Agrees, is_seal}
-
--- a record that has not two fields
-pub not_two : (fs : Fields) → length fs ≢ 2 → is_seal fs ≡ false
-not_two [] n = refl
-not_two (a ∷ []) n = refl
-not_two (a ∷ b ∷ []) n = absurd (n refl)
-not_two (a ∷ b ∷ c ∷ rest) n = refl
 
 -- a record of two
 pub seal_by_first : (fs : Fields) (a : List ℕ) → length fs ≡ 2 → Some a ≡ field_at fs 0

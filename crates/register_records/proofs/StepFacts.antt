@@ -3,7 +3,7 @@ use Rattle.std.proofs.Common.{◌≡◌, ℕ, List, [], ◌∷◌, Bool, Option,
 use Rattle.std.specs.Prelude.{IfSome}
 use Rattle.register_records.specs.Records.{Fields}
 use Rattle.register_records.specs.Seals.{Agrees, is_seal}
-use Rattle.register_records.specs.ReadingState.{EndsAt, HasEntry, IsNoSeal, LacksSeal, Reads, TakesFirst}
+use Rattle.register_records.specs.ReadingState.{HasEntry, IsNoSeal, LacksSeal, Reads, TakesFirst}
 use Rattle.register_records.specs.declared.setups.Form.{Form}
 use Rattle.register_records.specs.declared.setups.Form.TheVariants.{Plain, Sealed}
 use Rattle.register_records.proofs.GivenFacts.{before-none, if-some, no-seal-first, seal-first}
@@ -24,25 +24,12 @@ of-first None mid f P t h = tt
 of-first (Some rows) None f P t h = absurd t
 of-first (Some rows) (Some rest) f P t h = rw t (h rest)
 
--- no record is left
-pub plain-end : (left : Option (List Fields)) (form : Form) (count : ℕ) → form ≡ Plain → IfSome left (λ rows. rows ≡ [])
-    → IfSome left (EndsAt form count)
-plain-end left form count e h = if-some left _ _ (λ rows none. rw e none) h
-
 lacks-none : (count : ℕ) (rows : List Fields) → rows ≡ [] → LacksSeal Sealed count rows
 lacks-none count rows e = (rw e before-none, λ ends. let clash : ends.0 ∷ [] ≡ [] = sym ends.1 ∙ e in absurd (cc))
 
 pub no-seal-left : (left : Option (List Fields)) (form : Form) (count : ℕ) → form ≡ Sealed
     → IfSome left (λ rows. rows ≡ []) → IfSome left (LacksSeal form count)
 no-seal-left left form count e h = if-some left _ _ (λ rows none. rw e (lacks-none count rows none)) h
-
--- a seal is left, and nothing after it
-pub sealed-end : (left mid : Option (List Fields)) (form : Form) (count : ℕ) (f : Fields) → form ≡ Sealed
-    → TakesFirst left mid f
-    → IfSome mid (λ rows. rows ≡ []) → is_seal f ≡ true → Agrees f count → IfSome left (EndsAt form count)
-sealed-end None mid form count f e t none is agrees = tt
-sealed-end (Some rows) None form count f e t none is agrees = absurd t
-sealed-end (Some rows) (Some rest) form count f e t none is agrees = rw e (f, t ∙ rw none refl, is, agrees)
 
 -- a seal is left that does not agree
 pub other-number : (left mid : Option (List Fields)) (form : Form) (count : ℕ) (f : Fields) → form ≡ Sealed

@@ -26,14 +26,6 @@ pub numbered_more : (k : ℕ) (given : List Numbered) (n : Numbered) → AreNumb
 numbered_more k [] n h e = (omega arith, tt)
 numbered_more k (first ∷ rest) n h e = (h.0, numbered_more (k + 1) rest n h.1 (omega arith))
 
-pub not_sunk_by : (f : EntryFault) (c : Cause) → IsCauseOf f c → IsNotSunk (Err c)
-not_sunk_by fault.OutOfMemory c is e = cc
-not_sunk_by fault.ReadFault c is e = cc
-not_sunk_by fault.BadHeader c is e = cc
-not_sunk_by fault.TooManyRecords c is e = cc
-not_sunk_by fault.NotSealed c is e = cc
-not_sunk_by fault.Failed c is e = cc
-
 -- the cause tells the fault
 header_told : (f : EntryFault) (c : Cause) → IsCauseOf f c → c ≡ cause.BadHeader → f ≡ fault.BadHeader
 header_told fault.OutOfMemory c is e = cc

@@ -1,4 +1,4 @@
-use Rattle.std.proofs.Common.{◌≡◌, ◌≤◌, ◌∷◌, ◌++◌, [], ◌∙◌, ap, append-nil, arith, length, map}
+use Rattle.std.proofs.Common.{◌≡◌, ◌∷◌, ◌++◌, [], ◌∙◌, ap, append-nil, arith, map}
 use Rattle.std.proofs.Math.Logic.{∥∥₁_elim}
 use Rattle.std.proofs.lemmas.Grind.{common_steps}
 use Rattle.std.specs.Fmt.{signed_decimal}
@@ -12,7 +12,7 @@ use Rattle.register_records.specs.Outcomes.{IsRowOf}
 use Rattle.register_records.specs.Tables.{entry_fields, row_fields, weekday_at}
 use Rattle.register_records.specs.Seen.{outcome_seen}
 use Rattle.register_records.proofs.LineFacts.{accepted-fields, plain-cell, plain-day, same-body, same-line}
-use Rattle.register_records.proofs.LineFacts.{two-fields, two-more, weekday-name, weekday-short}
+use Rattle.register_records.proofs.LineFacts.{two-fields, two-more, weekday-name}
 use Rattle.register_records.proofs.row_lines.make_accepted.Goals as goal
 
 pub push_plain-requires : goal.push_plain-requires

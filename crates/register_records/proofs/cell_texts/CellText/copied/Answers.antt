@@ -1,6 +1,3 @@
-use Rattle.std.proofs.Common.{◌≡◌, length, subst, sym, take}
-use Rattle.std.specs.Prelude.{true}
-use Rattle.std.specs.Str.{is_utf8}
 use Rattle.std.proofs.Math.Seq.{take-append_seam}
 use Rattle.std.proofs.lemmas.Str.{is_utf8-from_IsUtf8}
 use Rattle.register_records.proofs.cell_texts.CellText.copied.Goals as goal

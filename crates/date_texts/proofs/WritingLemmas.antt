@@ -103,20 +103,20 @@ four_digits n h =
 
 pub month_date_bytes : (year month day : ℕ) → year ≤ 9_999 → month ≤ 99 → day ≤ 99
     → (pair (year / 100) ++ pair (year % 100)) ++ 45 ∷ (pair month ++ 45 ∷ pair day)
-        ≡ canonical_civil (pos year) month day
+    ≡ canonical_civil (pos year) month day
 month_date_bytes year month day h i j =
     sym (ap (λ (ds : List ℕ). ds ++ 45 ∷ (padded 2 month ++ 45 ∷ padded 2 day)) (four_digits year h)
     ∙ ap (λ (ds : List ℕ). (pair (year / 100) ++ pair (year % 100)) ++ 45 ∷ (ds ++ 45 ∷ padded 2 day))
-        (two_digits month i)
+    (two_digits month i)
     ∙ ap (λ (ds : List ℕ). (pair (year / 100) ++ pair (year % 100)) ++ 45 ∷ (pair month ++ 45 ∷ ds))
-        (two_digits day j))
+    (two_digits day j))
 
 pub week_date_bytes : (year week weekday : ℕ) → year ≤ 9_999 → week ≤ 99 → weekday ≤ 9
     → (pair (year / 100) ++ pair (year % 100)) ++ 45 ∷ (codes "W" ++ (pair week ++ 45 ∷ (48 + weekday) ∷ []))
-        ≡ canonical_week (pos year) week weekday
+    ≡ canonical_week (pos year) week weekday
 week_date_bytes year week weekday h i j =
     sym (ap (λ (ds : List ℕ). ds ++ 45 ∷ (codes "W" ++ (padded 2 week ++ 45 ∷ decimal weekday))) (four_digits year h)
     ∙ ap (λ (ds : List ℕ). (pair (year / 100) ++ pair (year % 100))
-        ++ 45 ∷ (codes "W" ++ (ds ++ 45 ∷ decimal weekday))) (two_digits week i)
+    ++ 45 ∷ (codes "W" ++ (ds ++ 45 ∷ decimal weekday))) (two_digits week i)
     ∙ ap (λ (ds : List ℕ). (pair (year / 100) ++ pair (year % 100))
-        ++ 45 ∷ (codes "W" ++ (pair week ++ 45 ∷ ds))) (decimal_digit weekday (omega arith)))
+    ++ 45 ∷ (codes "W" ++ (pair week ++ 45 ∷ ds))) (decimal_digit weekday (omega arith)))

@@ -18,7 +18,7 @@ use Rattle.lane_rings.specs.Lane.{sent}
 use Rattle.register_records.specs.Seen.{entry_seen}
 use Rattle.register_records.specs.declared.entries.Entry.{Entry}
 use Rattle.register_records.specs.declared.rows.Row.{Row}
-use Rattle.register_run.specs.Passages.{AreAmong, HasPassed, IsCauseOf, IsGiven, IsNotSunk, IsOfThreads, Sends}
+use Rattle.register_run.specs.Passages.{AreAmong, HasPassed, IsCauseOf, IsGiven, IsOfThreads, Sends}
 use Rattle.register_run.proofs.PassageLemmas.{among_given, among_send}
 
 pub numbered_more : (k : ℕ) (given : List Numbered) (n : Numbered) → AreNumberedFrom k given

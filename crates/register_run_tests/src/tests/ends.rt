@@ -19,14 +19,18 @@ const FEW: u32 = 20;
 const MOST_LOOKS: u32 = 100_000_000;
 
 /// Which end waits between two items.
-#[derive(Clone, Copy, PartialEq, Eq, Debug)]
+#[derive(Clone, Copy, PartialEq)]
 enum Slow {
     Sender,
     Receiver,
     Neither,
 }
 
-const SLOW: [Slow; 3] = [Slow::Sender, Slow::Receiver, Slow::Neither];
+const SLOW: [(Slow, &str); 3] = [
+    (Slow::Sender, "the sender is slow"),
+    (Slow::Receiver, "the receiver is slow"),
+    (Slow::Neither, "neither is slow"),
+];
 
 /// Gives the processor away for a while.
 fn linger(slow: bool) {
@@ -103,10 +107,10 @@ fn count_over_lane(
 
 #[test]
 fn all_that_was_sent_is_taken_before_the_sender_is_gone(rt: HostRuntime) -> Result<(), Fail> {
-    for slow in SLOW {
+    for (slow, name) in SLOW {
         for waits in [false, true] {
             let count = count_over_lane(&rt, rt.alloc(), slow, waits)?;
-            assert_eq!(rt; count, ITEMS, "{slow:?} {waits}");
+            assert!(rt; count == ITEMS, "{name}, {waits}: {count}");
         }
     }
     Ok(())
@@ -174,8 +178,9 @@ fn told_to_sender(
 
 #[test]
 fn a_receiver_is_gone_only_when_it_is_dropped(rt: HostRuntime) -> Result<(), Fail> {
-    for slow in SLOW {
-        assert_eq!(rt; told_to_sender(&rt, rt.alloc(), slow)?, RIGHT, "{slow:?}");
+    for (slow, name) in SLOW {
+        let told = told_to_sender(&rt, rt.alloc(), slow)?;
+        assert!(rt; told == RIGHT, "{name}: {told}");
     }
     Ok(())
 }
@@ -222,6 +227,13 @@ fn is_seen(receiver: Receiver<u32>) -> bool {
     false
 }
 
+/// Waits for an item and for the end of the sender, and says whether they come.
+fn is_taken(rt: &impl Wait, receiver: Receiver<u32>) -> bool {
+    let mut receiver = receiver;
+    let first = receiver.take(rt);
+    first == Ok(Item::Entry(7)) && receiver.take(rt).is_err()
+}
+
 /// How the receivers of many lanes get what is there.
 #[derive(Clone, Copy, PartialEq)]
 enum Way {
@@ -239,10 +251,9 @@ fn count_items(
     let mut count = 0usize;
     for (place, receiver) in receivers.into_iter().enumerate() {
         looked_at.store(place as u64, Ordering::SeqCst);
-        let mut receiver = receiver;
         let came = match way {
             Way::Look => is_seen(receiver),
-            Way::Take => receiver.take(rt) == Ok(Item::Entry(7)) && receiver.take(rt).is_err(),
+            Way::Take => is_taken(rt, receiver),
         };
         if came {
             count = count.saturating_add(1);
@@ -279,7 +290,8 @@ fn count_over_lanes(
 #[test]
 fn an_item_that_was_sent_just_before_its_end_is_seen(rt: HostRuntime) -> Result<(), Fail> {
     for _ in 0..5 {
-        assert_eq!(rt; count_over_lanes(&rt, rt.alloc(), Way::Look)?, LANES);
+        let count = count_over_lanes(&rt, rt.alloc(), Way::Look)?;
+        assert!(rt; count == LANES, "{count}");
     }
     Ok(())
 }
@@ -287,7 +299,8 @@ fn an_item_that_was_sent_just_before_its_end_is_seen(rt: HostRuntime) -> Result<
 #[test]
 fn an_item_that_was_sent_just_before_its_end_is_taken(rt: HostRuntime) -> Result<(), Fail> {
     for _ in 0..5 {
-        assert_eq!(rt; count_over_lanes(&rt, rt.alloc(), Way::Take)?, LANES);
+        let count = count_over_lanes(&rt, rt.alloc(), Way::Take)?;
+        assert!(rt; count == LANES, "{count}");
     }
     Ok(())
 }

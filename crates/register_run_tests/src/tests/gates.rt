@@ -1,12 +1,11 @@
 // Tests with a gate or with readers that wait show that the work of several threads goes on at the same time. Each of
 // them looks only so often: where what it waits for does not come, it fails.
 
-use super::{RECORD, WHOLE_TEXT, gated_report_of, is_complete, outputs_of, report_of, text_of};
-use register_records::{Form, Output, PlainOutput, Setup};
-use register_run::Gate;
+use super::{RECORD, WHOLE_TEXT, completes, is_complete, outputs_of, plain_setup, text_of};
+use register_records::{Output, PlainOutput, Setup};
+use register_run::{Gate, run_gated};
 use std::alloc::{AllocError, Global};
 use std::io::{ErrorKind, Read, Write};
-use std::process::Abort;
 use std::sync::Wait;
 use std::sync::atomic::{AtomicU64, Ordering};
 use std::test::Fail;
@@ -110,37 +109,71 @@ fn watched_outputs(
     Ok(outputs)
 }
 
-// Each reader gives its first chunk only after the other one's was asked for.
+/// Whether a run of two readers is complete, each of which gives its first chunk only after the other one's was asked
+/// for.
+fn readers_meet(
+    rt: &(impl Threads + Wait + Sync),
+    alloc: Global,
+    stripes: usize,
+) -> Result<bool, Fail> {
+    let setup = plain_setup(16, stripes)?;
+    let (first, second) = (AtomicU64::new(0), AtomicU64::new(0));
+    let chunks = [WHOLE_TEXT];
+    let mut sources = Vec::new(alloc);
+    sources.push(Chunks::new(&chunks, &first, 1, &second))?;
+    sources.push(Chunks::new(&chunks, &second, 1, &first))?;
+    let outputs = outputs_of(alloc, 2)?;
+    Ok(completes(rt, alloc, sources, outputs, &setup))
+}
+
 #[test]
 fn two_readers_meet(rt: HostRuntime) -> Result<(), Fail> {
     for stripes in [1, 4] {
-        let setup = Setup::new(&[], 16, b',', stripes, Form::Plain)?;
-        let (first, second) = (AtomicU64::new(0), AtomicU64::new(0));
-        let chunks = [WHOLE_TEXT];
-        let mut sources = Vec::new(rt.alloc());
-        sources.push(Chunks::new(&chunks, &first, 1, &second))?;
-        sources.push(Chunks::new(&chunks, &second, 1, &first))?;
-        let outputs = outputs_of(rt.alloc(), 2)?;
-        let report = report_of(&rt, rt.alloc(), sources, outputs, &setup)?;
-        assert!(rt; is_complete(&report));
+        assert!(rt;
+            readers_meet(&rt, rt.alloc(), stripes)?,
+            "{stripes} stripes"
+        );
     }
     Ok(())
 }
 
-// The reader gives the second record only after a row was written.
+/// Whether a run is complete whose reader gives the second record only after a row was written.
+fn row_comes_before_record(
+    rt: &(impl Threads + Wait + Sync),
+    alloc: Global,
+    stripes: usize,
+) -> Result<bool, Fail> {
+    let setup = plain_setup(16, stripes)?;
+    let (asked, rows) = (AtomicU64::new(0), AtomicU64::new(0));
+    let chunks = [WHOLE_TEXT, RECORD];
+    let mut sources = Vec::new(alloc);
+    sources.push(Chunks::new(&chunks, &asked, 2, &rows))?;
+    let outputs = watched_outputs(alloc, 1, &rows)?;
+    Ok(completes(rt, alloc, sources, outputs, &setup))
+}
+
 #[test]
 fn first_row_before_second_record(rt: HostRuntime) -> Result<(), Fail> {
     for stripes in [1, 4] {
-        let setup = Setup::new(&[], 16, b',', stripes, Form::Plain)?;
-        let (asked, rows) = (AtomicU64::new(0), AtomicU64::new(0));
-        let chunks = [WHOLE_TEXT, RECORD];
-        let mut sources = Vec::new(rt.alloc());
-        sources.push(Chunks::new(&chunks, &asked, 2, &rows))?;
-        let outputs = watched_outputs(rt.alloc(), 1, &rows)?;
-        let report = report_of(&rt, rt.alloc(), sources, outputs, &setup)?;
-        assert!(rt; is_complete(&report));
+        assert!(rt;
+            row_comes_before_record(&rt, rt.alloc(), stripes)?,
+            "{stripes} stripes"
+        );
     }
     Ok(())
+}
+
+/// Whether a run with a gate begins and is complete. Nothing is promised of it, as of a run without one.
+fn completes_gated<
+    T: Threads + Wait + Sync,
+    R: Read + Send + Drop,
+    W: Output + Drop,
+    G: Gate + Sync,
+>(rt: &T, alloc: Global, sources: Vec<R>, outputs: Vec<W>, setup: &Setup, gate: &G) -> bool {
+    match run_gated(rt, alloc, sources, outputs, setup, gate) {
+        Ok(report) => is_complete(&report),
+        Err(_) => false,
+    }
 }
 
 /// A gate that holds some entries until a count has come, and notes where it did not come.
@@ -164,27 +197,25 @@ impl Gate for Held<'_> {
     }
 }
 
-/// Runs sources with this gate: all are whole, what the gate waited for has come, and so many entries came to it.
-fn run_held<R: Read + Send + Drop, W: Output + Drop>(
-    rt: &(impl Threads + Wait + Sync + Abort),
+/// Whether a run with this gate is complete, what the gate waited for has come, and so many entries came to it.
+fn is_held<R: Read + Send + Drop, W: Output + Drop>(
+    rt: &(impl Threads + Wait + Sync),
     alloc: Global,
     sources: Vec<R>,
     outputs: Vec<W>,
-    stripes: usize,
+    setup: &Setup,
     gate: &Held<'_>,
     entries: u64,
-) -> Result<(), Fail> {
-    let setup = Setup::new(&[], 16, b',', stripes, Form::Plain)?;
-    let report = gated_report_of(rt, alloc, sources, outputs, &setup, gate)?;
-    assert!(rt; is_complete(&report));
-    assert_eq!(rt; gate.late.load(Ordering::SeqCst), 0);
-    assert_eq!(rt; gate.came.load(Ordering::SeqCst), entries);
-    Ok(())
+) -> bool {
+    completes_gated(rt, alloc, sources, outputs, setup, gate)
+        && gate.late.load(Ordering::SeqCst) == 0
+        && gate.came.load(Ordering::SeqCst) == entries
 }
 
 // The gate holds the first entry until the second chunk was asked for.
 #[test]
 fn reader_beside_converter(rt: HostRuntime) -> Result<(), Fail> {
+    let setup = plain_setup(16, 1)?;
     let (asked, came, open) = (AtomicU64::new(0), AtomicU64::new(0), AtomicU64::new(1));
     let chunks = [WHOLE_TEXT, RECORD];
     let mut sources = Vec::new(rt.alloc());
@@ -197,13 +228,14 @@ fn reader_beside_converter(rt: HostRuntime) -> Result<(), Fail> {
         wanted: 2,
         late: AtomicU64::new(0),
     };
-    run_held(&rt, rt.alloc(), sources, outputs, 1, &gate, 2)?;
+    assert!(rt; is_held(&rt, rt.alloc(), sources, outputs, &setup, &gate, 2));
     Ok(())
 }
 
 // The gate holds the first entry that comes until a row stands in an output.
 #[test]
 fn converter_beside_writer(rt: HostRuntime) -> Result<(), Fail> {
+    let setup = plain_setup(16, 1)?;
     let (came, rows) = (AtomicU64::new(0), AtomicU64::new(0));
     let mut sources = Vec::new(rt.alloc());
     sources.push(WHOLE_TEXT)?;
@@ -216,35 +248,40 @@ fn converter_beside_writer(rt: HostRuntime) -> Result<(), Fail> {
         wanted: 1,
         late: AtomicU64::new(0),
     };
-    run_held(&rt, rt.alloc(), sources, outputs, 1, &gate, 2)?;
+    assert!(rt; is_held(&rt, rt.alloc(), sources, outputs, &setup, &gate, 2));
     Ok(())
 }
 
-// The gate holds each entry until those of all converters came to it.
+/// Whether a run of so many stripes and entries is complete whose gate holds each entry until all of them came.
+fn converters_meet(
+    rt: &(impl Threads + Wait + Sync),
+    alloc: Global,
+    stripes: usize,
+) -> Result<bool, Fail> {
+    let setup = plain_setup(16, stripes)?;
+    let came = AtomicU64::new(0);
+    let text = text_of(alloc, stripes)?;
+    let mut sources = Vec::new(alloc);
+    sources.push(text.as_slice())?;
+    let outputs = outputs_of(alloc, 1)?;
+    let entries = stripes as u64;
+    let gate = Held {
+        came: &came,
+        most: entries,
+        until: &came,
+        wanted: entries,
+        late: AtomicU64::new(0),
+    };
+    Ok(is_held(rt, alloc, sources, outputs, &setup, &gate, entries))
+}
+
 #[test]
 fn all_converters_at_once(rt: HostRuntime) -> Result<(), Fail> {
     for stripes in 2..5usize {
-        let came = AtomicU64::new(0);
-        let text = text_of(rt.alloc(), stripes)?;
-        let mut sources = Vec::new(rt.alloc());
-        sources.push(text.as_slice())?;
-        let outputs = outputs_of(rt.alloc(), 1)?;
-        let gate = Held {
-            came: &came,
-            most: stripes as u64,
-            until: &came,
-            wanted: stripes as u64,
-            late: AtomicU64::new(0),
-        };
-        run_held(
-            &rt,
-            rt.alloc(),
-            sources,
-            outputs,
-            stripes,
-            &gate,
-            stripes as u64,
-        )?;
+        assert!(rt;
+            converters_meet(&rt, rt.alloc(), stripes)?,
+            "{stripes} stripes"
+        );
     }
     Ok(())
 }
@@ -268,16 +305,22 @@ impl Gate for Slow<'_> {
     }
 }
 
-// With rings of one a reader is soon held up by its converter.
-#[test]
-fn bounded_run_ahead(rt: HostRuntime) -> Result<(), Fail> {
-    let setup = Setup::new(&[], 1, b',', 1, Form::Plain)?;
-    let (asked, open) = (AtomicU64::new(0), AtomicU64::new(1));
-    let mut chunks: Vec<&[u8]> = Vec::new(rt.alloc());
+/// The chunks of a header and a hundred records.
+fn chunks_of_hundred(alloc: Global) -> Result<Vec<&'static [u8]>, AllocError> {
+    let mut chunks: Vec<&[u8]> = Vec::new(alloc);
     chunks.push(b"id,calendar,date\n")?;
     for _ in 0..100 {
         chunks.push(RECORD)?;
     }
+    Ok(chunks)
+}
+
+// With rings of one a reader is soon held up by its converter.
+#[test]
+fn bounded_run_ahead(rt: HostRuntime) -> Result<(), Fail> {
+    let setup = plain_setup(1, 1)?;
+    let (asked, open) = (AtomicU64::new(0), AtomicU64::new(1));
+    let chunks = chunks_of_hundred(rt.alloc())?;
     let mut sources = Vec::new(rt.alloc());
     sources.push(Chunks::new(chunks.as_slice(), &asked, 0, &open))?;
     let outputs = outputs_of(rt.alloc(), 1)?;
@@ -285,9 +328,9 @@ fn bounded_run_ahead(rt: HostRuntime) -> Result<(), Fail> {
         asked: &asked,
         seen: AtomicU64::new(0),
     };
-    let report = gated_report_of(&rt, rt.alloc(), sources, outputs, &setup, &gate)?;
-    assert!(rt; is_complete(&report));
-    assert!(rt; (1..=10).contains(&gate.seen.load(Ordering::SeqCst)));
+    let is_complete = completes_gated(&rt, rt.alloc(), sources, outputs, &setup, &gate);
+    let seen = gate.seen.load(Ordering::SeqCst);
+    assert!(rt; is_complete && (1..=10).contains(&seen), "{seen} chunks");
     Ok(())
 }
 
@@ -311,7 +354,7 @@ impl Gate for Before<'_> {
 // The row of an entry is not written before the entry has passed the gate.
 #[test]
 fn no_row_before_the_gate(rt: HostRuntime) -> Result<(), Fail> {
-    let setup = Setup::new(&[], 16, b',', 1, Form::Plain)?;
+    let setup = plain_setup(16, 1)?;
     let rows = AtomicU64::new(0);
     let mut sources = Vec::new(rt.alloc());
     sources.push(WHOLE_TEXT)?;
@@ -321,10 +364,13 @@ fn no_row_before_the_gate(rt: HostRuntime) -> Result<(), Fail> {
         early: AtomicU64::new(0),
         came: AtomicU64::new(0),
     };
-    let report = gated_report_of(&rt, rt.alloc(), sources, outputs, &setup, &gate)?;
-    assert!(rt; is_complete(&report));
-    assert_eq!(rt; gate.early.load(Ordering::SeqCst), 0);
-    assert_eq!(rt; gate.came.load(Ordering::SeqCst), 1);
-    assert_eq!(rt; rows.load(Ordering::SeqCst), 1);
+    let is_complete = completes_gated(&rt, rt.alloc(), sources, outputs, &setup, &gate);
+    let early = gate.early.load(Ordering::SeqCst);
+    let came = gate.came.load(Ordering::SeqCst);
+    let written = rows.load(Ordering::SeqCst);
+    assert!(rt;
+        is_complete && early == 0 && came == 1 && written == 1,
+        "{early} early of {came}, {written} written"
+    );
     Ok(())
 }

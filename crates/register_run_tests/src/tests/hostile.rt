@@ -1,13 +1,12 @@
 // Texts that are meant to harm, converted on one thread and by runs, read at once and a byte at a time.
 
-use super::faults::plain_setup;
-use super::{HEADING, RECORD, cause_of, report_of};
+use super::{HEADING, RECORD, cause_of, is_joined, plain_setup, report_of};
 use register_records::faults::{Chunks, Sink};
 use register_records::{PlainOutput, Setup, SourceEnd, convert_source};
+use register_run::Report;
 use std::alloc::{AllocError, Global};
 use std::io;
 use std::io::{Read, Write};
-use std::process::Abort;
 use std::sync::Wait;
 use std::test::Fail;
 use std::thread::Threads;
@@ -114,6 +113,57 @@ impl Told {
             sink,
         }
     }
+
+    /// Whether it has this cause, or 0, these rows, and its output the heading above them where it is whole.
+    fn is(&self, cause: u8, rows: &str) -> bool {
+        let heading = if cause == 0 { HEADING } else { "" };
+        self.cause == cause
+            && self.rows as usize == rows.lines().count()
+            && is_joined(self.sink.bytes(), &[heading, rows])
+    }
+
+    /// Whether it is the same as another.
+    fn is_like(&self, other: &Told) -> bool {
+        self.cause == other.cause
+            && self.rows == other.rows
+            && self.sink.bytes() == other.sink.bytes()
+    }
+}
+
+/// An output for one of these texts.
+fn sink_of(alloc: Global) -> Result<Sink, AllocError> {
+    Sink::new(alloc, 1, ROOM, 0, 0, ROOM)
+}
+
+/// How a text that is read in chunks of this size ends on one thread.
+fn told_by_one_thread(alloc: Global, text: &str, size: usize) -> Result<Told, Fail> {
+    let setup = plain_setup(1, 1)?;
+    let mut sink = sink_of(alloc)?;
+    let end = convert_source(alloc, reader_of(alloc, text, size)?, &mut sink, &setup);
+    Ok(Told::new(&end, sink))
+}
+
+/// Adds how a text, read at once and a byte at a time, ends in a run of so many stripes.
+fn tell_by_run(
+    rt: &(impl Threads + Wait + Sync),
+    alloc: Global,
+    text: &str,
+    stripes: usize,
+    told: &mut Vec<Told>,
+) -> Result<(), Fail> {
+    let setup = plain_setup(1, stripes)?;
+    let mut sources = Vec::new(alloc);
+    let mut outputs = Vec::new(alloc);
+    for size in [ROOM, 1] {
+        sources.push(reader_of(alloc, text, size)?)?;
+        outputs.push(sink_of(alloc)?)?;
+    }
+    let report = report_of(rt, alloc, sources, outputs, &setup)?;
+    let outputs = report.outputs;
+    for (end, sink) in report.ends.iter().zip(outputs) {
+        told.push(Told::new(end, sink))?;
+    }
+    Ok(())
 }
 
 /// How a text ends on one thread and in runs of 1 and 4 stripes, read at once and a byte at a time.
@@ -124,56 +174,40 @@ fn told_by_all(
 ) -> Result<Vec<Told>, Fail> {
     let mut told = Vec::new(alloc);
     for size in [ROOM, 1] {
-        let mut sink = Sink::new(alloc, 1, ROOM, 0, 0, ROOM)?;
-        let reader = reader_of(alloc, text, size)?;
-        let end = convert_source(alloc, reader, &mut sink, &plain_setup(1, 1)?);
-        told.push(Told::new(&end, sink))?;
+        told.push(told_by_one_thread(alloc, text, size)?)?;
     }
     for stripes in [1, 4] {
-        let mut sources = Vec::new(alloc);
-        let mut outputs = Vec::new(alloc);
-        for size in [ROOM, 1] {
-            sources.push(reader_of(alloc, text, size)?)?;
-            outputs.push(Sink::new(alloc, 1, ROOM, 0, 0, ROOM)?)?;
-        }
-        let report = report_of(rt, alloc, sources, outputs, &plain_setup(1, stripes)?)?;
-        let sinks = report.outputs;
-        for (end, sink) in report.ends.iter().zip(sinks) {
-            told.push(Told::new(end, sink))?;
-        }
+        tell_by_run(rt, alloc, text, stripes, &mut told)?;
     }
     Ok(told)
+}
+
+/// Whether all calls told this of a text.
+fn all_tell(told: &[Told], cause: u8, rows: &str) -> bool {
+    told.len() == 6 && told.iter().all(|one| one.is(cause, rows))
 }
 
 #[test]
 fn every_call_says_the_same_of_a_hostile_text(rt: HostRuntime) -> Result<(), Fail> {
     for (text, cause, rows) in TEXTS {
-        let mut table = Vec::new(rt.alloc());
-        if cause == 0 {
-            table.extend_from_slice(HEADING)?;
-            table.extend_from_slice(rows.as_bytes())?;
-        }
-        let all = told_by_all(&rt, rt.alloc(), text)?;
-        assert_eq!(rt; all.len(), 6);
-        for told in &all {
-            assert_eq!(rt; told.cause, cause, "at {text:?}");
-            assert_eq!(rt; told.rows as usize, rows.lines().count(), "at {text:?}");
-            assert_eq!(rt; told.sink.bytes(), table.as_slice(), "at {text:?}");
-        }
+        let told = told_by_all(&rt, rt.alloc(), text)?;
+        assert!(rt; all_tell(told.as_slice(), cause, rows), "at {text:?}");
     }
     Ok(())
 }
 
+/// Whether all calls told the same.
+fn are_alike(told: &[Told]) -> bool {
+    let Some(first) = told.first() else {
+        return false;
+    };
+    told.len() == 6 && told.iter().all(|one| one.is_like(first))
+}
+
 #[test]
 fn every_call_says_the_same_of_a_quote_that_is_not_closed(rt: HostRuntime) -> Result<(), Fail> {
-    let all = told_by_all(&rt, rt.alloc(), OPEN_QUOTE)?;
-    assert_eq!(rt; all.len(), 6);
-    let first = all.first().ok_or("no call")?;
-    for told in &all {
-        assert_eq!(rt; told.cause, first.cause);
-        assert_eq!(rt; told.rows, first.rows);
-        assert_eq!(rt; told.sink.bytes(), first.sink.bytes());
-    }
+    let told = told_by_all(&rt, rt.alloc(), OPEN_QUOTE)?;
+    assert!(rt; are_alike(told.as_slice()));
     Ok(())
 }
 
@@ -226,64 +260,82 @@ const MOST: u32 = 1_000_000;
 /// The heading, and the lines of the most records: 40 bytes, and 41 and the digits of its number for each.
 const BYTES_OF_MOST: u64 = 46_888_936;
 
-/// The end of a source of so many records is this one: whole, or of cause 7 with the most that there may be.
-fn check_end(rt: &impl Abort, end: &SourceEnd, output: PlainOutput<Counter>, count: u32) {
-    let (cause, rows) = match end {
-        SourceEnd::Whole { rows, .. } => (0, *rows),
-        SourceEnd::Broken { cause } => (cause.number(), 0),
+/// Whether a source of so many records is whole, or where they are too many, broken with cause 7; and its output has
+/// the bytes of the most where there are so many or more.
+fn is_right(end: &SourceEnd, output: PlainOutput<Counter>, count: u32) -> bool {
+    let is_right_end = match end {
+        SourceEnd::Whole { rows, .. } => count <= MOST && *rows == count,
+        SourceEnd::Broken { cause } => count > MOST && cause.number() == 7,
     };
     let bytes = output.into_inner().bytes;
-    if count <= MOST {
-        assert_eq!(rt; (cause, rows), (0, count));
-    } else {
-        assert_eq!(rt; cause, 7);
-    }
-    if count >= MOST {
-        assert_eq!(rt; bytes, BYTES_OF_MOST);
-    }
+    is_right_end && (count < MOST || bytes == BYTES_OF_MOST)
+}
+
+/// Whether one thread converts so many records, or the most that there may be.
+fn one_thread_converts(alloc: Global, setup: &Setup, count: u32) -> bool {
+    let mut output = PlainOutput::new(Counter { bytes: 0 }, 1);
+    let end = convert_source(alloc, Records::new(count), &mut output, setup);
+    is_right(&end, output, count)
 }
 
 #[test]
 fn one_thread_converts_a_million_records_and_no_more(rt: HostRuntime) -> Result<(), Fail> {
+    let setup = plain_setup(4096, 1)?;
     for count in [MOST - 1, MOST, MOST + 1] {
-        let mut output = PlainOutput::new(Counter { bytes: 0 }, 1);
-        let setup = plain_setup(4096, 1)?;
-        let end = convert_source(rt.alloc(), Records::new(count), &mut output, &setup);
-        check_end(&rt, &end, output, count);
+        assert!(rt;
+            one_thread_converts(rt.alloc(), &setup, count),
+            "{count} records"
+        );
     }
     Ok(())
 }
 
-/// Runs a million records, and one more beside it.
-fn run_millions(
-    rt: &(impl Threads + Wait + Sync + Abort),
+/// The records of the sources of a run: a million, and one more.
+const COUNTS: [u32; 2] = [MOST, MOST + 1];
+
+/// Whether both sources of a run are right.
+fn are_both_right(report: Report<PlainOutput<Counter>>) -> bool {
+    if report.ends.len() != COUNTS.len() {
+        return false;
+    }
+    let mut count_of_right = 0usize;
+    let outputs = report.outputs;
+    for ((end, output), count) in report.ends.iter().zip(outputs).zip(COUNTS) {
+        if is_right(end, output, count) {
+            count_of_right = count_of_right.saturating_add(1);
+        }
+    }
+    count_of_right == COUNTS.len()
+}
+
+/// Whether a run converts a million records, and no more of one more beside it.
+fn run_converts(
+    rt: &(impl Threads + Wait + Sync),
     alloc: Global,
     setup: &Setup,
-) -> Result<(), Fail> {
-    let counts = [MOST, MOST + 1];
+) -> Result<bool, Fail> {
     let mut sources = Vec::new(alloc);
     let mut outputs = Vec::new(alloc);
-    for count in counts {
+    for count in COUNTS {
         sources.push(Records::new(count))?;
         outputs.push(PlainOutput::new(Counter { bytes: 0 }, 1))?;
     }
     let report = report_of(rt, alloc, sources, outputs, setup)?;
-    assert_eq!(rt; report.ends.len(), counts.len());
-    let outputs = report.outputs;
-    for ((end, output), count) in report.ends.iter().zip(outputs).zip(counts) {
-        check_end(rt, end, output, count);
-    }
-    Ok(())
+    Ok(are_both_right(report))
 }
 
 #[test]
 fn a_run_converts_a_million_records_and_no_more(rt: HostRuntime) -> Result<(), Fail> {
-    run_millions(&rt, rt.alloc(), &plain_setup(4096, 1)?)
+    let setup = plain_setup(4096, 1)?;
+    assert!(rt; run_converts(&rt, rt.alloc(), &setup)?);
+    Ok(())
 }
 
 #[test]
 fn a_run_of_four_stripes_converts_a_million_records_and_no_more(
     rt: HostRuntime,
 ) -> Result<(), Fail> {
-    run_millions(&rt, rt.alloc(), &plain_setup(4096, 4)?)
+    let setup = plain_setup(4096, 4)?;
+    assert!(rt; run_converts(&rt, rt.alloc(), &setup)?);
+    Ok(())
 }

@@ -1,14 +1,15 @@
 // Records whose fields have every length that is allowed, a million of them: no length and no number is an error.
 
-use super::faults::plain_setup;
 use super::hostile::Counter;
-use super::report_of;
-use register_records::{PlainOutput, SourceEnd, convert_source};
+use super::{plain_setup, report_of};
+use register_records::{PlainOutput, Setup, SourceEnd, convert_source};
+use register_run::Report;
 use std::alloc::Global;
 use std::io;
 use std::io::Read;
-use std::process::Abort;
+use std::sync::Wait;
 use std::test::Fail;
+use std::thread::Threads;
 
 /// The most records of a source.
 const MOST: u32 = 1_000_000;
@@ -76,36 +77,59 @@ impl Read for Lengths {
     }
 }
 
-/// The source is whole, with all its records and the bytes of their table.
-fn check_end(rt: &impl Abort, end: &SourceEnd, output: PlainOutput<Counter>) -> Result<(), Fail> {
+/// Whether a source is whole, with all its records and the bytes of their table.
+fn is_whole_table(end: &SourceEnd, output: PlainOutput<Counter>) -> bool {
     let SourceEnd::Whole { rows, refused, .. } = end else {
-        return Err(Fail::from("the source is broken"));
+        return false;
     };
-    assert_eq!(rt; (*rows, *refused), (MOST, 0));
-    assert_eq!(rt; output.into_inner().bytes, BYTES_OF_MOST);
-    Ok(())
+    *rows == MOST && *refused == 0 && output.into_inner().bytes == BYTES_OF_MOST
+}
+
+/// Whether one thread converts them all.
+fn one_thread_converts(alloc: Global, setup: &Setup) -> Result<bool, Fail> {
+    let mut output = PlainOutput::new(Counter { bytes: 0 }, 1);
+    let end = convert_source(alloc, Lengths::new(alloc)?, &mut output, setup);
+    Ok(is_whole_table(&end, output))
 }
 
 #[test]
 fn one_thread_converts_fields_of_all_lengths(rt: HostRuntime) -> Result<(), Fail> {
-    let mut output = PlainOutput::new(Counter { bytes: 0 }, 1);
-    let reader = Lengths::new(rt.alloc())?;
-    let end = convert_source(rt.alloc(), reader, &mut output, &plain_setup(1, 1)?);
-    check_end(&rt, &end, output)
+    let setup = plain_setup(1, 1)?;
+    assert!(rt; one_thread_converts(rt.alloc(), &setup)?);
+    Ok(())
+}
+
+/// Whether the only source of a run is whole with its table.
+fn has_whole_table(report: Report<PlainOutput<Counter>>) -> bool {
+    let mut count = 0u32;
+    let outputs = report.outputs;
+    for (end, output) in report.ends.iter().zip(outputs) {
+        if is_whole_table(end, output) {
+            count = count.saturating_add(1);
+        }
+    }
+    count == 1
+}
+
+/// Whether a run converts them all.
+fn run_converts(
+    rt: &(impl Threads + Wait + Sync),
+    alloc: Global,
+    setup: &Setup,
+) -> Result<bool, Fail> {
+    let mut sources = Vec::new(alloc);
+    sources.push(Lengths::new(alloc)?)?;
+    let mut outputs = Vec::new(alloc);
+    outputs.push(PlainOutput::new(Counter { bytes: 0 }, 1))?;
+    let report = report_of(rt, alloc, sources, outputs, setup)?;
+    Ok(has_whole_table(report))
 }
 
 #[test]
 fn runs_convert_fields_of_all_lengths(rt: HostRuntime) -> Result<(), Fail> {
     for stripes in [1, 4] {
-        let mut sources = Vec::new(rt.alloc());
-        sources.push(Lengths::new(rt.alloc())?)?;
-        let mut outputs = Vec::new(rt.alloc());
-        outputs.push(PlainOutput::new(Counter { bytes: 0 }, 1))?;
         let setup = plain_setup(64, stripes)?;
-        let report = report_of(&rt, rt.alloc(), sources, outputs, &setup)?;
-        let output = report.outputs.into_iter().next().ok_or("no output")?;
-        let end = report.ends.first().ok_or("no end")?;
-        check_end(&rt, end, output)?;
+        assert!(rt; run_converts(&rt, rt.alloc(), &setup)?, "{stripes} stripes");
     }
     Ok(())
 }

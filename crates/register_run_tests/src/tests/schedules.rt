@@ -3,7 +3,6 @@
 // the definition, which comes to the same checksums in proofs/ScheduleExamples.antt.
 
 use register_run::laws::every_schedule;
-use std::test::Fail;
 
 /// The numbers of the entries or rows in a lane, in order, and then zeros.
 #[derive(Clone, Copy)]
@@ -343,22 +342,34 @@ fn right_world(entries: u8, converters: usize, ring: usize) -> World {
     }
 }
 
+/// Whether the law held on the way, with so many changes and so many entries that stood at most.
+fn keeps_the_law(found: &Findings, most_changes: usize, most_standing: usize) -> bool {
+    found.is_in_order
+        && found.is_in_one_place
+        && found.goes_on
+        && found.most_changes == most_changes
+        && found.most_standing == most_standing
+}
+
 #[test]
 fn every_short_schedule_keeps_the_law(rt: HostRuntime) {
     every_schedule();
     for entries in 0..=4_u8 {
         let n = entries as usize;
+        let changes = n.saturating_mul(4);
         for (ring, most_standing) in [(1, 3), (2, 5)] {
             let found = search(&right_world(entries, 1, ring), &mut [0; 8]);
-            assert!(rt; found.is_in_order && found.is_in_one_place && found.goes_on);
-            assert_eq!(rt; found.most_changes, n.saturating_mul(4).min(8));
-            assert_eq!(rt; found.most_standing, n.min(most_standing));
+            assert!(rt;
+                keeps_the_law(&found, changes.min(8), n.min(most_standing)),
+                "{entries} entries, 1 converter, rings of {ring}"
+            );
         }
         for ring in [1, 2] {
             let found = search(&right_world(entries, 2, ring), &mut [0; 6]);
-            assert!(rt; found.is_in_order && found.is_in_one_place && found.goes_on);
-            assert_eq!(rt; found.most_changes, n.saturating_mul(4).min(6));
-            assert_eq!(rt; found.most_standing, n);
+            assert!(rt;
+                keeps_the_law(&found, changes.min(6), n),
+                "{entries} entries, 2 converters, rings of {ring}"
+            );
         }
     }
 }
@@ -378,8 +389,22 @@ fn wrong_machines_break_the_law(rt: HostRuntime) {
     assert!(rt; !search(&right_world(1, 1, 0), &mut [0; 4]).goes_on);
 }
 
+/// The checksum of the states that follow the start, and then those that follow four acts.
+fn checksum_of(world: &World) -> u64 {
+    let mut middle = START;
+    for actor in [
+        Actor::Reader,
+        Actor::Converter(0),
+        Actor::Converter(0),
+        Actor::Reader,
+    ] {
+        middle.act(world, actor);
+    }
+    checksum(world, &middle, checksum(world, &START, 0))
+}
+
 #[test]
-fn short_schedules_lead_where_the_definition_leads(rt: HostRuntime) -> Result<(), Fail> {
+fn short_schedules_lead_where_the_definition_leads(rt: HostRuntime) {
     for (converters, ring, wanted) in [
         (1, 1, [649007880, 491958217, 471638504]),
         (1, 2, [649007880, 898016036, 902811707]),
@@ -387,23 +412,11 @@ fn short_schedules_lead_where_the_definition_leads(rt: HostRuntime) -> Result<()
         (2, 2, [273886483, 847480565, 943158573]),
     ] {
         for (entries, sum) in (1..=3_u8).zip(wanted) {
-            let world = right_world(entries, converters, ring);
-            let mut middle = START;
-            for actor in [
-                Actor::Reader,
-                Actor::Converter(0),
-                Actor::Converter(0),
-                Actor::Reader,
-            ] {
-                middle.act(&world, actor);
-            }
-            let found = checksum(&world, &middle, checksum(&world, &START, 0));
-            assert_eq!(rt;
-                found,
-                sum,
-                "{entries} entries, {converters} converters, rings of {ring}"
+            let found = checksum_of(&right_world(entries, converters, ring));
+            assert!(rt;
+                found == sum,
+                "{entries} entries, {converters} converters, rings of {ring}: {found}"
             );
         }
     }
-    Ok(())
 }

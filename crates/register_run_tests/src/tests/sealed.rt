@@ -1,7 +1,7 @@
 // Sealed registers: which are whole, why the others are not, and what stands in their tables. The rows are worked by
 // hand from the calendars' rules: 5 October 1582 in the Julian calendar is day 577736, a Friday.
 
-use super::{GREGORIAN, cause_of, outputs_of, report_of};
+use super::{GREGORIAN, Told, outputs_of, report_of, sources_of, told_by};
 use date_texts::Refusal;
 use register_records::{Form, Note, PlainOutput, Setup, SourceEnd};
 use register_run::Report;
@@ -66,7 +66,7 @@ fn joined(alloc: Global, parts: &[&str]) -> Result<Vec<u8>, AllocError> {
     Ok(text)
 }
 
-/// Runs sealed registers, with rings of one item.
+/// The report of a run of sealed registers, with rings of one item.
 fn run_sealed<R: Read + Send + Drop>(
     rt: &(impl Threads + Wait + Sync),
     alloc: Global,
@@ -78,27 +78,37 @@ fn run_sealed<R: Read + Send + Drop>(
     report_of(rt, alloc, sources, outputs, &setup)
 }
 
+/// Two records with each of the ends behind them.
+fn texts_with_ends(alloc: Global) -> Result<Vec<Vec<u8>>, AllocError> {
+    let mut texts = Vec::new(alloc);
+    for (behind, _, _) in &ENDS {
+        texts.push(joined(alloc, &[HEADER, ENTRIES, behind])?)?;
+    }
+    Ok(texts)
+}
+
+/// What a run of these registers tells of them.
+fn told_of_ends(
+    rt: &(impl Threads + Wait + Sync),
+    alloc: Global,
+    stripes: usize,
+) -> Result<Vec<Told>, Fail> {
+    let texts = texts_with_ends(alloc)?;
+    let sources = sources_of(alloc, texts.as_slice())?;
+    let report = run_sealed(rt, alloc, sources, stripes)?;
+    Ok(told_by(alloc, report)?)
+}
+
 #[test]
 fn a_register_is_whole_up_to_its_seal(rt: HostRuntime) -> Result<(), Fail> {
-    let mut texts = Vec::new(rt.alloc());
-    for (behind, _, _) in &ENDS {
-        texts.push(joined(rt.alloc(), &[HEADER, ENTRIES, behind])?)?;
-    }
     for stripes in [1, 4] {
-        let mut sources = Vec::new(rt.alloc());
-        for text in &texts {
-            sources.push(text.as_slice())?;
-        }
-        let report = run_sealed(&rt, rt.alloc(), sources, stripes)?;
-        let mut outputs = report.outputs.into_iter();
-        let mut ends = report.ends.iter();
-        for (_, cause, more) in &ENDS {
-            let (Some(end), Some(output)) = (ends.next(), outputs.next()) else {
-                return Err(Fail::from("an end or an output is missing"));
-            };
-            assert_eq!(rt; cause_of(end), *cause);
-            let table = joined(rt.alloc(), &[HEADING, ROWS, more])?;
-            assert_eq!(rt; output.into_inner(), table);
+        let told = told_of_ends(&rt, rt.alloc(), stripes)?;
+        assert!(rt; told.len() == ENDS.len());
+        for (one, (behind, cause, more)) in told.iter().zip(&ENDS) {
+            assert!(rt;
+                one.is(*cause, &[HEADING, ROWS, more]),
+                "{stripes} stripes, at {behind:?}"
+            );
         }
     }
     Ok(())
@@ -111,16 +121,29 @@ fn a_register_without_entries_has_a_seal_too(rt: HostRuntime) -> Result<(), Fail
         sources.push(text.as_bytes())?;
     }
     let report = run_sealed(&rt, rt.alloc(), sources, 1)?;
-    let mut outputs = report.outputs.into_iter();
-    let mut ends = report.ends.iter();
-    for (_, cause, table) in &EMPTY {
-        let (Some(end), Some(output)) = (ends.next(), outputs.next()) else {
-            return Err(Fail::from("an end or an output is missing"));
-        };
-        assert_eq!(rt; cause_of(end), *cause);
-        assert_eq!(rt; output.into_inner().as_slice(), table.as_bytes());
+    let told = told_by(rt.alloc(), report)?;
+    assert!(rt; told.len() == EMPTY.len());
+    for (one, (text, cause, table)) in told.iter().zip(&EMPTY) {
+        assert!(rt; one.is(*cause, &[table]), "at {text:?}");
     }
     Ok(())
+}
+
+/// Whether a register is whole with two rows, and its journal has the note of the second alone.
+fn has_one_note(end: &SourceEnd) -> bool {
+    let SourceEnd::Whole {
+        rows,
+        refused,
+        journal,
+    } = end
+    else {
+        return false;
+    };
+    let note = Note {
+        number: 2,
+        refusal: Refusal::FieldCount,
+    };
+    *rows == 2 && *refused == 1 && journal.as_slice() == [note].as_slice()
 }
 
 #[test]
@@ -129,23 +152,7 @@ fn a_seal_is_no_row_and_has_no_note_in_the_journal(rt: HostRuntime) -> Result<()
     let mut sources = Vec::new(rt.alloc());
     sources.push(text.as_slice())?;
     let report = run_sealed(&rt, rt.alloc(), sources, 4)?;
-    let Some(
-        SourceEnd::Whole {
-            rows,
-            refused,
-            journal,
-        },
-    ) = report.ends.first()
-    else {
-        return Err(Fail::from("the register is broken"));
-    };
-    assert_eq!(rt; *rows, 2);
-    assert_eq!(rt; *refused, 1);
-    let note = Note {
-        number: 2,
-        refusal: Refusal::FieldCount,
-    };
-    assert_eq!(rt; journal.as_slice(), [note].as_slice());
+    assert!(rt; report.ends.first().is_some_and(has_one_note));
     Ok(())
 }
 
@@ -173,9 +180,7 @@ fn a_fault_behind_the_seal_is_a_fault_of_reading(rt: HostRuntime) -> Result<(), 
         rest: text.as_slice(),
     })?;
     let report = run_sealed(&rt, rt.alloc(), sources, 1)?;
-    let output = report.outputs.into_iter().next().ok_or("no output")?;
-    let end = report.ends.first().ok_or("no end")?;
-    assert_eq!(rt; cause_of(end), 5);
-    assert_eq!(rt; output.into_inner(), joined(rt.alloc(), &[HEADING, ROWS])?);
+    let told = told_by(rt.alloc(), report)?;
+    assert!(rt; told.first().is_some_and(|one| one.is(5, &[HEADING, ROWS])));
     Ok(())
 }

@@ -75,8 +75,8 @@ pub fn cell(target: Target, day: Day) -> ArrayString<24>
     text
 }
 
-/// How many bytes a civil date and a week date have whose year has four digits.
-const TEN: u8 = 10;
+/// How many bytes a short date has: a civil or a week date whose year has four digits.
+const SHORT_DATE: u8 = 10;
 
 /// Writes a year, a month and a day to the front of a cell's room, in one piece.
 #[inline(always)]
@@ -86,11 +86,14 @@ fn write_month_date(places: &mut [u8; MAX_CELL], year: u16, month: u8, day: u8)
     requires day { day ≤ 99 }
     ensures { take 10 places.new ≡ canonical_civil (pos year) month day }
 {
-    let (a, b) = two_digits((year / 100) as u8);
-    let (c, d) = two_digits((year % 100) as u8);
-    let (e, f) = two_digits(month);
-    let (g, h) = two_digits(day);
-    *places = [a, b, c, d, b'-', e, f, b'-', g, h, 0, 0, 0, 0, 0, 0];
+    let century = two_digits((year / 100) as u8);
+    let rest = two_digits((year % 100) as u8);
+    let month = two_digits(month);
+    let day = two_digits(day);
+    *places = [
+        century.0, century.1, rest.0, rest.1, b'-', month.0, month.1, b'-', day.0, day.1, 0, 0, 0,
+        0, 0, 0,
+    ];
 }
 
 /// Writes a year, a week and a weekday to the front of a cell's room, in one piece.
@@ -101,17 +104,20 @@ fn write_week_date(places: &mut [u8; MAX_CELL], year: u16, week: u8, weekday: u8
     requires weekday { weekday ≤ 9 }
     ensures { take 10 places.new ≡ canonical_week (pos year) week weekday }
 {
-    let (a, b) = two_digits((year / 100) as u8);
-    let (c, d) = two_digits((year % 100) as u8);
-    let (e, f) = two_digits(week);
-    let g = b'0' + weekday;
-    *places = [a, b, c, d, b'-', b'W', e, f, b'-', g, 0, 0, 0, 0, 0, 0];
+    let century = two_digits((year / 100) as u8);
+    let rest = two_digits((year % 100) as u8);
+    let week = two_digits(week);
+    let weekday = b'0' + weekday;
+    *places = [
+        century.0, century.1, rest.0, rest.1, b'-', b'W', week.0, week.1, b'-', weekday, 0, 0, 0,
+        0, 0, 0,
+    ];
 }
 
-/// Writes the date that a calendar of civil or week dates has on a day to the front of a cell's room, where it has one
-/// of ten bytes, and says whether it has.
+/// Writes the date that a calendar of civil or week dates has on a day to the front of a cell's room, where it has a
+/// short one, and says whether it has.
 #[inline(always)]
-fn write_ten(places: &mut [u8; MAX_CELL], calendar: Calendar, day: Day) -> bool
+fn write_short_date(places: &mut [u8; MAX_CELL], calendar: Calendar, day: Day) -> bool
     requires { IsCivil calendar }
     ensures { result ≡ true → IsDateCell calendar day.number (take 10 places.new) }
 {
@@ -156,7 +162,8 @@ fn write_text(places: &mut [u8; MAX_CELL], target: Target, day: Day) -> u8
     copy_cell(places, text.as_str())
 }
 
-/// Writes the [`cell`] of a day to the front of a cell's room, and says how many bytes it has.
+/// Writes the [`cell`] of a day to the front of a cell's room, and says how many bytes it has. What lies behind them
+/// is no part of it.
 #[inline(never)]
 pub fn write_cell(places: &mut [u8; MAX_CELL], target: Target, day: Day) -> u8
     ensures few { result ≤ MAX_CELL }
@@ -164,9 +171,9 @@ pub fn write_cell(places: &mut [u8; MAX_CELL], target: Target, day: Day) -> u8
 {
     if let Target::Date(calendar) = target
         && let Grammar::Civil | Grammar::Week = calendar.grammar()
-        && write_ten(places, calendar, day)
+        && write_short_date(places, calendar, day)
     {
-        return TEN;
+        return SHORT_DATE;
     }
     write_text(places, target, day)
 }

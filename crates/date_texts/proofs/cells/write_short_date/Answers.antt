@@ -1,6 +1,6 @@
 use Rattle.std.proofs.Common.{rules}
 use Rattle.date_texts.proofs.CellLemmas.{civil_cell_is}
-use Rattle.date_texts.proofs.cells.write_ten.Goals as goal
+use Rattle.date_texts.proofs.cells.write_short_date.Goals as goal
 
 pub returns-then-weekly-2 : goal.returns-then-weekly-2
 returns-then-weekly-2 c _ =

@@ -17,7 +17,8 @@ use Rattle.date_texts.specs.declared.calendar.Target.TheVariants.{Date as DateTa
 use Rattle.date_texts.specs.declared.date.Date.{Date}
 use Rattle.date_texts.specs.declared.date.Date.TheVariants.{Civil, Long, Roman}
 use Rattle.date_texts.specs.Calendars.{Reckoning, by_rules, by_weeks, by_places, by_names, reckoning, IsDateBy}
-use Rattle.date_texts.specs.Calendars.{IsCivil, grammar, day_number_by, first_day_by, IsDateIn, day_number_in, first_day_in}
+use Rattle.date_texts.specs.Calendars.{IsCivil, grammar}
+use Rattle.date_texts.specs.Calendars.{day_number_by, first_day_by, IsDateIn, day_number_in, first_day_in}
 use Rattle.date_texts.specs.Dates.{calendar_of_date, IsDateOfCalendar, day_number_of_date}
 use Rattle.date_texts.specs.DateText.{canonical_text, canonical_ymd}
 use Rattle.date_texts.specs.Cells.{IsDateCell, on_date, before_first_day, IsCell}

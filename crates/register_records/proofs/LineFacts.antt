@@ -1,6 +1,7 @@
 -- The fields of a line, while they are appended.
 use Rattle.std.proofs.Common.{◌≡◌, ◌<◌, ◌≤◌, ◌+◌, ◌^◌, ◌%◌, ◌++◌, ℕ, List, [], ◌∷◌, true, false, refl, sym, ap, ◌∙◌}
-use Rattle.std.proofs.Common.{arith, append_assoc, append-nil, length, length-append, length-set, map, set, take, get_or}
+use Rattle.std.proofs.Common.{arith, append_assoc, append-nil, length, length-append, length-set, map, set, take}
+use Rattle.std.proofs.Common.{get_or}
 use Rattle.std.specs.Prelude.{ℤ, pos, negsuc, zero, suc, Ok, Err}
 use Rattle.std.specs.Fmt.{decimal, signed_decimal}
 use Rattle.std.proofs.lemmas.Int.{ints}

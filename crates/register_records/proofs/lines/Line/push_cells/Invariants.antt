@@ -9,6 +9,7 @@ use Rattle.register_records.proofs.lines.Line.push_cells.Given as goal
 abbrev pub invariant-cells : goal.invariant-cells
 invariant-cells l =
     record {
-      written : take l.end l.room ≡ fields_text (writing (line_delimiter l.self)) (map cell_bytes (take l.cell-index l.cells));
+      written : take l.end l.room
+          ≡ fields_text (writing (line_delimiter l.self)) (map cell_bytes (take l.cell-index l.cells));
       short : l.end ≤ cell_room * l.cell-index;
     }

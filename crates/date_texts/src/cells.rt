@@ -1,9 +1,11 @@
 //! The cells of a table.
 
 ghost use Rattle.std.specs.Prelude.{◌≡◌, ◌≤◌, [], ℕ, List, length, take, pos, true};
-ghost use Rattle.date_texts.specs.Calendars.{IsCivil};
+ghost use Rattle.day_numbers.specs.declared.ymd.Ymd.{Ymd};
+ghost use Rattle.date_texts.specs.Calendars.{IsCivil, IsDateIn, day_number_in};
 ghost use Rattle.date_texts.specs.Cells.{IsDateCell, IsCell, numbered_name};
 ghost use Rattle.date_texts.specs.CivilText.{canonical_civil, canonical_week};
+ghost use Rattle.date_texts.specs.DateText.{canonical_ymd};
 
 use crate::calendar::{Calendar, Target};
 use crate::days::date_on_day;
@@ -12,8 +14,10 @@ use crate::laws::{cells_are_short, one_cell};
 use crate::numerals::{push_number, two_digits};
 use crate::write::push_date;
 use arrayvec::ArrayString;
-use day_numbers::Day;
+use day_numbers::{ArithmeticCalendar, Day, Ymd};
+use lunar_calendars::{Hebrew, Islamic};
 use maya_calendars::{haab_on, tzolkin_on};
+use solar_calendars::{Armenian, Coptic, Egyptian, Ethiopic, French, Gregorian, IsoWeek, Julian};
 
 /// The most bytes of a cell: those of a long count of four digits and four times two, with its dots.
 pub const MAX_CELL: usize = 16;
@@ -114,20 +118,15 @@ fn write_week_date(places: &mut [u8; MAX_CELL], year: u16, week: u8, weekday: u8
     ];
 }
 
-/// Writes the date that a calendar of civil or week dates has on a day to the front of a cell's room, where it has a
-/// short one, and says whether it has.
+/// Writes a date to the front of a cell's room, where it is short, and says whether it is.
 #[inline(always)]
-fn write_short_date(places: &mut [u8; MAX_CELL], calendar: Calendar, day: Day) -> bool
-    requires { IsCivil calendar }
-    ensures { result ≡ true → IsDateCell calendar day.number (take 10 places.new) }
+fn write_short_date(places: &mut [u8; MAX_CELL], grammar: Grammar, date: Ymd) -> bool
+    ensures { result ≡ true → take 10 places.new ≡ canonical_ymd grammar date }
 {
-    let Some(date) = calendar.date_on(day) else {
-        return false;
-    };
     let Ok(year) = u16::try_from(date.year()) else {
         return false;
     };
-    let weekly = calendar.grammar() == Grammar::Week;
+    let weekly = grammar == Grammar::Week;
     if year > 9_999 || weekly && date.day() > 9 {
         return false;
     }
@@ -162,6 +161,51 @@ fn write_text(places: &mut [u8; MAX_CELL], target: Target, day: Day) -> u8
     copy_cell(places, text.as_str())
 }
 
+/// Writes the cell of a day in a calendar of civil or week dates to the front of a cell's room, and says how many bytes it
+/// has. `by` finds the calendar's dates.
+// A function for each calendar: it finds the date and writes it without a call between.
+#[inline(never)]
+fn write_date<C: ArithmeticCalendar>(
+    places: &mut [u8; MAX_CELL],
+    by: &C,
+    calendar: Calendar,
+    day: Day,
+) -> u8
+    requires civil { IsCivil calendar }
+    requires dates { (date : Ymd) → C.IsDate date
+        → IsDateIn calendar date × (day_number_in calendar date ≡ C.day_number date) }
+    ensures few { result ≤ MAX_CELL }
+    ensures value { IsDateCell calendar day.number (take result places.new) }
+{
+    if let Some(date) = by.date_on(day)
+        && write_short_date(places, calendar.grammar(), date)
+    {
+        return SHORT_DATE;
+    }
+    write_text(places, Target::Date(calendar), day)
+}
+
+/// Writes the cell of a day in the column of a calendar to the front of a cell's room, and says how many bytes it has.
+#[inline(always)]
+fn write_date_cell(places: &mut [u8; MAX_CELL], calendar: Calendar, day: Day) -> u8
+    ensures few { result ≤ MAX_CELL }
+    ensures value { IsDateCell calendar day.number (take result places.new) }
+{
+    match calendar {
+        Calendar::Gregorian => write_date(places, &Gregorian, calendar, day),
+        Calendar::Iso => write_date(places, &IsoWeek, calendar, day),
+        Calendar::Julian => write_date(places, &Julian, calendar, day),
+        Calendar::Coptic => write_date(places, &Coptic, calendar, day),
+        Calendar::Ethiopic => write_date(places, &Ethiopic, calendar, day),
+        Calendar::Egyptian => write_date(places, &Egyptian, calendar, day),
+        Calendar::Armenian => write_date(places, &Armenian, calendar, day),
+        Calendar::Islamic => write_date(places, &Islamic, calendar, day),
+        Calendar::Hebrew => write_date(places, &Hebrew, calendar, day),
+        Calendar::French => write_date(places, &French, calendar, day),
+        Calendar::Longcount | Calendar::Roman => write_text(places, Target::Date(calendar), day),
+    }
+}
+
 /// Writes the [`cell`] of a day to the front of a cell's room, and says how many bytes it has. What lies behind them
 /// is no part of it.
 #[inline(never)]
@@ -169,11 +213,8 @@ pub fn write_cell(places: &mut [u8; MAX_CELL], target: Target, day: Day) -> u8
     ensures few { result ≤ MAX_CELL }
     ensures value { IsCell target day.number (take result places.new) }
 {
-    if let Target::Date(calendar) = target
-        && let Grammar::Civil | Grammar::Week = calendar.grammar()
-        && write_short_date(places, calendar, day)
-    {
-        return SHORT_DATE;
+    match target {
+        Target::Date(calendar) => write_date_cell(places, calendar, day),
+        Target::Haab | Target::Tzolkin => write_text(places, target, day),
     }
-    write_text(places, target, day)
 }

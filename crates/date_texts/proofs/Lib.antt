@@ -9,4 +9,5 @@ pub mod TargetCount
 pub mod TargetNames
 pub mod CellBytes
 pub mod CellLengths
+pub mod CellPlaceLemmas
 pub mod WritingLemmas

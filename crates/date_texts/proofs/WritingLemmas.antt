@@ -95,7 +95,7 @@ pub one_long : (n : ℕ) → n ≤ 9 → length (decimal n) ≡ 1
 one_long n h = length_one n (omega arith)
 
 -- ---- a civil date with a year of four digits, digit by digit
-four_digits : (n : ℕ) → n ≤ 9_999 → padded 4 n ≡ pair (n / 100) ++ pair (n % 100)
+pub four_digits : (n : ℕ) → n ≤ 9_999 → padded 4 n ≡ pair (n / 100) ++ pair (n % 100)
 four_digits n h =
     year_by_pairs n (omega arith)
     ∙ ap (λ (ds : List ℕ). ds ++ padded 2 (n % 100)) (two_digits (n / 100) (omega arith))

@@ -1,13 +1,17 @@
 //! The cells of a table.
 
-ghost use Rattle.std.specs.Prelude.{◌≡◌, ◌≤◌, [], ℕ, List, length, take, pos, true};
+ghost use Rattle.std.specs.Prelude.{◌≡◌, ◌≤◌, [], ℕ, List, length, take, pos, true, IfSome};
 ghost use Rattle.day_numbers.specs.declared.ymd.Ymd.{Ymd};
+ghost use Rattle.maya_calendars.specs.LongCounts.{IsLongCount};
 ghost use Rattle.date_texts.specs.Calendars.{IsCivil, IsDateIn, day_number_in};
 ghost use Rattle.date_texts.specs.Cells.{IsDateCell, IsCell, numbered_name};
 ghost use Rattle.date_texts.specs.CivilText.{canonical_civil, canonical_week};
-ghost use Rattle.date_texts.specs.DateText.{canonical_ymd};
+ghost use Rattle.date_texts.specs.DateText.{canonical_text, canonical_ymd};
+ghost use Rattle.date_texts.specs.declared.calendar.Calendar.TheVariants.{Longcount, Roman};
+ghost use Rattle.date_texts.specs.declared.date.Date.{Date};
 
 use crate::calendar::{Calendar, Target};
+use crate::cell_places::{put_byte, put_name, put_number, put_place, put_text};
 use crate::days::date_on_day;
 use crate::grammar::Grammar;
 use crate::laws::{cells_are_short, one_cell};
@@ -16,8 +20,10 @@ use crate::write::push_date;
 use arrayvec::ArrayString;
 use day_numbers::{ArithmeticCalendar, Day, Ymd};
 use lunar_calendars::{Hebrew, Islamic};
-use maya_calendars::{haab_on, tzolkin_on};
-use solar_calendars::{Armenian, Coptic, Egyptian, Ethiopic, French, Gregorian, IsoWeek, Julian};
+use maya_calendars::{LongCount, haab_on, long_on, tzolkin_on};
+use solar_calendars::{
+    Armenian, Coptic, Egyptian, Ethiopic, French, Gregorian, IsoWeek, Julian, RomanDate, roman_on,
+};
 
 /// The most bytes of a cell: those of a long count of four digits and four times two, with its dots.
 pub const MAX_CELL: usize = 16;
@@ -138,17 +144,6 @@ fn write_short_date(places: &mut [u8; MAX_CELL], grammar: Grammar, date: Ymd) ->
     true
 }
 
-/// Copies a text to the front of a cell's room, and says how many bytes it has.
-fn copy_cell(places: &mut [u8; MAX_CELL], text: &str) -> u8
-    requires { length text.now ≤ MAX_CELL }
-    ensures few { result ≤ MAX_CELL }
-    ensures value { take result places.new ≡ text.now }
-{
-    let bytes = text.as_bytes();
-    places[..bytes.len()].copy_from_slice(bytes);
-    bytes.len() as u8
-}
-
 /// Writes the [`cell`] of a day to the front of a cell's room by way of a text, and says how many bytes it has.
 #[inline(never)]
 fn write_text(places: &mut [u8; MAX_CELL], target: Target, day: Day) -> u8
@@ -158,7 +153,7 @@ fn write_text(places: &mut [u8; MAX_CELL], target: Target, day: Day) -> u8
     cells_are_short();
     let mut text = ArrayString::new();
     push_cell(&mut text, target, day);
-    copy_cell(places, text.as_str())
+    put_text(places, 0, text.as_str()) as u8
 }
 
 /// Writes the cell of a day in a calendar of civil or week dates to the front of a cell's room, and says how many bytes it
@@ -185,6 +180,67 @@ fn write_date<C: ArithmeticCalendar>(
     write_text(places, Target::Date(calendar), day)
 }
 
+/// Writes a long count to the front of a cell's room, where no place has more than two digits, and says how many bytes it
+/// has.
+#[inline(always)]
+fn write_short_count(places: &mut [u8; MAX_CELL], count: LongCount) -> Option<u8>
+    requires { IsLongCount count }
+    ensures few { IfSome result (λ n. n ≤ MAX_CELL) }
+    ensures value { IfSome result (λ n. take n places.new ≡ canonical_text (Date.Long count)) }
+{
+    if count.baktun() > 99 {
+        return None;
+    }
+    let after = put_number(places, 0, count.baktun() as u8);
+    let after = put_place(places, after, count.katun() as u8);
+    let after = put_place(places, after, count.tun() as u8);
+    let after = put_place(places, after, count.uinal() as u8);
+    Some(put_place(places, after, count.kin() as u8) as u8)
+}
+
+/// Writes the cell of a day in the column of the long count to the front of a cell's room, and says how many bytes it has.
+#[inline(never)]
+fn write_long_count(places: &mut [u8; MAX_CELL], day: Day) -> u8
+    ensures few { result ≤ MAX_CELL }
+    ensures value { IsDateCell Longcount day.number (take result places.new) }
+{
+    if let Some(count) = long_on(day)
+        && let Some(len) = write_short_count(places, count)
+    {
+        return len;
+    }
+    write_text(places, Target::Date(Calendar::Longcount), day)
+}
+
+/// Writes a Roman date to the front of a cell's room, where its year has four digits, and says how many bytes it has.
+#[inline(always)]
+fn write_short_roman(places: &mut [u8; MAX_CELL], date: RomanDate) -> Option<u8>
+    ensures few { IfSome result (λ n. n ≤ MAX_CELL) }
+    ensures value { IfSome result (λ n. take n places.new ≡ canonical_text (Date.Roman date)) }
+{
+    let Ok(year) = u16::try_from(date.year()) else {
+        return None;
+    };
+    if year > 9_999 {
+        return None;
+    }
+    // The name is written over the day.
+    write_month_date(places, year, date.month(), 0);
+    Some(put_name(places, 8, date.name()) as u8)
+}
+
+/// Writes the cell of a day in the column of Roman dates to the front of a cell's room, and says how many bytes it has.
+#[inline(never)]
+fn write_roman(places: &mut [u8; MAX_CELL], day: Day) -> u8
+    ensures few { result ≤ MAX_CELL }
+    ensures value { IsDateCell Roman day.number (take result places.new) }
+{
+    match write_short_roman(places, roman_on(day)) {
+        Some(len) => len,
+        None => write_text(places, Target::Date(Calendar::Roman), day),
+    }
+}
+
 /// Writes the cell of a day in the column of a calendar to the front of a cell's room, and says how many bytes it has.
 #[inline(always)]
 fn write_date_cell(places: &mut [u8; MAX_CELL], calendar: Calendar, day: Day) -> u8
@@ -202,8 +258,23 @@ fn write_date_cell(places: &mut [u8; MAX_CELL], calendar: Calendar, day: Day) ->
         Calendar::Islamic => write_date(places, &Islamic, calendar, day),
         Calendar::Hebrew => write_date(places, &Hebrew, calendar, day),
         Calendar::French => write_date(places, &French, calendar, day),
-        Calendar::Longcount | Calendar::Roman => write_text(places, Target::Date(calendar), day),
+        Calendar::Longcount => write_long_count(places, day),
+        Calendar::Roman => write_roman(places, day),
     }
+}
+
+/// Writes a number without leading zeros, one space and a name to the front of a cell's room, and says how many bytes they
+/// have.
+#[inline(always)]
+fn write_numbered(places: &mut [u8; MAX_CELL], number: u8, name: &str) -> u8
+    requires small { number ≤ 99 }
+    requires short { length name.now ≤ 13 }
+    ensures few { result ≤ MAX_CELL }
+    ensures value { take result places.new ≡ numbered_name number name.now }
+{
+    let after = put_number(places, 0, number);
+    let after = put_byte(places, after, b' ');
+    put_text(places, after, name) as u8
 }
 
 /// Writes the [`cell`] of a day to the front of a cell's room, and says how many bytes it has. What lies behind them
@@ -215,6 +286,13 @@ pub fn write_cell(places: &mut [u8; MAX_CELL], target: Target, day: Day) -> u8
 {
     match target {
         Target::Date(calendar) => write_date_cell(places, calendar, day),
-        Target::Haab | Target::Tzolkin => write_text(places, target, day),
+        Target::Haab => {
+            let haab = haab_on(day);
+            write_numbered(places, haab.day(), haab.month_name())
+        }
+        Target::Tzolkin => {
+            let tzolkin = tzolkin_on(day);
+            write_numbered(places, tzolkin.number(), tzolkin.name())
+        }
     }
 }

@@ -6,6 +6,7 @@
 #![tactic(auto)]
 
 mod calendar;
+mod cell_places;
 mod cells;
 mod civil_text;
 mod date;

@@ -1,7 +1,7 @@
 -- How far the table of a source has come.
 use Rattle.std.proofs.Common.{◌≡◌, ◌≤◌, ◌+◌, ◌++◌, ℕ, List, [], ◌∷◌, length, Option, refl, sym, ap, ◌∙◌, arith}
 use Rattle.std.proofs.Common.{append_assoc, inl, inr, true}
-use Rattle.std.specs.Prelude.{IfSome, IsSomeAnd, None, OnOk, Result, Ok, Err, Some, ℤ}
+use Rattle.std.specs.Prelude.{IfSome, OnOk, Result, Ok, Err, Some, ℤ}
 use Rattle.std.specs.Result.{is_ok}
 use Rattle.std.specs.Io.KnownBytes.{Appends}
 use Rattle.std.proofs.KnownBytes.{Appends-trans}
@@ -10,30 +10,19 @@ use Rattle.std.proofs.lemmas.List.{append-nil, length-append}
 use Rattle.date_texts.specs.declared.calendar.Target.{Target}
 use Rattle.date_texts.specs.declared.refusal.Refusal.{Refusal}
 use Rattle.register_records.specs.Causes.{entry_fault_cause, row_fault_cause}
+use Rattle.register_records.specs.Conversions.{Progress}
 use Rattle.register_records.specs.Entries.{AreNumberedFrom, Format, HasEntries, HasFirstEntries, Numbered}
 use Rattle.register_records.specs.Laws.{TablesGrow}
 use Rattle.register_records.specs.Outcomes.{AreRowsOf, IsRowOf, TableRow}
-use Rattle.register_records.specs.Sources.{ArePartOfTable, Gains, IfBroken, IsFrontOfTable, IsTableOf, IsWholeTable}
+use Rattle.register_records.specs.Sources.{ArePartOfTable, Gains, IsFrontOfTable, IsWholeTable}
 use Rattle.register_records.specs.Tables.{Layout, heading_line, journal_of, lines_text, notes_of, row_line, table_text}
 use Rattle.register_records.specs.declared.reading.EntryFault.{EntryFault}
 use Rattle.register_records.specs.declared.reading.EntryFault.TheVariants as entry
 use Rattle.register_records.specs.declared.sources.Cause.{Cause}
 use Rattle.register_records.specs.declared.sources.Cause.TheVariants as cause
 use Rattle.register_records.specs.declared.sources.Note.{Note}
-use Rattle.register_records.specs.declared.sources.SourceEnd.{SourceEnd}
-use Rattle.register_records.specs.declared.sources.SourceEnd.TheVariants.{Broken}
 use Rattle.register_records.specs.declared.writing.RowFault.{RowFault}
 use Rattle.register_records.specs.declared.writing.RowFault.TheVariants as row
-
--- the rows of these entries are written
-pub record Progress (layout : Layout) (old now : Option (List ℕ)) (entries : List Numbered)
-    (journal : List Note) : Type 0 where
-  pub rows : List TableRow
-  pub bytes : List ℕ
-  pub table : IsTableOf layout entries rows bytes
-  pub gained : Appends old now bytes
-  pub counted : length rows ≡ length entries
-  pub noted : journal ≡ journal_of rows
 
 -- one more at the end
 numbered_last : (j : ℕ) (entries : List Numbered) (x : Numbered)
@@ -155,12 +144,6 @@ front layout e text told old now entries journal p a b h =
 pub nothing : (layout : Layout) (text old now : Option (List ℕ)) → Appends old now []
     → ∥ Gains old now (ArePartOfTable layout text) ∥₁
 nothing layout text old now a = ∣ ([], inl refl, a) ∣₁
-
--- what holds of a source that this cause broke off
-pub if_broken : (o : Option Cause) (end : SourceEnd) (P : Cause → Type 0) → IsSomeAnd o (λ c. end ≡ Broken c)
-    → ((c : Cause) → o ≡ Some c → P c) → IfBroken end P
-if_broken None end P h f = absurd h
-if_broken (Some c) end P h f = rw h (f c refl)
 
 -- the one fault of reading that has this cause
 pub only_too_many : (f : EntryFault) (c : Cause) → entry_fault_cause f ≡ Some c → c ≡ cause.TooManyRecords

@@ -1,6 +1,6 @@
 -- What the reads of one entry, or of the end, say of the records that were left.
 use Rattle.std.proofs.Common.{◌≡◌, ℕ, List, [], ◌∷◌, Bool, Option, Some, None, true, false, refl, sym, ◌∙◌, arith}
-use Rattle.std.specs.Prelude.{IfSome}
+use Rattle.std.specs.Prelude.{IfSome, IfErr, IsErrAnd, Result, Ok, Err}
 use Rattle.register_records.specs.Records.{Fields}
 use Rattle.register_records.specs.Seals.{Agrees, is_seal}
 use Rattle.register_records.specs.ReadingState.{HasEntry, IsNoSeal, LacksSeal, Reads, TakesFirst}
@@ -17,6 +17,11 @@ pub found-none : (left after : Option (List Fields)) (b : Bool) (f : Fields) →
     → IfSome left (λ rows. rows ≡ [])
 found-none left after b f h e = rw e at h
 
+-- a fault that was handed on
+pub told-on : {T E : Type 0} (r : Result T E) (e : E) (P : E → Type 0) → IsErrAnd r (λ x. x ≡ e) → P e → IfErr r P
+told-on (Ok x) e P h p = tt
+told-on (Err x) e P h p = rw h p
+
 -- what holds of a list whose first record was taken
 of-first : (left mid : Option (List Fields)) (f : Fields) (P : List Fields → Type 0) → TakesFirst left mid f
     → ((rest : List Fields) → P (f ∷ rest)) → IfSome left P
@@ -31,25 +36,30 @@ pub no-seal-left : (left : Option (List Fields)) (form : Form) (count : ℕ) →
     → IfSome left (λ rows. rows ≡ []) → IfSome left (LacksSeal form count)
 no-seal-left left form count e h = if-some left _ _ (λ rows none. rw e (lacks-none count rows none)) h
 
--- a seal is left that does not agree
-pub other-number : (left mid : Option (List Fields)) (form : Form) (count : ℕ) (f : Fields) → form ≡ Sealed
-    → TakesFirst left mid f → is_seal f ≡ true
-    → (Agrees f count → ⊥) → IfSome left (LacksSeal form count)
-other-number left mid form count f e t is differs =
-    of-first left mid f (LacksSeal form count) t (λ rest. rw e (lacks rest))
-  where
-    lacks : (rest : List Fields) → LacksSeal Sealed count (f ∷ rest)
-    lacks rest = (seal-first f rest is, λ ends. let same : ends.0 ≡ f = cc (ends.1) in differs (rw same at ends.3))
+-- what holds of every list holds of the one that is left
+pub always : (left : Option (List Fields)) (P : List Fields → Type 0) → ((rows : List Fields) → P rows) → IfSome left P
+always None P h = tt
+always (Some rows) P h = h rows
 
--- a record is left behind the seal
-pub more-after : (left mid after : Option (List Fields)) (form : Form) (count : ℕ) (f g : Fields) → form ≡ Sealed
-    → TakesFirst left mid f
-    → TakesFirst mid after g → is_seal f ≡ true → IfSome left (LacksSeal form count)
-more-after None mid after form count f g e t u is = tt
-more-after (Some rows) None after form count f g e t u is = absurd t
-more-after (Some rows) (Some rest) None form count f g e t u is = absurd u
-more-after (Some rows) (Some rest) (Some last) form count f g e t u is =
-    rw (e, t, u) (seal-first f (g ∷ last) is, λ ends. let clash : f ∷ g ∷ last ≡ ends.0 ∷ [] = ends.1 in absurd (cc))
+-- a list whose first record was taken is not empty
+pub not-empty : (left after : Option (List Fields)) (f : Fields) (P : Type 0) → TakesFirst left after f
+    → IfSome left (λ rows. rows ≡ [] → P)
+not-empty left after f P t = of-first left after f (λ rows. rows ≡ [] → P) t (λ rest e. absurd (cc (e)))
+
+-- a seal is left that does not agree, or stands before another record
+pub seal-lacks : (left mid : Option (List Fields)) (form : Form) (count : ℕ) (f : Fields) → form ≡ Sealed
+    → TakesFirst left mid f → is_seal f ≡ true → IfSome mid (λ rows. rows ≡ [] → ¬ (Agrees f count))
+    → IfSome left (LacksSeal form count)
+seal-lacks None mid form count f e t is last = tt
+seal-lacks (Some rows) None form count f e t is last = absurd t
+seal-lacks (Some rows) (Some rest) form count f e t is last =
+    rw (e, t) (
+      seal-first f rest is,
+      λ ends.
+          let same : ends.0 ≡ f = cc (ends.1) in
+          let none : rest ≡ [] = cc (ends.1) in
+          last none (rw same at ends.3),
+    )
 
 -- an entry's record is left
 pub entry-left : (left mid : Option (List Fields)) (form : Form) (f : Fields) → TakesFirst left mid f → IsNoSeal form f

@@ -16,6 +16,7 @@ pub mod Laws
 pub mod LineRoom
 pub mod LineViews
 pub mod ReadingState
+pub mod Conversions
 pub mod Retrying
 pub mod ShortLists
 pub mod Faults

@@ -9,7 +9,8 @@ ghost use Rattle.register_records.specs.ReadingState.{EndsAt, Gives, HasBegun, H
 ghost use Rattle.register_records.specs.ReadingState.{LacksSeal, Reads, Stands};
 ghost use Rattle.register_records.specs.ReadingState.{fault_of, records_left};
 ghost use Rattle.register_records.specs.Retrying.{inner_remaining};
-ghost use Rattle.register_records.specs.Seen.{entries_shown, entry_number};
+ghost use Rattle.register_records.specs.Seals.{Agrees, is_seal as is_seal_record};
+ghost use Rattle.register_records.specs.Seen.{entries_shown, entry_number, entry_seen};
 
 use crate::entries::{Entry, MAX_RECORDS};
 use crate::header::is_header;
@@ -96,6 +97,64 @@ fn read_record<R: Read>(
     }
 }
 
+/// Finds that a seal agrees with so many entries and that no record follows it. It asks for one more record.
+///
+/// # Errors
+///
+/// `NotSealed` where it does not agree or one follows, and the faults of reading.
+fn read_behind_seal<R: Read>(
+    records: &mut Reader<Retrying<R>>,
+    row: &mut ByteRecord,
+    count: u32,
+) -> Result<(), EntryFault>
+    requires live { HasBegun records.old }
+    requires seal { is_seal_record (fields_of row.old) ≡ true }
+    ensures live { OnOk result (HasBegun records.new) }
+    ensures agrees { OnOk result (Agrees (fields_of row.old) count) }
+    ensures last { OnOk result
+        (IfSome (records_left (inner_remaining R.remaining) records.old) (λ rows. rows ≡ [])) }
+    ensures not_sealed { IfErr result (λ e. e ≡ EntryFault.NotSealed
+        → IfSome (records_left (inner_remaining R.remaining) records.old)
+        (λ rows. rows ≡ [] → ¬ (Agrees (fields_of row.old) count))) }
+    ensures told { IfErr result (λ e. (e ≡ EntryFault.BadHeader → ⊥) × (e ≡ EntryFault.Failed → ⊥)
+        × (e ≡ EntryFault.TooManyRecords → ⊥)) }
+    ensures read_fault { IfErr result (λ e. e ≡ EntryFault.ReadFault → has_failed records.new ≡ true) }
+{
+    let agrees = agrees(row, count);
+    let more = read_record(records, row)?;
+    if more || !agrees {
+        return Err(EntryFault::NotSealed);
+    }
+    Ok(())
+}
+
+/// The number of the entry after so many.
+///
+/// # Errors
+///
+/// `TooManyRecords` where there are as many as there may be.
+fn number_after(count: u32) -> Result<u32, EntryFault>
+    requires few { count ≤ record_limit }
+    ensures number { IfOk result (λ n. (n ≡ count + 1) × (n ≤ record_limit)) }
+    ensures many { IfErr result (λ e. (e ≡ EntryFault.TooManyRecords) × (count ≡ record_limit)) }
+{
+    if count >= MAX_RECORDS {
+        return Err(EntryFault::TooManyRecords);
+    }
+    Ok(count + 1)
+}
+
+/// Keeps an entry behind those that were given. Where there is no memory for it, it is not kept, and the answer is
+/// `false`.
+fn keep(given: &mut Vec<Snapshot<Entry>>, entry: &Entry) -> bool
+    ensures kept { result ≡ true → entries_shown given.new.items
+        ≡ entries_shown given.old.items ++ entry_seen entry.now ∷ [] }
+    ensures len { result ≡ true → length given.new.items ≡ length given.old.items + 1 }
+    ensures lost { result ≡ false → given.new.items ≡ given.old.items }
+{
+    given.push(Snapshot::of(entry)).is_ok()
+}
+
 /// Reads the entry after so many, or finds that the records end as the form wants it. After a seal it asks for one more
 /// record.
 #[inline(always)]
@@ -128,22 +187,15 @@ fn read_entry<R: Read>(
         };
     }
     if form == Form::Sealed && is_seal(row) {
-        let agrees = agrees(row, count);
-        let more = read_record(records, row)?;
-        if more || !agrees {
-            return Err(EntryFault::NotSealed);
-        }
+        read_behind_seal(records, row, count)?;
         return Ok(None);
     }
-    if count >= MAX_RECORDS {
-        return Err(EntryFault::TooManyRecords);
-    }
-    Ok(Some(Entry::read(count + 1, row, form)))
+    let number = number_after(count)?;
+    Ok(Some(Entry::read(number, row, form)))
 }
 
 impl<R: Read + Drop> EntryReader<R> {
     ghost use Rattle.register_records.specs.Entries.{HasEntries, HasNoHeader, HasTooMany, IsNotSealed};
-    ghost use Rattle.register_records.specs.Seen.{entry_seen};
     ghost use Rattle.register_records.specs.Views.{format_of, given_of, is_stopped, reading_ended, reading_failed};
     ghost use Rattle.register_records.specs.Views.{reads_by, text_of};
 
@@ -235,7 +287,7 @@ impl<R: Read + Drop> EntryReader<R> {
         // The answer is looked at where it lies, since an entry is large.
         match &answer {
             Ok(Some(entry)) => {
-                if self.given.push(Snapshot::of(entry)).is_err() {
+                if !keep(&mut self.given, entry) {
                     self.failed = true;
                     return Err(EntryFault::OutOfMemory);
                 }

@@ -1,12 +1,16 @@
 //! One source, on the caller's thread.
 
-ghost use Rattle.std.specs.Prelude.{◌≡◌, ◌≢◌, ◌≤◌, true, length, IfSome, IsSome, IsSomeAnd, OnOk, ◌++◌};
-ghost use Rattle.register_records.specs.Entries.{HasNoHeader, HasTooMany, IsNotSealed, record_limit};
+ghost use Rattle.std.specs.Prelude.{◌≡◌, ◌≢◌, ◌≤◌, ◌⊎◌, ◌+◌, ◌++◌, ℕ, List, [], true, length, Option, None, Some, IfSome};
+ghost use Rattle.std.specs.Prelude.{IsSome, IfOk, IfErr, OnOk, Ok};
+ghost use Rattle.std.specs.Io.KnownBytes.{Appends};
+ghost use Rattle.register_records.specs.Conversions.{AreReady, ContinuesTable, IsReady};
+ghost use Rattle.register_records.specs.Entries.{HasEntries, HasNoHeader, HasTooMany, IsNotSealed, record_limit};
 ghost use Rattle.register_records.specs.Sources.{ArePartOfTable, Gains, IfBroken, IfWhole, IsFrontOfTable};
 ghost use Rattle.register_records.specs.Sources.{IsWholeTable, cause_number, is_whole_end};
-ghost use Rattle.register_records.specs.Tables.{notes_of};
+ghost use Rattle.register_records.specs.Tables.{heading_line, notes_of};
 ghost use Rattle.register_records.specs.declared.setups.Form.TheVariants.{Sealed};
-ghost use Rattle.register_records.specs.Views.{form_of, format_of, layout_of, row_seen};
+ghost use Rattle.register_records.specs.Views.{form_of, format_of, given_of, layout_of, line_of, row_seen, text_of};
+ghost use Rattle.register_records.specs.Views.{writes_by};
 
 use crate::converting::convert;
 use crate::outputs::Output;
@@ -89,13 +93,13 @@ impl SourceEnd {
     }
 }
 
-/// The end of a source that broke off for this cause, which there is.
-fn broken(cause: Option<Cause>) -> SourceEnd
+/// The cause that a fault is, which there is.
+fn told(cause: Option<Cause>) -> Cause
     requires { IsSome cause }
-    ensures { IsSomeAnd cause (λ c. result ≡ SourceEnd.Broken c) }
+    ensures { cause ≡ Some result }
 {
     match cause {
-        Some(cause) => SourceEnd::Broken { cause },
+        Some(cause) => cause,
         None => unreachable!(),
     }
 }
@@ -109,6 +113,144 @@ fn push_note(journal: &mut Vec<Note>, row: &Row) -> Result<(), AllocError>
         journal.push(note)?;
     }
     Ok(())
+}
+
+/// Notes a row that was refused, and writes the row.
+///
+/// # Errors
+///
+/// `SinkFault` where the output has failed, and `NoMemory`, with the output as it was.
+fn write_row<W: Output>(
+    writer: &mut RowWriter,
+    journal: &mut Vec<Note>,
+    output: &mut W,
+    row: &Row,
+) -> Result<(), Cause>
+    requires ready { IsReady writer.old }
+    ensures ready { OnOk result (IsReady writer.new) }
+    ensures by { writes_by writer.new ≡ writes_by writer.old }
+    ensures line { OnOk result (Appends (W.contents output.old) (W.contents output.new) (line_of writer.old row.now)) }
+    ensures noted { OnOk result (journal.new.items
+        ≡ journal.old.items ++ notes_of (row_seen row.now).number (row_seen row.now).outcome) }
+    ensures flushed { OnOk result (W.is_flushed output.new ≡ true) }
+    ensures good { OnOk result (W.has_failed output.new ≡ W.has_failed output.old) }
+    ensures causes { IfErr result (λ c. (c ≡ Cause.NoMemory) ⊎ (c ≡ Cause.SinkFault)) }
+    ensures memory { IfErr result (λ c. c ≡ Cause.NoMemory → output.new ≡ output.old) }
+    ensures sink { IfErr result (λ c. c ≡ Cause.SinkFault → W.has_failed output.new ≡ true) }
+    ensures mark { W.own_mark output.new ≡ W.own_mark output.old }
+{
+    if push_note(journal, row).is_err() {
+        return Err(Cause::NoMemory);
+    }
+    match writer.put(output, row) {
+        Ok(()) => Ok(()),
+        Err(fault) => Err(told(fault.cause())),
+    }
+}
+
+/// Converts the next entry and writes its row. The answer is its number, or `None` at the end of the text.
+///
+/// # Errors
+///
+/// The cause of the fault that was met; the output is as it was, unless it is the cause.
+fn convert_next<R: Read + Drop, W: Output>(
+    entries: &mut EntryReader<R>,
+    writer: &mut RowWriter,
+    journal: &mut Vec<Note>,
+    output: &mut W,
+    setup: &Setup,
+) -> Result<Option<u32>, Cause>
+    requires ready { AreReady (format_of setup.now) entries.old writer.old }
+    ensures ready { OnOk result (AreReady (format_of setup.now) entries.new writer.new) }
+    ensures text { text_of entries.new ≡ text_of entries.old }
+
+    // The row of one more entry is written.
+    ensures number { IfOk result (λ o. IfSome o (λ number. (number ≡ length (given_of entries.old) + 1)
+        × (number ≡ length (given_of entries.new)) × (number ≤ record_limit))) }
+    ensures few { IfOk result (λ o. IfSome o (λ number.
+        length journal.new.items ≤ length journal.old.items + 1)) }
+    ensures row { IfOk result (λ o. IfSome o (λ number. ContinuesTable (layout_of setup.now)
+        (W.contents output.old) (W.contents output.new) (given_of entries.old) (given_of entries.new)
+        journal.old.items journal.new.items)) }
+    ensures flushed { IfOk result (λ o. IfSome o (λ number. W.is_flushed output.new ≡ true)) }
+    ensures good { OnOk result (W.has_failed output.new ≡ W.has_failed output.old) }
+
+    // At the end nothing is written, and the entries given are all of the text.
+    ensures end { result ≡ Ok None → (output.new ≡ output.old) × (journal.new ≡ journal.old)
+        × ∥ IfSome (text_of entries.old) (λ text. HasEntries (format_of setup.now) text (given_of entries.old)) ∥₁ }
+
+    ensures kept { IfErr result (λ c. (c ≢ Cause.SinkFault) → output.new ≡ output.old) }
+    ensures sink { IfErr result (λ c. c ≡ Cause.SinkFault → W.has_failed output.new ≡ true) }
+    ensures many { IfErr result (λ c. c ≡ Cause.TooManyRecords → (length (given_of entries.old) ≡ record_limit)
+        × ∥ IfSome (text_of entries.old) (λ text. HasTooMany (format_of setup.now) text) ∥₁) }
+    ensures not_sealed { IfErr result (λ c. c ≡ Cause.NotSealed → (form_of setup.now ≡ Sealed)
+        × ∥ IfSome (text_of entries.old) (λ text. IsNotSealed (format_of setup.now) text) ∥₁) }
+    ensures never { IfErr result (λ c. (c ≢ Cause.NoThread) × (c ≢ Cause.Unconfirmed) × (c ≢ Cause.BadHeader)) }
+    ensures mark { W.own_mark output.new ≡ W.own_mark output.old }
+{
+    let entry = match entries.next() {
+        Ok(Some(entry)) => entry,
+        Ok(None) => return Ok(None),
+        Err(fault) => return Err(told(fault.cause())),
+    };
+    let row = convert(entry, setup);
+    match write_row(writer, journal, output, &row) {
+        Ok(()) => Ok(Some(row.entry().number())),
+        Err(cause) => Err(cause),
+    }
+}
+
+/// Converts each entry and writes its row, behind a heading that is written.
+fn convert_entries<R: Read + Drop, W: Output>(
+    alloc: Global,
+    entries: &mut EntryReader<R>,
+    writer: &mut RowWriter,
+    output: &mut W,
+    setup: &Setup,
+) -> SourceEnd
+    requires ready { AreReady (format_of setup.now) entries.old writer.old }
+    requires none_given { given_of entries.old ≡ [] }
+    requires flushed { W.is_flushed output.old ≡ true }
+    ensures whole { (begun : Option (List ℕ))
+        → Appends begun (W.contents output.old) (heading_line (layout_of setup.now))
+        → IfWhole result (λ rows refused journal. ∥ Gains begun (W.contents output.new)
+        (IsWholeTable (layout_of setup.now) (text_of entries.old) rows refused journal) ∥₁) }
+    ensures numbers { IfWhole result (λ rows refused journal.
+        (rows ≤ record_limit) × (refused ≤ rows) × (refused ≡ length journal)) }
+    ensures handed_on { IfWhole result (λ rows refused journal. W.is_flushed output.new ≡ true) }
+    ensures part { (begun : Option (List ℕ))
+        → Appends begun (W.contents output.old) (heading_line (layout_of setup.now))
+        → IfBroken result (λ c. (c ≢ Cause.SinkFault) → ∥ Gains begun (W.contents output.new)
+        (ArePartOfTable (layout_of setup.now) (text_of entries.old)) ∥₁) }
+    ensures too_many { (begun : Option (List ℕ))
+        → Appends begun (W.contents output.old) (heading_line (layout_of setup.now))
+        → IfBroken result (λ c. c ≡ Cause.TooManyRecords
+        → ∥ IfSome (text_of entries.old) (λ text. HasTooMany (format_of setup.now) text) ∥₁
+        × ∥ Gains begun (W.contents output.new)
+        (IsFrontOfTable (layout_of setup.now) (text_of entries.old) record_limit) ∥₁) }
+    ensures not_sealed { IfBroken result (λ c. c ≡ Cause.NotSealed → (form_of setup.now ≡ Sealed)
+        × ∥ IfSome (text_of entries.old) (λ text. IsNotSealed (format_of setup.now) text) ∥₁) }
+    ensures never { IfBroken result (λ c. (c ≢ Cause.NoThread) × (c ≢ Cause.Unconfirmed) × (c ≢ Cause.BadHeader)) }
+    ensures sink { IfBroken result (λ c. c ≡ Cause.SinkFault → W.has_failed output.new ≡ true) }
+    ensures kept { IfBroken result (λ c. (c ≢ Cause.SinkFault) → W.has_failed output.new ≡ W.has_failed output.old) }
+    ensures good { IfWhole result (λ rows refused journal. W.has_failed output.new ≡ W.has_failed output.old) }
+    ensures mark { W.own_mark output.new ≡ W.own_mark output.old }
+{
+    let mut journal = Vec::new(alloc);
+    let mut rows = 0;
+    'entries: loop {
+        match convert_next(entries, writer, &mut journal, output, setup) {
+            Ok(Some(number)) => rows = number,
+            Ok(None) => {
+                return SourceEnd::Whole {
+                    rows,
+                    refused: journal.len() as u32,
+                    journal,
+                };
+            }
+            Err(cause) => return SourceEnd::Broken { cause },
+        }
+    }
 }
 
 /// Writes the table of the text that a reader gives to an output: the heading once the header was
@@ -154,35 +296,19 @@ pub fn convert_source<R: Read + Drop, W: Output>(
 {
     let mut entries = match EntryReader::open(alloc, reader, setup) {
         Ok(entries) => entries,
-        Err(fault) => return broken(fault.cause()),
+        Err(fault) => {
+            return SourceEnd::Broken {
+                cause: told(fault.cause()),
+            };
+        }
     };
     let mut writer = match RowWriter::open(alloc, output, setup) {
         Ok(writer) => writer,
-        Err(fault) => return broken(fault.cause()),
-    };
-    let mut journal = Vec::new(alloc);
-    let mut rows = 0;
-    'entries: loop {
-        let entry = match entries.next() {
-            Ok(Some(entry)) => entry,
-            Ok(None) => {
-                return SourceEnd::Whole {
-                    rows,
-                    refused: journal.len() as u32,
-                    journal,
-                };
-            }
-            Err(fault) => return broken(fault.cause()),
-        };
-        let row = convert(entry, setup);
-        if push_note(&mut journal, &row).is_err() {
+        Err(fault) => {
             return SourceEnd::Broken {
-                cause: Cause::NoMemory,
+                cause: told(fault.cause()),
             };
         }
-        if let Err(fault) = writer.put(output, &row) {
-            return broken(fault.cause());
-        }
-        rows = row.entry().number();
-    }
+    };
+    convert_entries(alloc, &mut entries, &mut writer, output, setup)
 }

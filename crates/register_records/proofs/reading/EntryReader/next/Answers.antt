@@ -1,13 +1,12 @@
-use Rattle.std.proofs.Common.{◌≡◌, ◌<◌, ◌∷◌, [], ◌∙◌, ap, arith, length, length-append, refl, rules, sym, true, false}
+use Rattle.std.proofs.Common.{◌≡◌, ◌<◌, ◌∙◌, ap, arith, length, refl, rules, sym}
 use Rattle.std.proofs.Common.{Some, None}
-use Rattle.std.specs.Result.{is_ok}
 use Rattle.register_records.specs.Entries.{format_by, record_limit}
 use Rattle.register_records.specs.ReadingState.{records_left}
 use Rattle.register_records.specs.Retrying.{inner_remaining}
 use Rattle.register_records.specs.Seen.{entries_shown}
 use Rattle.register_records.specs.Views.{given_of}
 use Rattle.register_records.proofs.GivenFacts.{may-all, may-end, may-ended, may-fail, may-first, may-lack, may-many}
-use Rattle.register_records.proofs.GivenFacts.{may-more, shown-length, shown-more}
+use Rattle.register_records.proofs.GivenFacts.{may-more, shown-length}
 use Rattle.register_records.proofs.reading.EntryReader.next.Goals as goal
 
 pub returns-then-self-2-clause-all : goal.returns-then-self-2-clause-all
@@ -19,21 +18,19 @@ returns-then-self-2-clause-all g c _ =
 pub invariant_of-self : goal.invariant_of-self
 invariant_of-self g c =
     let self = c.args.self.now in
-    let refused : is_ok c.push.result ≡ false = search rules in
-    let kept = rw refused at c.push.ensures.items in
+    let kept = c.keep.ensures.lost c.if-not-keep.true in
     let stands =
     may-fail (g.R.Read.remaining self.source.value) (format_by self.delimiter self.form) self.failed self.done
     (records_left (inner_remaining g.R.Read.remaining) self.records) (given_of self) self.stands
     (records_left (inner_remaining g.R.Read.remaining) c.read_entry-answer.new.records)
-    (entries_shown c.push.new.self.items) (ap entries_shown kept) in
+    (entries_shown c.keep.new.given.items) (ap entries_shown kept) in
     record { live = λ e. cc; few = rw kept self.few; stands = stands; first = may-first _ _ _ _ _ _ stands }
 
-pub invariant_of-self-else-is_err : goal.invariant_of-self-else-is_err
-invariant_of-self-else-is_err g c =
+pub invariant_of-self-else-not-keep : goal.invariant_of-self-else-not-keep
+invariant_of-self-else-not-keep g c =
     let self = c.args.self.now in
-    let pushed : is_ok c.push.result ≡ true = search rules in
-    let more = rw pushed at c.push.ensures.items in
-    let longer = ap length more ∙ length-append self.given.items (c.of.result ∷ []) in
+    let more = c.keep.ensures.kept c.if-not-keep.false in
+    let longer = c.keep.ensures.len c.if-not-keep.false in
     let some : c.in-Ok-Some.field-0 ≡ Some c.in-Ok-Some.entry = search rules in
     let gives = rw (c.in-Ok-Some.is, some) at c.read_entry-answer.ensures.gives in
     let number = rw (c.in-Ok-Some.is, some) at c.read_entry-answer.ensures.number in
@@ -44,8 +41,7 @@ invariant_of-self-else-is_err g c =
     (given_of self) self.stands c.if-self.false c.if-self-2.false c.len-count.result
     (omega (arith, c.len-count.ensures, shown-length self.given.items))
     (records_left (inner_remaining g.R.Read.remaining) c.read_entry-answer.new.records)
-    (entries_shown c.push.new.self.items) c.in-Ok-Some.entry gives (omega (arith, number.0, number.1))
-    (ap entries_shown more ∙ shown-more self.given.items c.of.result c.in-Ok-Some.entry c.of.ensures) in
+    (entries_shown c.keep.new.given.items) c.in-Ok-Some.entry gives (omega (arith, number.0, number.1)) more in
     record {
       live = λ _. rw c.in-Ok-Some.is at c.read_entry-answer.ensures.live;
       few = omega (arith, longer, room);

@@ -1,0 +1,42 @@
+use Rattle.std.proofs.Common.{◌≡◌, refl, sym, arith, length, rules}
+use Rattle.register_records.specs.Entries.{HasTooMany}
+use Rattle.register_records.proofs.Progress.{finish, first_rows, front, start, told_of}
+use Rattle.register_records.proofs.sources.convert_entries.Goals as goal
+
+pub entries-init : goal.entries-init
+entries-init g c =
+    record {
+      ready = c.requires.ready;
+      text = refl;
+      counted = rw c.requires.none_given (omega arith);
+      limit = omega arith;
+      fewer = rw c.new-journal.ensures.items (omega arith);
+      flushed = c.requires.flushed;
+      good = refl;
+      mark = refl;
+      come = λ begun heading. rw (c.requires.none_given, c.new-journal.ensures.items) (start _ _ _ heading);
+    }
+
+pub returns-in-Ok-None-clause-whole : goal.returns-in-Ok-None-clause-whole
+returns-in-Ok-None-clause-whole g c begun heading =
+    let inv = c.entries.invariant in
+    let end = (rw c.in-Ok-None.field-0-is at c.in-Ok-None.ensures.end) refl in
+    let refused : c.len.result ≡ length c.convert_next.new.journal.items = search rules in
+    rw (end.0, end.1) (finish _ _ _ _ _ _ _ _ _ _ _ (inv.come begun heading) inv.text refl refl end.2 inv.counted
+    (rw end.1 at refused))
+
+pub returns-in-Err-clause-part : goal.returns-in-Err-clause-part
+returns-in-Err-clause-part g c begun heading other =
+    let inv = c.entries.invariant in
+    rw (c.in-Err.ensures.kept other)
+    (front _ _ _ _ _ _ _ _ (inv.come begun heading) inv.text inv.ready.1 c.entries.entries.first)
+
+pub returns-in-Err-clause-too_many : goal.returns-in-Err-clause-too_many
+returns-in-Err-clause-too_many g c begun heading is =
+    let inv = c.entries.invariant in
+    let past = c.in-Err.ensures.many is in (
+      told_of HasTooMany _ _ _ _ inv.text refl past.1,
+      rw (c.in-Err.ensures.kept (λ sunk. cc (is, sunk)))
+          (first_rows _ _ _ _ _ _ _ _ _ (inv.come begun heading) inv.text inv.ready.1 c.entries.entries.first
+          (sym past.0)),
+    )

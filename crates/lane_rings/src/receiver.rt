@@ -53,17 +53,10 @@ impl<T> Receiver<T> {
             (λ item. taken self.new ≡ taken self.old ++ item ∷ [])) }
         ensures gone { OnErr result (taken self.new ≡ taken self.old) }
     {
-        if let Some(item) = self.pop() {
-            return Ok(Some(item));
-        }
-        if !self.consumer.is_abandoned() {
+        if !self.look()? {
             return Ok(None);
         }
-        // What was sent between the first look and the sender's leaving is still taken.
-        match self.pop() {
-            Some(item) => Ok(Some(item)),
-            None => Err(Gone { value: () }),
-        }
+        Ok(Some(self.take_next()))
     }
 
     /// Waits for the next item and takes it.
@@ -77,8 +70,8 @@ impl<T> Receiver<T> {
     {
         let mut patience = Patience::new();
         for _ in rt.forever() {
-            if let Some(item) = self.try_take()? {
-                return Ok(item);
+            if self.look()? {
+                return Ok(self.take_next());
             }
             patience.pause();
         }
@@ -119,15 +112,17 @@ impl<T> Receiver<T> {
         Some(self.consumer.peek_known())
     }
 
+    // Takes the next item, which a look has shown. It is copied once from where it lies, since it may be large.
+    #[inline(always)]
     #[tactic(auto, using(crate::proofs::Ends::last_mark_append))]
-    fn pop(&mut self) -> Option<Item<T>>
+    fn take_next(&mut self) -> Item<T>
+        requires { 0 < length (waiting self.old) }
         ensures lane { receiver_lane self.new ≡ receiver_lane self.old }
-        ensures found { MatchOption result (taken self.new ≡ taken self.old)
-            (λ item. taken self.new ≡ taken self.old ++ item ∷ []) }
+        ensures taken { taken self.new ≡ taken self.old ++ result ∷ [] }
     {
-        let item = self.consumer.pop().ok()?;
-        self.last = mark_of(&item);
-        Some(item)
+        let next = self.consumer.pop_known();
+        self.last = mark_of(&next);
+        next
     }
 }
 

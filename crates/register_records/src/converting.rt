@@ -50,6 +50,18 @@ fn fill(cells: &mut ShortList<CellText>, targets: &[Target], outcome: Result<Day
     }
 }
 
+/// The cells of an outcome: one for each target on a day, and none with a refusal.
+// Out of line: in line, each cell would be moved on its own.
+#[inline(never)]
+fn cells_of(targets: &[Target], outcome: Result<Day, Refusal>) -> ShortList<CellText>
+    requires { length targets.now ≤ MAX_TARGETS }
+    ensures { AreCells targets.now (outcome_seen outcome) (cells_seen (items_in result)) }
+{
+    let mut cells = ShortList::new(CellText::copied(""));
+    fill(&mut cells, targets, outcome);
+    cells
+}
+
 /// The row of an entry for the setup's targets: the refusal of its body, else `UnknownCalendar`,
 /// `DateText`, `NoSuchDate` or `OutOfRange`, the first that applies, else the day and its cells.
 // Inlined, so that the row, which is large, is made where the caller keeps it.
@@ -59,13 +71,11 @@ pub fn convert(entry: Entry, setup: &Setup) -> Row
     ensures targets { row_targets result ≡ targets_of setup.now }
     ensures row { IsRowOf (targets_of setup.now) (entry_seen entry) (row_seen result) }
 {
-    let mut cells = ShortList::new(CellText::copied(""));
     let outcome = day_of_body(entry.body());
-    fill(&mut cells, setup.targets(), outcome);
     Row {
         entry,
         outcome,
         targets: setup.target_list(),
-        cells,
+        cells: cells_of(setup.targets(), outcome),
     }
 }

@@ -39,7 +39,7 @@ fn mark_of<T>(item: &Item<T>) -> Option<Mark>
 }
 
 impl<T> Receiver<T> {
-    ghost use Rattle.std.specs.Prelude.{◌≡◌, ◌<◌, [], ◌∷◌, ◌++◌, length, IfOk, IsSome, IsTrue, OnErr, MatchOption};
+    ghost use Rattle.std.specs.Prelude.{◌≡◌, ◌<◌, [], ◌∷◌, ◌++◌, length, IfOk, IsSome, IsTrue, OnErr, OnOk, MatchOption};
     ghost use mathlib.Core.List.{IsPrefix};
     ghost use Rattle.lane_rings.specs.Lane.{receiver_lane, taken, waiting};
 
@@ -68,10 +68,24 @@ impl<T> Receiver<T> {
         ensures ok { IfOk result (λ item. taken self.new ≡ taken self.old ++ item ∷ []) }
         ensures gone { OnErr result (taken self.new ≡ taken self.old) }
     {
+        self.wait(rt)?;
+        Ok(self.take_next())
+    }
+
+    /// Waits until an item is next, and leaves it in the lane: [`next`](Self::next) lends it and [`pass`](Self::pass)
+    /// takes it.
+    ///
+    /// It waits as `take` does, and answers `Gone` where `try_take` does.
+    pub fn wait(&mut self, rt: &impl Wait) -> Result<(), Gone<()>>
+        ensures lane { receiver_lane self.new ≡ receiver_lane self.old }
+        ensures taken { taken self.new ≡ taken self.old }
+        ensures waiting { IsPrefix (waiting self.old) (waiting self.new) }
+        ensures there { OnOk result (0 < length (waiting self.new)) }
+    {
         let mut patience = Patience::new();
         for _ in rt.forever() {
             if self.look()? {
-                return Ok(self.take_next());
+                return Ok(());
             }
             patience.pause();
         }

@@ -44,30 +44,12 @@ impl<T> Sender<T> {
         ensures unsent { sent self.new ≡ sent self.old }
         ensures room { IsTrue result → 0 < known_free self.new.producer }
     {
-        if self.producer.is_abandoned() {
-            return false;
-        }
-        if !self.producer.is_full() {
-            return true;
-        }
-        self.wait_for_half(rt)
-    }
-
-    // Waits until half of a full ring is free: a sender that takes each slot as soon as it is free has both threads wait
-    // for each other's words of the ring at each item. `false` where the receiver was dropped.
-    fn wait_for_half(&mut self, rt: &impl Wait) -> bool
-        ensures lane { sender_lane self.new ≡ sender_lane self.old }
-        ensures unsent { sent self.new ≡ sent self.old }
-        ensures room { IsTrue result → 0 < known_free self.new.producer }
-    {
-        let half = self.producer.capacity() / 2;
         let mut patience = Patience::new();
         for _ in rt.forever() {
             if self.producer.is_abandoned() {
                 return false;
             }
-            let free = self.producer.slots();
-            if free > 0 && free >= half {
+            if !self.producer.is_full() {
                 return true;
             }
             patience.pause();

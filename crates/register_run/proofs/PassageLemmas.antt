@@ -1,6 +1,6 @@
 -- Items of lanes, as they are sent and taken.
 use Rattle.std.proofs.Common.{◌≡◌, ◌∙◌, ap, sym, subst, refl, zero, suc, List, [], ◌∷◌, ◌++◌, append_assoc, append-nil}
-use Rattle.std.proofs.Common.{inl, inr, arith, lit<}
+use Rattle.std.proofs.Common.{inl, inr, arith, lit<, ◌+◌, length, length-append, take, take_at}
 use Rattle.std.specs.Prelude.{Result, Ok, Err, IfOk, IfErr, OnOk, OnErr}
 use Rattle.std.specs.List.{Contains}
 use mathlib.Core.List.{IsPrefix}
@@ -53,11 +53,20 @@ module _ {T : Type 0} where
       Contains-append_right old seen y
       (subst (λ l. Contains l y) all (Contains-append_left (y ∷ []) rest y (0, lit< tt, refl)))
 
-  -- what was taken from a wait stays taken
-  pub taken_kept : {E : Type 0} (old new : List (Item T)) (r : Result (Item T) E) → IfOk r (λ x. new ≡ old ++ x ∷ [])
-      → OnErr r (new ≡ old) → (y : Item T) → Contains old y → Contains new y
-  taken_kept old new (Ok x) ok gone y h = subst (λ l. Contains l y) (sym ok) (Contains-append_left old (x ∷ []) y h)
-  taken_kept old new (Err e) ok gone y h = subst (λ l. Contains l y) (sym gone) h
+  -- after a wait that took nothing, the item that was next is the one that was taken
+  pub took_next : (old waited seen new rest : List (Item T)) (y : Item T) → waited ≡ old → IsPrefix (y ∷ []) seen
+      → new ++ rest ≡ waited ++ seen → length new ≡ length waited + 1 → new ≡ old ++ y ∷ []
+  took_next old waited seen new rest y same (more, all) is one =
+      let parts : new ++ rest ≡ (waited ++ y ∷ []) ++ more =
+      is ∙ ap (λ (l : List (Item T)). waited ++ l) (sym all) ∙ sym (append_assoc waited (y ∷ []) more) in
+      let long : length (waited ++ y ∷ []) ≡ length new = omega (arith, length-append waited (y ∷ []), one) in
+      sym (take_at new rest (length new) refl) ∙ ap (λ (l : List (Item T)). take (length new) l) parts
+      ∙ take_at (waited ++ y ∷ []) more (length new) long ∙ ap (λ (l : List (Item T)). l ++ y ∷ []) same
+
+  -- what was taken stays taken with one item more
+  pub taken_kept : (old new : List (Item T)) (x : Item T) → new ≡ old ++ x ∷ [] → (y : Item T) → Contains old y
+      → Contains new y
+  taken_kept old new x is y h = subst (λ l. Contains l y) (sym is) (Contains-append_left old (x ∷ []) y h)
 
 -- one more item was sent, and it is no entry
 pub among_ended : (given : List Numbered) (items all : List (Item Entry)) (x : Item Entry)

@@ -2,7 +2,7 @@
 
 ghost use Rattle.std.specs.Prelude.{◌≡◌, []};
 ghost use Rattle.lane_rings.specs.Lane.{receiver_lane, sender_lane, sent};
-ghost use Rattle.register_run.specs.Passages.{GainsRowOf, IsConverting};
+ghost use Rattle.register_run.specs.Passages.{IsConverting};
 
 use crate::gates::Gate;
 use lane_rings::{Closed, Item, Receiver, Sender};
@@ -34,30 +34,33 @@ pub(crate) fn convert_entries<T: Wait, G: Gate>(
     let mut rows = rows;
     let mut gone = false;
     for _ in rt.forever() {
-        match entries.take(rt) {
-            Ok(Item::Entry(entry)) => {
+        if entries.wait(rt).is_err() {
+            let closed = rows.stop(rt);
+            return Converting { entries, closed };
+        }
+        match entries.next() {
+            Some(Item::Entry(entry)) => {
+                // The entry is converted where it lies, since each move would copy it.
+                let row = convert(*entry, setup);
+                entries.pass();
                 if !gone {
-                    gate.pass(rt, entry.number());
-                    gone = send_row(rt, setup, &mut rows, entry);
+                    gate.pass(rt, row.entry().number());
+                    gone = rows.send(rt, row).is_err();
                 }
             }
-            Ok(Item::End(count)) => {
+            Some(Item::End(count)) => {
+                let count = *count;
+                entries.pass();
                 let closed = rows.close(rt, count);
                 return Converting { entries, closed };
             }
-            Ok(Item::Stop) | Err(_) => {
+            Some(Item::Stop) => {
+                entries.pass();
                 let closed = rows.stop(rt);
                 return Converting { entries, closed };
             }
+            None => unreachable!(),
         }
     }
     unreachable!()
-}
-
-/// Sends the row of an entry, and says whether the lane's other end is gone.
-fn send_row(rt: &impl Wait, setup: &Setup, rows: &mut Sender<Row>, entry: Entry) -> bool
-    ensures lane { sender_lane rows.new ≡ sender_lane rows.old }
-    ensures sent { GainsRowOf (sent rows.old) (sent rows.new) entry }
-{
-    rows.send(rt, convert(entry, setup)).is_err()
 }

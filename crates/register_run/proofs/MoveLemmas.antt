@@ -43,4 +43,6 @@ both_more f h xs new ys more x y n m s e =
 -- what holds of each item of a list holds of each of one more
 pub each_more : {X : Type 0} (P : X → Type 0) (xs new : List X) (x : X) → new ≡ xs ++ x ∷ [] → All P xs → P x
     → All P new
-each_more P xs new x n each one = subst (All P) (sym n) (All-append P xs (x ∷ []) each (All-cons P x [] one (λ k d below. absurd (omega arith))))
+each_more P xs new x n each one =
+    subst (All P) (sym n)
+    (All-append P xs (x ∷ []) each (All-cons P x [] one (λ k d below. absurd (omega arith))))

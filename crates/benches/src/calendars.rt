@@ -1,12 +1,12 @@
 //! What the calendars cost: for each, the nanoseconds of one `date_on` and of one `day_of`.
 
-use crate::common::{calls, cost, sample};
+use crate::common::{Watch, calls, sample};
 use day_numbers::{ArithmeticCalendar, Ymd};
 use lunar_calendars::{Hebrew, Islamic};
 use solar_calendars::{Armenian, Coptic, Egyptian, Ethiopic, French, Gregorian, IsoWeek, Julian};
 use std::alloc::Global;
 use std::io;
-use std::time::{Clock, Instant};
+use std::time::Clock;
 
 /// Prints the calendar's name, the two costs, and sums of what the calls gave, so that no call is left out.
 fn measure<R: Clock + Print, C: ArithmeticCalendar>(
@@ -26,7 +26,7 @@ fn measure<R: Clock + Print, C: ArithmeticCalendar>(
     let times = rounds.unwrap_or(1);
 
     let mut years = 0i64;
-    let start = Instant::now(rt)?;
+    let watch = Watch::start(rt);
     for _ in 0..times {
         for day in &days {
             if let Some(date) = calendar.date_on(*day) {
@@ -34,10 +34,10 @@ fn measure<R: Clock + Print, C: ArithmeticCalendar>(
             }
         }
     }
-    let date_on = cost(rt, &start, calls(times))?;
+    let date_on = watch.cost(rt, calls(times));
 
     let mut numbers = 0i64;
-    let start = Instant::now(rt)?;
+    let watch = Watch::start(rt);
     for _ in 0..times {
         for date in &dates {
             if let Ok(day) = calendar.day_of(*date) {
@@ -45,7 +45,7 @@ fn measure<R: Clock + Print, C: ArithmeticCalendar>(
             }
         }
     }
-    let day_of = cost(rt, &start, calls(times))?;
+    let day_of = watch.cost(rt, calls(times));
     if rounds.is_some() {
         println!(rt;
             "{name:<10} date_on {date_on:>4} ns  day_of {day_of:>4} ns  ({years} {numbers})"

@@ -19,9 +19,36 @@ pub(crate) fn sample(alloc: Global) -> io::Result<Vec<Day>> {
     Ok(days)
 }
 
-/// Nanoseconds for each of so many calls since the start.
-pub(crate) fn cost(clock: &impl Clock, start: &Instant, calls: u64) -> io::Result<u128> {
-    Ok(start.elapsed(clock)?.as_nanos() / u128::from(calls.max(1)))
+/// The time since a moment. Where the clock fails it tells 0: a caller that left at each of its faults would cost the
+/// prover much.
+#[derive(Clone, Copy)]
+pub(crate) struct Watch {
+    start: Option<Instant>,
+}
+
+impl Watch {
+    /// Begins now.
+    pub(crate) fn start(clock: &impl Clock) -> Watch {
+        Watch {
+            start: Instant::now(clock).ok(),
+        }
+    }
+
+    /// Nanoseconds since it began.
+    pub(crate) fn nanoseconds(&self, clock: &impl Clock) -> u128 {
+        let Some(start) = self.start else {
+            return 0;
+        };
+        match start.elapsed(clock) {
+            Ok(time) => time.as_nanos(),
+            Err(_) => 0,
+        }
+    }
+
+    /// Nanoseconds for each of so many calls since it began.
+    pub(crate) fn cost(&self, clock: &impl Clock, calls: u64) -> u128 {
+        self.nanoseconds(clock) / u128::from(calls.max(1))
+    }
 }
 
 /// How many calls so many rounds over the sample are.

@@ -8,14 +8,14 @@ ghost use Rattle.std.specs.Prelude.{◌≤◌};
 mod across;
 mod alone;
 
-use crate::common::cost;
+use crate::common::Watch;
 use across::{lane_across, ring_across};
 use alone::{lane_alone, ring_alone};
 use std::alloc::Global;
 use std::io;
 use std::sync::Wait;
 use std::thread::Threads;
-use std::time::{Clock, Instant};
+use std::time::Clock;
 
 /// Moved where no number is given.
 const FEW: u64 = 4096;
@@ -35,18 +35,18 @@ fn move_all<R: Threads + Wait + Sync + Clock + Print, T: Copy + Send>(
     requires { (1 ≤ capacity) × (capacity ≤ 4096) }
 {
     let count = items.unwrap_or(FEW);
-    let start = Instant::now(rt)?;
+    let watch = Watch::start(rt);
     let mut whole = ring_alone(alloc, capacity, count, item).is_some();
-    let ring_here = cost(rt, &start, count)?;
-    let start = Instant::now(rt)?;
+    let ring_here = watch.cost(rt, count);
+    let watch = Watch::start(rt);
     whole &= lane_alone(rt, alloc, capacity, count, item).is_some();
-    let lane_here = cost(rt, &start, count)?;
-    let start = Instant::now(rt)?;
+    let lane_here = watch.cost(rt, count);
+    let watch = Watch::start(rt);
     whole &= ring_across(rt, alloc, capacity, count, item).is_some();
-    let ring_there = cost(rt, &start, count)?;
-    let start = Instant::now(rt)?;
+    let ring_there = watch.cost(rt, count);
+    let watch = Watch::start(rt);
     whole &= lane_across(rt, alloc, capacity, count, item).is_some();
-    let lane_there = cost(rt, &start, count)?;
+    let lane_there = watch.cost(rt, count);
     if items.is_some() {
         println!(rt;
             "{words:>5} {capacity:>5} {ring_here:>6} {lane_here:>6} {ring_there:>6} {lane_there:>6}"

@@ -3,6 +3,7 @@
 pub(crate) mod counter;
 pub(crate) mod inputs;
 
+use crate::common::Watch;
 use counter::Counter;
 use date_texts::Target;
 use inputs::{Kind, register};
@@ -10,7 +11,7 @@ use register_records::{Form, Output, PlainOutput, Setup, SourceEnd, convert_sour
 use std::alloc::Global;
 use std::io::{Read, Write};
 use std::rt::Files;
-use std::time::{Clock, Instant};
+use std::time::Clock;
 use std::{fs, io};
 
 /// The records of a run without arguments.
@@ -22,9 +23,9 @@ fn setup(every_target: bool) -> Option<Setup> {
     Setup::new(targets, 16, b',', 1, Form::Plain).ok()
 }
 
-/// Prints what a conversion took that began at `start` and gave so many rows.
-fn tell<R: Clock + Print>(rt: &R, start: &Instant, what: &str, rows: u32) -> io::Result<()> {
-    let nanoseconds = start.elapsed(rt)?.as_nanos();
+/// Prints what a conversion took that began with the watch and gave so many rows.
+fn tell<R: Clock + Print>(rt: &R, watch: &Watch, what: &str, rows: u32) -> io::Result<()> {
+    let nanoseconds = watch.nanoseconds(rt);
     let each = nanoseconds / u128::from(rows.max(1));
     let rate = u128::from(rows) * 1_000_000_000 / nanoseconds.max(1);
     println!(rt; "{what:<24} {each:>6} ns a record {rate:>9} records a second")
@@ -55,10 +56,10 @@ fn measure<R: Clock + Print>(
         return Ok(false);
     };
     let mut output = Counter::new();
-    let start = Instant::now(rt)?;
+    let watch = Watch::start(rt);
     let (rows, refused) = rows_of(alloc, text, &mut output, &setup);
     if let Some(name) = what {
-        tell(rt, &start, name, rows)?;
+        tell(rt, &watch, name, rows)?;
         let bytes = output.bytes();
         println!(rt; "{rows} rows, {refused} refused, {bytes} bytes")?;
     }
@@ -100,14 +101,14 @@ pub(crate) fn over_files<R: Files + Clock + Print>(
     };
     let input = fs::File::open(rt, from)?;
     let mut output = PlainOutput::new(fs::File::create(rt, to)?, 1);
-    let start = Instant::now(rt)?;
+    let watch = Watch::start(rt);
     let (rows, _refused) = rows_of(alloc, input, &mut output, &setup);
     let name = if every_target {
         "file, every target"
     } else {
         "file, no target"
     };
-    tell(rt, &start, name, rows)?;
+    tell(rt, &watch, name, rows)?;
     Ok(rows > 0)
 }
 
@@ -123,11 +124,11 @@ pub(crate) fn by_lines<R: Files + Clock + Print>(
     input.read_to_end(&mut text)?;
     let mut output = fs::File::create(rt, to)?;
     let mut lines = 0u32;
-    let start = Instant::now(rt)?;
+    let watch = Watch::start(rt);
     for line in text.as_slice().split_inclusive(|byte| *byte == b'\n') {
         output.write_all(line)?;
         lines = lines.saturating_add(1);
     }
-    tell(rt, &start, "one write a line", lines)?;
+    tell(rt, &watch, "one write a line", lines)?;
     Ok(true)
 }

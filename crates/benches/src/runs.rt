@@ -4,6 +4,7 @@
 //! Each line has the sources of a run, the converters of each and the items of a ring, and then the nanoseconds of a
 //! record: on one thread, and in the run. Each is the median of several conversions, the two in turn.
 
+use crate::common::Watch;
 use crate::records::counter::Counter;
 use crate::records::inputs::{Kind, register};
 use register_records::{Form, Setup, convert_source};
@@ -12,7 +13,7 @@ use std::alloc::Global;
 use std::io;
 use std::sync::Wait;
 use std::thread::Threads;
-use std::time::{Clock, Instant};
+use std::time::Clock;
 
 /// The records of each source where no number is given.
 const FEW: u32 = 100;
@@ -36,11 +37,6 @@ const CASES: [(u32, usize, usize); 12] = [
     (4, 1, 64),
 ];
 
-/// Nanoseconds since the start.
-fn elapsed(clock: &impl Clock, start: &Instant) -> io::Result<u128> {
-    Ok(start.elapsed(clock)?.as_nanos())
-}
-
 /// Converts so many sources one after the other, and answers what it took, if each is whole.
 fn on_one_thread(
     rt: &impl Clock,
@@ -48,15 +44,15 @@ fn on_one_thread(
     text: &[u8],
     sources: u32,
     setup: &Setup,
-) -> io::Result<Option<u128>> {
-    let start = Instant::now(rt)?;
+) -> Option<u128> {
+    let watch = Watch::start(rt);
     let mut whole = true;
     for _ in 0..sources {
         let mut output = Counter::new();
         whole &= convert_source(alloc, text, &mut output, setup).is_whole();
     }
-    let took = elapsed(rt, &start)?;
-    Ok(if whole { Some(took) } else { None })
+    let took = watch.nanoseconds(rt);
+    if whole { Some(took) } else { None }
 }
 
 /// Converts so many sources by a run, and answers what it took, if each is whole.
@@ -73,12 +69,12 @@ fn in_a_run<R: Threads + Wait + Sync + Clock>(
         inputs.push(text)?;
         outputs.push(Counter::new())?;
     }
-    let start = Instant::now(rt)?;
+    let watch = Watch::start(rt);
     let whole = match run(rt, alloc, inputs, outputs, setup) {
         Ok(report) => report.verdict == Verdict::Complete,
         Err(_) => false,
     };
-    let took = elapsed(rt, &start)?;
+    let took = watch.nanoseconds(rt);
     Ok(if whole { Some(took) } else { None })
 }
 
@@ -108,7 +104,7 @@ pub(crate) fn measure_runs<R: Threads + Wait + Sync + Clock + Print>(
         let mut alone = Vec::new(alloc);
         let mut beside = Vec::new(alloc);
         for _ in 0..rounds {
-            let one = on_one_thread(rt, alloc, text.as_slice(), sources, &setup)?;
+            let one = on_one_thread(rt, alloc, text.as_slice(), sources, &setup);
             let other = in_a_run(rt, alloc, text.as_slice(), sources, &setup)?;
             let (Some(one), Some(other)) = (one, other) else {
                 return Ok(false);

@@ -1,14 +1,14 @@
 //! What date texts cost: the nanoseconds of one `read_date`, `write_date`, `day_of_date` and
 //! `calendar_named`, and of one `cell` of each target.
 
-use crate::common::{DAYS, calls, cost, sample};
+use crate::common::{DAYS, Watch, calls, sample};
 use arrayvec::ArrayString;
 use date_texts::{
     Calendar, Date, Target, calendar_named, cell, day_of_date, read_date, write_date,
 };
 use std::alloc::Global;
 use std::io;
-use std::time::{Clock, Instant};
+use std::time::Clock;
 
 /// Names as registers write them.
 const NAMES: [&str; 4] = ["gregorian", " Julian", "HEBREW", "french"];
@@ -83,21 +83,21 @@ fn measure_dates<R: Clock + Print>(
     let dates = Dates::new(alloc, calendar)?;
     let times = rounds.unwrap_or(1);
     let (mut read, mut written, mut numbers) = (0u64, 0u64, 0u64);
-    let start = Instant::now(rt)?;
+    let watch = Watch::start(rt);
     for _ in 0..times {
         read = read.wrapping_add(dates.read());
     }
-    let read_cost = cost(rt, &start, calls(times))?;
-    let start = Instant::now(rt)?;
+    let read_cost = watch.cost(rt, calls(times));
+    let watch = Watch::start(rt);
     for _ in 0..times {
         written = written.wrapping_add(dates.write());
     }
-    let write_cost = cost(rt, &start, calls(times))?;
-    let start = Instant::now(rt)?;
+    let write_cost = watch.cost(rt, calls(times));
+    let watch = Watch::start(rt);
     for _ in 0..times {
         numbers = numbers.wrapping_add(dates.find_days());
     }
-    let day_cost = cost(rt, &start, calls(times))?;
+    let day_cost = watch.cost(rt, calls(times));
     if rounds.is_some() {
         println!(rt;
             "{:<10} read {read_cost:>4} ns  write {write_cost:>4} ns  day {day_cost:>4} ns  \
@@ -118,13 +118,13 @@ fn measure_cells<R: Clock + Print>(
     let days = sample(alloc)?;
     let times = rounds.unwrap_or(1);
     let mut bytes = 0u64;
-    let start = Instant::now(rt)?;
+    let watch = Watch::start(rt);
     for _ in 0..times {
         for day in &days {
             bytes = bytes.wrapping_add(cell(target, *day).len() as u64);
         }
     }
-    let cell_cost = cost(rt, &start, calls(times))?;
+    let cell_cost = watch.cost(rt, calls(times));
     if rounds.is_some() {
         println!(rt; "{:<10} cell {cell_cost:>4} ns  ({bytes})", target.name())?;
     }
@@ -132,22 +132,20 @@ fn measure_cells<R: Clock + Print>(
 }
 
 /// Prints what it costs to find the calendar of a name.
-fn measure_names<R: Clock + Print>(rt: &R, rounds: Option<u64>) -> io::Result<()> {
+fn measure_name<R: Clock + Print>(rt: &R, rounds: Option<u64>, name: &str) -> io::Result<()> {
     let times = rounds.unwrap_or(1);
-    for name in NAMES {
-        let mut found = 0u64;
-        let start = Instant::now(rt)?;
-        for _ in 0..times {
-            for _ in 0..DAYS {
-                if calendar_named(name).is_some() {
-                    found = found.wrapping_add(1);
-                }
+    let mut found = 0u64;
+    let watch = Watch::start(rt);
+    for _ in 0..times {
+        for _ in 0..DAYS {
+            if calendar_named(name).is_some() {
+                found = found.wrapping_add(1);
             }
         }
-        let name_cost = cost(rt, &start, calls(times))?;
-        if rounds.is_some() {
-            println!(rt; "{name:<10} named {name_cost:>4} ns  ({found})")?;
-        }
+    }
+    let name_cost = watch.cost(rt, calls(times));
+    if rounds.is_some() {
+        println!(rt; "{name:<10} named {name_cost:>4} ns  ({found})")?;
     }
     Ok(())
 }
@@ -170,5 +168,8 @@ pub(crate) fn measure_texts<R: Clock + Print>(
     for target in Target::ALL {
         measure_cells(rt, alloc, rounds, target)?;
     }
-    measure_names(rt, rounds)
+    for name in NAMES {
+        measure_name(rt, rounds, name)?;
+    }
+    Ok(())
 }

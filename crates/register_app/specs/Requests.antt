@@ -47,6 +47,14 @@ abbrev pub bare_command : App
 bare_command = let new = new_app (codes "register") in
     record new { top = record new.top { no_binary_name = true; has_version = true } }
 
+-- the command with the options that take a value
+abbrev pub command_of_values : App
+command_of_values =
+    let targets = with_rule bare_command (option_rule (codes "to")) in
+    let ring = with_rule targets (option_rule (codes "ring")) in
+    let stripes = with_rule ring (option_rule (codes "stripes")) in
+    with_rule stripes (option_rule (codes "delimiter"))
+
 -- the command line: four options with a value each, two flags, and files
 abbrev pub command_line : App
 command_line =

@@ -3,13 +3,16 @@
 ghost use Rattle.std.specs.Prelude.{◌≡◌, ◌↔◌, ℕ, List, IfOk, IfErr, IfSome, IfNone, IsSomeAnd, OnOk, map, codes};
 ghost use Rattle.std.specs.Prelude.{option_map, unwrap_or, [], Some, true, false};
 ghost use Rattle.std.specs.String.{string_bytes};
-ghost use Rattle.clap.specs.Words.{HasKind, all_of, app_of, fault_of, found_of, one_of, rows_of, rule_of};
+ghost use Rattle.clap.specs.Words.{FailsBy, HasKind, all_of, app_of, fault_of, first_of, found_of, matches_of, one_of};
+ghost use Rattle.clap.specs.Words.{rows_of, rule_of};
 ghost use Rattle.register_app.specs.Faults.{IsOfWords, fault_told};
-ghost use Rattle.register_app.specs.Requests.{AreFilesToConvert, AreTargetsOf, IsDelimiterFault, IsDelimiterOf};
-ghost use Rattle.register_app.specs.Requests.{IsFileFault, IsFirstTwice, IsGiven, IsNamedTwice, IsRingFault, IsRingOf};
+ghost use Rattle.register_app.specs.OptionsRead.{AreOptionsOf, task_by};
+ghost use Rattle.register_app.specs.Requests.{AreFilesToConvert, AreTargetsOf, AsksFor, IsDelimiterFault};
+ghost use Rattle.register_app.specs.Requests.{IsDelimiterOf, IsFaultFromTargets, IsFileFault, IsFirstTwice, IsGiven};
+ghost use Rattle.register_app.specs.Requests.{IsNamedTwice, IsRingFault, IsRingOf};
 ghost use Rattle.register_app.specs.Requests.{IsStripesFault, IsStripesOf, IsTargetFault, MeanJust, bare_command};
-ghost use Rattle.register_app.specs.Requests.{command_line, files_in, flag_rule, meaning_of, option_rule, value_in};
-ghost use Rattle.register_app.specs.Requests.{word_rule, wrong};
+ghost use Rattle.register_app.specs.Requests.{command_line, command_of_values, files_in, flag_rule, meaning_of};
+ghost use Rattle.register_app.specs.Requests.{option_rule, value_in, word_rule, wrong};
 
 use crate::option_values::{delimiter_named, number_named, read_targets};
 use crate::refusals::Refusal;
@@ -99,15 +102,22 @@ fn bare<'a>(alloc: Global) -> Command<'a>
         .no_binary_name(true)
 }
 
-/// The command line, as clap reads it.
-fn command<'a>(alloc: Global) -> Result<Command<'a>, AllocError>
-    ensures { IfOk result (λ c. app_of c ≡ command_line) }
+/// The command with the options that take a value.
+fn with_values<'a>(alloc: Global) -> Result<Command<'a>, AllocError>
+    ensures { IfOk result (λ c. app_of c ≡ command_of_values) }
 {
     bare(alloc)
         .arg(option(alloc, "to", "LIST"))?
         .arg(option(alloc, "ring", "N"))?
         .arg(option(alloc, "stripes", "N"))?
-        .arg(option(alloc, "delimiter", "comma|semicolon|tab"))?
+        .arg(option(alloc, "delimiter", "comma|semicolon|tab"))
+}
+
+/// The command line, as clap reads it.
+fn command<'a>(alloc: Global) -> Result<Command<'a>, AllocError>
+    ensures { IfOk result (λ c. app_of c ≡ command_line) }
+{
+    with_values(alloc)?
         .arg(flag(alloc, "sealed"))?
         .arg(flag(alloc, "summary"))?
         .arg(words_alone(alloc, "file", "FILE"))
@@ -129,6 +139,48 @@ fn files_given<'a>(alloc: Global, matches: &ArgMatches<'a>) -> Result<Vec<&'a st
         Some(files) => files.to_vec(alloc),
         None => Ok(Vec::new(alloc)),
     }
+}
+
+/// What clap finds in the words.
+///
+/// # Errors
+///
+/// What clap refuses, a request for help or for the version, and want of memory.
+fn read_words<'a>(alloc: Global, words: &'a [String]) -> Result<ArgMatches<'a>, clap::Error>
+    ensures found { IfOk result (λ m. rows_of (found_of m)
+        ≡ matches_of command_line (map string_bytes words.entry.now)) }
+    ensures fails { FailsBy (fault_of command_line (map string_bytes words.entry.now)) result }
+{
+    command(alloc)?.try_get_matches_from(words)
+}
+
+/// The values of the options that clap found, and the files.
+fn options_found<'a>(alloc: Global, matches: &ArgMatches<'a>) -> Result<Options<'a>, AllocError>
+    ensures to { IfOk result (λ o. option_map (λ v. v.now) o.to
+        ≡ first_of (codes "to") (rows_of (found_of matches.now))) }
+    ensures ring { IfOk result (λ o. option_map (λ v. v.now) o.ring
+        ≡ first_of (codes "ring") (rows_of (found_of matches.now))) }
+    ensures stripes { IfOk result (λ o. option_map (λ v. v.now) o.stripes
+        ≡ first_of (codes "stripes") (rows_of (found_of matches.now))) }
+    ensures delimiter { IfOk result (λ o. option_map (λ v. v.now) o.delimiter
+        ≡ first_of (codes "delimiter") (rows_of (found_of matches.now))) }
+    ensures sealed { IfOk result (λ o. (o.sealed ≡ true)
+        ↔ (one_of (codes "sealed") (rows_of (found_of matches.now)) ≡ Some (codes "true"))) }
+    ensures summary { IfOk result (λ o. (o.summary ≡ true)
+        ↔ (one_of (codes "summary") (rows_of (found_of matches.now)) ≡ Some (codes "true"))) }
+    ensures files { IfOk result (λ o. map (λ f. f.now) o.files.items
+        ≡ unwrap_or (all_of (codes "file") (rows_of (found_of matches.now))) []) }
+{
+    let files = files_given(alloc, matches)?;
+    Ok(Options {
+        to: matches.get_str("to"),
+        ring: matches.get_str("ring"),
+        stripes: matches.get_str("stripes"),
+        delimiter: matches.get_str("delimiter"),
+        sealed: is_given(matches, "sealed"),
+        summary: is_given(matches, "summary"),
+        files,
+    })
 }
 
 /// The values of the options that the words give, and the files.
@@ -153,17 +205,9 @@ fn read_options<'a>(alloc: Global, words: &'a [String]) -> Result<Options<'a>, c
     ensures files { IfOk result (λ o. map (λ f. f.now) o.files.items ≡ files_in (map string_bytes words.entry.now)) }
     ensures kinds { IfErr result (HasKind (fault_of command_line (map string_bytes words.entry.now))) }
 {
-    let matches = command(alloc)?.try_get_matches_from(words)?;
-    let files = files_given(alloc, &matches)?;
-    Ok(Options {
-        to: matches.get_str("to"),
-        ring: matches.get_str("ring"),
-        stripes: matches.get_str("stripes"),
-        delimiter: matches.get_str("delimiter"),
-        sealed: is_given(&matches, "sealed"),
-        summary: is_given(&matches, "summary"),
-        files,
-    })
+    let matches = read_words(alloc, words)?;
+    let options = options_found(alloc, &matches)?;
+    Ok(options)
 }
 
 /// The targets that the value of `--to` asks for, or all of them where there is none.
@@ -269,6 +313,32 @@ fn check_files<'a>(files: &[&'a str]) -> Result<(), Refusal<'a>>
     }
 }
 
+/// The setup that the options ask for, with files that fit.
+///
+/// # Errors
+///
+/// The first that applies: the faults of the list of targets as [`read_targets`] has them, `BadRing`,
+/// `UnknownDelimiter`, `BadStripes`, and the faults of the files as [`check_files`] has them; and `OutOfMemory` where a
+/// growth of memory was refused on the way.
+fn chosen_setup<'a>(alloc: Global, options: &Options<'a>) -> Result<Setup, Refusal<'a>>
+    ensures asked { IfOk result (λ setup. (words : List (List ℕ)) → AreOptionsOf words options.now
+        → AsksFor words (task_by setup options.now)) }
+    ensures fault { IfErr result (λ refusal. IfSome (fault_told refusal) (λ fault. (words : List (List ℕ))
+        → AreOptionsOf words options.now → IsFaultFromTargets words fault)) }
+    ensures memory { IfErr result IsOfWords }
+{
+    let targets = chosen_targets(alloc, options.to)?;
+    let ring = chosen_ring(options.ring)?;
+    let delimiter = chosen_delimiter(options.delimiter)?;
+    let stripes = chosen_stripes(options.stripes)?;
+    check_files(options.files.as_slice())?;
+    let form = chosen_form(options.sealed);
+    match Setup::new(targets.as_slice(), ring, delimiter, stripes, form) {
+        Ok(setup) => Ok(setup),
+        Err(_) => unreachable!(),
+    }
+}
+
 /// What the words after the program's name ask for.
 ///
 /// # Errors
@@ -293,20 +363,12 @@ pub fn read_request<'a>(alloc: Global, words: &'a [String]) -> Result<Request<'a
             _ => return Err(Refusal::Usage(error)),
         },
     };
-    let targets = chosen_targets(alloc, options.to)?;
-    let ring = chosen_ring(options.ring)?;
-    let delimiter = chosen_delimiter(options.delimiter)?;
-    let stripes = chosen_stripes(options.stripes)?;
-    check_files(options.files.as_slice())?;
-    let form = chosen_form(options.sealed);
-    match Setup::new(targets.as_slice(), ring, delimiter, stripes, form) {
-        Ok(setup) => Ok(Request::Convert(Job {
-            setup,
-            summary: options.summary,
-            files: options.files,
-        })),
-        Err(_) => unreachable!(),
-    }
+    let setup = chosen_setup(alloc, &options)?;
+    Ok(Request::Convert(Job {
+        setup,
+        summary: options.summary,
+        files: options.files,
+    }))
 }
 
 #[cfg(test)]

@@ -2,6 +2,7 @@ pub mod ArmLemmas
 pub mod FeedLemmas
 pub mod FrontLemmas
 pub mod GivenLemmas
+pub mod MoveLemmas
 pub mod HeadlineLemmas
 pub mod PassageLemmas
 pub mod SettledLemmas

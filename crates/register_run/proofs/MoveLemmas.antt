@@ -1,0 +1,48 @@
+-- Items that are moved from the front of one list to the end of another.
+use Rattle.std.proofs.Common.{◌≡◌, ◌∙◌, ◌++◌, ◌∷◌, [], List, ap, append_assoc, arith, length, map, subst, sym}
+use Rattle.std.specs.Prelude.{All}
+use Rattle.std.proofs.lemmas.List.{append-nil, map-append}
+use Rattle.std.proofs.lemmas.List.Elements.{All-append, All-cons}
+
+-- one more, where each is made into another, and both are seen as values of one kind
+pub made_more : {X Y Z : Type 0} (f : X → Z) (h : Y → Z) (all : List Z) (done new : List X) (one : X)
+    (left rest : List Y) (item : Y)
+    → new ≡ done ++ one ∷ [] → f one ≡ h item → left ≡ item ∷ rest → map f done ++ map h left ≡ all
+    → map f new ++ map h rest ≡ all
+made_more f h all done new one left rest item n s l e =
+    ap (λ xs. map f xs ++ map h rest) n
+    ∙ ap (λ xs. xs ++ map h rest) (map-append f done (one ∷ []))
+    ∙ append_assoc (map f done) (f one ∷ []) (map h rest)
+    ∙ ap (λ x. map f done ++ (x ∷ map h rest)) s
+    ∙ ap (λ xs. map f done ++ map h xs) (sym l) ∙ e
+
+-- the same where what is made is the value that is seen
+pub seen_more : {Y Z : Type 0} (h : Y → Z) (all done new : List Z) (one : Z) (left rest : List Y) (item : Y)
+    → new ≡ done ++ one ∷ [] → one ≡ h item → left ≡ item ∷ rest → done ++ map h left ≡ all
+    → new ++ map h rest ≡ all
+seen_more h all done new one left rest item n s l e =
+    ap (λ xs. xs ++ map h rest) n
+    ∙ append_assoc done (one ∷ []) (map h rest)
+    ∙ ap (λ x. done ++ (x ∷ map h rest)) s
+    ∙ ap (λ xs. done ++ map h xs) (sym l) ∙ e
+
+-- once none is left, all are made
+pub all_made : {Y Z : Type 0} (h : Y → Z) (all done : List Z) (left : List Y) → length left ≡ 0
+    → done ++ map h left ≡ all → done ≡ all
+all_made h all done [] e p = sym (append-nil done) ∙ p
+all_made h all done (item ∷ left) e p = absurd (omega arith)
+
+-- one more at the end of each of two lists, which are seen as the same values
+pub both_more : {X Y Z : Type 0} (f : X → Z) (h : Y → Z) (xs new : List X) (ys more : List Y) (x : X) (y : Y)
+    → new ≡ xs ++ x ∷ [] → more ≡ ys ++ y ∷ [] → f x ≡ h y → map f xs ≡ map h ys → map f new ≡ map h more
+both_more f h xs new ys more x y n m s e =
+    ap (λ zs. map f zs) n ∙ map-append f xs (x ∷ [])
+    ∙ ap (λ zs. zs ++ (f x ∷ [])) e
+    ∙ ap (λ z. map h ys ++ (z ∷ [])) s ∙ sym (map-append h ys (y ∷ [])) ∙ ap (λ zs. map h zs) (sym m)
+
+-- what holds of each item of a list holds of each of one more
+pub each_more : {X : Type 0} (P : X → Type 0) (xs new : List X) (x : X) → new ≡ xs ++ x ∷ [] → All P xs → P x
+    → All P new
+each_more P xs new x n each one =
+    subst (All P) (sym n)
+    (All-append P xs (x ∷ []) each (All-cons P x [] one (λ k d below. absurd (omega arith))))

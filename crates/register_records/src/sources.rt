@@ -6,7 +6,7 @@ ghost use Rattle.register_records.specs.Sources.{ArePartOfTable, Gains, IfBroken
 ghost use Rattle.register_records.specs.Sources.{IsWholeTable, cause_number, is_whole_end};
 ghost use Rattle.register_records.specs.Tables.{notes_of};
 ghost use Rattle.register_records.specs.declared.setups.Form.TheVariants.{Sealed};
-ghost use Rattle.register_records.specs.Views.{form_of, format_of, layout_of, row_seen};
+ghost use Rattle.register_records.specs.Views.{format_of, layout_of, row_seen};
 
 use crate::converting::convert;
 use crate::outputs::Output;
@@ -142,7 +142,7 @@ pub fn convert_source<R: Read + Drop, W: Output>(
         × ∥ Gains (W.contents output.old) (W.contents output.new)
         (IsFrontOfTable (layout_of setup.now) (R.remaining reader) record_limit) ∥₁) }
     // The text is sealed, but its seal is missing or does not agree, or a record follows it.
-    ensures not_sealed { IfBroken result (λ c. c ≡ Cause.NotSealed → (form_of setup.now ≡ Sealed)
+    ensures not_sealed { IfBroken result (λ c. c ≡ Cause.NotSealed → (setup.now.form ≡ Sealed)
         × ∥ IfSome (R.remaining reader) (λ text. IsNotSealed (format_of setup.now) text) ∥₁) }
     ensures never { IfBroken result (λ c. (c ≢ Cause.NoThread) × (c ≢ Cause.Unconfirmed)) }
 

@@ -3,7 +3,7 @@ use Rattle.std.specs.Result.{is_ok}
 use Rattle.csv.proofs.WriteFacts.{appends-none}
 use Rattle.register_records.specs.Entries.{Format, HasTooMany, IsNotSealed, Numbered}
 use Rattle.register_records.specs.Views.{given_of}
-use Rattle.register_records.specs.Seen.{entry_number, entry_seen}
+use Rattle.register_records.specs.Seen.{entry_seen}
 use Rattle.register_records.specs.Tables.{row_line}
 use Rattle.register_records.specs.Views.{format_of, layout_of, line_of, row_seen, row_targets}
 use Rattle.std.specs.Io.KnownBytes.{Appends}
@@ -75,7 +75,7 @@ entries-preserved g c =
     let line =
     subst (λ (bytes : List ℕ). Appends (g.W.Output.contents c.entries.output)
     (g.W.Output.contents c.put.new.output) bytes) same_line (rw inv.none_waits at c.in_default.ensures.ok) in
-    let same : c.number-rows.result ≡ entry_number c.in-Ok-Some.entry = cc in
+    let same : c.number-rows.result ≡ c.in-Ok-Some.entry.number = cc in
     let few = notes_few (row_seen c.convert-row.result).number (row_seen c.convert-row.result).outcome in
     let longer = length-append {A = Numbered} (given_of c.entries.entries) (entry_seen c.in-Ok-Some.entry ∷ []) in
     record {

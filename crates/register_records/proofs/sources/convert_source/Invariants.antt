@@ -1,21 +1,21 @@
 use Rattle.std.proofs.Common.{◌≡◌, [], ◌≤◌, ◌-◌, true, false, length}
 use Rattle.register_records.specs.Entries.{record_limit}
-use Rattle.register_records.specs.Views.{format_of, given_of, layout_of, pending_of, reading_failed, reads_by, text_of}
-use Rattle.register_records.specs.Views.{writes_by, writing_failed}
+use Rattle.register_records.specs.Views.{format_of, given_of, layout_of, reads_by, text_of}
+use Rattle.register_records.specs.Views.{writes_by}
 use Rattle.register_records.proofs.Progress.{Progress}
 use Rattle.register_records.proofs.sources.convert_source.Given as goal
 
 abbrev pub invariant-entries : goal.invariant-entries
 invariant-entries g l =
     record {
-      reads : reading_failed l.entries ≡ false;
+      reads : l.entries.failed ≡ false;
       text : text_of l.entries ≡ g.R.Read.remaining l.fn.reader;
       reads_by : reads_by l.entries ≡ format_of l.setup;
       counted : l.rows ≡ length (given_of l.entries);
       limit : l.rows ≤ record_limit;
       fewer : length l.journal.items ≤ l.rows;
-      writes : writing_failed l.writer ≡ false;
-      none_waits : pending_of l.writer ≡ [];
+      writes : l.writer.failed ≡ false;
+      none_waits : l.writer.pending.items ≡ [];
       by : writes_by l.writer ≡ format_of l.setup;
       flushed : g.W.Output.is_flushed l.output ≡ true;
       good : g.W.Output.has_failed l.output ≡ g.W.Output.has_failed l.fn.output;

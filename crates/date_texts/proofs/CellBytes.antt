@@ -10,7 +10,7 @@ use Rattle.std.proofs.lemmas.Bool.Decides.{nat_tests}
 use Rattle.std.proofs.lemmas.List.Folds.{list_all-append}
 use Rattle.maya_calendars.specs.HaabNames.{haab_of, month_names, month_name}
 use Rattle.maya_calendars.specs.TzolkinNames.{tzolkin_of, name_texts, name_text}
-use Rattle.maya_calendars.specs.Laws.{HaabDaysInRange, TzolkinNumbersInRange}
+use Rattle.maya_calendars.proofs.LawWords.{HaabDaysInRange, TzolkinNumbersInRange}
 use Rattle.date_texts.specs.declared.calendar.Calendar.{Calendar}
 use Rattle.date_texts.specs.declared.calendar.Target.TheVariants.{Date as DateTarget, Haab, Tzolkin}
 use Rattle.date_texts.specs.declared.date.Date.{Date}
@@ -19,12 +19,13 @@ use Rattle.date_texts.specs.declared.grammar.Grammar.{Grammar}
 use Rattle.solar_calendars.specs.declared.roman_date.RomanName.{RomanName}
 use Rattle.date_texts.specs.Calendars.{grammar}
 use Rattle.date_texts.specs.Cells.{IsDateCell, on_date, before_first_day, is_plain}
-use Rattle.date_texts.specs.Numerals.{all_digits, IsNumeral, IsYearText, plain, minus}
-use Rattle.date_texts.specs.CivilText.{IsMark, of_month, capital_letter, small_letter, IsCivilText}
-use Rattle.date_texts.specs.LongText.{IsLongText}
-use Rattle.date_texts.specs.RomanText.{IsNameText, of_kalends, of_nones, of_ides, of_second_sixth, IsRomanText}
+use Rattle.date_texts.specs.Numerals.{IsNumeral, IsYearText, plain, minus}
+use Rattle.date_texts.specs.RomanText.{IsNameText, of_kalends, of_nones, of_ides, of_second_sixth}
+use Rattle.date_texts.proofs.TextWords.{all_digits}
+use Rattle.date_texts.proofs.TextParts.{IsMark, no_letter, capital_letter, small_letter, CivilParts, LongParts}
+use Rattle.date_texts.proofs.TextParts.{RomanParts}
 use Rattle.date_texts.specs.DateText.{canonical_text}
-use Rattle.date_texts.specs.Laws.{CellsArePlain}
+use Rattle.date_texts.proofs.LawWords.{CellsArePlain}
 use Rattle.date_texts.proofs.DateTextLemmas.{canonical_is}
 use Rattle.date_texts.proofs.ReadingLemmas.{both_true, decimal_numeral, canonical_long_is}
 use Rattle.date_texts.proofs.RomanTextLemmas.{canonical_roman_is, second_sixth_is}
@@ -53,17 +54,17 @@ year_plain text z (plain h) = numeral_plain h
 year_plain text z (minus h) = numeral_plain h
 
 mark_plain : (grammar : Grammar) (mark : List ℕ) → IsMark grammar mark → ArePlain mark
-mark_plain _ _ of_month = refl
+mark_plain _ _ no_letter = refl
 mark_plain _ _ capital_letter = refl
 mark_plain _ _ small_letter = refl
 
-civil_plain : (grammar : Grammar) (text : List ℕ) (z : ℤ) (m d : ℕ) → IsCivilText grammar text z m d → ArePlain text
+civil_plain : (grammar : Grammar) (text : List ℕ) (z : ℤ) (m d : ℕ) → CivilParts grammar text z m d → ArePlain text
 civil_plain grammar text z m d h =
     let day = joined_plain h.month_text (45 ∷ h.day_text) (numeral_plain h.is_month) (numeral_plain h.is_day) in
     let month = joined_plain h.mark _ (mark_plain grammar h.mark h.is_mark) day in
     rw h.joined (joined_plain h.year_text _ (year_plain h.year_text z h.is_year) month)
 
-long_plain : (text : List ℕ) (p q r s t : ℕ) → IsLongText text p q r s t → ArePlain text
+long_plain : (text : List ℕ) (p q r s t : ℕ) → LongParts text p q r s t → ArePlain text
 long_plain text p q r s t h =
     let uinal = joined_plain h.uinal_text (46 ∷ h.kin_text) (numeral_plain h.is_uinal) (numeral_plain h.is_kin) in
     let tun = joined_plain h.tun_text (46 ∷ _) (numeral_plain h.is_tun) uinal in
@@ -94,7 +95,7 @@ name_plain_text _ _ (of_nones {c = c} {n = n} {text = ds} e h) = counted_plain c
 name_plain_text _ _ (of_ides {c = c} {n = n} {text = ds} e h) = counted_plain c _ n ds e (omega arith) (omega arith) h
 name_plain_text _ _ (of_second_sixth {text = text} e) = sixth_plain text e
 
-roman_plain : (text : List ℕ) (z : ℤ) (m : ℕ) (name : RomanName) → IsRomanText text z m name → ArePlain text
+roman_plain : (text : List ℕ) (z : ℤ) (m : ℕ) (name : RomanName) → RomanParts text z m name → ArePlain text
 roman_plain text z m name h =
     let month = joined_plain h.month_text (45 ∷ _) (numeral_plain h.is_month)
     (name_plain_text h.name_text name h.is_name) in

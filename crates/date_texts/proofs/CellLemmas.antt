@@ -6,7 +6,7 @@ use Rattle.day_numbers.specs.declared.ymd.Ymd.{Ymd}
 use Rattle.day_numbers.specs.Days.{IsSinceFirstDay}
 use Rattle.day_numbers.proofs.DateLemmas.{rules_one_date, rules_have_days}
 use Rattle.solar_calendars.specs.IsoWeekLaw.{one_week_date}
-use Rattle.solar_calendars.specs.Laws.{OneRomanDate}
+use Rattle.solar_calendars.proofs.LawWords.{OneRomanDate}
 use Rattle.maya_calendars.specs.Rounds.{epoch}
 use Rattle.maya_calendars.specs.LongCounts.{IsLongCount, long_day}
 use Rattle.maya_calendars.specs.declared.long_count.LongCount.{LongCount}
@@ -22,7 +22,7 @@ use Rattle.date_texts.specs.Calendars.{day_number_by, first_day_by, IsDateIn, da
 use Rattle.date_texts.specs.Dates.{calendar_of_date, IsDateOfCalendar, day_number_of_date}
 use Rattle.date_texts.specs.DateText.{canonical_text, canonical_ymd}
 use Rattle.date_texts.specs.Cells.{IsDateCell, on_date, before_first_day, IsCell}
-use Rattle.date_texts.specs.Laws.{OneCell}
+use Rattle.date_texts.proofs.LawWords.{OneCell}
 use Rattle.date_texts.proofs.DateParts.{CountParts, civil_same, count_same}
 
 -- ---- a calendar has one date on a day, and none before its first day

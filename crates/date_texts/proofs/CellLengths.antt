@@ -6,7 +6,7 @@ use Rattle.std.specs.Fmt.{decimal}
 use Rattle.std.proofs.lemmas.Bool.Decides.{nat_tests}
 use Rattle.maya_calendars.specs.HaabNames.{haab_of, month_names, month_name}
 use Rattle.maya_calendars.specs.TzolkinNames.{tzolkin_of, name_texts, name_text}
-use Rattle.maya_calendars.specs.Laws.{HaabDaysInRange, TzolkinNumbersInRange}
+use Rattle.maya_calendars.proofs.LawWords.{HaabDaysInRange, TzolkinNumbersInRange}
 use Rattle.date_texts.specs.declared.calendar.Calendar.{Calendar}
 use Rattle.date_texts.specs.declared.calendar.Target.TheVariants.{Date as DateTarget, Haab, Tzolkin}
 use Rattle.date_texts.specs.declared.date.Date.{Date}
@@ -17,11 +17,11 @@ use Rattle.date_texts.specs.Calendars.{grammar}
 use Rattle.date_texts.specs.Cells.{IsDateCell, on_date, before_first_day}
 use Rattle.date_texts.specs.Dates.{IsDateOfCalendar}
 use Rattle.date_texts.specs.Numerals.{IsYearText, plain, minus}
-use Rattle.date_texts.specs.CivilText.{IsMark, of_month, capital_letter, small_letter, IsCivilText}
+use Rattle.date_texts.proofs.TextParts.{IsMark, no_letter, capital_letter, small_letter, CivilParts, RomanParts}
 use Rattle.date_texts.specs.LongText.{canonical_long}
-use Rattle.date_texts.specs.RomanText.{IsNameText, of_kalends, of_nones, of_ides, of_second_sixth, IsRomanText}
+use Rattle.date_texts.specs.RomanText.{IsNameText, of_kalends, of_nones, of_ides, of_second_sixth}
 use Rattle.date_texts.specs.DateText.{canonical_text}
-use Rattle.date_texts.specs.Laws.{CellsAreShort}
+use Rattle.date_texts.proofs.LawWords.{CellsAreShort}
 use Rattle.date_texts.proofs.DateTextLemmas.{canonical_is}
 use Rattle.date_texts.proofs.ReadingLemmas.{both_true, decimal_numeral}
 use Rattle.date_texts.proofs.RomanTextLemmas.{canonical_roman_is, second_sixth_is}
@@ -32,11 +32,11 @@ year_length text z (plain h) = omega (arith, h.few)
 year_length text z (minus h) = omega (arith, h.few)
 
 mark_length : (grammar : Grammar) (mark : List ℕ) → IsMark grammar mark → length mark ≤ 1
-mark_length _ _ of_month = omega arith
+mark_length _ _ no_letter = omega arith
 mark_length _ _ capital_letter = omega arith
 mark_length _ _ small_letter = omega arith
 
-civil_length : (grammar : Grammar) (text : List ℕ) (z : ℤ) (m d : ℕ) → IsCivilText grammar text z m d → length text ≤ 16
+civil_length : (grammar : Grammar) (text : List ℕ) (z : ℤ) (m d : ℕ) → CivilParts grammar text z m d → length text ≤ 16
 civil_length grammar text z m d h =
     omega (
       arith,
@@ -54,7 +54,7 @@ name_length _ _ (of_nones e h) = omega (arith, h.few)
 name_length _ _ (of_ides e h) = omega (arith, h.few)
 name_length _ _ (of_second_sixth {text = text} e) = omega (arith, ap length (second_sixth_is text e).joined)
 
-roman_length : (text : List ℕ) (z : ℤ) (m : ℕ) (name : RomanName) → IsRomanText text z m name → length text ≤ 16
+roman_length : (text : List ℕ) (z : ℤ) (m : ℕ) (name : RomanName) → RomanParts text z m name → length text ≤ 16
 roman_length text z m name h =
     omega (
       arith,
@@ -108,11 +108,11 @@ short_at (x ∷ xs) zero h = first (length x) (both_true (nat_le (length x) 8) (
     first n h = grind (arith, nat_tests)
 short_at (x ∷ xs) (suc i) h = short_at xs i (both_true (nat_le (length x) 8) (all_short xs) h).1
 
-month_length : (month : ℕ) → length (month_name month) ≤ 8
+pub month_length : (month : ℕ) → length (month_name month) ≤ 8
 unfolding all_short
 month_length month = short_at month_names (month - 1) refl
 
-day_name_length : (place : ℕ) → length (name_text place) ≤ 8
+pub day_name_length : (place : ℕ) → length (name_text place) ≤ 8
 unfolding all_short
 day_name_length place = short_at name_texts (place - 1) refl
 

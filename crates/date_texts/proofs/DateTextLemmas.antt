@@ -20,8 +20,11 @@ use Rattle.date_texts.specs.declared.date.Date.{Date}
 use Rattle.date_texts.specs.declared.date.Date.TheVariants.{Civil, Long, Roman}
 use Rattle.date_texts.specs.Calendars.{grammar, IsCivil}
 use Rattle.date_texts.specs.Dates.{calendar_of_date}
-use Rattle.date_texts.specs.Trimmed.{is_blank, trim_start, trim_end, trimmed}
-use Rattle.date_texts.specs.Numerals.{all_digits, IsNumeral, IsYearText, plain, minus}
+use Rattle.date_texts.specs.Trimmed.{trim_start, trimmed}
+use Rattle.date_texts.specs.Numerals.{IsNumeral, IsYearText, plain, minus}
+use Rattle.date_texts.proofs.TextWords.{all_digits, is_blank, trim_end}
+use Rattle.date_texts.proofs.TextParts.{CivilParts, civil_parts, civil_whole, LongParts, long_parts, long_whole}
+use Rattle.date_texts.proofs.TextParts.{RomanParts, roman_parts, roman_whole}
 use Rattle.date_texts.specs.CivilText.{IsCivilText}
 use Rattle.date_texts.specs.LongText.{IsLongText}
 use Rattle.date_texts.specs.RomanText.{IsRomanText, IsNameText, of_kalends, of_nones, of_ides, of_second_sixth}
@@ -33,13 +36,33 @@ use Rattle.date_texts.proofs.ReadingLemmas.{canonical_civil_is, canonical_week_i
 use Rattle.date_texts.proofs.RomanTextLemmas.{roman_read, roman_take, canonical_roman_is, second_sixth_is}
 
 -- ---- the reader's answer is what the grammar says
+civil_said : (grammar : Grammar) (text : List ℕ) (z : ℤ) (m d : ℕ) → IsCivilText grammar text z m d
+    → civil_at grammar text ≡ Some (z, m, d)
+civil_said grammar text z m d h = civil_take grammar text z m d (civil_parts grammar text z m d h)
+
+civil_says : (grammar : Grammar) (text : List ℕ) (z : ℤ) (m d : ℕ) → civil_at grammar text ≡ Some (z, m, d)
+    → IsCivilText grammar text z m d
+civil_says grammar text z m d e = civil_whole grammar text z m d (civil_read grammar text z m d e)
+
+long_said : (text : List ℕ) (p q r s t : ℕ) → IsLongText text p q r s t → long_at text ≡ Some (p, q, r, s, t)
+long_said text p q r s t h = long_take text p q r s t (long_parts text p q r s t h)
+
+long_says : (text : List ℕ) (p q r s t : ℕ) → long_at text ≡ Some (p, q, r, s, t) → IsLongText text p q r s t
+long_says text p q r s t e = long_whole text p q r s t (long_read text p q r s t e)
+
+roman_said : (text : List ℕ) (z : ℤ) (m : ℕ) (x : RomanName) → IsRomanText text z m x → roman_at text ≡ Some (z, m, x)
+roman_said text z m x h = roman_take text z m x (roman_parts text z m x h)
+
+roman_says : (text : List ℕ) (z : ℤ) (m : ℕ) (x : RomanName) → roman_at text ≡ Some (z, m, x) → IsRomanText text z m x
+roman_says text z m x e = roman_whole text z m x (roman_read text z m x e)
+
 none_some : {A : Type 0} {x : A} → None ≡ Some x → ⊥
 none_some e = cc
 
 pub no_civil : (calendar : Calendar) (text : List ℕ) → civil_at (grammar calendar) text ≡ None → IsCivil calendar
     → (date : Date) → SaysDate calendar text date → ⊥
 no_civil calendar text e civil (Civil d) h =
-    none_some (sym e ∙ civil_take (grammar calendar) text d.ymd.year d.ymd.month d.ymd.day h.1)
+    none_some (sym e ∙ civil_said (grammar calendar) text d.ymd.year d.ymd.month d.ymd.day h.1)
 no_civil calendar text e civil (Long n) h = civil.0 (sym h.0)
 no_civil calendar text e civil (Roman d) h = civil.1 (sym h.0)
 
@@ -47,7 +70,7 @@ one_civil : (calendar : Calendar) (text : List ℕ) (d e : CivilDate) → d.cale
     → civil_at (grammar calendar) text ≡ Some (d.ymd.year, d.ymd.month, d.ymd.day)
     → SaysDate calendar text (Civil e) → d ≡ e
 one_civil calendar text d e p q h =
-    let same = some_inside (sym q ∙ civil_take (grammar calendar) text e.ymd.year e.ymd.month e.ymd.day h.1) in
+    let same = some_inside (sym q ∙ civil_said (grammar calendar) text e.ymd.year e.ymd.month e.ymd.day h.1) in
     civil_same d e (p ∙ sym h.0) (ymd_same d.ymd e.ymd same)
 
 only_civil : (calendar : Calendar) (text : List ℕ) (d : CivilDate) → d.calendar ≡ calendar
@@ -62,7 +85,7 @@ pub some_civil : (calendar : Calendar) (text : List ℕ) (d : CivilDate) → d.c
     → (date : Date) → (Some (Civil d) ≡ Some date) ↔ SaysDate calendar text date
 some_civil calendar text d p q date = (
   λ e. subst (SaysDate calendar text) (some_inside e)
-      (p, civil_read (grammar calendar) text d.ymd.year d.ymd.month d.ymd.day q),
+      (p, civil_says (grammar calendar) text d.ymd.year d.ymd.month d.ymd.day q),
   λ h. ap Some (only_civil calendar text d p q date h),
 )
 
@@ -75,21 +98,21 @@ parts_read grammar text y m d o ymd date a b p q r e = rw (e, p, q, r) (sym a �
 
 pub no_long : (text : List ℕ) → long_at text ≡ None → (date : Date) → SaysDate Longcount text date → ⊥
 no_long text e (Civil d) h = d.civil.0 h.0
-no_long text e (Long n) h = none_some (sym e ∙ long_take text n.baktun n.katun n.tun n.uinal n.kin h.1)
+no_long text e (Long n) h = none_some (sym e ∙ long_said text n.baktun n.katun n.tun n.uinal n.kin h.1)
 no_long text e (Roman d) h = absurd (cc (h.0))
 
 only_long : (text : List ℕ) (n : LongCount) → long_at text ≡ Some (n.baktun, n.katun, n.tun, n.uinal, n.kin)
     → (date : Date) → SaysDate Longcount text date → Long n ≡ date
 only_long text n q (Civil d) h = absurd (d.civil.0 h.0)
 only_long text n q (Long m) h =
-    ap Long (count_same n m (some_inside (sym q ∙ long_take text m.baktun m.katun m.tun m.uinal m.kin h.1)))
+    ap Long (count_same n m (some_inside (sym q ∙ long_said text m.baktun m.katun m.tun m.uinal m.kin h.1)))
 only_long text n q (Roman d) h = absurd (cc (h.0))
 
 pub some_long : (text : List ℕ) (n : LongCount) → long_at text ≡ Some (n.baktun, n.katun, n.tun, n.uinal, n.kin)
     → (date : Date) → (Some (Long n) ≡ Some date) ↔ SaysDate Longcount text date
 some_long text n q date = (
   λ e. subst (SaysDate Longcount text) (some_inside e)
-      (refl, long_read text n.baktun n.katun n.tun n.uinal n.kin q),
+      (refl, long_says text n.baktun n.katun n.tun n.uinal n.kin q),
   λ h. ap Some (only_long text n q date h),
 )
 
@@ -103,19 +126,19 @@ places_read text p q r s t o n a b c d e f g = rw (c, d, e, f, g) (sym a ∙ b)
 pub no_roman : (text : List ℕ) → roman_at text ≡ None → (date : Date) → SaysDate RomanCalendar text date → ⊥
 no_roman text e (Civil d) h = d.civil.1 h.0
 no_roman text e (Long n) h = absurd (cc (h.0))
-no_roman text e (Roman d) h = none_some (sym e ∙ roman_take text d.year d.month d.name h.1)
+no_roman text e (Roman d) h = none_some (sym e ∙ roman_said text d.year d.month d.name h.1)
 
 only_roman : (text : List ℕ) (d : RomanDate) → roman_at text ≡ Some (d.year, d.month, d.name)
     → (date : Date) → SaysDate RomanCalendar text date → Roman d ≡ date
 only_roman text d q (Civil e) h = absurd (e.civil.1 h.0)
 only_roman text d q (Long n) h = absurd (cc (h.0))
 only_roman text d q (Roman e) h =
-    ap Roman (roman_same d e (some_inside (sym q ∙ roman_take text e.year e.month e.name h.1)))
+    ap Roman (roman_same d e (some_inside (sym q ∙ roman_said text e.year e.month e.name h.1)))
 
 pub some_roman : (text : List ℕ) (d : RomanDate) → roman_at text ≡ Some (d.year, d.month, d.name)
     → (date : Date) → (Some (Roman d) ≡ Some date) ↔ SaysDate RomanCalendar text date
 some_roman text d q date = (
-  λ e. subst (SaysDate RomanCalendar text) (some_inside e) (refl, roman_read text d.year d.month d.name q),
+  λ e. subst (SaysDate RomanCalendar text) (some_inside e) (refl, roman_says text d.year d.month d.name q),
   λ h. ap Some (only_roman text d q date h),
 )
 
@@ -130,12 +153,12 @@ pub one_date_text : (calendar : Calendar) (text : List ℕ) (d e : Date) → IsD
     → IsDateText calendar text e → d ≡ e
 one_date_text calendar text (Civil d) e h g =
     only_civil calendar (trimmed text) d h.0
-    (civil_take (grammar calendar) (trimmed text) d.ymd.year d.ymd.month d.ymd.day h.1) e g
+    (civil_said (grammar calendar) (trimmed text) d.ymd.year d.ymd.month d.ymd.day h.1) e g
 one_date_text calendar text (Long n) e h g =
-    only_long (trimmed text) n (long_take (trimmed text) n.baktun n.katun n.tun n.uinal n.kin h.1) e
+    only_long (trimmed text) n (long_said (trimmed text) n.baktun n.katun n.tun n.uinal n.kin h.1) e
     (subst (λ c. SaysDate c (trimmed text) e) (sym h.0) g)
 one_date_text calendar text (Roman d) e h g =
-    only_roman (trimmed text) d (roman_take (trimmed text) d.year d.month d.name h.1) e
+    only_roman (trimmed text) d (roman_said (trimmed text) d.year d.month d.name h.1) e
     (subst (λ c. SaysDate c (trimmed text) e) (sym h.0) g)
 
 -- a civil calendar has one of two grammars
@@ -204,7 +227,7 @@ stays_trimmed text whole e start end =
     ∙ sym end.joined in
     ap trimmed e ∙ ap trim_end start ∙ ended ∙ sym e
 
-civil_trimmed : (grammar : Grammar) (text : List ℕ) (z : ℤ) (m d : ℕ) → IsCivilText grammar text z m d
+civil_trimmed : (grammar : Grammar) (text : List ℕ) (z : ℤ) (m d : ℕ) → CivilParts grammar text z m d
     → trimmed text ≡ text
 civil_trimmed grammar text z m d h =
     stays_trimmed text _ h.joined (year_begins h.year_text z _ h.is_year) (ends_after h.year_text
@@ -215,7 +238,7 @@ place_begins [] n x h = absurd (omega (arith, h.some))
 place_begins (c ∷ cs) n x h =
     start_stays c (cs ++ x) (digit_no_blank c (both_true (is_ascii_digit c) (all_digits cs) h.digits).0)
 
-long_trimmed : (text : List ℕ) (p q r s t : ℕ) → IsLongText text p q r s t → trimmed text ≡ text
+long_trimmed : (text : List ℕ) (p q r s t : ℕ) → LongParts text p q r s t → trimmed text ≡ text
 long_trimmed text p q r s t h =
     let kin = ends_after (46 ∷ []) (numeral_ends 4 t h.kin_text h.is_kin) in
     let uinal = ends_after (46 ∷ []) (ends_after h.uinal_text kin) in
@@ -240,30 +263,36 @@ name_ends _ _ (of_nones {c = c} {n = n} {text = ds} e h) = ends_after (c ∷ [])
 name_ends _ _ (of_ides {c = c} {n = n} {text = ds} e h) = ends_after (c ∷ []) (numeral_ends 2 n ds h)
 name_ends _ _ (of_second_sixth {text = text} e) = letter_ends text e
 
-roman_trimmed : (text : List ℕ) (z : ℤ) (m : ℕ) (x : RomanName) → IsRomanText text z m x → trimmed text ≡ text
+roman_trimmed : (text : List ℕ) (z : ℤ) (m : ℕ) (x : RomanName) → RomanParts text z m x → trimmed text ≡ text
 roman_trimmed text z m x h =
     stays_trimmed text _ h.joined (year_begins h.year_text z _ h.is_year) (ends_after h.year_text
     (ends_after (45 ∷ []) (ends_after h.month_text (ends_after (45 ∷ []) (name_ends h.name_text x h.is_name)))))
 
 -- the canonical text of a date is a date text that says it
 canonical_by : (grammar : Grammar) (d : Ymd) → (grammar ≡ grammars.Civil) ⊎ (grammar ≡ grammars.Week)
-    → IsCivilText grammar (canonical_ymd grammar d) d.year d.month d.day
+    → CivilParts grammar (canonical_ymd grammar d) d.year d.month d.day
 canonical_by grammars.Civil d h = canonical_civil_is d.year d.month d.day d.year_in d.month_in d.day_in
 canonical_by grammars.Week d h = canonical_week_is d.year d.month d.day d.year_in d.month_in d.day_in
 canonical_by grammars.LongCount d h = absurd (elim h [ inl e ↦ cc | inr e ↦ cc ])
 canonical_by grammars.Roman d h = absurd (elim h [ inl e ↦ cc | inr e ↦ cc ])
 
 pub canonical_is : (d : CivilDate)
-    → IsCivilText (grammar d.calendar) (canonical_text (Civil d)) d.ymd.year d.ymd.month d.ymd.day
+    → CivilParts (grammar d.calendar) (canonical_text (Civil d)) d.ymd.year d.ymd.month d.ymd.day
 canonical_is d = canonical_by (grammar d.calendar) d.ymd (grammar_of_civil d.calendar d.civil)
 
 pub canonical_text_is : (date : Date) → IsDateText (calendar_of_date date) (canonical_text date) date
 canonical_text_is (Civil d) =
-    let is = canonical_is d in
-    (refl, rw (civil_trimmed (grammar d.calendar) _ d.ymd.year d.ymd.month d.ymd.day is) is)
+    let is = canonical_is d in (
+      refl,
+      rw (civil_trimmed (grammar d.calendar) _ d.ymd.year d.ymd.month d.ymd.day is)
+          (civil_whole (grammar d.calendar) _ d.ymd.year d.ymd.month d.ymd.day is),
+    )
 canonical_text_is (Long n) =
-    let is = canonical_long_is n.baktun n.katun n.tun n.uinal n.kin n.places in
-    (refl, rw (long_trimmed _ n.baktun n.katun n.tun n.uinal n.kin is) is)
+    let is = canonical_long_is n.baktun n.katun n.tun n.uinal n.kin n.places in (
+      refl,
+      rw (long_trimmed _ n.baktun n.katun n.tun n.uinal n.kin is)
+          (long_whole _ n.baktun n.katun n.tun n.uinal n.kin is),
+    )
 canonical_text_is (Roman d) =
     let is = canonical_roman_is d.year d.month d.name d.year_in d.month_in d.count_in in
-    (refl, rw (roman_trimmed _ d.year d.month d.name is) is)
+    (refl, rw (roman_trimmed _ d.year d.month d.name is) (roman_whole _ d.year d.month d.name is))

@@ -1,4 +1,7 @@
 pub mod PairLemmas
+pub mod LawWords
+pub mod TextWords
+pub mod TextParts
 pub mod ReadingLemmas
 pub mod DateParts
 pub mod RomanTextLemmas

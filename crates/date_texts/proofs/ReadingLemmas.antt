@@ -16,11 +16,12 @@ use Rattle.std.proofs.Math.Seq.{take-length}
 use Rattle.std.proofs.lemmas.Bool.Decides.{nat_tests}
 use Rattle.date_texts.specs.declared.grammar.Grammar.{Grammar}
 use Rattle.date_texts.specs.declared.grammar.Grammar.TheVariants.{Civil, Week, LongCount, Roman}
-use Rattle.date_texts.specs.Numerals.{all_digits, value_after, IsNumeral, IsYearText, plain, minus, padded}
+use Rattle.date_texts.specs.Numerals.{IsNumeral, IsYearText, plain, minus, padded}
 use Rattle.date_texts.specs.Numerals.{canonical_year}
-use Rattle.date_texts.specs.CivilText.{IsMark, of_month, capital_letter, small_letter, IsCivilText}
+use Rattle.date_texts.proofs.TextWords.{all_digits, value_after}
+use Rattle.date_texts.proofs.TextParts.{IsMark, no_letter, capital_letter, small_letter, CivilParts, LongParts}
 use Rattle.date_texts.specs.CivilText.{canonical_civil, canonical_week}
-use Rattle.date_texts.specs.LongText.{IsLongText, canonical_long}
+use Rattle.date_texts.specs.LongText.{canonical_long}
 use Rattle.date_texts.specs.Reading.{digits_at, number_at, after_byte, year_at, after_week_letter, after_mark}
 use Rattle.date_texts.specs.Reading.{civil_at, long_at, all_read, as_year, as_year_before_zero, ◌>>=◌}
 
@@ -254,7 +255,7 @@ letter_read_by c cs rest false e h = small_read_by c cs rest (c == 119) refl h
 mark_read : (grammar : Grammar) (bytes rest : List ℕ) → after_mark grammar bytes ≡ Some rest
     → ReadsMark grammar bytes rest
 unfolding after_mark after_week_letter
-mark_read Civil bytes rest e = record { mark = []; is_mark = of_month; joined = some_inside e }
+mark_read Civil bytes rest e = record { mark = []; is_mark = no_letter; joined = some_inside e }
 mark_read Week [] rest e = absurd (cc)
 mark_read Week (c ∷ cs) rest e = letter_read_by c cs rest (c == 87) refl e
 mark_read LongCount bytes rest e = absurd (cc)
@@ -262,7 +263,7 @@ mark_read Roman bytes rest e = absurd (cc)
 
 mark_take : (grammar : Grammar) (mark x : List ℕ) → IsMark grammar mark → after_mark grammar (mark ++ x) ≡ Some x
 unfolding after_mark after_week_letter
-mark_take _ _ x of_month = refl
+mark_take _ _ x no_letter = refl
 mark_take _ _ x capital_letter = refl
 mark_take _ _ x small_letter = refl
 
@@ -274,7 +275,7 @@ civil_joined text y after_year marked mark month_on m after_month day_on d after
     rw (a, b, h, c, e, f, g, append-nil) refl
 
 pub civil_read : (grammar : Grammar) (bytes : List ℕ) (z : ℤ) (m d : ℕ) → civil_at grammar bytes ≡ Some (z, m, d)
-    → IsCivilText grammar bytes z m d
+    → CivilParts grammar bytes z m d
 unfolding civil_at
 civil_read grammar bytes z m d e =
     let a = bind_some (year_at bytes) _ (z, m, d) e in
@@ -353,7 +354,7 @@ same_places a b c d e p q r s t h =
 spelled : (ds : List ℕ) (n p : ℕ) → n ≡ p → IsNumeral 4 ds n → IsNumeral 4 ds p
 spelled ds n p h is = subst (IsNumeral 4 ds) h is
 
-pub long_read : (bytes : List ℕ) (p q r s t : ℕ) → long_at bytes ≡ Some (p, q, r, s, t) → IsLongText bytes p q r s t
+pub long_read : (bytes : List ℕ) (p q r s t : ℕ) → long_at bytes ≡ Some (p, q, r, s, t) → LongParts bytes p q r s t
 unfolding long_at Places
 long_read bytes p q r s t e =
     let y : Places = (p, q, r, s, t) in
@@ -398,7 +399,7 @@ year_take (c ∷ cs) z x (plain {n = n} h) stop =
     rw (digit_no_dash c both.0, number_take 4 (c ∷ cs) x n h stop)
 year_take text z x (minus {text = ds} {n = n} h) stop = rw (number_take 4 ds x n h stop)
 
-pub civil_take : (grammar : Grammar) (text : List ℕ) (z : ℤ) (m d : ℕ) → IsCivilText grammar text z m d
+pub civil_take : (grammar : Grammar) (text : List ℕ) (z : ℤ) (m d : ℕ) → CivilParts grammar text z m d
     → civil_at grammar text ≡ Some (z, m, d)
 unfolding civil_at after_byte
 civil_take grammar text z m d h =
@@ -408,7 +409,7 @@ civil_take grammar text z m d h =
     let year = year_take h.year_text z (45 ∷ (h.mark ++ (h.month_text ++ 45 ∷ h.day_text))) h.is_year refl in
     rw (h.joined, year, mark, month, rw append-nil at day)
 
-pub long_take : (text : List ℕ) (p q r s t : ℕ) → IsLongText text p q r s t → long_at text ≡ Some (p, q, r, s, t)
+pub long_take : (text : List ℕ) (p q r s t : ℕ) → LongParts text p q r s t → long_at text ≡ Some (p, q, r, s, t)
 unfolding long_at after_byte
 long_take text p q r s t h =
     let from_uinal = h.uinal_text ++ 46 ∷ h.kin_text in
@@ -459,21 +460,21 @@ decimal_numeral most n small less one =
 
 -- so it is read back to what it was written for
 pub canonical_civil_is : (z : ℤ) (m d : ℕ) → IsBetween (neg_ℤ (pos 99_999)) (pos 99_999) z → m ≤ 99 → d ≤ 99
-    → IsCivilText Civil (canonical_civil z m d) z m d
+    → CivilParts Civil (canonical_civil z m d) z m d
 canonical_civil_is z m d h i j = record {
   year_text = canonical_year z;
   mark = [];
   month_text = padded 2 m;
   day_text = padded 2 d;
   is_year = year_is_year z h;
-  is_mark = of_month;
+  is_mark = no_letter;
   is_month = padded_numeral 2 2 m (omega arith) (omega arith) (omega arith) (omega arith);
   is_day = padded_numeral 2 2 d (omega arith) (omega arith) (omega arith) (omega arith);
   joined = refl;
 }
 
 pub canonical_week_is : (z : ℤ) (w d : ℕ) → IsBetween (neg_ℤ (pos 99_999)) (pos 99_999) z → w ≤ 99 → d ≤ 99
-    → IsCivilText Week (canonical_week z w d) z w d
+    → CivilParts Week (canonical_week z w d) z w d
 canonical_week_is z w d h i j = record {
   year_text = canonical_year z;
   mark = 87 ∷ [];
@@ -489,7 +490,7 @@ canonical_week_is z w d h i j = record {
 place_numeral : (n : ℕ) → n ≤ 9_999 → IsNumeral 4 (decimal n) n
 place_numeral n h = decimal_numeral 4 n (omega arith) (omega arith) (omega arith)
 
-pub canonical_long_is : (p q r s t : ℕ) → ArePlaces p q r s t → IsLongText (canonical_long p q r s t) p q r s t
+pub canonical_long_is : (p q r s t : ℕ) → ArePlaces p q r s t → LongParts (canonical_long p q r s t) p q r s t
 canonical_long_is p q r s t h = record {
   baktun_text = decimal p;
   katun_text = decimal q;

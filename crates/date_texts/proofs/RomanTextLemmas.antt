@@ -12,7 +12,8 @@ use Rattle.solar_calendars.specs.Roman.{count_of}
 use Rattle.solar_calendars.specs.declared.roman_date.RomanName.{RomanName}
 use Rattle.solar_calendars.specs.declared.roman_date.RomanName.TheVariants.{Kalends, Nones, Ides, SecondSixth}
 use Rattle.date_texts.specs.Numerals.{IsNumeral, IsYearText, padded, canonical_year}
-use Rattle.date_texts.specs.RomanText.{IsNameText, of_kalends, of_nones, of_ides, of_second_sixth, IsRomanText}
+use Rattle.date_texts.specs.RomanText.{IsNameText, of_kalends, of_nones, of_ides, of_second_sixth}
+use Rattle.date_texts.proofs.TextParts.{RomanParts}
 use Rattle.date_texts.specs.RomanText.{canonical_name, canonical_roman}
 use Rattle.date_texts.specs.Reading.{number_at, after_byte, year_at, count_at, counted_at, name_at}
 use Rattle.date_texts.specs.Reading.{roman_at, ◌>>=◌}
@@ -72,7 +73,7 @@ roman_joined : (text y after_year month_on m after_month name : List ℕ) → te
 roman_joined text y after_year month_on m after_month name a b c d = rw (a, b, c, d) refl
 
 pub roman_read : (bytes : List ℕ) (z : ℤ) (m : ℕ) (name : RomanName) → roman_at bytes ≡ Some (z, m, name)
-    → IsRomanText bytes z m name
+    → RomanParts bytes z m name
 unfolding roman_at
 roman_read bytes z m name e =
     let a = bind_some (year_at bytes) _ (z, m, name) e in
@@ -146,7 +147,7 @@ name_take _ _ (of_ides {c = c} {n = n} {text = ds} e h) =
     rw (no_sixth_test c ds n _ h refl, e, count_take ds n h) refl
 name_take _ _ (of_second_sixth {text = text} e) = rw e refl
 
-pub roman_take : (text : List ℕ) (z : ℤ) (m : ℕ) (name : RomanName) → IsRomanText text z m name
+pub roman_take : (text : List ℕ) (z : ℤ) (m : ℕ) (name : RomanName) → RomanParts text z m name
     → roman_at text ≡ Some (z, m, name)
 unfolding roman_at after_byte
 roman_take text z m name h =
@@ -162,7 +163,7 @@ name_is_name (Ides n) h = of_ides refl (decimal_numeral 2 n (omega arith) (omega
 name_is_name SecondSixth h = of_second_sixth refl
 
 pub canonical_roman_is : (z : ℤ) (m : ℕ) (name : RomanName) → IsBetween (neg_ℤ (pos 99_999)) (pos 99_999) z → m ≤ 99
-    → count_of name ≤ 99 → IsRomanText (canonical_roman z m name) z m name
+    → count_of name ≤ 99 → RomanParts (canonical_roman z m name) z m name
 canonical_roman_is z m name h i j = record {
   year_text = canonical_year z;
   month_text = padded 2 m;

@@ -88,23 +88,20 @@ IsCivil calendar = (calendar ≢ Longcount) × (calendar ≢ Roman)
 abbrev pub IsDateBy : Reckoning → Ymd → Type 0
 IsDateBy (by_rules rules) d = IsDateOf rules d.year d.month d.day
 IsDateBy by_weeks d = IsWeekDate d.year d.month d.day
-IsDateBy by_places d = ⊥
-IsDateBy by_names d = ⊥
+IsDateBy reckoning d = ⊥
 
 -- the fixed day number of a date; 0, on which nothing rests, where no numbers are a date
 abbrev pub day_number_by : Reckoning → Ymd → ℤ
 day_number_by (by_rules rules) d = day_number_of rules d.year d.month d.day
 day_number_by by_weeks d = week_day_number d.year d.month d.day
-day_number_by by_places d = pos 0
-day_number_by by_names d = pos 0
+day_number_by reckoning d = pos 0
 
 -- the first day where there is one: years of weeks and Roman names go back without end, and 0.0.0.0.0 begins the long
 -- count
 abbrev pub first_day_by : Reckoning → Option ℤ
 first_day_by (by_rules rules) = first_day_of rules
-first_day_by by_weeks = None
 first_day_by by_places = Some long_count_epoch
-first_day_by by_names = None
+first_day_by reckoning = None
 
 -- the calendar has this date
 abbrev pub IsDateIn : Calendar → Ymd → Type 0

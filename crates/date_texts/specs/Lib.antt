@@ -4,10 +4,10 @@ pub mod Dates
 pub mod Trimmed
 pub mod Names
 pub mod Numerals
+pub mod Joined
 pub mod CivilText
 pub mod LongText
 pub mod RomanText
 pub mod DateText
 pub mod Reading
 pub mod Cells
-pub mod Laws

@@ -6,6 +6,7 @@ use Rattle.std.specs.Str.{str_to_ascii_lowercase}
 use Rattle.std.specs.Fmt.{decimal}
 use Rattle.solar_calendars.specs.declared.roman_date.RomanName.{RomanName}
 use Rattle.solar_calendars.specs.declared.roman_date.RomanName.TheVariants.{Kalends, Nones, Ides, SecondSixth}
+use Rattle.date_texts.specs.Joined.{Joined}
 use Rattle.date_texts.specs.Numerals.{IsNumeral, IsYearText, padded, canonical_year}
 
 -- the name of a day: the letter k (107), n (110) or i (105) with a count of one or two digits, or k6b, in letters of
@@ -19,14 +20,9 @@ pub data IsNameText : List ℕ → RomanName → Type 0 where
   of_second_sixth : {text : List ℕ} → str_to_ascii_lowercase text ≡ codes "k6b" → IsNameText text SecondSixth
 
 -- a year, a month and the name of a day
-pub record IsRomanText (text : List ℕ) (year : ℤ) (month : ℕ) (name : RomanName) : Type 0 where
-  pub year_text : List ℕ
-  pub month_text : List ℕ
-  pub name_text : List ℕ
-  pub is_year : IsYearText year_text year
-  pub is_month : IsNumeral 2 month_text month
-  pub is_name : IsNameText name_text name
-  pub joined : text ≡ year_text ++ 45 ∷ (month_text ++ 45 ∷ name_text)
+abbrev pub IsRomanText : List ℕ → ℤ → ℕ → RomanName → Type 0
+IsRomanText text year month name =
+    Joined 45 (λ y. IsYearText y year) (Joined 45 (λ m. IsNumeral 2 m month) (λ n. IsNameText n name)) text
 
 -- K3, N5, I8 or K6B
 abbrev pub canonical_name : RomanName → List ℕ

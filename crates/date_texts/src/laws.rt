@@ -1,41 +1,55 @@
 //! Laws of names, date texts, cells and lists of targets, for the proofs of what stands on them.
 
-ghost use Rattle.date_texts.specs.Laws.{AllCalendars, CanonicalTextsReadBack, CellsArePlain, CellsAreShort};
-ghost use Rattle.date_texts.specs.Laws.{DefaultTargets, FewTargets, OneCalendar, OneCell, OneDateText, OneTarget};
+ghost use Rattle.std.specs.Prelude.{◌≡◌, ◌≢◌, ◌<◌, ◌≤◌, ℕ, ℤ, IsTrue, List, length, slice_get};
+ghost use Rattle.std.specs.List.{list_all};
+ghost use Rattle.date_texts.specs.declared.calendar.Calendar.{Calendar};
+ghost use Rattle.date_texts.specs.declared.calendar.Target.{Target};
+ghost use Rattle.date_texts.specs.declared.date.Date.{Date};
+ghost use Rattle.date_texts.specs.declared.calendar.TheConstants.{MAX_TARGETS};
+ghost use Rattle.date_texts.specs.declared.cells.TheConstants.{MAX_CELL};
+ghost use Rattle.date_texts.specs.declared.calendar.TheConstants.Target.{ALL};
+ghost use Rattle.date_texts.specs.declared.calendar.TheConstants.Calendar.{ALL as EVERY_CALENDAR};
+ghost use Rattle.date_texts.specs.Calendars.{calendar_name, target_name, all_calendars, all_targets};
+ghost use Rattle.date_texts.specs.Cells.{IsCell, is_plain};
+ghost use Rattle.date_texts.specs.Dates.{calendar_of_date};
+ghost use Rattle.date_texts.specs.DateText.{IsDateText, canonical_text};
+ghost use Rattle.date_texts.specs.Names.{IsNamed};
 
 use maya_calendars::laws::{haab_days_in_range, tzolkin_numbers_in_range};
 use solar_calendars::laws::one_roman_date;
 
 /// A text names one calendar at most.
 pub fn one_calendar()
-    ensures { OneCalendar }
+    ensures { (text : List ℕ) (c e : Calendar) → IsNamed text (calendar_name c) → IsNamed text (calendar_name e)
+        → c ≡ e }
 {}
 
 /// A text names one target at most.
 pub fn one_target()
-    ensures { OneTarget }
+    ensures { (text : List ℕ) (t u : Target) → IsNamed text (target_name t) → IsNamed text (target_name u) → t ≡ u }
 {}
 
 /// A text says one date of a calendar at most.
 pub fn one_date_text()
-    ensures { OneDateText }
+    ensures { (calendar : Calendar) (text : List ℕ) (d e : Date) → IsDateText calendar text d
+        → IsDateText calendar text e → d ≡ e }
 {}
 
 /// The canonical text of a date says that date in its calendar.
 pub fn canonical_texts_read_back()
-    ensures { CanonicalTextsReadBack }
+    ensures { (date : Date) → IsDateText (calendar_of_date date) (canonical_text date) date }
 {}
 
 /// A target and a day have one cell at most.
 pub fn one_cell()
-    ensures { OneCell }
+    ensures { (target : Target) (n : ℤ) (x y : List ℕ) → IsCell target n x → IsCell target n y → x ≡ y }
 {
     one_roman_date();
 }
 
 /// The bytes of a cell are digits and letters of ASCII, spaces, dashes and dots.
 pub fn cells_are_plain()
-    ensures { CellsArePlain }
+    ensures { (target : Target) (n : ℤ) (text : List ℕ) → IsCell target n text → IsTrue (list_all is_plain text) }
 {
     haab_days_in_range();
     tzolkin_numbers_in_range();
@@ -43,7 +57,7 @@ pub fn cells_are_plain()
 
 /// A cell has [`MAX_CELL`](crate::MAX_CELL) bytes at most, whatever the day.
 pub fn cells_are_short()
-    ensures { CellsAreShort }
+    ensures { (target : Target) (n : ℤ) (text : List ℕ) → IsCell target n text → length text ≤ MAX_CELL }
 {
     haab_days_in_range();
     tzolkin_numbers_in_range();
@@ -51,15 +65,16 @@ pub fn cells_are_short()
 
 /// Targets of which none stands at two places are [`MAX_TARGETS`](crate::MAX_TARGETS) at most.
 pub fn few_targets()
-    ensures { FewTargets }
+    ensures { (targets : List Target) → ((i j : ℕ) → i < j → j < length targets
+        → slice_get targets i ≢ slice_get targets j) → length targets ≤ MAX_TARGETS }
 {}
 
 /// `Target::ALL` has every calendar in order, the haab and the tzolkin.
 pub fn default_targets()
-    ensures { DefaultTargets }
+    ensures { ALL ≡ all_targets }
 {}
 
 /// `Calendar::ALL` has every calendar, in the order of the default targets.
 pub fn all_calendars()
-    ensures { AllCalendars }
+    ensures { EVERY_CALENDAR ≡ all_calendars }
 {}

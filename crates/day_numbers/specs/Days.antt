@@ -1,6 +1,6 @@
 -- Fixed day numbers and weekdays (Reingold and Dershowitz, Calendrical Calculations, "Calendar Basics").
 -- A fixed day number, R.D., counts days; day 1 is Monday, 1 January of the Gregorian year 1.
-use Rattle.std.specs.Prelude.{ℕ, ℤ, pos, neg_ℤ, ◌≤ℤ◌, unsigned_abs, Option, Some, None, List, codes}
+use Rattle.std.specs.Prelude.{ℕ, ℤ, pos, neg_ℤ, ◌≤ℤ◌, unsigned_abs, Option, IfSome, List, [], ◌∷◌, codes}
 use Rattle.std.specs.Int.{int_rem_euclid}
 use Rattle.day_numbers.specs.declared.day.Weekday.{Weekday}
 use Rattle.day_numbers.specs.declared.day.Weekday.TheVariants.{Sunday, Monday, Tuesday, Wednesday, Thursday, Friday}
@@ -16,21 +16,15 @@ IsDayNumber n = IsBetween (neg_ℤ (pos 3_652_424)) (pos 3_652_059) n
 
 -- a day of a calendar that has a first day, or any day where it has none
 abbrev pub IsSinceFirstDay : Option ℤ → ℤ → Type 0
-IsSinceFirstDay (Some first) n = first ≤ℤ n
-IsSinceFirstDay None n = Unit {0}
+IsSinceFirstDay first_day n = IfSome first_day (λ first. first ≤ℤ n)
 
 -- the weekday of day n is n mod 7, rounded down: 0 for Sunday to 6 for Saturday
 abbrev pub weekday_number : ℤ → ℕ
 weekday_number n = unsigned_abs (int_rem_euclid n (pos 7))
 
-abbrev pub weekday_place : Weekday → ℕ
-weekday_place Sunday = 0
-weekday_place Monday = 1
-weekday_place Tuesday = 2
-weekday_place Wednesday = 3
-weekday_place Thursday = 4
-weekday_place Friday = 5
-weekday_place Saturday = 6
+-- the weekdays in the order of their numbers
+abbrev pub all_weekdays : List Weekday
+all_weekdays = Sunday ∷ Monday ∷ Tuesday ∷ Wednesday ∷ Thursday ∷ Friday ∷ Saturday ∷ []
 
 abbrev pub weekday_name : Weekday → List ℕ
 weekday_name Sunday = codes "Sunday"

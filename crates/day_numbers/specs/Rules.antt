@@ -1,8 +1,9 @@
 -- A calendar by its rules: where its years begin to count, and how long the months of each year are.
 -- Year lengths, year starts, valid dates and day numbers are sums over these lists of months and years
 -- (Reingold and Dershowitz, Calendrical Calculations: a fixed day number is the number of days that have passed).
-use Rattle.std.specs.Prelude.{ℕ, zero, suc, ◌+◌, ◌≤◌, Bool, true, false, List, [], ◌∷◌, ◌==◌, if◌then◌else◌, ℤ, pos}
-use Rattle.std.specs.Prelude.{negsuc, neg_ℤ, ◌+ℤ◌, ◌-ℤ◌, not, ◌&&◌, nat_le, Option, Some, None}
+use Rattle.std.specs.Prelude.{ℕ, zero, suc, ◌+◌, ◌≤◌, Bool, true, List, [], ◌∷◌, ◌==◌, if◌then◌else◌, ℤ, pos}
+use Rattle.std.specs.Prelude.{negsuc, neg_ℤ, ◌+ℤ◌, ◌-ℤ◌, not, ◌&&◌, nat_le, unsigned_abs, Option, Some, None}
+use Rattle.std.specs.List.{list_any}
 use Rattle.day_numbers.specs.Days.{IsSinceFirstDay}
 use Rattle.day_numbers.specs.declared.rules.Month.{Month}
 
@@ -23,12 +24,9 @@ pub record Rules : Type 0 where
 -- the year is accepted
 abbrev pub HasYear : Years → ℤ → Type 0
 HasYear years (pos (suc n)) = Unit {0}
-HasYear with_zero (pos zero) = Unit {0}
-HasYear with_zero (negsuc n) = Unit {0}
-HasYear without_zero (pos zero) = ⊥
+HasYear with_zero year = Unit {0}
 HasYear without_zero (negsuc n) = Unit {0}
-HasYear from_one (pos zero) = ⊥
-HasYear from_one (negsuc n) = ⊥
+HasYear years year = ⊥
 
 -- months numbered from k on, of these lengths
 abbrev pub numbered_from : ℕ → List ℕ → List Month
@@ -58,8 +56,7 @@ days_of_years length_of (suc n) = days_of_years length_of n + length_of (pos (su
 -- the years before year 1, the nearest first
 abbrev pub year_before : Years → ℕ → ℤ
 year_before with_zero k = neg_ℤ (pos k)
-year_before without_zero k = negsuc k
-year_before from_one k = negsuc k
+year_before years k = negsuc k
 
 -- the sum of the lengths of the n years before year 1
 unfoldable pub days_of_years_before : Years → (ℤ → ℕ) → ℕ → ℕ
@@ -69,17 +66,14 @@ days_of_years_before years length_of (suc n) = days_of_years_before years length
 -- how many years there are from the year -n to the year before year 1
 abbrev pub years_back : Years → ℕ → ℕ
 years_back with_zero n = suc n
-years_back without_zero n = n
-years_back from_one n = n
+years_back years n = n
 
 -- the day number of the first day of a year: the epoch and the lengths of all years from year 1 on,
 -- or less the lengths of all years from it up to year 1
 unfoldable pub start_of_year : Years → ℤ → (ℤ → ℕ) → ℤ → ℤ
 start_of_year years epoch length_of (pos (suc n)) = epoch +ℤ pos (days_of_years length_of n)
-start_of_year years epoch length_of (pos zero) =
-    epoch -ℤ pos (days_of_years_before years length_of (years_back years 0))
-start_of_year years epoch length_of (negsuc n) =
-    epoch -ℤ pos (days_of_years_before years length_of (years_back years (suc n)))
+start_of_year years epoch length_of year =
+    epoch -ℤ pos (days_of_years_before years length_of (years_back years (unsigned_abs year)))
 
 abbrev pub year_length : Rules → ℤ → ℕ
 year_length r y = total_days (r.months y)
@@ -98,8 +92,7 @@ day_number_of r y m d = year_start r y +ℤ pos (days_before_month (r.months y) 
 -- a calendar that begins with year 1 has a first day, its epoch; the others have none
 abbrev pub first_day_by : Years → ℤ → Option ℤ
 first_day_by from_one epoch = Some epoch
-first_day_by with_zero epoch = None
-first_day_by without_zero epoch = None
+first_day_by years epoch = None
 
 abbrev pub first_day_of : Rules → Option ℤ
 first_day_of r = first_day_by r.years r.epoch
@@ -110,8 +103,7 @@ HasDayOf r n = IsSinceFirstDay (first_day_of r) n
 
 -- a month has this number
 abbrev pub has_number : List Month → ℕ → Bool
-has_number [] k = false
-has_number (m ∷ ms) k = if m.number == k then true else has_number ms k
+has_number ms k = list_any (λ m. m.number == k) ms
 
 -- no two months have one number, and numbers and lengths are small
 abbrev pub are_months : List Month → Bool

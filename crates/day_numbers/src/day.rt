@@ -1,5 +1,5 @@
-ghost use Rattle.std.specs.Prelude.{◌≡◌, ◌↔◌, IsSome, IfSome};
-ghost use Rattle.day_numbers.specs.Days.{IsDayNumber, weekday_number, weekday_place, weekday_name};
+ghost use Rattle.std.specs.Prelude.{◌≡◌, ◌↔◌, IsSome, IfSome, Some, slice_get};
+ghost use Rattle.day_numbers.specs.Days.{IsDayNumber, weekday_number, all_weekdays, weekday_name};
 
 /// A day by its fixed day number (R.D.), which counts days: R.D. 1 is Monday, 1 January of year 1 of
 /// the proleptic Gregorian calendar (Reingold and Dershowitz, *Calendrical Calculations*).
@@ -34,7 +34,7 @@ impl Day {
 
     /// The day of the week: the day number modulo 7, rounded down, where 0 is Sunday.
     pub fn weekday(&self) -> Weekday
-        ensures { weekday_place result ≡ weekday_number self.now.number }
+        ensures { slice_get all_weekdays (weekday_number self.now.number) ≡ Some result }
     {
         match self.number.rem_euclid(7) {
             0 => Weekday::Sunday,

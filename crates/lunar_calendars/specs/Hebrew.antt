@@ -5,10 +5,8 @@
 use Rattle.std.specs.Prelude.{ℕ, Bool, not, ◌&&◌, ◌||◌, List, [], ◌∷◌, map, sum, ◌≤◌, ◌+◌, ◌-◌, ◌*◌, ◌/◌, ◌%◌, ◌==◌}
 use Rattle.std.specs.Prelude.{nat_lt, nat_le, if◌then◌else◌, ℤ, neg_ℤ, pos, ◌+ℤ◌, ◌-ℤ◌, unsigned_abs}
 use Rattle.std.specs.List.{range_with_len}
-use Rattle.day_numbers.specs.declared.day.Weekday.{Weekday}
-use Rattle.day_numbers.specs.declared.day.Weekday.TheVariants.{Sunday, Monday, Tuesday, Wednesday, Friday}
 use Rattle.day_numbers.specs.declared.rules.Month.{Month}
-use Rattle.day_numbers.specs.Days.{weekday_number, weekday_place}
+use Rattle.day_numbers.specs.Days.{weekday_number}
 use Rattle.day_numbers.specs.Rules.{Rules, from_one}
 
 -- the years 3, 6, 8, 11, 14, 17 and 19 of each 19
@@ -39,25 +37,23 @@ molad_day year = epoch +ℤ pos (molad_parts year / 25_920)
 abbrev pub molad_time : ℕ → ℕ
 molad_time year = molad_parts year % 25_920
 
-abbrev pub falls_on : Weekday → ℤ → Bool
-falls_on weekday day = weekday_number day == weekday_place weekday
-
 -- a molad at noon, 18 hours into the day, or later counts for the day after
 abbrev pub from_noon : ℤ → ℕ → ℤ
 from_noon day time = if nat_le 19_440 time then day +ℤ pos 1 else day
 
--- no year opens on a Sunday, a Wednesday or a Friday
+-- no year opens on a Sunday, a Wednesday or a Friday, the weekdays 0, 3 and 5
 abbrev pub next_allowed : ℤ → ℤ
-next_allowed day = if falls_on Sunday day || falls_on Wednesday day || falls_on Friday day then day +ℤ pos 1 else day
+next_allowed day =
+    if (weekday_number day == 0) || (weekday_number day == 3) || (weekday_number day == 5) then day +ℤ pos 1 else day
 
 -- the day that a year opens on, from the day and the time of its molad, by the first case that applies:
--- a common year whose molad is on a Tuesday at 9 hours and 204 parts or later opens on that Thursday;
--- a year after a leap year whose molad is on a Monday at 15 hours and 589 parts or later opens on that Tuesday;
+-- a common year whose molad is on a Tuesday (2) at 9 hours and 204 parts or later opens on that Thursday;
+-- a year after a leap year whose molad is on a Monday (1) at 15 hours and 589 parts or later opens on that Tuesday;
 -- any other opens on the day that its molad counts for, or on the day after where no year may open on it
 abbrev pub postponed : Bool → Bool → ℤ → ℕ → ℤ
 postponed leap after_leap day time =
-    if not leap && falls_on Tuesday day && nat_le 9_924 time then day +ℤ pos 2
-    else (if after_leap && falls_on Monday day && nat_le 16_789 time then day +ℤ pos 1
+    if not leap && (weekday_number day == 2) && nat_le 9_924 time then day +ℤ pos 2
+    else (if after_leap && (weekday_number day == 1) && nat_le 16_789 time then day +ℤ pos 1
     else next_allowed (from_noon day time))
 
 -- the new year, 1 Tishri; before year 1 the leap rule is asked of the number 0

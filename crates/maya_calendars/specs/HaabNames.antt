@@ -7,7 +7,13 @@ use Rattle.maya_calendars.specs.declared.haab.HaabMonth.TheVariants.{Pop, Uo, Zi
 use Rattle.maya_calendars.specs.declared.haab.HaabMonth.TheVariants.{Yax, Zac, Ceh, Mac, Kankin, Muan, Pax, Kayab}
 use Rattle.maya_calendars.specs.declared.haab.HaabMonth.TheVariants.{Cumku, Uayeb}
 
--- the names of the months in their order, from month 1 to month 19
+-- the months in their order, from month 1 to month 19
+abbrev pub all_months : List HaabMonth
+all_months =
+    Pop ∷ Uo ∷ Zip ∷ Zotz ∷ Tzec ∷ Xul ∷ Yaxkin ∷ Mol ∷ Chen ∷ Yax ∷ Zac ∷ Ceh ∷ Mac ∷ Kankin ∷ Muan ∷ Pax ∷ Kayab
+    ∷ Cumku ∷ Uayeb ∷ []
+
+-- their names, in the same order
 abbrev pub month_names : List (List ℕ)
 month_names =
     codes "Pop" ∷ codes "Uo" ∷ codes "Zip" ∷ codes "Zotz" ∷ codes "Tzec" ∷ codes "Xul" ∷ codes "Yaxkin" ∷ codes "Mol"
@@ -35,25 +41,3 @@ haab_before (day, month) =
 -- the haab of a day; that of the epoch is 8 Cumku, which is month 18
 abbrev pub haab_of : ℤ → ℕ × ℕ
 haab_of day = after_days haab_after haab_before (8, 18) (day -ℤ epoch)
-
--- the number of each month that the code has; nothing above rests on it
-abbrev pub month_number : HaabMonth → ℕ
-month_number Pop = 1
-month_number Uo = 2
-month_number Zip = 3
-month_number Zotz = 4
-month_number Tzec = 5
-month_number Xul = 6
-month_number Yaxkin = 7
-month_number Mol = 8
-month_number Chen = 9
-month_number Yax = 10
-month_number Zac = 11
-month_number Ceh = 12
-month_number Mac = 13
-month_number Kankin = 14
-month_number Muan = 15
-month_number Pax = 16
-month_number Kayab = 17
-month_number Cumku = 18
-month_number Uayeb = 19

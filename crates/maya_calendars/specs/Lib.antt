@@ -3,4 +3,3 @@ pub mod Places
 pub mod LongCounts
 pub mod HaabNames
 pub mod TzolkinNames
-pub mod Laws

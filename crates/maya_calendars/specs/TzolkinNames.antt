@@ -8,13 +8,19 @@ use Rattle.maya_calendars.specs.declared.tzolkin.TzolkinName.TheVariants.{Lamat,
 use Rattle.maya_calendars.specs.declared.tzolkin.TzolkinName.TheVariants.{Cib, Caban, Etznab, Cauac, Ahau}
 
 -- the names in their order, from place 1 to place 20
+abbrev pub all_names : List TzolkinName
+all_names =
+    Imix ∷ Ik ∷ Akbal ∷ Kan ∷ Chicchan ∷ Cimi ∷ Manik ∷ Lamat ∷ Muluc ∷ Oc ∷ Chuen ∷ Eb ∷ Ben ∷ Ix ∷ Men ∷ Cib ∷ Caban
+    ∷ Etznab ∷ Cauac ∷ Ahau ∷ []
+
+-- how they are written, in the same order
 abbrev pub name_texts : List (List ℕ)
 name_texts =
     codes "Imix" ∷ codes "Ik" ∷ codes "Akbal" ∷ codes "Kan" ∷ codes "Chicchan" ∷ codes "Cimi" ∷ codes "Manik"
     ∷ codes "Lamat" ∷ codes "Muluc" ∷ codes "Oc" ∷ codes "Chuen" ∷ codes "Eb" ∷ codes "Ben" ∷ codes "Ix" ∷ codes "Men"
     ∷ codes "Cib" ∷ codes "Caban" ∷ codes "Etznab" ∷ codes "Cauac" ∷ codes "Ahau" ∷ []
 
--- the name at this place
+-- the name at this place as it is written
 abbrev pub name_text : ℕ → List ℕ
 name_text place = unwrap_or (slice_get name_texts (place - 1)) []
 
@@ -25,26 +31,3 @@ tzolkin_of day = (round_number 13 4 day, round_number 20 20 day)
 -- the tzolkin after a tzolkin
 abbrev pub tzolkin_after : ℕ × ℕ → ℕ × ℕ
 tzolkin_after (number, name) = (number_after 13 number, number_after 20 name)
-
--- the place of each name that the code has; nothing above rests on it
-abbrev pub name_place : TzolkinName → ℕ
-name_place Imix = 1
-name_place Ik = 2
-name_place Akbal = 3
-name_place Kan = 4
-name_place Chicchan = 5
-name_place Cimi = 6
-name_place Manik = 7
-name_place Lamat = 8
-name_place Muluc = 9
-name_place Oc = 10
-name_place Chuen = 11
-name_place Eb = 12
-name_place Ben = 13
-name_place Ix = 14
-name_place Men = 15
-name_place Cib = 16
-name_place Caban = 17
-name_place Etznab = 18
-name_place Cauac = 19
-name_place Ahau = 20

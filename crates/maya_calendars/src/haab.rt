@@ -1,5 +1,6 @@
-ghost use Rattle.std.specs.Prelude.{◌≡◌, ◌≤◌};
-ghost use Rattle.maya_calendars.specs.HaabNames.{month_number, month_name, last_day, haab_after, haab_of};
+ghost use Rattle.std.specs.Prelude.{◌≡◌, ◌≤◌, ℕ};
+ghost use Rattle.maya_calendars.specs.HaabNames.{all_months, month_name, last_day, haab_after, haab_of};
+ghost use Rattle.day_numbers.specs.Numbered.{IsNumbered};
 ghost use Rattle.maya_calendars.specs.Rounds.{StepsOnEachDay};
 
 use crate::round::number_on;
@@ -33,7 +34,7 @@ impl HaabMonth {
     /// The month of this number, from 1 for Pop to 19 for Uayeb.
     fn numbered(number: u8) -> HaabMonth
         requires { (1 ≤ number) × (number ≤ 19) }
-        ensures { month_number result ≡ number }
+        ensures { IsNumbered all_months number result }
     {
         match number {
             1 => HaabMonth::Pop,
@@ -64,14 +65,14 @@ impl HaabMonth {
 pub struct Haab {
     day: u8,
     month: HaabMonth,
-    pub ghost in_month: { day ≤ last_day (month_number month) },
+    pub ghost in_month: { (number : ℕ) → IsNumbered all_months number month → day ≤ last_day number },
 }
 
 impl Haab {
     /// The day of the month, from 0 to 19, and to 4 in Uayeb.
     pub fn day(&self) -> u8
         ensures value { result ≡ self.now.day }
-        ensures in_month { result ≤ last_day (month_number self.now.month) }
+        ensures in_month { (number : ℕ) → IsNumbered all_months number self.now.month → result ≤ last_day number }
         ensures in_range { result ≤ 19 }
     {
         self.day
@@ -79,15 +80,16 @@ impl Haab {
 
     /// The number of the month, from 1 for Pop to 19 for Uayeb.
     pub fn month(&self) -> u8
-        ensures value { result ≡ month_number self.now.month }
+        ensures value { IsNumbered all_months result self.now.month }
         ensures in_range { (1 ≤ result) × (result ≤ 19) }
     {
         self.month as u8 + 1
     }
 
     /// The name of the month, from `Pop` to `Uayeb`.
+    #[tactic(auto, using(crate::proofs::NameLists::month_named))]
     pub fn month_name(&self) -> &str
-        ensures { result.now ≡ month_name (month_number self.now.month) }
+        ensures { (number : ℕ) → IsNumbered all_months number self.now.month → result.now ≡ month_name number }
     {
         match self.month {
             HaabMonth::Pop => "Pop",
@@ -119,7 +121,7 @@ impl Haab {
 /// one place on in the round: after day 19 of a month comes day 0 of the next, and after 4 Uayeb comes
 /// 0 Pop (Reingold and Dershowitz, *Calendrical Calculations*).
 pub fn haab_on(day: Day) -> Haab
-    ensures value { (result.day, month_number result.month) ≡ haab_of day.number }
+    ensures value { let h = haab_of day.number in (result.day ≡ h.0) × IsNumbered all_months h.1 result.month }
     ensures each_day { StepsOnEachDay haab_after haab_of }
 {
     // 8 Cumku is the 349th of the 365 names, 0 Pop the first.

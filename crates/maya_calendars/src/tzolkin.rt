@@ -1,5 +1,6 @@
-ghost use Rattle.std.specs.Prelude.{◌≡◌, ◌≤◌};
-ghost use Rattle.maya_calendars.specs.TzolkinNames.{name_place, name_text, tzolkin_after, tzolkin_of};
+ghost use Rattle.std.specs.Prelude.{◌≡◌, ◌≤◌, ℕ};
+ghost use Rattle.maya_calendars.specs.TzolkinNames.{all_names, name_text, tzolkin_after, tzolkin_of};
+ghost use Rattle.day_numbers.specs.Numbered.{IsNumbered};
 ghost use Rattle.maya_calendars.specs.Rounds.{StepsOnEachDay};
 
 use crate::round::number_on;
@@ -34,7 +35,7 @@ impl TzolkinName {
     /// The name at this place among the twenty, from 1 for Imix to 20 for Ahau.
     fn at_place(place: u8) -> TzolkinName
         requires { (1 ≤ place) × (place ≤ 20) }
-        ensures { name_place result ≡ place }
+        ensures { IsNumbered all_names place result }
     {
         match place {
             1 => TzolkinName::Imix,
@@ -79,8 +80,9 @@ impl Tzolkin {
     }
 
     /// The day name, from `Imix` to `Ahau`.
+    #[tactic(auto, using(crate::proofs::NameLists::name_named))]
     pub fn name(&self) -> &str
-        ensures { result.now ≡ name_text (name_place self.now.name) }
+        ensures { (place : ℕ) → IsNumbered all_names place self.now.name → result.now ≡ name_text place }
     {
         match self.name {
             TzolkinName::Imix => "Imix",
@@ -113,7 +115,7 @@ impl Tzolkin {
 /// moves one place on in the round of 1 to 13 and its name in the round of the twenty day names
 /// (Reingold and Dershowitz, *Calendrical Calculations*).
 pub fn tzolkin_on(day: Day) -> Tzolkin
-    ensures value { (result.number, name_place result.name) ≡ tzolkin_of day.number }
+    ensures value { let t = tzolkin_of day.number in (result.number ≡ t.0) × IsNumbered all_names t.1 result.name }
     ensures each_day { StepsOnEachDay tzolkin_after tzolkin_of }
 {
     let number = number_on(day, 4, 13) as u8;

@@ -10,7 +10,7 @@ use Rattle.date_texts.specs.Calendars.{all_targets}
 use Rattle.date_texts.specs.declared.calendar.Target.{Target}
 use Rattle.register_records.specs.SetupRules.{largest_ring, most_stripes}
 use Rattle.register_records.specs.Tables.{Layout}
-use Rattle.register_records.specs.Views.{layout_of, ring_of, stripes_of}
+use Rattle.register_records.specs.Views.{layout_of}
 use Rattle.register_records.specs.declared.setups.Form.TheVariants.{Sealed}
 use Rattle.register_app.specs.Faults.{Fault, usage, bad_ring, unknown_delimiter, bad_stripes, too_many_files}
 use Rattle.register_app.specs.Faults.{file_twice}
@@ -234,8 +234,8 @@ MeanJust words meaning = (other : Meaning) → (other ≡ meaning) ↔ Mean word
 abbrev pub task_of : Job → Task
 task_of job = record {
   layout = layout_of job.setup;
-  ring = ring_of job.setup;
-  stripes = stripes_of job.setup;
+  ring = job.setup.ring;
+  stripes = job.setup.stripes;
   summary = job.summary;
   files = map (λ file. file.now) job.files.items;
 }

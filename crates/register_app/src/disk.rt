@@ -64,11 +64,9 @@ impl<'a, F: Files> Disk<'a, F> {
 
 impl<'a, F: Files, I: Read, O: Write> Places<Source<I, F::File>, PlainOutput<Sink<O, F::File>>>
     for Disk<'a, F> {
-    ghost use Rattle.register_records.specs.Views.{mark_of};
-
     ghost is_opened = { λ _ _ _. ⊤ };
 
-    ghost is_made = { λ _ _ mark output. mark_of output ≡ mark };
+    ghost is_made = { λ _ _ mark output. output.mark ≡ mark };
 
     // A folder can be opened but not read, so it is refused here.
     fn open(&self, name: &str) -> io::Result<Source<I, F::File>> {

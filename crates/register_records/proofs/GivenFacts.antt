@@ -11,7 +11,7 @@ use Rattle.register_records.specs.Entries.{Fields, Format, HasEntries, HasFirstE
 use Rattle.register_records.specs.Entries.{Numbered, body_of, body_seen, entries_from, format_by, record_limit}
 use Rattle.register_records.specs.Entries.{text_records}
 use Rattle.register_records.specs.Seals.{AreClosed, before_seal, entry_records, is_seal}
-use Rattle.register_records.specs.Seen.{entries_shown, entry_body, entry_number, entry_seen}
+use Rattle.register_records.specs.Seen.{entries_shown, entry_seen}
 use Rattle.register_records.specs.ReadingState.{EndsAt, Gives, HasEntry, IsNoSeal, LacksSeal, Stands, TakesFirst}
 use Rattle.register_records.specs.declared.entries.Entry.{Entry}
 use Rattle.register_records.specs.declared.setups.Form.{Form}
@@ -220,8 +220,8 @@ pub shown-length : (given : List (Snapshot Entry)) → length (entries_shown giv
 shown-length [] = refl
 shown-length (x ∷ given) = ap suc (shown-length given)
 
-entry-is : (form : Form) (e : Entry) (k : ℕ) (f : Fields) → entry_number e ≡ k + 1
-    → body_seen (entry_body e) ≡ body_of form f
+entry-is : (form : Form) (e : Entry) (k : ℕ) (f : Fields) → e.number ≡ k + 1
+    → body_seen e.body ≡ body_of form f
     → entry_seen e ≡ record { number = k + 1; body = body_of form f }
 entry-is form e k f n b = rw (n, b) refl
 
@@ -257,7 +257,7 @@ module _ (o : Option (List ℕ)) (format : Format) (failed done : Bool) (left : 
         → Gives format.form count left left2 x → count < record_limit
         → given2 ≡ given ++ entry_seen x ∷ [] → MayStand o format failed done left2 given2
     may-more left2 given2 x g h e =
-        let number : entry_number x ≡ length given + 1 = rw (← counted) g.number in
+        let number : x.number ≡ length given + 1 = rw (← counted) g.number in
         rw (goes, before, e)
         (may o _ _
         (λ t s. stands-more format t left left2 given g.fields (entry_seen x)

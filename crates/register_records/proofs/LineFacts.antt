@@ -2,7 +2,7 @@
 use Rattle.std.proofs.Common.{◌≡◌, ◌<◌, ◌≤◌, ◌+◌, ◌^◌, ◌%◌, ◌++◌, ℕ, List, [], ◌∷◌, true, false, refl, sym, ap, ◌∙◌}
 use Rattle.std.proofs.Common.{arith, append_assoc, append-nil, length, length-append, length-set, map, set, take}
 use Rattle.std.proofs.Common.{get_or}
-use Rattle.std.specs.Prelude.{ℤ, pos, negsuc, zero, suc, Ok, Err}
+use Rattle.std.specs.Prelude.{ℤ, pos, negsuc, zero, suc, Some, Ok, Err, slice_get}
 use Rattle.std.specs.Fmt.{decimal, signed_decimal}
 use Rattle.std.proofs.lemmas.Int.{ints}
 use Rattle.std.proofs.lemmas.Bool.{and_parts}
@@ -15,10 +15,8 @@ use Rattle.std.proofs.lemmas.List.Folds.{list_any-append}
 use Rattle.std.specs.List.{list_all}
 use Rattle.csv.specs.Writing.{field_text, fields_text, is_blank, needs_byte, needs_quotes, row_body}
 use Rattle.csv.proofs.WriteFacts.{fields-snoc}
-use Rattle.day_numbers.specs.Days.{IsDayNumber, weekday_name, weekday_number, weekday_place}
+use Rattle.day_numbers.specs.Days.{IsDayNumber, all_weekdays, weekday_name, weekday_number}
 use Rattle.day_numbers.specs.declared.day.Weekday.{Weekday}
-use Rattle.day_numbers.specs.declared.day.Weekday.TheVariants.{Sunday, Monday, Tuesday, Wednesday, Thursday, Friday}
-use Rattle.day_numbers.specs.declared.day.Weekday.TheVariants.{Saturday}
 use Rattle.register_records.specs.Lines.{line_text, writing}
 use Rattle.register_records.specs.SetupRules.{is_delimiter}
 use Rattle.register_records.specs.Outcomes.{AreCellsOn, TableRow}
@@ -26,8 +24,8 @@ use Rattle.register_records.specs.CellTexts.{cell_bytes}
 use Rattle.register_records.specs.Seen.{cells_seen}
 use Rattle.register_records.specs.declared.cell_texts.CellText.{CellText}
 use Rattle.date_texts.specs.Cells.{is_plain}
-use Rattle.date_texts.specs.Laws.{CellsArePlain}
-use Rattle.register_records.specs.Tables.{entry_fields, row_fields, weekday_at}
+use Rattle.date_texts.proofs.LawWords.{CellsArePlain}
+use Rattle.register_records.specs.Tables.{entry_fields, row_fields, weekday_text}
 use Rattle.date_texts.specs.Refusals.{refusal_number}
 use Rattle.date_texts.specs.declared.calendar.Target.{Target}
 use Rattle.date_texts.specs.declared.refusal.Refusal.{Refusal}
@@ -162,18 +160,10 @@ plain-cell law d h n (target ∷ targets) (cell ∷ cells) zero e lt are =
 plain-cell law d h n (target ∷ targets) (cell ∷ cells) (suc i) e lt are =
     plain-cell law d h n targets cells i e (omega arith) are.1
 
--- the name of a weekday, by its number
-pub weekday-name : (w : Weekday) (k : ℕ) → weekday_place w ≡ k → weekday_name w ≡ weekday_name (weekday_at k)
-weekday-name w k e = rw (← e) (named w)
-  where
-    named : (w : Weekday) → weekday_name w ≡ weekday_name (weekday_at (weekday_place w))
-    named Sunday = refl
-    named Monday = refl
-    named Tuesday = refl
-    named Wednesday = refl
-    named Thursday = refl
-    named Friday = refl
-    named Saturday = refl
+-- the name of the weekday of a day
+pub weekday-name : (w : Weekday) (n : ℤ) → slice_get all_weekdays (weekday_number n) ≡ Some w
+    → weekday_name w ≡ weekday_text n
+weekday-name w n e = rw e refl
 
 -- equal fields
 pub same-body : (d : ℕ) (fields wanted : List (List ℕ)) (bytes : List ℕ) → fields ≡ wanted → bytes ≡ body d fields
@@ -197,7 +187,7 @@ joined first a b last rest = simp append_assoc refl
 
 -- the fields of an accepted row, and of a refused one
 pub accepted-fields : (form : Form) (targets : List Target) (row : TableRow) (n : ℤ) → row.outcome ≡ Ok n
-    → ((entry_fields form row ++ (signed_decimal n ∷ weekday_name (weekday_at (weekday_number n)) ∷ [])) ++ row.cells)
+    → ((entry_fields form row ++ (signed_decimal n ∷ weekday_text n ∷ [])) ++ row.cells)
     ++ [] ∷ [] ≡ row_fields form targets row
 accepted-fields form targets row n e = joined (entry_fields form row) _ _ [] row.cells ∙ rw e refl
 

@@ -16,7 +16,7 @@ use Rattle.date_texts.specs.declared.calendar.Target.{Target}
 use Rattle.date_texts.specs.declared.date.Date.{Date}
 use Rattle.date_texts.specs.declared.refusal.Refusal.{Refusal}
 use Rattle.date_texts.specs.declared.refusal.Refusal.TheVariants as refusal
-use Rattle.date_texts.specs.Laws.{OneCalendar, OneCell, OneDateText}
+use Rattle.date_texts.proofs.LawWords.{OneCalendar, OneCell, OneDateText}
 
 module _ (one-calendar : OneCalendar) (one_date_text : OneDateText) (one_cell : OneCell) where
   -- a text says one date at most

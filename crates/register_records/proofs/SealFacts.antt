@@ -8,7 +8,8 @@ use Rattle.std.proofs.lemmas.Bool.{and_parts}
 use Rattle.std.proofs.lemmas.Bool.Decides.{nat_tests}
 use Rattle.std.proofs.lemmas.List.{take_more}
 use Rattle.csv.specs.Records.{field_at}
-use Rattle.date_texts.specs.Numerals.{IsNumeral, all_digits, value_after}
+use Rattle.date_texts.specs.Numerals.{IsNumeral}
+use Rattle.date_texts.proofs.TextWords.{all_digits, value_after}
 use Rattle.date_texts.specs.Trimmed.{trimmed}
 use Rattle.register_records.specs.Records.{Fields}
 use Rattle.register_records.specs.Seals.{Agrees, is_seal}

@@ -1,12 +1,14 @@
 -- The records and the entries of a text.
-use Rattle.std.specs.Prelude.{◌≡◌, ◌≤◌, ◌<◌, ◌+◌, ◌++◌, ⊤, ◌&&◌, Bool, true, false, nat_le, nat_lt, ℕ, List, [], ◌∷◌}
-use Rattle.std.specs.Prelude.{length, Result, Ok, Err, if◌then◌else◌, Option, Some, None}
+use Rattle.std.specs.Prelude.{◌≡◌, ◌≤◌, ◌<◌, ◌+◌, ◌++◌, ⊤, ◌&&◌, Bool, true, nat_le, nat_lt, ℕ, List, [], ◌∷◌}
+use Rattle.std.specs.Prelude.{length, Result, Ok, Err, if◌then◌else◌}
+use Rattle.std.specs.Option.{option_map_or}
 use Rattle.std.specs.Str.{is_utf8}
 use Rattle.csv.specs.declared.parser.Config.{Config}
 use Rattle.csv.specs.Reading.{default_config, records, strip_bom}
 use Rattle.register_records.specs.Headers.{IsHeader}
 pub use Rattle.register_records.specs.Records.{Fields, Texts, texts_of}
 use Rattle.register_records.specs.Seals.{AreClosed, entry_records}
+use Rattle.date_texts.specs.Refusals.{refusal_number}
 use Rattle.date_texts.specs.declared.refusal.Refusal.{Refusal}
 use Rattle.date_texts.specs.declared.refusal.Refusal.TheVariants as refusal
 use Rattle.register_records.specs.declared.entries.Body.{Body}
@@ -55,14 +57,9 @@ abbrev pub body_of_texts : Texts → Result Texts Refusal
 body_of_texts t =
     if are_short t then (if are_utf8 t then Ok t else Err refusal.NotUtf8) else Err refusal.FieldTooLong
 
--- the body of a record that has these texts, or none
-abbrev pub body_of_option : Option Texts → Result Texts Refusal
-body_of_option None = Err refusal.FieldCount
-body_of_option (Some t) = body_of_texts t
-
 -- the body of a record
 abbrev pub body_of : Form → Fields → Result Texts Refusal
-body_of form fields = body_of_option (texts_of form fields)
+body_of form fields = option_map_or body_of_texts (texts_of form fields) (Err refusal.FieldCount)
 
 -- what a clause sees of an entry's body
 abbrev pub body_seen : Body → Result Texts Refusal
@@ -70,19 +67,10 @@ body_seen (body.Fields id calendar date note) =
     Ok (record { id = id.bytes; calendar = calendar.bytes; date = date.bytes; note = note.bytes })
 body_seen (body.Refused r) = Err r
 
--- the refusals that a body may hold: those that come before a calendar is looked for
-abbrev pub is_body_refusal : Refusal → Bool
-is_body_refusal refusal.FieldCount = true
-is_body_refusal refusal.FieldTooLong = true
-is_body_refusal refusal.NotUtf8 = true
-is_body_refusal refusal.UnknownCalendar = false
-is_body_refusal refusal.DateText = false
-is_body_refusal refusal.NoSuchDate = false
-is_body_refusal refusal.OutOfRange = false
-
+-- a body holds texts, or one of the refusals 1 to 3, which come before a calendar is looked for
 abbrev pub may_hold : Body → Bool
 may_hold (body.Fields id calendar date note) = true
-may_hold (body.Refused r) = is_body_refusal r
+may_hold (body.Refused r) = nat_le (refusal_number r) 3
 
 -- an entry: its number, and its body
 pub record Numbered : Type 0 where

@@ -5,10 +5,9 @@ use Rattle.date_texts.specs.Calendars.{calendar_name}
 use Rattle.date_texts.specs.Cells.{IsCell}
 use Rattle.date_texts.specs.Names.{IsNamed}
 use Rattle.date_texts.specs.declared.calendar.Calendar.{Calendar}
-use Rattle.date_texts.specs.declared.calendar.Target.{Target}
 use Rattle.date_texts.specs.declared.calendar.Target.TheVariants.{Date as DateTarget}
 use Rattle.register_records.specs.Entries.{AreAccepted, Fields, HasEntries, Numbered, Texts}
-use Rattle.register_records.specs.Outcomes.{AreRowsOf, IsOutcome, IsRowOf, TableRow}
+use Rattle.register_records.specs.Outcomes.{AreRowsOf, IsOutcome, TableRow}
 use Rattle.register_records.specs.Tables.{Layout, journal_of, notes_of, row_line, table_text}
 use Rattle.register_records.specs.declared.setups.Form.TheVariants.{Sealed}
 
@@ -19,10 +18,6 @@ OneTable =
     (layout : Layout) (text : List ℕ) (entries others : List Numbered) (rows more : List TableRow)
     → HasEntries layout.format text entries → HasEntries layout.format text others
     → AreRowsOf layout.targets entries rows → AreRowsOf layout.targets others more → (entries ≡ others) × (rows ≡ more)
-
--- there is a row for these targets that is the row of the entry
-abbrev pub HasRow : List Target → Numbered → Type 0
-HasRow targets entry = (row : TableRow) × IsRowOf targets entry row
 
 -- a cell of a calendar that is not empty, read as a date of that calendar, gives the cell's day again
 abbrev pub CellsReadBack : Type 0

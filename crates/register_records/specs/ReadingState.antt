@@ -12,7 +12,6 @@ use Rattle.csv.specs.declared.reader.Trim.TheVariants as trim
 use Rattle.register_records.specs.Entries.{Fields, Format, HasEntries, HasRecords, Numbered, body_of, body_seen}
 use Rattle.register_records.specs.Entries.{entries_from}
 use Rattle.register_records.specs.Seals.{Agrees, entry_records, is_seal}
-use Rattle.register_records.specs.Seen.{entry_body, entry_number}
 use Rattle.register_records.specs.declared.entries.Entry.{Entry}
 use Rattle.register_records.specs.declared.setups.Form.{Form}
 use Rattle.register_records.specs.declared.setups.Form.TheVariants.{Plain, Sealed}
@@ -69,8 +68,8 @@ pub record Gives (form : Form) (count : ℕ) (left after : Option (List Fields))
   pub fields : Fields
   pub first : TakesFirst left after fields
   pub no_seal : IsNoSeal form fields
-  pub number : entry_number e ≡ count + 1
-  pub body : body_seen (entry_body e) ≡ body_of form fields
+  pub number : e.number ≡ count + 1
+  pub body : body_seen e.body ≡ body_of form fields
 
 -- what is left ends a text of so many entries, as the form wants it
 abbrev pub EndsAt : Form → ℕ → List Fields → Type 0

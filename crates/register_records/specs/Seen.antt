@@ -9,18 +9,11 @@ use Rattle.register_records.specs.Records.{Texts}
 use Rattle.register_records.specs.declared.columns.Columns.{Columns}
 use Rattle.register_records.specs.Outcomes.{TableRow}
 use Rattle.register_records.specs.declared.cell_texts.CellText.{CellText}
-use Rattle.register_records.specs.declared.entries.Body.{Body}
 use Rattle.register_records.specs.declared.entries.Entry.{Entry}
 
 -- the texts in the columns of a record
 abbrev pub columns_seen : Columns → Texts
 columns_seen c = record { id = c.id.now; calendar = c.calendar.now; date = c.date.now; note = c.note.now }
-
-abbrev pub entry_number : Entry → ℕ
-entry_number e = e.number
-
-abbrev pub entry_body : Entry → Body
-entry_body e = e.body
 
 -- the entry as a text has it
 abbrev pub entry_seen : Entry → Numbered

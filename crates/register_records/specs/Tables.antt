@@ -1,10 +1,9 @@
 -- The table and the journal of rows.
-use Rattle.std.specs.Prelude.{◌==◌, if◌then◌else◌, ℕ, ℤ, List, [], ◌∷◌, ◌++◌, codes, map, Result, Ok, Err}
+use Rattle.std.specs.Prelude.{ℕ, ℤ, List, [], ◌∷◌, ◌++◌, codes, map, slice_get, Result, Ok, Err}
+use Rattle.std.specs.Option.{option_map_or}
+use Rattle.std.specs.List.{flat_map}
 use Rattle.std.specs.Fmt.{decimal, signed_decimal}
-use Rattle.day_numbers.specs.Days.{weekday_name, weekday_number}
-use Rattle.day_numbers.specs.declared.day.Weekday.{Weekday}
-use Rattle.day_numbers.specs.declared.day.Weekday.TheVariants.{Sunday, Monday, Tuesday, Wednesday, Thursday, Friday}
-use Rattle.day_numbers.specs.declared.day.Weekday.TheVariants.{Saturday}
+use Rattle.day_numbers.specs.Days.{all_weekdays, weekday_name, weekday_number}
 use Rattle.date_texts.specs.Calendars.{target_name}
 use Rattle.register_records.specs.Entries.{Format, Texts}
 use Rattle.register_records.specs.Lines.{line_text}
@@ -40,16 +39,14 @@ abbrev pub text_fields : Form → Result Texts Refusal → List (List ℕ)
 text_fields form (Ok t) = t.id ∷ t.calendar ∷ t.date ∷ note_fields form t.note
 text_fields form (Err r) = [] ∷ [] ∷ [] ∷ note_fields form []
 
--- the weekday with this number, from 0 for Sunday
-abbrev pub weekday_at : ℕ → Weekday
-weekday_at n =
-    if n == 0 then Sunday else if n == 1 then Monday else if n == 2 then Tuesday else if n == 3 then Wednesday
-    else if n == 4 then Thursday else if n == 5 then Friday else Saturday
+-- the name of the weekday of day n
+abbrev pub weekday_text : ℤ → List ℕ
+weekday_text n = option_map_or weekday_name (slice_get all_weekdays (weekday_number n)) []
 
 -- the day number, the weekday, the cells and an empty refusal; or all of these empty but the refusal's number
 abbrev pub outcome_fields : List Target → Result ℤ Refusal → List (List ℕ) → List (List ℕ)
 outcome_fields targets (Ok n) cells =
-    (signed_decimal n ∷ weekday_name (weekday_at (weekday_number n)) ∷ cells) ++ ([] ∷ [])
+    (signed_decimal n ∷ weekday_text n ∷ cells) ++ ([] ∷ [])
 outcome_fields targets (Err r) cells = ([] ∷ [] ∷ map (λ _. []) targets) ++ (decimal (refusal_number r) ∷ [])
 
 -- the fields that a row has of its entry: its number and the texts
@@ -70,8 +67,7 @@ row_line layout row = line_text layout.format.delimiter (row_fields layout.forma
 
 -- the lines of rows, in order
 unfoldable pub lines_text : Layout → List TableRow → List ℕ
-lines_text layout [] = []
-lines_text layout (row ∷ rows) = row_line layout row ++ lines_text layout rows
+lines_text layout rows = flat_map (row_line layout) rows
 
 -- the table of rows: the heading's line and theirs
 abbrev pub table_text : Layout → List TableRow → List ℕ
@@ -84,5 +80,4 @@ notes_of number (Err r) = record { number = number; refusal = r } ∷ []
 
 -- the journal of rows: the refused ones, in order
 unfoldable pub journal_of : List TableRow → List Note
-journal_of [] = []
-journal_of (row ∷ rows) = notes_of row.number row.outcome ++ journal_of rows
+journal_of rows = flat_map (λ (row : TableRow). notes_of row.number row.outcome) rows

@@ -6,7 +6,7 @@ ghost use Rattle.register_records.specs.Outcomes.{AreCells, IsOutcome, IsRowOf};
 ghost use Rattle.register_records.specs.Entries.{body_seen};
 ghost use Rattle.register_records.specs.Seen.{cells_seen, entry_seen, outcome_seen};
 ghost use Rattle.register_records.specs.ShortLists.{items_in};
-ghost use Rattle.register_records.specs.Views.{row_entry, row_seen, row_targets, targets_of};
+ghost use Rattle.register_records.specs.Views.{row_seen, row_targets, targets_of};
 
 use crate::cell_texts::CellText;
 use crate::entries::{Body, Entry};
@@ -67,7 +67,7 @@ fn cells_of(targets: &[Target], outcome: Result<Day, Refusal>) -> ShortList<Cell
 // Inlined, so that the row, which is large, is made where the caller keeps it.
 #[inline(always)]
 pub fn convert(entry: Entry, setup: &Setup) -> Row
-    ensures entry { row_entry result ≡ entry }
+    ensures entry { result.entry ≡ entry }
     ensures targets { row_targets result ≡ targets_of setup.now }
     ensures row { IsRowOf (targets_of setup.now) (entry_seen entry) (row_seen result) }
 {

@@ -52,14 +52,12 @@ pub struct Entry {
 }
 
 impl Entry {
-    ghost use Rattle.register_records.specs.Seen.{entry_body, entry_number};
-
     /// The entry with this number and this body, or `None` exactly where the number is not from 1 to
     /// 1,000,000 or a refused body holds another refusal than `FieldCount`, `FieldTooLong` and
     /// `NotUtf8`.
     pub fn new(number: u32, body: Body) -> Option<Entry>
         ensures made { IsSome result ↔ ((1 ≤ number) × (number ≤ record_limit) × IsTrue (may_hold body)) }
-        ensures value { IfSome result (λ e. (entry_number e ≡ number) × (entry_body e ≡ body)) }
+        ensures value { IfSome result (λ e. (e.number ≡ number) × (e.body ≡ body)) }
     {
         if number == 0 || number > MAX_RECORDS || !is_allowed(&body) {
             return None;
@@ -71,7 +69,7 @@ impl Entry {
     pub(crate) fn read(number: u32, row: &ByteRecord, form: Form) -> Entry
         requires from_one { 1 ≤ number }
         requires limited { number ≤ record_limit }
-        ensures { (entry_number result ≡ number) × (body_seen (entry_body result) ≡ body_of form (fields_of row.now)) }
+        ensures { (result.number ≡ number) × (body_seen result.body ≡ body_of form (fields_of row.now)) }
     {
         Entry {
             number,
@@ -81,7 +79,7 @@ impl Entry {
 
     /// The number, from 1 to 1,000,000.
     pub fn number(&self) -> u32
-        ensures value { result ≡ entry_number self.now }
+        ensures value { result ≡ self.now.number }
         ensures from_one { 1 ≤ result }
         ensures limited { result ≤ record_limit }
     {
@@ -90,7 +88,7 @@ impl Entry {
 
     /// The body.
     pub fn body(&self) -> &Body
-        ensures value { result.now ≡ entry_body self.now }
+        ensures value { result.now ≡ self.now.body }
         ensures held { IsTrue (may_hold result.now) }
     {
         &self.body

@@ -78,8 +78,6 @@ pub struct Sink {
 }
 
 impl Sink {
-    ghost use Rattle.register_records.specs.Faults.{sink_bytes, sink_failed, sink_mark};
-
     /// An empty output with the mark `mark` and with room for `room` bytes, which takes at most `most` bytes by one
     /// offer. Its offer of the number `fail_write` and its flush of the number `fail_flush`, each from 1, is a fault;
     /// with 0 none is.
@@ -95,9 +93,9 @@ impl Sink {
         fail_flush: u32,
         most: usize,
     ) -> Result<Sink, AllocError>
-        ensures empty { IfOk result (λ s. sink_bytes s ≡ []) }
-        ensures fresh { IfOk result (λ s. sink_failed s ≡ false) }
-        ensures mark { IfOk result (λ s. sink_mark s ≡ mark) }
+        ensures empty { IfOk result (λ s. s.bytes.items ≡ []) }
+        ensures fresh { IfOk result (λ s. s.failed ≡ false) }
+        ensures mark { IfOk result (λ s. s.mark ≡ mark) }
     {
         Ok(Sink {
             bytes: Vec::with_capacity(alloc, room)?,
@@ -115,14 +113,14 @@ impl Sink {
 
     /// The bytes that it took.
     pub fn bytes(&self) -> &[u8]
-        ensures { result.now ≡ sink_bytes self.now }
+        ensures { result.now ≡ self.now.bytes.items }
     {
         self.bytes.as_slice()
     }
 
     /// Whether it has failed: a call answered a fault, or an offer of some bytes took none.
     pub fn has_failed(&self) -> bool
-        ensures { result ≡ sink_failed self.now }
+        ensures { result ≡ self.now.failed }
     {
         self.failed
     }

@@ -1,6 +1,7 @@
 //! Laws of tables.
 
-ghost use Rattle.register_records.specs.Laws.{CellsReadBack, HasRow, NoLossIsSealed, OneTable, TablesGrow};
+ghost use Rattle.register_records.specs.Laws.{CellsReadBack, NoLossIsSealed, OneTable, TablesGrow};
+ghost use Rattle.register_records.specs.Outcomes.{IsRowOf, TableRow};
 ghost use Rattle.register_records.specs.Seen.{entry_seen};
 ghost use Rattle.register_records.specs.Views.{targets_of};
 
@@ -21,7 +22,7 @@ pub fn one_table()
 
 /// Every entry has a row, for the targets of every setup.
 pub fn every_entry_has_row(entry: Entry, setup: &Setup)
-    ensures { HasRow (targets_of setup.now) (entry_seen entry) }
+    ensures { (row : TableRow) × IsRowOf (targets_of setup.now) (entry_seen entry) row }
 {
     convert(entry, setup);
 }

@@ -88,13 +88,11 @@ pub struct PlainOutput<W> {
 }
 
 impl<W: Write> PlainOutput<W> {
-    ghost use Rattle.register_records.specs.Views.{inner_of, mark_of, plain_failed};
-
     /// The output over `inner`, with the mark `mark`; it has not failed.
     pub fn new(inner: W, mark: u32) -> PlainOutput<W>
-        ensures inner { inner_of result ≡ inner }
-        ensures fresh { plain_failed result ≡ false }
-        ensures mark { mark_of result ≡ mark }
+        ensures inner { result.inner ≡ inner }
+        ensures fresh { result.failed ≡ false }
+        ensures mark { result.mark ≡ mark }
     {
         PlainOutput {
             inner,
@@ -106,7 +104,7 @@ impl<W: Write> PlainOutput<W> {
 
     /// The writer.
     pub fn into_inner(self) -> W
-        ensures { result ≡ inner_of self }
+        ensures { result ≡ self.inner }
     {
         self.inner
     }

@@ -10,7 +10,7 @@ ghost use Rattle.register_records.specs.ReadingState.{LacksSeal, Reads, Stands};
 ghost use Rattle.register_records.specs.ReadingState.{fault_of, records_left};
 ghost use Rattle.register_records.specs.Retrying.{inner_remaining};
 ghost use Rattle.register_records.specs.Seals.{Agrees, is_seal as is_seal_record};
-ghost use Rattle.register_records.specs.Seen.{entries_shown, entry_number, entry_seen};
+ghost use Rattle.register_records.specs.Seen.{entries_shown, entry_seen};
 
 use crate::entries::{Entry, MAX_RECORDS};
 use crate::header::is_header;
@@ -56,7 +56,9 @@ pub struct EntryReader<R: Read> {
     // The reader as it was given, and the entries given: what they hold has no bytes.
     source: Snapshot<R>,
     given: Vec<Snapshot<Entry>>,
+    // A call answered that no entry is left.
     done: bool,
+    // A call answered a fault.
     failed: bool,
     ghost live: { failed ≡ false → HasBegun records },
     ghost few: { length given.items ≤ record_limit },
@@ -170,7 +172,7 @@ fn read_entry<R: Read>(
     ensures gives { IfOk result (λ o.
         IfSome o (Gives form count (records_left (inner_remaining R.remaining) records.old)
         (records_left (inner_remaining R.remaining) records.new))) }
-    ensures number { IfOk result (λ o. IfSome o (λ e. (entry_number e ≡ count + 1) × (entry_number e ≤ record_limit))) }
+    ensures number { IfOk result (λ o. IfSome o (λ e. (e.number ≡ count + 1) × (e.number ≤ record_limit))) }
     ensures ends { result ≡ Ok None
         → IfSome (records_left (inner_remaining R.remaining) records.old) (EndsAt form count) }
     ensures many { IfErr result (λ e. e ≡ EntryFault.TooManyRecords → (count ≡ record_limit)
@@ -196,7 +198,7 @@ fn read_entry<R: Read>(
 
 impl<R: Read + Drop> EntryReader<R> {
     ghost use Rattle.register_records.specs.Entries.{HasEntries, HasNoHeader, HasTooMany, IsNotSealed};
-    ghost use Rattle.register_records.specs.Views.{format_of, given_of, is_stopped, reading_ended, reading_failed};
+    ghost use Rattle.register_records.specs.Views.{format_of, given_of};
     ghost use Rattle.register_records.specs.Views.{reads_by, text_of};
 
     /// Reads the header of a text: a first record of three fields that are `id`, `calendar` and `date`,
@@ -211,7 +213,7 @@ impl<R: Read + Drop> EntryReader<R> {
         // It reads the text that the reader tells, and no entry was given yet.
         ensures text { IfOk result (λ r. (text_of r ≡ R.remaining reader) × (reads_by r ≡ format_of setup.now)) }
         ensures none_given { IfOk result (λ r. given_of r ≡ []) }
-        ensures goes { IfOk result (λ r. (reading_failed r ≡ false) × (reading_ended r ≡ false)) }
+        ensures goes { IfOk result (λ r. (r.failed ≡ false) × (r.done ≡ false)) }
         ensures bad { IfErr result (λ e. e ≡ EntryFault.BadHeader
             → IfSome (R.remaining reader) (λ text. HasNoHeader (format_of setup.now) text)) }
         ensures told { IfErr result (λ e. (e ≡ EntryFault.TooManyRecords → ⊥) × (e ≡ EntryFault.Failed → ⊥)
@@ -253,7 +255,7 @@ impl<R: Read + Drop> EntryReader<R> {
         // The entries given gain the entry, and nothing else.
         ensures gives { IfOk result (λ o. IfSome o (λ e. given_of self.new ≡ given_of self.old ++ entry_seen e ∷ [])) }
         ensures number { IfOk result (λ o. IfSome o (λ e.
-            (entry_number e ≡ length (given_of self.old) + 1) × (entry_number e ≤ record_limit))) }
+            (e.number ≡ length (given_of self.old) + 1) × (e.number ≤ record_limit))) }
         ensures kept { OnErr result (given_of self.new ≡ given_of self.old) }
         ensures text { (text_of self.new ≡ text_of self.old) × (reads_by self.new ≡ reads_by self.old) }
 
@@ -266,15 +268,14 @@ impl<R: Read + Drop> EntryReader<R> {
             × ∥ IfSome (text_of self.new) (λ text. IsNotSealed (reads_by self.new) text) ∥₁) }
 
         // None comes only at the end, gives nothing, and comes again.
-        ensures ends { result ≡ Ok None → (reading_ended self.new ≡ true) × (given_of self.new ≡ given_of self.old) }
-        ensures ended { reading_failed self.old ≡ false → reading_ended self.old ≡ true
-            → (result ≡ Ok None) × (self.new ≡ self.old) }
-        ensures only_failed { reading_failed self.old ≡ false → IfErr result (λ e. e ≡ EntryFault.Failed → ⊥) }
+        ensures ends { result ≡ Ok None → (self.new.done ≡ true) × (given_of self.new ≡ given_of self.old) }
+        ensures ended { self.old.failed ≡ false → self.old.done ≡ true → (result ≡ Ok None) × (self.new ≡ self.old) }
+        ensures only_failed { self.old.failed ≡ false → IfErr result (λ e. e ≡ EntryFault.Failed → ⊥) }
         ensures no_header { IfErr result (λ e. e ≡ EntryFault.BadHeader → ⊥) }
-        ensures failed { reading_failed self.old ≡ true → (result ≡ Err EntryFault.Failed) × (self.new ≡ self.old) }
-        ensures fails { OnErr result (reading_failed self.new ≡ true) }
-        ensures goes { OnOk result (reading_failed self.new ≡ false) }
-        ensures read_fault { IfErr result (λ e. e ≡ EntryFault.ReadFault → is_stopped self.new ≡ true) }
+        ensures failed { self.old.failed ≡ true → (result ≡ Err EntryFault.Failed) × (self.new ≡ self.old) }
+        ensures fails { OnErr result (self.new.failed ≡ true) }
+        ensures goes { OnOk result (self.new.failed ≡ false) }
+        ensures read_fault { IfErr result (λ e. e ≡ EntryFault.ReadFault → has_failed self.new.records ≡ true) }
     {
         if self.failed {
             return Err(EntryFault::Failed);

@@ -7,7 +7,7 @@ ghost use Rattle.register_records.specs.LineViews.{Begins, line_bytes, line_deli
 ghost use Rattle.register_records.specs.Lines.{line_text};
 ghost use Rattle.register_records.specs.Tables.{entry_fields, entry_heading, heading, note_fields, row_fields};
 ghost use Rattle.register_records.specs.Tables.{text_fields};
-ghost use Rattle.register_records.specs.Views.{row_outcome, row_seen, row_targets};
+ghost use Rattle.register_records.specs.Views.{row_seen, row_targets};
 ghost use Rattle.register_records.specs.declared.entries.TheConstants.{CALENDAR_LIMIT, DATE_LIMIT, ID_LIMIT};
 ghost use Rattle.register_records.specs.declared.entries.TheConstants.{NOTE_LIMIT};
 ghost use Rattle.register_records.specs.declared.lines.TheConstants.{LINE_ROOM};
@@ -105,7 +105,7 @@ fn begin_line(line: &mut Line, form: Form, row: &Row) -> Result<(), AllocError>
 
 /// Makes the line of an accepted row.
 fn make_accepted(line: &mut Line, form: Form, row: &Row, day: Day) -> Result<(), AllocError>
-    requires { row_outcome row.now ≡ Ok day }
+    requires { row.now.outcome ≡ Ok day }
     ensures value { OnOk result (line_bytes line.new ≡ line_text (line_delimiter line.old)
         (row_fields form (row_targets row.now) (row_seen row.now))) }
     ensures kept { line_delimiter line.new ≡ line_delimiter line.old }
@@ -124,7 +124,7 @@ fn make_accepted(line: &mut Line, form: Form, row: &Row, day: Day) -> Result<(),
 
 /// Makes the line of a refused row.
 fn make_refused(line: &mut Line, form: Form, row: &Row, refusal: Refusal) -> Result<(), AllocError>
-    requires { row_outcome row.now ≡ Err refusal }
+    requires { row.now.outcome ≡ Err refusal }
     ensures value { OnOk result (line_bytes line.new ≡ line_text (line_delimiter line.old)
         (row_fields form (row_targets row.now) (row_seen row.now))) }
     ensures kept { line_delimiter line.new ≡ line_delimiter line.old }

@@ -27,12 +27,12 @@ pub struct Row {
 impl Row {
     ghost use Rattle.std.specs.Prelude.{◌↔◌, ◌∷◌, [], true, MatchOption};
     ghost use Rattle.register_records.specs.Tables.{notes_of};
-    ghost use Rattle.register_records.specs.Views.{row_cells, row_entry, row_outcome, row_seen, row_targets};
+    ghost use Rattle.register_records.specs.Views.{row_cells, row_seen, row_targets};
     ghost use Rattle.register_records.specs.Views.{targets_of};
 
     /// The entry.
     pub fn entry(&self) -> &Entry
-        ensures { result.now ≡ row_entry self.now }
+        ensures { result.now ≡ self.now.entry }
     {
         &self.entry
     }
@@ -47,7 +47,7 @@ impl Row {
 
     /// The day, or the first refusal that applies.
     pub fn outcome(&self) -> Result<Day, Refusal>
-        ensures { result ≡ row_outcome self.now }
+        ensures { result ≡ self.now.outcome }
     {
         self.outcome
     }
@@ -56,7 +56,7 @@ impl Row {
     pub fn cells(&self) -> &[CellText]
         ensures value { result.now ≡ row_cells self.now }
         ensures few { length result.now ≤ MAX_TARGETS }
-        ensures row { ∥ IsRowOf (row_targets self.now) (entry_seen (row_entry self.now)) (row_seen self.now) ∥₁ }
+        ensures row { ∥ IsRowOf (row_targets self.now) (entry_seen self.now.entry) (row_seen self.now) ∥₁ }
     {
         self.cells.as_slice()
     }

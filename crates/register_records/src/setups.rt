@@ -1,6 +1,6 @@
 //! What a conversion is asked for.
 
-ghost use Rattle.std.specs.Prelude.{◌≡◌, ◌≤◌, ◌<◌, ◌↔◌, ◌≢◌, ℕ, length, IfOk, Err, true, false, slice_get};
+ghost use Rattle.std.specs.Prelude.{◌≡◌, ◌≤◌, ◌<◌, ◌↔◌, ◌≢◌, ◌∷◌, [], ℕ, length, IfOk, Err, true, false, slice_get};
 ghost use Rattle.register_records.specs.ShortLists.{items_in};
 ghost use Rattle.register_records.specs.SetupRules.{NamesTwice, is_delimiter, is_ring_size, is_stripe_count};
 
@@ -70,11 +70,13 @@ pub enum SetupFault {
 }
 
 impl SetupFault {
-    ghost use Rattle.register_records.specs.Views.{setup_fault_number};
+    ghost use Rattle.day_numbers.specs.Numbered.{IsNumbered};
+    ghost use Rattle.register_records.specs.declared.setups.SetupFault.TheVariants.{Delimiter, RingSize, Stripes};
+    ghost use Rattle.register_records.specs.declared.setups.SetupFault.TheVariants.{TargetTwice};
 
     /// The number of the fault, from 1 for `TargetTwice` to 4 for `Stripes`.
     pub fn number(&self) -> u8
-        ensures { result ≡ setup_fault_number self.now }
+        ensures { IsNumbered (TargetTwice ∷ RingSize ∷ Delimiter ∷ Stripes ∷ []) result self.now }
     {
         match self {
             SetupFault::TargetTwice => 1,
@@ -86,7 +88,7 @@ impl SetupFault {
 }
 
 impl Setup {
-    ghost use Rattle.register_records.specs.Views.{delimiter_of, form_of, ring_of, stripes_of, targets_of};
+    ghost use Rattle.register_records.specs.Views.{targets_of};
 
     /// A setup for these targets, in this order; none is allowed. Each ring holds `ring` items, from 1
     /// to 4096; `delimiter`, a comma, a semicolon or a tab, stands between two fields of the input and of
@@ -103,8 +105,8 @@ impl Setup {
         stripes: usize,
         form: Form,
     ) -> Result<Setup, SetupFault>
-        ensures value { IfOk result (λ s. (targets_of s ≡ targets.now) × (ring_of s ≡ ring)
-            × (delimiter_of s ≡ delimiter) × (stripes_of s ≡ stripes) × (form_of s ≡ form)) }
+        ensures value { IfOk result (λ s. (targets_of s ≡ targets.now) × (s.ring ≡ ring)
+            × (s.delimiter ≡ delimiter) × (s.stripes ≡ stripes) × (s.form ≡ form)) }
         ensures fit { IfOk result (λ s. (¬ (NamesTwice targets.now)) × (is_ring_size ring ≡ true)
             × (is_delimiter delimiter ≡ true) × (is_stripe_count stripes ≡ true)) }
         ensures twice { (result ≡ Err SetupFault.TargetTwice) ↔ NamesTwice targets.now }
@@ -112,9 +114,8 @@ impl Setup {
             ↔ ((¬ (NamesTwice targets.now)) × (is_ring_size ring ≡ false)) }
         ensures delimiter { (result ≡ Err SetupFault.Delimiter)
             ↔ ((¬ (NamesTwice targets.now)) × (is_ring_size ring ≡ true) × (is_delimiter delimiter ≡ false)) }
-        ensures stripes { (result ≡ Err SetupFault.Stripes)
-            ↔ ((¬ (NamesTwice targets.now)) × (is_ring_size ring ≡ true) × (is_delimiter delimiter ≡ true)
-            × (is_stripe_count stripes ≡ false)) }
+        ensures stripes { (result ≡ Err SetupFault.Stripes) ↔ ((¬ (NamesTwice targets.now)) × (is_ring_size ring ≡ true)
+            × (is_delimiter delimiter ≡ true) × (is_stripe_count stripes ≡ false)) }
     {
         if names_twice(targets) {
             return Err(SetupFault::TargetTwice);
@@ -155,7 +156,7 @@ impl Setup {
 
     /// How many items a ring holds, from 1 to 4096.
     pub fn ring(&self) -> usize
-        ensures value { result ≡ ring_of self.now }
+        ensures value { result ≡ self.now.ring }
         ensures fits { is_ring_size result ≡ true }
     {
         self.ring
@@ -163,7 +164,7 @@ impl Setup {
 
     /// The byte between two fields: a comma, a semicolon or a tab.
     pub fn delimiter(&self) -> u8
-        ensures value { result ≡ delimiter_of self.now }
+        ensures value { result ≡ self.now.delimiter }
         ensures fits { is_delimiter result ≡ true }
     {
         self.delimiter
@@ -171,7 +172,7 @@ impl Setup {
 
     /// How many converters a source has, from 1 to 4.
     pub fn stripes(&self) -> usize
-        ensures value { result ≡ stripes_of self.now }
+        ensures value { result ≡ self.now.stripes }
         ensures fits { is_stripe_count result ≡ true }
     {
         self.stripes
@@ -179,7 +180,7 @@ impl Setup {
 
     /// Whether registers have seals.
     pub fn form(&self) -> Form
-        ensures { result ≡ form_of self.now }
+        ensures { result ≡ self.now.form }
     {
         self.form
     }

@@ -9,7 +9,7 @@ ghost use Rattle.register_records.specs.Sources.{ArePartOfTable, Gains, IfBroken
 ghost use Rattle.register_records.specs.Sources.{IsWholeTable, cause_number, is_whole_end};
 ghost use Rattle.register_records.specs.Tables.{heading_line, notes_of};
 ghost use Rattle.register_records.specs.declared.setups.Form.TheVariants.{Sealed};
-ghost use Rattle.register_records.specs.Views.{form_of, format_of, given_of, layout_of, line_of, row_seen, text_of};
+ghost use Rattle.register_records.specs.Views.{format_of, given_of, layout_of, line_of, row_seen, text_of};
 ghost use Rattle.register_records.specs.Views.{writes_by};
 
 use crate::converting::convert;
@@ -183,7 +183,7 @@ fn convert_next<R: Read + Drop, W: Output>(
     ensures sink { IfErr result (λ c. c ≡ Cause.SinkFault → W.has_failed output.new ≡ true) }
     ensures many { IfErr result (λ c. c ≡ Cause.TooManyRecords → (length (given_of entries.old) ≡ record_limit)
         × ∥ IfSome (text_of entries.old) (λ text. HasTooMany (format_of setup.now) text) ∥₁) }
-    ensures not_sealed { IfErr result (λ c. c ≡ Cause.NotSealed → (form_of setup.now ≡ Sealed)
+    ensures not_sealed { IfErr result (λ c. c ≡ Cause.NotSealed → (setup.now.form ≡ Sealed)
         × ∥ IfSome (text_of entries.old) (λ text. IsNotSealed (format_of setup.now) text) ∥₁) }
     ensures never { IfErr result (λ c. (c ≢ Cause.NoThread) × (c ≢ Cause.Unconfirmed) × (c ≢ Cause.BadHeader)) }
     ensures mark { W.own_mark output.new ≡ W.own_mark output.old }
@@ -228,7 +228,7 @@ fn convert_entries<R: Read + Drop, W: Output>(
         → ∥ IfSome (text_of entries.old) (λ text. HasTooMany (format_of setup.now) text) ∥₁
         × ∥ Gains begun (W.contents output.new)
         (IsFrontOfTable (layout_of setup.now) (text_of entries.old) record_limit) ∥₁) }
-    ensures not_sealed { IfBroken result (λ c. c ≡ Cause.NotSealed → (form_of setup.now ≡ Sealed)
+    ensures not_sealed { IfBroken result (λ c. c ≡ Cause.NotSealed → (setup.now.form ≡ Sealed)
         × ∥ IfSome (text_of entries.old) (λ text. IsNotSealed (format_of setup.now) text) ∥₁) }
     ensures never { IfBroken result (λ c. (c ≢ Cause.NoThread) × (c ≢ Cause.Unconfirmed) × (c ≢ Cause.BadHeader)) }
     ensures sink { IfBroken result (λ c. c ≡ Cause.SinkFault → W.has_failed output.new ≡ true) }
@@ -284,7 +284,7 @@ pub fn convert_source<R: Read + Drop, W: Output>(
         × ∥ Gains (W.contents output.old) (W.contents output.new)
         (IsFrontOfTable (layout_of setup.now) (R.remaining reader) record_limit) ∥₁) }
     // The text is sealed, but its seal is missing or does not agree, or a record follows it.
-    ensures not_sealed { IfBroken result (λ c. c ≡ Cause.NotSealed → (form_of setup.now ≡ Sealed)
+    ensures not_sealed { IfBroken result (λ c. c ≡ Cause.NotSealed → (setup.now.form ≡ Sealed)
         × ∥ IfSome (R.remaining reader) (λ text. IsNotSealed (format_of setup.now) text) ∥₁) }
     ensures never { IfBroken result (λ c. (c ≢ Cause.NoThread) × (c ≢ Cause.Unconfirmed)) }
 

@@ -42,6 +42,7 @@ pub struct RowWriter {
     form: Form,
     // The lines that were not sent yet.
     pending: Vec<u8>,
+    // A call answered a fault.
     failed: bool,
     // The output failed.
     sunk: bool,
@@ -52,8 +53,8 @@ pub struct RowWriter {
 impl RowWriter {
     ghost use Rattle.register_records.specs.LineViews.{line_bytes};
     ghost use Rattle.register_records.specs.Tables.{heading_line};
-    ghost use Rattle.register_records.specs.Views.{format_of, has_sunk, layout_of, line_of, pending_of};
-    ghost use Rattle.register_records.specs.Views.{writes_by, writing_failed};
+    ghost use Rattle.register_records.specs.Views.{format_of, layout_of, line_of};
+    ghost use Rattle.register_records.specs.Views.{writes_by};
 
     /// Writes the heading and flushes it.
     ///
@@ -68,8 +69,8 @@ impl RowWriter {
         ensures ok { OnOk result (Appends (W.contents output.old) (W.contents output.new)
             (heading_line (layout_of setup.now))) }
         ensures flushed { OnOk result (W.is_flushed output.new ≡ true) }
-        ensures writer { IfOk result (λ w. (writes_by w ≡ format_of setup.now) × (writing_failed w ≡ false)
-            × (pending_of w ≡ [])) }
+        ensures writer { IfOk result (λ w. (writes_by w ≡ format_of setup.now) × (w.failed ≡ false)
+            × (w.pending.items ≡ [])) }
         ensures goes { OnOk result (W.has_failed output.new ≡ W.has_failed output.old) }
         ensures memory { IfErr result (λ e. e ≡ RowFault.OutOfMemory → output.new ≡ output.old) }
         ensures fault { IfErr result (λ e. e ≡ RowFault.WriteFault → W.has_failed output.new ≡ true) }
@@ -103,13 +104,13 @@ impl RowWriter {
         ensures short { OnOk result (length (line_bytes self.new.line) ≤ LINE_ROOM) }
         ensures pending { self.new.pending ≡ self.old.pending }
         ensures by { writes_by self.new ≡ writes_by self.old }
-        ensures sunk { has_sunk self.new ≡ has_sunk self.old }
-        ensures goes { OnOk result ((writing_failed self.old ≡ false) × (writing_failed self.new ≡ false)) }
-        ensures fails { OnErr result (writing_failed self.new ≡ true) }
+        ensures sunk { self.new.sunk ≡ self.old.sunk }
+        ensures goes { OnOk result ((self.old.failed ≡ false) × (self.new.failed ≡ false)) }
+        ensures fails { OnErr result (self.new.failed ≡ true) }
         ensures told { IfErr result (λ e. e ≡ RowFault.WriteFault → ⊥) }
         ensures roomy { IfErr result (λ e. e ≡ RowFault.OutOfMemory → ⊥) }
-        ensures only_failed { writing_failed self.old ≡ false → IfErr result (λ e. e ≡ RowFault.Failed → ⊥) }
-        ensures failed { writing_failed self.old ≡ true → (result ≡ Err RowFault.Failed) × (self.new ≡ self.old) }
+        ensures only_failed { self.old.failed ≡ false → IfErr result (λ e. e ≡ RowFault.Failed → ⊥) }
+        ensures failed { self.old.failed ≡ true → (result ≡ Err RowFault.Failed) × (self.new ≡ self.old) }
     {
         if self.failed {
             return Err(RowFault::Failed);
@@ -127,18 +128,18 @@ impl RowWriter {
     /// `OutOfMemory`, which never comes where at most `MOST_WAITING` bytes of lines wait, and `Failed` after a fault;
     /// then the same lines wait as before.
     pub fn add(&mut self, row: &Row) -> Result<(), RowFault>
-        ensures ok { OnOk result (pending_of self.new ≡ pending_of self.old ++ line_of self.old row.now) }
-        ensures short { OnOk result (length (pending_of self.new) ≤ length (pending_of self.old) + LINE_ROOM) }
-        ensures kept { OnErr result (pending_of self.new ≡ pending_of self.old) }
+        ensures ok { OnOk result (self.new.pending.items ≡ self.old.pending.items ++ line_of self.old row.now) }
+        ensures short { OnOk result (length self.new.pending.items ≤ length self.old.pending.items + LINE_ROOM) }
+        ensures kept { OnErr result (self.new.pending.items ≡ self.old.pending.items) }
         ensures by { writes_by self.new ≡ writes_by self.old }
-        ensures sunk { has_sunk self.new ≡ has_sunk self.old }
-        ensures goes { OnOk result ((writing_failed self.old ≡ false) × (writing_failed self.new ≡ false)) }
-        ensures fails { OnErr result (writing_failed self.new ≡ true) }
+        ensures sunk { self.new.sunk ≡ self.old.sunk }
+        ensures goes { OnOk result ((self.old.failed ≡ false) × (self.new.failed ≡ false)) }
+        ensures fails { OnErr result (self.new.failed ≡ true) }
         ensures told { IfErr result (λ e. e ≡ RowFault.WriteFault → ⊥) }
-        ensures roomy { length (pending_of self.old) ≤ MOST_WAITING
+        ensures roomy { length self.old.pending.items ≤ MOST_WAITING
             → IfErr result (λ e. e ≡ RowFault.OutOfMemory → ⊥) }
-        ensures only_failed { writing_failed self.old ≡ false → IfErr result (λ e. e ≡ RowFault.Failed → ⊥) }
-        ensures failed { writing_failed self.old ≡ true → (result ≡ Err RowFault.Failed) × (self.new ≡ self.old) }
+        ensures only_failed { self.old.failed ≡ false → IfErr result (λ e. e ≡ RowFault.Failed → ⊥) }
+        ensures failed { self.old.failed ≡ true → (result ≡ Err RowFault.Failed) × (self.new ≡ self.old) }
     {
         self.complete(row)?;
         if self
@@ -154,7 +155,7 @@ impl RowWriter {
 
     /// How many bytes of lines wait.
     pub fn pending_len(&self) -> usize
-        ensures { result ≡ length (pending_of self.now) }
+        ensures { result ≡ length self.now.pending.items }
     {
         self.pending.len()
     }
@@ -165,18 +166,17 @@ impl RowWriter {
     ///
     /// `WriteFault` where the output has failed, and `Failed` after it: then nothing is written.
     pub fn send<W: Output>(&mut self, output: &mut W) -> Result<(), RowFault>
-        ensures ok { OnOk result (Appends (W.contents output.old) (W.contents output.new) (pending_of self.old)) }
-        ensures sent { OnOk result (pending_of self.new ≡ []) }
+        ensures ok { OnOk result (Appends (W.contents output.old) (W.contents output.new) self.old.pending.items) }
+        ensures sent { OnOk result (self.new.pending.items ≡ []) }
         ensures flushed { OnOk result (W.is_flushed output.new ≡ true) }
         ensures by { writes_by self.new ≡ writes_by self.old }
         ensures goes { OnOk result ((W.has_failed output.new ≡ W.has_failed output.old)
-            × (writing_failed self.new ≡ writing_failed self.old) × (has_sunk self.old ≡ false)
-            × (has_sunk self.new ≡ false)) }
-        ensures fails { OnErr result ((writing_failed self.new ≡ true) × (has_sunk self.new ≡ true)) }
+            × (self.new.failed ≡ self.old.failed) × (self.old.sunk ≡ false) × (self.new.sunk ≡ false)) }
+        ensures fails { OnErr result ((self.new.failed ≡ true) × (self.new.sunk ≡ true)) }
         ensures fault { IfErr result (λ e. e ≡ RowFault.WriteFault → W.has_failed output.new ≡ true) }
         ensures told { IfErr result (λ e. e ≡ RowFault.OutOfMemory → ⊥) }
-        ensures only_failed { has_sunk self.old ≡ false → IfErr result (λ e. e ≡ RowFault.Failed → ⊥) }
-        ensures failed { has_sunk self.old ≡ true
+        ensures only_failed { self.old.sunk ≡ false → IfErr result (λ e. e ≡ RowFault.Failed → ⊥) }
+        ensures failed { self.old.sunk ≡ true
             → (result ≡ Err RowFault.Failed) × (output.new ≡ output.old) × (self.new ≡ self.old) }
         ensures mark { W.own_mark output.new ≡ W.own_mark output.old }
     {
@@ -200,21 +200,21 @@ impl RowWriter {
     /// `WriteFault` where the output has failed; and `Failed` after a fault: then nothing is written.
     pub fn put<W: Output>(&mut self, output: &mut W, row: &Row) -> Result<(), RowFault>
         ensures ok { OnOk result (Appends (W.contents output.old) (W.contents output.new)
-            (pending_of self.old ++ line_of self.old row.now)) }
-        ensures sent { OnOk result (pending_of self.new ≡ []) }
+            (self.old.pending.items ++ line_of self.old row.now)) }
+        ensures sent { OnOk result (self.new.pending.items ≡ []) }
         ensures flushed { OnOk result (W.is_flushed output.new ≡ true) }
         ensures by { writes_by self.new ≡ writes_by self.old }
         ensures goes { OnOk result ((W.has_failed output.new ≡ W.has_failed output.old)
-            × (writing_failed self.old ≡ false) × (writing_failed self.new ≡ false) × (has_sunk self.new ≡ false)) }
-        ensures fails { OnErr result (writing_failed self.new ≡ true) }
+            × (self.old.failed ≡ false) × (self.new.failed ≡ false) × (self.new.sunk ≡ false)) }
+        ensures fails { OnErr result (self.new.failed ≡ true) }
         ensures memory { IfErr result (λ e. e ≡ RowFault.OutOfMemory → (output.new ≡ output.old)
-            × (pending_of self.new ≡ pending_of self.old) × (has_sunk self.new ≡ has_sunk self.old)) }
-        ensures roomy { length (pending_of self.old) ≤ MOST_WAITING
+            × (self.new.pending.items ≡ self.old.pending.items) × (self.new.sunk ≡ self.old.sunk)) }
+        ensures roomy { length self.old.pending.items ≤ MOST_WAITING
             → IfErr result (λ e. e ≡ RowFault.OutOfMemory → ⊥) }
         ensures fault { IfErr result (λ e. e ≡ RowFault.WriteFault
-            → (W.has_failed output.new ≡ true) × (has_sunk self.new ≡ true)) }
-        ensures only_failed { writing_failed self.old ≡ false → IfErr result (λ e. e ≡ RowFault.Failed → ⊥) }
-        ensures failed { writing_failed self.old ≡ true
+            → (W.has_failed output.new ≡ true) × (self.new.sunk ≡ true)) }
+        ensures only_failed { self.old.failed ≡ false → IfErr result (λ e. e ≡ RowFault.Failed → ⊥) }
+        ensures failed { self.old.failed ≡ true
             → (result ≡ Err RowFault.Failed) × (output.new ≡ output.old) × (self.new ≡ self.old) }
         ensures mark { W.own_mark output.new ≡ W.own_mark output.old }
     {
@@ -237,7 +237,7 @@ impl RowWriter {
     ///
     /// `Failed` exactly where an earlier call answered a fault.
     pub fn end(self) -> Result<(), RowFault>
-        ensures { result ≡ (if writing_failed self then Err RowFault.Failed else Ok tt) }
+        ensures { result ≡ (if self.failed then Err RowFault.Failed else Ok tt) }
     {
         if self.failed {
             Err(RowFault::Failed)

@@ -5,7 +5,6 @@ use Rattle.std.specs.Prelude.{IfSome}
 use Rattle.std.specs.List.{Contains}
 use Rattle.register_records.specs.Entries.{AreNumberedFrom, Format, HasFirstEntries, Numbered}
 use Rattle.register_records.specs.Seen.{entry_seen}
-use Rattle.register_records.specs.Views.{row_entry}
 use Rattle.register_records.specs.declared.rows.Row.{Row}
 use Rattle.register_run.specs.Passages.{IsOfGiven}
 use Rattle.register_run.specs.TablesWritten.{entries_seen}
@@ -40,7 +39,7 @@ front (y ∷ ys) (x ∷ xs) k g n all =
 
 -- what holds of the entry of each row holds of each of the entries
 pub each_entry : (P : Numbered → Type 0) (rows : List Row)
-    → ((row : Row) → Contains rows row → P (entry_seen (row_entry row))) → (n : Numbered)
+    → ((row : Row) → Contains rows row → P (entry_seen row.entry)) → (n : Numbered)
     → Contains (entries_seen rows) n → P n
 each_entry P [] all n c = absurd (omega (arith, c.1))
 each_entry P (row ∷ rest) all n (zero, below, is) = subst P is (all row (0, omega arith, refl))

@@ -9,7 +9,6 @@ use Rattle.lane_rings.specs.declared.item.Item.{Item}
 use Rattle.lane_rings.specs.declared.item.Item.TheVariants as item
 use Rattle.register_records.specs.Entries.{Numbered}
 use Rattle.register_records.specs.Seen.{entry_seen}
-use Rattle.register_records.specs.Views.{row_entry}
 use Rattle.register_records.specs.declared.entries.Entry.{Entry}
 use Rattle.register_records.specs.declared.rows.Row.{Row}
 use Rattle.lane_rings.specs.declared.item.Gone.{Gone}
@@ -113,15 +112,15 @@ none_of_taken entries items none row h =
 -- more was taken
 pub kept_of_taken : (entries all : List (Item Entry)) (items : List (Item Row))
     → ((y : Item Entry) → Contains entries y → Contains all y) → AreOfTaken entries items → AreOfTaken all items
-kept_of_taken entries all items kept are row h = kept (item.Entry (row_entry row)) (are row h)
+kept_of_taken entries all items kept are row h = kept (item.Entry row.entry) (are row h)
 
 -- one more entry was taken, and its row was sent, if any
 pub more_of_taken : (entries all : List (Item Entry)) (items more : List (Item Row)) (e : Entry)
     → all ≡ entries ++ item.Entry e ∷ [] → GainsRowOf items more e → AreOfTaken entries items → AreOfTaken all more
 more_of_taken entries all items more e is gains are row h =
     elim (gains row h) [
-      | inl a ↦ subst (λ l. Contains l (item.Entry (row_entry row))) (sym is)
-          (Contains-append_left entries (item.Entry e ∷ []) (item.Entry (row_entry row)) (are row a))
+      | inl a ↦ subst (λ l. Contains l (item.Entry row.entry)) (sym is)
+          (Contains-append_left entries (item.Entry e ∷ []) (item.Entry row.entry) (are row a))
       | inr b ↦ subst (λ x. Contains all (item.Entry x)) (sym b) (taken_last entries all e is)
     ]
 
@@ -133,18 +132,18 @@ rows_ended entries items all x other is are row h =
 
 -- one more row was sent
 pub gains_row : (old new : List (Item Row)) (made : Row) (e : Entry) → new ≡ old ++ item.Entry made ∷ []
-    → row_entry made ≡ e → GainsRowOf old new e
+    → made.entry ≡ e → GainsRowOf old new e
 gains_row old new made e is of row h =
     elim (Contains-append_cases old (item.Entry made ∷ []) (item.Entry row)
     (subst (λ l. Contains l (item.Entry row)) is h)) [
       | inl a ↦ inl a
       | inr b ↦ (let k = only (item.Entry made) (item.Entry row) b in let same : row ≡ made = cc in
-          inr (ap row_entry same ∙ of))
+          inr (ap (λ (r : Row). r.entry) same ∙ of))
     ]
 
 -- a send that went through, or did not
 pub gains_send : (old new : List (Item Row)) (made : Row) (e : Entry) (r : Result (Unit {0}) (Gone Row))
-    → OnOk r (new ≡ old ++ item.Entry made ∷ []) → IfErr r (λ g. (g.value ≡ made) × (new ≡ old)) → row_entry made ≡ e
+    → OnOk r (new ≡ old ++ item.Entry made ∷ []) → IfErr r (λ g. (g.value ≡ made) × (new ≡ old)) → made.entry ≡ e
     → GainsRowOf old new e
 gains_send old new made e (Ok u) ok gone of row h = gains_row old new made e ok of row h
 gains_send old new made e (Err g) ok gone of row h = inl (subst (λ l. Contains l (item.Entry row)) gone.1 h)
@@ -160,4 +159,4 @@ passage given from into fed converting rows among c first second none row h =
     subst (λ l. Contains l (item.Entry row)) (append-nil (taken rows))
     (subst (λ l. Contains (taken rows ++ l) (item.Entry row)) none h) in
     let made = c.rows second.confirmed row (subst (λ l. Contains l (item.Entry row)) (sym second.equal) took) in
-    among first.confirmed (row_entry row) (subst (λ l. Contains l (item.Entry (row_entry row))) (sym first.equal) made)
+    among first.confirmed row.entry (subst (λ l. Contains l (item.Entry row.entry)) (sym first.equal) made)

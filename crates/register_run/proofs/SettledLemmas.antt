@@ -23,7 +23,7 @@ use Rattle.register_records.specs.Outcomes.{AreRowsOf, IsRowOf}
 use Rattle.register_records.specs.Seen.{entry_seen}
 use Rattle.register_records.specs.Sources.{ArePartOfTable, Gains, IfBroken, IfWhole, IsTableOf}
 use Rattle.register_records.specs.Tables.{Layout, table_text}
-use Rattle.register_records.specs.Views.{form_of, format_of, layout_of, pending_of, row_entry, row_seen, row_targets}
+use Rattle.register_records.specs.Views.{format_of, layout_of, row_seen, row_targets}
 use Rattle.register_run.specs.declared.tables.Table.{Table}
 use Rattle.register_run.specs.Headline.{AreRowsInOrder, IsSettled}
 use Rattle.register_run.specs.Passages.{HasPassed, IsGiven, IsOfGiven, is_of_reading, tells_of_text}
@@ -38,7 +38,7 @@ rows_are targets (row ∷ rest) all =
     ∥∥₁_elim row.is_row ∥∥₁_prop (λ is.
     ∥∥₁_map (rows_are targets rest (λ r c. all r (Contains-append_right (row ∷ []) rest r c)))
     (λ more. (
-      subst (λ ts. IsRowOf ts (entry_seen (row_entry row)) (row_seen row)) (all row (0, omega arith, refl)) is,
+      subst (λ ts. IsRowOf ts (entry_seen row.entry) (row_seen row)) (all row (0, omega arith, refl)) is,
       more,
     )))
 
@@ -66,7 +66,7 @@ table_so : {W : Type 0} (o : outputs.Ghosts W) (layout : Layout) (given output :
     → Appends (o.contents given) (o.contents output) (table_text layout (rows_seen rows)) × (o.is_flushed output ≡ true)
 table_so o layout given output None rows e none h = absurd (cc)
 table_so o layout given output (Some w) rows e none h = (
-  appends_waited (o.contents given) (o.contents output) (pending_of w) (table_text layout (rows_seen rows)) none h.0,
+  appends_waited (o.contents given) (o.contents output) w.pending.items (table_text layout (rows_seen rows)) none h.0,
   h.1,
 )
 
@@ -75,7 +75,7 @@ module _ {W : Type 0} (o : outputs.Ghosts W) (text : Option (List ℕ)) (table :
     (has : HasPassed text (format_of table.setup) passed (λ row. Contains rows row)) (headed : Bool)
     (is_headed : headed ≡ is_some table.writer) where
   entries_len : length (entries_seen rows) ≡ table.rows
-  entries_len = length-map rows (λ (row : Row). entry_seen (row_entry row)) ∙ holds.counted
+  entries_len = length-map rows (λ (row : Row). entry_seen row.entry) ∙ holds.counted
 
   table_is : AreRowsOf (layout_of table.setup).targets (entries_seen rows) (rows_seen rows)
       → IsTableOf (layout_of table.setup) (entries_seen rows) (rows_seen rows)
@@ -168,7 +168,7 @@ module _ {W : Type 0} (o : outputs.Ghosts W) (text : Option (List ℕ)) (table :
       → IfSome text (λ t. HasTooMany (format_of table.setup) t))) fact.0 is.too_many in
       let unsealed =
       subst (λ p. IfErr p (λ d. d ≡ cause.NotSealed
-      → (form_of table.setup ≡ Sealed)
+      → (table.setup.form ≡ Sealed)
       × IfSome text (λ t. IsNotSealed (format_of table.setup) t))) fact.0 is.not_sealed in record {
         whole = tt;
         flushed = tt;

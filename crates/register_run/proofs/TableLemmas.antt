@@ -15,7 +15,7 @@ use Rattle.register_records.specs.Entries.{AreNumberedFrom, format_by}
 use Rattle.register_records.specs.Laws.{TablesGrow}
 use Rattle.register_records.specs.Seen.{entry_seen}
 use Rattle.register_records.specs.Tables.{Layout, heading_line, journal_of, lines_text, notes_of, row_line, table_text}
-use Rattle.register_records.specs.Views.{line_of, pending_of, row_entry, row_seen, row_targets, writes_by}
+use Rattle.register_records.specs.Views.{line_of, row_seen, row_targets, writes_by}
 use Rattle.register_run.specs.TablesWritten.{Stands, entries_seen, rows_seen}
 use Rattle.register_run.proofs.GivenLemmas.{numbered_more}
 use Rattle.register_run.proofs.PassageLemmas.{only}
@@ -65,12 +65,12 @@ module _ {W : Type 0} (o : outputs.Ghosts W) (layout : Layout) (given : W) where
   -- the heading was written
   pub stands_headed : (output new : W) (w : RowWriter) (rows : List Row) → Stands o layout given output None rows
       → Appends (o.contents output) (o.contents new) (heading_line layout)
-      → o.is_flushed new ≡ true → writes_by w ≡ layout.format → pending_of w ≡ []
+      → o.is_flushed new ≡ true → writes_by w ≡ layout.format → w.pending.items ≡ []
       → Stands o layout given new (Some w) rows
   stands_headed output new w rows h wrote flushed by none = (
     (let lines : lines_text layout (rows_seen rows) ≡ [] = ap (λ (r : List Row). lines_text layout (rows_seen r)) h.1
         ∙ no_lines layout in
-        appends_heading (o.contents given) (o.contents output) (o.contents new) (pending_of w) (heading_line layout)
+        appends_heading (o.contents given) (o.contents output) (o.contents new) w.pending.items (heading_line layout)
         (lines_text layout (rows_seen rows)) (ap o.contents h.0) wrote none lines),
     flushed,
     by,
@@ -78,7 +78,7 @@ module _ {W : Type 0} (o : outputs.Ghosts W) (layout : Layout) (given : W) where
 
   -- a line waits behind the others
   pub stands_more : (output : W) (w new : RowWriter) (rows : List Row) (row : Row) → TablesGrow
-      → Stands o layout given output (Some w) rows → pending_of new ≡ pending_of w ++ line_of w row
+      → Stands o layout given output (Some w) rows → new.pending.items ≡ w.pending.items ++ line_of w row
       → writes_by new ≡ writes_by w → row_targets row ≡ layout.targets
       → Stands o layout given output (Some new) (rows ++ row ∷ [])
   stands_more output w new rows row grow h more by targets =
@@ -89,12 +89,12 @@ module _ {W : Type 0} (o : outputs.Ghosts W) (layout : Layout) (given : W) where
       ≡ table_text layout (rows_seen rows)
       ++ row_line layout (row_seen row) = ap (table_text layout) (map-append row_seen rows (row ∷ []))
       ∙ (grow layout (rows_seen rows) (row_seen row)).0 in
-      let waits : pending_of new ≡ pending_of w ++ row_line layout (row_seen row) =
-      more ∙ ap (λ b. pending_of w ++ b) line in (
-        subst (λ t. Appends (o.contents given) (append_known (o.contents output) (pending_of new)) t) (sym table)
+      let waits : new.pending.items ≡ w.pending.items ++ row_line layout (row_seen row) =
+      more ∙ ap (λ b. w.pending.items ++ b) line in (
+        subst (λ t. Appends (o.contents given) (append_known (o.contents output) new.pending.items) t) (sym table)
             (subst (λ p. Appends (o.contents given) (append_known (o.contents output) p)
             (table_text layout (rows_seen rows) ++ row_line layout (row_seen row))) (sym waits)
-            (appends_more (o.contents given) (o.contents output) (pending_of w) (row_line layout (row_seen row))
+            (appends_more (o.contents given) (o.contents output) w.pending.items (row_line layout (row_seen row))
             (table_text layout (rows_seen rows)) h.0)),
         h.1,
         by ∙ h.2,
@@ -102,7 +102,7 @@ module _ {W : Type 0} (o : outputs.Ghosts W) (layout : Layout) (given : W) where
 
   -- the same lines wait
   pub stands_same : (output : W) (w new : RowWriter) (rows : List Row) → Stands o layout given output (Some w) rows
-      → pending_of new ≡ pending_of w → writes_by new ≡ writes_by w → Stands o layout given output (Some new) rows
+      → new.pending.items ≡ w.pending.items → writes_by new ≡ writes_by w → Stands o layout given output (Some new) rows
   stands_same output w new rows h same by = (
     subst (λ p. Appends (o.contents given) (append_known (o.contents output) p) (table_text layout (rows_seen rows)))
         (sym same) h.0,
@@ -112,13 +112,13 @@ module _ {W : Type 0} (o : outputs.Ghosts W) (layout : Layout) (given : W) where
 
   -- the lines that waited were written
   pub stands_sent : (output after : W) (w new : RowWriter) (rows : List Row)
-      → Stands o layout given output (Some w) rows → Appends (o.contents output) (o.contents after) (pending_of w)
-      → o.is_flushed after ≡ true → pending_of new ≡ [] → writes_by new ≡ writes_by w
+      → Stands o layout given output (Some w) rows → Appends (o.contents output) (o.contents after) w.pending.items
+      → o.is_flushed after ≡ true → new.pending.items ≡ [] → writes_by new ≡ writes_by w
       → Stands o layout given after (Some new) rows
   stands_sent output after w new rows h wrote flushed none by = (
     subst (λ p. Appends (o.contents given) (append_known (o.contents after) p) (table_text layout (rows_seen rows)))
         (sym none)
-        (appends_sent (o.contents given) (o.contents output) (o.contents after) (pending_of w)
+        (appends_sent (o.contents given) (o.contents output) (o.contents after) w.pending.items
         (table_text layout (rows_seen rows)) h.0 wrote),
     flushed,
     by ∙ h.2,
@@ -126,12 +126,12 @@ module _ {W : Type 0} (o : outputs.Ghosts W) (layout : Layout) (given : W) where
 
 -- one more row
 pub numbered_row : (rows : List Row) (row : Row) (n : ℕ) → AreNumberedFrom 1 (entries_seen rows) → length rows ≡ n
-    → (entry_seen (row_entry row)).number ≡ n + 1 → AreNumberedFrom 1 (entries_seen (rows ++ row ∷ []))
+    → (entry_seen row.entry).number ≡ n + 1 → AreNumberedFrom 1 (entries_seen (rows ++ row ∷ []))
 numbered_row rows row n h count number =
-    let seen = map-append (λ (r : Row). entry_seen (row_entry r)) rows (row ∷ []) in
-    let len : length (entries_seen rows) ≡ length rows = length-map rows (λ (r : Row). entry_seen (row_entry r)) in
+    let seen = map-append (λ (r : Row). entry_seen r.entry) rows (row ∷ []) in
+    let len : length (entries_seen rows) ≡ length rows = length-map rows (λ (r : Row). entry_seen r.entry) in
     subst (λ es. AreNumberedFrom 1 es) (sym seen)
-    (numbered_more 1 (entries_seen rows) (entry_seen (row_entry row)) h (omega arith))
+    (numbered_more 1 (entries_seen rows) (entry_seen row.entry) h (omega arith))
 
 pub targets_row : (P : Row → Type 0) (rows : List Row) (row : Row) → ((r : Row) → Contains rows r → P r) → P row
     → (r : Row) → Contains (rows ++ row ∷ []) r → P r

@@ -11,7 +11,6 @@ use Rattle.register_records.specs.Causes.{entry_fault_cause}
 use Rattle.register_records.specs.Entries.{AreNumberedFrom, Format, HasEntries, HasFirstEntries, HasNoHeader}
 use Rattle.register_records.specs.Entries.{HasTooMany, IsNotSealed, Numbered}
 use Rattle.register_records.specs.Seen.{entry_seen}
-use Rattle.register_records.specs.Views.{row_entry}
 use Rattle.register_records.specs.declared.entries.Entry.{Entry}
 use Rattle.register_records.specs.declared.reading.EntryFault.{EntryFault}
 use Rattle.register_records.specs.declared.rows.Row.{Row}
@@ -75,11 +74,11 @@ pub record IsReading (text : Option (List ℕ)) (format : Format) (lanes : List 
 -- of the rows among the items, one at most is new: the row of this entry
 abbrev pub GainsRowOf : List (Item Row) → List (Item Row) → Entry → Type 0
 GainsRowOf old new entry =
-    (row : Row) → Contains new (item.Entry row) → Contains old (item.Entry row) ⊎ (row_entry row ≡ entry)
+    (row : Row) → Contains new (item.Entry row) → Contains old (item.Entry row) ⊎ (row.entry ≡ entry)
 
 -- each row that was sent is the row of an entry that was taken
 abbrev pub AreOfTaken : List (Item Entry) → List (Item Row) → Type 0
-AreOfTaken entries rows = (row : Row) → Contains rows (item.Entry row) → Contains entries (item.Entry (row_entry row))
+AreOfTaken entries rows = (row : Row) → Contains rows (item.Entry row) → Contains entries (item.Entry row.entry)
 
 -- a converter which was given these two lanes may answer so
 pub record IsConverting (from into : Lane) (r : Converting) : Type 0 where
@@ -109,7 +108,7 @@ tells_of_text (Err c) = is_of_reading c
 
 -- the row is of one of these entries
 abbrev pub IsOfGiven : List Numbered → Row → Type 0
-IsOfGiven given row = Contains given (entry_seen (row_entry row))
+IsOfGiven given row = Contains given (entry_seen row.entry)
 
 -- each row that was taken is of an entry that the reader gave
 abbrev pub Passes : Option (List ℕ) → Format → Result ℕ Cause → (Row → Type 0) → Type 0

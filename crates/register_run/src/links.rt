@@ -2,7 +2,7 @@
 
 ghost use Rattle.std.specs.Prelude.{◌≡◌, ◌<◌, ◌≤◌, [], All, IfOk, IfSome, length, map, vec_capacity, vec_len};
 ghost use Rattle.lane_rings.specs.Lane.{sender_lane, sent};
-ghost use Rattle.register_records.specs.Views.{format_of, stripes_of};
+ghost use Rattle.register_records.specs.Views.{format_of};
 ghost use Rattle.register_run.specs.Arms.{feeding_lane};
 ghost use Rattle.register_run.specs.Passages.{IsOfThreads};
 
@@ -247,8 +247,8 @@ impl Fan {
         setup: &'e Setup,
     ) -> Result<Fan, StartFault>
         ensures fed { IfOk result (λ f. map feeding_lane f.arms.items ≡ map sender_lane f.senders.items) }
-        ensures count { IfOk result (λ f. (vec_len f.senders ≡ stripes_of setup.entry.now)
-            × (vec_len f.arms ≡ stripes_of setup.entry.now)) }
+        ensures count { IfOk result (λ f. (vec_len f.senders ≡ setup.entry.now.stripes)
+            × (vec_len f.arms ≡ setup.entry.now.stripes)) }
         ensures fresh { IfOk result (λ f. All (λ s. sent s ≡ []) f.senders.items) }
     {
         let stripes = setup.stripes();

@@ -4,7 +4,7 @@ ghost use Rattle.std.specs.Prelude.{◌≡◌, ◌≢◌, ◌<◌, ◌≤◌, �
 ghost use Rattle.std.specs.Prelude.{vec_capacity, vec_len};
 ghost use Rattle.register_records.specs.Entries.{HasNoHeader, HasTooMany, IsNotSealed};
 ghost use Rattle.register_records.specs.Sources.{ArePartOfTable, Gains, IfBroken, IfWhole, IsWholeTable, is_whole_end};
-ghost use Rattle.register_records.specs.Views.{form_of, format_of, layout_of};
+ghost use Rattle.register_records.specs.Views.{format_of, layout_of};
 ghost use Rattle.register_run.specs.Cases.{cases, end_of, ended_case, output_of};
 ghost use Rattle.register_run.specs.Headline.{AreRowsInOrder};
 ghost use Rattle.register_run.specs.Passages.{is_of_reading};
@@ -338,7 +338,7 @@ pub fn run<T: Threads + Wait + Sync, R: Read + Send + Drop, W: Output + Drop>(
         IfBroken end (λ c. c ≡ Cause.TooManyRecords
         → ∥ IfSome (R.remaining source) (λ text. HasTooMany (format_of setup.now) text) ∥₁))) }
     ensures not_sealed { IfOk result (λ r. OfEachSource sources.items outputs.items r (λ source given written end.
-        IfBroken end (λ c. c ≡ Cause.NotSealed → (form_of setup.now ≡ Form.Sealed)
+        IfBroken end (λ c. c ≡ Cause.NotSealed → (setup.now.form ≡ Form.Sealed)
         × ∥ IfSome (R.remaining source) (λ text. IsNotSealed (format_of setup.now) text) ∥₁))) }
 
     // Whatever the cause, an output that has not failed has gained rows in the order of their numbers, from 1.

@@ -6,7 +6,7 @@ ghost use Rattle.std.specs.Option.{is_some};
 ghost use Rattle.std.proofs.Props.{props};
 ghost use Rattle.register_records.specs.Entries.{record_limit};
 ghost use Rattle.register_records.specs.Tables.{notes_of};
-ghost use Rattle.register_records.specs.Views.{has_sunk, row_seen};
+ghost use Rattle.register_records.specs.Views.{row_seen};
 ghost use Rattle.register_records.specs.declared.sources.Cause.TheVariants as cause;
 ghost use Rattle.register_run.specs.Passages.{is_of_reading};
 
@@ -36,7 +36,7 @@ pub(crate) struct Table<W: Output> {
     ghost marked: { W.own_mark output ≡ W.own_mark given.value },
     ghost failed: { sunk ≡ true → W.has_failed output ≡ true },
     ghost good: { sunk ≡ false → W.has_failed output ≡ W.has_failed given.value },
-    ghost afloat: { sunk ≡ false → IfSome writer (λ w. has_sunk w ≡ false) } by { Prim.hlevel props },
+    ghost afloat: { sunk ≡ false → IfSome writer (λ w. w.sunk ≡ false) } by { Prim.hlevel props },
     ghost untouched: { is_some writer ≡ false → sunk ≡ false → output ≡ given.value },
     ghost faultless: { fault ≡ None → sunk ≡ false },
     ghost sink_told: { fault ≡ Some cause.SinkFault → sunk ≡ true },
@@ -47,8 +47,7 @@ pub(crate) struct Table<W: Output> {
 
 impl<W: Output + Drop> Table<W> {
     ghost use Rattle.std.specs.Prelude.{List};
-    ghost use Rattle.register_records.specs.Seen.{entry_number};
-    ghost use Rattle.register_records.specs.Views.{row_entry, row_targets, targets_of};
+    ghost use Rattle.register_records.specs.Views.{row_targets, targets_of};
     ghost use Rattle.register_records.specs.declared.rows.Row.{Row};
     ghost use Rattle.register_run.specs.Passages.{IsNotSunk};
     ghost use Rattle.register_run.specs.TablesWritten.{AllSent, Holds, made_by, made_for};
@@ -121,7 +120,7 @@ impl<W: Output + Drop> Table<W> {
 
     /// Appends the line of the next row to those that wait, and its note to the journal.
     fn append(&mut self, row: &Row)
-        requires number { entry_number (row_entry row.now) ≡ self.old.rows + 1 }
+        requires number { row.now.entry.number ≡ self.old.rows + 1 }
         requires targets { row_targets row.now ≡ targets_of (made_by self.old) }
         ensures output { made_for self.new ≡ made_for self.old }
         ensures setup { made_by self.new ≡ made_by self.old }

@@ -8,3 +8,4 @@ pub mod RomanNameLemmas
 pub mod RomanDateLemmas
 pub mod IsoWeekLemmas
 mod KnownDates
+pub mod LawWords

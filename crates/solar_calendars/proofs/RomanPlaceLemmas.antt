@@ -6,7 +6,7 @@ use Rattle.day_numbers.specs.Rules.{without_zero, HasYear}
 use Rattle.day_numbers.specs.Days.{IsBetween}
 use Rattle.day_numbers.proofs.SignedArithmetic.{signed_arith}
 use Rattle.solar_calendars.specs.Julian.{is_julian_leap}
-use Rattle.solar_calendars.specs.Roman.{day_of_ides, kalends, nones, ides, ides_before, month_before}
+use Rattle.solar_calendars.specs.Roman.{day_of_ides, kalends, nones, ides, month_before}
 use Rattle.solar_calendars.specs.Roman.{year_of_month_before, has_two_sixths, days_back, roman_day_number}
 use Rattle.solar_calendars.specs.Roman.{IsRomanDate}
 use Rattle.solar_calendars.specs.declared.roman_date.RomanName.{RomanName}
@@ -23,7 +23,7 @@ by_sides k b n gap back one e f = (
 )
 
 ides_are : (y : ℤ) (m : ℕ) → HasYear without_zero y → 1 ≤ m → m ≤ 12
-    → kalends y m ≡ ides_before y m +ℤ pos (prior_length y m + 1 - prior_ides m)
+    → kalends y m ≡ ides (year_of_month_before y m) (month_before m) +ℤ pos (prior_length y m + 1 - prior_ides m)
 ides_are y m h a b =
     let f = follows y m h a b in
     omega (
@@ -49,7 +49,8 @@ pub placed : (y : ℤ) (m : ℕ) (name : RomanName) → HasYear without_zero y �
     → IsRomanDate y m name ↔ HasPlace y m name
 placed y m (Kalends k) h a b =
     let back = days_back (has_two_sixths y m) (Kalends k) in
-    let s = by_sides (kalends y m) (ides_before y m) (kalends y m -ℤ pos back) (prior_length y m + 1 - prior_ides m)
+    let s = by_sides (kalends y m) (ides (year_of_month_before y m) (month_before m))
+    (kalends y m -ℤ pos back) (prior_length y m + 1 - prior_ides m)
     back (small_prior y m h a b).0 (ides_are y m h a b) refl in (
       (λ r. (r.3, omega (arith, s.0 r.4, small_prior y m h a b))),
       (λ p. (h, a, b, p.0, s.1 (omega (arith, p, small_prior y m h a b)))),
@@ -63,7 +64,8 @@ placed y m (Ides k) h a b =
     (omega (arith, signed_arith, ides_small m)) refl in
     ((λ r. (r.3, omega (arith, s.0 r.4, ides_small m))), (λ p. (h, a, b, p.0, s.1 (omega (arith, p)))))
 placed y m SecondSixth h a b =
-    let s = by_sides (kalends y m) (ides_before y m) (kalends y m -ℤ pos 5) (prior_length y m + 1 - prior_ides m) 5
+    let s = by_sides (kalends y m) (ides (year_of_month_before y m) (month_before m))
+    (kalends y m -ℤ pos 5) (prior_length y m + 1 - prior_ides m) 5
     (small_prior y m h a b).0 (ides_are y m h a b) refl in
     ((λ r. r.3), (λ p. (h, a, b, p, s.1 (omega (arith, small_prior y m h a b)))))
 

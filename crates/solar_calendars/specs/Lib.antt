@@ -8,4 +8,3 @@ pub mod IsoWeekLaw
 pub mod French
 pub mod Roman
 pub mod RomanPlaces
-pub mod Laws

@@ -40,35 +40,21 @@ month_before month = if month == 1 then 12 else month - 1
 abbrev pub year_of_month_before : ℤ → ℕ → ℤ
 year_of_month_before year month = if month == 1 then year_before year else year
 
--- the Ides of the month before
-abbrev pub ides_before : ℤ → ℕ → ℤ
-ides_before year month = ides (year_of_month_before year month) (month_before month)
-
 -- the principal day that a name counts back from
 abbrev pub principal_day : ℤ → ℕ → RomanName → ℤ
-principal_day year month (Kalends count) = kalends year month
 principal_day year month (Nones count) = nones year month
 principal_day year month (Ides count) = ides year month
-principal_day year month SecondSixth = kalends year month
+principal_day year month name = kalends year month
 
--- the principal day that precedes it
+-- the principal day that precedes it; the Ides of the month before precede the Kalends
 abbrev pub preceding_day : ℤ → ℕ → RomanName → ℤ
-preceding_day year month (Kalends count) = ides_before year month
 preceding_day year month (Nones count) = kalends year month
 preceding_day year month (Ides count) = nones year month
-preceding_day year month SecondSixth = ides_before year month
+preceding_day year month name = ides (year_of_month_before year month) (month_before month)
 
 -- before the Kalends of March of a leap year two days are the sixth
 abbrev pub has_two_sixths : ℤ → ℕ → Bool
 has_two_sixths year month = (month == 3) && is_julian_leap year
-
--- how many days a name lies before its principal day: one less than its count; the second sixth lies 5 days before,
--- and the first sixth and all that are counted before it one day more
-abbrev pub days_back : Bool → RomanName → ℕ
-days_back two_sixths (Kalends count) = if two_sixths && nat_le 6 count then count else count - 1
-days_back two_sixths (Nones count) = count - 1
-days_back two_sixths (Ides count) = count - 1
-days_back two_sixths SecondSixth = 5
 
 -- the count of a name
 abbrev pub count_of : RomanName → ℕ
@@ -77,12 +63,16 @@ count_of (Nones count) = count
 count_of (Ides count) = count
 count_of SecondSixth = 6
 
+-- how many days a name lies before its principal day: one less than its count; the second sixth lies 5 days before,
+-- and the first sixth and all that are counted before it one day more
+abbrev pub days_back : Bool → RomanName → ℕ
+days_back two_sixths (Kalends count) = if two_sixths && nat_le 6 count then count else count - 1
+days_back two_sixths name = count_of name - 1
+
 -- counts begin with 1, and a second sixth is named only where there are two
 abbrev pub IsCounted : Bool → RomanName → Type 0
-IsCounted two_sixths (Kalends count) = 1 ≤ count
-IsCounted two_sixths (Nones count) = 1 ≤ count
-IsCounted two_sixths (Ides count) = 1 ≤ count
 IsCounted two_sixths SecondSixth = IsTrue two_sixths
+IsCounted two_sixths name = 1 ≤ count_of name
 
 -- the day number of a Roman date; the year and the month are those of its principal day
 abbrev pub roman_day_number : ℤ → ℕ → RomanName → ℤ

@@ -190,8 +190,7 @@ pub fn roman_day_of(date: &RomanDate) -> Result<Day, DateFault>
     ensures value { IfOk result (λ day. day.number ≡ roman_day_number date.now.year date.now.month date.now.name) }
     ensures no_such_date { (result ≡ Err DateFault.NoSuchDate)
         ↔ ¬ (IsRomanDate date.now.year date.now.month date.now.name) }
-    ensures out_of_range { (result ≡ Err DateFault.OutOfRange)
-        ↔ (IsRomanDate date.now.year date.now.month date.now.name
+    ensures out_of_range { (result ≡ Err DateFault.OutOfRange) ↔ (IsRomanDate date.now.year date.now.month date.now.name
         × ¬ (IsDayNumber (roman_day_number date.now.year date.now.month date.now.name))) }
 {
     match day_number(date.year(), date.month(), date.name()) {

@@ -1,5 +1,6 @@
 use Rattle.std.proofs.Common.{◌≡◌, length}
-use Rattle.date_texts.specs.Trimmed.{trimmed, trim_end}
+use Rattle.date_texts.specs.Trimmed.{trimmed}
+use Rattle.date_texts.proofs.TextWords.{trim_end}
 use Rattle.date_texts.proofs.trim.trimmed.Given as goal
 
 abbrev pub invariant-loop-inner : goal.invariant-loop-inner

@@ -1,9 +1,9 @@
 use Rattle.std.proofs.Common.{◌≡◌, ◌∷◌, [], ◌∙◌, ap, arith, sym}
 use Rattle.std.specs.Fmt.{decimal}
 use Rattle.register_records.specs.Entries.{body_seen}
-use Rattle.register_records.specs.Seen.{entry_body, entry_number}
 use Rattle.register_records.specs.LineViews.{line_delimiter}
-use Rattle.register_records.specs.Views.{row_entry, row_seen}
+use Rattle.register_records.specs.Views.{row_seen}
+use Rattle.register_records.specs.declared.entries.Entry.{Entry}
 use Rattle.register_records.specs.Tables.{entry_fields, note_fields, text_fields}
 use Rattle.register_records.proofs.LineFacts.{plain-decimal, same-body}
 use Rattle.register_records.proofs.row_lines.begin_line.Goals as goal
@@ -27,11 +27,12 @@ returns-clause-value c =
     let two = c.in_ok-push-2.ensures.value (n ∷ id ∷ []) (omega arith) one in
     let three = c.in_ok-push-3.ensures.value (n ∷ id ∷ calendar ∷ []) (omega arith) two in
     let four = c.in_ok-push_note.ensures.value (n ∷ id ∷ calendar ∷ date ∷ []) (omega arith) three in
-    let number : n ≡ decimal (entry_number (row_entry row)) =
+    let number : n ≡ decimal row.entry.number =
     c.as_bytes.ensures.value ∙ c.format.ensures.text
-    ∙ ap decimal (c.number.ensures.value ∙ ap entry_number c.entry-2.ensures) in
+    ∙ ap decimal (c.number.ensures.value ∙ ap (λ (e : Entry). e.number) c.entry-2.ensures) in
     let texts =
-    sym (ap (λ body. text_fields form (body_seen body)) (c.body.ensures.value ∙ ap entry_body c.entry.ensures))
+    sym (ap (λ body. text_fields form (body_seen body))
+    (c.body.ensures.value ∙ ap (λ (e : Entry). e.body) c.entry.ensures))
     ∙ c.texts_of.ensures.value form in
     let noted = ap (note_fields form) c.as_bytes-5.ensures.value in
     same-body _ (n ∷ id ∷ calendar ∷ date ∷ note_fields form note) (entry_fields form (row_seen row)) _

@@ -4,12 +4,11 @@ use Rattle.std.proofs.lemmas.Grind.{common_steps}
 use Rattle.std.specs.Fmt.{signed_decimal}
 use mathlib.Core.Bool.{Bool-set}
 use Rattle.register_records.specs.CellTexts.{cell_bytes}
-use Rattle.day_numbers.specs.Days.{weekday_name, weekday_number}
 use Rattle.register_records.specs.LineViews.{line_delimiter}
-use Rattle.register_records.specs.Views.{row_cells, row_entry, row_seen, row_targets}
+use Rattle.register_records.specs.Views.{row_cells, row_seen, row_targets}
 use Rattle.register_records.specs.Seen.{entry_seen}
 use Rattle.register_records.specs.Outcomes.{IsRowOf}
-use Rattle.register_records.specs.Tables.{entry_fields, row_fields, weekday_at}
+use Rattle.register_records.specs.Tables.{entry_fields, row_fields, weekday_text}
 use Rattle.register_records.specs.Seen.{outcome_seen}
 use Rattle.register_records.proofs.LineFacts.{accepted-fields, plain-cell, plain-day, same-body, same-line}
 use Rattle.register_records.proofs.LineFacts.{two-fields, two-more, weekday-name}
@@ -26,7 +25,7 @@ push_cells-requires-clause-plain c i e lt =
     let row = c.args.row.now in
     rw c.cells.ensures.value
     (∥∥₁_elim c.cells.ensures.row (Bool-set _ _)
-    (λ (is : IsRowOf (row_targets row) (entry_seen (row_entry row)) (row_seen row)).
+    (λ (is : IsRowOf (row_targets row) (entry_seen row.entry) (row_seen row)).
     plain-cell c.cells_are_plain.ensures (line_delimiter c.push_plain-2.new.self)
     c.push_plain-2.new.self.separated c.args.day.number (row_targets row) (row_cells row) i e
     (rw (← c.cells.ensures.value) lt) (rw c.requires at is.cells)))
@@ -36,11 +35,12 @@ returns-clause-value c =
     let row = c.args.row.now in
     let entry = entry_fields c.args.form (row_seen row) in
     let day : c.as_bytes.result.now ≡ signed_decimal c.args.day.number = grind (arith, common_steps) in
-    let named = c.as_bytes-2.ensures.value ∙ c.name.ensures ∙ weekday-name _ _ c.weekday.ensures in
+    let named = c.as_bytes-2.ensures.value ∙ c.name.ensures
+    ∙ weekday-name c.weekday.result c.args.day.number c.weekday.ensures in
     let one = c.in_ok-push_plain.ensures.value entry (omega arith) c.in_ok-begin_line.ensures.value in
     let two = c.in_ok-push_plain-2.ensures.value (entry ++ c.as_bytes.result.now ∷ []) (omega arith) one in
     let first = entry
-    ++ (signed_decimal c.args.day.number ∷ weekday_name (weekday_at (weekday_number c.args.day.number)) ∷ []) in
+    ++ (signed_decimal c.args.day.number ∷ weekday_text c.args.day.number ∷ []) in
     let begun = same-body _ _ _ _ (two-more entry _ _ _ _ day named ∙ append-nil first) two in
     let cells = same-body _ _ _ _ (ap (λ items. first ++ map cell_bytes items) c.cells.ensures.value)
     (c.in_ok-push_cells.ensures.value first (omega arith) begun) in

@@ -3,7 +3,7 @@ use Rattle.std.proofs.Common.{length-append}
 use Rattle.std.proofs.Math.Seq.{map-set_same}
 use Rattle.lane_rings.specs.Lane.{sender_lane, sent}
 use Rattle.register_records.specs.Entries.{AreNumberedFrom, Numbered}
-use Rattle.register_records.specs.Seen.{entry_number, entry_seen}
+use Rattle.register_records.specs.Seen.{entry_seen}
 use Rattle.register_records.specs.Views.{format_of, given_of, reads_by, text_of}
 use Rattle.register_run.proofs.GivenLemmas.{all_among, given_none, numbered_more, sends_all, sends_gone, sends_stopped}
 use Rattle.register_run.proofs.PassageLemmas.{among_none}
@@ -75,7 +75,7 @@ loop-preserved g c =
     let gives = rw c.in-Ok-Some.field-0-is at c.in-Ok-Some.ensures.gives in
     let number = rw c.in-Ok-Some.field-0-is at c.in-Ok-Some.ensures.number in
     let longer = length-append {A = Numbered} (given_of c.loop.entries) (entry_seen c.in-Ok-Some.entry ∷ []) in
-    let same : c.number-count.result ≡ entry_number c.in-Ok-Some.entry = c.number-count.ensures.value in record {
+    let same : c.number-count.result ≡ c.in-Ok-Some.entry.number = c.number-count.ensures.value in record {
       len = inv.len;
       lanes =
           map-set_same sender_lane items

@@ -6,7 +6,7 @@ use Rattle.register_records.specs.Entries.{reading}
 use Rattle.register_records.specs.ReadingState.{records_left}
 use Rattle.register_records.specs.Retrying.{inner_remaining}
 use Rattle.register_records.specs.Seen.{entries_shown}
-use Rattle.register_records.specs.Views.{delimiter_of, format_of}
+use Rattle.register_records.specs.Views.{format_of}
 use Rattle.register_records.proofs.EntrySteps.{at-start, refuses, refuses-none}
 use Rattle.register_records.proofs.GivenFacts.{first-step, may-first}
 use Rattle.register_records.proofs.StepFacts.{found, found-none}
@@ -24,9 +24,9 @@ read_record-requires g c =
 pub returns-then-not-found-clause-bad : goal.returns-then-not-found-clause-bad
 returns-then-not-found-clause-bad g c _ =
     let fr = c.from_reader-records.ensures in
-    let config : reader_config c.from_reader-records.result ≡ reading (delimiter_of c.args.setup.now) = search rules in
+    let config : reader_config c.from_reader-records.result ≡ reading c.args.setup.now.delimiter = search rules in
     let start =
-    at-start (inner_remaining g.R.Read.remaining) c.from_reader-records.result (delimiter_of c.args.setup.now)
+    at-start (inner_remaining g.R.Read.remaining) c.from_reader-records.result c.args.setup.now.delimiter
     (g.R.Read.remaining c.args.reader) config fr.state (rw (← c.new-patient.ensures) fr.source) in
     let read = rw start at c.in_ok-found.ensures.reads in
     elim c.then-not-found.branch [
@@ -40,15 +40,15 @@ returns-then-not-found-clause-bad g c _ =
 pub invariant_of-result : goal.invariant_of-result
 invariant_of-result g c =
     let fr = c.from_reader-records.ensures in
-    let config : reader_config c.from_reader-records.result ≡ reading (delimiter_of c.args.setup.now) = search rules in
+    let config : reader_config c.from_reader-records.result ≡ reading c.args.setup.now.delimiter = search rules in
     let start =
-    at-start (inner_remaining g.R.Read.remaining) c.from_reader-records.result (delimiter_of c.args.setup.now)
+    at-start (inner_remaining g.R.Read.remaining) c.from_reader-records.result c.args.setup.now.delimiter
     (g.R.Read.remaining c.args.reader) config fr.state (rw (← c.new-patient.ensures) fr.source) in
     let read = rw start at c.in_ok-found.ensures.reads in
     let stands =
     first-step (g.R.Read.remaining c.args.reader) (g.R.Read.remaining c.of-source.result.value)
     (records_left (inner_remaining g.R.Read.remaining) c.read_record.new.records)
-    (delimiter_of c.args.setup.now) c.delimiter-3.result c.form.result c.form-2.result
+    c.args.setup.now.delimiter c.delimiter-3.result c.form.result c.form-2.result
     (entries_shown c.new-2.result.items) (fields_of c.read_record.new.row)
     (ap g.R.Read.remaining c.of-source.ensures) c.delimiter-3.ensures.value
     (c.form-2.ensures ∙ sym c.form.ensures) (ap entries_shown c.new-2.ensures.items)

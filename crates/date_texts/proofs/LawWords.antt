@@ -1,4 +1,4 @@
--- Laws of names, date texts, cells and lists of targets.
+-- Names of the laws of names, date texts, cells and lists of targets, for lemmas; `laws.rt` states them.
 use Rattle.std.specs.Prelude.{◌≡◌, ◌≢◌, ◌<◌, ◌≤◌, ℕ, ℤ, IsTrue, List, length, slice_get}
 use Rattle.std.specs.List.{list_all}
 use Rattle.date_texts.specs.declared.calendar.Calendar.{Calendar}
@@ -6,9 +6,7 @@ use Rattle.date_texts.specs.declared.calendar.Target.{Target}
 use Rattle.date_texts.specs.declared.date.Date.{Date}
 use Rattle.date_texts.specs.declared.calendar.TheConstants.{MAX_TARGETS}
 use Rattle.date_texts.specs.declared.cells.TheConstants.{MAX_CELL}
-use Rattle.date_texts.specs.declared.calendar.TheConstants.Target.{ALL}
-use Rattle.date_texts.specs.declared.calendar.TheConstants.Calendar.{ALL as EVERY_CALENDAR}
-use Rattle.date_texts.specs.Calendars.{calendar_name, target_name, all_calendars, all_targets}
+use Rattle.date_texts.specs.Calendars.{calendar_name, target_name}
 use Rattle.date_texts.specs.Cells.{IsCell, is_plain}
 use Rattle.date_texts.specs.Dates.{calendar_of_date}
 use Rattle.date_texts.specs.DateText.{IsDateText, canonical_text}
@@ -48,11 +46,3 @@ abbrev pub FewTargets : Type 0
 FewTargets = (targets : List Target)
     → ((i j : ℕ) → i < j → j < length targets → slice_get targets i ≢ slice_get targets j)
     → length targets ≤ MAX_TARGETS
-
--- the constant `Target::ALL` is every calendar's dates, the haab and the tzolkin, in the order of their list
-abbrev pub DefaultTargets : Type 0
-DefaultTargets = ALL ≡ all_targets
-
--- the constant `Calendar::ALL` is every calendar, in the order of their list
-abbrev pub AllCalendars : Type 0
-AllCalendars = EVERY_CALENDAR ≡ all_calendars

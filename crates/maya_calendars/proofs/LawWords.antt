@@ -1,4 +1,4 @@
--- Laws of the haab and the tzolkin.
+-- Names of the laws of the haab and the tzolkin, for lemmas; `laws.rt` states them.
 use Rattle.std.specs.Prelude.{◌≤◌, ℤ}
 use Rattle.maya_calendars.specs.HaabNames.{haab_of}
 use Rattle.maya_calendars.specs.TzolkinNames.{tzolkin_of}

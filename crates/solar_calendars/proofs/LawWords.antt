@@ -1,4 +1,4 @@
--- Laws of Roman dates.
+-- The name of the law of Roman dates, for lemmas; `laws.rt` states it.
 use Rattle.std.specs.Prelude.{◌≡◌}
 use Rattle.solar_calendars.specs.Roman.{roman_day_number, IsRomanDate}
 use Rattle.solar_calendars.specs.declared.roman_date.RomanDate.{RomanDate}

@@ -1,0 +1,5 @@
+use Rattle.maya_calendars.proofs.NameLists.{month_at}
+use Rattle.maya_calendars.proofs.haab.Haab.month.Goals as goal
+
+pub returns-clause-value : goal.returns-clause-value
+returns-clause-value c = month_at c.args.self.now.month

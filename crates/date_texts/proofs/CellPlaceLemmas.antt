@@ -1,6 +1,6 @@
 -- What pieces at the front of a cell's room are.
 use Rattle.std.proofs.Common.{◌≡◌, ℕ, ◌+◌, ◌<◌, ◌≤◌, ◌%◌, ◌/◌, List, [], ◌∷◌, ◌++◌, length, take, slice_set, pos}
-use Rattle.std.proofs.Common.{refl, sym, ap, ◌∙◌, arith, append_assoc}
+use Rattle.std.proofs.Common.{sym, ap, ◌∙◌, arith, append_assoc}
 use Rattle.std.specs.Fmt.{decimal}
 use Rattle.std.proofs.Math.Seq.{lt-length-set}
 use Rattle.std.proofs.lemmas.Fmt.{decimal_digit}
@@ -8,7 +8,7 @@ use Rattle.std.proofs.lemmas.List.{take-set, take-take, take_more_set}
 use Rattle.itoa.proofs.Decimal.{pair, decimal_two}
 use Rattle.date_texts.specs.CivilText.{canonical_civil}
 use Rattle.date_texts.specs.RomanText.{canonical_roman, canonical_name}
-use Rattle.date_texts.specs.Numerals.{canonical_year, padded}
+use Rattle.date_texts.specs.Numerals.{padded}
 use Rattle.solar_calendars.specs.declared.roman_date.RomanName.{RomanName}
 use Rattle.date_texts.proofs.WritingLemmas.{month_date_bytes, four_digits, two_digits}
 

@@ -1,5 +1,4 @@
-use Rattle.std.proofs.Common.{rules, arith, ◌≡◌, ◌+◌, ◌++◌, ℕ, take, slice_set, subst, sym, refl}
-use Rattle.std.specs.Fmt.{decimal}
+use Rattle.std.proofs.Common.{rules}
 use Rattle.date_texts.proofs.CellPlaceLemmas.{ones_alone, tens_and_ones}
 use Rattle.date_texts.proofs.cell_places.put_number.Goals.{then-number-lt10, else-number-lt10}
 use Rattle.date_texts.proofs.cell_places.put_number.Goals as goal

@@ -1,5 +1,4 @@
-use Rattle.std.proofs.Common.{rules, arith, ◌≡◌, ◌∙◌, sym, ap, ◌++◌, List, ℕ, ℤ, pos, take}
-use Rattle.date_texts.specs.RomanText.{canonical_name, canonical_roman}
+use Rattle.std.proofs.Common.{rules, ◌≡◌, ◌∙◌, sym, pos}
 use Rattle.date_texts.proofs.CellPlaceLemmas.{roman_from_month_date}
 use Rattle.date_texts.proofs.cells.write_short_roman.Goals as goal
 

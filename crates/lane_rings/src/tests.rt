@@ -108,9 +108,11 @@ fn a_look_leaves_the_item_that_a_pass_takes(rt: HostRuntime) -> Result<(), Fail>
     assert!(rt; receiver.next().is_none());
     assert_eq!(rt; sender.send(&rt, 7), Ok(()));
     let closed = sender.close(&rt, 1);
+    assert_eq!(rt; receiver.wait(&rt), Ok(()));
     pass_one(&rt, &mut receiver, &Item::Entry(7));
     pass_one(&rt, &mut receiver, &Item::End(1));
     assert_eq!(rt; receiver.look(), Err(Gone { value: () }));
+    assert_eq!(rt; receiver.wait(&rt), Err(Gone { value: () }));
     assert_eq!(rt; receiver.confirm(closed)?.ended(), Some(1));
     Ok(())
 }

@@ -8,7 +8,8 @@ use Rattle.std.proofs.lemmas.Int.{ints}
 use Rattle.std.proofs.lemmas.Bool.{and_parts}
 use Rattle.std.proofs.lemmas.Bool.Decides.{nat_tests}
 use Rattle.std.proofs.lemmas.Fmt.{decimal_by_steps}
-use Rattle.std.proofs.lemmas.List.{map-append, take_more, take_more_set, take-append-le, length-take-le}
+use Rattle.std.proofs.lemmas.List.{map-append, take_more, take_more_set, take-append-le, take-take, take_all}
+use Rattle.std.proofs.lemmas.List.{length-take, length-take-le}
 use Rattle.std.proofs.Math.Seq.{take-append-add}
 use borrow.Rule.Slice.PartMut.{put_mid}
 use Rattle.std.proofs.lemmas.List.Folds.{list_any-append}
@@ -116,6 +117,28 @@ put-after room places at d k count lt few =
     ∙ ap (λ (t : List ℕ). take (at + 1) base ++ t) (take-append-le count places _ few)
     ∙ ap (λ (t : List ℕ). t ++ take count places) (take_more_set room at d lt)
     ∙ append_assoc (take at room) (d ∷ []) (take count places)
+
+-- a list that has grown keeps what it had in front
+pub front-of-grown : (old added grown : List ℕ) (start more : ℕ) → grown ≡ take (start + more) old ++ added
+    → length grown ≡ start + more → length added ≡ more → 1 ≤ more → take start grown ≡ old
+front-of-grown old added grown start more is all new some =
+    let same : length old ≡ start =
+    omega (arith, ap length is, length-append (take (start + more) old) added, length-take (start + more) old) in
+    ap (take start) (is ∙ ap (λ t. t ++ added) (take_all (start + more) old (omega arith)))
+    ∙ take-append-le start old added (omega arith) ∙ take_all start old (omega arith)
+
+-- some of a list that was written behind another, where what lies behind both is cut off
+pub cut-behind : (front room behind rest : List ℕ) (start n count : ℕ) → length front ≡ start → count ≤ length room
+    → start + count ≤ n
+    → take (start + count) (take n ((front ++ (room ++ behind)) ++ rest)) ≡ front ++ take count room
+cut-behind front room behind rest start n count long few below =
+    let all : start + count ≤ length (front ++ (room ++ behind)) =
+    omega (arith, length-append front (room ++ behind), length-append room behind) in
+    take-take (start + count) n ((front ++ (room ++ behind)) ++ rest) below
+    ∙ take-append-le (start + count) (front ++ (room ++ behind)) rest all
+    ∙ ap (λ m. take (m + count) (front ++ (room ++ behind))) (sym long)
+    ∙ take-append-add front (room ++ behind) count
+    ∙ ap (λ (t : List ℕ). front ++ t) (take-append-le count room behind few)
 
 -- a digit or a minus sign needs no quotes
 plain-byte : (d c : ℕ) → is_delimiter d ≡ true → 45 ≤ c → c < 58 → needs_byte (writing d) c ≡ false

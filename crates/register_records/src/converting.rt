@@ -36,7 +36,9 @@ fn day_of_body(body: &Body) -> Result<Day, Refusal>
 }
 
 /// Fills an empty list with the cells of an outcome: one for each target on a day, and none with a
-/// refusal. The list is lent, since it is large.
+/// refusal.
+// Out of line: in line, each cell would be moved on its own.
+#[inline(never)]
 fn fill(cells: &mut ShortList<CellText>, targets: &[Target], outcome: Result<Day, Refusal>)
     requires empty { items_in cells.old ≡ [] }
     requires few { length targets.now ≤ MAX_TARGETS }
@@ -50,18 +52,6 @@ fn fill(cells: &mut ShortList<CellText>, targets: &[Target], outcome: Result<Day
     }
 }
 
-/// The cells of an outcome: one for each target on a day, and none with a refusal.
-// Out of line: in line, each cell would be moved on its own.
-#[inline(never)]
-fn cells_of(targets: &[Target], outcome: Result<Day, Refusal>) -> ShortList<CellText>
-    requires { length targets.now ≤ MAX_TARGETS }
-    ensures { AreCells targets.now (outcome_seen outcome) (cells_seen (items_in result)) }
-{
-    let mut cells = ShortList::new(CellText::copied(""));
-    fill(&mut cells, targets, outcome);
-    cells
-}
-
 /// The row of an entry for the setup's targets: the refusal of its body, else `UnknownCalendar`,
 /// `DateText`, `NoSuchDate` or `OutOfRange`, the first that applies, else the day and its cells.
 // Inlined, so that the row, which is large, is made where the caller keeps it.
@@ -72,10 +62,14 @@ pub fn convert(entry: Entry, setup: &Setup) -> Row
     ensures row { IsRowOf (targets_of setup.now) (entry_seen entry) (row_seen result) }
 {
     let outcome = day_of_body(entry.body());
-    Row {
+    // A row for no target, whose cells are then written where they stay: a list of cells is large.
+    let mut row = Row {
         entry,
         outcome,
-        targets: setup.target_list(),
-        cells: cells_of(setup.targets(), outcome),
-    }
+        targets: ShortList::new(Target::Haab),
+        cells: ShortList::new(CellText::copied("")),
+    };
+    fill(&mut row.cells, setup.targets(), outcome);
+    row.targets = setup.target_list();
+    row
 }

@@ -99,8 +99,8 @@ fn push_field(line: &mut Vec<u8>, delimiter: u8, field: &[u8]) -> Result<(), All
 /// Writes a delimiter and a cell to a place of the room, and says where they end. All the room of the cell is copied,
 /// and what lies behind its text is written over by the next: a copy of a fixed length is cheap.
 #[inline(always)]
-fn put_cell(room: &mut [u8; CELLS_ROOM], at: usize, delimiter: u8, cell: &CellText) -> usize
-    requires { at + cell_room ≤ CELLS_ROOM }
+fn put_cell(room: &mut [u8], at: usize, delimiter: u8, cell: &CellText) -> usize
+    requires { at + cell_room ≤ length room.old }
     ensures value { take result room.new ≡ take at room.old ++ delimiter ∷ cell_bytes cell.now }
     ensures grows { result ≤ at + cell_room }
 {
@@ -184,15 +184,18 @@ impl Line {
         ensures value { (fields : List (List ℕ)) → 1 ≤ length fields → Begins fields self.old
             → OnOk result (Begins (fields ++ map cell_bytes cells.now) self.new) }
         ensures kept { line_delimiter self.new ≡ line_delimiter self.old }
-        ensures room { line_len self.old + cell_room * length cells.now ≤ LINE_ROOM → IsOk result }
+        ensures room { line_len self.old + CELLS_ROOM ≤ LINE_ROOM → IsOk result }
         ensures grows { OnOk result (line_len self.new ≤ line_len self.old + cell_room * length cells.now) }
     {
-        let mut room = [0; CELLS_ROOM];
+        // The cells are written where they stay, and the room that they leave goes.
+        let start = self.bytes.len();
+        self.bytes.resize(start + CELLS_ROOM, 0)?;
+        let room = &mut self.bytes.as_mut_slice()[start..];
         let mut end = 0;
         'cells: for cell in cells {
-            end = put_cell(&mut room, end, self.delimiter, cell);
+            end = put_cell(room, end, self.delimiter, cell);
         }
-        self.bytes.extend_from_slice(&room[..end])?;
+        self.bytes.truncate(start + end);
         Ok(())
     }
 

@@ -8,9 +8,9 @@ use Rattle.std.proofs.lemmas.Int.{ints}
 use Rattle.std.proofs.lemmas.Bool.{and_parts}
 use Rattle.std.proofs.lemmas.Bool.Decides.{nat_tests}
 use Rattle.std.proofs.lemmas.Fmt.{decimal_by_steps}
-use Rattle.std.proofs.lemmas.List.{map-append, take_more, take_more_set, take-append-le, take-take, take_all}
-use Rattle.std.proofs.lemmas.List.{length-take, length-take-le}
-use Rattle.std.proofs.Math.Seq.{take-append-add}
+use Rattle.std.proofs.lemmas.List.{map-append, take_more, take_more_set, take-append-le, take-take}
+use Rattle.std.proofs.lemmas.List.{length-take-le}
+use Rattle.std.proofs.Math.Seq.{take-append-add, take-append_seam}
 use borrow.Rule.Slice.PartMut.{put_mid}
 use Rattle.std.proofs.lemmas.List.Folds.{list_any-append}
 use Rattle.std.specs.List.{list_all}
@@ -119,13 +119,11 @@ put-after room places at d k count lt few =
     ∙ append_assoc (take at room) (d ∷ []) (take count places)
 
 -- a list that has grown keeps what it had in front
-pub front-of-grown : (old added grown : List ℕ) (start more : ℕ) → grown ≡ take (start + more) old ++ added
-    → length grown ≡ start + more → length added ≡ more → 1 ≤ more → take start grown ≡ old
-front-of-grown old added grown start more is all new some =
-    let same : length old ≡ start =
-    omega (arith, ap length is, length-append (take (start + more) old) added, length-take (start + more) old) in
-    ap (take start) (is ∙ ap (λ t. t ++ added) (take_all (start + more) old (omega arith)))
-    ∙ take-append-le start old added (omega arith) ∙ take_all start old (omega arith)
+pub front-of-grown : (old added grown : List ℕ) (start : ℕ) → grown ≡ old ++ added → length grown ≡ start + length added
+    → take start grown ≡ old
+front-of-grown old added grown start is all =
+    let same : start ≡ length old = omega (arith, ap length is, length-append old added) in
+    ap (take start) is ∙ ap (λ n. take n (old ++ added)) same ∙ take-append_seam old added
 
 -- some of a list that was written behind another, where what lies behind both is cut off
 pub cut-behind : (front room behind rest : List ℕ) (start n count : ℕ) → length front ≡ start → count ≤ length room

@@ -12,7 +12,7 @@ ghost use Rattle.register_records.specs.declared.cell_texts.CellText.{CellText};
 ghost use Rattle.register_records.specs.LineRoom.{cell_room, field_room};
 ghost use Rattle.register_records.specs.Lines.{line_text, writing};
 ghost use Rattle.register_records.specs.SetupRules.{is_delimiter};
-ghost use Rattle.register_records.specs.declared.lines.TheConstants.{CELLS_ROOM, LINE_ROOM};
+ghost use Rattle.register_records.specs.declared.lines.TheConstants.{LINE_ROOM};
 
 use crate::cell_texts::CellText;
 use date_texts::{MAX_CELL, MAX_TARGETS};
@@ -24,8 +24,11 @@ const QUOTE: u8 = b'"';
 /// the cells and the rest.
 pub const LINE_ROOM: usize = 1024;
 
-/// Room for the cells of a row, each with a delimiter.
-const CELLS_ROOM: usize = MAX_TARGETS * (1 + MAX_CELL);
+/// Room for a cell with a delimiter.
+const CELL_ROOM: usize = 1 + MAX_CELL;
+
+/// What stands in the room of a row's cells before they do.
+static BLANKS: [u8; MAX_TARGETS * CELL_ROOM] = [0; MAX_TARGETS * CELL_ROOM];
 
 /// A line while its fields are appended, in memory that serves again for the next line.
 #[derive(Drop)]
@@ -184,16 +187,18 @@ impl Line {
         ensures value { (fields : List (List ℕ)) → 1 ≤ length fields → Begins fields self.old
             → OnOk result (Begins (fields ++ map cell_bytes cells.now) self.new) }
         ensures kept { line_delimiter self.new ≡ line_delimiter self.old }
-        ensures room { line_len self.old + CELLS_ROOM ≤ LINE_ROOM → IsOk result }
+        ensures room { line_len self.old + cell_room * length cells.now ≤ LINE_ROOM → IsOk result }
         ensures grows { OnOk result (line_len self.new ≤ line_len self.old + cell_room * length cells.now) }
     {
         // The cells are written where they stay, and the room that they leave goes.
+        let delimiter = self.delimiter;
         let start = self.bytes.len();
-        self.bytes.resize(start + CELLS_ROOM, 0)?;
+        self.bytes
+            .extend_from_slice(&BLANKS[..cells.len() * CELL_ROOM])?;
         let room = &mut self.bytes.as_mut_slice()[start..];
         let mut end = 0;
         'cells: for cell in cells {
-            end = put_cell(room, end, self.delimiter, cell);
+            end = put_cell(room, end, delimiter, cell);
         }
         self.bytes.truncate(start + end);
         Ok(())

@@ -1,5 +1,5 @@
-use Rattle.std.proofs.Common.{◌≤◌, ◌∷◌, ◌++◌, ◌∙◌, List, ℕ, ap, arith, map, refl, take}
-use Rattle.std.proofs.lemmas.List.{length-drop, length-replicate, length-take, length-take-le}
+use Rattle.std.proofs.Common.{◌≤◌, ◌*◌, ◌∷◌, ◌++◌, ◌∙◌, List, ℕ, ap, arith, length, map, refl, take}
+use Rattle.std.proofs.lemmas.List.{length-drop, length-take, length-take-le}
 use Rattle.std.proofs.lemmas.List.{take_all}
 use Rattle.csv.specs.Writing.{fields_text}
 use Rattle.register_records.specs.CellTexts.{cell_bytes}
@@ -7,12 +7,12 @@ use Rattle.register_records.specs.declared.cell_texts.CellText.{CellText}
 use Rattle.register_records.specs.LineViews.{line_delimiter}
 use Rattle.register_records.specs.Lines.{writing}
 use Rattle.register_records.proofs.LineFacts.{cut-behind, front-of-grown, more-fields, one-more-cell}
-use Rattle.register_records.specs.declared.lines.TheConstants.{CELLS_ROOM}
+use Rattle.register_records.specs.LineRoom.{cell_room}
 use Rattle.register_records.proofs.lines.Line.push_cells.Goals as goal
 
 pub cells-init : goal.cells-init
 unfolding fields_text
-cells-init c = record { written = refl; short = omega arith; room = omega (arith, c.as_mut_slice.ensures.len, c.in_ok-resize.ensures.len, length-take {A = ℕ}, length-drop {A = ℕ}) }
+cells-init c = record { written = refl; short = omega arith; room = omega (arith, c.as_mut_slice.ensures.len, c.in_ok-extend_from_slice.ensures.len, length-take {A = ℕ}, length-drop {A = ℕ}) }
 
 pub cells-preserved : goal.cells-preserved
 cells-preserved c =
@@ -40,15 +40,15 @@ returns-clause-value c fields some begun =
     let end = c.cells.end in
     let room = c.cells.room in
     let all = take_all c.cells.cell-index cells c.cells-test.false in
-    let len = c.as_mut_slice.ensures.len ∙ c.in_ok-resize.ensures.len in
+    let len = c.as_mut_slice.ensures.len ∙ c.in_ok-extend_from_slice.ensures.len in
     let front =
-    front-of-grown old _ grown start CELLS_ROOM (c.as_mut_slice.ensures.value ∙ c.in_ok-resize.ensures.items) len
-    (length-replicate _ 0 ∙ omega (arith, c.len-start.ensures)) (omega arith) in
-    let few : end ≤ CELLS_ROOM = omega (arith, c.cells.invariant.short, c.requires.few, c.cells-test.false) in
+    front-of-grown old _ grown start (c.as_mut_slice.ensures.value ∙ c.in_ok-extend_from_slice.ensures.items)
+    (omega (arith, len, c.len-start.ensures)) in
+    let few : end ≤ cell_room * length cells = omega (arith, c.cells.invariant.short, c.cells-test.false) in
     let cut =
-    cut-behind (take start grown) room _ _ start c.resize.new.self.len end
+    cut-behind (take start grown) room _ _ start c.extend_from_slice.new.self.len end
     (length-take-le start grown (omega (arith, len))) (omega (arith, few, c.cells.invariant.room))
-    (omega (arith, few, c.in_ok-resize.ensures.len)) in
+    (omega (arith, few, c.in_ok-extend_from_slice.ensures.len)) in
     more-fields d fields (map cell_bytes cells) _ _ some begun
     (c.truncate.ensures.items ∙ cut ∙ ap (λ (t : List ℕ). t ++ take end room) front
     ∙ ap (λ (t : List ℕ). old ++ t)

@@ -4,7 +4,6 @@ use Rattle.register_records.specs.CellTexts.{cell_bytes}
 use Rattle.register_records.specs.LineRoom.{cell_room}
 use Rattle.register_records.specs.LineViews.{line_delimiter}
 use Rattle.register_records.specs.Lines.{writing}
-use Rattle.register_records.specs.declared.lines.TheConstants.{CELLS_ROOM}
 use Rattle.register_records.proofs.lines.Line.push_cells.Given as goal
 
 abbrev pub invariant-cells : goal.invariant-cells
@@ -13,5 +12,5 @@ invariant-cells l =
       written : take l.end l.room
           ≡ fields_text (writing (line_delimiter l.fn.self)) (map cell_bytes (take l.cell-index l.cells));
       short : l.end ≤ cell_room * l.cell-index;
-      room : length l.room ≡ CELLS_ROOM;
+      room : length l.room ≡ cell_room * length l.cells;
     }

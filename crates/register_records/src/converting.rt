@@ -17,7 +17,7 @@ use date_texts::{Refusal, Target, calendar_named, day_of_date, read_date};
 use day_numbers::Day;
 
 /// The day of a body, or the first refusal that applies.
-fn day_of_body(body: &Body) -> Result<Day, Refusal>
+pub(crate) fn day_of_body(body: &Body) -> Result<Day, Refusal>
     ensures { IsOutcome (body_seen body.now) (outcome_seen result) }
 {
     match body {
@@ -36,9 +36,7 @@ fn day_of_body(body: &Body) -> Result<Day, Refusal>
 }
 
 /// Fills an empty list with the cells of an outcome: one for each target on a day, and none with a
-/// refusal.
-// Out of line: in line, each cell would be moved on its own.
-#[inline(never)]
+/// refusal. The list is lent, since it is large.
 fn fill(cells: &mut ShortList<CellText>, targets: &[Target], outcome: Result<Day, Refusal>)
     requires empty { items_in cells.old ≡ [] }
     requires few { length targets.now ≤ MAX_TARGETS }
@@ -52,6 +50,38 @@ fn fill(cells: &mut ShortList<CellText>, targets: &[Target], outcome: Result<Day
     }
 }
 
+/// The row of an entry for no target. A function would give it back by a copy, and it is large.
+macro_rules! bare_row {
+    ($entry:expr) => {
+        $crate::rows::Row {
+            outcome: $crate::converting::day_of_body($entry.body()),
+            entry: $entry,
+            targets: $crate::short_lists::ShortList::new(date_texts::Target::Haab),
+            cells: $crate::short_lists::ShortList::new($crate::cell_texts::CellText::copied("")),
+        }
+    };
+}
+
+pub(crate) use bare_row;
+
+impl Row {
+    ghost use Rattle.register_records.specs.Views.{row_cells};
+
+    /// Makes a row for no target one for the setup's targets, where it lies.
+    #[inline(never)]
+    pub(crate) fn widen(&mut self, setup: &Setup)
+        requires bare { (row_targets self.old ≡ []) × (row_cells self.old ≡ []) }
+        ensures kept { (self.new.entry ≡ self.old.entry) × (self.new.outcome ≡ self.old.outcome) }
+        ensures targets { row_targets self.new ≡ targets_of setup.now }
+        ensures cells { AreCells (targets_of setup.now) (outcome_seen self.old.outcome)
+            (cells_seen (row_cells self.new)) }
+    {
+        let outcome = self.outcome;
+        fill(&mut self.cells, setup.targets(), outcome);
+        self.targets = setup.target_list();
+    }
+}
+
 /// The row of an entry for the setup's targets: the refusal of its body, else `UnknownCalendar`,
 /// `DateText`, `NoSuchDate` or `OutOfRange`, the first that applies, else the day and its cells.
 // Inlined, so that the row, which is large, is made where the caller keeps it.
@@ -61,15 +91,7 @@ pub fn convert(entry: Entry, setup: &Setup) -> Row
     ensures targets { row_targets result ≡ targets_of setup.now }
     ensures row { IsRowOf (targets_of setup.now) (entry_seen entry) (row_seen result) }
 {
-    let outcome = day_of_body(entry.body());
-    // A row for no target, whose cells are then written where they stay: a list of cells is large.
-    let mut row = Row {
-        entry,
-        outcome,
-        targets: ShortList::new(Target::Haab),
-        cells: ShortList::new(CellText::copied("")),
-    };
-    fill(&mut row.cells, setup.targets(), outcome);
-    row.targets = setup.target_list();
+    let mut row = bare_row!(entry);
+    row.widen(setup);
     row
 }

@@ -12,7 +12,7 @@ ghost use Rattle.register_records.specs.declared.setups.Form.TheVariants.{Sealed
 ghost use Rattle.register_records.specs.Views.{format_of, given_of, layout_of, line_of, row_seen, text_of};
 ghost use Rattle.register_records.specs.Views.{writes_by};
 
-use crate::converting::convert;
+use crate::converting::bare_row;
 use crate::outputs::Output;
 use crate::reading::EntryReader;
 use crate::rows::Row;
@@ -193,7 +193,9 @@ fn convert_next<R: Read + Drop, W: Output>(
         Ok(None) => return Ok(None),
         Err(fault) => return Err(told(fault.cause())),
     };
-    let row = convert(entry, setup);
+    // The row is made where it stays: `convert` would give it back by a copy.
+    let mut row = bare_row!(entry);
+    row.widen(setup);
     match write_row(writer, journal, output, &row) {
         Ok(()) => Ok(Some(row.entry().number())),
         Err(cause) => Err(cause),

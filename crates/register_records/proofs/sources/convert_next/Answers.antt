@@ -1,9 +1,12 @@
 use Rattle.std.proofs.Common.{◌≡◌, ◌∙◌, ℕ, List, ap, refl, subst}
 use Rattle.std.specs.Io.KnownBytes.{Appends}
 use Rattle.date_texts.specs.declared.calendar.Target.{Target}
-use Rattle.register_records.specs.Entries.{Format, HasEntries}
+use Rattle.register_records.specs.Entries.{Format, HasEntries, body_seen}
+use Rattle.register_records.specs.Outcomes.{IsRowOf}
+use Rattle.register_records.specs.Seen.{entry_seen}
+use Rattle.register_records.specs.declared.entries.Entry.{Entry}
 use Rattle.register_records.specs.Tables.{row_line}
-use Rattle.register_records.specs.Views.{format_of, given_of, layout_of, line_of, row_seen, row_targets}
+use Rattle.register_records.specs.Views.{format_of, given_of, layout_of, line_of, row_seen, row_targets, targets_of}
 use Rattle.register_records.proofs.Progress.{step, told_of}
 use Rattle.register_records.proofs.sources.convert_next.Goals as goal
 
@@ -21,15 +24,21 @@ pub returns-in-Ok-clause-row : goal.returns-in-Ok-clause-row
 returns-in-Ok-clause-row g c begun come =
     let number = rw c.in-Ok-Some.field-0-is at c.in-Ok-Some.ensures.number in
     let gives = rw c.in-Ok-Some.field-0-is at c.in-Ok-Some.ensures.gives in
-    let row = c.convert-row.result in
+    let row = c.widen.new.self in
     let setup = c.args.setup.now in
     let same_line : line_of c.args.writer.now row ≡ row_line (layout_of setup) (row_seen row)
     = ap (λ (format : Format). row_line (record { format = format; targets = row_targets row }) (row_seen row))
     c.requires.ready.2
     ∙ ap (λ (targets : List Target).
     row_line (record { format = format_of setup; targets = targets }) (row_seen row))
-    c.convert-row.ensures.targets in
+    c.widen.ensures.targets in
     let line =
     subst (λ (bytes : List ℕ). Appends (g.W.Output.contents c.args.output.now)
     (g.W.Output.contents c.write_row.new.output) bytes) same_line c.in-Ok.ensures.line in
-    rw (gives, c.in-Ok.ensures.noted) (step _ _ _ _ _ _ _ _ come number.0 c.convert-row.ensures.row line)
+    let is : IsRowOf (targets_of setup) (entry_seen c.in-Ok-Some.entry) (row_seen row) = record {
+      number = ap (λ (entry : Entry). entry.number) c.widen.ensures.kept.0;
+      body = ap (λ (entry : Entry). body_seen entry.body) c.widen.ensures.kept.0;
+      outcome = rw (c.widen.ensures.kept.1, ← c.body.ensures.value) c.day_of_body.ensures;
+      cells = rw c.widen.ensures.kept.1 c.widen.ensures.cells;
+    } in
+    rw (gives, c.in-Ok.ensures.noted) (step _ _ _ _ _ _ _ _ come number.0 is line)

@@ -1,10 +1,11 @@
 //! The conversion of an entry.
 
-ghost use Rattle.std.specs.Prelude.{◌≡◌, ◌≤◌, [], length};
+ghost use Rattle.std.specs.Prelude.{◌≡◌, ◌≤◌, [], length, map};
 ghost use Rattle.date_texts.specs.declared.calendar.TheConstants.{MAX_TARGETS};
+ghost use Rattle.register_records.specs.CellTexts.{cell_bytes};
 ghost use Rattle.register_records.specs.Outcomes.{AreCells, IsOutcome, IsRowOf};
 ghost use Rattle.register_records.specs.Entries.{body_seen};
-ghost use Rattle.register_records.specs.Seen.{cells_seen, entry_seen, outcome_seen};
+ghost use Rattle.register_records.specs.Seen.{entry_seen, outcome_seen};
 ghost use Rattle.register_records.specs.ShortLists.{items_in};
 ghost use Rattle.register_records.specs.Views.{row_seen, row_targets, targets_of};
 
@@ -40,7 +41,7 @@ fn day_of_body(body: &Body) -> Result<Day, Refusal>
 fn fill(cells: &mut ShortList<CellText>, targets: &[Target], outcome: Result<Day, Refusal>)
     requires empty { items_in cells.old ≡ [] }
     requires few { length targets.now ≤ MAX_TARGETS }
-    ensures { AreCells targets.now (outcome_seen outcome) (cells_seen (items_in cells.new)) }
+    ensures { AreCells targets.now (outcome_seen outcome) (map cell_bytes (items_in cells.new)) }
 {
     let Ok(day) = outcome else {
         return;
@@ -55,7 +56,7 @@ fn fill(cells: &mut ShortList<CellText>, targets: &[Target], outcome: Result<Day
 #[inline(never)]
 fn cells_of(targets: &[Target], outcome: Result<Day, Refusal>) -> ShortList<CellText>
     requires { length targets.now ≤ MAX_TARGETS }
-    ensures { AreCells targets.now (outcome_seen outcome) (cells_seen (items_in result)) }
+    ensures { AreCells targets.now (outcome_seen outcome) (map cell_bytes (items_in result)) }
 {
     let mut cells = ShortList::new(CellText::copied(""));
     fill(&mut cells, targets, outcome);

@@ -62,7 +62,8 @@ one_date_on_day : OneRomanDate → (n : ℤ) (d e : Date) → calendar_of_date d
     → IsDateOfCalendar d → day_number_of_date d ≡ n → IsDateOfCalendar e → day_number_of_date e ≡ n → d ≡ e
 one_date_on_day one n (Civil d) (Civil e) same h i g j =
     let h' : IsDateBy (reckoning e.calendar) d.ymd = subst (λ x. IsDateBy (reckoning x) d.ymd) same h in
-    let i' : day_number_by (reckoning e.calendar) d.ymd ≡ n = subst (λ x. day_number_by (reckoning x) d.ymd ≡ n) same i in
+    let i' : day_number_by (reckoning e.calendar) d.ymd ≡ n =
+    subst (λ x. day_number_by (reckoning x) d.ymd ≡ n) same i in
     ap Civil (civil_same d e same (one_date_by (reckoning e.calendar) d.ymd e.ymd h' g (i' ∙ sym j)))
 one_date_on_day one n (Long d) (Long e) same h i g j = ap Long (one_long_count d e h g (i ∙ sym j))
 one_date_on_day one n (Roman d) (Roman e) same h i g j = ap Roman (one d e h g (i ∙ sym j))
@@ -103,6 +104,6 @@ pub date_cell_is : (t : Target) (c : Calendar) (n : ℤ) (x : List ℕ) → t �
 date_cell_is t c n x e h = rw e h
 
 -- the canonical text of a year, a month and a day, or of a year, a week and a weekday, is a cell
-pub civil_cell_is : (c : Calendar) (n : ℤ) (d : Ymd) (x : List ℕ) → IsCivil c → IsDateBy (reckoning c) d → day_number_by (reckoning c) d ≡ n
-    → x ≡ canonical_ymd (grammar c) d → IsDateCell c n x
+pub civil_cell_is : (c : Calendar) (n : ℤ) (d : Ymd) (x : List ℕ) → IsCivil c → IsDateBy (reckoning c) d
+    → day_number_by (reckoning c) d ≡ n → x ≡ canonical_ymd (grammar c) d → IsDateCell c n x
 civil_cell_is c n d x civil h i e = on_date (Civil (record { calendar = c; ymd = d; civil = civil })) refl h i e

@@ -28,8 +28,8 @@ pub enum Calendar {
 }
 
 impl Calendar {
-    ghost use Rattle.date_texts.specs.Calendars.{calendar_name, IsDateBy, day_number_by, first_day_by, IsCivil, reckoning};
-    ghost use Rattle.date_texts.specs.Calendars.{grammar as grammar_spec};
+    ghost use Rattle.date_texts.specs.Calendars.{calendar_name, IsDateBy, day_number_by, first_day_by, IsCivil};
+    ghost use Rattle.date_texts.specs.Calendars.{grammar as grammar_spec, reckoning};
 
     /// Every calendar once, in the order of the default targets.
     pub const ALL: [Calendar; 12] = [

@@ -1,6 +1,6 @@
 -- What the calls that read a record's texts say of its outcome.
-use Rattle.std.proofs.Common.{◌≡◌, ◌<◌, ◌+◌, ◌++◌, ℕ, List, [], ◌∷◌, Option, Some, None, refl, length, map, take, get_or}
-use Rattle.std.proofs.Common.{IfOk}
+use Rattle.std.proofs.Common.{◌≡◌, ◌<◌, ◌+◌, ◌++◌, ℕ, List, [], ◌∷◌, Option, Some, None, refl, length, map, take}
+use Rattle.std.proofs.Common.{IfOk, get_or}
 use Rattle.std.specs.Prelude.{◌↔◌, ℤ, IsOk, Result, Ok, Err}
 use Rattle.std.proofs.lemmas.List.{map-append, take_more}
 use Rattle.register_records.specs.CellTexts.{cell_bytes}

@@ -23,7 +23,8 @@ read_record-requires g c =
 pub returns-then-not-found-clause-bad : goal.returns-then-not-found-clause-bad
 returns-then-not-found-clause-bad g c _ =
     let fr = c.from_reader-records.ensures in
-    let config : reader_config c.from_reader-records.result ≡ record default_config { delimiter = c.args.setup.now.delimiter } = search rules in
+    let config : reader_config c.from_reader-records.result
+    ≡ record default_config { delimiter = c.args.setup.now.delimiter } = search rules in
     let start =
     at-start (inner_remaining g.R.Read.remaining) c.from_reader-records.result c.args.setup.now.delimiter
     (g.R.Read.remaining c.args.reader) config fr.state (rw (← c.new-patient.ensures) fr.source) in
@@ -39,7 +40,8 @@ returns-then-not-found-clause-bad g c _ =
 pub invariant_of-result : goal.invariant_of-result
 invariant_of-result g c =
     let fr = c.from_reader-records.ensures in
-    let config : reader_config c.from_reader-records.result ≡ record default_config { delimiter = c.args.setup.now.delimiter } = search rules in
+    let config : reader_config c.from_reader-records.result
+    ≡ record default_config { delimiter = c.args.setup.now.delimiter } = search rules in
     let start =
     at-start (inner_remaining g.R.Read.remaining) c.from_reader-records.result c.args.setup.now.delimiter
     (g.R.Read.remaining c.args.reader) config fr.state (rw (← c.new-patient.ensures) fr.source) in

@@ -18,7 +18,7 @@ use Rattle.date_texts.specs.declared.date.Date.{Date}
 use Rattle.date_texts.specs.declared.date.Date.TheVariants.{Civil, Long, Roman}
 use Rattle.date_texts.specs.Calendars.{Reckoning, by_rules, by_weeks, by_places, by_names, reckoning, IsDateBy}
 use Rattle.date_texts.specs.Calendars.{IsCivil, grammar}
-use Rattle.date_texts.specs.Calendars.{day_number_by, first_day_by, IsDateIn, day_number_in, first_day_in}
+use Rattle.date_texts.specs.Calendars.{day_number_by, first_day_by}
 use Rattle.date_texts.specs.Dates.{calendar_of_date, IsDateOfCalendar, day_number_of_date}
 use Rattle.date_texts.specs.DateText.{canonical_text, canonical_ymd}
 use Rattle.date_texts.specs.Cells.{IsDateCell, on_date, before_first_day, IsCell}
@@ -61,8 +61,9 @@ since_epoch c = omega (arith, ints)
 one_date_on_day : OneRomanDate → (n : ℤ) (d e : Date) → calendar_of_date d ≡ calendar_of_date e
     → IsDateOfCalendar d → day_number_of_date d ≡ n → IsDateOfCalendar e → day_number_of_date e ≡ n → d ≡ e
 one_date_on_day one n (Civil d) (Civil e) same h i g j =
-    let h' : IsDateIn e.calendar d.ymd = subst (λ x. IsDateIn x d.ymd) same h in
-    let i' : day_number_in e.calendar d.ymd ≡ n = subst (λ x. day_number_in x d.ymd ≡ n) same i in
+    let h' : IsDateBy (reckoning e.calendar) d.ymd = subst (λ x. IsDateBy (reckoning x) d.ymd) same h in
+    let i' : day_number_by (reckoning e.calendar) d.ymd ≡ n =
+    subst (λ x. day_number_by (reckoning x) d.ymd ≡ n) same i in
     ap Civil (civil_same d e same (one_date_by (reckoning e.calendar) d.ymd e.ymd h' g (i' ∙ sym j)))
 one_date_on_day one n (Long d) (Long e) same h i g j = ap Long (one_long_count d e h g (i ∙ sym j))
 one_date_on_day one n (Roman d) (Roman e) same h i g j = ap Roman (one d e h g (i ∙ sym j))
@@ -74,15 +75,15 @@ one_date_on_day one n (Roman d) (Civil e) same h i g j = absurd (e.civil.1 (sym 
 one_date_on_day one n (Roman d) (Long e) same h i g j = absurd (cc)
 
 since_first : (n : ℤ) (d : Date) → IsDateOfCalendar d → day_number_of_date d ≡ n
-    → IsSinceFirstDay (first_day_in (calendar_of_date d)) n
+    → IsSinceFirstDay (first_day_by (reckoning (calendar_of_date d))) n
 since_first n (Civil d) h i =
-    subst (IsSinceFirstDay (first_day_in d.calendar)) i (since_first_day (reckoning d.calendar) d.ymd h)
-since_first n (Long d) h i = subst (IsSinceFirstDay (first_day_in Longcount)) i (since_epoch d)
+    subst (IsSinceFirstDay (first_day_by (reckoning d.calendar))) i (since_first_day (reckoning d.calendar) d.ymd h)
+since_first n (Long d) h i = subst (IsSinceFirstDay (first_day_by (reckoning Longcount))) i (since_epoch d)
 since_first n (Roman d) h i = tt
 
 since_first_in : (c : Calendar) (n : ℤ) (d : Date) → calendar_of_date d ≡ c → IsDateOfCalendar d
-    → day_number_of_date d ≡ n → IsSinceFirstDay (first_day_in c) n
-since_first_in c n d p h i = subst (λ x. IsSinceFirstDay (first_day_in x) n) p (since_first n d h i)
+    → day_number_of_date d ≡ n → IsSinceFirstDay (first_day_by (reckoning c)) n
+since_first_in c n d p h i = subst (λ x. IsSinceFirstDay (first_day_by (reckoning x)) n) p (since_first n d h i)
 
 one_date_cell : OneRomanDate → (c : Calendar) (n : ℤ) (x y : List ℕ) → IsDateCell c n x → IsDateCell c n y → x ≡ y
 one_date_cell one c n x y (on_date d p h i e) (on_date d' p' h' i' e') =
@@ -103,6 +104,6 @@ pub date_cell_is : (t : Target) (c : Calendar) (n : ℤ) (x : List ℕ) → t �
 date_cell_is t c n x e h = rw e h
 
 -- the canonical text of a year, a month and a day, or of a year, a week and a weekday, is a cell
-pub civil_cell_is : (c : Calendar) (n : ℤ) (d : Ymd) (x : List ℕ) → IsCivil c → IsDateIn c d → day_number_in c d ≡ n
-    → x ≡ canonical_ymd (grammar c) d → IsDateCell c n x
+pub civil_cell_is : (c : Calendar) (n : ℤ) (d : Ymd) (x : List ℕ) → IsCivil c → IsDateBy (reckoning c) d
+    → day_number_by (reckoning c) d ≡ n → x ≡ canonical_ymd (grammar c) d → IsDateCell c n x
 civil_cell_is c n d x civil h i e = on_date (Civil (record { calendar = c; ymd = d; civil = civil })) refl h i e

@@ -102,15 +102,3 @@ abbrev pub first_day_by : Reckoning → Option ℤ
 first_day_by (by_rules rules) = first_day_of rules
 first_day_by by_places = Some long_count_epoch
 first_day_by reckoning = None
-
--- the calendar has this date
-abbrev pub IsDateIn : Calendar → Ymd → Type 0
-IsDateIn calendar d = IsDateBy (reckoning calendar) d
-
--- the fixed day number of a date
-abbrev pub day_number_in : Calendar → Ymd → ℤ
-day_number_in calendar d = day_number_by (reckoning calendar) d
-
--- the first day of a calendar that has one
-abbrev pub first_day_in : Calendar → Option ℤ
-first_day_in calendar = first_day_by (reckoning calendar)

@@ -5,7 +5,7 @@ use Rattle.std.specs.Fmt.{decimal}
 use Rattle.day_numbers.specs.Days.{IsSinceFirstDay}
 use Rattle.maya_calendars.specs.HaabNames.{haab_of, month_name}
 use Rattle.maya_calendars.specs.TzolkinNames.{tzolkin_of, name_text}
-use Rattle.date_texts.specs.Calendars.{first_day_in}
+use Rattle.date_texts.specs.Calendars.{first_day_by, reckoning}
 use Rattle.date_texts.specs.Dates.{calendar_of_date, IsDateOfCalendar, day_number_of_date}
 use Rattle.date_texts.specs.DateText.{canonical_text}
 use Rattle.date_texts.specs.declared.calendar.Calendar.{Calendar}
@@ -18,7 +18,7 @@ use Rattle.date_texts.specs.declared.date.Date.{Date}
 pub data IsDateCell (calendar : Calendar) (n : ℤ) (text : List ℕ) : Type 0 where
   on_date : (date : Date) → calendar_of_date date ≡ calendar → IsDateOfCalendar date → day_number_of_date date ≡ n
       → text ≡ canonical_text date → IsDateCell calendar n text
-  before_first_day : ¬ (IsSinceFirstDay (first_day_in calendar) n) → text ≡ [] → IsDateCell calendar n text
+  before_first_day : ¬ (IsSinceFirstDay (first_day_by (reckoning calendar)) n) → text ≡ [] → IsDateCell calendar n text
 
 -- a number without leading zeros, one space (32) and a name
 abbrev pub numbered_name : ℕ → List ℕ → List ℕ

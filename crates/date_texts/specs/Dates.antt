@@ -6,7 +6,7 @@ use Rattle.date_texts.specs.declared.calendar.Calendar.{Calendar}
 use Rattle.date_texts.specs.declared.calendar.Calendar.TheVariants.{Longcount, Roman as RomanCalendar}
 use Rattle.date_texts.specs.declared.date.Date.{Date}
 use Rattle.date_texts.specs.declared.date.Date.TheVariants.{Civil, Long, Roman}
-use Rattle.date_texts.specs.Calendars.{IsDateIn, day_number_in}
+use Rattle.date_texts.specs.Calendars.{IsDateBy, day_number_by, reckoning}
 
 abbrev pub calendar_of_date : Date → Calendar
 calendar_of_date (Civil d) = d.calendar
@@ -15,12 +15,12 @@ calendar_of_date (Roman d) = RomanCalendar
 
 -- the date's calendar has it
 abbrev pub IsDateOfCalendar : Date → Type 0
-IsDateOfCalendar (Civil d) = IsDateIn d.calendar d.ymd
+IsDateOfCalendar (Civil d) = IsDateBy (reckoning d.calendar) d.ymd
 IsDateOfCalendar (Long n) = IsLongCount n
 IsDateOfCalendar (Roman d) = IsRomanDate d.year d.month d.name
 
 -- the fixed day number of a date
 abbrev pub day_number_of_date : Date → ℤ
-day_number_of_date (Civil d) = day_number_in d.calendar d.ymd
+day_number_of_date (Civil d) = day_number_by (reckoning d.calendar) d.ymd
 day_number_of_date (Long n) = long_day n
 day_number_of_date (Roman d) = roman_day_number d.year d.month d.name

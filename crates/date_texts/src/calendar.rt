@@ -28,8 +28,8 @@ pub enum Calendar {
 }
 
 impl Calendar {
-    ghost use Rattle.date_texts.specs.Calendars.{calendar_name, IsDateIn, day_number_in, first_day_in, IsCivil};
-    ghost use Rattle.date_texts.specs.Calendars.{grammar as grammar_spec};
+    ghost use Rattle.date_texts.specs.Calendars.{calendar_name, IsDateBy, day_number_by, first_day_by, IsCivil};
+    ghost use Rattle.date_texts.specs.Calendars.{grammar as grammar_spec, reckoning};
 
     /// Every calendar once, in the order of the default targets.
     pub const ALL: [Calendar; 12] = [
@@ -86,11 +86,12 @@ impl Calendar {
     /// `NoSuchDate` exactly where the calendar has no such date; `OutOfRange` exactly where it has the
     /// date and the day number is not from -3652424 to 3652059.
     pub(crate) fn day_of(self, date: Ymd) -> Result<Day, DateFault>
-        ensures succeeds { IsOk result ↔ (IsDateIn self date × IsDayNumber (day_number_in self date)) }
-        ensures value { IfOk result (λ day. day.number ≡ day_number_in self date) }
-        ensures no_such_date { (result ≡ Err DateFault.NoSuchDate) ↔ ¬ (IsDateIn self date) }
+        ensures succeeds { IsOk result
+            ↔ (IsDateBy (reckoning self) date × IsDayNumber (day_number_by (reckoning self) date)) }
+        ensures value { IfOk result (λ day. day.number ≡ day_number_by (reckoning self) date) }
+        ensures no_such_date { (result ≡ Err DateFault.NoSuchDate) ↔ ¬ (IsDateBy (reckoning self) date) }
         ensures out_of_range { (result ≡ Err DateFault.OutOfRange)
-            ↔ (IsDateIn self date × ¬ (IsDayNumber (day_number_in self date))) }
+            ↔ (IsDateBy (reckoning self) date × ¬ (IsDayNumber (day_number_by (reckoning self) date))) }
     {
         match self {
             Calendar::Gregorian => Gregorian.day_of(date),
@@ -112,8 +113,9 @@ impl Calendar {
     #[inline(always)]
     pub(crate) fn date_on(self, day: Day) -> Option<Ymd>
         requires { IsCivil self }
-        ensures dated { IsSome result ↔ IsSinceFirstDay (first_day_in self) day.number }
-        ensures value { IfSome result (λ date. IsDateIn self date × (day_number_in self date ≡ day.number)) }
+        ensures dated { IsSome result ↔ IsSinceFirstDay (first_day_by (reckoning self)) day.number }
+        ensures value { IfSome result (λ date. IsDateBy (reckoning self) date
+            × (day_number_by (reckoning self) date ≡ day.number)) }
     {
         match self {
             Calendar::Gregorian => Gregorian.date_on(day),

@@ -3,7 +3,7 @@
 ghost use Rattle.std.specs.Prelude.{◌≡◌, ◌≤◌, [], ℕ, List, length, take, pos, true, IfSome};
 ghost use Rattle.day_numbers.specs.declared.ymd.Ymd.{Ymd};
 ghost use Rattle.maya_calendars.specs.LongCounts.{IsLongCount};
-ghost use Rattle.date_texts.specs.Calendars.{IsCivil, IsDateIn, day_number_in};
+ghost use Rattle.date_texts.specs.Calendars.{IsCivil, IsDateBy, day_number_by, reckoning};
 ghost use Rattle.date_texts.specs.Cells.{IsDateCell, IsCell, numbered_name};
 ghost use Rattle.date_texts.specs.CivilText.{canonical_civil, canonical_week};
 ghost use Rattle.date_texts.specs.DateText.{canonical_text, canonical_ymd};
@@ -14,7 +14,7 @@ use crate::calendar::{Calendar, Target};
 use crate::cell_places::{put_byte, put_name, put_number, put_place, put_text};
 use crate::days::date_on_day;
 use crate::grammar::Grammar;
-use crate::laws::{cells_are_short, one_cell};
+use crate::laws::cells_are_short;
 use crate::numerals::{push_number, two_digits};
 use crate::write::push_date;
 use arrayvec::ArrayString;
@@ -76,10 +76,8 @@ fn push_cell(text: &mut ArrayString<24>, target: Target, day: Day)
 /// number, a space and the name.
 #[inline(always)]
 pub fn cell(target: Target, day: Day) -> ArrayString<24>
-    ensures value { IsCell target day.number result.bytes }
-    ensures only { (text : List ℕ) → IsCell target day.number text → text ≡ result.bytes }
+    ensures { IsCell target day.number result.bytes }
 {
-    one_cell();
     let mut text = ArrayString::new();
     push_cell(&mut text, target, day);
     text
@@ -168,7 +166,7 @@ fn write_date<C: ArithmeticCalendar>(
 ) -> u8
     requires civil { IsCivil calendar }
     requires dates { (date : Ymd) → C.IsDate date
-        → IsDateIn calendar date × (day_number_in calendar date ≡ C.day_number date) }
+        → IsDateBy (reckoning calendar) date × (day_number_by (reckoning calendar) date ≡ C.day_number date) }
     ensures few { result ≤ MAX_CELL }
     ensures value { IsDateCell calendar day.number (take result places.new) }
 {

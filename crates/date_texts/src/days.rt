@@ -2,7 +2,7 @@
 
 ghost use Rattle.std.specs.Prelude.{◌≡◌, ◌↔◌, IsOk, IsSome, IfOk, IfSome, Err};
 ghost use Rattle.day_numbers.specs.Days.{IsDayNumber, IsSinceFirstDay};
-ghost use Rattle.date_texts.specs.Calendars.{first_day_in};
+ghost use Rattle.date_texts.specs.Calendars.{first_day_by, reckoning};
 ghost use Rattle.date_texts.specs.Dates.{calendar_of_date, IsDateOfCalendar, day_number_of_date};
 
 use crate::calendar::Calendar;
@@ -35,7 +35,7 @@ pub fn day_of_date(date: &Date) -> Result<Day, Refusal>
 
 /// The one date of the calendar whose day this is, or `None` exactly before its first day.
 pub(crate) fn date_on_day(calendar: Calendar, day: Day) -> Option<Date>
-    ensures dated { IsSome result ↔ IsSinceFirstDay (first_day_in calendar) day.number }
+    ensures dated { IsSome result ↔ IsSinceFirstDay (first_day_by (reckoning calendar)) day.number }
     ensures value { IfSome result (λ date. (calendar_of_date date ≡ calendar)
         × IsDateOfCalendar date × (day_number_of_date date ≡ day.number)) }
 {

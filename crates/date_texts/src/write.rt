@@ -2,8 +2,7 @@
 
 ghost use Rattle.std.specs.Prelude.{◌≡◌, []};
 ghost use Rattle.date_texts.specs.declared.date.Date.{Date};
-ghost use Rattle.date_texts.specs.DateText.{canonical_text, IsDateText};
-ghost use Rattle.date_texts.specs.Dates.{calendar_of_date};
+ghost use Rattle.date_texts.specs.DateText.{canonical_text};
 
 use crate::civil_text::push_civil;
 use crate::date::Date;
@@ -24,15 +23,15 @@ pub fn push_date(text: &mut ArrayString<24>, date: Date)
     }
 }
 
-/// The canonical text of a date. Read in the date's calendar, it is the same date again.
+/// The canonical text of a date. Read in the date's calendar, it is the same date again
+/// ([`canonical_texts_read_back`](crate::laws::canonical_texts_read_back)).
 ///
 /// A year has at least four digits, after a minus sign where it is negative, a month, a week and a day have at least
 /// two, and dashes join them. A week date has the letter W before the week, and no leading zero in the weekday. A long
 /// count has five places without leading zeros, joined by dots. A Roman date has the name of a day in the place of the
 /// day, in capital letters, with a count without leading zeros.
 pub fn write_date(date: &Date) -> ArrayString<24>
-    ensures canonical { result.bytes ≡ canonical_text date.now }
-    ensures reads_back { IsDateText (calendar_of_date date.now) (canonical_text date.now) date.now }
+    ensures { result.bytes ≡ canonical_text date.now }
 {
     let mut text = ArrayString::new();
     push_date(&mut text, *date);

@@ -1,14 +1,14 @@
 -- What a read of csv's reader does to the records that are left.
 use Rattle.std.proofs.Common.{◌≡◌, ℕ, List, [], ◌∷◌, Option, Some, None, Bool, true, false, refl, sym, ◌∙◌}
 use Rattle.std.specs.Prelude.{IfSome, option_map}
-use Rattle.csv.specs.Reading.{ReadRecord, Reached, reader_config, reader_state, source_of, strip_bom}
+use Rattle.csv.specs.Reading.{ReadRecord, Reached, default_config, reader_config, reader_state, source_of, strip_bom}
 use Rattle.csv.specs.declared.reader.Reader.{Reader}
 use Rattle.csv.specs.declared.parser.Config.{Config}
 use Rattle.csv.specs.declared.parser.State.{State}
 use Rattle.csv.specs.declared.parser.State.TheVariants as st
 use Rattle.csv.proofs.ReadFacts.{rows-end, rows-more}
 use Rattle.register_records.specs.Headers.{IsHeader}
-use Rattle.register_records.specs.Entries.{Fields, Format, HasNoHeader, reading, text_records}
+use Rattle.register_records.specs.Entries.{Fields, Format, HasNoHeader, text_records}
 use Rattle.register_records.specs.ReadingState.{Reads, TakesFirst, all_after, records_left}
 use Rattle.register_records.proofs.RecordsLeft.{all-more, all-none}
 
@@ -53,7 +53,7 @@ reads rem a b false f r = read-none rem a b f r
 
 -- the records of a text, at a reader that is at its start
 pub at-start : {R : Type 0} (rem : R → Option (List ℕ)) (a : Reader R) (d : ℕ) (o : Option (List ℕ))
-    → reader_config a ≡ reading d → reader_state a ≡ st.StartRecord
+    → reader_config a ≡ record default_config { delimiter = d } → reader_state a ≡ st.StartRecord
     → source_of rem a ≡ option_map strip_bom o → records_left rem a ≡ option_map (text_records d) o
 at-start rem a d None config state source = rw (source) refl
 at-start rem a d (Some text) config state source = rw (source, config, state) refl

@@ -8,10 +8,11 @@ use Rattle.std.proofs.lemmas.List.{append-nil, append_cancel_left, length-append
 use Rattle.std.specs.declared.snapshot.Snapshot.{Snapshot}
 use Rattle.register_records.specs.Headers.{IsHeader}
 use Rattle.register_records.specs.Entries.{Fields, Format, HasEntries, HasFirstEntries, HasTooMany, IsNotSealed}
-use Rattle.register_records.specs.Entries.{Numbered, body_of, body_seen, entries_from, format_by, record_limit}
+use Rattle.register_records.specs.Entries.{Numbered, body_of, body_seen, entries_from, record_limit}
 use Rattle.register_records.specs.Entries.{text_records}
 use Rattle.register_records.specs.Seals.{AreClosed, before_seal, entry_records, is_seal}
-use Rattle.register_records.specs.Seen.{entries_shown, entry_seen}
+use Rattle.register_records.specs.Seen.{entry_seen}
+use Rattle.register_records.specs.ReadingState.{entries_shown, format_by}
 use Rattle.register_records.specs.ReadingState.{EndsAt, Gives, HasEntry, IsNoSeal, LacksSeal, Stands, TakesFirst}
 use Rattle.register_records.specs.declared.entries.Entry.{Entry}
 use Rattle.register_records.specs.declared.setups.Form.{Form}

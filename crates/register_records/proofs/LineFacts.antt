@@ -18,15 +18,15 @@ use Rattle.csv.specs.Writing.{field_text, fields_text, is_blank, needs_byte, nee
 use Rattle.csv.proofs.WriteFacts.{fields-snoc}
 use Rattle.day_numbers.specs.Days.{IsDayNumber, all_weekdays, weekday_name, weekday_number}
 use Rattle.day_numbers.specs.declared.day.Weekday.{Weekday}
+use Rattle.register_records.specs.LineViews.{entry_fields}
 use Rattle.register_records.specs.Lines.{line_text, writing}
 use Rattle.register_records.specs.SetupRules.{is_delimiter}
-use Rattle.register_records.specs.Outcomes.{AreCellsOn, TableRow}
+use Rattle.register_records.specs.Outcomes.{AreCells, TableRow}
 use Rattle.register_records.specs.CellTexts.{cell_bytes}
-use Rattle.register_records.specs.Seen.{cells_seen}
 use Rattle.register_records.specs.declared.cell_texts.CellText.{CellText}
 use Rattle.date_texts.specs.Cells.{is_plain}
 use Rattle.date_texts.proofs.LawWords.{CellsArePlain}
-use Rattle.register_records.specs.Tables.{entry_fields, row_fields, weekday_text}
+use Rattle.register_records.specs.Tables.{row_fields, weekday_text}
 use Rattle.date_texts.specs.Refusals.{refusal_number}
 use Rattle.date_texts.specs.declared.calendar.Target.{Target}
 use Rattle.date_texts.specs.declared.refusal.Refusal.{Refusal}
@@ -172,7 +172,7 @@ plain-bytes d h (c ∷ text) p =
     rw (plain-cell-byte d c h both.0, plain-bytes d h text both.1) refl
 
 pub plain-cell : CellsArePlain → (d : ℕ) → is_delimiter d ≡ true → (n : ℤ) (targets : List Target)
-    (cells : List CellText) (i : ℕ) (e : CellText) → i < length cells → AreCellsOn n targets (cells_seen cells)
+    (cells : List CellText) (i : ℕ) (e : CellText) → i < length cells → AreCells targets (Ok n) (map cell_bytes cells)
     → needs_quotes (writing d) (cell_bytes (get_or cells i e)) ≡ false
 plain-cell law d h n targets [] i e lt are = absurd (omega arith)
 plain-cell law d h n [] (cell ∷ cells) i e lt are = absurd are

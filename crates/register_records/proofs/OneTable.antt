@@ -8,7 +8,7 @@ use Rattle.date_texts.specs.DateText.{IsDateText}
 use Rattle.register_records.specs.Entries.{Format, HasEntries, Numbered, Texts, entries_of}
 use Rattle.register_records.specs.Laws.{OneTable}
 use Rattle.date_texts.specs.Names.{IsNamed}
-use Rattle.register_records.specs.Outcomes.{AreCells, AreCellsOn, AreRowsOf, IsOutcome, IsRowOf, Says, TableRow}
+use Rattle.register_records.specs.Outcomes.{AreCells, AreRowsOf, IsOutcome, IsRowOf, Says, TableRow}
 use Rattle.register_records.specs.Outcomes.{accepted, no_date_text, no_such_date, out_of_range, refused}
 use Rattle.register_records.specs.Outcomes.{unknown_calendar}
 use Rattle.date_texts.specs.declared.calendar.Calendar.{Calendar}
@@ -103,8 +103,8 @@ module _ (one-calendar : OneCalendar) (one_date_text : OneDateText) (one_cell : 
   one-outcome b o p (out_of_range {t = t} c d says is out) k = sym ((of-date t b p k refl c d says).1 is out)
   one-outcome b o p (accepted {t = t} c d says is within) k = sym ((of-date t b p k refl c d says).2 is within)
 
-  one-cells-on : (n : ℤ) (targets : List Target) (xs ys : List (List ℕ)) → AreCellsOn n targets xs
-      → AreCellsOn n targets ys → xs ≡ ys
+  one-cells-on : (n : ℤ) (targets : List Target) (xs ys : List (List ℕ)) → AreCells targets (Ok n) xs
+      → AreCells targets (Ok n) ys → xs ≡ ys
   one-cells-on n [] [] [] a b = refl
   one-cells-on n [] [] (y ∷ ys) a b = absurd b
   one-cells-on n [] (x ∷ xs) ys a b = absurd a

@@ -1,6 +1,6 @@
 -- What the calls that read a record's texts say of its outcome.
-use Rattle.std.proofs.Common.{◌≡◌, ◌<◌, ◌+◌, ◌++◌, ℕ, List, [], ◌∷◌, Option, Some, None, refl, length, take, get_or}
-use Rattle.std.proofs.Common.{IfOk}
+use Rattle.std.proofs.Common.{◌≡◌, ◌<◌, ◌+◌, ◌++◌, ℕ, List, [], ◌∷◌, Option, Some, None, refl, length, map, take}
+use Rattle.std.proofs.Common.{IfOk, get_or}
 use Rattle.std.specs.Prelude.{◌↔◌, ℤ, IsOk, Result, Ok, Err}
 use Rattle.std.proofs.lemmas.List.{map-append, take_more}
 use Rattle.register_records.specs.CellTexts.{cell_bytes}
@@ -12,9 +12,9 @@ use Rattle.date_texts.specs.Cells.{IsCell}
 use Rattle.date_texts.specs.Dates.{IsDateOfCalendar, day_number_of_date}
 use Rattle.register_records.specs.Entries.{Texts}
 use Rattle.date_texts.specs.Names.{IsNamed}
-use Rattle.register_records.specs.Outcomes.{AreCellsOn, IsOutcome, Says}
+use Rattle.register_records.specs.Outcomes.{AreCells, IsOutcome, Says}
 use Rattle.register_records.specs.Outcomes as outcome
-use Rattle.register_records.specs.Seen.{cells_seen, outcome_seen}
+use Rattle.register_records.specs.Seen.{outcome_seen}
 use Rattle.date_texts.specs.declared.calendar.Calendar.{Calendar}
 use Rattle.date_texts.specs.declared.calendar.Target.{Target}
 use Rattle.date_texts.specs.declared.date.Date.{Date}
@@ -61,8 +61,8 @@ module _ (t : Texts) (c : Calendar) (d : Date) where
   day-outcome s (Err refusal.UnknownCalendar) h = absurd (other-refusal refusal.UnknownCalendar (λ e. cc) (λ e. cc) h)
   day-outcome s (Err refusal.DateText) h = absurd (other-refusal refusal.DateText (λ e. cc) (λ e. cc) h)
 
-cells-last : (n : ℤ) (ts : List Target) (texts : List (List ℕ)) (t : Target) (text : List ℕ) → AreCellsOn n ts texts
-    → IsCell t n text → AreCellsOn n (ts ++ t ∷ []) (texts ++ text ∷ [])
+cells-last : (n : ℤ) (ts : List Target) (texts : List (List ℕ)) (t : Target) (text : List ℕ) → AreCells ts (Ok n) texts
+    → IsCell t n text → AreCells (ts ++ t ∷ []) (Ok n) (texts ++ text ∷ [])
 cells-last n [] [] t text a h = (h, tt)
 cells-last n [] (x ∷ texts) t text a h = absurd a
 cells-last n (s ∷ ts) [] t text a h = absurd a
@@ -70,8 +70,8 @@ cells-last n (s ∷ ts) (x ∷ texts) t text a h = (a.0, cells-last n ts texts t
 
 -- one more cell
 pub cells-more : (n : ℤ) (ts : List Target) (i : ℕ) (d : Target) (made made2 : List CellText) (cell : CellText)
-    → i < length ts → AreCellsOn n (take i ts) (cells_seen made) → IsCell (get_or ts i d) n (cell_bytes cell)
-    → made2 ≡ made ++ cell ∷ [] → AreCellsOn n (take (i + 1) ts) (cells_seen made2)
+    → i < length ts → AreCells (take i ts) (Ok n) (map cell_bytes made) → IsCell (get_or ts i d) n (cell_bytes cell)
+    → made2 ≡ made ++ cell ∷ [] → AreCells (take (i + 1) ts) (Ok n) (map cell_bytes made2)
 cells-more n ts i d made made2 cell lt h is e =
     rw (e, map-append cell_bytes made (cell ∷ []), take_more ts i d lt)
-    (cells-last n (take i ts) (cells_seen made) (get_or ts i d) (cell_bytes cell) h is)
+    (cells-last n (take i ts) (map cell_bytes made) (get_or ts i d) (cell_bytes cell) h is)

@@ -3,7 +3,6 @@ use Rattle.std.specs.Prelude.{◌≡◌, ◌≤◌, ◌<◌, ◌+◌, ◌++◌, 
 use Rattle.std.specs.Prelude.{length, Result, Ok, Err, if◌then◌else◌}
 use Rattle.std.specs.Option.{option_map_or}
 use Rattle.std.specs.Str.{is_utf8}
-use Rattle.csv.specs.declared.parser.Config.{Config}
 use Rattle.csv.specs.Reading.{default_config, records, strip_bom}
 use Rattle.register_records.specs.Headers.{IsHeader}
 pub use Rattle.register_records.specs.Records.{Fields, Texts, texts_of}
@@ -20,16 +19,9 @@ pub record Format : Type 0 where
   pub delimiter : ℕ
   pub form : Form
 
-abbrev pub format_by : ℕ → Form → Format
-format_by delimiter form = record { delimiter = delimiter; form = form }
-
--- csv's defaults but for the delimiter
-abbrev pub reading : ℕ → Config
-reading delimiter = record default_config { delimiter = delimiter }
-
--- the records that csv defines for a text, with this delimiter
+-- the records that csv defines for a text, by its defaults but for this delimiter
 abbrev pub text_records : ℕ → List ℕ → List Fields
-text_records delimiter text = records (reading delimiter) (strip_bom text)
+text_records delimiter text = records (record default_config { delimiter = delimiter }) (strip_bom text)
 
 -- the first of the records is an accepted header, and these follow it
 abbrev pub AreAfterHeader : Form → List Fields → List Fields → Type 0

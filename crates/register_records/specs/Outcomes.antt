@@ -33,13 +33,9 @@ pub data IsOutcome : Result Texts Refusal → Result ℤ Refusal → Type 0 wher
   accepted : {t : Texts} (calendar : Calendar) (date : Date) → Says t.calendar t.date calendar date
       → IsDateOfCalendar date → IsDayNumber (day_number_of_date date) → IsOutcome (Ok t) (Ok (day_number_of_date date))
 
--- the cells of a day, one for each target in order
-abbrev pub AreCellsOn : ℤ → List Target → List (List ℕ) → Type 0
-AreCellsOn n targets cells = AllZip (λ target cell. IsCell target n cell) targets cells
-
--- the cells of an outcome: a refused row has none
+-- the cells of an outcome: on a day one for each target in order; a refused row has none
 abbrev pub AreCells : List Target → Result ℤ Refusal → List (List ℕ) → Type 0
-AreCells targets (Ok n) cells = AreCellsOn n targets cells
+AreCells targets (Ok n) cells = AllZip (λ target cell. IsCell target n cell) targets cells
 AreCells targets (Err r) cells = cells ≡ []
 
 -- a row: the number and the body of its entry, its outcome and its cells

@@ -1,6 +1,5 @@
 -- What a clause sees of an `Entry` and of the parts of a `Row`.
-use Rattle.std.specs.Prelude.{ℤ, ℕ, List, map, Result, Ok, Err}
-use Rattle.std.specs.declared.snapshot.Snapshot.{Snapshot}
+use Rattle.std.specs.Prelude.{ℤ, List, map, Result, Ok, Err}
 use Rattle.day_numbers.specs.declared.day.Day.{Day}
 use Rattle.date_texts.specs.declared.refusal.Refusal.{Refusal}
 use Rattle.register_records.specs.CellTexts.{cell_bytes}
@@ -19,20 +18,12 @@ columns_seen c = record { id = c.id.now; calendar = c.calendar.now; date = c.dat
 abbrev pub entry_seen : Entry → Numbered
 entry_seen e = record { number = e.number; body = body_seen e.body }
 
--- the entries that snapshots were taken of
-abbrev pub entries_shown : List (Snapshot Entry) → List Numbered
-entries_shown given = map (λ (s : Snapshot Entry). entry_seen s.value) given
-
 -- the number of the day, or the refusal
 abbrev pub outcome_seen : Result Day Refusal → Result ℤ Refusal
 outcome_seen (Ok day) = Ok day.number
 outcome_seen (Err r) = Err r
 
--- the bytes of the cells
-abbrev pub cells_seen : List CellText → List (List ℕ)
-cells_seen cells = map cell_bytes cells
-
 -- the row that an entry, an outcome and cells make
 abbrev pub row_made : Entry → Result Day Refusal → List CellText → TableRow
 row_made e outcome cells =
-    record { number = e.number; body = body_seen e.body; outcome = outcome_seen outcome; cells = cells_seen cells }
+    record { number = e.number; body = body_seen e.body; outcome = outcome_seen outcome; cells = map cell_bytes cells }

@@ -1,4 +1,4 @@
--- What a clause sees of a `ShortList`. No public contract cites this file.
+-- What a clause sees of a `ShortList`.
 use Rattle.std.specs.Prelude.{List, take}
 use Rattle.register_records.specs.declared.short_lists.ShortList.{ShortList}
 

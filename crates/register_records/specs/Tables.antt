@@ -25,14 +25,12 @@ abbrev pub note_fields : Form → List ℕ → List (List ℕ)
 note_fields Plain note = []
 note_fields Sealed note = note ∷ []
 
--- the columns that a table has of the records
-abbrev pub entry_heading : Form → List (List ℕ)
-entry_heading form = codes "row" ∷ codes "id" ∷ codes "calendar" ∷ codes "date" ∷ note_fields form (codes "note")
-
--- the heading: those columns, the day number and the weekday, one for each target, and the refusal
+-- the heading: the columns that a table has of the records, the day number and the weekday, one for each target, and
+-- the refusal
 abbrev pub heading : Form → List Target → List (List ℕ)
 heading form targets =
-    entry_heading form ++ ((codes "rd" ∷ codes "weekday" ∷ map target_name targets) ++ (codes "refusal" ∷ []))
+    (codes "row" ∷ codes "id" ∷ codes "calendar" ∷ codes "date" ∷ note_fields form (codes "note"))
+    ++ ((codes "rd" ∷ codes "weekday" ∷ map target_name targets) ++ (codes "refusal" ∷ []))
 
 -- the texts as they stand in the record; a record that was refused before has empty ones
 abbrev pub text_fields : Form → Result Texts Refusal → List (List ℕ)
@@ -45,17 +43,13 @@ weekday_text n = option_map_or weekday_name (slice_get all_weekdays (weekday_num
 
 -- the day number, the weekday, the cells and an empty refusal; or all of these empty but the refusal's number
 abbrev pub outcome_fields : List Target → Result ℤ Refusal → List (List ℕ) → List (List ℕ)
-outcome_fields targets (Ok n) cells =
-    (signed_decimal n ∷ weekday_text n ∷ cells) ++ ([] ∷ [])
+outcome_fields targets (Ok n) cells = (signed_decimal n ∷ weekday_text n ∷ cells) ++ ([] ∷ [])
 outcome_fields targets (Err r) cells = ([] ∷ [] ∷ map (λ _. []) targets) ++ (decimal (refusal_number r) ∷ [])
 
--- the fields that a row has of its entry: its number and the texts
-abbrev pub entry_fields : Form → TableRow → List (List ℕ)
-entry_fields form row = decimal row.number ∷ text_fields form row.body
-
--- the fields of a row
+-- the fields of a row: its number and the texts of its entry, and what it has of its outcome
 abbrev pub row_fields : Form → List Target → TableRow → List (List ℕ)
-row_fields form targets row = entry_fields form row ++ outcome_fields targets row.outcome row.cells
+row_fields form targets row =
+    (decimal row.number ∷ text_fields form row.body) ++ outcome_fields targets row.outcome row.cells
 
 -- the line of the heading
 abbrev pub heading_line : Layout → List ℕ

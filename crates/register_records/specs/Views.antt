@@ -1,14 +1,14 @@
 -- What a clause sees of the types of this crate.
-use Rattle.std.specs.Prelude.{ℕ, List, Option}
+use Rattle.std.specs.Prelude.{ℕ, List, Option, map}
+use Rattle.std.specs.declared.snapshot.Snapshot.{Snapshot}
 use Rattle.std.specs.declared.io.traits.Read.{Ghosts}
 use Rattle.date_texts.specs.declared.calendar.Target.{Target}
-use Rattle.register_records.specs.Entries.{Format, Numbered, format_by}
-use Rattle.register_records.specs.LineViews.{line_delimiter}
+use Rattle.register_records.specs.Entries.{Format, Numbered}
 use Rattle.register_records.specs.Outcomes.{TableRow}
-use Rattle.register_records.specs.Seen.{entries_shown, row_made}
+use Rattle.register_records.specs.Seen.{entry_seen, row_made}
 use Rattle.register_records.specs.ShortLists.{items_in}
 use Rattle.register_records.specs.Tables.{Layout, row_line}
-use Rattle.register_records.specs.declared.cell_texts.CellText.{CellText}
+use Rattle.register_records.specs.declared.entries.Entry.{Entry}
 use Rattle.register_records.specs.declared.reading.EntryReader.{EntryReader}
 use Rattle.register_records.specs.declared.rows.Row.{Row}
 use Rattle.register_records.specs.declared.setups.Setup.{Setup}
@@ -20,7 +20,7 @@ targets_of setup = items_in setup.targets
 
 -- how registers and tables are written
 abbrev pub format_of : Setup → Format
-format_of setup = format_by setup.delimiter setup.form
+format_of setup = record { delimiter = setup.delimiter; form = setup.form }
 
 -- what it asks of a table
 abbrev pub layout_of : Setup → Layout
@@ -31,25 +31,22 @@ abbrev pub text_of : {R : Type 0} {g : Ghosts R} → EntryReader R g → Option 
 text_of {g} r = g.remaining r.source.value
 
 abbrev pub reads_by : {R : Type 0} {g : Ghosts R} → EntryReader R g → Format
-reads_by r = format_by r.delimiter r.form
+reads_by r = record { delimiter = r.delimiter; form = r.form }
 
 -- the entries that it gave so far, in order
 abbrev pub given_of : {R : Type 0} {g : Ghosts R} → EntryReader R g → List Numbered
-given_of r = entries_shown r.given.items
+given_of r = map (λ (s : Snapshot Entry). entry_seen s.value) r.given.items
 
--- a row's targets and cells, and the row as a table has it
+-- a row's targets, and the row as a table has it
 abbrev pub row_targets : Row → List Target
 row_targets row = items_in row.targets
-
-abbrev pub row_cells : Row → List CellText
-row_cells row = items_in row.cells
 
 abbrev pub row_seen : Row → TableRow
 row_seen row = row_made row.entry row.outcome (items_in row.cells)
 
 -- how a writer writes lines
 abbrev pub writes_by : RowWriter → Format
-writes_by w = format_by (line_delimiter w.line) w.form
+writes_by w = record { delimiter = w.line.delimiter; form = w.form }
 
 -- the line that it makes of a row
 abbrev pub line_of : RowWriter → Row → List ℕ

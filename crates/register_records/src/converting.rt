@@ -1,10 +1,11 @@
 //! The conversion of an entry.
 
-ghost use Rattle.std.specs.Prelude.{◌≡◌, ◌≤◌, [], length};
+ghost use Rattle.std.specs.Prelude.{◌≡◌, ◌≤◌, [], length, map};
 ghost use Rattle.date_texts.specs.declared.calendar.TheConstants.{MAX_TARGETS};
+ghost use Rattle.register_records.specs.CellTexts.{cell_bytes};
 ghost use Rattle.register_records.specs.Outcomes.{AreCells, IsOutcome, IsRowOf};
 ghost use Rattle.register_records.specs.Entries.{body_seen};
-ghost use Rattle.register_records.specs.Seen.{cells_seen, entry_seen, outcome_seen};
+ghost use Rattle.register_records.specs.Seen.{entry_seen, outcome_seen};
 ghost use Rattle.register_records.specs.ShortLists.{items_in};
 ghost use Rattle.register_records.specs.Views.{row_seen, row_targets, targets_of};
 
@@ -40,7 +41,7 @@ pub(crate) fn day_of_body(body: &Body) -> Result<Day, Refusal>
 fn fill(cells: &mut ShortList<CellText>, targets: &[Target], outcome: Result<Day, Refusal>)
     requires empty { items_in cells.old ≡ [] }
     requires few { length targets.now ≤ MAX_TARGETS }
-    ensures { AreCells targets.now (outcome_seen outcome) (cells_seen (items_in cells.new)) }
+    ensures { AreCells targets.now (outcome_seen outcome) (map cell_bytes (items_in cells.new)) }
 {
     let Ok(day) = outcome else {
         return;
@@ -65,16 +66,14 @@ macro_rules! bare_row {
 pub(crate) use bare_row;
 
 impl Row {
-    ghost use Rattle.register_records.specs.Views.{row_cells};
-
     /// Makes a row for no target one for the setup's targets, where it lies.
     #[inline(never)]
     pub(crate) fn widen(&mut self, setup: &Setup)
-        requires bare { (row_targets self.old ≡ []) × (row_cells self.old ≡ []) }
+        requires bare { (row_targets self.old ≡ []) × (items_in self.old.cells ≡ []) }
         ensures kept { (self.new.entry ≡ self.old.entry) × (self.new.outcome ≡ self.old.outcome) }
         ensures targets { row_targets self.new ≡ targets_of setup.now }
         ensures cells { AreCells (targets_of setup.now) (outcome_seen self.old.outcome)
-            (cells_seen (row_cells self.new)) }
+            (map cell_bytes (items_in self.new.cells)) }
     {
         let outcome = self.outcome;
         fill(&mut self.cells, setup.targets(), outcome);

@@ -80,8 +80,7 @@ impl Entry {
     /// The number, from 1 to 1,000,000.
     pub fn number(&self) -> u32
         ensures value { result ≡ self.now.number }
-        ensures from_one { 1 ≤ result }
-        ensures limited { result ≤ record_limit }
+        ensures in_range { (1 ≤ result) × (result ≤ record_limit) }
     {
         self.number
     }

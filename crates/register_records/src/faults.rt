@@ -93,8 +93,7 @@ impl Sink {
         fail_flush: u32,
         most: usize,
     ) -> Result<Sink, AllocError>
-        ensures empty { IfOk result (λ s. s.bytes.items ≡ []) }
-        ensures fresh { IfOk result (λ s. s.failed ≡ false) }
+        ensures fresh { IfOk result (λ s. (s.bytes.items ≡ []) × (s.failed ≡ false)) }
         ensures mark { IfOk result (λ s. s.mark ≡ mark) }
     {
         Ok(Sink {

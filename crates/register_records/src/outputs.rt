@@ -91,8 +91,7 @@ impl<W: Write> PlainOutput<W> {
     /// The output over `inner`, with the mark `mark`; it has not failed.
     pub fn new(inner: W, mark: u32) -> PlainOutput<W>
         ensures inner { result.inner ≡ inner }
-        ensures fresh { result.failed ≡ false }
-        ensures mark { result.mark ≡ mark }
+        ensures fresh { (result.failed ≡ false) × (result.mark ≡ mark) }
     {
         PlainOutput {
             inner,

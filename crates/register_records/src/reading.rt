@@ -1,16 +1,16 @@
 //! The entries of a text, in order.
 
 ghost use Rattle.std.specs.Prelude.{◌≡◌, ◌+◌, ◌++◌, ◌∷◌, [], ◌≤◌, true, false, length, OnOk, OnErr, IfOk, IfErr};
-ghost use Rattle.std.specs.Prelude.{IfSome, Ok, Err, Option, None};
+ghost use Rattle.std.specs.Prelude.{◌≢◌, IfSome, Ok, Err, Option, None, is_err};
 ghost use Rattle.csv.specs.Reading.{error_kind, has_failed, stops_reader};
 ghost use Rattle.csv.specs.Records.{fields_of};
-ghost use Rattle.register_records.specs.Entries.{HasFirstEntries, format_by, record_limit};
+ghost use Rattle.register_records.specs.Entries.{HasFirstEntries, record_limit};
 ghost use Rattle.register_records.specs.ReadingState.{EndsAt, Gives, HasBegun, HasEntry, IsLive, IsOfReading};
 ghost use Rattle.register_records.specs.ReadingState.{LacksSeal, Reads, Stands};
-ghost use Rattle.register_records.specs.ReadingState.{fault_of, records_left};
+ghost use Rattle.register_records.specs.ReadingState.{entries_shown, fault_of, format_by, records_left};
 ghost use Rattle.register_records.specs.Retrying.{inner_remaining};
 ghost use Rattle.register_records.specs.Seals.{Agrees, is_seal as is_seal_record};
-ghost use Rattle.register_records.specs.Seen.{entries_shown, entry_seen};
+ghost use Rattle.register_records.specs.Seen.{entry_seen};
 
 use crate::entries::{Entry, MAX_RECORDS};
 use crate::header::is_header;
@@ -200,6 +200,7 @@ impl<R: Read + Drop> EntryReader<R> {
     ghost use Rattle.register_records.specs.Entries.{HasEntries, HasNoHeader, HasTooMany, IsNotSealed};
     ghost use Rattle.register_records.specs.Views.{format_of, given_of};
     ghost use Rattle.register_records.specs.Views.{reads_by, text_of};
+    ghost use Rattle.register_records.specs.declared.reading.EntryFault.TheVariants.{Failed, NotSealed, TooManyRecords};
 
     /// Reads the header of a text: a first record of three fields that are `id`, `calendar` and `date`,
     /// and under a sealed form a fourth that is `note`, once spaces and tabs round them are taken off, in
@@ -216,8 +217,7 @@ impl<R: Read + Drop> EntryReader<R> {
         ensures goes { IfOk result (λ r. (r.failed ≡ false) × (r.done ≡ false)) }
         ensures bad { IfErr result (λ e. e ≡ EntryFault.BadHeader
             → IfSome (R.remaining reader) (λ text. HasNoHeader (format_of setup.now) text)) }
-        ensures told { IfErr result (λ e. (e ≡ EntryFault.TooManyRecords → ⊥) × (e ≡ EntryFault.Failed → ⊥)
-            × (e ≡ EntryFault.NotSealed → ⊥)) }
+        ensures told { IfErr result (λ e. (e ≢ TooManyRecords) × (e ≢ Failed) × (e ≢ NotSealed)) }
     {
         let source = Snapshot::of(&reader);
         let patient = Retrying::new(reader);
@@ -273,8 +273,7 @@ impl<R: Read + Drop> EntryReader<R> {
         ensures only_failed { self.old.failed ≡ false → IfErr result (λ e. e ≡ EntryFault.Failed → ⊥) }
         ensures no_header { IfErr result (λ e. e ≡ EntryFault.BadHeader → ⊥) }
         ensures failed { self.old.failed ≡ true → (result ≡ Err EntryFault.Failed) × (self.new ≡ self.old) }
-        ensures fails { OnErr result (self.new.failed ≡ true) }
-        ensures goes { OnOk result (self.new.failed ≡ false) }
+        ensures fails { self.new.failed ≡ is_err result }
         ensures read_fault { IfErr result (λ e. e ≡ EntryFault.ReadFault → has_failed self.new.records ≡ true) }
     {
         if self.failed {

@@ -3,10 +3,10 @@
 ghost use Rattle.std.specs.Prelude.{◌≡◌, ◌≤◌, ◌+◌, ◌∷◌, ◌++◌, [], ℕ, List, length, IsOk, OnOk, Ok, Err};
 ghost use Rattle.register_records.specs.Entries.{body_seen};
 ghost use Rattle.register_records.specs.LineRoom.{entry_room, field_room};
-ghost use Rattle.register_records.specs.LineViews.{Begins, line_bytes, line_delimiter, line_len};
+ghost use Rattle.register_records.specs.LineViews.{Begins, entry_fields, entry_heading, line_bytes};
+ghost use Rattle.register_records.specs.LineViews.{line_delimiter, line_len};
 ghost use Rattle.register_records.specs.Lines.{line_text};
-ghost use Rattle.register_records.specs.Tables.{entry_fields, entry_heading, heading, note_fields, row_fields};
-ghost use Rattle.register_records.specs.Tables.{text_fields};
+ghost use Rattle.register_records.specs.Tables.{heading, note_fields, row_fields, text_fields};
 ghost use Rattle.register_records.specs.Views.{row_seen, row_targets};
 ghost use Rattle.register_records.specs.declared.entries.TheConstants.{CALENDAR_LIMIT, DATE_LIMIT, ID_LIMIT};
 ghost use Rattle.register_records.specs.declared.entries.TheConstants.{NOTE_LIMIT};

@@ -27,8 +27,7 @@ pub struct Row {
 impl Row {
     ghost use Rattle.std.specs.Prelude.{◌↔◌, ◌∷◌, [], true, MatchOption};
     ghost use Rattle.register_records.specs.Tables.{notes_of};
-    ghost use Rattle.register_records.specs.Views.{row_cells, row_seen, row_targets};
-    ghost use Rattle.register_records.specs.Views.{targets_of};
+    ghost use Rattle.register_records.specs.Views.{row_seen, row_targets, targets_of};
 
     /// The entry.
     pub fn entry(&self) -> &Entry
@@ -54,7 +53,7 @@ impl Row {
 
     /// The cells, one for each target; a refused row has none.
     pub fn cells(&self) -> &[CellText]
-        ensures value { result.now ≡ row_cells self.now }
+        ensures value { result.now ≡ items_in self.now.cells }
         ensures few { length result.now ≤ MAX_TARGETS }
         ensures row { ∥ IsRowOf (row_targets self.now) (entry_seen self.now.entry) (row_seen self.now) ∥₁ }
     {

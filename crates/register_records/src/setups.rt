@@ -107,8 +107,6 @@ impl Setup {
     ) -> Result<Setup, SetupFault>
         ensures value { IfOk result (λ s. (targets_of s ≡ targets.now) × (s.ring ≡ ring)
             × (s.delimiter ≡ delimiter) × (s.stripes ≡ stripes) × (s.form ≡ form)) }
-        ensures fit { IfOk result (λ s. (¬ (NamesTwice targets.now)) × (is_ring_size ring ≡ true)
-            × (is_delimiter delimiter ≡ true) × (is_stripe_count stripes ≡ true)) }
         ensures twice { (result ≡ Err SetupFault.TargetTwice) ↔ NamesTwice targets.now }
         ensures ring_size { (result ≡ Err SetupFault.RingSize)
             ↔ ((¬ (NamesTwice targets.now)) × (is_ring_size ring ≡ false)) }

@@ -1,7 +1,7 @@
 //! Rows as lines, each completed before its first byte goes out.
 
-ghost use Rattle.std.specs.Prelude.{◌≡◌, ◌≤◌, ◌+◌, ◌++◌, [], true, false, length, OnOk, OnErr, IfOk, IfErr, Ok, Err};
-ghost use Rattle.std.specs.Prelude.{if◌then◌else◌, vec_capacity};
+ghost use Rattle.std.specs.Prelude.{◌≡◌, ◌≢◌, ◌≤◌, ◌+◌, ◌++◌, ◌||◌, [], true, false, length, OnOk, OnErr, IfOk, IfErr};
+ghost use Rattle.std.specs.Prelude.{IsOk, Ok, Err, if◌then◌else◌, is_err, vec_capacity};
 ghost use Rattle.std.specs.Io.KnownBytes.{Appends};
 ghost use Rattle.register_records.specs.declared.lines.TheConstants.{LINE_ROOM};
 ghost use Rattle.register_records.specs.declared.writing.TheConstants.{MOST_WAITING, ROOM};
@@ -74,7 +74,7 @@ impl RowWriter {
         ensures goes { OnOk result (W.has_failed output.new ≡ W.has_failed output.old) }
         ensures memory { IfErr result (λ e. e ≡ RowFault.OutOfMemory → output.new ≡ output.old) }
         ensures fault { IfErr result (λ e. e ≡ RowFault.WriteFault → W.has_failed output.new ≡ true) }
-        ensures told { IfErr result (λ e. e ≡ RowFault.Failed → ⊥) }
+        ensures told { IfErr result (λ e. e ≢ RowFault.Failed) }
         ensures mark { W.own_mark output.new ≡ W.own_mark output.old }
     {
         let (Ok(mut line), Ok(pending)) = (
@@ -105,11 +105,8 @@ impl RowWriter {
         ensures pending { self.new.pending ≡ self.old.pending }
         ensures by { writes_by self.new ≡ writes_by self.old }
         ensures sunk { self.new.sunk ≡ self.old.sunk }
-        ensures goes { OnOk result ((self.old.failed ≡ false) × (self.new.failed ≡ false)) }
-        ensures fails { OnErr result (self.new.failed ≡ true) }
-        ensures told { IfErr result (λ e. e ≡ RowFault.WriteFault → ⊥) }
-        ensures roomy { IfErr result (λ e. e ≡ RowFault.OutOfMemory → ⊥) }
-        ensures only_failed { self.old.failed ≡ false → IfErr result (λ e. e ≡ RowFault.Failed → ⊥) }
+        ensures fails { self.new.failed ≡ is_err result }
+        ensures goes { self.old.failed ≡ false → IsOk result }
         ensures failed { self.old.failed ≡ true → (result ≡ Err RowFault.Failed) × (self.new ≡ self.old) }
     {
         if self.failed {
@@ -133,12 +130,9 @@ impl RowWriter {
         ensures kept { OnErr result (self.new.pending.items ≡ self.old.pending.items) }
         ensures by { writes_by self.new ≡ writes_by self.old }
         ensures sunk { self.new.sunk ≡ self.old.sunk }
-        ensures goes { OnOk result ((self.old.failed ≡ false) × (self.new.failed ≡ false)) }
-        ensures fails { OnErr result (self.new.failed ≡ true) }
-        ensures told { IfErr result (λ e. e ≡ RowFault.WriteFault → ⊥) }
-        ensures roomy { length self.old.pending.items ≤ MOST_WAITING
-            → IfErr result (λ e. e ≡ RowFault.OutOfMemory → ⊥) }
-        ensures only_failed { self.old.failed ≡ false → IfErr result (λ e. e ≡ RowFault.Failed → ⊥) }
+        ensures fails { self.new.failed ≡ is_err result }
+        ensures memory { self.old.failed ≡ false → IfErr result (λ e. e ≡ RowFault.OutOfMemory) }
+        ensures roomy { length self.old.pending.items ≤ MOST_WAITING → IfErr result (λ e. e ≢ RowFault.OutOfMemory) }
         ensures failed { self.old.failed ≡ true → (result ≡ Err RowFault.Failed) × (self.new ≡ self.old) }
     {
         self.complete(row)?;
@@ -170,12 +164,11 @@ impl RowWriter {
         ensures sent { OnOk result (self.new.pending.items ≡ []) }
         ensures flushed { OnOk result (W.is_flushed output.new ≡ true) }
         ensures by { writes_by self.new ≡ writes_by self.old }
-        ensures goes { OnOk result ((W.has_failed output.new ≡ W.has_failed output.old)
-            × (self.new.failed ≡ self.old.failed) × (self.old.sunk ≡ false) × (self.new.sunk ≡ false)) }
-        ensures fails { OnErr result ((self.new.failed ≡ true) × (self.new.sunk ≡ true)) }
+        ensures goes { OnOk result (W.has_failed output.new ≡ W.has_failed output.old) }
+        ensures fails { self.new.failed ≡ (self.old.failed || is_err result) }
+        ensures sinks { self.new.sunk ≡ is_err result }
         ensures fault { IfErr result (λ e. e ≡ RowFault.WriteFault → W.has_failed output.new ≡ true) }
-        ensures told { IfErr result (λ e. e ≡ RowFault.OutOfMemory → ⊥) }
-        ensures only_failed { self.old.sunk ≡ false → IfErr result (λ e. e ≡ RowFault.Failed → ⊥) }
+        ensures told { self.old.sunk ≡ false → IfErr result (λ e. e ≡ RowFault.WriteFault) }
         ensures failed { self.old.sunk ≡ true
             → (result ≡ Err RowFault.Failed) × (output.new ≡ output.old) × (self.new ≡ self.old) }
         ensures mark { W.own_mark output.new ≡ W.own_mark output.old }
@@ -204,16 +197,14 @@ impl RowWriter {
         ensures sent { OnOk result (self.new.pending.items ≡ []) }
         ensures flushed { OnOk result (W.is_flushed output.new ≡ true) }
         ensures by { writes_by self.new ≡ writes_by self.old }
-        ensures goes { OnOk result ((W.has_failed output.new ≡ W.has_failed output.old)
-            × (self.old.failed ≡ false) × (self.new.failed ≡ false) × (self.new.sunk ≡ false)) }
-        ensures fails { OnErr result (self.new.failed ≡ true) }
+        ensures goes { OnOk result ((W.has_failed output.new ≡ W.has_failed output.old) × (self.new.sunk ≡ false)) }
+        ensures fails { self.new.failed ≡ is_err result }
         ensures memory { IfErr result (λ e. e ≡ RowFault.OutOfMemory → (output.new ≡ output.old)
             × (self.new.pending.items ≡ self.old.pending.items) × (self.new.sunk ≡ self.old.sunk)) }
-        ensures roomy { length self.old.pending.items ≤ MOST_WAITING
-            → IfErr result (λ e. e ≡ RowFault.OutOfMemory → ⊥) }
+        ensures roomy { length self.old.pending.items ≤ MOST_WAITING → IfErr result (λ e. e ≢ RowFault.OutOfMemory) }
         ensures fault { IfErr result (λ e. e ≡ RowFault.WriteFault
             → (W.has_failed output.new ≡ true) × (self.new.sunk ≡ true)) }
-        ensures only_failed { self.old.failed ≡ false → IfErr result (λ e. e ≡ RowFault.Failed → ⊥) }
+        ensures only_failed { self.old.failed ≡ false → IfErr result (λ e. e ≢ RowFault.Failed) }
         ensures failed { self.old.failed ≡ true
             → (result ≡ Err RowFault.Failed) × (output.new ≡ output.old) × (self.new ≡ self.old) }
         ensures mark { W.own_mark output.new ≡ W.own_mark output.old }

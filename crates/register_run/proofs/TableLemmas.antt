@@ -11,7 +11,7 @@ use Rattle.register_records.specs.declared.rows.Row.{Row}
 use Rattle.register_records.specs.declared.setups.Form.TheVariants.{Plain}
 use Rattle.register_records.specs.declared.sources.Note.{Note}
 use Rattle.register_records.specs.declared.writing.RowWriter.{RowWriter}
-use Rattle.register_records.specs.Entries.{AreNumberedFrom, format_by}
+use Rattle.register_records.specs.Entries.{AreNumberedFrom}
 use Rattle.register_records.specs.Laws.{TablesGrow}
 use Rattle.register_records.specs.Seen.{entry_seen}
 use Rattle.register_records.specs.Tables.{Layout, heading_line, journal_of, lines_text, notes_of, row_line, table_text}
@@ -143,7 +143,8 @@ pub noted_row : (rows : List Row) (row : Row) (old new : List Note) → TablesGr
     → new ≡ journal_of (rows_seen (rows ++ row ∷ []))
 noted_row rows row old new grow h more =
     more ∙ ap (λ b. b ++ notes_of (row_seen row).number (row_seen row).outcome) h
-    ∙ sym (grow (record { format = format_by 0 Plain; targets = [] }) (rows_seen rows) (row_seen row)).1
+    ∙ sym (grow (record { format = record { delimiter = 0; form = Plain }; targets = [] }) (rows_seen rows)
+    (row_seen row)).1
     ∙ ap journal_of (sym (map-append row_seen rows (row ∷ [])))
 
 pub counted_row : (rows : List Row) (row : Row) (n : ℕ) → length rows ≡ n → length (rows ++ row ∷ []) ≡ n + 1

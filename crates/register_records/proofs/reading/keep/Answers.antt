@@ -1,6 +1,6 @@
 use Rattle.std.proofs.Common.{◌≡◌, ◌∷◌, [], ◌∙◌, ap, length, length-append, rules, true}
 use Rattle.std.specs.Result.{is_ok}
-use Rattle.register_records.specs.Seen.{entries_shown}
+use Rattle.register_records.specs.ReadingState.{entries_shown}
 use Rattle.register_records.proofs.GivenFacts.{shown-more}
 use Rattle.register_records.proofs.reading.keep.Goals as goal
 

@@ -4,7 +4,8 @@ use Rattle.register_records.specs.Entries.{body_seen}
 use Rattle.register_records.specs.LineViews.{line_delimiter}
 use Rattle.register_records.specs.Views.{row_seen}
 use Rattle.register_records.specs.declared.entries.Entry.{Entry}
-use Rattle.register_records.specs.Tables.{entry_fields, note_fields, text_fields}
+use Rattle.register_records.specs.LineViews.{entry_fields}
+use Rattle.register_records.specs.Tables.{note_fields, text_fields}
 use Rattle.register_records.proofs.LineFacts.{plain-decimal, same-body}
 use Rattle.register_records.proofs.row_lines.begin_line.Goals as goal
 
@@ -12,7 +13,7 @@ pub start-requires : goal.start-requires
 start-requires c =
     rw (c.as_bytes.ensures.value, c.format.ensures.text)
     (plain-decimal (line_delimiter c.args.line.now) c.args.line.now.separated c.number.result
-    (omega (arith, c.number.ensures.limited)))
+    (omega (arith, c.number.ensures.in_range.1)))
 
 pub returns-clause-value : goal.returns-clause-value
 returns-clause-value c =

@@ -4,11 +4,12 @@ use Rattle.std.proofs.lemmas.Grind.{common_steps}
 use Rattle.std.specs.Fmt.{signed_decimal}
 use mathlib.Core.Bool.{Bool-set}
 use Rattle.register_records.specs.CellTexts.{cell_bytes}
-use Rattle.register_records.specs.LineViews.{line_delimiter}
-use Rattle.register_records.specs.Views.{row_cells, row_seen, row_targets}
+use Rattle.register_records.specs.LineViews.{entry_fields, line_delimiter}
+use Rattle.register_records.specs.Views.{row_seen, row_targets}
 use Rattle.register_records.specs.Seen.{entry_seen}
 use Rattle.register_records.specs.Outcomes.{IsRowOf}
-use Rattle.register_records.specs.Tables.{entry_fields, row_fields, weekday_text}
+use Rattle.register_records.specs.ShortLists.{items_in}
+use Rattle.register_records.specs.Tables.{row_fields, weekday_text}
 use Rattle.register_records.specs.Seen.{outcome_seen}
 use Rattle.register_records.proofs.LineFacts.{accepted-fields, plain-cell, plain-day, same-body, same-line}
 use Rattle.register_records.proofs.LineFacts.{two-fields, two-more, weekday-name}
@@ -27,7 +28,7 @@ push_cells-requires-clause-plain c i e lt =
     (∥∥₁_elim c.cells.ensures.row (Bool-set _ _)
     (λ (is : IsRowOf (row_targets row) (entry_seen row.entry) (row_seen row)).
     plain-cell c.cells_are_plain.ensures (line_delimiter c.push_plain-2.new.self)
-    c.push_plain-2.new.self.separated c.args.day.number (row_targets row) (row_cells row) i e
+    c.push_plain-2.new.self.separated c.args.day.number (row_targets row) (items_in row.cells) i e
     (rw (← c.cells.ensures.value) lt) (rw c.requires at is.cells)))
 
 pub returns-clause-value : goal.returns-clause-value
@@ -44,7 +45,7 @@ returns-clause-value c =
     let begun = same-body _ _ _ _ (two-more entry _ _ _ _ day named ∙ append-nil first) two in
     let cells = same-body _ _ _ _ (ap (λ items. first ++ map cell_bytes items) c.cells.ensures.value)
     (c.in_ok-push_cells.ensures.value first (omega arith) begun) in
-    let fields = first ++ map cell_bytes (row_cells row) in
+    let fields = first ++ map cell_bytes (items_in row.cells) in
     let last = c.in_ok-push_plain-3.ensures.value fields (omega arith) cells in
     same-line _ _ (fields ++ [] ∷ []) (row_fields c.args.form (row_targets row) (row_seen row)) _
     (c.in_ok-push_plain-3.ensures.kept ∙ c.in_ok-push_cells.ensures.kept ∙ c.in_ok-push_plain-2.ensures.kept

@@ -1,8 +1,8 @@
 use Rattle.std.proofs.Common.{◌∷◌, ◌++◌, [], ◌∙◌, arith, codes, map, take, ap, refl}
 use Rattle.std.proofs.lemmas.List.{take_all}
 use Rattle.date_texts.specs.Calendars.{target_name}
-use Rattle.register_records.specs.LineViews.{line_delimiter}
-use Rattle.register_records.specs.Tables.{entry_heading, heading}
+use Rattle.register_records.specs.LineViews.{entry_heading, line_delimiter}
+use Rattle.register_records.specs.Tables.{heading}
 use Rattle.register_records.proofs.LineFacts.{joined, one-item, same-body, same-line, two-fields, two-more}
 use Rattle.register_records.proofs.row_lines.make_heading.Goals as goal
 

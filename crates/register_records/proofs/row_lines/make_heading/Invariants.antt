@@ -1,7 +1,6 @@
 use Rattle.std.proofs.Common.{◌≡◌, ◌++◌, ◌∷◌, [], codes, map, take}
 use Rattle.date_texts.specs.Calendars.{target_name}
-use Rattle.register_records.specs.LineViews.{Begins, line_delimiter}
-use Rattle.register_records.specs.Tables.{entry_heading}
+use Rattle.register_records.specs.LineViews.{Begins, entry_heading, line_delimiter}
 use Rattle.register_records.proofs.row_lines.make_heading.Given as goal
 
 abbrev pub invariant-targets : goal.invariant-targets

@@ -4,7 +4,8 @@ use Rattle.std.proofs.lemmas.List.{take_all}
 use Rattle.date_texts.specs.declared.calendar.Target.{Target}
 use Rattle.register_records.specs.LineViews.{line_delimiter}
 use Rattle.register_records.specs.Views.{row_seen, row_targets}
-use Rattle.register_records.specs.Tables.{entry_fields, row_fields}
+use Rattle.register_records.specs.Tables.{row_fields}
+use Rattle.register_records.specs.LineViews.{entry_fields}
 use Rattle.register_records.specs.Seen.{outcome_seen}
 use Rattle.register_records.proofs.LineFacts.{one-empty, plain-decimal, refused-fields, same-body, same-line}
 use Rattle.register_records.proofs.LineFacts.{two-fields, two-more}

@@ -2,7 +2,7 @@ use Rattle.std.proofs.Common.{◌≡◌, ◌≤◌, ◌+◌, ◌++◌, ◌∷◌
 use Rattle.register_records.specs.LineRoom.{entry_room}
 use Rattle.register_records.specs.LineViews.{Begins, line_delimiter, line_len}
 use Rattle.register_records.specs.Views.{row_seen, row_targets}
-use Rattle.register_records.specs.Tables.{entry_fields}
+use Rattle.register_records.specs.LineViews.{entry_fields}
 use Rattle.register_records.proofs.row_lines.make_refused.Given as goal
 
 abbrev pub invariant-targets : goal.invariant-targets

@@ -83,7 +83,7 @@ loop-preserved g c =
           (c.send.ensures.lane ∙ ap sender_lane c.index_mut-sender.ensures.value) ∙ inv.lanes;
       text = c.next-in-loop.ensures.text.0 ∙ inv.text;
       by = c.next-in-loop.ensures.text.1 ∙ inv.by;
-      goes = c.in-Ok-Some.ensures.goes;
+      goes = c.in-Ok-Some.ensures.fails;
       count = same ∙ number.0 ∙ rw gives (omega (arith, longer));
       numbered =
           subst (λ l. AreNumberedFrom 1 l) (sym gives)

@@ -1,9 +1,9 @@
 use Rattle.std.proofs.Common.{◌≡◌, ◌<◌, ◌∙◌, ap, arith, length, refl, rules, sym}
 use Rattle.std.proofs.Common.{Some, None}
-use Rattle.register_records.specs.Entries.{format_by, record_limit}
+use Rattle.register_records.specs.Entries.{record_limit}
 use Rattle.register_records.specs.ReadingState.{records_left}
 use Rattle.register_records.specs.Retrying.{inner_remaining}
-use Rattle.register_records.specs.Seen.{entries_shown}
+use Rattle.register_records.specs.ReadingState.{entries_shown, format_by}
 use Rattle.register_records.specs.Views.{given_of}
 use Rattle.register_records.proofs.GivenFacts.{may-all, may-end, may-ended, may-fail, may-first, may-lack, may-many}
 use Rattle.register_records.proofs.GivenFacts.{may-more, shown-length}

@@ -1,11 +1,10 @@
 use Rattle.std.proofs.Common.{◌≡◌, ◌∙◌, ap, arith, inr, rules, sym, true, false}
-use Rattle.csv.specs.Reading.{is_flexible, names_headers, reader_config, reader_trim}
+use Rattle.csv.specs.Reading.{default_config, is_flexible, names_headers, reader_config, reader_trim}
 use Rattle.csv.specs.declared.reader.Trim.TheVariants as trim
 use Rattle.csv.specs.Records.{fields_of}
-use Rattle.register_records.specs.Entries.{reading}
 use Rattle.register_records.specs.ReadingState.{records_left}
 use Rattle.register_records.specs.Retrying.{inner_remaining}
-use Rattle.register_records.specs.Seen.{entries_shown}
+use Rattle.register_records.specs.ReadingState.{entries_shown}
 use Rattle.register_records.specs.Views.{format_of}
 use Rattle.register_records.proofs.EntrySteps.{at-start, refuses, refuses-none}
 use Rattle.register_records.proofs.GivenFacts.{first-step, may-first}
@@ -24,7 +23,8 @@ read_record-requires g c =
 pub returns-then-not-found-clause-bad : goal.returns-then-not-found-clause-bad
 returns-then-not-found-clause-bad g c _ =
     let fr = c.from_reader-records.ensures in
-    let config : reader_config c.from_reader-records.result ≡ reading c.args.setup.now.delimiter = search rules in
+    let config : reader_config c.from_reader-records.result
+    ≡ record default_config { delimiter = c.args.setup.now.delimiter } = search rules in
     let start =
     at-start (inner_remaining g.R.Read.remaining) c.from_reader-records.result c.args.setup.now.delimiter
     (g.R.Read.remaining c.args.reader) config fr.state (rw (← c.new-patient.ensures) fr.source) in
@@ -40,7 +40,8 @@ returns-then-not-found-clause-bad g c _ =
 pub invariant_of-result : goal.invariant_of-result
 invariant_of-result g c =
     let fr = c.from_reader-records.ensures in
-    let config : reader_config c.from_reader-records.result ≡ reading c.args.setup.now.delimiter = search rules in
+    let config : reader_config c.from_reader-records.result
+    ≡ record default_config { delimiter = c.args.setup.now.delimiter } = search rules in
     let start =
     at-start (inner_remaining g.R.Read.remaining) c.from_reader-records.result c.args.setup.now.delimiter
     (g.R.Read.remaining c.args.reader) config fr.state (rw (← c.new-patient.ensures) fr.source) in

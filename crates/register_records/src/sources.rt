@@ -188,13 +188,13 @@ fn convert_next<R: Read + Drop, W: Output>(
     ensures never { IfErr result (λ c. (c ≢ Cause.NoThread) × (c ≢ Cause.Unconfirmed) × (c ≢ Cause.BadHeader)) }
     ensures mark { W.own_mark output.new ≡ W.own_mark output.old }
 {
-    // The entry is looked at where it lies, and the row is made where it stays, since both are large: `convert` would
-    // give the row back by a copy.
-    let mut row = match &entries.next() {
-        Ok(Some(entry)) => bare_row!(*entry),
+    let entry = match entries.next() {
+        Ok(Some(entry)) => entry,
         Ok(None) => return Ok(None),
         Err(fault) => return Err(told(fault.cause())),
     };
+    // The row is made where it stays: `convert` would give it back by a copy.
+    let mut row = bare_row!(entry);
     row.widen(setup);
     match write_row(writer, journal, output, &row) {
         Ok(()) => Ok(Some(row.entry().number())),

@@ -1,4 +1,4 @@
-use Rattle.std.proofs.Common.{◌≡◌, ◌∙◌, ℕ, List, None, Ok, Some, ap, refl, rules, subst}
+use Rattle.std.proofs.Common.{◌≡◌, ◌∙◌, ℕ, List, ap, refl, subst}
 use Rattle.std.specs.Io.KnownBytes.{Appends}
 use Rattle.date_texts.specs.declared.calendar.Target.{Target}
 use Rattle.register_records.specs.Entries.{Format, HasEntries, body_seen}
@@ -12,9 +12,8 @@ use Rattle.register_records.proofs.sources.convert_next.Goals as goal
 
 pub returns-in-Ok-None-clause-end : goal.returns-in-Ok-None-clause-end
 returns-in-Ok-None-clause-end g c _ =
-    let none : c.next.result ≡ Ok None = search rules in
-    let all = c.next.ensures.all none in
-    let kept = c.next.ensures.ends none in (
+    let all = (rw c.in-Ok-None.field-0-is at c.in-Ok-None.ensures.all) refl in
+    let kept = (rw c.in-Ok-None.field-0-is at c.in-Ok-None.ensures.ends) refl in (
       refl,
       refl,
       told_of (λ (format : Format) (text : List ℕ). HasEntries format text (given_of c.args.entries.now)) _ _ _ _
@@ -23,9 +22,8 @@ returns-in-Ok-None-clause-end g c _ =
 
 pub returns-in-Ok-clause-row : goal.returns-in-Ok-clause-row
 returns-in-Ok-clause-row g c begun come =
-    let some : c.next.result ≡ Ok (Some c.in-Ok-Some.entry) = search rules in
-    let number = rw some at c.next.ensures.number in
-    let gives = rw some at c.next.ensures.gives in
+    let number = rw c.in-Ok-Some.field-0-is at c.in-Ok-Some.ensures.number in
+    let gives = rw c.in-Ok-Some.field-0-is at c.in-Ok-Some.ensures.gives in
     let row = c.widen.new.self in
     let setup = c.args.setup.now in
     let same_line : line_of c.args.writer.now row ≡ row_line (layout_of setup) (row_seen row)

@@ -6,8 +6,6 @@
 //! - `lanes N`: those of an item on its way through a lane and through a plain ring, over N items;
 //! - `memory N`: registers of N records, over all calendars and of Gregorian dates alone, from memory to an output that
 //!   only counts, with every target and with none: records a second and nanoseconds a record, without a system call;
-//! - `runs N`: one source and four, of N records each, converted by a run over threads and on one thread, with none of
-//!   the targets;
 //! - `stress SEED SECONDS`: registers at random by a run and on one thread, compared, until the seconds are over or the
 //!   two differ;
 //! - `make mixed|gregorian N FILE`: writes such a register to a file;
@@ -21,7 +19,6 @@ mod common;
 mod lanes;
 mod random;
 mod records;
-mod runs;
 mod stress;
 mod texts;
 
@@ -29,7 +26,6 @@ use calendars::measure_calendars;
 use lanes::measure_lanes;
 use records::inputs::{Kind, register};
 use records::{FEW, by_lines, from_memory, over_files};
-use runs::measure_runs;
 use std::alloc::Global;
 use std::rt::Files;
 use std::sync::Wait;
@@ -52,10 +48,6 @@ fn run_all<R: Threads + Wait + Sync + Clock + Print>(rt: &R, alloc: Global) -> i
     whole &= from_memory(rt, alloc, FEW, false)?;
     if whole {
         println!(rt; "every register converted")?;
-    }
-    whole &= measure_runs(rt, alloc, None)?;
-    if whole {
-        println!(rt; "every run complete")?;
     }
     whole &= stress(rt, alloc, 1, None)?;
     if whole {
@@ -94,7 +86,6 @@ fn run<R: Threads + Wait + Sync + Files + Clock + Print>(
         }
         ["lanes", count] => measure_lanes(rt, alloc, count.parse().ok()),
         ["memory", count] => from_memory(rt, alloc, count.parse().unwrap_or(FEW), true),
-        ["runs", count] => measure_runs(rt, alloc, count.parse().ok()),
         ["stress", seed, seconds] => stress(
             rt,
             alloc,

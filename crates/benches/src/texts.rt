@@ -13,39 +13,39 @@ use std::time::Clock;
 /// Names as registers write them.
 const NAMES: [&str; 4] = ["gregorian", " Julian", "HEBREW", "french"];
 
-/// The dates of a calendar on a sample of days, and their texts. Each method makes a call for each of them, and answers
-/// a sum of what the calls gave, so that none is left out.
+/// A date and its text.
+#[derive(Drop)]
+struct DateText {
+    text: ArrayString<24>,
+    date: Date,
+}
+
+/// The dates of a calendar on a sample of days. Each method makes a call for each of them, and answers a sum of what
+/// the calls gave, so that none is left out.
 #[derive(Drop)]
 struct Dates {
     calendar: Calendar,
-    texts: Vec<ArrayString<24>>,
-    dates: Vec<Date>,
+    dates: Vec<DateText>,
 }
 
 impl Dates {
     /// The dates of this calendar.
     fn new(alloc: Global, calendar: Calendar) -> io::Result<Dates> {
-        let mut texts: Vec<ArrayString<24>> = Vec::new(alloc);
-        let mut dates: Vec<Date> = Vec::new(alloc);
+        let mut dates = Vec::new(alloc);
         for day in &sample(alloc)? {
             let text = cell(Target::Date(calendar), *day);
             if let Ok(date) = read_date(calendar, text.as_str()) {
-                texts.push(text)?;
-                dates.push(date)?;
+                dates.push(DateText { text, date })?;
             }
         }
-        Ok(Dates {
-            calendar,
-            texts,
-            dates,
-        })
+        Ok(Dates { calendar, dates })
     }
 
     /// Reads each text.
     fn read(&self) -> u64 {
         let mut days = 0u64;
-        for text in &self.texts {
-            if let Ok(Date::Civil(date)) = read_date(self.calendar, text.as_str()) {
+        for written in &self.dates {
+            if let Ok(Date::Civil(date)) = read_date(self.calendar, written.text.as_str()) {
                 days = days.wrapping_add(date.ymd().day() as u64);
             }
         }
@@ -55,8 +55,8 @@ impl Dates {
     /// Writes each date.
     fn write(&self) -> u64 {
         let mut bytes = 0u64;
-        for date in &self.dates {
-            bytes = bytes.wrapping_add(write_date(date).len() as u64);
+        for written in &self.dates {
+            bytes = bytes.wrapping_add(write_date(&written.date).len() as u64);
         }
         bytes
     }
@@ -64,8 +64,8 @@ impl Dates {
     /// Finds the day of each date.
     fn find_days(&self) -> u64 {
         let mut numbers = 0u64;
-        for date in &self.dates {
-            if let Ok(day) = day_of_date(date) {
+        for written in &self.dates {
+            if let Ok(day) = day_of_date(&written.date) {
                 numbers = numbers.wrapping_add(day.number().unsigned_abs());
             }
         }

@@ -38,6 +38,3 @@ pub fn lane<T: Drop>(alloc: Global, capacity: usize) -> Result<(Sender<T>, Recei
         },
     ))
 }
-
-#[cfg(test)]
-mod tests;

@@ -370,6 +370,3 @@ pub fn read_request<'a>(alloc: Global, words: &'a [String]) -> Result<Request<'a
         files: options.files,
     }))
 }
-
-#[cfg(test)]
-mod tests;

@@ -1,6 +1,6 @@
 //! Tells on standard error how sources have ended.
 
-ghost use Rattle.std.specs.Prelude.{◌≡◌, ◌≤◌, ◌+◌, ◌++◌, ◌∷◌, [], codes, length, true, false};
+ghost use Rattle.std.specs.Prelude.{◌≡◌, ◌≤◌, ◌+◌, ◌++◌, ◌∷◌, [], MatchOption, codes, length, true, false};
 ghost use Rattle.std.specs.Fmt.{decimal};
 ghost use Rattle.std.specs.Io.KnownBytes.{Appends};
 ghost use Rattle.register_app.specs.Reports.{count_text, counts_from, line_of_end, lines_from, refusal_numbers};
@@ -121,6 +121,28 @@ pub fn tell_ends<E: Output>(errors: &mut E, summary: bool, ends: &[SourceEnd])
     }
 }
 
+/// The line that tells how the source at this place has ended, if there is one: a whole source has one in a summary
+/// alone.
+fn line_of(summary: bool, place: usize, end: &SourceEnd) -> Option<Line>
+    ensures { MatchOption result (line_of_end summary place end.now ≡ [])
+        (λ line. line.bytes ≡ line_of_end summary place end.now) }
+{
+    match end {
+        SourceEnd::Broken { cause } => Some(line_of_broken(place, *cause)),
+        SourceEnd::Whole {
+            rows,
+            refused,
+            journal,
+        } => {
+            if summary {
+                Some(line_of_whole(place, *rows, *refused, journal.as_slice()))
+            } else {
+                None
+            }
+        }
+    }
+}
+
 /// Tells how the source at this place has ended.
 fn tell_end<E: Output>(errors: &mut E, summary: bool, place: usize, end: &SourceEnd)
     ensures told { E.has_failed errors.new ≡ false
@@ -128,19 +150,7 @@ fn tell_end<E: Output>(errors: &mut E, summary: bool, place: usize, end: &Source
         (line_of_end summary place end.now) }
     ensures mark { E.own_mark errors.new ≡ E.own_mark errors.old }
 {
-    match end {
-        SourceEnd::Broken { cause } => {
-            let _ = send(errors, line_of_broken(place, *cause).as_bytes());
-        }
-        SourceEnd::Whole {
-            rows,
-            refused,
-            journal,
-        } => {
-            if summary {
-                let line = line_of_whole(place, *rows, *refused, journal.as_slice());
-                let _ = send(errors, line.as_bytes());
-            }
-        }
+    if let Some(line) = line_of(summary, place, end) {
+        let _ = send(errors, line.as_bytes());
     }
 }

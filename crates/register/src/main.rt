@@ -4,18 +4,7 @@
 //! the calendars that the words ask for.
 #![tactic(auto)]
 
-mod answering;
-mod disk;
-mod help;
-mod opening;
-mod option_values;
-mod places;
-mod refusals;
-mod requests;
-mod telling;
-
-use answering::answer;
-use disk::{Disk, Sink, Source};
+use register_app::{Disk, Sink, Source, answer};
 use register_records::PlainOutput;
 use std::fs::OpenOptions;
 use std::process::ExitCode;
@@ -65,6 +54,3 @@ fn main(rt: HostRuntime) -> ExitCode {
     );
     ExitCode::from(answered.status)
 }
-
-#[cfg(test)]
-mod tests;

@@ -2,8 +2,7 @@
 
 ghost use Rattle.std.specs.Prelude.{⊤};
 
-use crate::answering::{Answered, answer};
-use crate::places::Places;
+use register_app::{Answered, Places, answer};
 use register_records::PlainOutput;
 use std::alloc::{AllocError, Global};
 use std::io;

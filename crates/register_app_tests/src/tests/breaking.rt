@@ -2,9 +2,8 @@
 
 ghost use Rattle.std.specs.Prelude.{⊤};
 
-use crate::help::HELP;
-use crate::places::Places;
 use crate::tests::helpers::{Heard, NoPlaces, ONE_RECORD, ONE_ROW, hear};
+use register_app::{HELP, Places};
 use register_records::PlainOutput;
 use std::alloc::{AllocError, Global};
 use std::io;

@@ -2,9 +2,8 @@
 
 ghost use Rattle.std.specs.Prelude.{⊤};
 
-use crate::help::HELP;
-use crate::places::Places;
 use crate::tests::helpers::{Heard, NoPlaces, hear};
+use register_app::{HELP, Places};
 use register_records::PlainOutput;
 use std::alloc::{AllocError, Global};
 use std::io;
@@ -238,12 +237,14 @@ fn broken_streams_are_told(rt: HostRuntime) {
     assert!(rt; are_broken_errors_let_go(&rt, rt.alloc()));
 }
 
-/// Command lines that ask for help: before anything is wrong with them.
-const FOR_HELP: [&[&str]; 4] = [
+/// Command lines that ask for help: before anything is wrong with them, and before the version.
+const FOR_HELP: [&[&str]; 6] = [
     &["--help"],
     &["-h"],
+    &["--help", "--version"],
     &["--help", "--bogus"],
     &["--to", "x", "-h"],
+    &["a", "a", "--help"],
 ];
 
 /// Whether these words get help, and nothing is told.

@@ -17,6 +17,9 @@ const EVERY_TARGET: &[u8] = b"\
     1582-10-15,1582-W41-5,1582-10-05,1299-02-08,1575-02-08,2331-03-14,1031-12-14,\
     0990-09-17,5343-07-19,11.18.3.9.18,,1582-10-N3,11 Tzec,13 Etznab,\n";
 
+/// The page that tells the version.
+const VERSION: &[u8] = b"register 1.0.0\n";
+
 /// A command line that is taken.
 const TAKEN: TextCase = TextCase {
     words: &[],
@@ -29,7 +32,7 @@ const TAKEN: TextCase = TextCase {
 /// A command line that is refused.
 const REFUSED: TextCase = TextCase { status: 2, ..TAKEN };
 
-const LINES: [TextCase; 18] = [
+const LINES: [TextCase; 23] = [
     // Every target, in the default order.
     TextCase {
         output: EVERY_TARGET,
@@ -78,6 +81,35 @@ const LINES: [TextCase; 18] = [
         output: b"\
             row,id,calendar,date,rd,weekday,refusal\n\
             1,b,julian,1582-10-05,577736,Friday,\n",
+        ..TAKEN
+    },
+    // Numbers with zeros before them.
+    TextCase {
+        words: &["--ring", "00016", "--stripes=00004", "--to", "none"],
+        output: b"\
+            row,id,calendar,date,rd,weekday,refusal\n\
+            1,b,julian,1582-10-05,577736,Friday,\n",
+        ..TAKEN
+    },
+    // The version, which comes before anything is wrong, and of two pages the first.
+    TextCase {
+        words: &["-V"],
+        output: VERSION,
+        ..TAKEN
+    },
+    TextCase {
+        words: &["--version", "--help"],
+        output: VERSION,
+        ..TAKEN
+    },
+    TextCase {
+        words: &["--ring", "0", "--version", "--bogus"],
+        output: VERSION,
+        ..TAKEN
+    },
+    TextCase {
+        words: &["a", "a", "--version"],
+        output: VERSION,
         ..TAKEN
     },
     // Names of targets that are none, and targets named twice: the first from the left.
@@ -152,7 +184,7 @@ struct Misuse {
 }
 
 // The messages are clap's own.
-const MISUSES: [Misuse; 5] = [
+const MISUSES: [Misuse; 14] = [
     Misuse {
         words: &["--bogus"],
         message: b"error: unexpected argument '--bogus' found\n",
@@ -169,10 +201,46 @@ const MISUSES: [Misuse; 5] = [
         words: &["--to", "--delimiter", "tab"],
         message: b"error: a value is required for '--to <LIST>' but none was supplied\n",
     },
-    // What clap refuses is told before a fault of the targets.
+    Misuse {
+        words: &["--rings", "4"],
+        message: b"error: unexpected argument '--rings' found\n",
+    },
+    Misuse {
+        words: &["-x.csv"],
+        message: b"error: unexpected argument '-x' found\n",
+    },
+    Misuse {
+        words: &["--ring", "-5"],
+        message: b"error: unexpected argument '-5' found\n",
+    },
+    Misuse {
+        words: &["--stripes"],
+        message: b"error: a value is required for '--stripes <N>' but none was supplied\n",
+    },
+    Misuse {
+        words: &["--ring", "4", "--ring", "4"],
+        message: b"error: the argument '--ring <N>' cannot be used multiple times\n",
+    },
+    Misuse {
+        words: &["--summary", "--summary"],
+        message: b"error: the argument '--summary' cannot be used multiple times\n",
+    },
+    Misuse {
+        words: &["--sealed", "--sealed"],
+        message: b"error: the argument '--sealed' cannot be used multiple times\n",
+    },
+    Misuse {
+        words: &["--sealed=END"],
+        message: b"error: unexpected value 'END' for '--sealed' found; no more were expected\n",
+    },
+    // What clap refuses is told before every other fault.
     Misuse {
         words: &["--to", "x", "--rings", "4"],
         message: b"error: unexpected argument '--rings' found\n",
+    },
+    Misuse {
+        words: &["a", "a", "--ring", "0", "--to", "x", "--bogus"],
+        message: b"error: unexpected argument '--bogus' found\n",
     },
 ];
 

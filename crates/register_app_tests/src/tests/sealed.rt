@@ -20,7 +20,7 @@ const SEALED: TextCase = TextCase {
     errors: b"",
 };
 
-const CASES: [TextCase; 11] = [
+const CASES: [TextCase; 12] = [
     TextCase {
         input: b"\
             id,calendar,date,note\n\
@@ -113,6 +113,29 @@ const CASES: [TextCase; 11] = [
         input: b"END,0\n",
         status: 1,
         errors: b"source 1: cause 6\n",
+        ..SEALED
+    },
+    // With every other option.
+    TextCase {
+        words: &[
+            "--ring=4096",
+            "--stripes",
+            "2",
+            "--summary",
+            "--sealed",
+            "--delimiter",
+            "tab",
+            "--to",
+            "none",
+        ],
+        input: b"\
+            id\tcalendar\tdate\tnote\n\
+            a\tjulian\t1582-10-05\tparish book\n\
+            END\t1\n",
+        output: b"\
+            row\tid\tcalendar\tdate\tnote\trd\tweekday\trefusal\n\
+            1\ta\tjulian\t1582-10-05\tparish book\t577736\tFriday\t\n",
+        errors: b"source 1: 1 rows, 0 refused\n",
         ..SEALED
     },
     // Notes of 80 and of 81 bytes.

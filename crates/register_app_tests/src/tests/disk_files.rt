@@ -1,7 +1,7 @@
 //! Files of the system, and their tables.
 
-use crate::disk::{Disk, Sink, Source};
 use crate::tests::helpers::{Heard, ONE_RECORD, ONE_ROW, hear};
+use register_app::{Disk, Sink, Source};
 use std::alloc::{AllocError, Global};
 use std::rt::Files;
 use std::sync::Wait;

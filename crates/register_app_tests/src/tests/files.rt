@@ -2,8 +2,8 @@
 
 ghost use Rattle.std.specs.Prelude.{⊤};
 
-use crate::places::Places;
 use crate::tests::helpers::{Heard, MANY_FILES, ONE_RECORD, ONE_ROW, hear};
+use register_app::Places;
 use register_records::PlainOutput;
 use std::alloc::{AllocError, Global};
 use std::io;
@@ -28,6 +28,7 @@ impl Places<&'static [u8], PlainOutput<Vec<u8>>> for Shelf {
             "a.csv" => Ok(ONE_RECORD),
             "b.csv" => Ok(b""),
             "c.csv" => Ok(b"id,calendar,date\nc,gregorian,1700-02-29\n"),
+            "B.csv" | "-" | "" | "-x.csv" | "--ring" | "0" | "--help" => Ok(ONE_RECORD),
             name if name.starts_with("many/") => Ok(ONE_RECORD),
             _ => Err(io::Error::from(ErrorKind::NotFound)),
         }
@@ -54,7 +55,7 @@ struct FilesCase {
     errors: &'static [u8],
 }
 
-const FILES: [FilesCase; 8] = [
+const FILES: [FilesCase; 10] = [
     // A source with a table and one that breaks off, whatever the ring and the stripes.
     FilesCase {
         words: &["--to", "gregorian", "--ring", "1", "a.csv", "b.csv"],
@@ -80,6 +81,30 @@ const FILES: [FilesCase; 8] = [
         status: 1,
         tables: &[b"", ONE_ROW],
         errors: b"source 1: cause 6\nsource 2: 1 rows, 0 refused\n",
+    },
+    // Files stand anywhere among the options; names that differ in letter case differ.
+    FilesCase {
+        words: &[
+            "b.csv",
+            "--ring",
+            "1",
+            "a.csv",
+            "--to",
+            "gregorian",
+            "B.csv",
+            "-",
+            "",
+        ],
+        status: 1,
+        tables: &[b"", ONE_ROW, ONE_ROW, ONE_ROW, ONE_ROW],
+        errors: b"source 1: cause 6\n",
+    },
+    // The options end at two dashes.
+    FilesCase {
+        words: &["--to=gregorian", "--", "-x.csv", "--ring", "0", "--help"],
+        status: 0,
+        tables: &[ONE_ROW; 4],
+        errors: b"",
     },
     // Files that cannot be opened or made: the first, and all are opened before any is made.
     FilesCase {
@@ -167,6 +192,31 @@ const MANY: FilesCase = FilesCase {
     tables: &[ONE_ROW; 32],
     errors: b"",
 };
+
+/// What one file more gives, whose name is the first once more.
+const TOO_MANY: FilesCase = FilesCase {
+    words: &[],
+    status: 2,
+    tables: &[],
+    errors: b"register: more than 32 files\n",
+};
+
+/// Whether 33 files are refused.
+fn are_33_files_refused(
+    rt: &(impl Threads + Wait + Sync),
+    alloc: Global,
+) -> Result<bool, AllocError> {
+    let mut words = Vec::new(alloc);
+    words.extend_from_slice(&MANY_FILES)?;
+    words.push("many/0")?;
+    Ok(give_as_wanted(rt, alloc, words.as_slice(), &TOO_MANY))
+}
+
+#[test]
+fn files_are_no_more_than_32(rt: HostRuntime) -> Result<(), Fail> {
+    assert!(rt; are_33_files_refused(&rt, rt.alloc())?);
+    Ok(())
+}
 
 /// Whether 32 files of one record each get their tables with this word.
 fn give_many(

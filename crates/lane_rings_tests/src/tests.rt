@@ -1,0 +1,322 @@
+ghost use Rattle.std.specs.Prelude.{◌≡◌};
+ghost use Rattle.lane_rings.specs.Lane.{receiver_lane, sender_lane};
+
+use lane_rings::{Closed, Confirmed, Gone, Item, Receiver, Sender, Unconfirmed, lane};
+use std::alloc::{AllocError, Global};
+use std::rc::Rc;
+use std::sync::Wait;
+use std::test::Fail;
+
+// The functions below answer whether all is as it is wanted, and promise no more than that a lane stays the same: a
+// test that asserted each value itself would be long to prove.
+
+// How a sender leaves its lane.
+#[derive(Clone, Copy)]
+enum Leave {
+    Close(u64),
+    Stop,
+}
+
+impl Leave {
+    ghost use Rattle.std.specs.Prelude.{◌≡◌, Some};
+    ghost use Rattle.lane_rings.specs.Lane.{sender_lane, closed_lane, HasConfirmation};
+
+    fn leave<T: Drop>(self, rt: &impl Wait, sender: Sender<T>) -> Closed<T>
+        ensures { HasConfirmation result → closed_lane result ≡ Some (sender_lane sender) }
+    {
+        match self {
+            Leave::Close(count) => sender.close(rt, count),
+            Leave::Stop => sender.stop(rt),
+        }
+    }
+}
+
+// Whether the next item is taken, and is this one.
+fn takes(receiver: &mut Receiver<u32>, wanted: &Item<u32>) -> bool
+    ensures { receiver_lane receiver.new ≡ receiver_lane receiver.old }
+{
+    match receiver.try_take() {
+        Ok(Some(item)) => item == *wanted,
+        _ => false,
+    }
+}
+
+// Whether the lane is confirmed, and ended with this count, or with a stop where there is none.
+fn has_ended(confirmed: Result<Confirmed<u32>, Unconfirmed>, count: Option<u64>) -> bool {
+    match confirmed {
+        Ok(confirmed) => confirmed.ended() == count,
+        Err(_) => false,
+    }
+}
+
+// Whether a lane with one entry lives, on one thread, and ends with this item and count.
+fn lives(
+    rt: &impl Wait,
+    alloc: Global,
+    leave: Leave,
+    last: &Item<u32>,
+    count: Option<u64>,
+) -> Result<bool, AllocError> {
+    let (mut sender, mut receiver) = lane(alloc, 1)?;
+    let mut lives = sender.send(rt, 7).is_ok();
+    lives &= takes(&mut receiver, &Item::Entry(7));
+    lives &= receiver.try_take() == Ok(None);
+    let closed = leave.leave(rt, sender);
+    lives &= takes(&mut receiver, last);
+    Ok(has_ended(receiver.confirm(closed), count) && lives)
+}
+
+#[test]
+fn a_lane_lives_from_its_first_item_to_its_confirmation(rt: HostRuntime) -> Result<(), Fail> {
+    let alloc = rt.alloc();
+    assert!(rt; lives(&rt, alloc, Leave::Close(1), &Item::End(1), Some(1))?);
+    assert!(rt; lives(&rt, alloc, Leave::Stop, &Item::Stop, None)?);
+    Ok(())
+}
+
+// The one test that passes whichever allocation is refused.
+#[test]
+fn a_lane_is_refused_its_memory_or_lives(rt: HostRuntime) {
+    let lived = lives(&rt, rt.alloc(), Leave::Close(1), &Item::End(1), Some(1));
+    assert!(rt; lived.unwrap_or(true));
+}
+
+// Whether a lane is confirmed of which nothing was taken.
+fn is_confirmed_unread(rt: &impl Wait, alloc: Global) -> Result<bool, AllocError> {
+    let (sender, receiver) = lane::<u32>(alloc, 1)?;
+    let closed = sender.stop(rt);
+    Ok(receiver.confirm(closed).is_ok())
+}
+
+// Whether a lane is refused of which all but its end was taken.
+fn is_refused_without_end(rt: &impl Wait, alloc: Global) -> Result<bool, AllocError> {
+    let (mut sender, mut receiver) = lane::<u32>(alloc, 2)?;
+    let mut goes = sender.send(rt, 7).is_ok();
+    let closed = sender.close(rt, 1);
+    goes &= takes(&mut receiver, &Item::Entry(7));
+    Ok(receiver.confirm(closed).is_err() && goes)
+}
+
+#[test]
+fn a_lane_with_items_left_is_not_confirmed(rt: HostRuntime) -> Result<(), Fail> {
+    assert!(rt; !is_confirmed_unread(&rt, rt.alloc())?);
+    assert!(rt; is_refused_without_end(&rt, rt.alloc())?);
+    Ok(())
+}
+
+// Whether `take` gives what was sent, and `Gone` behind it.
+fn gives_what_was_sent(rt: &impl Wait, alloc: Global) -> Result<bool, AllocError> {
+    let (mut sender, mut receiver) = lane::<u32>(alloc, 1)?;
+    let mut gives = sender.send(rt, 7).is_ok();
+    gives &= receiver.take(rt) == Ok(Item::Entry(7));
+    let closed = sender.close(rt, 1);
+    gives &= receiver.take(rt) == Ok(Item::End(1));
+    gives &= receiver.take(rt) == Err(Gone { value: () });
+    Ok(has_ended(receiver.confirm(closed), Some(1)) && gives)
+}
+
+#[test]
+fn take_gives_what_was_sent(rt: HostRuntime) -> Result<(), Fail> {
+    assert!(rt; gives_what_was_sent(&rt, rt.alloc())?);
+    Ok(())
+}
+
+// Whether a look finds this item, which is then passed.
+fn passes(receiver: &mut Receiver<u32>, wanted: &Item<u32>) -> bool
+    ensures { receiver_lane receiver.new ≡ receiver_lane receiver.old }
+{
+    if receiver.look() != Ok(true) {
+        return false;
+    }
+    match receiver.next() {
+        Some(item) => {
+            let is_wanted = item == wanted;
+            receiver.pass();
+            is_wanted
+        }
+        None => false,
+    }
+}
+
+// Whether a look finds nothing.
+fn sees_nothing(receiver: &mut Receiver<u32>) -> bool
+    ensures { receiver_lane receiver.new ≡ receiver_lane receiver.old }
+{
+    receiver.look() == Ok(false) && receiver.next().is_none()
+}
+
+// Whether looks and waits find what is sent and leave it to be passed, and find `Gone` behind it.
+fn finds_what_was_sent(rt: &impl Wait, alloc: Global) -> Result<bool, AllocError> {
+    let (mut sender, mut receiver) = lane::<u32>(alloc, 2)?;
+    let mut finds = sees_nothing(&mut receiver);
+    finds &= sender.send(rt, 7).is_ok();
+    let closed = sender.close(rt, 1);
+    finds &= receiver.wait(rt) == Ok(());
+    finds &= passes(&mut receiver, &Item::Entry(7));
+    finds &= passes(&mut receiver, &Item::End(1));
+    finds &= receiver.look() == Err(Gone { value: () });
+    finds &= receiver.wait(rt) == Err(Gone { value: () });
+    Ok(has_ended(receiver.confirm(closed), Some(1)) && finds)
+}
+
+#[test]
+fn a_look_leaves_the_item_that_a_pass_takes(rt: HostRuntime) -> Result<(), Fail> {
+    assert!(rt; finds_what_was_sent(&rt, rt.alloc())?);
+    Ok(())
+}
+
+// Whether a lane is refused whose end was seen and not passed.
+fn is_refused_with_seen_end(rt: &impl Wait, alloc: Global) -> Result<bool, AllocError> {
+    let (sender, mut receiver) = lane::<u32>(alloc, 1)?;
+    let closed = sender.close(rt, 0);
+    let sees = receiver.look() == Ok(true);
+    Ok(receiver.confirm(closed).is_err() && sees)
+}
+
+// An item that was seen and not passed is left in the lane.
+#[test]
+fn a_lane_with_a_seen_item_is_not_confirmed(rt: HostRuntime) -> Result<(), Fail> {
+    assert!(rt; is_refused_with_seen_end(&rt, rt.alloc())?);
+    Ok(())
+}
+
+// Whether a sender sees that its receiver was dropped, and leaves all the same.
+fn sees_dropped_receiver(rt: &impl Wait, alloc: Global, leave: Leave) -> Result<bool, AllocError> {
+    let (mut sender, receiver) = lane::<u32>(alloc, 2)?;
+    let mut sees = sender.send(rt, 7).is_ok();
+    drop(receiver);
+    sees &= sender.send(rt, 8) == Err(Gone { value: 8 });
+    let _closed = leave.leave(rt, sender);
+    Ok(sees)
+}
+
+#[test]
+fn a_dropped_receiver_is_seen(rt: HostRuntime) -> Result<(), Fail> {
+    for leave in [Leave::Close(1), Leave::Stop] {
+        assert!(rt; sees_dropped_receiver(&rt, rt.alloc(), leave)?);
+    }
+    Ok(())
+}
+
+// Whether a receiver takes what is left in the lane and then sees that its sender was dropped, by each of its calls.
+fn sees_dropped_sender(rt: &impl Wait, alloc: Global) -> Result<bool, AllocError> {
+    let (mut sender, mut receiver) = lane::<u32>(alloc, 2)?;
+    let mut sees = sender.send(rt, 7).is_ok();
+    drop(sender);
+    sees &= takes(&mut receiver, &Item::Entry(7));
+    sees &= receiver.try_take() == Err(Gone { value: () });
+    sees &= receiver.take(rt) == Err(Gone { value: () });
+    sees &= receiver.try_take() == Err(Gone { value: () });
+    Ok(sees)
+}
+
+#[test]
+fn a_dropped_sender_is_seen(rt: HostRuntime) -> Result<(), Fail> {
+    assert!(rt; sees_dropped_sender(&rt, rt.alloc())?);
+    Ok(())
+}
+
+// Which end of a lane goes first, with an item left in it.
+#[derive(Clone, Copy, Debug)]
+enum First {
+    Receiver,
+    Sender,
+    ClosedSender,
+    Neither,
+}
+
+// Items that a lane is given too: one that is taken, one that is left in it, and one that it refuses where the
+// receiver goes first.
+#[derive(Drop)]
+struct Shared {
+    taken: Rc<u32>,
+    left: Rc<u32>,
+    refused: Rc<u32>,
+}
+
+impl Shared {
+    fn new(alloc: Global) -> Result<Shared, AllocError> {
+        Ok(Shared {
+            taken: Rc::new(alloc, 1)?,
+            left: Rc::new(alloc, 2)?,
+            refused: Rc::new(alloc, 3)?,
+        })
+    }
+
+    // Whether no lane has any of them.
+    fn are_alone(&self) -> bool {
+        Rc::strong_count(&self.taken) == 1
+            && Rc::strong_count(&self.left) == 1
+            && Rc::strong_count(&self.refused) == 1
+    }
+}
+
+// Lets the ends of a lane go. Whether it refuses what comes too late.
+fn leave_ends(
+    rt: &impl Wait,
+    first: First,
+    sender: Sender<Rc<u32>>,
+    receiver: Receiver<Rc<u32>>,
+    refused: Rc<u32>,
+) -> bool
+    requires { receiver_lane receiver ≡ sender_lane sender }
+{
+    let mut sender = sender;
+    match first {
+        First::Receiver => {
+            drop(receiver);
+            sender.send(rt, refused).is_err()
+        }
+        First::Sender => {
+            drop(sender);
+            drop(receiver);
+            true
+        }
+        First::ClosedSender => {
+            let closed = sender.close(rt, 2);
+            drop(receiver);
+            drop(closed);
+            true
+        }
+        First::Neither => receiver.confirm(sender.close(rt, 2)).is_err(),
+    }
+}
+
+// Whether the items go into a lane, one is taken and one is left, and the ends then go.
+fn go_through(
+    rt: &impl Wait,
+    alloc: Global,
+    first: First,
+    items: &Shared,
+) -> Result<bool, AllocError> {
+    let taken = items.taken.clone()?;
+    let left = items.left.clone()?;
+    let refused = items.refused.clone()?;
+    let (mut sender, mut receiver) = lane(alloc, 4)?;
+    let mut go = sender.send(rt, taken).is_ok();
+    go &= sender.send(rt, left).is_ok();
+    go &= receiver.try_take().is_ok();
+    go &= Rc::strong_count(&items.left) == 2;
+    Ok(leave_ends(rt, first, sender, receiver, refused) && go)
+}
+
+// Whether items go through a lane, and each drops out of it.
+fn are_dropped(rt: &impl Wait, alloc: Global, first: First) -> Result<bool, AllocError> {
+    let items = Shared::new(alloc)?;
+    let go = go_through(rt, alloc, first, &items)?;
+    Ok(go && items.are_alone())
+}
+
+// Each item is a second owner of memory of its own, and drops out of it once.
+#[test]
+fn each_item_is_dropped_once(rt: HostRuntime) -> Result<(), Fail> {
+    for first in [
+        First::Receiver,
+        First::Sender,
+        First::ClosedSender,
+        First::Neither,
+    ] {
+        assert!(rt; are_dropped(&rt, rt.alloc(), first)?, "{first:?}");
+    }
+    Ok(())
+}

@@ -1,0 +1,18 @@
+//! What the program `register` does with its words, over any streams and any place for files. The program itself is
+//! the crate `register`, which hands this its arguments, its standard streams and the files of the system.
+#![tactic(auto)]
+
+mod answering;
+mod disk;
+mod help;
+mod opening;
+mod option_values;
+mod places;
+mod refusals;
+mod requests;
+mod telling;
+
+pub use answering::{Answered, answer};
+pub use disk::{Disk, Sink, Source};
+pub use help::HELP;
+pub use places::Places;

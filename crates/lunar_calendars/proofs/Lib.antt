@@ -1,4 +1,5 @@
 pub mod IslamicYears
+pub mod MonthStarts
 pub mod MonthSums
 pub mod NewYears
 pub mod YearLengths

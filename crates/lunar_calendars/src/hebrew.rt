@@ -4,6 +4,7 @@ ghost use Rattle.day_numbers.specs.Rules.{total_days, are_months, year_start, Is
 ghost use Rattle.day_numbers.proofs.DateLemmas.{rules_one_date, rules_have_days};
 ghost use Rattle.lunar_calendars.specs.Hebrew.{is_leap_year, epoch, postponed, new_year_of, days_in_year, year_lengths};
 ghost use Rattle.lunar_calendars.specs.Hebrew.{IsYearLength, months_by_length, hebrew_rules};
+ghost use Rattle.std.specs.Prelude.{ℕ, Bool, slice_index, take};
 
 use day_numbers::rules::{Month, RuledCalendar, Year, date_by_rules, day_by_rules};
 use day_numbers::{ArithmeticCalendar, DateFault, Day, Ymd};
@@ -132,6 +133,29 @@ static REGULAR_LEAP_YEAR: [Month; 13] = months!(heshvan: 29, kislev: 30, 12: 30,
 
 static LONG_LEAP_YEAR: [Month; 13] = months!(heshvan: 30, kislev: 30, 12: 30, 13: 29);
 
+/// The place in a year at which each month begins, and after the last month the length of the year: of a short, a
+/// regular and a long year, and of such leap years.
+#[rattlefmt::skip]
+static STARTS: [[u16; 14]; 6] = [
+    [0, 30, 59, 88, 117, 147, 176, 206, 235, 265, 294, 324, 353, 353],
+    [0, 30, 59, 89, 118, 148, 177, 207, 236, 266, 295, 325, 354, 354],
+    [0, 30, 60, 90, 119, 149, 178, 208, 237, 267, 296, 326, 355, 355],
+    [0, 30, 59, 88, 117, 147, 177, 206, 236, 265, 295, 324, 354, 383],
+    [0, 30, 59, 89, 118, 148, 178, 207, 237, 266, 296, 325, 355, 384],
+    [0, 30, 60, 90, 119, 149, 179, 208, 238, 267, 297, 326, 356, 385],
+];
+
+/// The place in a year of these months at which each of them begins.
+fn starts_of(months: &[Month]) -> &'static [u16; 14]
+    requires { (leap : Bool) × (days : ℕ) × IsYearLength leap days × (months.now ≡ months_by_length leap days) }
+    ensures { (index : ℕ) → index ≤ length months.now
+        → slice_index result.now index ≡ total_days (take index months.now) }
+{
+    let leap = (months.len() == 13) as usize;
+    let days = (months[1].days + months[2].days) as usize;
+    &STARTS[3 * leap + days - 58]
+}
+
 /// The months of a year with so many days, in the order in which they run.
 fn months_of_length(leap: bool, days: u16) -> &'static [Month]
     requires { IsYearLength leap days }
@@ -219,6 +243,14 @@ impl RuledCalendar for Hebrew {
 
     fn year_with(&self, day: i64) -> Year {
         year_of_day((day - EPOCH) as u32)
+    }
+
+    fn month_at(&self, year: Year, place: u16) -> (u8, u8) {
+        let starts = starts_of(year.months);
+        // No month has more than 30 days, and all have about as many: this is the index of the month or one less.
+        let least = place as usize / 30;
+        let index = least + (place >= starts[least + 1]) as usize;
+        (year.months[index].number, (place - starts[index]) as u8 + 1)
     }
 }
 

@@ -1,5 +1,5 @@
 -- Each day lies in the year of weeks of its week's Thursday.
-use Rattle.std.proofs.Common.{◌≡◌, ℕ, zero, suc, ◌+◌, ◌-◌, ◌*◌, ◌/◌, ◌%◌, ◌≤◌, Option, Some, None, IsSome, IfSome, cond}
+use Rattle.std.proofs.Common.{◌≡◌, ℕ, zero, suc, ◌+◌, ◌-◌, ◌*◌, ◌/◌, ◌≤◌, Option, Some, None, IsSome, IfSome, cond}
 use Rattle.std.proofs.Common.{refl, sym, ap, ◌∙◌, arith, ℤ, pos, negsuc, ◌+ℤ◌, ◌≤ℤ◌, ◌<ℤ◌}
 use Rattle.day_numbers.specs.Days.{IsDayNumber}
 use Rattle.day_numbers.specs.Rules.{with_zero, year_start, year_length}
@@ -52,15 +52,27 @@ pub in_week_year : (n m y : ℤ) → m ≡ monday_on_or_before n → year_start 
 unfolding week_year_start
 in_week_year n m y e low high = omega (arith, signed_arith, e, low, high, january y, length_is y)
 
--- and has at most 53 weeks
-pub short_year : (y : ℤ) → week_year_start (y +ℤ pos 1) ≤ℤ (week_year_start y +ℤ pos 371)
+-- the Thursday of its week is as many whole weeks after the first Thursday of that year
+weeks_after : (n m y : ℤ) (p : ℕ) → m ≡ monday_on_or_before n → year_start gregorian_rules y +ℤ pos p ≡ m +ℤ pos 3
+    → week_year_start y +ℤ pos (7 * (p / 7)) ≡ m
 unfolding week_year_start
-short_year y = omega (arith, signed_arith, january y, leap_small y)
+weeks_after n m y p e s = omega (arith, signed_arith, e, s)
 
--- the week date from the place in the year
-pub week_date_is : (n y s : ℤ) (p : ℕ) → (week_year_start y ≤ℤ n) × (n <ℤ week_year_start (y +ℤ pos 1))
-    → s ≡ week_year_start y → s +ℤ pos p ≡ n
-    → IsWeekDate y (p / 7 + 1) (p % 7 + 1) × (week_day_number y (p / 7 + 1) (p % 7 + 1) ≡ n)
-week_date_is n y s p h e k =
-    let number : week_day_number y (p / 7 + 1) (p % 7 + 1) ≡ n = omega (arith, signed_arith, e, k) in
-    ((omega arith, omega arith, omega arith, rw number h.1), number)
+-- a week has seven days from its Monday on
+pub from_monday : (n m : ℤ) → m ≡ monday_on_or_before n → (m ≤ℤ n) × (n <ℤ (m +ℤ pos 7))
+from_monday n m e = omega (arith, signed_arith, e)
+
+pub year_short : (y : ℤ) → year_length gregorian_rules y ≤ 366
+year_short y = omega (arith, length_is y, leap_small y)
+
+-- the week date from the places of the Thursday in its year and of the day in its week
+pub week_date_is : (n m y : ℤ) (p d : ℕ) → m ≡ monday_on_or_before n → year_start gregorian_rules y ≤ℤ (m +ℤ pos 3)
+    → (m +ℤ pos 3) <ℤ (year_start gregorian_rules y +ℤ pos (year_length gregorian_rules y))
+    → year_start gregorian_rules y +ℤ pos p ≡ m +ℤ pos 3 → m +ℤ pos d ≡ n
+    → IsWeekDate y (p / 7 + 1) (d + 1) × (week_day_number y (p / 7 + 1) (d + 1) ≡ n)
+week_date_is n m y p d e low high s r =
+    let weeks = weeks_after n m y p e s in
+    let days = from_monday n m e in
+    let number : week_day_number y (p / 7 + 1) (d + 1) ≡ n = omega (arith, signed_arith, weeks, r) in
+    let year = in_week_year n m y e low high in
+    ((omega arith, omega arith, omega (arith, signed_arith, days, r), rw number year.1), number)

@@ -64,18 +64,7 @@ fn number_of_week_date(date: Ymd) -> Option<i64>
     }
 }
 
-/// The year of weeks that a day lies in: the Gregorian year of the Thursday of its week.
-fn week_year_on(day: i64) -> i32
-    requires { IsDayNumber day }
-    ensures after { start result ≤ℤ day }
-    ensures before { day <ℤ start (result +ℤ pos 1) }
-    ensures near { IsYear result }
-{
-    let monday = monday_on_or_before(day);
-    year_on(monday + 3)
-}
-
-/// How many days of a year of weeks lie before a day of it; `first` is the year's first day.
+/// How many days lie before a day, counted from the day `first` on.
 fn days_before(day: i64, first: i64) -> u16
     requires in_range { IsDayNumber day }
     requires from { first ≤ℤ day }
@@ -93,9 +82,13 @@ fn week_date_on(day: Day) -> Option<Ymd>
         × (week_day_number date.year date.month date.day ≡ day.number)) }
 {
     let number = day.number();
-    let year = week_year_on(number);
-    let days = days_before(number, first_of_week_year(year as i64));
-    Ymd::new(year, (days / 7) as u8 + 1, (days % 7) as u8 + 1)
+    let monday = monday_on_or_before(number);
+    // A week lies in the Gregorian year of its Thursday, and week 1 is the one with the first Thursday of the year.
+    let thursday = monday + 3;
+    let year = year_on(thursday);
+    let week = days_before(thursday, first_of_year(year as i64)) / 7 + 1;
+    let weekday = days_before(number, monday) + 1;
+    Ymd::new(year, week as u8, weekday as u8)
 }
 
 impl ArithmeticCalendar for IsoWeek {

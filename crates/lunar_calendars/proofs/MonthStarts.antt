@@ -1,9 +1,9 @@
 -- Where the months of a Hebrew year begin, and which one a place in the year lies in.
 use Rattle.std.proofs.Common.{◌≡◌, ℕ, zero, suc, ◌+◌, ◌-◌, ◌*◌, ◌/◌, ◌<◌, ◌≤◌, Bool, true, false, List, [], ◌∷◌, length}
-use Rattle.std.proofs.Common.{IsTrue, refl, sym, ap, ◌∙◌, arith, add-one, ◌⊎◌, inl, inr, take, get_or, cond, leb, ℤ, pos, negsuc}
+use Rattle.std.proofs.Common.{IsTrue, refl, ap, arith, add-one, ◌⊎◌, inl, inr, take, get_or, cond, leb, ℤ, pos, negsuc}
 use Rattle.std.specs.Prelude.{slice_index}
 use mir.Val.{bool_byte}
-use Rattle.std.proofs.lemmas.Bool.{cases_eq, cases_lt}
+use Rattle.std.proofs.lemmas.Bool.{cases_lt}
 use Rattle.std.proofs.lemmas.Bool.Decides.{nat_tests}
 use Rattle.day_numbers.specs.declared.rules.Month.{Month}
 use Rattle.day_numbers.specs.Rules.{HasYear, from_one, total_days, days_of_month, days_before_month, has_number}
@@ -190,5 +190,6 @@ placed_by y ms starts place index has e numbers inside starts_are i =
     let by = by_length y ms has e in
     let evens : AreEven ms = rw by.3 (even by.0 by.1) in
     let few : length ms ≤ 13 = rw by.3 (twelve by.0 by.1) in
-    let at = holds ms place index (slice_index starts (place / 30 + 1)) evens few inside (starts_are (place / 30 + 1)) i in
+    let at =
+    holds ms place index (slice_index starts (place / 30 + 1)) evens few inside (starts_are (place / 30 + 1)) i in
     placed ms place index (slice_index starts index) evens numbers at (starts_are index (omega (arith, at.inside)))

@@ -1,10 +1,9 @@
 ghost use Rattle.std.specs.Prelude.{◌≡◌, ◌≤◌, ◌<◌, ◌+◌, pos, ◌+ℤ◌, ◌-ℤ◌, ◌≤ℤ◌, ◌<ℤ◌, IsTrue, length};
-ghost use Rattle.std.specs.Prelude.{Contains, not, ◌&&◌, ◌||◌, ◌==◌, if◌then◌else◌};
+ghost use Rattle.std.specs.Prelude.{ℕ, Bool, Contains, not, ◌&&◌, ◌||◌, ◌==◌, if◌then◌else◌, slice_index, take};
 ghost use Rattle.day_numbers.specs.Rules.{total_days, are_months, year_start, IsDateOf, day_number_of, first_day_of};
 ghost use Rattle.day_numbers.proofs.DateLemmas.{rules_one_date, rules_have_days};
 ghost use Rattle.lunar_calendars.specs.Hebrew.{is_leap_year, epoch, postponed, new_year_of, days_in_year, year_lengths};
 ghost use Rattle.lunar_calendars.specs.Hebrew.{IsYearLength, months_by_length, hebrew_rules};
-ghost use Rattle.std.specs.Prelude.{ℕ, Bool, slice_index, take};
 
 use day_numbers::rules::{Month, RuledCalendar, Year, date_by_rules, day_by_rules};
 use day_numbers::{ArithmeticCalendar, DateFault, Day, Ymd};
@@ -30,13 +29,6 @@ const NOON: u32 = 19_440;
 
 /// Weekdays are counted from Sunday as 0.
 const MONDAY: u32 = 1;
-
-fn is_leap(year: u32) -> bool
-    requires { year ≤ 100_000 }
-    ensures { result ≡ is_leap_year year }
-{
-    (7 * year + 1) % 19 < 7
-}
 
 /// By how many days a year is put off whose molad is on this weekday, and from which time of that day on it is.
 ///
@@ -101,9 +93,10 @@ fn days_of_year(year: u32) -> u16
     (new_year(year + 1) - new_year(year)) as u16
 }
 
-/// The months of a year with so many days in Heshvan (8), in Kislev (9) and in the months of Adar.
+/// The months of a year with so many days in Heshvan (8), in Kislev (9) and in the months of Adar. In a common year a
+/// month 13 of no days follows them, which is none of the year's months.
 macro_rules! months {
-    (heshvan: $heshvan:literal, kislev: $kislev:literal, $($adar:literal: $days:literal),+) => {
+    (heshvan: $heshvan:literal, kislev: $kislev:literal, $($adar:literal: $days:literal),+ $(; no $none:literal)?) => {
         [
             Month { number: 7, days: 30 },
             Month { number: 8, days: $heshvan },
@@ -117,24 +110,22 @@ macro_rules! months {
             Month { number: 4, days: 29 },
             Month { number: 5, days: 30 },
             Month { number: 6, days: 29 },
+            $(Month { number: $none, days: 0 },)?
         ]
     };
 }
 
-static SHORT_YEAR: [Month; 12] = months!(heshvan: 29, kislev: 29, 12: 29);
+/// The months of a short, a regular and a long year, which are the first 12, and the 13 months of such leap years.
+static YEARS: [[Month; 13]; 6] = [
+    months!(heshvan: 29, kislev: 29, 12: 29; no 13),
+    months!(heshvan: 29, kislev: 30, 12: 29; no 13),
+    months!(heshvan: 30, kislev: 30, 12: 29; no 13),
+    months!(heshvan: 29, kislev: 29, 12: 30, 13: 29),
+    months!(heshvan: 29, kislev: 30, 12: 30, 13: 29),
+    months!(heshvan: 30, kislev: 30, 12: 30, 13: 29),
+];
 
-static REGULAR_YEAR: [Month; 12] = months!(heshvan: 29, kislev: 30, 12: 29);
-
-static LONG_YEAR: [Month; 12] = months!(heshvan: 30, kislev: 30, 12: 29);
-
-static SHORT_LEAP_YEAR: [Month; 13] = months!(heshvan: 29, kislev: 29, 12: 30, 13: 29);
-
-static REGULAR_LEAP_YEAR: [Month; 13] = months!(heshvan: 29, kislev: 30, 12: 30, 13: 29);
-
-static LONG_LEAP_YEAR: [Month; 13] = months!(heshvan: 30, kislev: 30, 12: 30, 13: 29);
-
-/// The place in a year at which each month begins, and after the last month the length of the year: of a short, a
-/// regular and a long year, and of such leap years.
+/// The place in the year at which each of these months begins, and at the end the length of the year.
 #[rattlefmt::skip]
 static STARTS: [[u16; 14]; 6] = [
     [0, 30, 59, 88, 117, 147, 176, 206, 235, 265, 294, 324, 353, 353],
@@ -152,29 +143,22 @@ fn starts_of(months: &[Month]) -> &'static [u16; 14]
         → slice_index result.now index ≡ total_days (take index months.now) }
 {
     let leap = (months.len() == 13) as usize;
+    // Heshvan and Kislev have 58 days in a short year, 59 in a regular one and 60 in a long one.
     let days = (months[1].days + months[2].days) as usize;
     &STARTS[3 * leap + days - 58]
 }
 
 /// The months of a year with so many days, in the order in which they run.
-fn months_of_length(leap: bool, days: u16) -> &'static [Month]
-    requires { IsYearLength leap days }
-    ensures value { result.now ≡ months_by_length leap days }
+fn months_of_length(days: u16) -> &'static [Month]
+    requires { (leap : Bool) × IsYearLength leap days }
+    ensures value { (leap : Bool) → IsYearLength leap days → result.now ≡ months_by_length leap days }
     ensures few { length result.now ≤ 13 }
     ensures numbered { IsTrue (are_months result.now) }
 {
-    if leap {
-        match days {
-            383 => &SHORT_LEAP_YEAR,
-            384 => &REGULAR_LEAP_YEAR,
-            _ => &LONG_LEAP_YEAR,
-        }
+    if days < 383 {
+        &YEARS[(days - 353) as usize][..12]
     } else {
-        match days {
-            353 => &SHORT_YEAR,
-            354 => &REGULAR_YEAR,
-            _ => &LONG_YEAR,
-        }
+        &YEARS[(days - 380) as usize]
     }
 }
 
@@ -198,7 +182,7 @@ fn year_between(number: u32, start: u32, end: u32) -> Year
     Year {
         number: number as i32,
         start: EPOCH + start as i64,
-        months: months_of_length(is_leap(number), (end - start) as u16),
+        months: months_of_length((end - start) as u16),
     }
 }
 
@@ -247,7 +231,7 @@ impl RuledCalendar for Hebrew {
 
     fn month_at(&self, year: Year, place: u16) -> (u8, u8) {
         let starts = starts_of(year.months);
-        // No month has more than 30 days, and all have about as many: this is the index of the month or one less.
+        // Every month has 30 days or one less, so that this is the index of the month or one less.
         let least = place as usize / 30;
         let index = least + (place >= starts[least + 1]) as usize;
         (year.months[index].number, (place - starts[index]) as u8 + 1)

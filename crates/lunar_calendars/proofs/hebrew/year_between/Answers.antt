@@ -2,6 +2,7 @@ use Rattle.std.proofs.Common.{ap, arith}
 use Rattle.std.proofs.lemmas.Int.{ints}
 use Rattle.day_numbers.proofs.SignedArithmetic.{signed_arith}
 use Rattle.day_numbers.specs.Rules.{total_days}
+use Rattle.lunar_calendars.specs.Hebrew.{is_leap_year}
 use Rattle.lunar_calendars.proofs.YearLengths.{difference_is, days_at_most, length_of_year, year_start_is, total}
 use Rattle.lunar_calendars.proofs.YearLengths.{end_of_year}
 use Rattle.lunar_calendars.proofs.hebrew.year_between.Goals as goal
@@ -14,7 +15,7 @@ overflow_cast-end c =
 pub months_of_length-requires : goal.months_of_length-requires
 months_of_length-requires c =
     let days = difference_is c.args.number c.args.start c.args.end c.requires.low c.requires.opens c.requires.ends in
-    rw (days, c.is_leap.ensures) (length_of_year c.args.number c.requires.low)
+    rw days (is_leap_year c.args.number, length_of_year c.args.number c.requires.low)
 
 pub returns-clause-first : goal.returns-clause-first
 returns-clause-first c =
@@ -23,16 +24,17 @@ returns-clause-first c =
 pub returns-clause-months : goal.returns-clause-months
 returns-clause-months c =
     let days = difference_is c.args.number c.args.start c.args.end c.requires.low c.requires.opens c.requires.ends in
-    rw (days, c.is_leap.ensures) at c.months_of_length.ensures.value
+    let months = rw days at c.months_of_length.ensures.value in
+    months (is_leap_year c.args.number) (length_of_year c.args.number c.requires.low)
 
 pub returns-clause-days : goal.returns-clause-days
 returns-clause-days c =
     let days = difference_is c.args.number c.args.start c.args.end c.requires.low c.requires.opens c.requires.ends in
-    let months = rw (days, c.is_leap.ensures) at c.months_of_length.ensures.value in
+    let months = rw days at c.months_of_length.ensures.value in
     omega (
       arith,
       signed_arith,
-      ap total_days months,
+      ap total_days (months (is_leap_year c.args.number) (length_of_year c.args.number c.requires.low)),
       total c.args.number c.requires.low,
       end_of_year c.args.number c.requires.low,
       c.requires.opens,

@@ -36,48 +36,23 @@ pub(crate) fn day_of_body(body: &Body) -> Result<Day, Refusal>
     }
 }
 
-/// Fills an empty list with the cells of an outcome: one for each target on a day, and none with a
-/// refusal. The list is lent, since it is large.
-fn fill(cells: &mut ShortList<CellText>, targets: &[Target], outcome: Result<Day, Refusal>)
-    requires empty { items_in cells.old ≡ [] }
+/// Makes a list the cells of an outcome: one for each target on a day, and none with a refusal. The list is lent, since it
+/// is large.
+#[inline(never)]
+pub(crate) fn fill(
+    cells: &mut ShortList<CellText>,
+    targets: &[Target],
+    outcome: Result<Day, Refusal>,
+)
     requires few { length targets.now ≤ MAX_TARGETS }
     ensures { AreCells targets.now (outcome_seen outcome) (map cell_bytes (items_in cells.new)) }
 {
+    cells.clear();
     let Ok(day) = outcome else {
         return;
     };
     for target in targets {
         cells.push_cell(*target, day);
-    }
-}
-
-/// The row of an entry for no target. A function would give it back by a copy, and it is large.
-macro_rules! bare_row {
-    ($entry:expr) => {
-        $crate::rows::Row {
-            outcome: $crate::converting::day_of_body($entry.body()),
-            entry: $entry,
-            targets: $crate::short_lists::ShortList::new(date_texts::Target::Haab),
-            cells: $crate::short_lists::ShortList::new($crate::cell_texts::CellText::copied("")),
-        }
-    };
-}
-
-pub(crate) use bare_row;
-
-impl Row {
-    /// Makes a row for no target one for the setup's targets, where it lies.
-    #[inline(never)]
-    pub(crate) fn widen(&mut self, setup: &Setup)
-        requires bare { (row_targets self.old ≡ []) × (items_in self.old.cells ≡ []) }
-        ensures kept { (self.new.entry ≡ self.old.entry) × (self.new.outcome ≡ self.old.outcome) }
-        ensures targets { row_targets self.new ≡ targets_of setup.now }
-        ensures cells { AreCells (targets_of setup.now) (outcome_seen self.old.outcome)
-            (map cell_bytes (items_in self.new.cells)) }
-    {
-        let outcome = self.outcome;
-        fill(&mut self.cells, setup.targets(), outcome);
-        self.targets = setup.target_list();
     }
 }
 
@@ -90,7 +65,14 @@ pub fn convert(entry: Entry, setup: &Setup) -> Row
     ensures targets { row_targets result ≡ targets_of setup.now }
     ensures row { IsRowOf (targets_of setup.now) (entry_seen entry) (row_seen result) }
 {
-    let mut row = bare_row!(entry);
-    row.widen(setup);
+    let outcome = day_of_body(entry.body());
+    let mut row = Row {
+        entry,
+        outcome,
+        targets: ShortList::new(Target::Haab),
+        cells: ShortList::new(CellText::copied("")),
+    };
+    fill(&mut row.cells, setup.targets(), outcome);
+    row.targets = setup.target_list();
     row
 }

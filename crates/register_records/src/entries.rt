@@ -1,6 +1,6 @@
 //! An entry, and how it is made of a record.
 
-ghost use Rattle.std.specs.Prelude.{◌≡◌, ◌≤◌, ◌↔◌, [], length, IfSome, IsSome, IsTrue};
+ghost use Rattle.std.specs.Prelude.{◌≡◌, ◌≤◌, ◌↔◌, [], length, IfSome, IsSome, IsOk, IsTrue};
 ghost use Rattle.std.specs.Prelude.{true, false};
 ghost use Rattle.std.specs.Str.{is_utf8};
 ghost use Rattle.csv.specs.Records.{fields_of};
@@ -65,16 +65,22 @@ impl Entry {
         Some(Entry { number, body })
     }
 
-    /// The entry of a record.
-    pub(crate) fn read(number: u32, row: &ByteRecord, form: Form) -> Entry
+    /// An entry before any was read.
+    pub(crate) fn blank() -> Entry {
+        Entry {
+            number: 1,
+            body: Body::blank(),
+        }
+    }
+
+    /// Makes this entry that of a record, where it lies: an entry is large.
+    pub(crate) fn set(&mut self, number: u32, row: &ByteRecord, form: Form)
         requires from_one { 1 ≤ number }
         requires limited { number ≤ record_limit }
-        ensures { (result.number ≡ number) × (body_seen result.body ≡ body_of form (fields_of row.now)) }
+        ensures { (self.new.number ≡ number) × (body_seen self.new.body ≡ body_of form (fields_of row.now)) }
     {
-        Entry {
-            number,
-            body: read_body(row, form),
-        }
+        self.number = number;
+        self.body.set(row, form);
     }
 
     /// The number, from 1 to 1,000,000.
@@ -107,16 +113,16 @@ fn is_allowed(body: &Body) -> bool
     }
 }
 
-/// Copies a field to an empty text, where it is UTF-8, and says whether it is.
+/// Copies a field to a text, where it is UTF-8, and says whether it is.
 #[inline(always)]
 fn copies<const N: usize>(copy: &mut ArrayString<N>, field: &[u8]) -> bool
-    requires empty { copy.old.bytes ≡ [] }
     requires fits { length field.now ≤ N }
     ensures is_text { result ≡ is_utf8 field.now }
     ensures copied { result ≡ true → copy.new.bytes ≡ field.now }
 {
     match str::from_utf8(field) {
         Ok(text) => {
+            copy.clear();
             copy.push_str(text);
             true
         }
@@ -124,41 +130,52 @@ fn copies<const N: usize>(copy: &mut ArrayString<N>, field: &[u8]) -> bool
     }
 }
 
-/// The body of a record.
-fn read_body(row: &ByteRecord, form: Form) -> Body
-    ensures value { body_seen result ≡ body_of form (fields_of row.now) }
-    ensures held { IsTrue (may_hold result) }
-{
-    // The texts are copied to where they stay, and the body leaves at one place: else it would be copied once more.
-    let mut body = Body::Fields {
-        id: ArrayString::new(),
-        calendar: ArrayString::new(),
-        date: ArrayString::new(),
-        note: ArrayString::new(),
-    };
-    match columns_in(row, form) {
-        Some(columns) => {
-            if columns.id.len() > ID_LIMIT
-                || columns.calendar.len() > CALENDAR_LIMIT
-                || columns.date.len() > DATE_LIMIT
-                || columns.note.len() > NOTE_LIMIT
-            {
-                body = Body::Refused(Refusal::FieldTooLong);
-            } else if let Body::Fields {
-                id,
-                calendar,
-                date,
-                note,
-            } = &mut body
-                && !(copies(id, columns.id)
-                    && copies(calendar, columns.calendar)
-                    && copies(date, columns.date)
-                    && copies(note, columns.note))
-            {
-                body = Body::Refused(Refusal::NotUtf8);
-            }
+impl Body {
+    /// A body of empty texts.
+    fn blank() -> Body
+        ensures texts { IsOk (body_seen result) }
+        ensures held { IsTrue (may_hold result) }
+    {
+        Body::Fields {
+            id: ArrayString::new(),
+            calendar: ArrayString::new(),
+            date: ArrayString::new(),
+            note: ArrayString::new(),
         }
-        None => body = Body::Refused(Refusal::FieldCount),
     }
-    body
+
+    /// Makes this body that of a record.
+    fn set(&mut self, row: &ByteRecord, form: Form)
+        ensures value { body_seen self.new ≡ body_of form (fields_of row.now) }
+        ensures held { IsTrue (may_hold self.new) }
+    {
+        let Some(columns) = columns_in(row, form) else {
+            *self = Body::Refused(Refusal::FieldCount);
+            return;
+        };
+        if columns.id.len() > ID_LIMIT
+            || columns.calendar.len() > CALENDAR_LIMIT
+            || columns.date.len() > DATE_LIMIT
+            || columns.note.len() > NOTE_LIMIT
+        {
+            *self = Body::Refused(Refusal::FieldTooLong);
+            return;
+        }
+        if matches!(self, Body::Refused(_)) {
+            *self = Body::blank();
+        }
+        if let Body::Fields {
+            id,
+            calendar,
+            date,
+            note,
+        } = self
+            && !(copies(id, columns.id)
+                && copies(calendar, columns.calendar)
+                && copies(date, columns.date)
+                && copies(note, columns.note))
+        {
+            *self = Body::Refused(Refusal::NotUtf8);
+        }
+    }
 }

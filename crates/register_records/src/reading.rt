@@ -157,23 +157,24 @@ fn keep(given: &mut Vec<Snapshot<Entry>>, entry: &Entry) -> bool
     given.push(Snapshot::of(entry)).is_ok()
 }
 
-/// Reads the entry after so many, or finds that the records end as the form wants it. After a seal it asks for one more
-/// record.
+/// Reads the entry after so many to where it stays, and says whether there was one: else the records end as the form
+/// wants it. After a seal it asks for one more record.
 #[inline(always)]
 fn read_entry<R: Read>(
     records: &mut Reader<Retrying<R>>,
     row: &mut ByteRecord,
     form: Form,
     count: u32,
-) -> Result<Option<Entry>, EntryFault>
+    entry: &mut Entry,
+) -> Result<bool, EntryFault>
     requires live { HasBegun records.old }
     requires few { count ≤ record_limit }
     ensures live { OnOk result (HasBegun records.new) }
-    ensures gives { IfOk result (λ o.
-        IfSome o (Gives form count (records_left (inner_remaining R.remaining) records.old)
-        (records_left (inner_remaining R.remaining) records.new))) }
-    ensures number { IfOk result (λ o. IfSome o (λ e. (e.number ≡ count + 1) × (e.number ≤ record_limit))) }
-    ensures ends { result ≡ Ok None
+    ensures gives { result ≡ Ok true
+        → Gives form count (records_left (inner_remaining R.remaining) records.old)
+        (records_left (inner_remaining R.remaining) records.new) entry.new }
+    ensures number { result ≡ Ok true → (entry.new.number ≡ count + 1) × (entry.new.number ≤ record_limit) }
+    ensures ends { result ≡ Ok false
         → IfSome (records_left (inner_remaining R.remaining) records.old) (EndsAt form count) }
     ensures many { IfErr result (λ e. e ≡ EntryFault.TooManyRecords → (count ≡ record_limit)
         × IfSome (records_left (inner_remaining R.remaining) records.old) (HasEntry form)) }
@@ -184,16 +185,17 @@ fn read_entry<R: Read>(
 {
     if !read_record(records, row)? {
         return match form {
-            Form::Plain => Ok(None),
+            Form::Plain => Ok(false),
             Form::Sealed => Err(EntryFault::NotSealed),
         };
     }
     if form == Form::Sealed && is_seal(row) {
         read_behind_seal(records, row, count)?;
-        return Ok(None);
+        return Ok(false);
     }
     let number = number_after(count)?;
-    Ok(Some(Entry::read(number, row, form)))
+    entry.set(number, row, form);
+    Ok(true)
 }
 
 impl<R: Read + Drop> EntryReader<R> {
@@ -243,6 +245,48 @@ impl<R: Read + Drop> EntryReader<R> {
         })
     }
 
+    /// Reads the next entry to where it stays, and says whether there was one; it is `next` without a copy of the entry.
+    pub(crate) fn read_next(&mut self, entry: &mut Entry) -> Result<bool, EntryFault>
+        ensures gives { result ≡ Ok true → given_of self.new ≡ given_of self.old ++ entry_seen entry.new ∷ [] }
+        ensures number { result ≡ Ok true
+            → (entry.new.number ≡ length (given_of self.old) + 1) × (entry.new.number ≤ record_limit) }
+        ensures kept { OnErr result (given_of self.new ≡ given_of self.old) }
+        ensures text { (text_of self.new ≡ text_of self.old) × (reads_by self.new ≡ reads_by self.old) }
+        ensures all { result ≡ Ok false
+            → ∥ IfSome (text_of self.new) (λ text. HasEntries (reads_by self.new) text (given_of self.new)) ∥₁ }
+        ensures many { IfErr result (λ e. e ≡ EntryFault.TooManyRecords → (length (given_of self.old) ≡ record_limit)
+            × ∥ IfSome (text_of self.new) (λ text. HasTooMany (reads_by self.new) text) ∥₁) }
+        ensures not_sealed { IfErr result (λ e. e ≡ EntryFault.NotSealed → ((reads_by self.new).form ≡ Form.Sealed)
+            × ∥ IfSome (text_of self.new) (λ text. IsNotSealed (reads_by self.new) text) ∥₁) }
+        ensures ends { result ≡ Ok false → (self.new.done ≡ true) × (given_of self.new ≡ given_of self.old) }
+        ensures ended { self.old.failed ≡ false → self.old.done ≡ true → (result ≡ Ok false) × (self.new ≡ self.old) }
+        ensures only_failed { self.old.failed ≡ false → IfErr result (λ e. e ≡ EntryFault.Failed → ⊥) }
+        ensures no_header { IfErr result (λ e. e ≡ EntryFault.BadHeader → ⊥) }
+        ensures failed { self.old.failed ≡ true → (result ≡ Err EntryFault.Failed) × (self.new ≡ self.old) }
+        ensures fails { self.new.failed ≡ is_err result }
+        ensures read_fault { IfErr result (λ e. e ≡ EntryFault.ReadFault → has_failed self.new.records ≡ true) }
+    {
+        if self.failed {
+            return Err(EntryFault::Failed);
+        }
+        if self.done {
+            return Ok(false);
+        }
+        let count = self.given.len() as u32;
+        let answer = read_entry(&mut self.records, &mut self.record, self.form, count, entry);
+        match answer {
+            Ok(true) => {
+                if !keep(&mut self.given, entry) {
+                    self.failed = true;
+                    return Err(EntryFault::OutOfMemory);
+                }
+            }
+            Ok(false) => self.done = true,
+            Err(_) => self.failed = true,
+        }
+        answer
+    }
+
     /// The next entry, or `None` at the end of the text, and again after it.
     ///
     /// # Errors
@@ -276,25 +320,11 @@ impl<R: Read + Drop> EntryReader<R> {
         ensures fails { self.new.failed ≡ is_err result }
         ensures read_fault { IfErr result (λ e. e ≡ EntryFault.ReadFault → has_failed self.new.records ≡ true) }
     {
-        if self.failed {
-            return Err(EntryFault::Failed);
+        let mut entry = Entry::blank();
+        match self.read_next(&mut entry) {
+            Ok(true) => Ok(Some(entry)),
+            Ok(false) => Ok(None),
+            Err(fault) => Err(fault),
         }
-        if self.done {
-            return Ok(None);
-        }
-        let count = self.given.len() as u32;
-        let answer = read_entry(&mut self.records, &mut self.record, self.form, count);
-        // The answer is looked at where it lies, since an entry is large.
-        match &answer {
-            Ok(Some(entry)) => {
-                if !keep(&mut self.given, entry) {
-                    self.failed = true;
-                    return Err(EntryFault::OutOfMemory);
-                }
-            }
-            Ok(None) => self.done = true,
-            Err(_) => self.failed = true,
-        }
-        answer
     }
 }

@@ -48,6 +48,13 @@ impl<T: Copy> ShortList<T> {
         &self.places[..self.count as usize]
     }
 
+    /// Lets the items go.
+    pub fn clear(&mut self)
+        ensures { items_in self.new ≡ [] }
+    {
+        self.count = 0;
+    }
+
     /// Appends an item.
     pub fn push(&mut self, item: T)
         requires { length (items_in self.old) < MAX_TARGETS }

@@ -12,7 +12,8 @@ ghost use Rattle.register_records.specs.declared.setups.Form.TheVariants.{Sealed
 ghost use Rattle.register_records.specs.Views.{format_of, given_of, layout_of, line_of, row_seen, text_of};
 ghost use Rattle.register_records.specs.Views.{writes_by};
 
-use crate::converting::bare_row;
+use crate::converting::{convert, day_of_body, fill};
+use crate::entries::Entry;
 use crate::outputs::Output;
 use crate::reading::EntryReader;
 use crate::rows::Row;
@@ -148,7 +149,8 @@ fn write_row<W: Output>(
     }
 }
 
-/// Converts the next entry and writes its row. The answer is its number, or `None` at the end of the text.
+/// Converts the next entry and writes its row, which is made where the one before it lay. The answer is its number, or
+/// `None` at the end of the text.
 ///
 /// # Errors
 ///
@@ -159,6 +161,7 @@ fn convert_next<R: Read + Drop, W: Output>(
     journal: &mut Vec<Note>,
     output: &mut W,
     setup: &Setup,
+    row: &mut Row,
 ) -> Result<Option<u32>, Cause>
     requires ready { AreReady (format_of setup.now) entries.old writer.old }
     ensures ready { OnOk result (AreReady (format_of setup.now) entries.new writer.new) }
@@ -188,15 +191,18 @@ fn convert_next<R: Read + Drop, W: Output>(
     ensures never { IfErr result (λ c. (c ≢ Cause.NoThread) × (c ≢ Cause.Unconfirmed) × (c ≢ Cause.BadHeader)) }
     ensures mark { W.own_mark output.new ≡ W.own_mark output.old }
 {
-    let entry = match entries.next() {
-        Ok(Some(entry)) => entry,
-        Ok(None) => return Ok(None),
+    let answer = entries.read_next(&mut row.entry);
+    // Whatever was read, the row is now made that of its entry.
+    let outcome = day_of_body(row.entry.body());
+    fill(&mut row.cells, setup.targets(), outcome);
+    row.outcome = outcome;
+    row.targets = setup.target_list();
+    match answer {
+        Ok(true) => (),
+        Ok(false) => return Ok(None),
         Err(fault) => return Err(told(fault.cause())),
-    };
-    // The row is made where it stays: `convert` would give it back by a copy.
-    let mut row = bare_row!(entry);
-    row.widen(setup);
-    match write_row(writer, journal, output, &row) {
+    }
+    match write_row(writer, journal, output, row) {
         Ok(()) => Ok(Some(row.entry().number())),
         Err(cause) => Err(cause),
     }
@@ -240,8 +246,9 @@ fn convert_entries<R: Read + Drop, W: Output>(
 {
     let mut journal = Vec::new(alloc);
     let mut rows = 0;
+    let mut row = convert(Entry::blank(), setup);
     'entries: loop {
-        match convert_next(entries, writer, &mut journal, output, setup) {
+        match convert_next(entries, writer, &mut journal, output, setup, &mut row) {
             Ok(Some(number)) => rows = number,
             Ok(None) => {
                 return SourceEnd::Whole {

@@ -1,5 +1,5 @@
 use Rattle.std.proofs.Common.{◌≡◌, ◌<◌, ◌∙◌, ap, arith, length, refl, rules, sym}
-use Rattle.std.proofs.Common.{Some, None}
+use Rattle.std.proofs.Common.{false, true}
 use Rattle.register_records.specs.Entries.{record_limit}
 use Rattle.register_records.specs.ReadingState.{records_left}
 use Rattle.register_records.specs.Retrying.{inner_remaining}
@@ -7,7 +7,7 @@ use Rattle.register_records.specs.ReadingState.{entries_shown, format_by}
 use Rattle.register_records.specs.Views.{given_of}
 use Rattle.register_records.proofs.GivenFacts.{may-all, may-end, may-ended, may-fail, may-first, may-lack, may-many}
 use Rattle.register_records.proofs.GivenFacts.{may-more, shown-length}
-use Rattle.register_records.proofs.reading.EntryReader.next.Goals as goal
+use Rattle.register_records.proofs.reading.EntryReader.read_next.Goals as goal
 
 pub returns-then-self-2-clause-all : goal.returns-then-self-2-clause-all
 returns-then-self-2-clause-all g c _ =
@@ -31,9 +31,9 @@ invariant_of-self-else-not-keep g c =
     let self = c.args.self.now in
     let more = c.keep.ensures.kept c.if-not-keep.false in
     let longer = c.keep.ensures.len c.if-not-keep.false in
-    let some : c.in-Ok-Some.field-0 ≡ Some c.in-Ok-Some.entry = search rules in
-    let gives = rw (c.in-Ok-Some.is, some) at c.read_entry-answer.ensures.gives in
-    let number = rw (c.in-Ok-Some.is, some) at c.read_entry-answer.ensures.number in
+    let found : c.in-Ok-true.field-0 ≡ true = search rules in
+    let gives = (rw found at c.in-Ok-true.ensures.gives) refl in
+    let number = (rw found at c.in-Ok-true.ensures.number) refl in
     let room : length self.given.items < record_limit = omega (arith, number.0, number.1, c.len-count.ensures) in
     let stands =
     may-more (g.R.Read.remaining self.source.value) (format_by self.delimiter self.form) self.failed self.done
@@ -41,19 +41,19 @@ invariant_of-self-else-not-keep g c =
     (given_of self) self.stands c.if-self.false c.if-self-2.false c.len-count.result
     (omega (arith, c.len-count.ensures, shown-length self.given.items))
     (records_left (inner_remaining g.R.Read.remaining) c.read_entry-answer.new.records)
-    (entries_shown c.keep.new.given.items) c.in-Ok-Some.entry gives (omega (arith, number.0, number.1)) more in
+    (entries_shown c.keep.new.given.items) c.read_entry-answer.new.entry gives (omega (arith, number.0, number.1)) more in
     record {
-      live = λ _. rw c.in-Ok-Some.is at c.read_entry-answer.ensures.live;
+      live = λ _. c.in-Ok-true.ensures.live;
       few = omega (arith, longer, room);
       stands = stands;
       first = may-first _ _ _ _ _ _ stands;
     }
 
-pub invariant_of-self-in-Ok-None-clause-stands : goal.invariant_of-self-in-Ok-None-clause-stands
-invariant_of-self-in-Ok-None-clause-stands g c =
+pub invariant_of-self-in-Ok-false-clause-stands : goal.invariant_of-self-in-Ok-false-clause-stands
+invariant_of-self-in-Ok-false-clause-stands g c =
     let self = c.args.self.now in
-    let none : c.in-Ok-None.field-0 ≡ None = search rules in
-    let ends = (rw (c.in-Ok-None.is, none) at c.read_entry-answer.ensures.ends) refl in
+    let none : c.in-Ok-false.field-0 ≡ false = search rules in
+    let ends = (rw none at c.in-Ok-false.ensures.ends) refl in
     may-end (g.R.Read.remaining self.source.value) (format_by self.delimiter self.form) self.failed self.done
     (records_left (inner_remaining g.R.Read.remaining) self.records)
     (given_of self) self.stands c.if-self.false c.if-self-2.false c.len-count.result
@@ -67,10 +67,10 @@ invariant_of-self-in-Err-clause-stands g c =
     (records_left (inner_remaining g.R.Read.remaining) self.records) (given_of self) self.stands _
     (given_of self) refl
 
-pub returns-in-Ok-None-clause-all : goal.returns-in-Ok-None-clause-all
-returns-in-Ok-None-clause-all g c e =
+pub returns-in-Ok-false-clause-all : goal.returns-in-Ok-false-clause-all
+returns-in-Ok-false-clause-all g c e =
     let self = c.args.self.now in
-    let ends = c.read_entry-answer.ensures.ends e in
+    let ends = c.in-Ok-false.ensures.ends e in
     may-all (g.R.Read.remaining self.source.value) (format_by self.delimiter self.form) self.failed self.done
     (records_left (inner_remaining g.R.Read.remaining) self.records)
     (given_of self) self.stands c.if-self.false c.if-self-2.false c.len-count.result

@@ -6,6 +6,7 @@ pub mod EntrySteps
 pub mod GivenFacts
 pub mod StepFacts
 pub mod CellFacts
+pub mod BareFacts
 pub mod LineFacts
 pub mod OutcomeFacts
 pub mod Progress

@@ -36,44 +36,41 @@ use Rattle.register_records.specs.declared.setups.Form.{Form}
 abbrev pub body : ℕ → List (List ℕ) → List ℕ
 body d fields = row_body (writing d) fields
 
-pub one-more : (d : ℕ) (fields : List (List ℕ)) (field old mid new : List ℕ) → 1 ≤ length fields → old ≡ body d fields
-    → mid ≡ old ++ d ∷ [] → new ≡ mid ++ field_text (writing d) field → new ≡ body d (fields ++ field ∷ [])
-one-more d [] field old mid new some is m n = absurd (omega arith)
-one-more d (f ∷ fs) field old mid new some is m n =
-    rw (
-      n,
-      m,
-      is,
-      fields-snoc (writing d) fs field,
-      append_assoc (field_text (writing d) f ++ fields_text (writing d) fs) (d ∷ []) (field_text (writing d) field),
-    )
-    (append_assoc (field_text (writing d) f) (fields_text (writing d) fs) (d ∷ field_text (writing d) field))
+pub one-more : (d : ℕ) (before : List ℕ) (fields : List (List ℕ)) (field old mid new : List ℕ) → 1 ≤ length fields
+    → old ≡ before ++ body d fields → mid ≡ old ++ d ∷ [] → new ≡ mid ++ field_text (writing d) field
+    → new ≡ before ++ body d (fields ++ field ∷ [])
+one-more d before [] field old mid new some is m n = absurd (omega arith)
+one-more d before (f ∷ fs) field old mid new some is m n =
+    rw (n, m, is, fields-snoc (writing d) fs field) (simp append_assoc refl)
 
 -- a field that needs no quotes
 pub plain-text : (d : ℕ) (field : List ℕ) → needs_quotes (writing d) field ≡ false
     → field_text (writing d) field ≡ field
 plain-text d field h = rw h refl
 
-pub only-field : (d : ℕ) (field bytes : List ℕ) → needs_quotes (writing d) field ≡ false → bytes ≡ field
-    → bytes ≡ body d (field ∷ [])
+pub only-field : (d : ℕ) (before field bytes : List ℕ) → needs_quotes (writing d) field ≡ false
+    → bytes ≡ before ++ field → bytes ≡ before ++ body d (field ∷ [])
 unfolding fields_text
-only-field d field bytes h e = e ∙ rw (plain-text d field h) (sym (append-nil field))
+only-field d before field bytes h e =
+    e ∙ ap (λ (t : List ℕ). before ++ t) (rw (plain-text d field h) (sym (append-nil field)))
 
 -- a line of two fields or more is never blank
-pub ended : (d : ℕ) (fields : List (List ℕ)) (old new : List ℕ) → 2 ≤ length fields → old ≡ body d fields
-    → new ≡ old ++ 10 ∷ [] → new ≡ line_text d fields
+pub ended : (d : ℕ) (before : List ℕ) (fields : List (List ℕ)) (old new : List ℕ) → 2 ≤ length fields
+    → old ≡ before ++ body d fields → new ≡ old ++ 10 ∷ [] → new ≡ before ++ line_text d fields
 unfolding is_blank
-ended d [] old new some is n = absurd (omega arith)
-ended d (a ∷ []) old new some is n = absurd (omega arith)
-ended d (a ∷ b ∷ rest) old new some is n = rw (n, is) refl
+ended d before [] old new some is n = absurd (omega arith)
+ended d before (a ∷ []) old new some is n = absurd (omega arith)
+ended d before (a ∷ b ∷ rest) old new some is n =
+    rw (n, is) (append_assoc before (body d (a ∷ b ∷ rest)) (10 ∷ []))
 
 -- one more of the fields that the items of a list give
-pub one-item : {X : Type 0} (f : X → List ℕ) (d : ℕ) (first : List (List ℕ)) (xs : List X) (i : ℕ) (e : X)
-    (field new : List ℕ) → i < length xs → field ≡ f (get_or xs i e)
-    → new ≡ body d ((first ++ map f (take i xs)) ++ field ∷ []) → new ≡ body d (first ++ map f (take (i + 1) xs))
-one-item f d first xs i e field new lt is n =
-    n ∙ ap (body d) (rw (take_more xs i e lt, map-append f (take i xs) (get_or xs i e ∷ []), is)
-    (append_assoc first _ _))
+pub one-item : {X : Type 0} (f : X → List ℕ) (d : ℕ) (before : List ℕ) (first : List (List ℕ)) (xs : List X) (i : ℕ)
+    (e : X) (field new : List ℕ) → i < length xs → field ≡ f (get_or xs i e)
+    → new ≡ before ++ body d ((first ++ map f (take i xs)) ++ field ∷ [])
+    → new ≡ before ++ body d (first ++ map f (take (i + 1) xs))
+one-item f d before first xs i e field new lt is n =
+    n ∙ ap (λ (fields : List (List ℕ)). before ++ body d fields)
+    (rw (take_more xs i e lt, map-append f (take i xs) (get_or xs i e ∷ []), is) (append_assoc first _ _))
 
 -- more fields
 more-fields-text : (d : ℕ) (fields more : List (List ℕ))
@@ -85,12 +82,12 @@ more-fields-text d (f ∷ fields) more =
     (ap (λ (t : List ℕ). field_text (writing d) f ++ t) (more-fields-text d fields more)
     ∙ sym (append_assoc (field_text (writing d) f) (fields_text (writing d) fields) (fields_text (writing d) more)))
 
-pub more-fields : (d : ℕ) (fields more : List (List ℕ)) (old new : List ℕ) → 1 ≤ length fields → old ≡ body d fields
-    → new ≡ old ++ fields_text (writing d) more → new ≡ body d (fields ++ more)
-more-fields d [] more old new some is n = absurd (omega arith)
-more-fields d (f ∷ fields) more old new some is n =
-    rw (n, is, more-fields-text d fields more)
-    (append_assoc (field_text (writing d) f) (fields_text (writing d) fields) (fields_text (writing d) more))
+pub more-fields : (d : ℕ) (before : List ℕ) (fields more : List (List ℕ)) (old new : List ℕ) → 1 ≤ length fields
+    → old ≡ before ++ body d fields → new ≡ old ++ fields_text (writing d) more
+    → new ≡ before ++ body d (fields ++ more)
+more-fields d before [] more old new some is n = absurd (omega arith)
+more-fields d before (f ∷ fields) more old new some is n =
+    rw (n, is, more-fields-text d fields more) (simp append_assoc refl)
 
 -- one more cell that needs no quotes
 pub one-more-cell : (d : ℕ) (cells : List CellText) (i : ℕ) (e : CellText) (bytes : List ℕ) → i < length cells
@@ -187,13 +184,13 @@ pub weekday-name : (w : Weekday) (n : ℤ) → slice_get all_weekdays (weekday_n
 weekday-name w n e = rw e refl
 
 -- equal fields
-pub same-body : (d : ℕ) (fields wanted : List (List ℕ)) (bytes : List ℕ) → fields ≡ wanted → bytes ≡ body d fields
-    → bytes ≡ body d wanted
-same-body d fields wanted bytes e h = h ∙ ap (body d) e
+pub same-body : (d : ℕ) (before : List ℕ) (fields wanted : List (List ℕ)) (bytes : List ℕ) → fields ≡ wanted
+    → bytes ≡ before ++ body d fields → bytes ≡ before ++ body d wanted
+same-body d before fields wanted bytes e h = h ∙ ap (λ (fields : List (List ℕ)). before ++ body d fields) e
 
-pub same-line : (d e : ℕ) (fields wanted : List (List ℕ)) (bytes : List ℕ) → d ≡ e → fields ≡ wanted
-    → bytes ≡ line_text d fields → bytes ≡ line_text e wanted
-same-line d e fields wanted bytes p q h = rw (← p, ← q) h
+pub same-line : (d e : ℕ) (before : List ℕ) (fields wanted : List (List ℕ)) (bytes : List ℕ) → d ≡ e
+    → fields ≡ wanted → bytes ≡ before ++ line_text d fields → bytes ≡ before ++ line_text e wanted
+same-line d e before fields wanted bytes p q h = rw (← p, ← q) h
 
 -- two more fields
 pub two-more : (fields : List (List ℕ)) (x y a b : List ℕ) → x ≡ a → y ≡ b

@@ -6,14 +6,14 @@ use Rattle.register_records.specs.Entries.{Format, Numbered}
 use Rattle.register_records.specs.Outcomes.{TableRow}
 use Rattle.register_records.specs.Sources.{IsTableOf}
 use Rattle.register_records.specs.Tables.{Layout, journal_of}
-use Rattle.register_records.specs.Views.{reads_by, writes_by}
+use Rattle.register_records.specs.Views.{reads_by, waiting_in, writes_by}
 use Rattle.register_records.specs.declared.reading.EntryReader.{EntryReader}
 use Rattle.register_records.specs.declared.sources.Note.{Note}
 use Rattle.register_records.specs.declared.writing.RowWriter.{RowWriter}
 
 -- a writer that has not failed, and that no line waits in
 abbrev pub IsReady : RowWriter → Type 0
-IsReady writer = (writer.failed ≡ false) × (writer.pending.items ≡ [])
+IsReady writer = (writer.failed ≡ false) × (waiting_in writer ≡ [])
 
 -- a reader and a writer of this format, between two rows
 abbrev pub AreReady : {R : Type 0} {g : Ghosts R} → Format → EntryReader R g → RowWriter → Type 0

@@ -14,6 +14,7 @@ pub mod Outputs
 pub mod Views
 pub mod Laws
 pub mod LineRoom
+pub mod BareTexts
 pub mod LineViews
 pub mod ReadingState
 pub mod Conversions

@@ -1,24 +1,27 @@
--- What a clause sees of a `Line`. No public contract cites this file.
-use Rattle.std.specs.Prelude.{◌≡◌, ℕ, List, ◌∷◌, codes, vec_len}
+-- What a clause sees of `Lines`. No public contract cites this file.
+use Rattle.std.specs.Prelude.{◌≡◌, ℕ, List, ◌∷◌, ◌++◌, codes, vec_capacity, vec_len}
 use Rattle.std.specs.Fmt.{decimal}
 use Rattle.csv.specs.Writing.{row_body}
 use Rattle.register_records.specs.Lines.{writing}
 use Rattle.register_records.specs.Outcomes.{TableRow}
 use Rattle.register_records.specs.Tables.{note_fields, text_fields}
-use Rattle.register_records.specs.declared.lines.Line.{Line}
+use Rattle.register_records.specs.declared.lines.Lines.{Lines}
 use Rattle.register_records.specs.declared.setups.Form.{Form}
 
--- its bytes so far
-abbrev pub line_bytes : Line → List ℕ
-line_bytes line = line.bytes.items
+-- their bytes so far
+abbrev pub line_bytes : Lines → List ℕ
+line_bytes lines = lines.bytes.items
 
--- how many they are
-abbrev pub line_len : Line → ℕ
-line_len line = vec_len line.bytes
+-- how many they are, and for how many there is memory
+abbrev pub line_len : Lines → ℕ
+line_len lines = vec_len lines.bytes
 
--- the byte between two of its fields
-abbrev pub line_delimiter : Line → ℕ
-line_delimiter line = line.delimiter
+abbrev pub line_capacity : Lines → ℕ
+line_capacity lines = vec_capacity lines.bytes
+
+-- the byte between two fields
+abbrev pub line_delimiter : Lines → ℕ
+line_delimiter lines = lines.delimiter
 
 -- the columns that a heading begins with: those that a table has of the records
 abbrev pub entry_heading : Form → List (List ℕ)
@@ -28,6 +31,6 @@ entry_heading form = codes "row" ∷ codes "id" ∷ codes "calendar" ∷ codes "
 abbrev pub entry_fields : Form → TableRow → List (List ℕ)
 entry_fields form row = decimal row.number ∷ text_fields form row.body
 
--- its bytes so far are these fields, with the delimiter between two of them
-abbrev pub Begins : List (List ℕ) → Line → Type 0
-Begins fields line = line.bytes.items ≡ row_body (writing line.delimiter) fields
+-- the bytes so far are those that stood before, and then these fields with the delimiter between two of them
+abbrev pub Begins : List ℕ → List (List ℕ) → Lines → Type 0
+Begins before fields lines = lines.bytes.items ≡ before ++ row_body (writing lines.delimiter) fields

@@ -46,7 +46,11 @@ row_seen row = row_made row.entry row.outcome (items_in row.cells)
 
 -- how a writer writes lines
 abbrev pub writes_by : RowWriter → Format
-writes_by w = record { delimiter = w.line.delimiter; form = w.form }
+writes_by w = record { delimiter = w.lines.delimiter; form = w.form }
+
+-- the bytes of the lines that wait to be sent
+abbrev pub waiting_in : RowWriter → List ℕ
+waiting_in w = w.lines.bytes.items
 
 -- the line that it makes of a row
 abbrev pub line_of : RowWriter → Row → List ℕ

@@ -2,8 +2,10 @@
 
 ghost use Rattle.std.specs.Prelude.{◌≡◌, ◌≤◌, ◌↔◌, [], length, IfSome, IsSome, IsOk, IsTrue};
 ghost use Rattle.std.specs.Prelude.{true, false};
+ghost use Rattle.std.specs.List.{list_any};
 ghost use Rattle.std.specs.Str.{is_utf8};
 ghost use Rattle.csv.specs.Records.{fields_of};
+ghost use Rattle.register_records.specs.BareTexts.{has_special, is_special_byte};
 ghost use Rattle.register_records.specs.Entries.{body_of, body_seen, may_hold, record_limit};
 
 use crate::columns::columns_in;
@@ -45,10 +47,13 @@ pub enum Body {
 #[derive(Clone, Copy)]
 pub struct Entry {
     number: u32,
+    // Whether the texts were looked through, and hold no byte that calls for quotes in any table.
+    bare: bool,
     body: Body,
     ghost from_one: { 1 ≤ number },
     ghost limited: { number ≤ record_limit },
     ghost held: { IsTrue (may_hold body) },
+    ghost bared: { bare ≡ true → has_special (body_seen body) ≡ false },
 }
 
 impl Entry {
@@ -62,13 +67,18 @@ impl Entry {
         if number == 0 || number > MAX_RECORDS || !is_allowed(&body) {
             return None;
         }
-        Some(Entry { number, body })
+        Some(Entry {
+            number,
+            bare: false,
+            body,
+        })
     }
 
     /// An entry before any was read.
     pub(crate) fn blank() -> Entry {
         Entry {
             number: 1,
+            bare: false,
             body: Body::blank(),
         }
     }
@@ -80,6 +90,7 @@ impl Entry {
         ensures { (self.new.number ≡ number) × (body_seen self.new.body ≡ body_of form (fields_of row.now)) }
     {
         self.number = number;
+        self.bare = is_bare(row.as_slice());
         self.body.set(row, form);
     }
 
@@ -91,6 +102,13 @@ impl Entry {
         self.number
     }
 
+    /// Whether the texts are known to hold no byte that calls for quotes in a table, whatever its delimiter.
+    pub(crate) fn is_bare(&self) -> bool
+        ensures { result ≡ true → has_special (body_seen self.now.body) ≡ false }
+    {
+        self.bare
+    }
+
     /// The body.
     pub fn body(&self) -> &Body
         ensures value { result.now ≡ self.now.body }
@@ -98,6 +116,24 @@ impl Entry {
     {
         &self.body
     }
+}
+
+/// Whether a byte calls for quotes in some table: a delimiter, a quote, or one that ends a line.
+fn is_special(byte: u8) -> bool
+    ensures { result ≡ is_special_byte byte }
+{
+    matches!(byte, b',' | b';' | b'\t' | b'"' | b'\r' | b'\n')
+}
+
+/// Whether no byte of a text calls for quotes. It goes on to the end, since a loop of one length is fast.
+fn is_bare(text: &[u8]) -> bool
+    ensures { result ≡ true → list_any is_special_byte text.now ≡ false }
+{
+    let mut bare = true;
+    'bytes: for byte in text {
+        bare &= !is_special(*byte);
+    }
+    bare
 }
 
 /// Whether an entry may have this body.

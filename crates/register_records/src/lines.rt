@@ -1,4 +1,4 @@
-//! A line of a table, as csv's writer would write it.
+//! The lines of a table, as csv's writer would write them.
 //!
 //! The writer of `csv` is made anew for each record and moves a buffer of 8 KiB several times, which
 //! costs more than all else in a row. A line by hand into memory that is used again takes a twentieth.
@@ -30,13 +30,12 @@ const CELL_ROOM: usize = 1 + MAX_CELL;
 /// What stands in the room of a row's cells before they do.
 static BLANKS: [u8; MAX_TARGETS * CELL_ROOM] = [0; MAX_TARGETS * CELL_ROOM];
 
-/// A line while its fields are appended, in memory that serves again for the next line.
+/// Lines that wait, and the fields so far of one more behind them, in memory that serves again.
 #[derive(Drop)]
-pub(crate) struct Line {
+pub(crate) struct Lines {
     bytes: Vec<u8>,
     delimiter: u8,
     ghost separated: { is_delimiter delimiter ≡ true },
-    ghost roomy: { LINE_ROOM ≤ vec_capacity bytes },
 }
 
 /// Whether a field with this byte must be quoted.
@@ -112,16 +111,18 @@ fn put_cell(room: &mut [u8], at: usize, delimiter: u8, cell: &CellText) -> usize
     at + 1 + cell.len()
 }
 
-impl Line {
-    ghost use Rattle.register_records.specs.LineViews.{Begins, line_bytes, line_delimiter, line_len};
+impl Lines {
+    ghost use Rattle.register_records.specs.LineViews.{Begins, line_bytes, line_delimiter, line_len, line_capacity};
 
-    /// A line of no field, whose fields this delimiter will separate.
-    pub fn new(alloc: Global, delimiter: u8) -> Result<Line, AllocError>
+    /// No line yet, in memory for so many bytes. This delimiter will separate the fields.
+    pub fn new(alloc: Global, delimiter: u8, room: usize) -> Result<Lines, AllocError>
         requires { is_delimiter delimiter ≡ true }
-        ensures { IfOk result (λ line. line_delimiter line ≡ delimiter) }
+        ensures delimiter { IfOk result (λ lines. line_delimiter lines ≡ delimiter) }
+        ensures none { IfOk result (λ lines. line_bytes lines ≡ []) }
+        ensures room { IfOk result (λ lines. room ≤ line_capacity lines) }
     {
-        let bytes = Vec::with_capacity(alloc, LINE_ROOM)?;
-        Ok(Line { bytes, delimiter })
+        let bytes = Vec::with_capacity(alloc, room)?;
+        Ok(Lines { bytes, delimiter })
     }
 
     /// The bytes so far.
@@ -129,6 +130,13 @@ impl Line {
         ensures { result.now ≡ line_bytes self.now }
     {
         self.bytes.as_slice()
+    }
+
+    /// How many they are.
+    pub fn len(&self) -> usize
+        ensures { result ≡ length (line_bytes self.now) }
+    {
+        self.bytes.len()
     }
 
     /// The byte between two fields.
@@ -139,15 +147,35 @@ impl Line {
         self.delimiter
     }
 
-    /// Lets the fields go, and begins a line with this one, which needs no quotes.
-    pub fn start(&mut self, field: &[u8]) -> Result<(), AllocError>
-        requires { Spec.needs_quotes (writing (line_delimiter self.old)) field.now ≡ false }
-        ensures value { OnOk result (Begins (field.now ∷ []) self.new) }
+    /// Lets the lines go, and keeps their memory.
+    pub fn clear(&mut self)
+        ensures none { line_bytes self.new ≡ [] }
         ensures kept { line_delimiter self.new ≡ line_delimiter self.old }
-        ensures room { length field.now ≤ LINE_ROOM → IsOk result }
-        ensures grows { OnOk result (line_len self.new ≤ length field.now) }
+        ensures capacity { line_capacity self.new ≡ line_capacity self.old }
     {
         self.bytes.clear();
+    }
+
+    /// Takes memory for one more line of a row, where there is not enough.
+    pub fn reserve_line(&mut self) -> Result<(), AllocError>
+        ensures value { line_bytes self.new ≡ line_bytes self.old }
+        ensures kept { line_delimiter self.new ≡ line_delimiter self.old }
+        ensures room { OnOk result (line_len self.new + LINE_ROOM ≤ line_capacity self.new) }
+        ensures capacity { line_capacity self.old ≤ line_capacity self.new }
+        ensures roomy { line_len self.old + LINE_ROOM ≤ line_capacity self.old → IsOk result }
+    {
+        self.bytes.reserve(LINE_ROOM)
+    }
+
+    /// Begins a line with this field, which needs no quotes.
+    pub fn start(&mut self, field: &[u8]) -> Result<(), AllocError>
+        requires { Spec.needs_quotes (writing (line_delimiter self.old)) field.now ≡ false }
+        ensures value { OnOk result (Begins (line_bytes self.old) (field.now ∷ []) self.new) }
+        ensures kept { line_delimiter self.new ≡ line_delimiter self.old }
+        ensures room { line_len self.old + length field.now ≤ line_capacity self.old → IsOk result }
+        ensures grows { OnOk result (line_len self.new ≤ line_len self.old + length field.now) }
+        ensures capacity { line_capacity self.old ≤ line_capacity self.new }
+    {
         self.bytes.extend_from_slice(field)?;
         Ok(())
     }
@@ -155,11 +183,12 @@ impl Line {
     /// Appends a field that needs no quotes.
     pub fn push_plain(&mut self, field: &[u8]) -> Result<(), AllocError>
         requires { Spec.needs_quotes (writing (line_delimiter self.old)) field.now ≡ false }
-        ensures value { (fields : List (List ℕ)) → 1 ≤ length fields → Begins fields self.old
-            → OnOk result (Begins (fields ++ field.now ∷ []) self.new) }
+        ensures value { (before : List ℕ) (fields : List (List ℕ)) → 1 ≤ length fields → Begins before fields self.old
+            → OnOk result (Begins before (fields ++ field.now ∷ []) self.new) }
         ensures kept { line_delimiter self.new ≡ line_delimiter self.old }
-        ensures room { line_len self.old + (1 + length field.now) ≤ LINE_ROOM → IsOk result }
+        ensures room { line_len self.old + (1 + length field.now) ≤ line_capacity self.old → IsOk result }
         ensures grows { OnOk result (line_len self.new ≤ line_len self.old + (1 + length field.now)) }
+        ensures capacity { line_capacity self.old ≤ line_capacity self.new }
     {
         self.bytes.push(self.delimiter)?;
         self.bytes.extend_from_slice(field)?;
@@ -168,15 +197,33 @@ impl Line {
 
     /// Appends a field, quoted where it must be.
     pub fn push(&mut self, field: &[u8]) -> Result<(), AllocError>
-        ensures value { (fields : List (List ℕ)) → 1 ≤ length fields → Begins fields self.old
-            → OnOk result (Begins (fields ++ field.now ∷ []) self.new) }
+        ensures value { (before : List ℕ) (fields : List (List ℕ)) → 1 ≤ length fields → Begins before fields self.old
+            → OnOk result (Begins before (fields ++ field.now ∷ []) self.new) }
         ensures kept { line_delimiter self.new ≡ line_delimiter self.old }
-        ensures room { line_len self.old + (1 + field_room (length field.now)) ≤ LINE_ROOM → IsOk result }
+        ensures room { line_len self.old + (1 + field_room (length field.now)) ≤ line_capacity self.old → IsOk result }
         ensures grows { OnOk result (line_len self.new ≤ line_len self.old + (1 + field_room (length field.now))) }
+        ensures capacity { line_capacity self.old ≤ line_capacity self.new }
     {
         self.bytes.push(self.delimiter)?;
         push_field(&mut self.bytes, self.delimiter, field)?;
         Ok(())
+    }
+
+    /// Appends a text, which is looked through for bytes that call for quotes unless it is known to have none.
+    pub fn push_text(&mut self, text: &[u8], bare: bool) -> Result<(), AllocError>
+        requires { bare ≡ true → Spec.needs_quotes (writing (line_delimiter self.old)) text.now ≡ false }
+        ensures value { (before : List ℕ) (fields : List (List ℕ)) → 1 ≤ length fields → Begins before fields self.old
+            → OnOk result (Begins before (fields ++ text.now ∷ []) self.new) }
+        ensures kept { line_delimiter self.new ≡ line_delimiter self.old }
+        ensures room { line_len self.old + (1 + field_room (length text.now)) ≤ line_capacity self.old → IsOk result }
+        ensures grows { OnOk result (line_len self.new ≤ line_len self.old + (1 + field_room (length text.now))) }
+        ensures capacity { line_capacity self.old ≤ line_capacity self.new }
+    {
+        if bare {
+            self.push_plain(text)
+        } else {
+            self.push(text)
+        }
     }
 
     /// Appends the cells of a row, which need no quotes.
@@ -184,11 +231,12 @@ impl Line {
         requires few { length cells.now ≤ MAX_TARGETS }
         requires plain { (i : ℕ) (e : CellText) → i < length cells.now
             → Spec.needs_quotes (writing (line_delimiter self.old)) (cell_bytes (get_or cells.now i e)) ≡ false }
-        ensures value { (fields : List (List ℕ)) → 1 ≤ length fields → Begins fields self.old
-            → OnOk result (Begins (fields ++ map cell_bytes cells.now) self.new) }
+        ensures value { (before : List ℕ) (fields : List (List ℕ)) → 1 ≤ length fields → Begins before fields self.old
+            → OnOk result (Begins before (fields ++ map cell_bytes cells.now) self.new) }
         ensures kept { line_delimiter self.new ≡ line_delimiter self.old }
-        ensures room { line_len self.old + cell_room * length cells.now ≤ LINE_ROOM → IsOk result }
+        ensures room { line_len self.old + cell_room * length cells.now ≤ line_capacity self.old → IsOk result }
         ensures grows { OnOk result (line_len self.new ≤ line_len self.old + cell_room * length cells.now) }
+        ensures capacity { line_capacity self.old ≤ line_capacity self.new }
     {
         // The cells are written where they stay, and the room that they leave goes.
         let delimiter = self.delimiter;
@@ -206,11 +254,12 @@ impl Line {
 
     /// Ends a line of two fields or more.
     pub fn end(&mut self) -> Result<(), AllocError>
-        ensures value { (fields : List (List ℕ)) → 2 ≤ length fields → Begins fields self.old
-            → OnOk result (line_bytes self.new ≡ line_text (line_delimiter self.old) fields) }
+        ensures value { (before : List ℕ) (fields : List (List ℕ)) → 2 ≤ length fields → Begins before fields self.old
+            → OnOk result (line_bytes self.new ≡ before ++ line_text (line_delimiter self.old) fields) }
         ensures kept { line_delimiter self.new ≡ line_delimiter self.old }
-        ensures room { line_len self.old + 1 ≤ LINE_ROOM → IsOk result }
+        ensures room { line_len self.old + 1 ≤ line_capacity self.old → IsOk result }
         ensures grows { OnOk result (line_len self.new ≤ line_len self.old + 1) }
+        ensures capacity { line_capacity self.old ≤ line_capacity self.new }
     {
         self.bytes.push(b'\n')?;
         Ok(())

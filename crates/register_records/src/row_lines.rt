@@ -1,11 +1,12 @@
 //! The lines of a table: its heading and its rows.
 
-ghost use Rattle.std.specs.Prelude.{◌≡◌, ◌≤◌, ◌+◌, ◌∷◌, ◌++◌, [], ℕ, List, length, IsOk, OnOk, Ok, Err};
+ghost use Rattle.std.specs.Prelude.{◌≡◌, ◌≤◌, ◌+◌, ◌∷◌, ◌++◌, [], ℕ, List, length, IsOk, OnOk, Ok, Err, true, false};
+ghost use Rattle.csv.specs.Writing.{needs_quotes};
 ghost use Rattle.register_records.specs.Entries.{body_seen};
 ghost use Rattle.register_records.specs.LineRoom.{entry_room, field_room};
 ghost use Rattle.register_records.specs.LineViews.{Begins, entry_fields, entry_heading, line_bytes};
-ghost use Rattle.register_records.specs.LineViews.{line_delimiter, line_len};
-ghost use Rattle.register_records.specs.Lines.{line_text};
+ghost use Rattle.register_records.specs.LineViews.{line_capacity, line_delimiter, line_len};
+ghost use Rattle.register_records.specs.Lines.{line_text, writing};
 ghost use Rattle.register_records.specs.Tables.{heading, note_fields, row_fields, text_fields};
 ghost use Rattle.register_records.specs.Views.{row_seen, row_targets};
 ghost use Rattle.register_records.specs.declared.entries.TheConstants.{CALENDAR_LIMIT, DATE_LIMIT, ID_LIMIT};
@@ -13,7 +14,7 @@ ghost use Rattle.register_records.specs.declared.entries.TheConstants.{NOTE_LIMI
 ghost use Rattle.register_records.specs.declared.lines.TheConstants.{LINE_ROOM};
 
 use crate::entries::Body;
-use crate::lines::Line;
+use crate::lines::Lines;
 use crate::rows::Row;
 use crate::setups::Form;
 use date_texts::laws::cells_are_plain;
@@ -41,117 +42,136 @@ fn texts_of(body: &Body) -> (&str, &str, &str, &str)
 }
 
 /// Appends what stands in the column of notes, where the form has one.
-fn push_note(line: &mut Line, form: Form, note: &[u8]) -> Result<(), AllocError>
-    ensures value { (fields : List (List ℕ)) → 1 ≤ length fields → Begins fields line.old
-        → OnOk result (Begins (fields ++ note_fields form note.now) line.new) }
-    ensures kept { line_delimiter line.new ≡ line_delimiter line.old }
-    ensures room { line_len line.old + (1 + field_room (length note.now)) ≤ LINE_ROOM → IsOk result }
-    ensures grows { OnOk result (line_len line.new ≤ line_len line.old + (1 + field_room (length note.now))) }
+fn push_note(lines: &mut Lines, form: Form, note: &[u8], bare: bool) -> Result<(), AllocError>
+    requires { bare ≡ true → needs_quotes (writing (line_delimiter lines.old)) note.now ≡ false }
+    ensures value { (before : List ℕ) (fields : List (List ℕ)) → 1 ≤ length fields → Begins before fields lines.old
+        → OnOk result (Begins before (fields ++ note_fields form note.now) lines.new) }
+    ensures kept { line_delimiter lines.new ≡ line_delimiter lines.old }
+    ensures room { line_len lines.old + (1 + field_room (length note.now)) ≤ line_capacity lines.old → IsOk result }
+    ensures grows { OnOk result (line_len lines.new ≤ line_len lines.old + (1 + field_room (length note.now))) }
+    ensures capacity { line_capacity lines.old ≤ line_capacity lines.new }
 {
     match form {
         Form::Plain => Ok(()),
-        Form::Sealed => line.push(note),
+        Form::Sealed => lines.push_text(note, bare),
     }
 }
 
 /// Begins the line of the heading: the columns of the entries.
-fn begin_heading(line: &mut Line, form: Form) -> Result<(), AllocError>
-    ensures value { OnOk result (Begins (entry_heading form) line.new) }
-    ensures kept { line_delimiter line.new ≡ line_delimiter line.old }
+fn begin_heading(lines: &mut Lines, form: Form) -> Result<(), AllocError>
+    ensures value { OnOk result (Begins (line_bytes lines.old) (entry_heading form) lines.new) }
+    ensures kept { line_delimiter lines.new ≡ line_delimiter lines.old }
+    ensures capacity { line_capacity lines.old ≤ line_capacity lines.new }
 {
-    line.start(b"row")?;
-    line.push_plain(b"id")?;
-    line.push_plain(b"calendar")?;
-    line.push_plain(b"date")?;
-    push_note(line, form, b"note")?;
+    lines.start(b"row")?;
+    lines.push_plain(b"id")?;
+    lines.push_plain(b"calendar")?;
+    lines.push_plain(b"date")?;
+    push_note(lines, form, b"note", false)?;
     Ok(())
 }
 
-/// Makes the line of the heading.
+/// Appends the line of the heading.
 pub(crate) fn make_heading(
-    line: &mut Line,
+    lines: &mut Lines,
     form: Form,
     targets: &[Target],
 ) -> Result<(), AllocError>
-    ensures value { OnOk result (line_bytes line.new ≡ line_text (line_delimiter line.old) (heading form targets.now)) }
-    ensures kept { line_delimiter line.new ≡ line_delimiter line.old }
+    ensures value { OnOk result (line_bytes lines.new
+        ≡ line_bytes lines.old ++ line_text (line_delimiter lines.old) (heading form targets.now)) }
+    ensures kept { line_delimiter lines.new ≡ line_delimiter lines.old }
+    ensures capacity { line_capacity lines.old ≤ line_capacity lines.new }
 {
-    begin_heading(line, form)?;
-    line.push_plain(b"rd")?;
-    line.push_plain(b"weekday")?;
+    begin_heading(lines, form)?;
+    lines.push_plain(b"rd")?;
+    lines.push_plain(b"weekday")?;
     'targets: for target in targets {
-        line.push(target.name().as_bytes())?;
+        lines.push(target.name().as_bytes())?;
     }
-    line.push_plain(b"refusal")?;
-    line.end()?;
+    lines.push_plain(b"refusal")?;
+    lines.end()?;
     Ok(())
 }
 
 /// Begins the line of a row: its number and its texts.
-fn begin_line(line: &mut Line, form: Form, row: &Row) -> Result<(), AllocError>
-    ensures value { OnOk result (Begins (entry_fields form (row_seen row.now)) line.new) }
-    ensures kept { line_delimiter line.new ≡ line_delimiter line.old }
+fn begin_line(lines: &mut Lines, form: Form, row: &Row) -> Result<(), AllocError>
+    requires { line_len lines.old + LINE_ROOM ≤ line_capacity lines.old }
+    ensures value { OnOk result (Begins (line_bytes lines.old) (entry_fields form (row_seen row.now)) lines.new) }
+    ensures kept { line_delimiter lines.new ≡ line_delimiter lines.old }
     ensures room { IsOk result }
-    ensures short { line_len line.new ≤ entry_room }
+    ensures short { line_len lines.new ≤ line_len lines.old + entry_room }
+    ensures capacity { line_capacity lines.old ≤ line_capacity lines.new }
 {
+    let bare = row.entry().is_bare();
     let (id, calendar, date, note) = texts_of(row.entry().body());
-    line.start(Buffer::new().format(row.entry().number()).as_bytes())?;
-    line.push(id.as_bytes())?;
-    line.push(calendar.as_bytes())?;
-    line.push(date.as_bytes())?;
-    push_note(line, form, note.as_bytes())?;
+    lines.start(Buffer::new().format(row.entry().number()).as_bytes())?;
+    lines.push_text(id.as_bytes(), bare)?;
+    lines.push_text(calendar.as_bytes(), bare)?;
+    lines.push_text(date.as_bytes(), bare)?;
+    push_note(lines, form, note.as_bytes(), bare)?;
     Ok(())
 }
 
-/// Makes the line of an accepted row.
-fn make_accepted(line: &mut Line, form: Form, row: &Row, day: Day) -> Result<(), AllocError>
-    requires { row.now.outcome ≡ Ok day }
-    ensures value { OnOk result (line_bytes line.new ≡ line_text (line_delimiter line.old)
+/// Appends the line of an accepted row.
+fn make_accepted(lines: &mut Lines, form: Form, row: &Row, day: Day) -> Result<(), AllocError>
+    requires outcome { row.now.outcome ≡ Ok day }
+    requires room { line_len lines.old + LINE_ROOM ≤ line_capacity lines.old }
+    ensures value { OnOk result (line_bytes lines.new ≡ line_bytes lines.old ++ line_text (line_delimiter lines.old)
         (row_fields form (row_targets row.now) (row_seen row.now))) }
-    ensures kept { line_delimiter line.new ≡ line_delimiter line.old }
+    ensures kept { line_delimiter lines.new ≡ line_delimiter lines.old }
     ensures room { IsOk result }
-    ensures short { line_len line.new ≤ LINE_ROOM }
+    ensures short { line_len lines.new ≤ line_len lines.old + LINE_ROOM }
+    ensures capacity { line_capacity lines.old ≤ line_capacity lines.new }
 {
-    begin_line(line, form, row)?;
-    line.push_plain(Buffer::new().format(day.number()).as_bytes())?;
-    line.push_plain(day.weekday().name().as_bytes())?;
+    begin_line(lines, form, row)?;
+    lines.push_plain(Buffer::new().format(day.number()).as_bytes())?;
+    lines.push_plain(day.weekday().name().as_bytes())?;
     cells_are_plain();
-    line.push_cells(row.cells())?;
-    line.push_plain(b"")?;
-    line.end()?;
+    lines.push_cells(row.cells())?;
+    lines.push_plain(b"")?;
+    lines.end()?;
     Ok(())
 }
 
-/// Makes the line of a refused row.
-fn make_refused(line: &mut Line, form: Form, row: &Row, refusal: Refusal) -> Result<(), AllocError>
-    requires { row.now.outcome ≡ Err refusal }
-    ensures value { OnOk result (line_bytes line.new ≡ line_text (line_delimiter line.old)
+/// Appends the line of a refused row.
+fn make_refused(
+    lines: &mut Lines,
+    form: Form,
+    row: &Row,
+    refusal: Refusal,
+) -> Result<(), AllocError>
+    requires outcome { row.now.outcome ≡ Err refusal }
+    requires room { line_len lines.old + LINE_ROOM ≤ line_capacity lines.old }
+    ensures value { OnOk result (line_bytes lines.new ≡ line_bytes lines.old ++ line_text (line_delimiter lines.old)
         (row_fields form (row_targets row.now) (row_seen row.now))) }
-    ensures kept { line_delimiter line.new ≡ line_delimiter line.old }
+    ensures kept { line_delimiter lines.new ≡ line_delimiter lines.old }
     ensures room { IsOk result }
-    ensures short { line_len line.new ≤ LINE_ROOM }
+    ensures short { line_len lines.new ≤ line_len lines.old + LINE_ROOM }
+    ensures capacity { line_capacity lines.old ≤ line_capacity lines.new }
 {
-    begin_line(line, form, row)?;
-    line.push_plain(b"")?;
-    line.push_plain(b"")?;
+    begin_line(lines, form, row)?;
+    lines.push_plain(b"")?;
+    lines.push_plain(b"")?;
     'targets: for _target in row.targets() {
-        line.push_plain(b"")?;
+        lines.push_plain(b"")?;
     }
-    line.push_plain(Buffer::new().format(refusal.number()).as_bytes())?;
-    line.end()?;
+    lines.push_plain(Buffer::new().format(refusal.number()).as_bytes())?;
+    lines.end()?;
     Ok(())
 }
 
-/// Makes the line of a row.
-pub(crate) fn make_row(line: &mut Line, form: Form, row: &Row) -> Result<(), AllocError>
-    ensures value { OnOk result (line_bytes line.new ≡ line_text (line_delimiter line.old)
+/// Appends the line of a row, where there is memory for it.
+pub(crate) fn make_row(lines: &mut Lines, form: Form, row: &Row) -> Result<(), AllocError>
+    requires { line_len lines.old + LINE_ROOM ≤ line_capacity lines.old }
+    ensures value { OnOk result (line_bytes lines.new ≡ line_bytes lines.old ++ line_text (line_delimiter lines.old)
         (row_fields form (row_targets row.now) (row_seen row.now))) }
-    ensures kept { line_delimiter line.new ≡ line_delimiter line.old }
+    ensures kept { line_delimiter lines.new ≡ line_delimiter lines.old }
     ensures room { IsOk result }
-    ensures short { line_len line.new ≤ LINE_ROOM }
+    ensures short { line_len lines.new ≤ line_len lines.old + LINE_ROOM }
+    ensures capacity { line_capacity lines.old ≤ line_capacity lines.new }
 {
     match row.outcome() {
-        Ok(day) => make_accepted(line, form, row, day),
-        Err(refusal) => make_refused(line, form, row, refusal),
+        Ok(day) => make_accepted(lines, form, row, day),
+        Err(refusal) => make_refused(lines, form, row, refusal),
     }
 }

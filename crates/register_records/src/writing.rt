@@ -1,12 +1,13 @@
 //! Rows as lines, each completed before its first byte goes out.
 
 ghost use Rattle.std.specs.Prelude.{◌≡◌, ◌≢◌, ◌≤◌, ◌+◌, ◌++◌, ◌||◌, [], true, false, length, OnOk, OnErr, IfOk, IfErr};
-ghost use Rattle.std.specs.Prelude.{IsOk, Ok, Err, if◌then◌else◌, is_err, vec_capacity};
+ghost use Rattle.std.specs.Prelude.{Ok, Err, if◌then◌else◌, is_err};
 ghost use Rattle.std.specs.Io.KnownBytes.{Appends};
+ghost use Rattle.register_records.specs.LineViews.{line_capacity};
 ghost use Rattle.register_records.specs.declared.lines.TheConstants.{LINE_ROOM};
 ghost use Rattle.register_records.specs.declared.writing.TheConstants.{MOST_WAITING, ROOM};
 
-use crate::lines::{LINE_ROOM, Line};
+use crate::lines::{LINE_ROOM, Lines};
 use crate::outputs::{Output, send};
 use crate::row_lines::{make_heading, make_row};
 use crate::rows::Row;
@@ -37,24 +38,21 @@ const ROOM: usize = MOST_WAITING + LINE_ROOM;
 /// Writes rows to an output that is lent to each call. Lines may wait until they are sent together.
 #[derive(Drop)]
 pub struct RowWriter {
-    // The last line, whose memory serves again.
-    line: Line,
-    form: Form,
     // The lines that were not sent yet.
-    pending: Vec<u8>,
+    lines: Lines,
+    form: Form,
     // A call answered a fault.
     failed: bool,
     // The output failed.
     sunk: bool,
     ghost sinks: { failed ≡ false → sunk ≡ false },
-    ghost roomy: { ROOM ≤ vec_capacity pending },
+    ghost roomy: { ROOM ≤ line_capacity lines },
 }
 
 impl RowWriter {
-    ghost use Rattle.register_records.specs.LineViews.{line_bytes};
     ghost use Rattle.register_records.specs.Tables.{heading_line};
     ghost use Rattle.register_records.specs.Views.{format_of, layout_of, line_of};
-    ghost use Rattle.register_records.specs.Views.{writes_by};
+    ghost use Rattle.register_records.specs.Views.{waiting_in, writes_by};
 
     /// Writes the heading and flushes it.
     ///
@@ -70,52 +68,29 @@ impl RowWriter {
             (heading_line (layout_of setup.now))) }
         ensures flushed { OnOk result (W.is_flushed output.new ≡ true) }
         ensures writer { IfOk result (λ w. (writes_by w ≡ format_of setup.now) × (w.failed ≡ false)
-            × (w.pending.items ≡ [])) }
+            × (waiting_in w ≡ [])) }
         ensures goes { OnOk result (W.has_failed output.new ≡ W.has_failed output.old) }
         ensures memory { IfErr result (λ e. e ≡ RowFault.OutOfMemory → output.new ≡ output.old) }
         ensures fault { IfErr result (λ e. e ≡ RowFault.WriteFault → W.has_failed output.new ≡ true) }
         ensures told { IfErr result (λ e. e ≢ RowFault.Failed) }
         ensures mark { W.own_mark output.new ≡ W.own_mark output.old }
     {
-        let (Ok(mut line), Ok(pending)) = (
-            Line::new(alloc, setup.delimiter()),
-            Vec::with_capacity(alloc, ROOM),
-        ) else {
+        let Ok(mut lines) = Lines::new(alloc, setup.delimiter(), ROOM) else {
             return Err(RowFault::OutOfMemory);
         };
-        if make_heading(&mut line, setup.form(), setup.targets()).is_err() {
+        if make_heading(&mut lines, setup.form(), setup.targets()).is_err() {
             return Err(RowFault::OutOfMemory);
         }
-        match send(output, line.as_slice()) {
-            Ok(()) => Ok(RowWriter {
-                line,
-                form: setup.form(),
-                pending,
-                failed: false,
-                sunk: false,
-            }),
-            Err(_) => Err(RowFault::WriteFault),
+        if send(output, lines.as_slice()).is_err() {
+            return Err(RowFault::WriteFault);
         }
-    }
-
-    /// Makes the line of a row.
-    fn complete(&mut self, row: &Row) -> Result<(), RowFault>
-        ensures line { OnOk result (line_bytes self.new.line ≡ line_of self.old row.now) }
-        ensures short { OnOk result (length (line_bytes self.new.line) ≤ LINE_ROOM) }
-        ensures pending { self.new.pending ≡ self.old.pending }
-        ensures by { writes_by self.new ≡ writes_by self.old }
-        ensures sunk { self.new.sunk ≡ self.old.sunk }
-        ensures fails { self.new.failed ≡ is_err result }
-        ensures goes { self.old.failed ≡ false → IsOk result }
-        ensures failed { self.old.failed ≡ true → (result ≡ Err RowFault.Failed) × (self.new ≡ self.old) }
-    {
-        if self.failed {
-            return Err(RowFault::Failed);
-        }
-        let Ok(()) = make_row(&mut self.line, self.form, row) else {
-            unreachable!();
-        };
-        Ok(())
+        lines.clear();
+        Ok(RowWriter {
+            lines,
+            form: setup.form(),
+            failed: false,
+            sunk: false,
+        })
     }
 
     /// Makes the line of a row, which waits behind those that wait already.
@@ -125,33 +100,34 @@ impl RowWriter {
     /// `OutOfMemory`, which never comes where at most `MOST_WAITING` bytes of lines wait, and `Failed` after a fault;
     /// then the same lines wait as before.
     pub fn add(&mut self, row: &Row) -> Result<(), RowFault>
-        ensures ok { OnOk result (self.new.pending.items ≡ self.old.pending.items ++ line_of self.old row.now) }
-        ensures short { OnOk result (length self.new.pending.items ≤ length self.old.pending.items + LINE_ROOM) }
-        ensures kept { OnErr result (self.new.pending.items ≡ self.old.pending.items) }
+        ensures ok { OnOk result (waiting_in self.new ≡ waiting_in self.old ++ line_of self.old row.now) }
+        ensures short { OnOk result (length (waiting_in self.new) ≤ length (waiting_in self.old) + LINE_ROOM) }
+        ensures kept { OnErr result (waiting_in self.new ≡ waiting_in self.old) }
         ensures by { writes_by self.new ≡ writes_by self.old }
         ensures sunk { self.new.sunk ≡ self.old.sunk }
         ensures fails { self.new.failed ≡ is_err result }
         ensures memory { self.old.failed ≡ false → IfErr result (λ e. e ≡ RowFault.OutOfMemory) }
-        ensures roomy { length self.old.pending.items ≤ MOST_WAITING → IfErr result (λ e. e ≢ RowFault.OutOfMemory) }
+        ensures roomy { length (waiting_in self.old) ≤ MOST_WAITING → IfErr result (λ e. e ≢ RowFault.OutOfMemory) }
         ensures failed { self.old.failed ≡ true → (result ≡ Err RowFault.Failed) × (self.new ≡ self.old) }
     {
-        self.complete(row)?;
-        if self
-            .pending
-            .extend_from_slice(self.line.as_slice())
-            .is_err()
-        {
+        if self.failed {
+            return Err(RowFault::Failed);
+        }
+        if self.lines.reserve_line().is_err() {
             self.failed = true;
             return Err(RowFault::OutOfMemory);
         }
+        let Ok(()) = make_row(&mut self.lines, self.form, row) else {
+            unreachable!();
+        };
         Ok(())
     }
 
     /// How many bytes of lines wait.
     pub fn pending_len(&self) -> usize
-        ensures { result ≡ length self.now.pending.items }
+        ensures { result ≡ length (waiting_in self.now) }
     {
-        self.pending.len()
+        self.lines.len()
     }
 
     /// Writes the lines that wait and flushes them; then none waits. It does so after want of memory too.
@@ -160,8 +136,8 @@ impl RowWriter {
     ///
     /// `WriteFault` where the output has failed, and `Failed` after it: then nothing is written.
     pub fn send<W: Output>(&mut self, output: &mut W) -> Result<(), RowFault>
-        ensures ok { OnOk result (Appends (W.contents output.old) (W.contents output.new) self.old.pending.items) }
-        ensures sent { OnOk result (self.new.pending.items ≡ []) }
+        ensures ok { OnOk result (Appends (W.contents output.old) (W.contents output.new) (waiting_in self.old)) }
+        ensures sent { OnOk result (waiting_in self.new ≡ []) }
         ensures flushed { OnOk result (W.is_flushed output.new ≡ true) }
         ensures by { writes_by self.new ≡ writes_by self.old }
         ensures goes { OnOk result (W.has_failed output.new ≡ W.has_failed output.old) }
@@ -176,12 +152,12 @@ impl RowWriter {
         if self.sunk {
             return Err(RowFault::Failed);
         }
-        if send(output, self.pending.as_slice()).is_err() {
+        if send(output, self.lines.as_slice()).is_err() {
             self.failed = true;
             self.sunk = true;
             return Err(RowFault::WriteFault);
         }
-        self.pending.clear();
+        self.lines.clear();
         Ok(())
     }
 
@@ -193,15 +169,15 @@ impl RowWriter {
     /// `WriteFault` where the output has failed; and `Failed` after a fault: then nothing is written.
     pub fn put<W: Output>(&mut self, output: &mut W, row: &Row) -> Result<(), RowFault>
         ensures ok { OnOk result (Appends (W.contents output.old) (W.contents output.new)
-            (self.old.pending.items ++ line_of self.old row.now)) }
-        ensures sent { OnOk result (self.new.pending.items ≡ []) }
+            (waiting_in self.old ++ line_of self.old row.now)) }
+        ensures sent { OnOk result (waiting_in self.new ≡ []) }
         ensures flushed { OnOk result (W.is_flushed output.new ≡ true) }
         ensures by { writes_by self.new ≡ writes_by self.old }
         ensures goes { OnOk result ((W.has_failed output.new ≡ W.has_failed output.old) × (self.new.sunk ≡ false)) }
         ensures fails { self.new.failed ≡ is_err result }
         ensures memory { IfErr result (λ e. e ≡ RowFault.OutOfMemory → (output.new ≡ output.old)
-            × (self.new.pending.items ≡ self.old.pending.items) × (self.new.sunk ≡ self.old.sunk)) }
-        ensures roomy { length self.old.pending.items ≤ MOST_WAITING → IfErr result (λ e. e ≢ RowFault.OutOfMemory) }
+            × (waiting_in self.new ≡ waiting_in self.old) × (self.new.sunk ≡ self.old.sunk)) }
+        ensures roomy { length (waiting_in self.old) ≤ MOST_WAITING → IfErr result (λ e. e ≢ RowFault.OutOfMemory) }
         ensures fault { IfErr result (λ e. e ≡ RowFault.WriteFault
             → (W.has_failed output.new ≡ true) × (self.new.sunk ≡ true)) }
         ensures only_failed { self.old.failed ≡ false → IfErr result (λ e. e ≢ RowFault.Failed) }
@@ -209,17 +185,8 @@ impl RowWriter {
             → (result ≡ Err RowFault.Failed) × (output.new ≡ output.old) × (self.new ≡ self.old) }
         ensures mark { W.own_mark output.new ≡ W.own_mark output.old }
     {
-        if !self.pending.is_empty() {
-            self.add(row)?;
-            return self.send(output);
-        }
-        self.complete(row)?;
-        if send(output, self.line.as_slice()).is_err() {
-            self.failed = true;
-            self.sunk = true;
-            return Err(RowFault::WriteFault);
-        }
-        Ok(())
+        self.add(row)?;
+        self.send(output)
     }
 
     /// Ends the writing.

@@ -23,7 +23,7 @@ use Rattle.register_records.specs.Outcomes.{AreRowsOf, IsRowOf}
 use Rattle.register_records.specs.Seen.{entry_seen}
 use Rattle.register_records.specs.Sources.{ArePartOfTable, Gains, IfBroken, IfWhole, IsTableOf}
 use Rattle.register_records.specs.Tables.{Layout, table_text}
-use Rattle.register_records.specs.Views.{format_of, layout_of, row_seen, row_targets}
+use Rattle.register_records.specs.Views.{format_of, layout_of, row_seen, row_targets, waiting_in}
 use Rattle.register_run.specs.declared.tables.Table.{Table}
 use Rattle.register_run.specs.Headline.{AreRowsInOrder, IsSettled}
 use Rattle.register_run.specs.Passages.{HasPassed, IsGiven, IsOfGiven, is_of_reading, tells_of_text}
@@ -66,7 +66,7 @@ table_so : {W : Type 0} (o : outputs.Ghosts W) (layout : Layout) (given output :
     → Appends (o.contents given) (o.contents output) (table_text layout (rows_seen rows)) × (o.is_flushed output ≡ true)
 table_so o layout given output None rows e none h = absurd (cc)
 table_so o layout given output (Some w) rows e none h = (
-  appends_waited (o.contents given) (o.contents output) w.pending.items (table_text layout (rows_seen rows)) none h.0,
+  appends_waited (o.contents given) (o.contents output) (waiting_in w) (table_text layout (rows_seen rows)) none h.0,
   h.1,
 )
 

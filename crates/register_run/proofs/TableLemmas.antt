@@ -15,7 +15,7 @@ use Rattle.register_records.specs.Entries.{AreNumberedFrom}
 use Rattle.register_records.specs.Laws.{TablesGrow}
 use Rattle.register_records.specs.Seen.{entry_seen}
 use Rattle.register_records.specs.Tables.{Layout, heading_line, journal_of, lines_text, notes_of, row_line, table_text}
-use Rattle.register_records.specs.Views.{line_of, row_seen, row_targets, writes_by}
+use Rattle.register_records.specs.Views.{line_of, row_seen, row_targets, waiting_in, writes_by}
 use Rattle.register_run.specs.TablesWritten.{Stands, entries_seen, rows_seen}
 use Rattle.register_run.proofs.GivenLemmas.{numbered_more}
 use Rattle.register_run.proofs.PassageLemmas.{only}
@@ -65,12 +65,12 @@ module _ {W : Type 0} (o : outputs.Ghosts W) (layout : Layout) (given : W) where
   -- the heading was written
   pub stands_headed : (output new : W) (w : RowWriter) (rows : List Row) → Stands o layout given output None rows
       → Appends (o.contents output) (o.contents new) (heading_line layout)
-      → o.is_flushed new ≡ true → writes_by w ≡ layout.format → w.pending.items ≡ []
+      → o.is_flushed new ≡ true → writes_by w ≡ layout.format → waiting_in w ≡ []
       → Stands o layout given new (Some w) rows
   stands_headed output new w rows h wrote flushed by none = (
     (let lines : lines_text layout (rows_seen rows) ≡ [] = ap (λ (r : List Row). lines_text layout (rows_seen r)) h.1
         ∙ no_lines layout in
-        appends_heading (o.contents given) (o.contents output) (o.contents new) w.pending.items (heading_line layout)
+        appends_heading (o.contents given) (o.contents output) (o.contents new) (waiting_in w) (heading_line layout)
         (lines_text layout (rows_seen rows)) (ap o.contents h.0) wrote none lines),
     flushed,
     by,
@@ -78,7 +78,7 @@ module _ {W : Type 0} (o : outputs.Ghosts W) (layout : Layout) (given : W) where
 
   -- a line waits behind the others
   pub stands_more : (output : W) (w new : RowWriter) (rows : List Row) (row : Row) → TablesGrow
-      → Stands o layout given output (Some w) rows → new.pending.items ≡ w.pending.items ++ line_of w row
+      → Stands o layout given output (Some w) rows → waiting_in new ≡ waiting_in w ++ line_of w row
       → writes_by new ≡ writes_by w → row_targets row ≡ layout.targets
       → Stands o layout given output (Some new) (rows ++ row ∷ [])
   stands_more output w new rows row grow h more by targets =
@@ -89,12 +89,12 @@ module _ {W : Type 0} (o : outputs.Ghosts W) (layout : Layout) (given : W) where
       ≡ table_text layout (rows_seen rows)
       ++ row_line layout (row_seen row) = ap (table_text layout) (map-append row_seen rows (row ∷ []))
       ∙ (grow layout (rows_seen rows) (row_seen row)).0 in
-      let waits : new.pending.items ≡ w.pending.items ++ row_line layout (row_seen row) =
-      more ∙ ap (λ b. w.pending.items ++ b) line in (
-        subst (λ t. Appends (o.contents given) (append_known (o.contents output) new.pending.items) t) (sym table)
+      let waits : waiting_in new ≡ waiting_in w ++ row_line layout (row_seen row) =
+      more ∙ ap (λ b. waiting_in w ++ b) line in (
+        subst (λ t. Appends (o.contents given) (append_known (o.contents output) (waiting_in new)) t) (sym table)
             (subst (λ p. Appends (o.contents given) (append_known (o.contents output) p)
             (table_text layout (rows_seen rows) ++ row_line layout (row_seen row))) (sym waits)
-            (appends_more (o.contents given) (o.contents output) w.pending.items (row_line layout (row_seen row))
+            (appends_more (o.contents given) (o.contents output) (waiting_in w) (row_line layout (row_seen row))
             (table_text layout (rows_seen rows)) h.0)),
         h.1,
         by ∙ h.2,
@@ -102,7 +102,7 @@ module _ {W : Type 0} (o : outputs.Ghosts W) (layout : Layout) (given : W) where
 
   -- the same lines wait
   pub stands_same : (output : W) (w new : RowWriter) (rows : List Row) → Stands o layout given output (Some w) rows
-      → new.pending.items ≡ w.pending.items → writes_by new ≡ writes_by w → Stands o layout given output (Some new) rows
+      → waiting_in new ≡ waiting_in w → writes_by new ≡ writes_by w → Stands o layout given output (Some new) rows
   stands_same output w new rows h same by = (
     subst (λ p. Appends (o.contents given) (append_known (o.contents output) p) (table_text layout (rows_seen rows)))
         (sym same) h.0,
@@ -112,13 +112,13 @@ module _ {W : Type 0} (o : outputs.Ghosts W) (layout : Layout) (given : W) where
 
   -- the lines that waited were written
   pub stands_sent : (output after : W) (w new : RowWriter) (rows : List Row)
-      → Stands o layout given output (Some w) rows → Appends (o.contents output) (o.contents after) w.pending.items
-      → o.is_flushed after ≡ true → new.pending.items ≡ [] → writes_by new ≡ writes_by w
+      → Stands o layout given output (Some w) rows → Appends (o.contents output) (o.contents after) (waiting_in w)
+      → o.is_flushed after ≡ true → waiting_in new ≡ [] → writes_by new ≡ writes_by w
       → Stands o layout given after (Some new) rows
   stands_sent output after w new rows h wrote flushed none by = (
     subst (λ p. Appends (o.contents given) (append_known (o.contents after) p) (table_text layout (rows_seen rows)))
         (sym none)
-        (appends_sent (o.contents given) (o.contents output) (o.contents after) w.pending.items
+        (appends_sent (o.contents given) (o.contents output) (o.contents after) (waiting_in w)
         (table_text layout (rows_seen rows)) h.0 wrote),
     flushed,
     by ∙ h.2,

@@ -10,7 +10,7 @@ use Rattle.register_records.specs.Entries.{AreNumberedFrom, Numbered}
 use Rattle.register_records.specs.Outcomes.{TableRow}
 use Rattle.register_records.specs.Seen.{entry_seen}
 use Rattle.register_records.specs.Tables.{Layout, journal_of, table_text}
-use Rattle.register_records.specs.Views.{layout_of, row_seen, row_targets, targets_of, writes_by}
+use Rattle.register_records.specs.Views.{layout_of, row_seen, row_targets, targets_of, waiting_in, writes_by}
 use Rattle.register_run.specs.declared.tables.Table.{Table}
 
 -- rows as a table has them, and their entries as a text has them
@@ -23,14 +23,14 @@ entries_seen rows = map (λ (row : Row). entry_seen row.entry) rows
 -- the bytes of the lines that wait
 abbrev pub waiting_of : Option RowWriter → List ℕ
 waiting_of None = []
-waiting_of (Some w) = w.pending.items
+waiting_of (Some w) = waiting_in w
 
 -- before the heading nothing was written and no row was added; from then on, what the output has gained and then what
 -- waits are the table of these rows
 abbrev pub Stands : {W : Type 0} → outputs.Ghosts W → Layout → W → W → Option RowWriter → List Row → Type 0
 Stands o layout given output None rows = (output ≡ given) × (rows ≡ [])
 Stands o layout given output (Some w) rows =
-    Appends (o.contents given) (append_known (o.contents output) w.pending.items) (table_text layout (rows_seen rows))
+    Appends (o.contents given) (append_known (o.contents output) (waiting_in w)) (table_text layout (rows_seen rows))
     × (o.is_flushed output ≡ true) × (writes_by w ≡ layout.format)
 
 module _ {W : Type 0} {o : outputs.Ghosts W} where

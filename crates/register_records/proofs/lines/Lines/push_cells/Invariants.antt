@@ -4,7 +4,7 @@ use Rattle.register_records.specs.CellTexts.{cell_bytes}
 use Rattle.register_records.specs.LineRoom.{cell_room}
 use Rattle.register_records.specs.LineViews.{line_delimiter}
 use Rattle.register_records.specs.Lines.{writing}
-use Rattle.register_records.proofs.lines.Line.push_cells.Given as goal
+use Rattle.register_records.proofs.lines.Lines.push_cells.Given as goal
 
 abbrev pub invariant-cells : goal.invariant-cells
 invariant-cells l =

@@ -8,7 +8,7 @@ use Rattle.register_records.specs.LineViews.{line_delimiter}
 use Rattle.register_records.specs.Lines.{writing}
 use Rattle.register_records.proofs.LineFacts.{cut-behind, front-of-grown, more-fields, one-more-cell}
 use Rattle.register_records.specs.LineRoom.{cell_room}
-use Rattle.register_records.proofs.lines.Line.push_cells.Goals as goal
+use Rattle.register_records.proofs.lines.Lines.push_cells.Goals as goal
 
 pub cells-init : goal.cells-init
 unfolding fields_text
@@ -31,7 +31,7 @@ cells-preserved c =
     }
 
 pub returns-clause-value : goal.returns-clause-value
-returns-clause-value c fields some begun =
+returns-clause-value c before fields some begun =
     let d = line_delimiter c.args.self.now in
     let cells = c.args.cells.now in
     let old = c.args.self.now.bytes.items in
@@ -49,7 +49,7 @@ returns-clause-value c fields some begun =
     cut-behind (take start grown) room _ _ start c.extend_from_slice.new.self.len end
     (length-take-le start grown (omega (arith, len))) (omega (arith, few, c.cells.invariant.room))
     (omega (arith, few, c.in_ok-extend_from_slice.ensures.len)) in
-    more-fields d fields (map cell_bytes cells) _ _ some begun
+    more-fields d before fields (map cell_bytes cells) _ _ some begun
     (c.truncate.ensures.items ∙ cut ∙ ap (λ (t : List ℕ). t ++ take end room) front
     ∙ ap (λ (t : List ℕ). old ++ t)
     (c.cells.invariant.written ∙ ap (λ (xs : List CellText). fields_text (writing d) (map cell_bytes xs)) all))

@@ -1,7 +1,0 @@
-use Rattle.register_records.proofs.LineFacts.{ended}
-use Rattle.register_records.specs.LineViews.{line_delimiter}
-use Rattle.register_records.proofs.lines.Line.end.Goals as goal
-
-pub returns-clause-value : goal.returns-clause-value
-returns-clause-value c fields some begun =
-    ended (line_delimiter c.args.self.now) fields _ _ some begun c.in_ok-push.ensures.items

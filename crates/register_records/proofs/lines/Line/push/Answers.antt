@@ -1,8 +1,0 @@
-use Rattle.register_records.proofs.LineFacts.{one-more}
-use Rattle.register_records.specs.LineViews.{line_delimiter}
-use Rattle.register_records.proofs.lines.Line.push.Goals as goal
-
-pub returns-clause-value : goal.returns-clause-value
-returns-clause-value c fields some begun =
-    one-more (line_delimiter c.args.self.now) fields c.args.field.now _ _ _ some begun c.in_ok-push.ensures.items
-    c.in_ok-push_field.ensures.value

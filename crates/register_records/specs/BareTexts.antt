@@ -1,0 +1,17 @@
+-- Texts that a table shows without quotes, whatever its delimiter. No public contract cites this file.
+use Rattle.std.specs.Prelude.{◌==◌, ◌||◌, Bool, false, ℕ, Result, Ok, Err}
+use Rattle.std.specs.List.{list_any}
+use Rattle.register_records.specs.Records.{Texts}
+use Rattle.register_records.specs.SetupRules.{is_delimiter}
+use Rattle.date_texts.specs.declared.refusal.Refusal.{Refusal}
+
+-- a delimiter, a quote, or a byte that ends a line
+abbrev pub is_special_byte : ℕ → Bool
+is_special_byte b = is_delimiter b || ((b == 34) || ((b == 13) || (b == 10)))
+
+-- one of the texts holds such a byte
+abbrev pub has_special : Result Texts Refusal → Bool
+has_special (Ok t) =
+    list_any is_special_byte t.id || (list_any is_special_byte t.calendar
+    || (list_any is_special_byte t.date || list_any is_special_byte t.note))
+has_special (Err r) = false

@@ -1,0 +1,127 @@
+// Setups, entries, rows, cells and lines that wait.
+
+use super::{GREGORIAN, JULIAN, fields_of, plain, row_of};
+use date_texts::{Refusal, Target};
+use register_records::{
+    Body, Cause, Entry, EntryFault, Form, PlainOutput, Row, RowFault, RowWriter, Setup,
+};
+use std::mem::size_of;
+use std::test::Fail;
+
+/// The targets, ring, delimiter and stripes of setups, and the number of the fault, or 0 where there is none.
+static SETUPS: [(&[Target], usize, u8, usize, u8); 9] = [
+    (&[JULIAN, JULIAN], 0, b',', 1, 1),
+    (&[], 0, b',', 1, 2),
+    (&[], 4097, b'|', 1, 2),
+    (&[], 1, b'|', 1, 3),
+    (&[], 4096, b'\t', 1, 0),
+    (&[], 1, b'|', 0, 3),
+    (&[], 1, b',', 0, 4),
+    (&[], 1, b',', 5, 4),
+    (&[], 1, b',', 4, 0),
+];
+
+/// Whether a setup of these parts has the fault of this number, or for 0 tells them.
+fn has_fault(targets: &[Target], ring: usize, delimiter: u8, stripes: usize, fault: u8) -> bool {
+    match Setup::new(targets, ring, delimiter, stripes, Form::Plain) {
+        Ok(setup) => {
+            fault == 0
+                && setup.ring() == ring
+                && setup.delimiter() == delimiter
+                && setup.stripes() == stripes
+                && setup.form() == Form::Plain
+        }
+        Err(other) => other.number() == fault,
+    }
+}
+
+#[test]
+fn setups_have_their_faults(rt: HostRuntime) {
+    for (targets, ring, delimiter, stripes, fault) in &SETUPS {
+        assert!(rt;
+            has_fault(targets, *ring, *delimiter, *stripes, *fault),
+            "at {fault}"
+        );
+    }
+}
+
+/// Whether this is the last row of a register with these two targets, and of no other setup.
+fn tells_its_parts(row: &Row, setup: &Setup, other: &Setup) -> bool {
+    row.entry().number() == 1_000_000
+        && row.targets().len() == 2
+        && row.outcome().is_ok_and(|day| day.number() == 577_736)
+        && row.cells().len() == 2
+        && row.cells().first().is_some_and(|cell| {
+            cell.as_str() == "1582-10-15" && cell.as_bytes().len() == 10
+        })
+        && row.is_for(setup)
+        && !row.is_for(other)
+        && row.note().is_none()
+}
+
+#[test]
+fn rows_tell_their_parts_and_are_small(rt: HostRuntime) -> Result<(), Fail> {
+    let setup = plain(&[GREGORIAN, JULIAN])?;
+    let other = plain(&[JULIAN, GREGORIAN])?;
+    let last = Entry::new(1_000_000, fields_of(["", "Julian", "1582-10-05"])?).ok_or("no entry")?;
+    let row = row_of(last, &setup);
+    assert!(rt; tells_its_parts(&row, &setup, &other));
+    assert!(rt; size_of::<Entry>() == 216 && size_of::<Row>() == 504);
+    Ok(())
+}
+
+#[test]
+fn entries_have_their_limits_and_faults_their_causes(rt: HostRuntime) {
+    for (number, refusal) in [
+        (0, Refusal::NotUtf8),
+        (1_000_001, Refusal::NotUtf8),
+        (1, Refusal::DateText),
+    ] {
+        assert!(rt;
+            Entry::new(number, Body::Refused(refusal)).is_none(),
+            "at {number}"
+        );
+    }
+    assert!(rt; RowFault::WriteFault.cause() == Some(Cause::SinkFault));
+    assert!(rt; EntryFault::Failed.cause().is_none());
+}
+
+static REFUSED_LINE: &str = "1,,,,,,3\n";
+
+static FOUR_LINES: &str = "\
+row,id,calendar,date,rd,weekday,refusal
+1,,,,,,3
+1,,,,,,3
+1,,,,,,3
+1,,,,,,3
+";
+
+/// Whether two lines wait until they are sent, and a line then waits until another is put.
+fn wait_and_go(
+    writer: &mut RowWriter,
+    output: &mut PlainOutput<Vec<u8>>,
+    row: &Row,
+) -> Result<bool, RowFault> {
+    writer.add(row)?;
+    writer.add(row)?;
+    let two = writer.pending_len();
+    writer.send(output)?;
+    let none = writer.pending_len();
+    writer.send(output)?;
+    writer.add(row)?;
+    writer.put(output, row)?;
+    Ok(two == 2 * REFUSED_LINE.len() && none == 0)
+}
+
+#[test]
+fn lines_wait_until_they_are_sent(rt: HostRuntime) -> Result<(), Fail> {
+    let setup = plain(&[])?;
+    let refused = Entry::new(1, Body::Refused(Refusal::NotUtf8)).ok_or("no entry")?;
+    let row = row_of(refused, &setup);
+    let mut output = PlainOutput::new(Vec::new(rt.alloc()), 1);
+    let mut writer = RowWriter::open(rt.alloc(), &mut output, &setup)?;
+    let have_waited = wait_and_go(&mut writer, &mut output, &row)?;
+    writer.end()?;
+    assert!(rt; have_waited && output.into_inner().as_slice() == FOUR_LINES.as_bytes());
+    Ok(())
+}

@@ -1,0 +1,347 @@
+// Texts and the tables that they become.
+
+use super::{GREGORIAN, ISLAMIC, ISO, JULIAN, LONGCOUNT, ROMAN, cause_of, converted};
+use date_texts::Target;
+use register_records::{Form, Note, Setup, SourceEnd};
+use std::alloc::{AllocError, Global};
+use std::test::Fail;
+
+/// How a text is read, its lines, and the numbers and refusals of the rows in its journal. After a bar a line has its
+/// line of the table, where there is one.
+struct Case {
+    targets: &'static [Target],
+    delimiter: u8,
+    form: Form,
+    lines: &'static str,
+    notes: &'static str,
+}
+
+static CASES: [Case; 14] = [
+    Case {
+        targets: &[GREGORIAN, JULIAN],
+        delimiter: b',',
+        form: Form::Plain,
+        lines: "id,calendar,date|row,id,calendar,date,rd,weekday,gregorian,julian,refusal
+a,julian,1582-10-05|1,a,julian,1582-10-05,577736,Friday,1582-10-15,1582-10-05,
+b,gregorian,1582-10-15|2,b,gregorian,1582-10-15,577736,Friday,1582-10-15,1582-10-05,
+c,julian,0-1-1|3,c,julian,0-1-1,,,,,6
+a,coptic,3-13-6|4,a,coptic,3-13-6,104700,Monday,0287-08-29,0287-08-29,
+b,coptic,4-13-6|5,b,coptic,4-13-6,,,,,6
+c,ethiopic,1-1-1|6,c,ethiopic,1-1-1,2796,Wednesday,0008-08-27,0008-08-29,
+d,ethiopic,0-1-1|7,d,ethiopic,0-1-1,,,,,6
+e,egyptian,1-13-6|8,e,egyptian,1-13-6,,,,,6
+d,mayan,1|9,d,mayan,1,,,,,4",
+        notes: "3:6 5:6 7:6 8:6 9:4 ",
+    },
+    Case {
+        targets: &[JULIAN],
+        delimiter: b';',
+        form: Form::Plain,
+        lines: "\u{feff}ID; Calendar ;DATE\r|row;id;calendar;date;rd;weekday;julian;refusal
+\r
+\"Smith; J.\";Gregorian; 1752-9-14\r|1;\"Smith; J.\";Gregorian; 1752-9-14;639797;Thursday;1752-09-03;
+",
+        notes: "",
+    },
+    Case {
+        targets: &[],
+        delimiter: b',',
+        form: Form::Plain,
+        lines: "id,calendar,date|row,id,calendar,date,rd,weekday,refusal
+a,gregorian|1,,,,,,1
+aaaaaaaaaaaaaaaaaaaaaaaaaaaaaaaaaaaaaaaaa,gregorian,1945-11-12|2,,,,,,2
+\u{1a},gregorian,1945-11-12|3,,,,,,3
+d,mayan,1945-11-12|4,d,mayan,1945-11-12,,,4
+e,gregorian,1945/11/12|5,e,gregorian,1945/11/12,,,5
+i,hebrew,5706-08-30|6,i,hebrew,5706-08-30,,,6
+j,hebrew,5707-13-01|7,j,hebrew,5707-13-01,,,6
+a,b,c,d|8,,,,,,1
+END,1|9,,,,,,1
+",
+        notes: "1:1 2:2 3:3 4:4 5:5 6:6 7:6 8:1 9:1 ",
+    },
+    Case {
+        targets: &[],
+        delimiter: b',',
+        form: Form::Plain,
+        lines: "
+\"\u{feff}Id\",calendar,date|row,id,calendar,date,rd,weekday,refusal
+\"say \"\"so\"\"\",gregorian,1970-01-01|1,\"say \"\"so\"\"\",gregorian,1970-01-01,719163,Thursday,
+",
+        notes: "",
+    },
+    Case {
+        targets: &[],
+        delimiter: b'\t',
+        form: Form::Plain,
+        lines: "id\tcalendar\tdate|row\tid\tcalendar\tdate\trd\tweekday\trefusal
+a,b\tiso\t1970-W01-4|1\ta,b\tiso\t1970-W01-4\t719163\tThursday\t
+\"a\tb\"\tiso\t1970-W01-4|2\t\"a\tb\"\tiso\t1970-W01-4\t719163\tThursday\t
+",
+        notes: "",
+    },
+    Case {
+        targets: &Target::ALL,
+        delimiter: b',',
+        form: Form::Plain,
+        lines: "\
+id,calendar,date|row,id,calendar,date,rd,weekday,gregorian,iso,julian,coptic,ethiopic,egyptian,armenian,islamic,\
+hebrew,longcount,french,roman,haab,tzolkin,refusal
+a,gregorian,1945-11-12|1,a,gregorian,1945-11-12,710347,Monday,1945-11-12,1945-W46-1,1945-10-30,1662-03-03,1938-03-03,\
+2694-07-10,1395-04-05,1364-12-06,5706-09-07,12.16.11.16.9,0154-02-21,1945-11-K3,7 Zac,11 Muluc,
+",
+        notes: "",
+    },
+    Case {
+        targets: &[GREGORIAN],
+        delimiter: b',',
+        form: Form::Plain,
+        lines: "id,calendar,date|row,id,calendar,date,rd,weekday,gregorian,refusal
+b,julian,1582-10-05|1,b,julian,1582-10-05,577736,Friday,1582-10-15,
+d,julian,0-1-1|2,d,julian,0-1-1,,,,6
+e,julian,-1-2-29|3,e,julian,-1-2-29,-308,Sunday,0000-02-27,
+g,hebrew,5745-07-01|4,g,hebrew,5745-07-01,724546,Thursday,1984-09-27,
+h,hebrew,5766-07-01|5,h,hebrew,5766-07-01,732223,Tuesday,2005-10-04,
+k,french,4000-13-6|6,k,french,4000-13-6,,,,6
+l,french,4-13-6|7,l,french,4-13-6,655875,Wednesday,1796-09-21,
+m,islamic,1-1-1|8,m,islamic,1-1-1,227015,Friday,0622-07-19,
+n,islamic,1-12-30|9,n,islamic,1-12-30,,,,6
+o,islamic,2-12-30|10,o,islamic,2-12-30,227723,Saturday,0624-06-26,
+",
+        notes: "2:6 6:6 9:6 ",
+    },
+    Case {
+        targets: &[GREGORIAN, ISLAMIC],
+        delimiter: b',',
+        form: Form::Plain,
+        lines: "id,calendar,date|row,id,calendar,date,rd,weekday,gregorian,islamic,refusal
+c,julian,-44-3-15|1,c,julian,-44-3-15,-15999,Wednesday,-0043-03-13,,
+",
+        notes: "",
+    },
+    Case {
+        targets: &[GREGORIAN, ISO],
+        delimiter: b',',
+        form: Form::Plain,
+        lines: "id,calendar,date|row,id,calendar,date,rd,weekday,gregorian,iso,refusal
+f,iso,2004-w53-6|1,f,iso,2004-w53-6,731947,Saturday,2005-01-01,2004-W53-6,
+",
+        notes: "",
+    },
+    Case {
+        targets: &[LONGCOUNT, Target::Haab, Target::Tzolkin],
+        delimiter: b',',
+        form: Form::Plain,
+        lines: "id,calendar,date|row,id,calendar,date,rd,weekday,longcount,haab,tzolkin,refusal
+p,longcount,0.0.0.0.0|1,p,longcount,0.0.0.0.0,-1137142,Monday,0.0.0.0.0,8 Cumku,4 Ahau,
+q,longcount,0.0.0.0.12|2,q,longcount,0.0.0.0.12,-1137130,Saturday,0.0.0.0.12,0 Uayeb,3 Eb,
+r,longcount,0.0.0.18.0|3,r,longcount,0.0.0.18.0,,,,,,6
+s,gregorian,-3113-08-10|4,s,gregorian,-3113-08-10,-1137143,Sunday,,7 Cumku,3 Cauac,
+",
+        notes: "3:6 ",
+    },
+    Case {
+        targets: &[JULIAN],
+        delimiter: b',',
+        form: Form::Plain,
+        lines: "id,calendar,date|row,id,calendar,date,rd,weekday,julian,refusal
+t,gregorian,9999-12-31|1,t,gregorian,9999-12-31,3652059,Friday,9999-10-19,
+u,gregorian,10000-01-01|2,u,gregorian,10000-01-01,,,,7
+v,gregorian,10000-02-30|3,v,gregorian,10000-02-30,,,,6
+w,iso,9999-W52-6|4,w,iso,9999-W52-6,,,,7
+x,gregorian,-9999-01-01|5,x,gregorian,-9999-01-01,-3652424,Monday,-10000-03-19,
+",
+        notes: "2:7 3:6 4:7 ",
+    },
+    Case {
+        targets: &[JULIAN, ROMAN],
+        delimiter: b',',
+        form: Form::Plain,
+        lines: "id,calendar,date|row,id,calendar,date,rd,weekday,julian,roman,refusal
+a,roman,0801-01-K8|1,a,roman,0801-01-K8,292192,Friday,0800-12-25,0801-01-K8,
+b,roman,-44-03-i1|2,b,roman,-44-03-i1,-15999,Wednesday,-0044-03-15,-0044-03-I1,
+c,roman,-1-3-k6b|3,c,roman,-1-3-k6b,-312,Wednesday,-0001-02-25,-0001-03-K6B,
+d,roman,1-3-K6B|4,d,roman,1-3-K6B,,,,,6
+e,roman,0-1-K1|5,e,roman,0-1-K1,,,,,6
+f,roman,1-1-K20|6,f,roman,1-1-K20,,,,,6
+g,roman,1-1-K2|7,g,roman,1-1-K2,-2,Friday,-0001-12-31,0001-01-K2,
+h,roman,-99999-1-K2|8,h,roman,-99999-1-K2,,,,,7
+i,roman,1-1-X3|9,i,roman,1-1-X3,,,,,5
+",
+        notes: "4:6 5:6 6:6 8:7 9:5 ",
+    },
+    Case {
+        targets: &[GREGORIAN],
+        delimiter: b',',
+        form: Form::Sealed,
+        lines: "id,calendar,date,note|row,id,calendar,date,note,rd,weekday,gregorian,refusal
+END,2,|1,,,,,,,,1
+end,2|2,,,,,,,,1
+E ND,2|3,,,,,,,,1
+END|4,,,,,,,,1
+END,julian,1582-10-05,|5,END,julian,1582-10-05,,577736,Friday,1582-10-15,
+END,5
+",
+        notes: "1:1 2:1 3:1 4:1 ",
+    },
+    Case {
+        targets: &[],
+        delimiter: b',',
+        form: Form::Sealed,
+        lines: "\
+id,calendar,date,note|row,id,calendar,date,note,rd,weekday,refusal
+a,iso,1970-W01-4,01234567890123456789012345678901234567890123456789012345678901234567890123456789|\
+1,a,iso,1970-W01-4,01234567890123456789012345678901234567890123456789012345678901234567890123456789,719163,Thursday,
+b,iso,1970-W01-4,012345678901234567890123456789012345678901234567890123456789012345678901234567890|2,,,,,,,2
+c,iso,1970-W01-4,\u{1a}1234567890123456789012345678901234567890123456789012345678901234567890123456\u{1a}789\u{1a}|3,,,,,,,2
+d,iso,1970-W01-4,\u{1a}|4,,,,,,,3
+e,iso,1970-W01-4,\" a, \"\"b\"\" \"|5,e,iso,1970-W01-4,\" a, \"\"b\"\" \",719163,Thursday,
+END,5
+",
+        notes: "2:2 3:2 4:3 ",
+    },
+];
+
+/// Adds a text, in which the substitute U+001A stands for the byte FF, which is nowhere in UTF-8.
+fn push_text(bytes: &mut Vec<u8>, text: &str) -> Result<(), AllocError> {
+    for &byte in text.as_bytes() {
+        bytes.push(if byte == 0x1A { 0xFF } else { byte })?;
+    }
+    Ok(())
+}
+
+/// Adds a line.
+fn push_line(bytes: &mut Vec<u8>, line: &str) -> Result<(), AllocError> {
+    push_text(bytes, line)?;
+    bytes.push(b'\n')?;
+    Ok(())
+}
+
+/// The text and the table of these lines.
+fn sides(alloc: Global, lines: &str) -> Result<(Vec<u8>, Vec<u8>), AllocError> {
+    let mut text = Vec::new(alloc);
+    let mut table = Vec::new(alloc);
+    for line in lines.split('\n') {
+        match line.split_once('|') {
+            Some((record, row)) => {
+                push_line(&mut text, record)?;
+                push_line(&mut table, row)?;
+            }
+            None => push_line(&mut text, line)?,
+        }
+    }
+    Ok((text, table))
+}
+
+/// The numbers and the refusals of the rows in a journal.
+fn notes_of(alloc: Global, journal: &[Note]) -> Result<String, AllocError> {
+    let mut text = String::new(alloc);
+    for note in journal {
+        let refusal = note.refusal.number();
+        text.push_str(format!(in alloc; "{}:{refusal} ", note.number)?.as_str())?;
+    }
+    Ok(text)
+}
+
+/// Whether a source is whole with so many rows, and has these numbers and refusals of rows in its journal.
+fn is_whole_with(alloc: Global, end: &SourceEnd, count: usize, notes: &str) -> bool {
+    match end {
+        SourceEnd::Whole {
+            rows,
+            refused,
+            journal,
+        } => {
+            *rows as usize == count
+                && *refused as usize == journal.len()
+                && notes_of(alloc, journal.as_slice()).is_ok_and(|told| told.as_str() == notes)
+        }
+        SourceEnd::Broken { .. } => false,
+    }
+}
+
+/// Whether the text becomes the table, and the journal has these notes.
+fn is_right(alloc: Global, case: &Case) -> Result<bool, Fail> {
+    let setup = Setup::new(case.targets, 16, case.delimiter, 1, case.form)?;
+    let (text, table) = sides(alloc, case.lines)?;
+    let (output, end) = converted(alloc, text.as_slice(), &setup);
+    let rows = table.iter().filter(|byte| **byte == b'\n').count();
+    Ok(
+        output.as_slice() == table.as_slice()
+            && is_whole_with(alloc, &end, rows.saturating_sub(1), case.notes),
+    )
+}
+
+#[test]
+fn texts_become_their_tables(rt: HostRuntime) -> Result<(), Fail> {
+    for case in &CASES {
+        assert!(rt; is_right(rt.alloc(), case)?, "at {:?}", case.lines);
+    }
+    Ok(())
+}
+
+/// Texts after bars, each behind the number of its cause, or 0, and a colon.
+struct Ends {
+    form: Form,
+    /// What each text begins with.
+    front: &'static str,
+    texts: &'static str,
+    /// The table of each, but of one with cause 6, which has none.
+    table: &'static str,
+}
+
+static ENDS: [Ends; 3] = [
+    Ends {
+        form: Form::Plain,
+        front: "",
+        texts: "0:id,calendar,date|0:\u{feff}\u{feff} id ,CALENDAR,date\n|6:|6:\n\n|6:id\n|6:id,calendar\n|\
+6:id,calendar,date,note\n|6:id,calendar,date,note,place\n|6:id,calendar,date,,,,,,,,,,,,,,,,,,,,,,,,,,,,,,,,,,,,,\n|\
+6:id,calendar,date,\n|6:calendar,id,date\n|6:id,calendar,\u{1a}\n|6:\u{feff}\u{feff}\u{feff}id,calendar,date\n",
+        table: "row,id,calendar,date,rd,weekday,gregorian,refusal\n",
+    },
+    Ends {
+        form: Form::Sealed,
+        front: "",
+        texts: "0:id,calendar,date,note\nEND,0\n|0:\u{feff} ID,calendar\t,Date, NOTE \nEND,0|\
+8:id,calendar,date,note\n|6:|6:END,0\n|6:END,0\nid,calendar,date,note\nEND,0\n|6:id,calendar,date\n|\
+6:id,calendar,date,notes\nEND,0\n|6:id,calendar,note,date\nEND,0\n|6:id,calendar,date,note,\nEND,0\n",
+        table: "row,id,calendar,date,note,rd,weekday,gregorian,refusal\n",
+    },
+    Ends {
+        form: Form::Sealed,
+        front: "\
+id,calendar,date,note
+a,julian,1582-10-05,parish book
+b,julian,1582-10-06
+",
+        texts: "0:END,2\n|0:END,2|0: END , 02\n|0:\tEND\t,\t0000002 \n|0:\"END\",\" 2\"\r\n\r\n|8:|8:END,3\n|\
+8:END,1\n|8:END,x\n|8:END,\n|8:END,+2\n|8:END,2.\n|8:END,0 2\n|8:END,00000002\n|\
+8:END,2\nc,julian,1582-10-07,\n|8:END,2\nEND,2\n|8:END,2\nEND\n|8:END,3\nEND,2\n",
+        table: "\
+row,id,calendar,date,note,rd,weekday,gregorian,refusal
+1,a,julian,1582-10-05,parish book,577736,Friday,1582-10-15,
+2,,,,,,,,1
+",
+    },
+];
+
+/// Whether a text behind its front ends as the number before its colon says.
+fn ends_well(alloc: Global, ends: &Ends, text: &str) -> Result<bool, Fail> {
+    let (wanted, rest) = text.split_once(':').ok_or("a cause and a text")?;
+    let setup = Setup::new(&[GREGORIAN], 16, b',', 1, ends.form)?;
+    let mut input = Vec::new(alloc);
+    push_text(&mut input, ends.front)?;
+    push_text(&mut input, rest)?;
+    let (output, end) = converted(alloc, input.as_slice(), &setup);
+    let table = if wanted == "6" { "" } else { ends.table };
+    Ok(wanted.parse::<u8>()? == cause_of(&end) && output.as_slice() == table.as_bytes())
+}
+
+#[test]
+fn texts_end_whole_or_with_their_causes(rt: HostRuntime) -> Result<(), Fail> {
+    for ends in &ENDS {
+        for text in ends.texts.split('|') {
+            assert!(rt; ends_well(rt.alloc(), ends, text)?, "at {text:?}");
+        }
+    }
+    Ok(())
+}

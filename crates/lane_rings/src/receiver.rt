@@ -39,7 +39,8 @@ fn mark_of<T>(item: &Item<T>) -> Option<Mark>
 }
 
 impl<T> Receiver<T> {
-    ghost use Rattle.std.specs.Prelude.{◌≡◌, ◌<◌, [], ◌∷◌, ◌++◌, length, IfOk, IsSome, IsTrue, OnErr, OnOk, MatchOption};
+    ghost use Rattle.std.specs.Prelude.{◌≡◌, ◌<◌, [], ◌∷◌, ◌++◌, length};
+    ghost use Rattle.std.specs.Prelude.{IfOk, IsSome, IsTrue, OnErr, OnOk, MatchOption};
     ghost use mathlib.Core.List.{IsPrefix};
     ghost use Rattle.lane_rings.specs.Lane.{receiver_lane, taken, waiting};
 

@@ -1,5 +1,5 @@
-//! Tests of `register_app`, through its public function: a caller like any other, so that what is proved of a test rests
-//! on the contracts alone.
+//! Tests of `register_app`, through its public function: a caller like any other, so that what is proved of a test
+//! rests on the contracts alone.
 #![tactic(auto)]
 
 #[cfg(test)]

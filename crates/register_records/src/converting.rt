@@ -36,8 +36,8 @@ pub(crate) fn day_of_body(body: &Body) -> Result<Day, Refusal>
     }
 }
 
-/// Makes a list the cells of an outcome: one for each target on a day, and none with a refusal. The list is lent, since it
-/// is large.
+/// Makes a list the cells of an outcome: one for each target on a day, and none with a refusal. The list is lent, since
+/// it is large.
 #[inline(never)]
 pub(crate) fn fill(
     cells: &mut ShortList<CellText>,

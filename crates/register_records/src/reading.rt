@@ -245,7 +245,7 @@ impl<R: Read + Drop> EntryReader<R> {
         })
     }
 
-    /// Reads the next entry to where it stays, and says whether there was one; it is `next` without a copy of the entry.
+    /// Reads the next entry to where it stays, and says whether there was one: `next` without a copy of the entry.
     pub(crate) fn read_next(&mut self, entry: &mut Entry) -> Result<bool, EntryFault>
         ensures gives { result ≡ Ok true → given_of self.new ≡ given_of self.old ++ entry_seen entry.new ∷ [] }
         ensures number { result ≡ Ok true

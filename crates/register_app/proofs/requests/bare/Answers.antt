@@ -5,4 +5,5 @@ use Rattle.register_app.proofs.requests.bare.Goals as goal
 
 pub returns : goal.returns
 returns c = rw (c.no_binary_name.ensures, c.version.ensures)
-    (ap (λ (app : App). record app { top = record app.top { no_binary_name = true; has_version = true } }) c.new.ensures.app)
+    (ap (λ (app : App). record app { top = record app.top { no_binary_name = true; has_version = true } })
+    c.new.ensures.app)

@@ -20,29 +20,33 @@ start-requires c =
 pub push_text-requires : goal.push_text-requires
 push_text-requires c b =
     let bare = rw c.entry.ensures at (c.is_bare-bare.ensures b) in
-    let all = unquoted (line_delimiter c.start.new.self) c.start.new.self.separated (body_seen c.body.result.now)
-    _ _ _ _ (rw (c.body.ensures.value, c.entry-2.ensures) bare) (c.texts_of.ensures.value Sealed) in
+    let all = unquoted (line_delimiter c.start.new.self) c.start.new.self.separated
+    (body_seen c.body.result.now) _ _ _ _ (rw (c.body.ensures.value, c.entry-2.ensures) bare)
+    (c.texts_of.ensures.value Sealed) in
     rw c.as_bytes-2.ensures.value all.0
 
 pub push_text-requires-2 : goal.push_text-requires-2
 push_text-requires-2 c b =
     let bare = rw c.entry.ensures at (c.is_bare-bare.ensures b) in
-    let all = unquoted (line_delimiter c.push_text.new.self) c.push_text.new.self.separated (body_seen c.body.result.now)
-    _ _ _ _ (rw (c.body.ensures.value, c.entry-2.ensures) bare) (c.texts_of.ensures.value Sealed) in
+    let all = unquoted (line_delimiter c.push_text.new.self) c.push_text.new.self.separated
+    (body_seen c.body.result.now) _ _ _ _ (rw (c.body.ensures.value, c.entry-2.ensures) bare)
+    (c.texts_of.ensures.value Sealed) in
     rw c.as_bytes-3.ensures.value all.1
 
 pub push_text-requires-3 : goal.push_text-requires-3
 push_text-requires-3 c b =
     let bare = rw c.entry.ensures at (c.is_bare-bare.ensures b) in
-    let all = unquoted (line_delimiter c.push_text-2.new.self) c.push_text-2.new.self.separated (body_seen c.body.result.now)
-    _ _ _ _ (rw (c.body.ensures.value, c.entry-2.ensures) bare) (c.texts_of.ensures.value Sealed) in
+    let all = unquoted (line_delimiter c.push_text-2.new.self) c.push_text-2.new.self.separated
+    (body_seen c.body.result.now) _ _ _ _ (rw (c.body.ensures.value, c.entry-2.ensures) bare)
+    (c.texts_of.ensures.value Sealed) in
     rw c.as_bytes-4.ensures.value all.2
 
 pub push_note-requires : goal.push_note-requires
 push_note-requires c b =
     let bare = rw c.entry.ensures at (c.is_bare-bare.ensures b) in
-    let all = unquoted (line_delimiter c.push_text-3.new.self) c.push_text-3.new.self.separated (body_seen c.body.result.now)
-    _ _ _ _ (rw (c.body.ensures.value, c.entry-2.ensures) bare) (c.texts_of.ensures.value Sealed) in
+    let all = unquoted (line_delimiter c.push_text-3.new.self) c.push_text-3.new.self.separated
+    (body_seen c.body.result.now) _ _ _ _ (rw (c.body.ensures.value, c.entry-2.ensures) bare)
+    (c.texts_of.ensures.value Sealed) in
     rw c.as_bytes-5.ensures.value all.3
 
 pub returns-clause-value : goal.returns-clause-value

@@ -51,5 +51,6 @@ returns-clause-value c =
     same-line _ _ before (fields ++ [] ∷ []) (row_fields c.args.form (row_targets row) (row_seen row)) _
     (c.in_ok-push_plain-3.ensures.kept ∙ c.in_ok-push_cells.ensures.kept ∙ c.in_ok-push_plain-2.ensures.kept
     ∙ c.in_ok-push_plain.ensures.kept ∙ c.in_ok-begin_line.ensures.kept)
-    (accepted-fields c.args.form (row_targets row) (row_seen row) c.args.day.number (ap outcome_seen c.requires.outcome))
+    (accepted-fields c.args.form (row_targets row) (row_seen row) c.args.day.number
+    (ap outcome_seen c.requires.outcome))
     (c.in_ok-end.ensures.value before (fields ++ [] ∷ []) (two-fields fields [] (omega arith)) last)

@@ -32,8 +32,9 @@ targets-preserved c =
     let fields = first ++ map target_name (take c.targets.target-index c.args.targets.now) in
     record {
       begun =
-          one-item target_name (line_delimiter c.push.new.self) (line_bytes c.args.lines.now) first _ _ _ _ _ c.targets-test.true
-          (c.as_bytes.ensures.value ∙ c.name.ensures) (c.in_ok-push.ensures.value (line_bytes c.args.lines.now) fields (omega arith) inv.begun);
+          one-item target_name (line_delimiter c.push.new.self) (line_bytes c.args.lines.now) first _ _ _ _ _
+          c.targets-test.true (c.as_bytes.ensures.value ∙ c.name.ensures)
+          (c.in_ok-push.ensures.value (line_bytes c.args.lines.now) fields (omega arith) inv.begun);
       kept = c.in_ok-push.ensures.kept ∙ inv.kept;
       capacity = omega (arith, c.in_ok-push.ensures.capacity, inv.capacity);
     }

@@ -19,7 +19,8 @@ returns-clause-part g c =
 
 pub returns-clause-bad_header : goal.returns-clause-bad_header
 returns-clause-bad_header g c =
-    of_each c.run_gated.result _ _ _ c.run_gated.ensures.report _ (λ s b a e is same. bad_header_of _ _ _ _ _ _ _ e same is)
+    of_each c.run_gated.result _ _ _ c.run_gated.ensures.report _
+    (λ s b a e is same. bad_header_of _ _ _ _ _ _ _ e same is)
 
 pub returns-clause-too_many_records : goal.returns-clause-too_many_records
 returns-clause-too_many_records g c =
@@ -52,7 +53,8 @@ pub returns-clause-marks : goal.returns-clause-marks
 returns-clause-marks g c = IfOk-weaker c.run_gated.result _ _ (λ r report. report.marks) c.run_gated.ensures.report
 
 pub returns-clause-lengths : goal.returns-clause-lengths
-returns-clause-lengths g c = IfOk-weaker c.run_gated.result _ _ (λ r report. search (rules, report.lengths)) c.run_gated.ensures.report
+returns-clause-lengths g c =
+    IfOk-weaker c.run_gated.result _ _ (λ r report. search (rules, report.lengths)) c.run_gated.ensures.report
 
 pub returns-clause-unchanged : goal.returns-clause-unchanged
 returns-clause-unchanged g c = c.run_gated.ensures.unchanged

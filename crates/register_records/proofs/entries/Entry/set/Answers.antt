@@ -4,4 +4,5 @@ use Rattle.register_records.proofs.entries.Entry.set.Goals as goal
 pub invariant_of-self-clause-bared : goal.invariant_of-self-clause-bared
 invariant_of-self-clause-bared c b =
     rw c.set.ensures.value
-    (bare-record c.args.form c.args.row.now.ends c.args.row.now.bytes (rw (← c.as_slice.ensures) (c.is_bare-self.ensures b)))
+    (bare-record c.args.form c.args.row.now.ends c.args.row.now.bytes
+    (rw (← c.as_slice.ensures) (c.is_bare-self.ensures b)))

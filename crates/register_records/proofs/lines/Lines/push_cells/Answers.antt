@@ -12,7 +12,17 @@ use Rattle.register_records.proofs.lines.Lines.push_cells.Goals as goal
 
 pub cells-init : goal.cells-init
 unfolding fields_text
-cells-init c = record { written = refl; short = omega arith; room = omega (arith, c.as_mut_slice.ensures.len, c.in_ok-extend_from_slice.ensures.len, length-take {A = ℕ}, length-drop {A = ℕ}) }
+cells-init c = record {
+  written = refl;
+  short = omega arith;
+  room = omega (
+    arith,
+    c.as_mut_slice.ensures.len,
+    c.in_ok-extend_from_slice.ensures.len,
+    length-take {A = ℕ},
+    length-drop {A = ℕ},
+  );
+}
 
 pub cells-preserved : goal.cells-preserved
 cells-preserved c =

@@ -41,7 +41,8 @@ invariant_of-self-else-not-keep g c =
     (given_of self) self.stands c.if-self.false c.if-self-2.false c.len-count.result
     (omega (arith, c.len-count.ensures, shown-length self.given.items))
     (records_left (inner_remaining g.R.Read.remaining) c.read_entry-answer.new.records)
-    (entries_shown c.keep.new.given.items) c.read_entry-answer.new.entry gives (omega (arith, number.0, number.1)) more in
+    (entries_shown c.keep.new.given.items) c.read_entry-answer.new.entry gives
+    (omega (arith, number.0, number.1)) more in
     record {
       live = λ _. c.in-Ok-true.ensures.live;
       few = omega (arith, longer, room);

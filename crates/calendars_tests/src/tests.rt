@@ -1,5 +1,7 @@
-mod answers;
+mod dates;
 mod days;
-mod lunar;
 mod maya;
-mod solar;
+mod months;
+mod new_years;
+mod roman;
+mod table;

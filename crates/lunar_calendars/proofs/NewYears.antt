@@ -49,7 +49,7 @@ postponed_after leap after_leap d t =
     (chosen (after_leap && falls_on_place 1 d && nat_le 16_789 t) _ _ _ _ (later d 1) (next_allowed_after noon)))
 
 -- the same by the days that a year is put off by and the time of the molad from which it is
-put_off : (leap after_leap : Bool) (d t days from : ℕ)
+pub put_off : (leap after_leap : Bool) (d t days from : ℕ)
     → days ≡ (if is_closed d || falls_on_place 1 d then 1 else 2)
     → from ≡ (if not leap && falls_on_place 2 d then 9_924
     else (if after_leap && falls_on_place 1 d then 16_789 else (if is_closed d then 0 else 19_440)))

@@ -1,5 +1,6 @@
 -- The lengths of Hebrew years.
-use Rattle.std.proofs.Common.{◌≡◌, ℕ, zero, suc, ◌+◌, ◌-◌, ◌*◌, ◌/◌, ◌%◌, ◌≤◌, ◌<◌, Bool, true, false, if◌then◌else◌}
+use Rattle.std.proofs.Common.{◌≡◌, ℕ, zero, suc, ◌+◌, ◌-◌, ◌*◌, ◌/◌, ◌%◌, ◌≤◌, ◌<◌, Bool, true, false, not, ◌&&◌, ◌||◌, ◌==◌}
+use Rattle.std.proofs.Common.{if◌then◌else◌, nat_le}
 use Rattle.std.proofs.Common.{refl, sym, ap, ◌∙◌, arith, ℤ, pos, ◌+ℤ◌, ◌-ℤ◌, ◌<ℤ◌, ◌≤ℤ◌, unsigned_abs, ◌⊎◌, inl, inr}
 use Rattle.std.specs.Prelude.{Contains}
 use Rattle.std.proofs.lemmas.Bool.Decides.{nat_tests}
@@ -8,7 +9,7 @@ use Rattle.day_numbers.proofs.RulesLemmas.{years-zero, years-suc}
 use Rattle.day_numbers.proofs.SignedArithmetic.{signed_arith}
 use Rattle.lunar_calendars.specs.Hebrew.{IsYearLength, is_leap_year, epoch, new_year_of, days_in_year, months_by_length}
 use Rattle.lunar_calendars.specs.Hebrew.{months_of_year, year_lengths, hebrew_rules}
-use Rattle.lunar_calendars.proofs.NewYears.{allowed, opening, parts_after, new_year_after, new_year_is, first_new_year}
+use Rattle.lunar_calendars.proofs.NewYears.{opening, put_off, parts_after, new_year_after, new_year_is, first_new_year}
 use Rattle.lunar_calendars.proofs.NewYears.{new_year_bounds}
 
 -- n lies from low to high above m
@@ -26,32 +27,72 @@ weekday_cases P p q r s t u v (suc (suc (suc (suc (suc zero))))) h = u
 weekday_cases P p q r s t u v (suc (suc (suc (suc (suc (suc zero)))))) h = v
 weekday_cases P p q r s t u v (suc (suc (suc (suc (suc (suc (suc k))))))) h = absurd (omega arith)
 
--- from a new year to the next, where the molad of the first is t parts into the weekday r
-IsStep : (leap a c : Bool) (q t r : ℕ) → Type 0
-IsStep leap a c q t r =
-    let d = 7 * q + r + (if leap then 383 else 354) + (t + (if leap then 23_269 else 9_516)) / 25_920 in
-    IsFrom (if leap then 383 else 353) (if leap then 385 else 355) (opening leap a (7 * q + r) t)
-    (opening c leap d ((t + (if leap then 23_269 else 9_516)) % 25_920))
+-- the day that a year opens on, whose molad is on day d and this weekday: put off by so many days from a time on
+abbrev days_off : ℕ → ℕ
+days_off w = if ((w == 0) || (w == 3) || (w == 5)) || (w == 1) then 1 else 2
 
-year_step : (leap a c : Bool) (q t : ℕ) → t < 25_920 → (r : ℕ) → r < 7 → IsStep leap a c q t r
-unfolding IsStep allowed
-year_step false a c q t h =
-    weekday_cases (λ r. IsStep false a c q t r)
+abbrev from_time : Bool → Bool → ℕ → ℕ
+from_time leap after_leap w =
+    if not leap && (w == 2) then 9_924
+    else (if after_leap && (w == 1) then 16_789 else (if (w == 0) || (w == 3) || (w == 5) then 0 else 19_440))
+
+abbrev opens_on : Bool → Bool → ℕ → ℕ → ℕ → ℕ
+opens_on leap after_leap w d t = if nat_le (from_time leap after_leap w) t then d + days_off w else d
+
+opening_is : (leap after_leap : Bool) (d t : ℕ)
+    → opens_on leap after_leap ((d + 1) % 7) d t ≡ opening leap after_leap d t
+opening_is leap after_leap d t =
+    put_off leap after_leap d t (days_off ((d + 1) % 7)) (from_time leap after_leap ((d + 1) % 7)) refl refl
+
+-- from a new year to the next, where the molad of the first is t parts into day d, on the weekday w, and the time of
+-- the next, u parts, is or is not past midnight once more
+IsStep : (leap a c : Bool) (past d t u w : ℕ) → Type 0
+IsStep leap a c past d t u w =
+    IsFrom (if leap then 383 else 353) (if leap then 385 else 355) (opens_on leap a w d t)
+    (opens_on c leap ((w + (if leap then 5 else 4) + past) % 7) (d + (if leap then 383 else 354) + past) u)
+
+year_step : (leap a c : Bool) (past d t u : ℕ) → t < 25_920 → u < 25_920 → past ≤ 1
+    → 25_920 * past + u ≡ t + (if leap then 23_269 else 9_516) → (w : ℕ) → w < 7 → IsStep leap a c past d t u w
+unfolding IsStep
+year_step false a c zero d t u h k m e =
+    weekday_cases (IsStep false a c 0 d t u)
     (grind (arith, nat_tests)) (grind (arith, nat_tests)) (grind (arith, nat_tests)) (grind (arith, nat_tests))
     (grind (arith, nat_tests)) (grind (arith, nat_tests)) (grind (arith, nat_tests))
-year_step true a c q t h =
-    weekday_cases (λ r. IsStep true a c q t r)
+year_step false a c (suc zero) d t u h k m e =
+    weekday_cases (IsStep false a c 1 d t u)
     (grind (arith, nat_tests)) (grind (arith, nat_tests)) (grind (arith, nat_tests)) (grind (arith, nat_tests))
     (grind (arith, nat_tests)) (grind (arith, nat_tests)) (grind (arith, nat_tests))
+year_step false a c (suc (suc n)) d t u h k m e = absurd (omega arith)
+year_step true a c zero d t u h k m e =
+    weekday_cases (IsStep true a c 0 d t u)
+    (grind (arith, nat_tests)) (grind (arith, nat_tests)) (grind (arith, nat_tests)) (grind (arith, nat_tests))
+    (grind (arith, nat_tests)) (grind (arith, nat_tests)) (grind (arith, nat_tests))
+year_step true a c (suc zero) d t u h k m e =
+    weekday_cases (IsStep true a c 1 d t u)
+    (grind (arith, nat_tests)) (grind (arith, nat_tests)) (grind (arith, nat_tests)) (grind (arith, nat_tests))
+    (grind (arith, nat_tests)) (grind (arith, nat_tests)) (grind (arith, nat_tests))
+year_step true a c (suc (suc n)) d t u h k m e = absurd (omega arith)
+
+from_same : (low high m n i j : ℕ) → m ≡ i → n ≡ j → IsFrom low high m n → IsFrom low high i j
+from_same low high m n i j p q s = rw (← p, ← q) s
 
 year_from : (leap a c : Bool) (d t d' t' : ℕ) → t < 25_920
     → d' ≡ d + (if leap then 383 else 354) + (t + (if leap then 23_269 else 9_516)) / 25_920
     → t' ≡ (t + (if leap then 23_269 else 9_516)) % 25_920
     → IsFrom (if leap then 383 else 353) (if leap then 385 else 355) (opening leap a d t) (opening c leap d' t')
 unfolding IsStep
-year_from leap a c d t d' t' h e f =
-    let split : 7 * (d / 7) + d % 7 ≡ d = omega arith in
-    rw (e, f) (rw split at (year_step leap a c (d / 7) t h (d % 7) (omega arith)))
+year_from false a c d t d' t' h e f =
+    let step =
+    year_step false a c ((t + 9_516) / 25_920) d t t' h (omega (arith, f)) (omega arith) (omega (arith, f)) ((d + 1) % 7)
+    (omega arith) in
+    let weekday : ((d + 1) % 7 + 4 + (t + 9_516) / 25_920) % 7 ≡ (d' + 1) % 7 = omega (arith, e) in
+    from_same _ _ _ _ _ _ (opening_is false a d t) (opening_is c false d' t') (rw (weekday, ← e) at step)
+year_from true a c d t d' t' h e f =
+    let step =
+    year_step true a c ((t + 23_269) / 25_920) d t t' h (omega (arith, f)) (omega arith) (omega (arith, f)) ((d + 1) % 7)
+    (omega arith) in
+    let weekday : ((d + 1) % 7 + 5 + (t + 23_269) / 25_920) % 7 ≡ (d' + 1) % 7 = omega (arith, e) in
+    from_same _ _ _ _ _ _ (opening_is true a d t) (opening_is c true d' t') (rw (weekday, ← e) at step)
 
 -- the parts from a molad to the next year's
 parts_step : (n : ℕ) (leap : Bool) → is_leap_year (suc n) ≡ leap

@@ -1,6 +1,6 @@
 -- The lengths of Hebrew years.
-use Rattle.std.proofs.Common.{◌≡◌, ℕ, zero, suc, ◌+◌, ◌-◌, ◌*◌, ◌/◌, ◌%◌, ◌≤◌, ◌<◌, Bool, true, false, not, ◌&&◌, ◌||◌, ◌==◌}
-use Rattle.std.proofs.Common.{if◌then◌else◌, nat_le}
+use Rattle.std.proofs.Common.{◌≡◌, ℕ, zero, suc, ◌+◌, ◌-◌, ◌*◌, ◌/◌, ◌%◌, ◌≤◌, ◌<◌, Bool, true, false, not, ◌&&◌, ◌||◌}
+use Rattle.std.proofs.Common.{◌==◌, if◌then◌else◌, nat_le}
 use Rattle.std.proofs.Common.{refl, sym, ap, ◌∙◌, arith, ℤ, pos, ◌+ℤ◌, ◌-ℤ◌, ◌<ℤ◌, ◌≤ℤ◌, unsigned_abs, ◌⊎◌, inl, inr}
 use Rattle.std.specs.Prelude.{Contains}
 use Rattle.std.proofs.lemmas.Bool.Decides.{nat_tests}
@@ -83,14 +83,14 @@ year_from : (leap a c : Bool) (d t d' t' : ℕ) → t < 25_920
 unfolding IsStep
 year_from false a c d t d' t' h e f =
     let step =
-    year_step false a c ((t + 9_516) / 25_920) d t t' h (omega (arith, f)) (omega arith) (omega (arith, f)) ((d + 1) % 7)
-    (omega arith) in
+    year_step false a c ((t + 9_516) / 25_920) d t t' h (omega (arith, f)) (omega arith) (omega (arith, f))
+    ((d + 1) % 7) (omega arith) in
     let weekday : ((d + 1) % 7 + 4 + (t + 9_516) / 25_920) % 7 ≡ (d' + 1) % 7 = omega (arith, e) in
     from_same _ _ _ _ _ _ (opening_is false a d t) (opening_is c false d' t') (rw (weekday, ← e) at step)
 year_from true a c d t d' t' h e f =
     let step =
-    year_step true a c ((t + 23_269) / 25_920) d t t' h (omega (arith, f)) (omega arith) (omega (arith, f)) ((d + 1) % 7)
-    (omega arith) in
+    year_step true a c ((t + 23_269) / 25_920) d t t' h (omega (arith, f)) (omega arith) (omega (arith, f))
+    ((d + 1) % 7) (omega arith) in
     let weekday : ((d + 1) % 7 + 5 + (t + 23_269) / 25_920) % 7 ≡ (d' + 1) % 7 = omega (arith, e) in
     from_same _ _ _ _ _ _ (opening_is true a d t) (opening_is c true d' t') (rw (weekday, ← e) at step)
 

@@ -37,13 +37,15 @@ month_at m = (omega arith, there m)
     there Pop = refl
     there m = refl
 
-pub month_named : (m : HaabMonth) (number : ℕ) → IsNumbered all_months number m → month_name number ≡ month_name (tag_of the_months m + 1)
+pub month_named : (m : HaabMonth) (number : ℕ) → IsNumbered all_months number m
+    → month_name number ≡ month_name (tag_of the_months m + 1)
 month_named m number e =
     text_at month_names number (tag_of the_months m) (place_is 19 (number - 1) (tag_of the_months m)
     (slice_get-map (tag_of the_months) all_months (number - 1) ∙ ap (option_map (tag_of the_months)) e.1))
 
 -- the last day of a month is 19 at most
-pub day_below : (day : ℕ) (m : HaabMonth) → ((number : ℕ) → IsNumbered all_months number m → day ≤ last_day number) → day ≤ 19
+pub day_below : (day : ℕ) (m : HaabMonth)
+    → ((number : ℕ) → IsNumbered all_months number m → day ≤ last_day number) → day ≤ 19
 day_below day m h =
     let in_month = h (tag_of the_months m + 1) (month_at m) in grind (arith, nat_tests)
 
@@ -55,7 +57,8 @@ name_at name = (omega arith, there name)
     there Imix = refl
     there name = refl
 
-pub name_named : (name : TzolkinName) (place : ℕ) → IsNumbered all_names place name → name_text place ≡ name_text (tag_of the_names name + 1)
+pub name_named : (name : TzolkinName) (place : ℕ) → IsNumbered all_names place name
+    → name_text place ≡ name_text (tag_of the_names name + 1)
 name_named name place e =
     text_at name_texts place (tag_of the_names name) (place_is 20 (place - 1) (tag_of the_names name)
     (slice_get-map (tag_of the_names) all_names (place - 1) ∙ ap (option_map (tag_of the_names)) e.1))

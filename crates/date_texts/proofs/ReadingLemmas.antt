@@ -23,7 +23,8 @@ use Rattle.date_texts.proofs.TextParts.{IsMark, no_letter, capital_letter, small
 use Rattle.date_texts.specs.CivilText.{canonical_civil, canonical_week}
 use Rattle.date_texts.specs.LongText.{canonical_long}
 use Rattle.date_texts.specs.Reading.{digits_at, number_at, after_byte, year_at, after_week_letter, after_mark}
-use Rattle.date_texts.specs.Reading.{civil_at, long_at, all_read, as_year, as_year_before_zero, ◌>>=◌}
+use Rattle.date_texts.specs.Reading.{civil_at, place_at, long_at, all_read, as_year, as_year_before_zero, signed_year}
+use Rattle.date_texts.specs.Reading.{◌>>=◌}
 
 -- a text that does not begin with a digit
 abbrev pub NoDigitFirst : List ℕ → Type 0
@@ -186,9 +187,6 @@ byte_read_by : (b c : ℕ) (cs rest : List ℕ) (t : Bool) → (c == b) ≡ t �
 byte_read_by b c cs rest true eb e = let same : c ≡ b = grind (arith, nat_tests) in cc
 byte_read_by b c cs rest false eb e = absurd (cc)
 
-dash_then : (c : ℕ) (cs ds rest : List ℕ) → (c == 45) ≡ true → cs ≡ ds ++ rest → c ∷ cs ≡ 45 ∷ (ds ++ rest)
-dash_then c cs ds rest eb e = let dash : c ≡ 45 = grind (arith, nat_tests) in cc
-
 pub some_inside : {A : Type 0} {x y : A} → Some x ≡ Some y → x ≡ y
 some_inside e = cc
 
@@ -206,22 +204,20 @@ pub record ReadsYear (bytes : List ℕ) (z : ℤ) (rest : List ℕ) : Type 0 whe
   pub is_year : IsYearText text z
   pub joined : bytes ≡ text ++ rest
 
-year_read_by : (c : ℕ) (cs : List ℕ) (z : ℤ) (rest : List ℕ) (b : Bool) → (c == 45) ≡ b
-    → cond b (number_at 4 cs >>= λ n. Some (as_year_before_zero n)) (number_at 4 (c ∷ cs) >>= λ n. Some (as_year n))
-    ≡ Some (z, rest)
-    → ReadsYear (c ∷ cs) z rest
-year_read_by c cs z rest true eb e =
-    let x = bind_some (number_at 4 cs) (λ n. Some (as_year_before_zero n)) (z, rest) e in
-    let r = number_read 4 cs x.0.0 x.0.1 x.1 in
+year_read_by : (bytes : List ℕ) (z : ℤ) (rest : List ℕ) (o : Option (List ℕ)) → after_byte 45 bytes ≡ o
+    → signed_year o bytes ≡ Some (z, rest) → ReadsYear bytes z rest
+year_read_by bytes z rest (Some digits) eo e =
+    let x = bind_some (number_at 4 digits) (λ n. Some (as_year_before_zero n)) (z, rest) e in
+    let r = number_read 4 digits x.0.0 x.0.1 x.1 in
     let same : as_year_before_zero x.0 ≡ (z, rest) = some_inside x.2 in
     record {
       text = 45 ∷ r.ds;
       is_year = subst (IsYearText (45 ∷ r.ds)) (ap (λ p. p.0) same) (minus r.numeral);
-      joined = dash_then c cs r.ds rest eb (r.joined ∙ ap (λ p. r.ds ++ p.1) same);
+      joined = byte_read 45 bytes digits eo ∙ ap (λ ds. 45 ∷ ds) (r.joined ∙ ap (λ p. r.ds ++ p.1) same);
     }
-year_read_by c cs z rest false eb e =
-    let x = bind_some (number_at 4 (c ∷ cs)) (λ n. Some (as_year n)) (z, rest) e in
-    let r = number_read 4 (c ∷ cs) x.0.0 x.0.1 x.1 in
+year_read_by bytes z rest None eo e =
+    let x = bind_some (number_at 4 bytes) (λ n. Some (as_year n)) (z, rest) e in
+    let r = number_read 4 bytes x.0.0 x.0.1 x.1 in
     let same : as_year x.0 ≡ (z, rest) = some_inside x.2 in
     record {
       text = r.ds;
@@ -232,8 +228,7 @@ year_read_by c cs z rest false eb e =
 
 pub year_read : (bytes : List ℕ) (z : ℤ) (rest : List ℕ) → year_at bytes ≡ Some (z, rest) → ReadsYear bytes z rest
 unfolding year_at
-year_read [] z rest e = absurd (cc)
-year_read (c ∷ cs) z rest e = year_read_by c cs z rest (c == 45) refl e
+year_read bytes z rest e = year_read_by bytes z rest (after_byte 45 bytes) refl e
 
 -- the letter before a week
 record ReadsMark (grammar : Grammar) (bytes rest : List ℕ) : Type 0 where
@@ -312,39 +307,23 @@ record ReadsPlace (bytes : List ℕ) (n : ℕ) (rest : List ℕ) : Type 0 where
   numeral : IsNumeral 4 ds n
   joined : bytes ≡ ds ++ 46 ∷ rest
 
-place_read : {B : Type 0} (bytes : List ℕ) (f : ℕ → List ℕ → Option B) (y : B)
-    → (number_at 3 bytes >>= λ r. after_byte 46 r.1 >>= λ rest. f r.0 rest) ≡ Some y
-    → (n : ℕ) × (rest : List ℕ) × ReadsPlace bytes n rest × (f n rest ≡ Some y)
-place_read bytes f y e =
-    let a = bind_some (number_at 3 bytes) (λ r. after_byte 46 r.1 >>= λ rest. f r.0 rest) y e in
-    let b = bind_some (after_byte 46 a.0.1) (λ rest. f a.0.0 rest) y a.2 in
-    let number = number_read 3 bytes a.0.0 a.0.1 a.1 in (
-      a.0.0,
-      b.0,
-      record {
-        ds = number.ds;
-        numeral = number.numeral;
-        joined = number.joined
-            ∙ ap (λ x. number.ds ++ x) (byte_read 46 a.0.1 b.0 b.1);
-      },
-      b.2,
-    )
-
-final_read : {B : Type 0} (bytes : List ℕ) (f : ℕ → B) (y : B)
-    → (number_at 3 bytes >>= λ r. all_read r.1 (f r.0)) ≡ Some y
-    → (n : ℕ) × (ds : List ℕ) × IsNumeral 4 ds n × (bytes ≡ ds) × (f n ≡ y)
-final_read bytes f y e =
-    let a = bind_some (number_at 3 bytes) (λ r. all_read r.1 (f r.0)) y e in
+place_read : (bytes : List ℕ) (n : ℕ) (rest : List ℕ) → place_at bytes ≡ Some (n, rest) → ReadsPlace bytes n rest
+unfolding place_at
+place_read bytes n rest e =
+    let a = bind_some (number_at 3 bytes) _ (n, rest) e in
+    let b = bind_some (after_byte 46 a.0.1) _ (n, rest) a.2 in
+    let same : ◌≡◌ {A = ℕ × List ℕ} (a.0.0, b.0) (n, rest) = some_inside b.2 in
     let number = number_read 3 bytes a.0.0 a.0.1 a.1 in
-    let whole = all_is_read a.0.1 (f a.0.0) y a.2 in
-    (a.0.0, number.ds, number.numeral, last_place bytes number.ds a.0.1 number.joined whole.0, whole.1)
+    record {
+      ds = number.ds;
+      numeral = subst (IsNumeral 4 number.ds) (ap (λ x. x.0) same) number.numeral;
+      joined = number.joined ∙ ap (λ x. number.ds ++ x) (byte_read 46 a.0.1 b.0 b.1)
+          ∙ ap (λ x. number.ds ++ 46 ∷ x.1) same;
+    }
 
 long_joined : (text a x b y c z d w e : List ℕ) → text ≡ a ++ 46 ∷ x → x ≡ b ++ 46 ∷ y → y ≡ c ++ 46 ∷ z
     → z ≡ d ++ 46 ∷ w → w ≡ e → text ≡ a ++ 46 ∷ (b ++ 46 ∷ (c ++ 46 ∷ (d ++ 46 ∷ e)))
 long_joined text a x b y c z d w e h i j k l = rw (h, i, j, k, l) refl
-
-Places : Type 0
-Places = ℕ × ℕ × ℕ × ℕ × ℕ
 
 same_places : (a b c d e p q r s t : ℕ) → ◌≡◌ {A = ℕ × ℕ × ℕ × ℕ × ℕ} (a, b, c, d, e) (p, q, r, s, t)
     → (a ≡ p) × (b ≡ q) × (c ≡ r) × (d ≡ s) × (e ≡ t)
@@ -355,35 +334,33 @@ spelled : (ds : List ℕ) (n p : ℕ) → n ≡ p → IsNumeral 4 ds n → IsNum
 spelled ds n p h is = subst (IsNumeral 4 ds) h is
 
 pub long_read : (bytes : List ℕ) (p q r s t : ℕ) → long_at bytes ≡ Some (p, q, r, s, t) → LongParts bytes p q r s t
-unfolding long_at Places
+unfolding long_at
 long_read bytes p q r s t e =
-    let y : Places = (p, q, r, s, t) in
-    let a = place_read {B = Places} bytes
-    (λ b x. number_at 3 x >>= λ k. after_byte 46 k.1 >>= λ x2. number_at 3 x2 >>= λ u. after_byte 46 u.1 >>=
-    λ x3. number_at 3 x3 >>= λ v. after_byte 46 v.1 >>= λ x4. number_at 3 x4 >>= λ w. all_read w.1
-    (b, k.0, u.0, v.0, w.0)) y e in
-    let b = place_read {B = Places} a.1
-    (λ k x2. number_at 3 x2 >>= λ u. after_byte 46 u.1 >>= λ x3. number_at 3 x3 >>= λ v. after_byte 46 v.1 >>=
-    λ x4. number_at 3 x4 >>= λ w. all_read w.1 (a.0, k, u.0, v.0, w.0)) y a.3 in
-    let c = place_read {B = Places} b.1
-    (λ u x3. number_at 3 x3 >>= λ v. after_byte 46 v.1 >>= λ x4. number_at 3 x4 >>= λ w. all_read w.1
-    (a.0, b.0, u, v.0, w.0)) y b.3 in
-    let d = place_read {B = Places} c.1 (λ v x4. number_at 3 x4 >>= λ w. all_read w.1 (a.0, b.0, c.0, v, w.0)) y c.3 in
-    let f = final_read {B = Places} d.1 (λ w. (a.0, b.0, c.0, d.0, w)) y d.3 in
-    let same = same_places a.0 b.0 c.0 d.0 f.0 p q r s t f.4 in
+    let a = bind_some (place_at bytes) _ (p, q, r, s, t) e in
+    let b = bind_some (place_at a.0.1) _ (p, q, r, s, t) a.2 in
+    let c = bind_some (place_at b.0.1) _ (p, q, r, s, t) b.2 in
+    let d = bind_some (place_at c.0.1) _ (p, q, r, s, t) c.2 in
+    let f = bind_some (number_at 3 d.0.1) _ (p, q, r, s, t) d.2 in
+    let whole = all_is_read f.0.1 (a.0.0, b.0.0, c.0.0, d.0.0, f.0.0) (p, q, r, s, t) f.2 in
+    let same = same_places a.0.0 b.0.0 c.0.0 d.0.0 f.0.0 p q r s t whole.1 in
+    let baktun = place_read bytes a.0.0 a.0.1 a.1 in
+    let katun = place_read a.0.1 b.0.0 b.0.1 b.1 in
+    let tun = place_read b.0.1 c.0.0 c.0.1 c.1 in
+    let uinal = place_read c.0.1 d.0.0 d.0.1 d.1 in
+    let kin = number_read 3 d.0.1 f.0.0 f.0.1 f.1 in
     record {
-      baktun_text = a.2.ds;
-      katun_text = b.2.ds;
-      tun_text = c.2.ds;
-      uinal_text = d.2.ds;
-      kin_text = f.1;
-      is_baktun = spelled a.2.ds a.0 p same.0 a.2.numeral;
-      is_katun = spelled b.2.ds b.0 q same.1 b.2.numeral;
-      is_tun = spelled c.2.ds c.0 r same.2 c.2.numeral;
-      is_uinal = spelled d.2.ds d.0 s same.3 d.2.numeral;
-      is_kin = spelled f.1 f.0 t same.4 f.2;
-      joined = long_joined bytes a.2.ds a.1 b.2.ds b.1 c.2.ds c.1 d.2.ds d.1 f.1 a.2.joined b.2.joined c.2.joined
-          d.2.joined f.3;
+      baktun_text = baktun.ds;
+      katun_text = katun.ds;
+      tun_text = tun.ds;
+      uinal_text = uinal.ds;
+      kin_text = kin.ds;
+      is_baktun = spelled baktun.ds a.0.0 p same.0 baktun.numeral;
+      is_katun = spelled katun.ds b.0.0 q same.1 katun.numeral;
+      is_tun = spelled tun.ds c.0.0 r same.2 tun.numeral;
+      is_uinal = spelled uinal.ds d.0.0 s same.3 uinal.numeral;
+      is_kin = spelled kin.ds f.0.0 t same.4 kin.numeral;
+      joined = long_joined bytes baktun.ds a.0.1 katun.ds b.0.1 tun.ds c.0.1 uinal.ds d.0.1 kin.ds baktun.joined
+          katun.joined tun.joined uinal.joined (last_place d.0.1 kin.ds f.0.1 kin.joined whole.0);
     }
 
 -- ---- and what is in the grammar is read
@@ -392,7 +369,7 @@ digit_no_dash c h = grind (arith, nat_tests)
 
 pub year_take : (text : List ℕ) (z : ℤ) (x : List ℕ) → IsYearText text z → NoDigitFirst x
     → year_at (text ++ x) ≡ Some (z, x)
-unfolding year_at
+unfolding year_at after_byte
 year_take [] z x (plain {n = n} h) stop = absurd (omega (arith, h.some))
 year_take (c ∷ cs) z x (plain {n = n} h) stop =
     let both = both_true (is_ascii_digit c) (all_digits cs) h.digits in
@@ -410,7 +387,7 @@ civil_take grammar text z m d h =
     rw (h.joined, year, mark, month, rw append-nil at day)
 
 pub long_take : (text : List ℕ) (p q r s t : ℕ) → LongParts text p q r s t → long_at text ≡ Some (p, q, r, s, t)
-unfolding long_at after_byte
+unfolding long_at place_at after_byte
 long_take text p q r s t h =
     let from_uinal = h.uinal_text ++ 46 ∷ h.kin_text in
     let from_tun = h.tun_text ++ 46 ∷ from_uinal in

@@ -37,11 +37,13 @@ as_year n = (pos n.0, n.1)
 abbrev pub as_year_before_zero : ℕ × List ℕ → ℤ × List ℕ
 as_year_before_zero n = (neg_ℤ (pos n.0), n.1)
 
+-- a year, of what follows a minus sign, or else of all the bytes
+abbrev pub signed_year : Option (List ℕ) → List ℕ → Option (ℤ × List ℕ)
+signed_year (Some rest) bytes = number_at 4 rest >>= λ n. Some (as_year_before_zero n)
+signed_year None bytes = number_at 4 bytes >>= λ n. Some (as_year n)
+
 unfoldable pub year_at : List ℕ → Option (ℤ × List ℕ)
-year_at [] = None
-year_at (c ∷ cs) =
-    if c == 45 then (number_at 4 cs >>= λ n. Some (as_year_before_zero n)) else
-    (number_at 4 (c ∷ cs) >>= λ n. Some (as_year n))
+year_at bytes = signed_year (after_byte 45 bytes) bytes
 
 abbrev pub all_read : {A : Type 0} → List ℕ → A → Option A
 all_read [] x = Some x
@@ -69,17 +71,20 @@ civil_at grammar bytes = do
   day ← number_at 1 second
   all_read day.1 (year.0, month.0, day.0)
 
+-- a place of a long count, and what follows the dot behind it
+unfoldable pub place_at : List ℕ → Option (ℕ × List ℕ)
+place_at bytes = do
+  place ← number_at 3 bytes
+  rest ← after_byte 46 place.1
+  Some (place.0, rest)
+
 unfoldable pub long_at : List ℕ → Option (ℕ × ℕ × ℕ × ℕ × ℕ)
 long_at bytes = do
-  baktun ← number_at 3 bytes
-  first ← after_byte 46 baktun.1
-  katun ← number_at 3 first
-  second ← after_byte 46 katun.1
-  tun ← number_at 3 second
-  third ← after_byte 46 tun.1
-  uinal ← number_at 3 third
-  fourth ← after_byte 46 uinal.1
-  kin ← number_at 3 fourth
+  baktun ← place_at bytes
+  katun ← place_at baktun.1
+  tun ← place_at katun.1
+  uinal ← place_at tun.1
+  kin ← number_at 3 uinal.1
   all_read kin.1 (baktun.0, katun.0, tun.0, uinal.0, kin.0)
 
 -- the count of a Roman name, of one or two digits to the end

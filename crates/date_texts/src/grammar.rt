@@ -1,7 +1,7 @@
 //! How the dates of each calendar are written.
 
 /// How the dates of a calendar are written.
-#[derive(Clone, Copy, PartialEq, Eq, Debug)]
+#[derive(Clone, Copy, PartialEq, Eq)]
 pub enum Grammar {
     /// A year, a month and a day: `1945-11-12`.
     Civil,

@@ -7,12 +7,23 @@ ghost use Rattle.maya_calendars.specs.Places.{ArePlaces};
 ghost use Rattle.date_texts.specs.declared.calendar.Calendar.TheVariants.{Longcount};
 ghost use Rattle.date_texts.specs.declared.date.Date.{Date};
 ghost use Rattle.date_texts.specs.DateText.{SaysDate, canonical_text};
-ghost use Rattle.date_texts.specs.Reading.{long_at as long_spec};
+ghost use Rattle.date_texts.specs.Reading.{long_at as long_spec, place_at as place_spec, seen_number};
 
 use crate::date::Date;
 use crate::numerals::{after_byte, at_end, number_at, push_number};
 use arrayvec::ArrayString;
 use maya_calendars::LongCount;
+
+/// A place of a long count, and the bytes after the dot behind it.
+#[inline(always)]
+#[tactic(auto, unfolding(crate::specs::Reading::place_at))]
+fn place_at(bytes: &[u8]) -> Option<(u16, &[u8])>
+    ensures value { seen_number result ≡ place_spec bytes.now }
+    ensures small { IfSome result (λ r. r.0 ≤ 9_999) }
+{
+    let (place, rest) = number_at(3, bytes)?;
+    Some((place as u16, after_byte(b'.', rest)?))
+}
 
 /// The five places of a long count that the bytes spell.
 #[tactic(auto, unfolding(crate::specs::Reading::long_at))]
@@ -20,21 +31,12 @@ fn long_at(bytes: &[u8]) -> Option<(u16, u16, u16, u16, u16)>
     ensures value { result ≡ long_spec bytes.now }
     ensures near { IfSome result (λ c. ArePlaces c.0 c.1 c.2 c.3 c.4) }
 {
-    let (baktun, rest) = number_at(3, bytes)?;
-    let (katun, rest) = number_at(3, after_byte(b'.', rest)?)?;
-    let (tun, rest) = number_at(3, after_byte(b'.', rest)?)?;
-    let (uinal, rest) = number_at(3, after_byte(b'.', rest)?)?;
-    let (kin, rest) = number_at(3, after_byte(b'.', rest)?)?;
-    at_end(
-        rest,
-        (
-            baktun as u16,
-            katun as u16,
-            tun as u16,
-            uinal as u16,
-            kin as u16,
-        ),
-    )
+    let (baktun, rest) = place_at(bytes)?;
+    let (katun, rest) = place_at(rest)?;
+    let (tun, rest) = place_at(rest)?;
+    let (uinal, rest) = place_at(rest)?;
+    let (kin, rest) = number_at(3, rest)?;
+    at_end(rest, (baktun, katun, tun, uinal, kin as u16))
 }
 
 /// The long count that a text without blanks at its ends says.

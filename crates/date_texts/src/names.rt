@@ -13,24 +13,32 @@ use crate::trim::trimmed;
 fn target_spelled(name: &[u8]) -> Option<Target>
     ensures { (target : Target) → (result ≡ Some target) → name.now ≡ target_name target }
 {
-    let target = match name {
-        b"gregorian" => Target::Date(Calendar::Gregorian),
-        b"iso" => Target::Date(Calendar::Iso),
-        b"julian" => Target::Date(Calendar::Julian),
-        b"coptic" => Target::Date(Calendar::Coptic),
-        b"ethiopic" => Target::Date(Calendar::Ethiopic),
-        b"egyptian" => Target::Date(Calendar::Egyptian),
-        b"armenian" => Target::Date(Calendar::Armenian),
-        b"islamic" => Target::Date(Calendar::Islamic),
-        b"hebrew" => Target::Date(Calendar::Hebrew),
-        b"longcount" => Target::Date(Calendar::Longcount),
-        b"french" => Target::Date(Calendar::French),
-        b"roman" => Target::Date(Calendar::Roman),
-        b"haab" => Target::Haab,
-        b"tzolkin" => Target::Tzolkin,
+    let [first, .., last] = name else {
+        return None;
+    };
+    // These two letters leave one target, whose name is then compared.
+    let target = match (*first, *last) {
+        (b'g', _) => Target::Date(Calendar::Gregorian),
+        (b'i', b'o') => Target::Date(Calendar::Iso),
+        (b'j', _) => Target::Date(Calendar::Julian),
+        (b'c', _) => Target::Date(Calendar::Coptic),
+        (b'e', b'c') => Target::Date(Calendar::Ethiopic),
+        (b'e', _) => Target::Date(Calendar::Egyptian),
+        (b'a', _) => Target::Date(Calendar::Armenian),
+        (b'i', _) => Target::Date(Calendar::Islamic),
+        (b'h', b'w') => Target::Date(Calendar::Hebrew),
+        (b'l', _) => Target::Date(Calendar::Longcount),
+        (b'f', _) => Target::Date(Calendar::French),
+        (b'r', _) => Target::Date(Calendar::Roman),
+        (b'h', _) => Target::Haab,
+        (b't', _) => Target::Tzolkin,
         _ => return None,
     };
-    Some(target)
+    if target.name().as_bytes() == name {
+        Some(target)
+    } else {
+        None
+    }
 }
 
 /// The target that a text names: the target's name in letters of either ASCII case, with any spaces and

@@ -51,6 +51,7 @@ pub fn number_at(more: u8, bytes: &[u8]) -> Option<(u32, &[u8])>
 }
 
 /// The bytes after the byte `byte` at the front.
+#[inline(always)]
 #[tactic(auto, unfolding(crate::specs::Reading::after_byte))]
 pub fn after_byte(byte: u8, bytes: &[u8]) -> Option<&[u8]>
     ensures { seen_rest result ≡ after_spec byte bytes.now }
@@ -63,17 +64,17 @@ pub fn after_byte(byte: u8, bytes: &[u8]) -> Option<&[u8]>
 
 /// A year at the front, and the bytes after it.
 #[inline(always)]
-#[tactic(auto, unfolding(crate::specs::Reading::year_at, crate::specs::Reading::number_at))]
+#[tactic(auto, unfolding(crate::specs::Reading::year_at))]
 pub fn year_at(bytes: &[u8]) -> Option<(i32, &[u8])>
     ensures value { seen_year result ≡ year_spec bytes.now }
     ensures near { IfSome result (λ r. IsYear r.0) }
 {
-    match bytes {
-        [b'-', rest @ ..] => {
+    match after_byte(b'-', bytes) {
+        Some(rest) => {
             let (year, rest) = number_at(4, rest)?;
             Some((-(year as i32), rest))
         }
-        _ => {
+        None => {
             let (year, rest) = number_at(4, bytes)?;
             Some((year as i32, rest))
         }

@@ -40,7 +40,8 @@ pub roman_from_month_date : (places : List ℕ) (year month : ℕ) (name : Roman
     → take 8 places ++ canonical_name name ≡ canonical_roman (pos year) month name
 roman_from_month_date places year month name h i e =
     let front : take 8 places ≡ (pair (year / 100) ++ pair (year % 100)) ++ 45 ∷ (pair month ++ 45 ∷ []) =
-    sym (take-take 8 10 places (omega arith)) ∙ ap (take 8) (e ∙ sym (month_date_bytes year month 0 h i (omega arith))) in
+    sym (take-take 8 10 places (omega arith))
+    ∙ ap (take 8) (e ∙ sym (month_date_bytes year month 0 h i (omega arith))) in
     ap (λ (text : List ℕ). text ++ canonical_name name) front
     ∙ sym (ap (λ (ds : List ℕ). ds ++ 45 ∷ (padded 2 month ++ 45 ∷ canonical_name name)) (four_digits year h)
     ∙ ap (λ (ds : List ℕ). (pair (year / 100) ++ pair (year % 100)) ++ 45 ∷ (ds ++ 45 ∷ canonical_name name))

@@ -1,5 +1,5 @@
-//! What is written to the places of a cell, one piece after the other. Each function is told at which place it begins, and
-//! says which place follows what it wrote.
+//! What is written to the places of a cell, one piece after the other. Each function is told at which place it begins,
+//! and says which place follows what it wrote.
 
 ghost use Rattle.std.specs.Prelude.{◌≡◌, ◌≤◌, ◌<◌, ◌+◌, ◌++◌, ◌∷◌, [], length, take};
 ghost use Rattle.std.specs.Fmt.{decimal};

@@ -154,8 +154,8 @@ fn write_text(places: &mut [u8; MAX_CELL], target: Target, day: Day) -> u8
     put_text(places, 0, text.as_str()) as u8
 }
 
-/// Writes the cell of a day in a calendar of civil or week dates to the front of a cell's room, and says how many bytes it
-/// has. `by` finds the calendar's dates.
+/// Writes the cell of a day in a calendar of civil or week dates to the front of a cell's room, and says how many bytes
+/// it has. `by` finds the calendar's dates.
 // A function for each calendar: it finds the date and writes it without a call between.
 #[inline(never)]
 fn write_date<C: ArithmeticCalendar>(
@@ -178,8 +178,8 @@ fn write_date<C: ArithmeticCalendar>(
     write_text(places, Target::Date(calendar), day)
 }
 
-/// Writes a long count to the front of a cell's room, where no place has more than two digits, and says how many bytes it
-/// has.
+/// Writes a long count to the front of a cell's room, where no place has more than two digits, and says how many bytes
+/// it has.
 #[inline(always)]
 fn write_short_count(places: &mut [u8; MAX_CELL], count: LongCount) -> Option<u8>
     requires { IsLongCount count }
@@ -196,7 +196,8 @@ fn write_short_count(places: &mut [u8; MAX_CELL], count: LongCount) -> Option<u8
     Some(put_place(places, after, count.kin() as u8) as u8)
 }
 
-/// Writes the cell of a day in the column of the long count to the front of a cell's room, and says how many bytes it has.
+/// Writes the cell of a day in the column of the long count to the front of a cell's room, and says how many bytes it
+/// has.
 #[inline(never)]
 fn write_long_count(places: &mut [u8; MAX_CELL], day: Day) -> u8
     ensures few { result ≤ MAX_CELL }
@@ -261,8 +262,8 @@ fn write_date_cell(places: &mut [u8; MAX_CELL], calendar: Calendar, day: Day) ->
     }
 }
 
-/// Writes a number without leading zeros, one space and a name to the front of a cell's room, and says how many bytes they
-/// have.
+/// Writes a number without leading zeros, one space and a name to the front of a cell's room, and says how many bytes
+/// they have.
 #[inline(always)]
 fn write_numbered(places: &mut [u8; MAX_CELL], number: u8, name: &str) -> u8
     requires small { number ≤ 99 }

@@ -11,5 +11,6 @@ returns-clause-value c =
       | then-number-lt10 w ↦
           rw (w.last-is, digits) (ones_alone c.args.places.now c.args.at n (search rules) (search rules))
       | else-number-lt10 w ↦
-          rw (w.last-is, digits) (tens_and_ones c.args.places.now c.args.at n (search rules) (search rules) (search rules))
+          rw (w.last-is, digits)
+          (tens_and_ones c.args.places.now c.args.at n (search rules) (search rules) (search rules))
     ]

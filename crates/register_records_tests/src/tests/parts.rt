@@ -5,6 +5,7 @@ use date_texts::{Refusal, Target};
 use register_records::{
     Body, Cause, Entry, EntryFault, Form, PlainOutput, Row, RowFault, RowWriter, Setup,
 };
+use std::alloc::Global;
 use std::mem::size_of;
 use std::test::Fail;
 
@@ -98,10 +99,12 @@ row,id,calendar,date,rd,weekday,refusal
 
 /// Whether two lines wait until they are sent, and a line then waits until another is put.
 fn wait_and_go(
-    writer: &mut RowWriter,
+    alloc: Global,
     output: &mut PlainOutput<Vec<u8>>,
     row: &Row,
+    setup: &Setup,
 ) -> Result<bool, RowFault> {
+    let mut writer = RowWriter::open(alloc, output, setup)?;
     writer.add(row)?;
     writer.add(row)?;
     let two = writer.pending_len();
@@ -110,18 +113,22 @@ fn wait_and_go(
     writer.send(output)?;
     writer.add(row)?;
     writer.put(output, row)?;
+    writer.end()?;
     Ok(two == 2 * REFUSED_LINE.len() && none == 0)
+}
+
+/// Whether a refused entry becomes four lines, of which two wait together.
+fn makes_four_lines(alloc: Global) -> Result<bool, Fail> {
+    let setup = plain(&[])?;
+    let refused = Entry::new(1, Body::Refused(Refusal::NotUtf8)).ok_or("no entry")?;
+    let row = row_of(refused, &setup);
+    let mut output = PlainOutput::new(Vec::new(alloc), 1);
+    let have_waited = wait_and_go(alloc, &mut output, &row, &setup)?;
+    Ok(have_waited && output.into_inner().as_slice() == FOUR_LINES.as_bytes())
 }
 
 #[test]
 fn lines_wait_until_they_are_sent(rt: HostRuntime) -> Result<(), Fail> {
-    let setup = plain(&[])?;
-    let refused = Entry::new(1, Body::Refused(Refusal::NotUtf8)).ok_or("no entry")?;
-    let row = row_of(refused, &setup);
-    let mut output = PlainOutput::new(Vec::new(rt.alloc()), 1);
-    let mut writer = RowWriter::open(rt.alloc(), &mut output, &setup)?;
-    let have_waited = wait_and_go(&mut writer, &mut output, &row)?;
-    writer.end()?;
-    assert!(rt; have_waited && output.into_inner().as_slice() == FOUR_LINES.as_bytes());
+    assert!(rt; makes_four_lines(rt.alloc())?);
     Ok(())
 }

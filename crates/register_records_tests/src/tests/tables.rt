@@ -325,16 +325,23 @@ row,id,calendar,date,note,rd,weekday,gregorian,refusal
     },
 ];
 
-/// Whether a text behind its front ends as the number before its colon says.
+/// A text behind its front.
+fn text_of(alloc: Global, front: &str, rest: &str) -> Result<Vec<u8>, AllocError> {
+    let mut text = Vec::new(alloc);
+    push_text(&mut text, front)?;
+    push_text(&mut text, rest)?;
+    Ok(text)
+}
+
+/// Whether a text behind its front ends as the digit before its colon says.
 fn ends_well(alloc: Global, ends: &Ends, text: &str) -> Result<bool, Fail> {
     let (wanted, rest) = text.split_once(':').ok_or("a cause and a text")?;
     let setup = Setup::new(&[GREGORIAN], 16, b',', 1, ends.form)?;
-    let mut input = Vec::new(alloc);
-    push_text(&mut input, ends.front)?;
-    push_text(&mut input, rest)?;
-    let (output, end) = converted(alloc, input.as_slice(), &setup);
+    let text = text_of(alloc, ends.front, rest)?;
+    let (output, end) = converted(alloc, text.as_slice(), &setup);
     let table = if wanted == "6" { "" } else { ends.table };
-    Ok(wanted.parse::<u8>()? == cause_of(&end) && output.as_slice() == table.as_bytes())
+    let digit = cause_of(&end).saturating_add(b'0');
+    Ok(wanted.as_bytes() == [digit].as_slice() && output.as_slice() == table.as_bytes())
 }
 
 #[test]

@@ -246,7 +246,8 @@ fn the_longest_fields_and_the_last_number_fit_a_row(rt: HostRuntime) -> Result<(
     Ok(())
 }
 
-/// Whether lines are added until more bytes wait than may wait without more memory, each of them at most a line's.
+/// Whether one line after the other can be added until more than `MOST_WAITING` bytes wait, and none takes more than
+/// `LINE_ROOM` of them.
 fn adds_lines(writer: &mut RowWriter, row: &Row) -> bool {
     for _ in 0..MOST_WAITING {
         let waiting = writer.pending_len();

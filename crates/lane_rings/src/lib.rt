@@ -2,8 +2,8 @@
 //!
 //! A lane has two lists of items, those sent and those taken, and each call says what it does to them. A sender ends
 //! its lane by `close`, with a count, or by `stop`, and is then gone. When its thread has been joined, `confirm`
-//! compares the two lists. An end that waits looks again at once for a short while, and then yields the processor
-//! between looks. The receiver can also look at the next item where it lies, and take it later.
+//! compares the two lists. An end that waits looks again at once for a short while, then yields the processor
+//! between looks, and sleeps where that takes long or nothing comes for long. The receiver can also look at the next item where it lies, and take it later.
 #![tactic(auto)]
 
 ghost use Rattle.std.specs.Prelude.{◌≡◌, ◌≤◌, [], IfOk};
@@ -19,6 +19,7 @@ pub use receiver::{Confirmed, Receiver, Unconfirmed};
 use rtrb::RingBuffer;
 pub use sender::{Closed, Sender};
 use std::alloc::{AllocError, Global};
+pub use wait::Patience;
 
 /// A lane with room for `capacity` items, from 1 to 4096. It takes all its memory here.
 ///
@@ -31,10 +32,14 @@ pub fn lane<T: Drop>(alloc: Global, capacity: usize) -> Result<(Sender<T>, Recei
 {
     let (producer, consumer) = RingBuffer::new(alloc, capacity)?;
     Ok((
-        Sender { producer },
+        Sender {
+            producer,
+            patience: Patience::new(),
+        },
         Receiver {
             consumer,
             last: None,
+            patience: Patience::new(),
         },
     ))
 }

@@ -7,12 +7,14 @@ use crate::sender::Closed;
 use crate::wait::Patience;
 use rtrb::Consumer;
 use std::sync::Wait;
+use std::time::Clock;
 
 /// The end of a lane that takes. It can move to another thread.
 #[derive(Drop)]
 pub struct Receiver<T> {
     pub(crate) consumer: Consumer<Item<T>>,
     pub(crate) last: Option<Mark>,
+    pub(crate) patience: Patience,
     ghost marked: { last ≡ last_mark (received consumer) },
 }
 
@@ -62,9 +64,8 @@ impl<T> Receiver<T> {
 
     /// Waits for the next item and takes it.
     ///
-    /// While nothing is there it looks again at once for a short while, and then yields between looks. It answers
-    /// `Gone` where `try_take` does.
-    pub fn take(&mut self, rt: &impl Wait) -> Result<Item<T>, Gone<()>>
+    /// While nothing is there it waits as [`Patience`] does. It answers `Gone` where `try_take` does.
+    pub fn take(&mut self, rt: &(impl Wait + Clock)) -> Result<Item<T>, Gone<()>>
         ensures lane { receiver_lane self.new ≡ receiver_lane self.old }
         ensures ok { IfOk result (λ item. taken self.new ≡ taken self.old ++ item ∷ []) }
         ensures gone { OnErr result (taken self.new ≡ taken self.old) }
@@ -77,18 +78,18 @@ impl<T> Receiver<T> {
     /// takes it.
     ///
     /// It waits as `take` does, and answers `Gone` where `try_take` does.
-    pub fn wait(&mut self, rt: &impl Wait) -> Result<(), Gone<()>>
+    pub fn wait(&mut self, rt: &(impl Wait + Clock)) -> Result<(), Gone<()>>
         ensures lane { receiver_lane self.new ≡ receiver_lane self.old }
         ensures taken { taken self.new ≡ taken self.old }
         ensures waiting { IsPrefix (waiting self.old) (waiting self.new) }
         ensures there { OnOk result (0 < length (waiting self.new)) }
     {
-        let mut patience = Patience::new();
+        self.patience.renew();
         for _ in rt.forever() {
             if self.look()? {
                 return Ok(());
             }
-            patience.pause();
+            self.patience.pause(rt);
         }
         unreachable!()
     }

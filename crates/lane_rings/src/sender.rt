@@ -2,11 +2,13 @@ use crate::item::{Gone, Item};
 use crate::wait::Patience;
 use rtrb::{Finished, Producer};
 use std::sync::Wait;
+use std::time::Clock;
 
 /// The end of a lane that sends. It can move to another thread.
 #[derive(Drop)]
 pub struct Sender<T> {
     pub(crate) producer: Producer<Item<T>>,
+    pub(crate) patience: Patience,
 }
 
 /// What is left of the sender of a closed or stopped lane: the ring's confirmation of all that was sent, unless the
@@ -24,9 +26,9 @@ impl<T> Sender<T> {
 
     /// Waits for room and sends an entry.
     ///
-    /// While the ring is full it looks again at once for a short while, and then yields between looks. Where the
-    /// receiver was dropped it answers `Gone` with the item, also where the ring has room.
-    pub fn send(&mut self, rt: &impl Wait, item: T) -> Result<(), Gone<T>>
+    /// While the ring is full it waits as [`Patience`] does. Where the receiver was dropped it answers `Gone` with the
+    /// item, also where the ring has room.
+    pub fn send(&mut self, rt: &(impl Wait + Clock), item: T) -> Result<(), Gone<T>>
         ensures lane { sender_lane self.new ≡ sender_lane self.old }
         ensures ok { OnOk result (sent self.new ≡ sent self.old ++ Entry item ∷ []) }
         ensures gone { IfErr result (λ g. (g.value ≡ item) × (sent self.new ≡ sent self.old)) }
@@ -39,12 +41,12 @@ impl<T> Sender<T> {
     }
 
     // Waits for a free slot. `false` where the receiver was dropped.
-    fn wait_for_room(&mut self, rt: &impl Wait) -> bool
+    fn wait_for_room(&mut self, rt: &(impl Wait + Clock)) -> bool
         ensures lane { sender_lane self.new ≡ sender_lane self.old }
         ensures unsent { sent self.new ≡ sent self.old }
         ensures room { IsTrue result → 0 < known_free self.new.producer }
     {
-        let mut patience = Patience::new();
+        self.patience.renew();
         for _ in rt.forever() {
             if self.producer.is_abandoned() {
                 return false;
@@ -52,7 +54,7 @@ impl<T> Sender<T> {
             if !self.producer.is_full() {
                 return true;
             }
-            patience.pause();
+            self.patience.pause(rt);
         }
         unreachable!()
     }
@@ -66,7 +68,7 @@ impl<T: Drop> Sender<T> {
     /// Waits for room and ends the lane: `count` goes with the end, and nothing follows it.
     ///
     /// It waits as `send` does. Where the receiver was dropped the answer has no confirmation.
-    pub fn close(self, rt: &impl Wait, count: u64) -> Closed<T>
+    pub fn close(self, rt: &(impl Wait + Clock), count: u64) -> Closed<T>
         ensures lane { HasConfirmation result → closed_lane result ≡ Some (sender_lane self) }
         ensures sent { HasConfirmation result → all_sent result ≡ sent self ++ End count ∷ [] }
     {
@@ -76,7 +78,7 @@ impl<T: Drop> Sender<T> {
     /// Waits for room and ends the lane of a sender that gives up: nothing follows.
     ///
     /// It waits as `send` does. Where the receiver was dropped the answer has no confirmation.
-    pub fn stop(self, rt: &impl Wait) -> Closed<T>
+    pub fn stop(self, rt: &(impl Wait + Clock)) -> Closed<T>
         ensures lane { HasConfirmation result → closed_lane result ≡ Some (sender_lane self) }
         ensures sent { HasConfirmation result → all_sent result ≡ sent self ++ Stop ∷ [] }
     {
@@ -84,7 +86,7 @@ impl<T: Drop> Sender<T> {
     }
 
     // Sends the last item.
-    fn finish(self, rt: &impl Wait, last: Item<T>) -> Closed<T>
+    fn finish(self, rt: &(impl Wait + Clock), last: Item<T>) -> Closed<T>
         ensures lane { HasConfirmation result → closed_lane result ≡ Some (sender_lane self) }
         ensures sent { HasConfirmation result → all_sent result ≡ sent self ++ last ∷ [] }
     {
@@ -93,7 +95,10 @@ impl<T: Drop> Sender<T> {
             return Closed { finished: None };
         }
         sender.producer.push_reserved(last);
-        let Sender { producer } = sender;
+        let Sender {
+            producer,
+            patience: _,
+        } = sender;
         Closed {
             finished: producer.finish(),
         }

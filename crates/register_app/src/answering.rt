@@ -22,6 +22,7 @@ use std::alloc::Global;
 use std::io::Read;
 use std::sync::Wait;
 use std::thread::Threads;
+use std::time::Clock;
 
 /// All texts were converted, refused records included, or a page was printed.
 const COMPLETE: u8 = 0;
@@ -164,7 +165,7 @@ fn tell_report<W, E: Output>(errors: &mut E, summary: bool, report: &Report<W>) 
 
 /// Converts the sources, each to the output at its place, and tells how they have ended. There are no more sources
 /// than a run takes, and as many outputs, so that only want of memory keeps a run from its beginning.
-fn convert<T: Threads + Wait + Sync, R: Read + Send + Drop, W: Output + Drop, E: Output>(
+fn convert<T: Threads + Wait + Clock + Sync, R: Read + Send + Drop, W: Output + Drop, E: Output>(
     rt: &T,
     alloc: Global,
     sources: Vec<R>,
@@ -199,7 +200,7 @@ fn convert<T: Threads + Wait + Sync, R: Read + Send + Drop, W: Output + Drop, E:
 }
 
 /// Converts the text that standard input gives.
-fn convert_input<T: Threads + Wait + Sync, R: Read + Send + Drop, W: Output + Drop, E: Output>(
+fn convert_input<T: Threads + Wait + Clock + Sync, R: Read + Send + Drop, W: Output + Drop, E: Output>(
     rt: &T,
     alloc: Global,
     input: R,
@@ -240,7 +241,7 @@ fn convert_input<T: Threads + Wait + Sync, R: Read + Send + Drop, W: Output + Dr
 
 /// Converts files.
 fn convert_files<
-    T: Threads + Wait + Sync,
+    T: Threads + Wait + Clock + Sync,
     R: Read + Send + Drop,
     W: Output + Drop,
     P: Places<R, W>,
@@ -283,7 +284,7 @@ fn convert_files<
 /// Nothing is read where the status is 2 or 3, or where the words ask for a page. A fault of `errors` changes
 /// neither the status nor the outputs.
 pub fn answer<
-    T: Threads + Wait + Sync,
+    T: Threads + Wait + Clock + Sync,
     R: Read + Send + Drop,
     W: Output + Drop,
     P: Places<R, W>,

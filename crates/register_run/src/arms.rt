@@ -12,6 +12,7 @@ use std::alloc::Global;
 use std::snapshot::Snapshot;
 use std::sync::Wait;
 use std::thread::{Promise, PromisedHandle, Scope, Threads};
+use std::time::Clock;
 
 /// The lanes that a converter was started with.
 #[derive(Drop)]
@@ -64,7 +65,7 @@ impl Arm {
     /// # Errors
     ///
     /// `NoMemory` where a lane is refused its memory, and `NoThread` where the thread does not start.
-    pub(crate) fn start<'s, 'e, T: Threads + Wait + Sync, G: Gate + Sync>(
+    pub(crate) fn start<'s, 'e, T: Threads + Wait + Clock + Sync, G: Gate + Sync>(
         scope: &'s Scope<'s, &'e ()>,
         rt: &'e T,
         gate: &'e G,

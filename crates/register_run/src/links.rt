@@ -18,6 +18,7 @@ use std::io::Read;
 use std::snapshot::Snapshot;
 use std::sync::Wait;
 use std::thread::{Promise, PromisedHandle, Scope, Threads};
+use std::time::Clock;
 
 /// What a look into the lanes of a source found.
 #[derive(Clone, Copy)]
@@ -71,7 +72,7 @@ impl<R: Read + Drop> Link<R> {
     /// # Errors
     ///
     /// `NoMemory` where a list or a lane is refused its memory, and `NoThread` where a thread does not start.
-    pub(crate) fn start<'s, 'e, T: Threads + Wait + Sync, G: Gate + Sync>(
+    pub(crate) fn start<'s, 'e, T: Threads + Wait + Clock + Sync, G: Gate + Sync>(
         scope: &'s Scope<'s, &'e ()>,
         rt: &'e T,
         gate: &'e G,
@@ -239,7 +240,7 @@ struct Fan {
 
 impl Fan {
     /// Starts the converters of a source.
-    fn start<'s, 'e, T: Threads + Wait + Sync, G: Gate + Sync>(
+    fn start<'s, 'e, T: Threads + Wait + Clock + Sync, G: Gate + Sync>(
         scope: &'s Scope<'s, &'e ()>,
         rt: &'e T,
         gate: &'e G,

@@ -11,6 +11,7 @@ use register_records::{Cause, Entry, EntryFault, EntryReader, Setup};
 use std::alloc::Global;
 use std::io::Read;
 use std::sync::Wait;
+use std::time::Clock;
 
 /// What a reader hands back: what is left of its ends of the lanes, and the number of entries that it sent, or why it
 /// stopped.
@@ -22,7 +23,7 @@ pub(crate) struct Reading {
 
 /// Sends the entries of a source to the converters by turns, and ends their lanes.
 pub(crate) fn read_source<R: Read + Drop>(
-    rt: &impl Wait,
+    rt: &(impl Wait + Clock),
     alloc: Global,
     source: R,
     setup: &Setup,
@@ -58,7 +59,7 @@ fn cause_of(fault: EntryFault) -> Cause
 ///
 /// The cause of the fault of reading that was met, and `Unconfirmed` where a converter is gone.
 fn send_entries<R: Read + Drop>(
-    rt: &impl Wait,
+    rt: &(impl Wait + Clock),
     alloc: Global,
     source: R,
     setup: &Setup,
@@ -93,7 +94,7 @@ fn send_entries<R: Read + Drop>(
 
 /// Ends each lane: with the number of its entries where the source was read to its end, else with a stop.
 fn close_all(
-    rt: &impl Wait,
+    rt: &(impl Wait + Clock),
     senders: Vec<Sender<Entry>>,
     closed: Vec<Closed<Entry>>,
     outcome: Result<u32, Cause>,
@@ -129,7 +130,7 @@ fn share_of(count: u32, turn: usize, stripes: usize) -> u64
 }
 
 /// Ends a lane with this count, or with a stop where there is none.
-fn close_one(rt: &impl Wait, sender: Sender<Entry>, count: Option<u64>) -> Closed<Entry>
+fn close_one(rt: &(impl Wait + Clock), sender: Sender<Entry>, count: Option<u64>) -> Closed<Entry>
     ensures lane { IsOfLane (sender_lane sender) result }
     ensures sent { (given : List Numbered) → AreAmong given (sent sender) → HasConfirmation result
         → AreAmong given (all_sent result) }

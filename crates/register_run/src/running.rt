@@ -15,12 +15,14 @@ use crate::gates::{Gate, Open};
 use crate::reports::{Report, RunFault, RunFaultKind, Verdict};
 use crate::settling::Settled;
 use crate::stations::Station;
+use lane_rings::Patience;
 use register_records::{Cause, Form, Output, Setup, SourceEnd};
 use std::alloc::{AllocError, Global};
 use std::io::Read;
 use std::sync::Wait;
 use std::thread;
 use std::thread::{Scope, Threads};
+use std::time::Clock;
 
 /// The most sources of a run.
 pub const MAX_SOURCES: usize = 32;
@@ -29,7 +31,7 @@ pub const MAX_SOURCES: usize = 32;
 fn start_all<
     's,
     'e,
-    T: Threads + Wait + Sync,
+    T: Threads + Wait + Clock + Sync,
     R: Read + Send + Drop + 'e,
     W: Output + Drop,
     G: Gate + Sync,
@@ -75,17 +77,24 @@ fn round<R: Read + Drop, W: Output + Drop>(stations: &mut Vec<Station<R, W>>) ->
     moved
 }
 
-/// Takes from all sources and writes until each has ended. After a round that found nothing it yields at once.
-fn drive<R: Read + Drop, W: Output + Drop>(rt: &impl Wait, stations: &mut Vec<Station<R, W>>)
+/// Takes from all sources and writes until each has ended. After a round that found nothing it lets others have the
+/// processor at once.
+fn drive<R: Read + Drop, W: Output + Drop>(
+    rt: &(impl Wait + Clock),
+    stations: &mut Vec<Station<R, W>>,
+)
     ensures len { vec_len stations.new ≡ vec_len stations.old }
     ensures cases { map case_of stations.new.items ≡ map case_of stations.old.items }
 {
+    let mut patience = Patience::new();
     for _ in rt.forever() {
         if !stations.iter().any(|station| station.is_open()) {
             break;
         }
-        if !round(stations) {
-            thread::yield_now();
+        if round(stations) {
+            patience.renew();
+        } else {
+            patience.rest(rt);
         }
     }
 }
@@ -200,7 +209,7 @@ fn refused<R, W>(kind: RunFaultKind, sources: Vec<R>, outputs: Vec<W>) -> RunFau
 fn run_all<
     's,
     'e,
-    T: Threads + Wait + Sync,
+    T: Threads + Wait + Clock + Sync,
     R: Read + Send + Drop + 'e,
     W: Output + Drop,
     G: Gate + Sync,
@@ -232,7 +241,12 @@ fn run_all<
 }
 
 /// The run, with threads that end before it answers.
-fn run_in_scope<T: Threads + Wait + Sync, R: Read + Send + Drop, W: Output + Drop, G: Gate + Sync>(
+fn run_in_scope<
+    T: Threads + Wait + Clock + Sync,
+    R: Read + Send + Drop,
+    W: Output + Drop,
+    G: Gate + Sync,
+>(
     rt: &T,
     gate: &G,
     alloc: Global,
@@ -269,7 +283,12 @@ fn run_in_scope<T: Threads + Wait + Sync, R: Read + Send + Drop, W: Output + Dro
 /// The first that applies of `TooManySources` with more than 32 sources, `OutputCount` where there are not as many
 /// outputs as sources, and `NoMemory` where a list that the run needs is refused its memory. The sources and the
 /// outputs are handed back as they were.
-pub fn run_gated<T: Threads + Wait + Sync, R: Read + Send + Drop, W: Output + Drop, G: Gate + Sync>(
+pub fn run_gated<
+    T: Threads + Wait + Clock + Sync,
+    R: Read + Send + Drop,
+    W: Output + Drop,
+    G: Gate + Sync,
+>(
     rt: &T,
     alloc: Global,
     sources: Vec<R>,
@@ -308,7 +327,7 @@ pub fn run_gated<T: Threads + Wait + Sync, R: Read + Send + Drop, W: Output + Dr
 /// # Errors
 ///
 /// As those of [`run_gated`].
-pub fn run<T: Threads + Wait + Sync, R: Read + Send + Drop, W: Output + Drop>(
+pub fn run<T: Threads + Wait + Clock + Sync, R: Read + Send + Drop, W: Output + Drop>(
     rt: &T,
     alloc: Global,
     sources: Vec<R>,

@@ -2,8 +2,8 @@
 //!
 //! A lane has two lists of items, those sent and those taken, and each call says what it does to them. A sender ends
 //! its lane by `close`, with a count, or by `stop`, and is then gone. When its thread has been joined, `confirm`
-//! compares the two lists. An end that waits looks again at once for a short while, then yields the processor
-//! between looks, and sleeps where that takes long or nothing comes for long. The receiver can also look at the next item where it lies, and take it later.
+//! compares the two lists. An end that waits does so as [`Patience`] says. The receiver can also look at the next item
+//! where it lies, and take it later.
 #![tactic(auto)]
 
 ghost use Rattle.std.specs.Prelude.{◌≡◌, ◌≤◌, [], IfOk};
@@ -21,10 +21,30 @@ pub use sender::{Closed, Sender};
 use std::alloc::{AllocError, Global};
 pub use wait::Patience;
 
-/// A lane with room for `capacity` items, from 1 to 4096. It takes all its memory here.
+/// A lane with room for `capacity` items, from 1 to 4096, for a run of one source. It takes all its memory here.
 ///
-/// The error is want of memory alone; there is then no lane.
+/// # Errors
+///
+/// Running out of memory alone; there is then no lane.
 pub fn lane<T: Drop>(alloc: Global, capacity: usize) -> Result<(Sender<T>, Receiver<T>), AllocError>
+    requires { (1 ≤ capacity) × (capacity ≤ 4096) }
+    ensures lane { IfOk result (λ ends. receiver_lane ends.1 ≡ sender_lane ends.0) }
+    ensures capacity { IfOk result (λ ends. lane_capacity (sender_lane ends.0) ≡ capacity) }
+    ensures empty { IfOk result (λ ends. (sent ends.0 ≡ []) × (taken ends.1 ≡ [])) }
+{
+    patient_lane(alloc, capacity, Patience::for_sources(1))
+}
+
+/// A lane as [`lane`] makes it, both ends of which wait with this patience.
+///
+/// # Errors
+///
+/// As those of [`lane`].
+pub fn patient_lane<T: Drop>(
+    alloc: Global,
+    capacity: usize,
+    patience: Patience,
+) -> Result<(Sender<T>, Receiver<T>), AllocError>
     requires { (1 ≤ capacity) × (capacity ≤ 4096) }
     ensures lane { IfOk result (λ ends. receiver_lane ends.1 ≡ sender_lane ends.0) }
     ensures capacity { IfOk result (λ ends. lane_capacity (sender_lane ends.0) ≡ capacity) }
@@ -32,14 +52,11 @@ pub fn lane<T: Drop>(alloc: Global, capacity: usize) -> Result<(Sender<T>, Recei
 {
     let (producer, consumer) = RingBuffer::new(alloc, capacity)?;
     Ok((
-        Sender {
-            producer,
-            patience: Patience::new(),
-        },
+        Sender { producer, patience },
         Receiver {
             consumer,
             last: None,
-            patience: Patience::new(),
+            patience,
         },
     ))
 }

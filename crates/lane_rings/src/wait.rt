@@ -1,60 +1,104 @@
-// How an end waits for the other one.
+//! How a thread waits for another one.
+
 use std::time::{Clock, Duration, Instant};
 use std::{hint, thread};
 
-// How often a waiting end looks again at once before it begins to yield.
+/// How often a thread looks again at once before it begins to yield: on another processor the other thread needs no
+/// longer for an item or two.
 const LOOKS: u32 = 8;
 
-// After how many pauses of a wait it sleeps, in place of yielding.
-const PAUSES_BEFORE_SLEEP: u32 = LOOKS + 200;
+/// A yield of more microseconds let others go first: while nobody else is at work it takes some microseconds, and beside
+/// a busy loop 4000, a tick of the system's clock.
+const LONG_YIELD: u64 = 2500;
 
-// How often the sleeps of a wait double: the first is of a microsecond, the last ones of a millisecond.
-const DOUBLINGS: u32 = 10;
+/// How many naps follow when others are seen to be at work, the first time and at most. Each time doubles them, and
+/// each short yield takes one off: a single stray long yield costs little, and beside others that stay the thread seldom
+/// tries a yield. So many of the shortest naps take 1 and 55 milliseconds.
+const FEWEST_NAPS: u32 = 16;
+const MOST_NAPS: u32 = 1024;
 
-// A yield of more microseconds than these let other work go first.
-const LONG_YIELD: u128 = 200;
+/// A wait of more microseconds is one for something outside, as a slow source: the threads of a run answer one another
+/// sooner.
+const LONG_WAIT: u64 = 5000;
 
-// For how many sleeps, at least and at most, the end does not yield after a long yield.
-const FEWEST_SLEEPS: u32 = 16;
+/// Such a wait sleeps this part of the time that it has lasted, and so comes late by no more than this part of itself.
+const PART_OF_A_WAIT: u32 = 8;
 
-const MOST_SLEEPS: u32 = 1024;
+/// The longest sleep in microseconds, and so the most by which an item comes late.
+const LONGEST_SLEEP: u64 = 1000;
 
-/// What a thread that waits does between two looks. It is kept from one wait to the next.
+/// From this many sources on a run has many more threads than a machine has processors.
+const MANY_SOURCES: usize = 5;
+
+/// How a thread tells that others are at work, and how long it naps then.
+#[derive(Clone, Copy, Debug)]
+struct Manner {
+    // How many long yields in a row say so.
+    long_yields: u32,
+    // A nap in microseconds.
+    nap: u64,
+}
+
+/// With few threads of one's own, a long yield let somebody else go first. The shortest nap, which the system makes
+/// some 55 microseconds, loses the least.
+const FEW: Manner = Manner {
+    long_yields: 1,
+    nap: 1,
+};
+
+/// With many, one's own threads make a yield long now and then, but seldom three in a row; and short naps of so many
+/// threads would take the processors from those that have something to do.
+const MANY: Manner = Manner {
+    long_yields: 3,
+    nap: 100,
+};
+
+/// What a thread that waits does between two looks, kept from one wait to the next.
 ///
-/// A thread looks again at once for a short while, then yields the processor between looks, and in a long wait sleeps,
-/// each time for longer, up to a millisecond. Where a yield takes long, other work is on the machine, and goes before
-/// a thread that yields each time: for a while the thread then sleeps and does not yield, for the longer the more
-/// often that happens.
-#[derive(Drop)]
+/// It looks again at once for a short while, and then yields the processor between looks. Where a yield took long,
+/// others are at work, who go before a thread that yields, but not before one that wakes: so it naps between its next
+/// looks, and then tries a yield again. Where nothing comes for long, it sleeps, for longer the longer it has waited, up
+/// to a millisecond. Each thread goes by its own yields and waits alone. A clock that cannot be read, or that stands
+/// still, shows neither, and the thread yields.
+#[derive(Clone, Copy, Debug)]
 pub struct Patience {
-    // How many pauses there were in this wait, up to the last doubling.
-    pauses: u32,
-    // How many more times it sleeps before it yields again.
-    sleeps: u32,
-    // How many times it does after the next long yield.
-    next_sleeps: u32,
+    manner: Manner,
+    // The looks of this wait that were followed by the next one at once.
+    looks: u32,
+    // When this wait came to its first yield.
+    since: Option<Instant>,
+    // The long yields in a row.
+    long_yields: u32,
+    // The naps that are left, and how many come next time.
+    naps: u32,
+    next_naps: u32,
 }
 
 impl Patience {
-    /// For a first wait.
-    pub fn new() -> Patience {
+    /// For the threads of a run with so many sources.
+    pub fn for_sources(sources: usize) -> Patience {
         Patience {
-            pauses: 0,
-            sleeps: 0,
-            next_sleeps: FEWEST_SLEEPS,
+            manner: if sources < MANY_SOURCES { FEW } else { MANY },
+            looks: 0,
+            since: None,
+            long_yields: 0,
+            naps: 0,
+            next_naps: FEWEST_NAPS,
         }
     }
 
     /// A new wait begins.
     #[inline(always)]
     pub fn renew(&mut self) {
-        self.pauses = 0;
+        self.looks = 0;
+        self.since = None;
     }
 
-    /// Lets time pass before the next look: at first none, and from then on as [`rest`](Self::rest) does.
+    /// Lets time pass before the next look: at first none, and then as [`rest`](Self::rest) does.
+    #[inline(always)]
     pub fn pause(&mut self, clock: &impl Clock) {
-        if self.pauses < LOOKS {
-            self.pauses += 1;
+        if self.looks < LOOKS {
+            self.looks += 1;
             hint::spin_loop();
         } else {
             self.rest(clock);
@@ -63,43 +107,36 @@ impl Patience {
 
     /// Lets others have the processor before the next look.
     pub fn rest(&mut self, clock: &impl Clock) {
-        if self.sleeps > 0 {
-            self.sleeps -= 1;
-            self.pauses = self.pauses.max(PAUSES_BEFORE_SLEEP);
-        }
-        if self.pauses < PAUSES_BEFORE_SLEEP {
-            self.pauses += 1;
-            self.give_way(clock);
+        if self.naps > 0 {
+            self.naps -= 1;
+            thread::sleep(clock, Duration::from_micros(self.manner.nap));
             return;
         }
-        let doublings = self.pauses - PAUSES_BEFORE_SLEEP;
-        if doublings < DOUBLINGS {
-            self.pauses += 1;
-        }
-        let micros = 1 << doublings.min(DOUBLINGS);
-        thread::sleep(clock, Duration::from_micros(micros));
-    }
-
-    // Yields, and sees whether that took long.
-    fn give_way(&mut self, clock: &impl Clock) {
-        if is_long_yield(clock) {
-            self.sleeps = self.next_sleeps;
-            self.next_sleeps = self.next_sleeps.saturating_mul(2).min(MOST_SLEEPS);
+        let Ok(now) = Instant::now(clock) else {
+            thread::yield_now();
+            return;
+        };
+        let waited = now.duration_since(*self.since.get_or_insert(now));
+        if waited > Duration::from_micros(LONG_WAIT) {
+            thread::sleep(clock, (waited / PART_OF_A_WAIT).min(Duration::from_micros(LONGEST_SLEEP)));
         } else {
-            self.next_sleeps = self.next_sleeps.saturating_sub(1).max(FEWEST_SLEEPS);
+            self.give_way(clock, now);
         }
     }
-}
 
-// Yields, and says whether that took long. By a clock that cannot be read it did not.
-fn is_long_yield(clock: &impl Clock) -> bool {
-    let before = Instant::now(clock);
-    thread::yield_now();
-    match before {
-        Ok(before) => match before.elapsed(clock) {
-            Ok(took) => took.as_micros() > LONG_YIELD,
-            Err(_) => false,
-        },
-        Err(_) => false,
+    // Yields, and goes by how long that took.
+    fn give_way(&mut self, clock: &impl Clock, begun: Instant) {
+        thread::yield_now();
+        if !begun.elapsed(clock).is_ok_and(|took| took > Duration::from_micros(LONG_YIELD)) {
+            self.long_yields = 0;
+            self.next_naps = self.next_naps.saturating_sub(1).max(FEWEST_NAPS);
+            return;
+        }
+        self.long_yields = self.long_yields.saturating_add(1);
+        if self.long_yields >= self.manner.long_yields {
+            self.long_yields = 0;
+            self.naps = self.next_naps;
+            self.next_naps = self.next_naps.saturating_mul(2).min(MOST_NAPS);
+        }
     }
 }

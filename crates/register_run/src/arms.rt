@@ -6,7 +6,7 @@ ghost use Rattle.lane_rings.specs.Lane.{receiver_lane, sender_lane, sent};
 use crate::converting::{Converting, convert_entries};
 use crate::gates::Gate;
 use crate::starting::StartFault;
-use lane_rings::{Closed, Item, Receiver, Sender, Unconfirmed, lane};
+use lane_rings::{Closed, Item, Patience, Receiver, Sender, Unconfirmed, patient_lane};
 use register_records::{Entry, Row, Setup};
 use std::alloc::Global;
 use std::snapshot::Snapshot;
@@ -70,15 +70,16 @@ impl Arm {
         rt: &'e T,
         gate: &'e G,
         alloc: Global,
+        patience: Patience,
         setup: &'e Setup,
     ) -> Result<(Sender<Entry>, Arm), StartFault>
         ensures lane { IfOk result (λ r. feeding_lane r.1 ≡ sender_lane r.0) }
         ensures fresh { IfOk result (λ r. sent r.0 ≡ []) }
     {
-        let Ok((sender, entries)) = lane::<Entry>(alloc, setup.ring()) else {
+        let Ok((sender, entries)) = patient_lane::<Entry>(alloc, setup.ring(), patience) else {
             return Err(StartFault::NoMemory);
         };
-        let Ok((row_sender, rows)) = lane::<Row>(alloc, setup.ring()) else {
+        let Ok((row_sender, rows)) = patient_lane::<Row>(alloc, setup.ring(), patience) else {
             return Err(StartFault::NoMemory);
         };
         let feeding = Snapshot::of(&sender);

@@ -7,6 +7,7 @@ ghost use Rattle.register_run.specs.Links.{started_by, started_on};
 use crate::gates::Gate;
 use crate::links::{Found, Link};
 use crate::starting::StartFault;
+use lane_rings::Patience;
 use register_records::{Cause, Row, Setup};
 use std::alloc::Global;
 use std::io::Read;
@@ -37,6 +38,7 @@ impl<R: Read + Drop> Feed<R> {
         rt: &'e T,
         gate: &'e G,
         alloc: Global,
+        patience: Patience,
         setup: &'e Setup,
         source: R,
     ) -> Feed<R>
@@ -49,7 +51,7 @@ impl<R: Read + Drop> Feed<R> {
         Feed {
             source: was,
             setup: Snapshot::of(setup),
-            link: Link::start(scope, rt, gate, alloc, setup, source),
+            link: Link::start(scope, rt, gate, alloc, patience, setup, source),
         }
     }
 

@@ -11,7 +11,7 @@ use crate::gates::Gate;
 use crate::joining::{call_off, join_arms, look_at, pass_at, row_at};
 use crate::reading::{Reading, read_source};
 use crate::starting::StartFault;
-use lane_rings::Sender;
+use lane_rings::{Patience, Sender};
 use register_records::{Cause, Entry, Row, Setup};
 use std::alloc::Global;
 use std::io::Read;
@@ -77,6 +77,7 @@ impl<R: Read + Drop> Link<R> {
         rt: &'e T,
         gate: &'e G,
         alloc: Global,
+        patience: Patience,
         setup: &'e Setup,
         source: R,
     ) -> Result<Link<R>, StartFault>
@@ -88,7 +89,7 @@ impl<R: Read + Drop> Link<R> {
         let Ok(closed) = Vec::with_capacity(alloc, setup.stripes()) else {
             return Err(StartFault::NoMemory);
         };
-        let Fan { arms, senders } = Fan::start(scope, rt, gate, alloc, setup)?;
+        let Fan { arms, senders } = Fan::start(scope, rt, gate, alloc, patience, setup)?;
         let task = ReaderTask {
             source: Snapshot::of(&source),
             setup: Snapshot::of(setup),
@@ -245,6 +246,7 @@ impl Fan {
         rt: &'e T,
         gate: &'e G,
         alloc: Global,
+        patience: Patience,
         setup: &'e Setup,
     ) -> Result<Fan, StartFault>
         ensures fed { IfOk result (λ f. map feeding_lane f.arms.items ≡ map sender_lane f.senders.items) }
@@ -260,7 +262,7 @@ impl Fan {
             return Err(StartFault::NoMemory);
         };
         for _ in 0..stripes {
-            match Arm::start(scope, rt, gate, alloc, setup) {
+            match Arm::start(scope, rt, gate, alloc, patience, setup) {
                 Ok((sender, arm)) => {
                     senders.push_reserved(sender);
                     arms.push_reserved(arm);

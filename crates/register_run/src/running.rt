@@ -51,13 +51,14 @@ fn start_all<
     ensures len { vec_len result ≡ vec_len sources }
     ensures cases { map case_of result.items ≡ cases setup.entry.now sources.items outputs.items }
 {
+    let patience = Patience::for_sources(sources.len());
     let mut stations = stations;
     let mut rest = outputs.into_iter();
     for source in sources {
         let Some(output) = rest.next() else {
             unreachable!()
         };
-        stations.push_reserved(Station::start(scope, rt, gate, alloc, setup, source, output));
+        stations.push_reserved(Station::start(scope, rt, gate, alloc, patience, setup, source, output));
     }
     stations
 }
@@ -77,8 +78,7 @@ fn round<R: Read + Drop, W: Output + Drop>(stations: &mut Vec<Station<R, W>>) ->
     moved
 }
 
-/// Takes from all sources and writes until each has ended. After a round that found nothing it lets others have the
-/// processor at once.
+/// Takes from all sources and writes until each has ended. After a round that found nothing it rests.
 fn drive<R: Read + Drop, W: Output + Drop>(
     rt: &(impl Wait + Clock),
     stations: &mut Vec<Station<R, W>>,
@@ -86,7 +86,7 @@ fn drive<R: Read + Drop, W: Output + Drop>(
     ensures len { vec_len stations.new ≡ vec_len stations.old }
     ensures cases { map case_of stations.new.items ≡ map case_of stations.old.items }
 {
-    let mut patience = Patience::new();
+    let mut patience = Patience::for_sources(stations.len());
     for _ in rt.forever() {
         if !stations.iter().any(|station| station.is_open()) {
             break;

@@ -10,6 +10,7 @@ use crate::gates::Gate;
 use crate::links::Found;
 use crate::settling::Settled;
 use crate::tables::Table;
+use lane_rings::Patience;
 use register_records::{Output, Setup};
 use std::alloc::Global;
 use std::io::Read;
@@ -41,6 +42,7 @@ impl<R: Read + Drop, W: Output + Drop> Station<R, W> {
         rt: &'e T,
         gate: &'e G,
         alloc: Global,
+        patience: Patience,
         setup: &'e Setup,
         source: R,
         output: W,
@@ -51,7 +53,7 @@ impl<R: Read + Drop, W: Output + Drop> Station<R, W> {
     {
         let table = Table::new(alloc, output, setup);
         Station {
-            feed: Feed::start(scope, rt, gate, alloc, setup, source),
+            feed: Feed::start(scope, rt, gate, alloc, patience, setup, source),
             table,
             open: true,
         }

@@ -1,3 +1,13 @@
+-- Which file serves which public clause:
+--   ThirteenMonthsLemmas: `day_of` and `date_on` of Coptic, Ethiopic, Egyptian and Armenian, by the starts of years.
+--   FrenchLemmas: the same of French, upon ThirteenMonthsLemmas.
+--   GregorianLemmas: `day_of` and `date_on` of Gregorian, by `jiff` and by the rules.
+--   JulianLemmas: `day_of` and `date_on` of Julian, by the starts of years.
+--   IsoWeekLemmas: `day_of` and `date_on` of IsoWeek.
+--   RomanMonthLemmas, RomanPlaceLemmas, RomanNameLemmas, RomanDateLemmas, each upon those before it: the clauses of
+--     `roman_day_of` and `roman_on`, and the law `one_roman_date`.
+--   LawWords: the name of that law, for lemmas here and above.
+--   KnownDates: the definitions computed on known dates; it serves no clause.
 pub mod ThirteenMonthsLemmas
 pub mod FrenchLemmas
 pub mod GregorianLemmas

@@ -3,4 +3,6 @@
 #![tactic(auto)]
 
 #[cfg(test)]
+mod patience;
+#[cfg(test)]
 mod tests;

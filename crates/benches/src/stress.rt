@@ -170,11 +170,7 @@ fn compare<R: Threads + Wait + Sync + Print>(
     let Ok(report) = run(rt, alloc, sources, outputs, &setup) else {
         return Ok(None);
     };
-    let Report {
-        outputs,
-        ends,
-        verdict: _,
-    } = report;
+    let Report { outputs, ends, .. } = report;
     let count = plans.len();
     let mut ends = ends.iter();
     let mut plans = plans.iter();

@@ -3,6 +3,8 @@ use Rattle.std.specs.Prelude.{◌≡◌, ◌≢◌, ◌⊎◌, ◌↔◌, ℕ, L
 use Rattle.std.specs.Io.KnownBytes.{Appends}
 use Rattle.register_run.specs.Reports.{IsReport}
 use Rattle.register_run.specs.declared.reports.Report.{Report}
+use Rattle.register_records.specs.Views.{layout_of}
+use Rattle.register_records.specs.declared.setups.Setup.{Setup}
 use Rattle.register_run.specs.declared.reports.Verdict.TheVariants.{Complete}
 use Rattle.register_app.specs.Faults.{Fault}
 use Rattle.register_app.specs.Openings.{AreMade, AreOpened}
@@ -29,14 +31,21 @@ pub record IsPrinted {W E : Type 0} (contents : W → Option (List ℕ)) (has_fa
   pub failed : status ≢ 0 → (has_failed written ≡ true)
       × (unheard after ≡ false → Appends (told before) (told after) PRINT_FAULT.now)
 
--- tables were made: each source has ended as it should, the status is 0 exactly where all are whole, and standard error
--- has gained the lines on them, unless it failed, and nothing where there are none
+-- the setup is the task's: its layout, the size of its rings, and the converters of a source
+abbrev pub IsSetupOf : Task → Setup → Type 0
+IsSetupOf task setup = (layout_of setup ≡ task.layout) × (setup.ring ≡ task.ring) × (setup.stripes ≡ task.stripes)
+
+-- tables were made: the threads of each source were started by the setup that the task asks for, each source has ended
+-- as it should, the status is 0 exactly where all are whole, and standard error has gained the lines on them, unless it
+-- failed, and nothing where there are none
 pub record IsConverted {R W E : Type 0} (remaining : R → Option (List ℕ)) (contents : W → Option (List ℕ))
     (has_failed is_flushed : W → Bool)
     (own_mark : W → ℕ) (told : E → Option (List ℕ)) (unheard : E → Bool)
     (task : Task) (status : ℕ) (sources : List R) (given written : List W) (before after : E) : Type 0 where
+  pub setup : Setup
+  pub asked : IsSetupOf task setup
   pub report : Report W
-  pub settled : IsReport remaining contents has_failed is_flushed own_mark task.layout sources given report
+  pub settled : IsReport remaining contents has_failed is_flushed own_mark setup sources given report
   pub outputs : written ≡ report.outputs.items
   pub complete : (status ≡ 0) ↔ (report.verdict ≡ Complete)
   pub lines : unheard after ≡ false → Appends (told before) (told after) (lines_from task.summary 1 report.ends.items)

@@ -11,8 +11,10 @@ mod places;
 mod refusals;
 mod requests;
 mod telling;
+mod told;
 
 pub use answering::{Answered, answer};
 pub use disk::{Disk, Sink, Source};
 pub use help::HELP;
 pub use places::Places;
+pub use told::Told;

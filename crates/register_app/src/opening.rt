@@ -3,10 +3,11 @@
 ghost use Rattle.std.specs.Prelude.{◌≡◌, ◌≤◌, ◌++◌, length, IfErr, IfOk, map};
 ghost use Rattle.std.specs.String.{string_bytes};
 ghost use Rattle.register_app.specs.Requests.{most_files, refusal_status};
-ghost use Rattle.register_app.specs.Openings.{AreMade, AreOpened};
+ghost use Rattle.register_app.specs.Openings.{AreMade, AreOpened, IsNewlyMade};
 
 use crate::places::Places;
 use crate::refusals::Refusal;
+use register_records::Output;
 use std::alloc::{AllocError, Global};
 
 /// What the name of an output has behind the name of its source.
@@ -28,7 +29,7 @@ fn output_name(alloc: Global, file: &str) -> Result<String, AllocError>
 }
 
 /// Opens each file.
-fn open_sources<'a, R: Drop, W, P: Places<R, W>>(
+fn open_sources<'a, R: Drop, W: Output, P: Places<R, W>>(
     alloc: Global,
     places: &P,
     files: &[&'a str],
@@ -50,20 +51,21 @@ fn open_sources<'a, R: Drop, W, P: Places<R, W>>(
 }
 
 /// Whether an output's name is that of a file that another output goes to.
-fn is_taken<R, W, P: Places<R, W>>(places: &P, names: &[String], name: &str) -> bool {
+fn is_taken<R, W: Output, P: Places<R, W>>(places: &P, names: &[String], name: &str) -> bool {
     names
         .iter()
         .any(|other| places.are_one_file(other.as_str(), name))
 }
 
 /// Makes the output of each file.
-fn make_outputs<'a, R, W: Drop, P: Places<R, W>>(
+fn make_outputs<'a, R, W: Output + Drop, P: Places<R, W>>(
     alloc: Global,
     places: &P,
     files: &[&'a str],
 ) -> Result<Vec<W>, Refusal<'a>>
     requires few { length files.now ≤ most_files }
-    ensures made { IfOk result (λ outputs. AreMade (P.is_made places.now) (map (λ file. file.now) files.now)
+    ensures made { IfOk result (λ outputs. AreMade (IsNewlyMade W.contents W.has_failed W.own_mark
+        (P.is_made places.now)) (map (λ file. file.now) files.now)
         outputs.items) }
     ensures status { IfErr result (λ refusal. refusal_status refusal ≡ 3) }
 {
@@ -94,7 +96,7 @@ fn make_outputs<'a, R, W: Drop, P: Places<R, W>>(
 ///
 /// `CannotOpen` for the first file that cannot be opened, before any output is made; `CannotMake` for the first whose
 /// output cannot be made or goes to the file of an earlier one; `OutOfMemory` where a growth of memory was refused.
-pub fn open_files<'a, R: Drop, W: Drop, P: Places<R, W>>(
+pub fn open_files<'a, R: Drop, W: Output + Drop, P: Places<R, W>>(
     alloc: Global,
     places: &P,
     files: &[&'a str],
@@ -102,7 +104,8 @@ pub fn open_files<'a, R: Drop, W: Drop, P: Places<R, W>>(
     requires few { length files.now ≤ most_files }
     ensures opened { IfOk result (λ o. AreOpened (P.is_opened places.now) (map (λ file. file.now) files.now)
         o.sources.items) }
-    ensures made { IfOk result (λ o. AreMade (P.is_made places.now) (map (λ file. file.now) files.now)
+    ensures made { IfOk result (λ o. AreMade (IsNewlyMade W.contents W.has_failed W.own_mark
+        (P.is_made places.now)) (map (λ file. file.now) files.now)
         o.outputs.items) }
     ensures status { IfErr result (λ refusal. refusal_status refusal ≡ 3) }
 {

@@ -11,3 +11,4 @@ pub mod Reports
 pub mod Machine
 pub mod Schedules
 pub mod EveryScheduleLaw
+pub mod Turns

@@ -3,7 +3,7 @@
 ghost use Rattle.std.specs.Prelude.{⊤};
 
 use crate::tests::helpers::{Heard, NoPlaces, ONE_RECORD, ONE_ROW, hear};
-use register_app::{HELP, Places};
+use register_app::{HELP, Places, Told};
 use register_records::PlainOutput;
 use std::alloc::{AllocError, Global};
 use std::io;
@@ -72,7 +72,7 @@ struct Folder {
     alloc: Global,
 }
 
-impl Places<&'static [u8], PlainOutput<Breaking>> for Folder {
+impl Places<&'static [u8], PlainOutput<Told<Breaking>>> for Folder {
     ghost is_opened = { λ _ _ _. ⊤ };
 
     ghost is_made = { λ _ _ _ _. ⊤ };
@@ -84,12 +84,12 @@ impl Places<&'static [u8], PlainOutput<Breaking>> for Folder {
         Ok(ONE_RECORD)
     }
 
-    fn make(&self, name: &str, mark: u32) -> io::Result<PlainOutput<Breaking>> {
+    fn make(&self, name: &str, mark: u32) -> io::Result<PlainOutput<Told<Breaking>>> {
         if name == "locked.csv.out.csv" {
             return Err(io::Error::from(ErrorKind::PermissionDenied));
         }
         let table = Breaking::new(self.alloc, NOWHERE)?;
-        Ok(PlainOutput::new(table, mark))
+        Ok(PlainOutput::new(Told::new(table), mark))
     }
 
     fn are_one_file(&self, _name: &str, _other: &str) -> bool {

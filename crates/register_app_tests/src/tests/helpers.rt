@@ -1,9 +1,10 @@
 //! What the tests share: the words of a command line, and the program's answer to them over memory.
 
-ghost use Rattle.std.specs.Prelude.{⊤};
+ghost use Rattle.std.specs.Prelude.{◌≡◌, [], ⊤, false};
+ghost use Rattle.register_app.specs.Told.{told_bytes};
 
-use register_app::{Answered, Places, answer};
-use register_records::PlainOutput;
+use register_app::{Answered, Places, Told, answer};
+use register_records::{Output, PlainOutput};
 use std::alloc::{AllocError, Global};
 use std::io;
 use std::io::{ErrorKind, Read, Write};
@@ -66,7 +67,7 @@ fn answered<
     R: Read + Send + Drop,
     W: Write + Drop,
     E: Write + Drop,
-    P: Places<R, PlainOutput<W>>,
+    P: Places<R, PlainOutput<Told<W>>>,
 >(
     rt: &T,
     alloc: Global,
@@ -74,20 +75,22 @@ fn answered<
     input: R,
     output: W,
     places: &P,
-    errors: &mut PlainOutput<E>,
-) -> Answered<PlainOutput<W>> {
-    let output = PlainOutput::new(output, 1);
+    errors: &mut PlainOutput<Told<E>>,
+) -> Answered<PlainOutput<Told<W>>>
+    requires { (told_bytes errors.old.inner ≡ []) × (errors.old.failed ≡ false) }
+{
+    let output = PlainOutput::new(Told::new(output), 1);
     answer(rt, alloc, words, input, output, places, errors)
 }
 
 /// The writers of these outputs.
 fn writers_of<W: Write + Drop>(
     alloc: Global,
-    outputs: Vec<PlainOutput<W>>,
+    outputs: Vec<PlainOutput<Told<W>>>,
 ) -> Result<Vec<W>, AllocError> {
     let mut writers = Vec::new(alloc);
     for output in outputs {
-        writers.push(output.into_inner())?;
+        writers.push(output.into_inner().into_inner())?;
     }
     Ok(writers)
 }
@@ -98,7 +101,7 @@ pub fn hear<
     R: Read + Send + Drop,
     W: Write + Drop,
     E: Write + Drop,
-    P: Places<R, PlainOutput<W>>,
+    P: Places<R, PlainOutput<Told<W>>>,
 >(
     rt: &T,
     alloc: Global,
@@ -109,7 +112,7 @@ pub fn hear<
     errors: E,
 ) -> Result<Heard<W, E>, AllocError> {
     let words = words_of(alloc, words)?;
-    let mut errors = PlainOutput::new(errors, 0);
+    let mut errors = PlainOutput::new(Told::new(errors), 0);
     let Answered {
         status,
         output,
@@ -125,16 +128,16 @@ pub fn hear<
     );
     Ok(Heard {
         status,
-        output: output.into_inner(),
+        output: output.into_inner().into_inner(),
         outputs: writers_of(alloc, outputs)?,
-        errors: errors.into_inner(),
+        errors: errors.into_inner().into_inner(),
     })
 }
 
 /// A place without files.
 pub struct NoPlaces;
 
-impl<R, W> Places<R, W> for NoPlaces {
+impl<R, W: Output> Places<R, W> for NoPlaces {
     ghost is_opened = { λ _ _ _. ⊤ };
 
     ghost is_made = { λ _ _ _ _. ⊤ };

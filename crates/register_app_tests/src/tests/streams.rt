@@ -3,7 +3,7 @@
 ghost use Rattle.std.specs.Prelude.{⊤};
 
 use crate::tests::helpers::{Heard, NoPlaces, hear};
-use register_app::{HELP, Places};
+use register_app::{HELP, Places, Told};
 use register_records::PlainOutput;
 use std::alloc::{AllocError, Global};
 use std::io;
@@ -51,7 +51,7 @@ struct CountedFiles<'a> {
     counts: &'a Counts,
 }
 
-impl<'a> Places<CountedText<'a>, PlainOutput<Vec<u8>>> for CountedFiles<'a> {
+impl<'a> Places<CountedText<'a>, PlainOutput<Told<Vec<u8>>>> for CountedFiles<'a> {
     ghost is_opened = { λ _ _ _. ⊤ };
 
     ghost is_made = { λ _ _ _ _. ⊤ };
@@ -63,9 +63,9 @@ impl<'a> Places<CountedText<'a>, PlainOutput<Vec<u8>>> for CountedFiles<'a> {
         })
     }
 
-    fn make(&self, _name: &str, mark: u32) -> io::Result<PlainOutput<Vec<u8>>> {
+    fn make(&self, _name: &str, mark: u32) -> io::Result<PlainOutput<Told<Vec<u8>>>> {
         self.counts.made.fetch_add(1, Ordering::SeqCst);
-        Ok(PlainOutput::new(Vec::new(self.alloc), mark))
+        Ok(PlainOutput::new(Told::new(Vec::new(self.alloc)), mark))
     }
 
     fn are_one_file(&self, _name: &str, _other: &str) -> bool {

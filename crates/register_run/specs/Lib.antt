@@ -12,3 +12,4 @@ pub mod Machine
 pub mod Schedules
 pub mod EveryScheduleLaw
 pub mod Turns
+pub mod Starts

@@ -1,6 +1,7 @@
 //! The threads of a source, and the ends of its last lanes.
 
-ghost use Rattle.std.specs.Prelude.{◌≡◌, ◌<◌, ◌≤◌, ◌+◌, [], ℕ, Some, slice_get, All, IfOk, IfSome, length, map, replicate, true, vec_capacity, vec_len};
+ghost use Rattle.std.specs.Prelude.{◌≡◌, ◌<◌, ◌≤◌, ◌+◌, [], ℕ, Some, slice_get, All, IfOk, IfSome, length, map};
+ghost use Rattle.std.specs.Prelude.{replicate, true, vec_capacity, vec_len};
 ghost use Rattle.lane_rings.specs.Lane.{sender_lane, sent};
 ghost use Rattle.register_records.specs.Views.{format_of};
 ghost use Rattle.register_run.specs.Arms.{arm_setup, feeding_lane};

@@ -151,7 +151,7 @@ fn random_plans(alloc: Global, random: &mut Random, form: Form) -> io::Result<Ve
 }
 
 /// Converts sources of one seed both ways. The answer is how many sources there were, or none where two differ.
-fn compare<R: Threads + Wait + Sync + Print>(
+fn compare<R: Threads + Wait + Clock + Sync + Print>(
     rt: &R,
     alloc: Global,
     seed: u64,

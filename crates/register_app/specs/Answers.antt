@@ -7,7 +7,7 @@ use Rattle.register_records.specs.Views.{layout_of}
 use Rattle.register_records.specs.declared.setups.Setup.{Setup}
 use Rattle.register_run.specs.declared.reports.Verdict.TheVariants.{Complete}
 use Rattle.register_app.specs.Faults.{Fault}
-use Rattle.register_app.specs.Openings.{AreMade, AreOpened}
+use Rattle.register_app.specs.Openings.{AreMade, AreNotSources, AreOpened, AreTwoFiles}
 use Rattle.register_app.specs.Reports.{lines_from}
 use Rattle.register_app.specs.Requests.{IsFaultOf, MeanJust, Task, help, version}
 use Rattle.register_app.specs.declared.help.TheConstants.{HELP, PRINT_FAULT}
@@ -51,16 +51,19 @@ pub record IsConverted {R W E : Type 0} (remaining : R → Option (List ℕ)) (c
   pub lines : unheard after ≡ false → Appends (told before) (told after) (lines_from task.summary 1 report.ends.items)
   pub quiet : status ≡ 0 → task.summary ≡ false → after ≡ before
 
--- sources were opened by the names of a task and outputs made by them, and then converted
+-- sources were opened by the names of a task and outputs made by them, none of which goes to one of the files or to the
+-- file of another output, as far as names were told apart; and then the sources were converted
 pub record AreConverted {R W E : Type 0} (remaining : R → Option (List ℕ)) (contents : W → Option (List ℕ))
     (has_failed is_flushed : W → Bool)
     (own_mark : W → ℕ) (told : E → Option (List ℕ)) (unheard : E → Bool) (IsOpened : List ℕ → R → Type 0)
-    (IsMade : List ℕ → ℕ → W → Type 0)
+    (IsMade : List ℕ → ℕ → W → Type 0) (AreApart : List ℕ → List ℕ → Type 0)
     (task : Task) (status : ℕ) (written : List W) (before after : E) : Type 0 where
   pub sources : List R
   pub given : List W
   pub opened : AreOpened IsOpened task.files sources
   pub made : AreMade IsMade task.files given
+  pub kept : AreNotSources AreApart task.files
+  pub apart : AreTwoFiles AreApart task.files
   pub converted : IsConverted remaining contents has_failed is_flushed own_mark told unheard task status sources given
       written before after
 

@@ -1,5 +1,5 @@
 -- What the files of a command line are opened as.
-use Rattle.std.specs.Prelude.{◌≡◌, ◌+◌, ◌++◌, ℕ, List, [], Option, Bool, false, codes, length, Some, slice_get}
+use Rattle.std.specs.Prelude.{◌≡◌, ◌<◌, ◌+◌, ◌++◌, ℕ, List, [], Option, Bool, false, codes, length, Some, slice_get}
 
 -- the lists are of one length, and this holds of what stands at each place of both, the place being counted from 0
 pub record AreMatched {A B : Type 0} (Match : ℕ → A → B → Type 0) (left : List A) (right : List B) : Type 0 where
@@ -24,3 +24,15 @@ IsNewlyMade contents has_failed own_mark IsMade name mark output =
 abbrev pub AreMade : {W : Type 0} → (List ℕ → ℕ → W → Type 0) → List (List ℕ) → List W → Type 0
 AreMade IsMade files outputs = AreMatched (λ i file output. IsMade (file ++ codes ".out.csv") (i + 1) output) files
     outputs
+
+-- the name of each file's output was told apart from that of each file
+abbrev pub AreNotSources : (List ℕ → List ℕ → Type 0) → List (List ℕ) → Type 0
+AreNotSources AreApart files =
+    (i j : ℕ) (file source : List ℕ) → slice_get files i ≡ Some file → slice_get files j ≡ Some source
+    → AreApart source (file ++ codes ".out.csv")
+
+-- the names of any two outputs were told apart
+abbrev pub AreTwoFiles : (List ℕ → List ℕ → Type 0) → List (List ℕ) → Type 0
+AreTwoFiles AreApart files =
+    (i j : ℕ) (file later : List ℕ) → i < j → slice_get files i ≡ Some file → slice_get files j ≡ Some later
+    → AreApart (file ++ codes ".out.csv") (later ++ codes ".out.csv")

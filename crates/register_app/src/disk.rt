@@ -76,6 +76,8 @@ impl<'a, F: Files, I: Read, O: Write> Places<
 
     ghost is_made = { λ _ _ mark output. output.mark ≡ mark };
 
+    ghost are_apart = { λ _ _ _. ⊤ };
+
     // A folder can be opened but not read, so it is refused here.
     fn open(&self, name: &str) -> io::Result<Source<I, F::File>> {
         let file = OpenOptions::new().read(true).open(self.files, name)?;

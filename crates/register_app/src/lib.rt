@@ -17,4 +17,6 @@ pub use answering::{Answered, answer};
 pub use disk::{Disk, Sink, Source};
 pub use help::HELP;
 pub use places::Places;
+pub use refusals::Refusal;
+pub use requests::{Job, Request, read_request};
 pub use told::Told;

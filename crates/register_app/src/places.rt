@@ -1,6 +1,6 @@
 //! Where the files of a run are.
 
-ghost use Rattle.std.specs.Prelude.{ℕ, List, IfOk};
+ghost use Rattle.std.specs.Prelude.{◌≡◌, ℕ, List, IfOk, false};
 ghost use Rattle.register_app.specs.Openings.{IsNewlyMade};
 
 use register_records::Output;
@@ -14,6 +14,9 @@ pub trait Places<R, W: Output> {
     // This output goes to the file of this name, and has this mark.
     ghost is_made: { Self → List ℕ → ℕ → W → Type 0 };
 
+    // These two names were told to be those of two files.
+    ghost are_apart: { Self → List ℕ → List ℕ → Type 0 };
+
     /// Opens the file of this name to be read from its beginning.
     fn open(&self, name: &str) -> io::Result<R>
         ensures { IfOk result (is_opened self.now name.now) };
@@ -24,5 +27,6 @@ pub trait Places<R, W: Output> {
         ensures { IfOk result (IsNewlyMade W.contents W.has_failed W.own_mark (is_made self.now) name.now mark) };
 
     /// Whether two names are those of one file, as far as can be known.
-    fn are_one_file(&self, name: &str, other: &str) -> bool;
+    fn are_one_file(&self, name: &str, other: &str) -> bool
+        ensures { result ≡ false → are_apart self.now name.now other.now };
 }

@@ -11,6 +11,7 @@ use std::io::{ErrorKind, Read, Write};
 use std::process::Abort;
 use std::sync::Wait;
 use std::thread::Threads;
+use std::time::Clock;
 
 /// The text of one record.
 pub const ONE_RECORD: &[u8] = b"id,calendar,date\na,gregorian,1945-11-12\n";
@@ -63,7 +64,7 @@ impl Heard<Vec<u8>, Vec<u8>> {
 /// What the program answers to these words. Nothing is promised of it, so that a test that calls this is proved without
 /// all that is proved of an answer.
 fn answered<
-    T: Threads + Wait + Sync,
+    T: Threads + Wait + Clock + Sync,
     R: Read + Send + Drop,
     W: Write + Drop,
     E: Write + Drop,
@@ -97,7 +98,7 @@ fn writers_of<W: Write + Drop>(
 
 /// Runs the program's answer to these words.
 pub fn hear<
-    T: Threads + Wait + Sync,
+    T: Threads + Wait + Clock + Sync,
     R: Read + Send + Drop,
     W: Write + Drop,
     E: Write + Drop,
@@ -142,6 +143,8 @@ impl<R, W: Output> Places<R, W> for NoPlaces {
 
     ghost is_made = { λ _ _ _ _. ⊤ };
 
+    ghost are_apart = { λ _ _ _. ⊤ };
+
     fn open(&self, _name: &str) -> io::Result<R> {
         Err(io::Error::from(ErrorKind::NotFound))
     }
@@ -157,7 +160,7 @@ impl<R, W: Output> Places<R, W> for NoPlaces {
 
 /// Runs the program's answer to these words over a text, without files.
 pub fn hear_text(
-    rt: &(impl Threads + Wait + Sync),
+    rt: &(impl Threads + Wait + Clock + Sync),
     alloc: Global,
     words: &[&str],
     text: &'static [u8],
@@ -184,7 +187,7 @@ pub struct TextCase {
 }
 
 /// Whether the program answers as is wanted.
-fn is_answered(rt: &(impl Threads + Wait + Sync), alloc: Global, case: &TextCase) -> bool {
+fn is_answered(rt: &(impl Threads + Wait + Clock + Sync), alloc: Global, case: &TextCase) -> bool {
     let Ok(heard) = hear_text(rt, alloc, case.words, case.input) else {
         return false;
     };
@@ -193,7 +196,7 @@ fn is_answered(rt: &(impl Threads + Wait + Sync), alloc: Global, case: &TextCase
 
 /// Asserts that the program answers each case as is wanted.
 pub fn assert_answers(
-    rt: &(impl Threads + Wait + Sync + Abort),
+    rt: &(impl Threads + Wait + Clock + Sync + Abort),
     alloc: Global,
     cases: &[TextCase],
 ) {

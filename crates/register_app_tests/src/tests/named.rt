@@ -1,6 +1,6 @@
 //! Files in memory whose names say what they hold, so that what is promised of the table of each speaks of that text.
 
-ghost use Rattle.std.specs.Prelude.{◌≡◌, ◌++◌, ◌⊎◌, codes};
+ghost use Rattle.std.specs.Prelude.{◌≡◌, ◌≢◌, ◌++◌, ◌⊎◌, codes};
 
 use crate::tests::helpers::{Heard, ONE_RECORD, ONE_ROW, hear};
 use register_app::{Places, Told};
@@ -10,6 +10,7 @@ use std::io;
 use std::io::ErrorKind;
 use std::sync::Wait;
 use std::thread::Threads;
+use std::time::Clock;
 
 /// A file in memory.
 #[derive(Clone, Copy)]
@@ -34,6 +35,9 @@ impl Places<&'static [u8], PlainOutput<Told<Vec<u8>>>> for TwoFiles {
     // Outputs are made behind the names of these files alone.
     ghost is_made = { λ two name _ _. (name ≡ two.one.name.now ++ codes ".out.csv")
         ⊎ (name ≡ two.other.name.now ++ codes ".out.csv") };
+
+    // Two files are told apart by their names.
+    ghost are_apart = { λ _ name other. name ≢ other };
 
     fn open(&self, name: &str) -> io::Result<&'static [u8]> {
         if name == self.one.name {
@@ -61,7 +65,7 @@ impl Places<&'static [u8], PlainOutput<Told<Vec<u8>>>> for TwoFiles {
 
 /// What the words give over two files.
 fn hear_two(
-    rt: &(impl Threads + Wait + Sync),
+    rt: &(impl Threads + Wait + Clock + Sync),
     alloc: Global,
     words: &[&str],
 ) -> Result<Heard<Vec<u8>, Vec<u8>>, AllocError> {
@@ -86,7 +90,7 @@ fn hear_two(
 }
 
 /// Whether each file gets the table of its own text.
-fn get_their_own(rt: &(impl Threads + Wait + Sync), alloc: Global) -> bool {
+fn get_their_own(rt: &(impl Threads + Wait + Clock + Sync), alloc: Global) -> bool {
     let Ok(heard) = hear_two(rt, alloc, &["--to=gregorian", "other.csv", "one.csv"]) else {
         return false;
     };

@@ -151,7 +151,7 @@ fn random_plans(alloc: Global, random: &mut Random, form: Form) -> io::Result<Ve
 }
 
 /// Converts sources of one seed both ways. The answer is how many sources there were, or none where two differ.
-fn compare<R: Threads + Wait + Sync + Print>(
+fn compare<R: Threads + Wait + Clock + Sync + Print>(
     rt: &R,
     alloc: Global,
     seed: u64,
@@ -170,11 +170,7 @@ fn compare<R: Threads + Wait + Sync + Print>(
     let Ok(report) = run(rt, alloc, sources, outputs, &setup) else {
         return Ok(None);
     };
-    let Report {
-        outputs,
-        ends,
-        verdict: _,
-    } = report;
+    let Report { outputs, ends, .. } = report;
     let count = plans.len();
     let mut ends = ends.iter();
     let mut plans = plans.iter();

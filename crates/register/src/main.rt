@@ -4,7 +4,7 @@
 //! the calendars that the words ask for.
 #![tactic(auto)]
 
-use register_app::{Disk, Sink, Source, answer};
+use register_app::{Disk, Sink, Source, Told, answer};
 use register_records::PlainOutput;
 use std::fs::OpenOptions;
 use std::process::ExitCode;
@@ -41,8 +41,8 @@ fn main(rt: HostRuntime) -> ExitCode {
         Err(error) => return unread_words(&rt, &error),
     };
     let input = Source::Input(rt.stdin());
-    let output = PlainOutput::new(Sink::Output(rt.stdout()), 1);
-    let mut errors = PlainOutput::new(rt.stderr(), 0);
+    let output = PlainOutput::new(Told::new(Sink::Output(rt.stdout())), 1);
+    let mut errors = PlainOutput::new(Told::new(rt.stderr()), 0);
     let answered = answer(
         &rt,
         rt.alloc(),

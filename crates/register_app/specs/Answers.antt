@@ -3,9 +3,11 @@ use Rattle.std.specs.Prelude.{◌≡◌, ◌≢◌, ◌⊎◌, ◌↔◌, ℕ, L
 use Rattle.std.specs.Io.KnownBytes.{Appends}
 use Rattle.register_run.specs.Reports.{IsReport}
 use Rattle.register_run.specs.declared.reports.Report.{Report}
+use Rattle.register_records.specs.Views.{layout_of}
+use Rattle.register_records.specs.declared.setups.Setup.{Setup}
 use Rattle.register_run.specs.declared.reports.Verdict.TheVariants.{Complete}
 use Rattle.register_app.specs.Faults.{Fault}
-use Rattle.register_app.specs.Openings.{AreMade, AreOpened}
+use Rattle.register_app.specs.Openings.{AreMade, AreNotSources, AreOpened, AreTwoFiles}
 use Rattle.register_app.specs.Reports.{lines_from}
 use Rattle.register_app.specs.Requests.{IsFaultOf, MeanJust, Task, help, version}
 use Rattle.register_app.specs.declared.help.TheConstants.{HELP, PRINT_FAULT}
@@ -29,29 +31,39 @@ pub record IsPrinted {W E : Type 0} (contents : W → Option (List ℕ)) (has_fa
   pub failed : status ≢ 0 → (has_failed written ≡ true)
       × (unheard after ≡ false → Appends (told before) (told after) PRINT_FAULT.now)
 
--- tables were made: each source has ended as it should, the status is 0 exactly where all are whole, and standard error
--- has gained the lines on them, unless it failed, and nothing where there are none
+-- the setup is the task's: its layout, the size of its rings, and the converters of a source
+abbrev pub IsSetupOf : Task → Setup → Type 0
+IsSetupOf task setup = (layout_of setup ≡ task.layout) × (setup.ring ≡ task.ring) × (setup.stripes ≡ task.stripes)
+
+-- tables were made: the threads of each source were started by the setup that the task asks for, each source has ended
+-- as it should, the status is 0 exactly where all are whole, and standard error has gained the lines on them, unless it
+-- failed, and nothing where there are none
 pub record IsConverted {R W E : Type 0} (remaining : R → Option (List ℕ)) (contents : W → Option (List ℕ))
     (has_failed is_flushed : W → Bool)
     (own_mark : W → ℕ) (told : E → Option (List ℕ)) (unheard : E → Bool)
     (task : Task) (status : ℕ) (sources : List R) (given written : List W) (before after : E) : Type 0 where
+  pub setup : Setup
+  pub asked : IsSetupOf task setup
   pub report : Report W
-  pub settled : IsReport remaining contents has_failed is_flushed own_mark task.layout sources given report
+  pub settled : IsReport remaining contents has_failed is_flushed own_mark setup sources given report
   pub outputs : written ≡ report.outputs.items
   pub complete : (status ≡ 0) ↔ (report.verdict ≡ Complete)
   pub lines : unheard after ≡ false → Appends (told before) (told after) (lines_from task.summary 1 report.ends.items)
   pub quiet : status ≡ 0 → task.summary ≡ false → after ≡ before
 
--- sources were opened by the names of a task and outputs made by them, and then converted
+-- sources were opened by the names of a task and outputs made by them, none of which goes to one of the files or to the
+-- file of another output, as far as names were told apart; and then the sources were converted
 pub record AreConverted {R W E : Type 0} (remaining : R → Option (List ℕ)) (contents : W → Option (List ℕ))
     (has_failed is_flushed : W → Bool)
     (own_mark : W → ℕ) (told : E → Option (List ℕ)) (unheard : E → Bool) (IsOpened : List ℕ → R → Type 0)
-    (IsMade : List ℕ → ℕ → W → Type 0)
+    (IsMade : List ℕ → ℕ → W → Type 0) (AreApart : List ℕ → List ℕ → Type 0)
     (task : Task) (status : ℕ) (written : List W) (before after : E) : Type 0 where
   pub sources : List R
   pub given : List W
   pub opened : AreOpened IsOpened task.files sources
   pub made : AreMade IsMade task.files given
+  pub kept : AreNotSources AreApart task.files
+  pub apart : AreTwoFiles AreApart task.files
   pub converted : IsConverted remaining contents has_failed is_flushed own_mark told unheard task status sources given
       written before after
 

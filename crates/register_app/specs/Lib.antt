@@ -5,3 +5,5 @@ pub mod OptionsRead
 pub mod Openings
 pub mod Reports
 pub mod Answers
+pub mod Sides
+pub mod Told

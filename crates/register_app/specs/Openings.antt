@@ -1,5 +1,5 @@
 -- What the files of a command line are opened as.
-use Rattle.std.specs.Prelude.{◌≡◌, ◌+◌, ◌++◌, ℕ, List, codes, length, Some, slice_get}
+use Rattle.std.specs.Prelude.{◌≡◌, ◌<◌, ◌+◌, ◌++◌, ℕ, List, [], Option, Bool, false, codes, length, Some, slice_get}
 
 -- the lists are of one length, and this holds of what stands at each place of both, the place being counted from 0
 pub record AreMatched {A B : Type 0} (Match : ℕ → A → B → Type 0) (left : List A) (right : List B) : Type 0 where
@@ -10,7 +10,29 @@ pub record AreMatched {A B : Type 0} (Match : ℕ → A → B → Type 0) (left 
 abbrev pub AreOpened : {R : Type 0} → (List ℕ → R → Type 0) → List (List ℕ) → List R → Type 0
 AreOpened IsOpened files sources = AreMatched (λ i file source. IsOpened file source) files sources
 
+-- the output tells its bytes, holds none of them yet, and has not failed
+abbrev pub IsFresh : {W : Type 0} → (W → Option (List ℕ)) → (W → Bool) → W → Type 0
+IsFresh contents has_failed output = (contents output ≡ Some []) × (has_failed output ≡ false)
+
+-- the output was made by this name, has this mark, and is fresh
+abbrev pub IsNewlyMade : {W : Type 0} → (W → Option (List ℕ)) → (W → Bool) → (W → ℕ) → (List ℕ → ℕ → W → Type 0)
+    → List ℕ → ℕ → W → Type 0
+IsNewlyMade contents has_failed own_mark IsMade name mark output =
+    IsMade name mark output × (own_mark output ≡ mark) × IsFresh contents has_failed output
+
 -- each output goes to the file named like its source's with .out.csv behind it, and is marked by its place, from 1
 abbrev pub AreMade : {W : Type 0} → (List ℕ → ℕ → W → Type 0) → List (List ℕ) → List W → Type 0
 AreMade IsMade files outputs = AreMatched (λ i file output. IsMade (file ++ codes ".out.csv") (i + 1) output) files
     outputs
+
+-- the name of each file's output was told apart from that of each file
+abbrev pub AreNotSources : (List ℕ → List ℕ → Type 0) → List (List ℕ) → Type 0
+AreNotSources AreApart files =
+    (i j : ℕ) (file source : List ℕ) → slice_get files i ≡ Some file → slice_get files j ≡ Some source
+    → AreApart source (file ++ codes ".out.csv")
+
+-- the names of any two outputs were told apart
+abbrev pub AreTwoFiles : (List ℕ → List ℕ → Type 0) → List (List ℕ) → Type 0
+AreTwoFiles AreApart files =
+    (i j : ℕ) (file later : List ℕ) → i < j → slice_get files i ≡ Some file → slice_get files j ≡ Some later
+    → AreApart (file ++ codes ".out.csv") (later ++ codes ".out.csv")

@@ -5,7 +5,7 @@ ghost use Rattle.std.specs.Io.KnownBytes.{Appends};
 ghost use Rattle.std.specs.String.{string_bytes};
 ghost use Rattle.register_app.specs.Answers.{AreConverted, AreWrong, AskForPage, IsConverted, IsPrinted, version_line};
 ghost use Rattle.register_records.specs.Sources.{is_whole_end};
-ghost use Rattle.register_app.specs.Openings.{AreMade};
+ghost use Rattle.register_app.specs.Openings.{AreMade, IsFresh, IsNewlyMade};
 ghost use Rattle.register_app.specs.Reports.{lines_from};
 ghost use Rattle.register_app.specs.Requests.{MeanJust, Task, most_files, refusal_status, table, task_of};
 
@@ -200,14 +200,12 @@ fn convert<T: Threads + Wait + Clock + Sync, R: Read + Send + Drop, W: Output + 
 }
 
 /// Converts the text that standard input gives.
-fn convert_input<T: Threads + Wait + Clock + Sync, R: Read + Send + Drop, W: Output + Drop, E: Output>(
-    rt: &T,
-    alloc: Global,
-    input: R,
-    output: W,
-    errors: &mut E,
-    job: &Job<'_>,
-) -> Answered<W>
+fn convert_input<
+    T: Threads + Wait + Clock + Sync,
+    R: Read + Send + Drop,
+    W: Output + Drop,
+    E: Output,
+>(rt: &T, alloc: Global, input: R, output: W, errors: &mut E, job: &Job<'_>) -> Answered<W>
     ensures converted { result.status ≢ 3 → IsConverted R.remaining W.contents W.has_failed W.is_flushed W.own_mark
         E.contents E.has_failed
         (task_of job.now) result.status (input ∷ []) (output ∷ []) (result.output ∷ []) errors.old errors.new }
@@ -250,11 +248,12 @@ fn convert_files<
     requires few { length job.now.files.items ≤ most_files }
     ensures converted { result.status ≢ 3 → AreConverted R.remaining W.contents W.has_failed W.is_flushed W.own_mark
         E.contents E.has_failed
-        (P.is_opened places.now) (P.is_made places.now) (task_of job.now) result.status result.outputs.items errors.old
-        errors.new }
+        (P.is_opened places.now) (IsNewlyMade W.contents W.has_failed W.own_mark (P.is_made places.now))
+        (P.are_apart places.now) (task_of job.now) result.status result.outputs.items errors.old errors.new }
     ensures untouched { result.output ≡ output }
     ensures unwritten { result.status ≡ 3 → (result.outputs.items ≡ [])
-        ⊎ AreMade (P.is_made places.now) (task_of job.now).files result.outputs.items }
+        ⊎ AreMade (IsNewlyMade W.contents W.has_failed W.own_mark (P.is_made places.now)) (task_of job.now).files
+        result.outputs.items }
     ensures statuses { (result.status ≡ 0) ⊎ (result.status ≡ 1) ⊎ (result.status ≡ 3) }
     ensures errors_mark { E.own_mark errors.new ≡ E.own_mark errors.old }
 {
@@ -279,7 +278,8 @@ fn convert_files<
 /// - 1 where a conversion broke off, with the line `source N: cause C` for each such source in order, or the page
 ///   could not be printed;
 /// - 2 where the words were refused, with one line of the program's own or the text of clap;
-/// - 3 where a file could not be opened or made, or there was no memory before the run, with one line.
+/// - 3 where a file could not be opened or made, a table would go to one of the files or to the file of another table,
+///   or there was no memory before the run, with one line.
 ///
 /// Nothing is read where the status is 2 or 3, or where the words ask for a page. A fault of `errors` changes
 /// neither the status nor the outputs.
@@ -298,6 +298,10 @@ pub fn answer<
     places: &P,
     errors: &mut E,
 ) -> Answered<W>
+    // What is written to tells its bytes, so that no clause on them is empty; it holds none yet, and has not failed.
+    requires fresh { IsFresh W.contents W.has_failed output }
+    requires fresh_errors { IsFresh E.contents E.has_failed errors.old }
+
     // The words ask for a page, which was printed; or for the table of standard input; or for those of files.
     ensures answered { result.status ≤ 1
         → ((page : List ℕ) × AskForPage (map string_bytes words.now) page
@@ -311,7 +315,8 @@ pub fn answer<
         ⊎ ((task : Task) × MeanJust (map string_bytes words.now) (table task) × (task.files ≢ [])
         × (result.output ≡ output)
         × AreConverted R.remaining W.contents W.has_failed W.is_flushed W.own_mark E.contents E.has_failed
-        (P.is_opened places.now) (P.is_made places.now) task result.status result.outputs.items errors.old errors.new) }
+        (P.is_opened places.now) (IsNewlyMade W.contents W.has_failed W.own_mark (P.is_made places.now))
+        (P.are_apart places.now) task result.status result.outputs.items errors.old errors.new) }
 
     // Unless the status is 3, words are refused exactly where something is wrong with them.
     ensures refused { result.status ≢ 3 → (result.status ≡ 2) ↔ AreWrong (map string_bytes words.now) }
@@ -321,7 +326,8 @@ pub fn answer<
     // With status 3 the outputs are none, or as they were made.
     ensures unwritten { result.status ≡ 3 → (result.outputs.items ≡ [])
         ⊎ ((task : Task) × MeanJust (map string_bytes words.now) (table task)
-        × AreMade (P.is_made places.now) task.files result.outputs.items) }
+        × AreMade (IsNewlyMade W.contents W.has_failed W.own_mark (P.is_made places.now)) task.files
+        result.outputs.items) }
     ensures statuses { result.status ≤ 3 }
     ensures mark { W.own_mark result.output ≡ W.own_mark output }
     ensures errors_mark { E.own_mark errors.new ≡ E.own_mark errors.old }

@@ -1,8 +1,10 @@
 //! The files of the system, and the standard streams beside them.
 
 ghost use Rattle.std.specs.Prelude.{◌≡◌, ⊤};
+ghost use Rattle.register_app.specs.Sides.{sink_contents, source_remaining};
 
 use crate::places::Places;
+use crate::told::Told;
 use register_records::PlainOutput;
 use std::fs::{OpenFile, OpenOptions};
 use std::io;
@@ -25,6 +27,8 @@ pub enum Sink<O, F> {
 }
 
 impl<I: Read, F: Read> Read for Source<I, F> {
+    ghost remaining = { source_remaining I.remaining F.remaining };
+
     fn read(&mut self, buf: &mut [u8]) -> io::Result<usize> {
         match self {
             Source::Input(input) => input.read(buf),
@@ -34,6 +38,8 @@ impl<I: Read, F: Read> Read for Source<I, F> {
 }
 
 impl<O: Write, F: Write> Write for Sink<O, F> {
+    ghost contents = { sink_contents O.contents F.contents };
+
     fn write(&mut self, buf: &[u8]) -> io::Result<usize> {
         match self {
             Sink::Output(output) => output.write(buf),
@@ -62,11 +68,15 @@ impl<'a, F: Files> Disk<'a, F> {
     }
 }
 
-impl<'a, F: Files, I: Read, O: Write> Places<Source<I, F::File>, PlainOutput<Sink<O, F::File>>>
-    for Disk<'a, F> {
+impl<'a, F: Files, I: Read, O: Write> Places<
+    Source<I, F::File>,
+    PlainOutput<Told<Sink<O, F::File>>>,
+> for Disk<'a, F> {
     ghost is_opened = { λ _ _ _. ⊤ };
 
     ghost is_made = { λ _ _ mark output. output.mark ≡ mark };
+
+    ghost are_apart = { λ _ _ _. ⊤ };
 
     // A folder can be opened but not read, so it is refused here.
     fn open(&self, name: &str) -> io::Result<Source<I, F::File>> {
@@ -77,13 +87,13 @@ impl<'a, F: Files, I: Read, O: Write> Places<Source<I, F::File>, PlainOutput<Sin
         Ok(Source::File(file))
     }
 
-    fn make(&self, name: &str, mark: u32) -> io::Result<PlainOutput<Sink<O, F::File>>> {
+    fn make(&self, name: &str, mark: u32) -> io::Result<PlainOutput<Told<Sink<O, F::File>>>> {
         let file = OpenOptions::new()
             .write(true)
             .create(true)
             .truncate(true)
             .open(self.files, name)?;
-        Ok(PlainOutput::new(Sink::File(file), mark))
+        Ok(PlainOutput::new(Told::new(Sink::File(file)), mark))
     }
 
     fn are_one_file(&self, name: &str, other: &str) -> bool {

@@ -11,8 +11,12 @@ mod places;
 mod refusals;
 mod requests;
 mod telling;
+mod told;
 
 pub use answering::{Answered, answer};
 pub use disk::{Disk, Sink, Source};
 pub use help::HELP;
 pub use places::Places;
+pub use refusals::Refusal;
+pub use requests::{Job, Request, read_request};
+pub use told::Told;

@@ -1,12 +1,14 @@
 //! Opens the files of a command line.
 
-ghost use Rattle.std.specs.Prelude.{◌≡◌, ◌≤◌, ◌++◌, length, IfErr, IfOk, map};
+ghost use Rattle.std.specs.Prelude.{◌≡◌, ◌≤◌, ◌++◌, ℕ, List, Some, false, length};
+ghost use Rattle.std.specs.Prelude.{IfErr, IfOk, OnOk, map, slice_get};
 ghost use Rattle.std.specs.String.{string_bytes};
 ghost use Rattle.register_app.specs.Requests.{most_files, refusal_status};
-ghost use Rattle.register_app.specs.Openings.{AreMade, AreOpened};
+ghost use Rattle.register_app.specs.Openings.{AreMade, AreNotSources, AreOpened, AreTwoFiles, IsNewlyMade};
 
 use crate::places::Places;
 use crate::refusals::Refusal;
+use register_records::Output;
 use std::alloc::{AllocError, Global};
 
 /// What the name of an output has behind the name of its source.
@@ -28,7 +30,7 @@ fn output_name(alloc: Global, file: &str) -> Result<String, AllocError>
 }
 
 /// Opens each file.
-fn open_sources<'a, R: Drop, W, P: Places<R, W>>(
+fn open_sources<'a, R: Drop, W: Output, P: Places<R, W>>(
     alloc: Global,
     places: &P,
     files: &[&'a str],
@@ -49,22 +51,62 @@ fn open_sources<'a, R: Drop, W, P: Places<R, W>>(
     Ok(sources)
 }
 
+/// Whether an output's name is that of one of these files.
+fn is_source<R, W: Output, P: Places<R, W>>(places: &P, files: &[&str], name: &str) -> bool
+    ensures { result ≡ false → (k : ℕ) (file : List ℕ) → slice_get (map (λ f. f.now) files.now) k ≡ Some file
+        → P.are_apart places.now file name.now }
+{
+    'files: for &file in files {
+        if places.are_one_file(file, name) {
+            return true;
+        }
+    }
+    false
+}
+
 /// Whether an output's name is that of a file that another output goes to.
-fn is_taken<R, W, P: Places<R, W>>(places: &P, names: &[String], name: &str) -> bool {
-    names
-        .iter()
-        .any(|other| places.are_one_file(other.as_str(), name))
+fn is_taken<R, W: Output, P: Places<R, W>>(places: &P, names: &[String], name: &str) -> bool
+    ensures { result ≡ false → (k : ℕ) (other : List ℕ) → slice_get (map string_bytes names.now) k ≡ Some other
+        → P.are_apart places.now other name.now }
+{
+    'names: for other in names {
+        if places.are_one_file(other.as_str(), name) {
+            return true;
+        }
+    }
+    false
+}
+
+/// Refuses the first file whose output would go to one of the files themselves and empty it.
+fn keep_sources<'a, R, W: Output, P: Places<R, W>>(
+    alloc: Global,
+    places: &P,
+    files: &[&'a str],
+) -> Result<(), Refusal<'a>>
+    ensures kept { OnOk result (AreNotSources (P.are_apart places.now) (map (λ file. file.now) files.now)) }
+    ensures status { IfErr result (λ refusal. refusal_status refusal ≡ 3) }
+{
+    'files: for &file in files {
+        let Ok(name) = output_name(alloc, file) else {
+            return Err(Refusal::OutOfMemory);
+        };
+        if is_source(places, files, name.as_str()) {
+            return Err(Refusal::CannotMake(file));
+        }
+    }
+    Ok(())
 }
 
 /// Makes the output of each file.
-fn make_outputs<'a, R, W: Drop, P: Places<R, W>>(
+fn make_outputs<'a, R, W: Output + Drop, P: Places<R, W>>(
     alloc: Global,
     places: &P,
     files: &[&'a str],
 ) -> Result<Vec<W>, Refusal<'a>>
     requires few { length files.now ≤ most_files }
-    ensures made { IfOk result (λ outputs. AreMade (P.is_made places.now) (map (λ file. file.now) files.now)
-        outputs.items) }
+    ensures made { IfOk result (λ outputs. AreMade (IsNewlyMade W.contents W.has_failed W.own_mark
+        (P.is_made places.now)) (map (λ file. file.now) files.now) outputs.items) }
+    ensures apart { IfOk result (λ outputs. AreTwoFiles (P.are_apart places.now) (map (λ file. file.now) files.now)) }
     ensures status { IfErr result (λ refusal. refusal_status refusal ≡ 3) }
 {
     let mut outputs = Vec::new(alloc);
@@ -93,8 +135,9 @@ fn make_outputs<'a, R, W: Drop, P: Places<R, W>>(
 /// # Errors
 ///
 /// `CannotOpen` for the first file that cannot be opened, before any output is made; `CannotMake` for the first whose
-/// output cannot be made or goes to the file of an earlier one; `OutOfMemory` where a growth of memory was refused.
-pub fn open_files<'a, R: Drop, W: Drop, P: Places<R, W>>(
+/// output would go to one of the files, before any output is made too, or else for the first whose output cannot be
+/// made or goes to the file of an earlier one; `OutOfMemory` where a growth of memory was refused.
+pub fn open_files<'a, R: Drop, W: Output + Drop, P: Places<R, W>>(
     alloc: Global,
     places: &P,
     files: &[&'a str],
@@ -102,11 +145,14 @@ pub fn open_files<'a, R: Drop, W: Drop, P: Places<R, W>>(
     requires few { length files.now ≤ most_files }
     ensures opened { IfOk result (λ o. AreOpened (P.is_opened places.now) (map (λ file. file.now) files.now)
         o.sources.items) }
-    ensures made { IfOk result (λ o. AreMade (P.is_made places.now) (map (λ file. file.now) files.now)
-        o.outputs.items) }
+    ensures made { IfOk result (λ o. AreMade (IsNewlyMade W.contents W.has_failed W.own_mark
+        (P.is_made places.now)) (map (λ file. file.now) files.now) o.outputs.items) }
+    ensures kept { IfOk result (λ o. AreNotSources (P.are_apart places.now) (map (λ file. file.now) files.now)) }
+    ensures apart { IfOk result (λ o. AreTwoFiles (P.are_apart places.now) (map (λ file. file.now) files.now)) }
     ensures status { IfErr result (λ refusal. refusal_status refusal ≡ 3) }
 {
     let sources = open_sources(alloc, places, files)?;
+    keep_sources(alloc, places, files)?;
     let outputs = make_outputs(alloc, places, files)?;
     Ok(Opened { sources, outputs })
 }

@@ -6,6 +6,7 @@ mod command_lines;
 mod disk_files;
 mod files;
 pub mod helpers;
+mod named;
 mod refused_words;
 mod sealed;
 mod streams;

@@ -13,3 +13,4 @@ pub mod Progress
 pub mod OneTable
 pub mod ReadBack
 pub mod NoLoss
+pub mod OneFate

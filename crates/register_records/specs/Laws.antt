@@ -6,7 +6,8 @@ use Rattle.date_texts.specs.Cells.{IsCell}
 use Rattle.date_texts.specs.Names.{IsNamed}
 use Rattle.date_texts.specs.declared.calendar.Calendar.{Calendar}
 use Rattle.date_texts.specs.declared.calendar.Target.TheVariants.{Date as DateTarget}
-use Rattle.register_records.specs.Entries.{AreAccepted, Fields, HasEntries, Numbered, Texts}
+use Rattle.register_records.specs.Entries.{AreAccepted, Fields, Format, HasEntries, HasNoHeader, HasTooMany}
+use Rattle.register_records.specs.Entries.{IsNotSealed, Numbered, Texts}
 use Rattle.register_records.specs.Outcomes.{AreRowsOf, IsOutcome, TableRow}
 use Rattle.register_records.specs.Tables.{Layout, journal_of, notes_of, row_line, table_text}
 use Rattle.register_records.specs.declared.setups.Form.TheVariants.{Sealed}
@@ -43,3 +44,22 @@ abbrev pub NoLossIsSealed : Type 0
 NoLossIsSealed =
     (records left : List Fields) → AreAccepted Sealed records → AreLeftOf records left → length left < length records
     → ¬ (AreAccepted Sealed left)
+
+-- what becomes of a text
+pub data Fate : Type 0 where
+  accepted : Fate
+  no_header : Fate
+  too_many : Fate
+  not_sealed : Fate
+
+abbrev pub HasFate : Format → List ℕ → Fate → Type 0
+HasFate format text accepted = (entries : List Numbered) × HasEntries format text entries
+HasFate format text no_header = HasNoHeader format text
+HasFate format text too_many = HasTooMany format text
+HasFate format text not_sealed = IsNotSealed format text
+
+-- a text has one of these fates, and no other
+abbrev pub OneFate : Type 0
+OneFate =
+    (format : Format) (text : List ℕ)
+    → (fate : Fate) × HasFate format text fate × ((other : Fate) → HasFate format text other → other ≡ fate)

@@ -1,6 +1,6 @@
 //! Laws of tables.
 
-ghost use Rattle.register_records.specs.Laws.{CellsReadBack, NoLossIsSealed, OneTable, TablesGrow};
+ghost use Rattle.register_records.specs.Laws.{CellsReadBack, NoLossIsSealed, OneFate, OneTable, TablesGrow};
 ghost use Rattle.register_records.specs.Outcomes.{IsRowOf, TableRow};
 ghost use Rattle.register_records.specs.Seen.{entry_seen};
 ghost use Rattle.register_records.specs.Views.{targets_of};
@@ -45,4 +45,10 @@ pub fn tables_grow()
 /// left is not accepted.
 pub fn no_loss_is_sealed()
     ensures { NoLossIsSealed }
+{}
+
+/// A text is accepted, or it has no accepted header, or too many records, or it is not sealed as its form wants it: one
+/// of these, and no other.
+pub fn one_fate()
+    ensures { OneFate }
 {}

@@ -14,6 +14,7 @@ mod columns;
 mod converting;
 mod entries;
 pub mod faults;
+mod handing_on;
 mod header;
 pub mod laws;
 mod lines;

@@ -1,10 +1,13 @@
 //! Where the bytes of a table go.
 
 ghost use Rattle.std.specs.Prelude.{◌≡◌, ◌≤◌, ◌||◌, true, false, ℕ, Bool, List, Option, length, take, IfOk, OnOk};
-ghost use Rattle.std.specs.Prelude.{OnErr, is_err};
+ghost use Rattle.std.specs.Prelude.{IfSome, OnErr, is_err};
 ghost use Rattle.std.specs.Io.KnownBytes.{Appends, Keeps};
+ghost use Rattle.std.specs.Option.{is_some};
+ghost use Rattle.std.proofs.Props.{props};
 ghost use Rattle.register_records.specs.Outputs.{took_none};
 
+use crate::handing_on::{HandedOn, hand_on};
 use std::io::{ErrorKind, Write};
 
 /// An output did not take bytes, or did not hand them on.
@@ -83,8 +86,10 @@ pub fn send<W: Output>(output: &mut W, bytes: &[u8]) -> Result<(), OutputFault>
 pub struct PlainOutput<W> {
     inner: W,
     failed: bool,
-    flushed: bool,
+    // There is one where the writer was flushed and took nothing since.
+    handed_on: Option<HandedOn<W>>,
     mark: u32,
+    ghost of_writer: { IfSome handed_on (λ h. h.writer.value ≡ inner) } by { Prim.hlevel props },
 }
 
 impl<W: Write> PlainOutput<W> {
@@ -96,7 +101,7 @@ impl<W: Write> PlainOutput<W> {
         PlainOutput {
             inner,
             failed: false,
-            flushed: false,
+            handed_on: None,
             mark,
         }
     }
@@ -114,13 +119,13 @@ impl<W: Write> Output for PlainOutput<W> {
 
     ghost has_failed = { λ o. o.failed };
 
-    ghost is_flushed = { λ o. o.flushed };
+    ghost is_flushed = { λ o. is_some o.handed_on };
 
     ghost own_mark = { λ o. o.mark };
 
     // A write that was interrupted is tried again.
     fn offer(&mut self, bytes: &[u8]) -> Result<usize, OutputFault> {
-        self.flushed = false;
+        self.handed_on = None;
         'tries: for _ in 0..u64::MAX {
             match self.inner.write(bytes) {
                 Ok(n) => {
@@ -141,9 +146,10 @@ impl<W: Write> Output for PlainOutput<W> {
     }
 
     fn flush_out(&mut self) -> Result<(), OutputFault> {
-        match self.inner.flush() {
-            Ok(()) => {
-                self.flushed = true;
+        self.handed_on = None;
+        match hand_on(&mut self.inner) {
+            Ok(handed_on) => {
+                self.handed_on = Some(handed_on);
                 Ok(())
             }
             Err(_) => {

@@ -21,10 +21,10 @@ use Rattle.register_run.specs.declared.reports.Report.{Report}
 use Rattle.register_run.specs.declared.reports.Verdict.TheVariants.{Complete}
 use Rattle.register_run.specs.declared.settling.Settled.{Settled}
 use Rattle.register_run.specs.declared.stations.Station.{Station}
-use Rattle.register_run.specs.Cases.{Case, case, cases, end_of, ended_case, output_of}
+use Rattle.register_run.specs.Cases.{Case, case, cases, end_of, ended_case, output_of, setup_of}
 use Rattle.register_run.specs.Headline.{AreRowsInOrder, AtEachPlace, IsSettled}
 use Rattle.register_run.specs.Passages.{is_of_reading}
-use Rattle.register_run.specs.Reports.{IsReport, OfEachSource}
+use Rattle.register_run.specs.Reports.{IsReport, OfEachSource, setups_of}
 use Rattle.register_run.specs.Stations.{case_of}
 
 module _ {R W : Type 0} {o : outputs.Ghosts W} where
@@ -103,6 +103,20 @@ module _ {R W : Type 0} {r : reads.Ghosts R} {o : outputs.Ghosts W} where
       let here : o.own_mark one.output ≡ o.own_mark y = one.marked ∙ ap (λ (k : Case R W). o.own_mark k.output) first in
       ap (λ m. m ∷ map o.own_mark (map output_of rest)) here
       ∙ ap (λ ms. o.own_mark y ∷ ms) (marks_kept setup rest xs ys (omega arith) more)
+
+  pub setups_kept : (setup : Setup) (all : List (Settled R W r o)) (sources : List R) (given : List W)
+      → length sources ≡ length given → map ended_case all ≡ cases setup sources given
+      → map setup_of all ≡ map (λ source. setup) sources
+  setups_kept setup [] [] [] len is = refl
+  setups_kept setup [] [] (y ∷ ys) len is = absurd (omega arith)
+  setups_kept setup [] (x ∷ xs) [] len is = absurd (omega arith)
+  setups_kept setup [] (x ∷ xs) (y ∷ ys) len is = absurd (cc)
+  setups_kept setup (one ∷ rest) [] given len is = absurd (cc)
+  setups_kept setup (one ∷ rest) (x ∷ xs) [] len is = absurd (cc)
+  setups_kept setup (one ∷ rest) (x ∷ xs) (y ∷ ys) len is =
+      let first : ended_case one ≡ case x y setup = cc in let more : map ended_case rest ≡ cases setup xs ys = cc in
+      ap (λ s. s ∷ map setup_of rest) (ap (λ (k : Case R W). k.setup) first)
+      ∙ ap (λ ss. setup ∷ ss) (setups_kept setup rest xs ys (omega arith) more)
 
   pub lengths_kept : (setup : Setup) (all : List (Settled R W r o)) (sources : List R) (given : List W)
       → length sources ≡ length given → map ended_case all ≡ cases setup sources given
@@ -189,14 +203,15 @@ module _ {R W : Type 0} {r : reads.Ghosts R} {o : outputs.Ghosts W} where
   pub report_of : (setup : Setup) (all : List (Settled R W r o)) (sources : List R) (given : List W) (report : Report W)
       → length sources ≡ length given
       → map ended_case all ≡ cases setup sources given → report.outputs.items ≡ map output_of all
-      → report.ends.items ≡ map end_of all
+      → report.ends.items ≡ map end_of all → setups_of report ≡ map setup_of all
       → ((report.verdict ≡ Complete) ↔ All (λ e. is_whole_end e ≡ true) report.ends.items)
-      → IsReport r.remaining o.contents o.has_failed o.is_flushed o.own_mark (layout_of setup) sources given report
-  report_of setup all sources given report len is wrote ends verdict =
+      → IsReport r.remaining o.contents o.has_failed o.is_flushed o.own_mark setup sources given report
+  report_of setup all sources given report len is wrote ends by verdict =
       let lens = lengths_kept setup all sources given len is in record {
         places = subst (λ es. AtEachPlace sources given report.outputs.items es (Known r o setup)) (sym ends)
             (subst (λ ws. AtEachPlace sources given ws (map end_of all) (Known r o setup)) (sym wrote)
             (places setup all sources given is));
+        by_setup = by ∙ setups_kept setup all sources given len is;
         verdict = verdict;
         marks = ap (map o.own_mark) wrote ∙ marks_kept setup all sources given len is;
         lengths = (ap length wrote ∙ lens.0, ap length ends ∙ lens.1);
@@ -204,12 +219,12 @@ module _ {R W : Type 0} {r : reads.Ghosts R} {o : outputs.Ghosts W} where
 
 -- what follows for each source from what a report says of it
 module _ {R W : Type 0} {remaining : R → Option (List ℕ)} {contents : W → Option (List ℕ)}
-    {has_failed is_flushed : W → Bool} {layout : Layout} where
+    {has_failed is_flushed : W → Bool} (setup : Setup) where
   pub of_each : {E : Type 0} (answer : Result (Report W) E) (own_mark : W → ℕ) (sources : List R) (given : List W)
-      → IfOk answer (λ r. IsReport remaining contents has_failed is_flushed own_mark layout sources given r)
+      → IfOk answer (λ r. IsReport remaining contents has_failed is_flushed own_mark setup sources given r)
       → (Holds : R → W → W → SourceEnd → Type 0)
       → ((source : R) (before after : W) (e : SourceEnd)
-      → ∥ IsSettled contents has_failed is_flushed layout (remaining source) before after e ∥₁
+      → ∥ IsSettled contents has_failed is_flushed (layout_of setup) (remaining source) before after e ∥₁
       → (e ≡ end.Broken cause.BadHeader → after ≡ before) → Holds source before after e)
       → IfOk answer (λ r. OfEachSource sources given r Holds)
   of_each (Ok r) own_mark sources given report Holds so = λ i s b a e p q k t.

@@ -18,3 +18,4 @@ pub mod PlaceLemmas
 pub mod NextActLemmas
 pub mod ScheduleLemmas
 pub mod ScheduleExamples
+mod TurnLemmas

@@ -1,7 +1,8 @@
 -- Items that are moved from the front of one list to the end of another.
-use Rattle.std.proofs.Common.{◌≡◌, ◌∙◌, ◌++◌, ◌∷◌, [], List, ap, append_assoc, arith, length, map, subst, sym}
+use Rattle.std.proofs.Common.{◌≡◌, ◌∙◌, ◌+◌, ◌++◌, ◌∷◌, [], ℕ, List, ap, append_assoc, arith, length, map, replicate}
+use Rattle.std.proofs.Common.{subst, sym}
 use Rattle.std.specs.Prelude.{All}
-use Rattle.std.proofs.lemmas.List.{append-nil, map-append}
+use Rattle.std.proofs.lemmas.List.{append-nil, map-append, replicate-append-replicate}
 use Rattle.std.proofs.lemmas.List.Elements.{All-append, All-cons}
 
 -- one more, where each is made into another, and both are seen as values of one kind
@@ -46,3 +47,10 @@ pub each_more : {X : Type 0} (P : X → Type 0) (xs new : List X) (x : X) → ne
 each_more P xs new x n each one =
     subst (All P) (sym n)
     (All-append P xs (x ∷ []) each (All-cons P x [] one (λ k d below. absurd (omega arith))))
+
+-- one more at the end of a list of which all are seen as one value
+pub all_more : {X Z : Type 0} (f : X → Z) (xs new : List X) (x : X) (z : Z) (n : ℕ) → new ≡ xs ++ x ∷ [] → f x ≡ z
+    → map f xs ≡ replicate n z → map f new ≡ replicate (n + 1) z
+all_more f xs new x z n more is all =
+    ap (λ zs. map f zs) more ∙ map-append f xs (x ∷ []) ∙ ap (λ zs. zs ++ (f x ∷ [])) all
+    ∙ ap (λ y. replicate n z ++ (y ∷ [])) is ∙ replicate-append-replicate n 1 z

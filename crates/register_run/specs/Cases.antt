@@ -25,7 +25,10 @@ module _ {R W : Type 0} {r : reads.Ghosts R} {o : outputs.Ghosts W} where
   abbrev pub ended_case : Settled R W r o → Case R W
   ended_case s = case s.source.value s.given.value s.setup.value
 
-  -- its output and its end
+  -- the setup that its threads were started by, its output and its end
+  abbrev pub setup_of : Settled R W r o → Setup
+  setup_of s = s.setup.value
+
   abbrev pub output_of : Settled R W r o → W
   output_of s = s.output
 

@@ -11,3 +11,5 @@ pub mod Reports
 pub mod Machine
 pub mod Schedules
 pub mod EveryScheduleLaw
+pub mod Turns
+pub mod Starts

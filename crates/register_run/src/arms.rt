@@ -1,7 +1,7 @@
 //! A converter with its two lanes, as the writer has it.
 
 ghost use Rattle.std.specs.Prelude.{◌≡◌, [], List, IfOk, IfSome, OnOk};
-ghost use Rattle.lane_rings.specs.Lane.{receiver_lane, sender_lane, sent};
+ghost use Rattle.lane_rings.specs.Lane.{lane_capacity, receiver_lane, sender_lane, sent};
 
 use crate::converting::{Converting, convert_entries};
 use crate::gates::Gate;
@@ -46,18 +46,23 @@ pub(crate) struct Arm {
     worker: PromisedHandle<Converting, ConverterLanes>,
     rows: Receiver<Row>,
     feeding: Snapshot<Sender<Entry>>,
+    // What the converter was started by.
+    setup: Snapshot<Setup>,
     // How many rows were taken.
     count: u64,
     // Whether items may still come.
     open: bool,
     ghost fed: { sender_lane feeding.value ≡ receiver_lane worker.promise.entries.value },
     ghost paired: { sender_lane worker.promise.rows.value ≡ receiver_lane rows },
+    // Each of the two lanes has room for as many items as the setup's ring.
+    ghost room: { lane_capacity (sender_lane feeding.value) ≡ setup.value.ring },
+    ghost room_for_rows: { lane_capacity (receiver_lane rows) ≡ setup.value.ring },
 }
 
 impl Arm {
     ghost use Rattle.lane_rings.specs.Lane.{HasConfirmation, all_sent};
     ghost use Rattle.register_records.specs.Entries.{Numbered};
-    ghost use Rattle.register_run.specs.Arms.{ArmTook, feeding_lane};
+    ghost use Rattle.register_run.specs.Arms.{ArmTook, arm_setup, feeding_lane};
     ghost use Rattle.register_run.specs.Passages.{AreAmong, IsConverting, IsOfGiven, IsOfLane};
 
     /// Starts a converter, and gives the sender that feeds it.
@@ -75,6 +80,7 @@ impl Arm {
     ) -> Result<(Sender<Entry>, Arm), StartFault>
         ensures lane { IfOk result (λ r. feeding_lane r.1 ≡ sender_lane r.0) }
         ensures fresh { IfOk result (λ r. sent r.0 ≡ []) }
+        ensures setup { IfOk result (λ r. arm_setup r.1 ≡ setup.entry.now) }
     {
         let Ok((sender, entries)) = patient_lane::<Entry>(alloc, setup.ring(), patience) else {
             return Err(StartFault::NoMemory);
@@ -101,6 +107,7 @@ impl Arm {
             worker,
             rows,
             feeding,
+            setup: Snapshot::of(setup),
             count: 0,
             open: true,
         };
@@ -108,7 +115,9 @@ impl Arm {
     }
 
     /// Whether items may still come.
-    pub(crate) fn is_open(&self) -> bool {
+    pub(crate) fn is_open(&self) -> bool
+        ensures { result ≡ self.now.«open» }
+    {
         self.open
     }
 
@@ -116,6 +125,7 @@ impl Arm {
     /// that is gone counts as one that stopped.
     pub(crate) fn look(&mut self) -> Ahead
         ensures lane { feeding_lane self.new ≡ feeding_lane self.old }
+        ensures setup { arm_setup self.new ≡ arm_setup self.old }
         ensures kept { (row : Row) → ArmTook self.old row → ArmTook self.new row }
     {
         match self.rows.look() {
@@ -132,6 +142,7 @@ impl Arm {
     #[tactic(auto, using(crate::proofs::PassageLemmas::same_seen), unfolding(crate::specs::Arms::ArmTook))]
     fn ahead(&mut self) -> Ahead
         ensures lane { feeding_lane self.new ≡ feeding_lane self.old }
+        ensures setup { arm_setup self.new ≡ arm_setup self.old }
         ensures kept { (row : Row) → ArmTook self.old row → ArmTook self.new row }
     {
         match self.rows.next() {
@@ -165,6 +176,7 @@ impl Arm {
     #[tactic(auto, using(crate::proofs::PassageLemmas::same_seen), unfolding(crate::specs::Arms::ArmTook))]
     pub(crate) fn pass(&mut self)
         ensures lane { feeding_lane self.new ≡ feeding_lane self.old }
+        ensures setup { arm_setup self.new ≡ arm_setup self.old }
         ensures kept { (row : Row) → ArmTook self.old row → ArmTook self.new row }
     {
         if let Some(Item::Entry(_)) = self.rows.next() {
@@ -193,6 +205,7 @@ impl Arm {
             worker,
             rows,
             feeding: _,
+            setup: _,
             count,
             open: _,
         } = self;
@@ -211,6 +224,7 @@ impl Arm {
             worker,
             rows: _,
             feeding: _,
+            setup: _,
             count: _,
             open: _,
         } = self;

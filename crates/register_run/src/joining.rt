@@ -3,7 +3,7 @@
 ghost use Rattle.std.specs.Prelude.{◌≡◌, ◌<◌, List, All, IfSome, OnOk, map, vec_len};
 ghost use Rattle.lane_rings.specs.Lane.{HasConfirmation, all_sent};
 ghost use Rattle.register_records.specs.Entries.{Numbered};
-ghost use Rattle.register_run.specs.Arms.{AnyTook, feeding_lane};
+ghost use Rattle.register_run.specs.Arms.{AnyTook, arm_setup, feeding_lane};
 ghost use Rattle.register_run.specs.Passages.{AreAmong, AreOfLanes, IsOfGiven};
 
 use crate::arms::{Ahead, Arm};
@@ -50,6 +50,7 @@ pub(crate) fn join_arms(
 pub(crate) fn look_at(arms: &mut Vec<Arm>, at: usize) -> Ahead
     requires { at < vec_len arms.old }
     ensures lanes { map feeding_lane arms.new.items ≡ map feeding_lane arms.old.items }
+    ensures setups { map arm_setup arms.new.items ≡ map arm_setup arms.old.items }
     ensures len { vec_len arms.new ≡ vec_len arms.old }
     ensures kept { (row : Row) → AnyTook arms.old.items row → AnyTook arms.new.items row }
 {
@@ -70,6 +71,7 @@ pub(crate) fn row_at(arms: &Vec<Arm>, at: usize) -> Option<&Row>
 pub(crate) fn pass_at(arms: &mut Vec<Arm>, at: usize)
     requires { at < vec_len arms.old }
     ensures lanes { map feeding_lane arms.new.items ≡ map feeding_lane arms.old.items }
+    ensures setups { map arm_setup arms.new.items ≡ map arm_setup arms.old.items }
     ensures len { vec_len arms.new ≡ vec_len arms.old }
     ensures kept { (row : Row) → AnyTook arms.old.items row → AnyTook arms.new.items row }
 {

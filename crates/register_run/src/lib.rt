@@ -20,6 +20,7 @@ mod settling;
 mod starting;
 mod stations;
 mod tables;
+mod turns;
 
 pub use gates::{Gate, Open};
 pub use reports::{Report, RunFault, RunFaultKind, Verdict};

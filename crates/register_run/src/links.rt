@@ -1,9 +1,11 @@
 //! The threads of a source, and the ends of its last lanes.
 
-ghost use Rattle.std.specs.Prelude.{◌≡◌, ◌<◌, ◌≤◌, [], All, IfOk, IfSome, length, map, vec_capacity, vec_len};
+ghost use Rattle.std.specs.Prelude.{◌≡◌, ◌<◌, ◌≤◌, ◌+◌, [], ℕ, Some, slice_get, All, IfOk, IfSome, length, map};
+ghost use Rattle.std.specs.Prelude.{replicate, true, vec_capacity, vec_len};
 ghost use Rattle.lane_rings.specs.Lane.{sender_lane, sent};
 ghost use Rattle.register_records.specs.Views.{format_of};
-ghost use Rattle.register_run.specs.Arms.{feeding_lane};
+ghost use Rattle.register_run.specs.Arms.{arm_setup, feeding_lane};
+ghost use Rattle.register_run.specs.Machine.{World, turn as turn_in};
 ghost use Rattle.register_run.specs.Passages.{IsOfThreads};
 
 use crate::arms::{Ahead, Arm};
@@ -11,6 +13,7 @@ use crate::gates::Gate;
 use crate::joining::{call_off, join_arms, look_at, pass_at, row_at};
 use crate::reading::{Reading, read_source};
 use crate::starting::StartFault;
+use crate::turns::turn_behind;
 use lane_rings::{Patience, Sender};
 use register_records::{Cause, Entry, Row, Setup};
 use std::alloc::Global;
@@ -61,6 +64,9 @@ pub(crate) struct Link<R: Read> {
     stopped: bool,
     ghost fed: { map feeding_lane arms.items ≡ map sender_lane reader.promise.senders.value.items },
     ghost in_turn: { turn < vec_len arms },
+    // There are as many arms as the setup has stripes, and each was started by it.
+    ghost staffed: { map arm_setup arms.items
+        ≡ replicate reader.promise.setup.value.stripes reader.promise.setup.value },
 }
 
 impl<R: Read + Drop> Link<R> {
@@ -208,14 +214,21 @@ impl<R: Read + Drop> Link<R> {
     }
 }
 
-/// The next arm after the one at `turn`, going round, whose lane has not ended. Where all have, any.
+/// The next arm after the one at `turn`, going round, whose lane has not ended. Where all have, any. Where the lane of
+/// the arm that is next has not ended, it is the one that has the turn in the machine.
 fn next_open(arms: &[Arm], turn: usize) -> usize
     requires { turn < length arms.now }
-    ensures { result < length arms.now }
+    ensures below { result < length arms.now }
+    ensures machine { (w : World) (k : ℕ) (arm : Arm) → w.converters ≡ length arms.now → turn ≡ turn_in w k
+        → slice_get arms.now (turn_in w (k + 1)) ≡ Some arm → arm.«open» ≡ true → result ≡ turn_in w (k + 1) }
 {
-    let mut next = turn;
-    for _ in 0..arms.len() {
-        next = if next + 1 < arms.len() { next + 1 } else { 0 };
+    let first = turn_behind(turn, arms.len());
+    if arms[first].is_open() {
+        return first;
+    }
+    let mut next = first;
+    for _ in 1..arms.len() {
+        next = turn_behind(next, arms.len());
         if arms[next].is_open() {
             break;
         }
@@ -253,6 +266,8 @@ impl Fan {
         ensures count { IfOk result (λ f. (vec_len f.senders ≡ setup.entry.now.stripes)
             × (vec_len f.arms ≡ setup.entry.now.stripes)) }
         ensures fresh { IfOk result (λ f. All (λ s. sent s ≡ []) f.senders.items) }
+        ensures setups { IfOk result (λ f. map arm_setup f.arms.items
+            ≡ replicate setup.entry.now.stripes setup.entry.now) }
     {
         let stripes = setup.stripes();
         let Ok(mut arms) = Vec::with_capacity(alloc, stripes) else {

@@ -4,8 +4,10 @@ ghost use Rattle.std.specs.Prelude.{◌≡◌, ◌<◌, ◌≤◌, [], All, List
 ghost use Rattle.lane_rings.specs.Lane.{HasConfirmation, all_sent, sender_lane, sent};
 ghost use Rattle.register_records.specs.Entries.{Numbered};
 ghost use Rattle.register_records.specs.Views.{format_of};
+ghost use Rattle.register_run.specs.Turns.{GoByTurns};
 ghost use Rattle.register_run.specs.Passages.{AreAmong, AreOfLanes, IsCauseOf, IsNotSunk, IsOfLane, IsReading, Sends};
 
+use crate::turns::turn_after;
 use lane_rings::{Closed, Sender};
 use register_records::{Cause, Entry, EntryFault, EntryReader, Setup};
 use std::alloc::Global;
@@ -70,6 +72,7 @@ fn send_entries<R: Read + Drop>(
     ensures lanes { map sender_lane senders.new.items ≡ map sender_lane senders.old.items }
     ensures not_sunk { IsNotSunk result }
     ensures sends { ∥ Sends (R.remaining source) (format_of setup.now) result senders.new.items ∥₁ }
+    ensures turns { GoByTurns (vec_len senders.old) 0 senders.new.items }
 {
     let mut entries = match EntryReader::open(alloc, source, setup) {
         Ok(entries) => entries,
@@ -83,7 +86,7 @@ fn send_entries<R: Read + Drop>(
             Err(fault) => return Err(cause_of(fault)),
         };
         count = entry.number();
-        let turn = (count - 1) as usize % senders.len();
+        let turn = turn_after((count - 1) as usize, senders.len());
         let sender = &mut senders[turn];
         if sender.send(rt, entry).is_err() {
             return Err(Cause::Unconfirmed);

@@ -2,7 +2,8 @@
 
 ghost use Rattle.std.specs.Prelude.{◌≡◌};
 
-use register_records::SourceEnd;
+use register_records::{Setup, SourceEnd};
+use std::snapshot::Snapshot;
 
 /// Whether all sources of a run are whole.
 #[derive(Clone, Copy, PartialEq, Eq, Debug)]
@@ -19,6 +20,8 @@ pub struct Report<W> {
     pub outputs: Vec<W>,
     pub ends: Vec<SourceEnd>,
     pub verdict: Verdict,
+    // The setup that the threads of each source were started by: only clauses read it.
+    pub(crate) setups: Vec<Snapshot<Setup>>,
 }
 
 /// Why a run did not begin: the first of these that applies.

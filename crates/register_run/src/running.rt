@@ -5,10 +5,10 @@ ghost use Rattle.std.specs.Prelude.{vec_capacity, vec_len};
 ghost use Rattle.register_records.specs.Entries.{HasNoHeader, HasTooMany, IsNotSealed};
 ghost use Rattle.register_records.specs.Sources.{ArePartOfTable, Gains, IfBroken, IfWhole, IsWholeTable, is_whole_end};
 ghost use Rattle.register_records.specs.Views.{format_of, layout_of};
-ghost use Rattle.register_run.specs.Cases.{cases, end_of, ended_case, output_of};
+ghost use Rattle.register_run.specs.Cases.{cases, end_of, ended_case, output_of, setup_of};
 ghost use Rattle.register_run.specs.Headline.{AreRowsInOrder};
 ghost use Rattle.register_run.specs.Passages.{is_of_reading};
-ghost use Rattle.register_run.specs.Reports.{IsReport, OfEachSource};
+ghost use Rattle.register_run.specs.Reports.{IsReport, OfEachSource, setups_of};
 ghost use Rattle.register_run.specs.Stations.{case_of};
 
 use crate::gates::{Gate, Open};
@@ -19,6 +19,7 @@ use lane_rings::Patience;
 use register_records::{Cause, Form, Output, Setup, SourceEnd};
 use std::alloc::{AllocError, Global};
 use std::io::Read;
+use std::snapshot::Snapshot;
 use std::sync::Wait;
 use std::thread;
 use std::thread::{Scope, Threads};
@@ -122,31 +123,37 @@ fn report<R: Read + Drop, W: Output + Drop>(
     settled: Vec<Settled<R, W>>,
     outputs: Vec<W>,
     ends: Vec<SourceEnd>,
+    setups: Vec<Snapshot<Setup>>,
 ) -> Report<W>
-    requires room { (vec_len settled ≤ vec_capacity outputs) × (vec_len settled ≤ vec_capacity ends) }
-    requires none { (outputs.items ≡ []) × (ends.items ≡ []) }
+    requires room { (vec_len settled ≤ vec_capacity outputs) × (vec_len settled ≤ vec_capacity ends)
+        × (vec_len settled ≤ vec_capacity setups) }
+    requires none { (outputs.items ≡ []) × (ends.items ≡ []) × (setups.items ≡ []) }
     ensures outputs { result.outputs.items ≡ map output_of settled.items }
     ensures ends { result.ends.items ≡ map end_of settled.items }
+    ensures setups { setups_of result ≡ map setup_of settled.items }
     ensures verdict { (result.verdict ≡ Verdict.Complete) ↔ All (λ e. is_whole_end e ≡ true) result.ends.items }
 {
     let mut outputs = outputs;
     let mut ends = ends;
+    let mut setups = setups;
     for one in settled {
         let Settled {
             source: _,
             given: _,
-            setup: _,
+            setup,
             output,
             end,
         } = one;
         outputs.push_reserved(output);
         ends.push_reserved(end);
+        setups.push_reserved(setup);
     }
     let verdict = verdict_of(&ends);
     Report {
         outputs,
         ends,
         verdict,
+        setups,
     }
 }
 
@@ -169,9 +176,11 @@ struct Lists<R: Read, W: Output> {
     settled: Vec<Settled<R, W>>,
     outputs: Vec<W>,
     ends: Vec<SourceEnd>,
-    ghost empty: { (stations.items ≡ []) × (settled.items ≡ []) × (outputs.items ≡ []) × (ends.items ≡ []) },
+    setups: Vec<Snapshot<Setup>>,
+    ghost empty: { (stations.items ≡ []) × (settled.items ≡ []) × (outputs.items ≡ []) × (ends.items ≡ [])
+        × (setups.items ≡ []) },
     ghost room: { (count ≤ vec_capacity stations) × (count ≤ vec_capacity settled) × (count ≤ vec_capacity outputs)
-        × (count ≤ vec_capacity ends) },
+        × (count ≤ vec_capacity ends) × (count ≤ vec_capacity setups) },
 }
 
 /// Makes the lists, with room for so many sources.
@@ -185,12 +194,14 @@ fn reserve<R: Read + Drop, W: Output + Drop>(
     let settled = Vec::with_capacity(alloc, count)?;
     let outputs = Vec::with_capacity(alloc, count)?;
     let ends = Vec::with_capacity(alloc, count)?;
+    let setups = Vec::with_capacity(alloc, count)?;
     Ok(Lists {
         count,
         stations,
         settled,
         outputs,
         ends,
+        setups,
     })
 }
 
@@ -225,7 +236,7 @@ fn run_all<
 ) -> Report<W>
     requires { (vec_len sources ≡ lists.count) × (vec_len outputs ≡ lists.count) }
     ensures { IsReport R.remaining W.contents W.has_failed W.is_flushed W.own_mark
-        (layout_of setup.entry.now) sources.items outputs.items result }
+        setup.entry.now sources.items outputs.items result }
 {
     let Lists {
         count: _,
@@ -233,11 +244,12 @@ fn run_all<
         settled,
         outputs: written,
         ends,
+        setups,
     } = lists;
     let mut stations = start_all(scope, rt, gate, alloc, setup, sources, outputs, stations);
     drive(rt, &mut stations);
     let settled = settle_all(rt, stations, settled);
-    report(settled, written, ends)
+    report(settled, written, ends, setups)
 }
 
 /// The run, with threads that end before it answers.
@@ -257,7 +269,7 @@ fn run_in_scope<
 ) -> Report<W>
     requires { (vec_len sources ≡ lists.count) × (vec_len outputs ≡ lists.count) }
     ensures { IsReport R.remaining W.contents W.has_failed W.is_flushed W.own_mark
-        (layout_of setup.now) sources.items outputs.items result }
+        setup.now sources.items outputs.items result }
 {
     thread::scope(
         thread::scope_env(),
@@ -265,7 +277,7 @@ fn run_in_scope<
         move |scope| -> Report<W>
             requires { (vec_len sources ≡ lists.count) × (vec_len outputs ≡ lists.count) }
             ensures { IsReport R.remaining W.contents W.has_failed W.is_flushed W.own_mark
-                (layout_of setup.entry.now) sources.items outputs.items result }
+                setup.entry.now sources.items outputs.items result }
         { run_all(scope, rt, gate, alloc, setup, sources, outputs, lists) },
     )
 }
@@ -299,7 +311,7 @@ pub fn run_gated<
     // The headline in one word: what the clauses of `run` say one by one.
     ensures report { IfOk result (λ r.
         IsReport R.remaining W.contents W.has_failed W.is_flushed W.own_mark
-        (layout_of setup.now) sources.items outputs.items r) }
+        setup.now sources.items outputs.items r) }
 
     // A run that did not begin.
     ensures unchanged { IfErr result (λ e. (e.sources ≡ sources) × (e.outputs ≡ outputs)) }
@@ -374,10 +386,13 @@ pub fn run<T: Threads + Wait + Clock + Sync, R: Read + Send + Drop, W: Output + 
     ensures good { IfOk result (λ r. OfEachSource sources.items outputs.items r (λ source given written end.
         IfWhole end (λ rows refused journal. W.has_failed written ≡ W.has_failed given))) }
 
+    // The threads of each source were started by this setup: by its ring and its stripes too.
+    ensures setups { IfOk result (λ r. setups_of r ≡ map (λ source. setup.now) sources.items) }
+
     // All of this in one word, for a caller that hands it on.
     ensures report { IfOk result (λ r.
         IsReport R.remaining W.contents W.has_failed W.is_flushed W.own_mark
-        (layout_of setup.now) sources.items outputs.items r) }
+        setup.now sources.items outputs.items r) }
 
     // A run that did not begin.
     ensures unchanged { IfErr result (λ e. (e.sources ≡ sources) × (e.outputs ≡ outputs)) }

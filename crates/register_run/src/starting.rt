@@ -1,6 +1,7 @@
 //! Why the threads of a source do not start.
 
-ghost use Rattle.register_run.specs.Passages.{IsOfThreads};
+ghost use Rattle.std.specs.Prelude.{◌≡◌};
+ghost use Rattle.register_run.specs.Starts.{start_fault_cause};
 
 use register_records::Cause;
 
@@ -16,7 +17,7 @@ pub(crate) enum StartFault {
 impl StartFault {
     /// The cause that the fault is.
     pub(crate) fn cause(self) -> Cause
-        ensures { IsOfThreads result }
+        ensures { result ≡ start_fault_cause self }
     {
         match self {
             StartFault::NoMemory => Cause::NoMemory,

@@ -6,6 +6,7 @@ use lane_rings::{Item, lane};
 use rtrb::RingBuffer;
 use std::alloc::Global;
 use std::sync::Wait;
+use std::time::Clock;
 
 /// `None` where there was no memory, or an end did not answer as it should.
 pub(crate) fn ring_alone<T: Copy>(alloc: Global, capacity: usize, items: u64, item: T) -> Option<()>
@@ -25,7 +26,7 @@ pub(crate) fn ring_alone<T: Copy>(alloc: Global, capacity: usize, items: u64, it
 
 /// `None` as above.
 pub(crate) fn lane_alone<T: Copy>(
-    rt: &impl Wait,
+    rt: &(impl Wait + Clock),
     alloc: Global,
     capacity: usize,
     items: u64,

@@ -3,13 +3,14 @@
 ghost use Rattle.std.specs.Prelude.{⊤};
 
 use crate::tests::helpers::{Heard, NoPlaces, ONE_RECORD, ONE_ROW, hear};
-use register_app::{HELP, Places};
+use register_app::{HELP, Places, Told};
 use register_records::PlainOutput;
 use std::alloc::{AllocError, Global};
 use std::io;
 use std::io::{ErrorKind, Write};
 use std::sync::Wait;
 use std::thread::Threads;
+use std::time::Clock;
 
 /// Room for all that these tests write.
 const ROOM: usize = 8192;
@@ -72,10 +73,12 @@ struct Folder {
     alloc: Global,
 }
 
-impl Places<&'static [u8], PlainOutput<Breaking>> for Folder {
+impl Places<&'static [u8], PlainOutput<Told<Breaking>>> for Folder {
     ghost is_opened = { λ _ _ _. ⊤ };
 
     ghost is_made = { λ _ _ _ _. ⊤ };
+
+    ghost are_apart = { λ _ _ _. ⊤ };
 
     fn open(&self, name: &str) -> io::Result<&'static [u8]> {
         if name == "none.csv" {
@@ -84,12 +87,12 @@ impl Places<&'static [u8], PlainOutput<Breaking>> for Folder {
         Ok(ONE_RECORD)
     }
 
-    fn make(&self, name: &str, mark: u32) -> io::Result<PlainOutput<Breaking>> {
+    fn make(&self, name: &str, mark: u32) -> io::Result<PlainOutput<Told<Breaking>>> {
         if name == "locked.csv.out.csv" {
             return Err(io::Error::from(ErrorKind::PermissionDenied));
         }
         let table = Breaking::new(self.alloc, NOWHERE)?;
-        Ok(PlainOutput::new(table, mark))
+        Ok(PlainOutput::new(Told::new(table), mark))
     }
 
     fn are_one_file(&self, _name: &str, _other: &str) -> bool {
@@ -195,7 +198,7 @@ const CASES: [Case; 12] = [
 
 /// What these words give where standard error breaks there.
 fn hear_with(
-    rt: &(impl Threads + Wait + Sync),
+    rt: &(impl Threads + Wait + Clock + Sync),
     alloc: Global,
     case: &Case,
     errors: Break,
@@ -261,7 +264,7 @@ fn has_taken(bytes: &[u8], text: &[u8], place: Break) -> bool {
 
 /// Whether all is as it is wanted where standard error breaks there, but that what is told breaks off.
 fn is_told_until(
-    rt: &(impl Threads + Wait + Sync),
+    rt: &(impl Threads + Wait + Clock + Sync),
     alloc: Global,
     case: &Case,
     errors: Break,
@@ -304,7 +307,7 @@ const CANNOT_PRINT: &[u8] = b"register: cannot write to standard output\n";
 
 /// What a page gives where standard output and standard error break there.
 fn hear_page(
-    rt: &(impl Threads + Wait + Sync),
+    rt: &(impl Threads + Wait + Clock + Sync),
     alloc: Global,
     word: &str,
     output: Break,
@@ -319,7 +322,7 @@ fn hear_page(
 /// Whether a page gets this status where standard output and standard error break there, with as much of the page on
 /// the one, and on the other of the line that it cannot be printed, as they could take.
 fn is_printed_until(
-    rt: &(impl Threads + Wait + Sync),
+    rt: &(impl Threads + Wait + Clock + Sync),
     alloc: Global,
     (word, page): (&str, &str),
     (output, errors): (Break, Break),
@@ -418,7 +421,7 @@ fn fits_refused_memory(heard: &Heard<Breaking, Breaking>, case: &Case) -> bool {
 }
 
 /// Whether these words are answered so where one allocation is refused, which may be one of the test's own.
-fn fits_any_memory(rt: &(impl Threads + Wait + Sync), alloc: Global, case: &Case) -> bool {
+fn fits_any_memory(rt: &(impl Threads + Wait + Clock + Sync), alloc: Global, case: &Case) -> bool {
     match hear_with(rt, alloc, case, NOWHERE) {
         Ok(heard) => fits_refused_memory(&heard, case),
         Err(_) => true,
@@ -445,7 +448,7 @@ fn is_printed_or_told(heard: &Heard<Breaking, Breaking>, page: &str) -> bool {
 
 /// Whether a page is answered so where one allocation is refused, which may be one of the test's own.
 fn is_page_of_any_memory(
-    rt: &(impl Threads + Wait + Sync),
+    rt: &(impl Threads + Wait + Clock + Sync),
     alloc: Global,
     word: &str,
     page: &str,

@@ -3,10 +3,12 @@
 use crate::tests::helpers::{Heard, ONE_RECORD, ONE_ROW, hear};
 use register_app::{Disk, Sink, Source};
 use std::alloc::{AllocError, Global};
+use std::os::unix::fs::symlink;
 use std::rt::Files;
 use std::sync::Wait;
 use std::test::Fail;
 use std::thread::Threads;
+use std::time::Clock;
 use std::{fs, io};
 
 /// A folder of this test's own.
@@ -25,7 +27,7 @@ const OTHER_REGISTER: &str = "files_of_the_test/other.csv";
 const OTHER_TABLE: &str = "files_of_the_test/other.csv.out.csv";
 
 /// Runs the program's answer to these words over the files of the system.
-fn hear_on_disk<T: Threads + Wait + Sync + Files>(
+fn hear_on_disk<T: Threads + Wait + Clock + Sync + Files>(
     rt: &T,
     alloc: Global,
     words: &[&str],
@@ -47,7 +49,7 @@ where
 }
 
 /// Whether these words get this status over the files of the system, and this is told.
-fn is_told<T: Threads + Wait + Sync + Files + AllocGlobal>(
+fn is_told<T: Threads + Wait + Clock + Sync + Files + AllocGlobal>(
     rt: &T,
     words: &[&str],
     status: u8,
@@ -75,7 +77,9 @@ const OLDER_TEXT: &[u8] =
     b"an older and longer text that stands where the table comes to stand, and more\n";
 
 /// Whether a file on disk gets its table, and what stood in the table's file is gone.
-fn gets_one_table<T: Threads + Wait + Sync + Files + AllocGlobal>(rt: &T) -> io::Result<bool>
+fn gets_one_table<T: Threads + Wait + Clock + Sync + Files + AllocGlobal>(
+    rt: &T,
+) -> io::Result<bool>
 where
     T::File: Send,
 {
@@ -86,7 +90,9 @@ where
 }
 
 /// Whether two files on disk get their tables.
-fn get_two_tables<T: Threads + Wait + Sync + Files + AllocGlobal>(rt: &T) -> io::Result<bool>
+fn get_two_tables<T: Threads + Wait + Clock + Sync + Files + AllocGlobal>(
+    rt: &T,
+) -> io::Result<bool>
 where
     T::File: Send,
 {
@@ -101,6 +107,24 @@ where
 struct Refused {
     files: &'static [&'static str],
     told: &'static [u8],
+}
+
+/// A register whose table is a link to the register itself.
+const OWN_REGISTER: &str = "files_of_the_test/own.csv";
+
+const OWN_TABLE: &str = "files_of_the_test/own.csv.out.csv";
+
+/// Whether a register is left as it is where its table would be the very file.
+fn is_kept<T: Threads + Wait + Clock + Sync + Files + AllocGlobal>(rt: &T) -> io::Result<bool>
+where
+    T::File: Send,
+{
+    fs::write(rt, OWN_REGISTER, ONE_RECORD)?;
+    // A link is found from the folder that it stands in.
+    symlink(rt, "own.csv", OWN_TABLE)?;
+    let told = b"register: cannot make files_of_the_test/own.csv.out.csv\n";
+    let is_refused = is_told(rt, &["--to", "gregorian", OWN_REGISTER], 3, told);
+    Ok(is_refused && fs::read(rt, OWN_REGISTER)?.as_slice() == ONE_RECORD)
 }
 
 /// A folder, a file that is not there, and two names of one file.
@@ -125,6 +149,7 @@ fn files_on_disk_get_their_tables(rt: HostRuntime) -> Result<(), Fail> {
     fs::create_dir(&rt, FOLDER)?;
     assert!(rt; gets_one_table(&rt)?);
     assert!(rt; get_two_tables(&rt)?);
+    assert!(rt; is_kept(&rt)?);
     for refused in &REFUSED {
         assert!(rt;
             is_told(&rt, refused.files, 3, refused.told),

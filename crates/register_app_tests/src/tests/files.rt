@@ -3,7 +3,7 @@
 ghost use Rattle.std.specs.Prelude.{⊤};
 
 use crate::tests::helpers::{Heard, MANY_FILES, ONE_RECORD, ONE_ROW, hear};
-use register_app::Places;
+use register_app::{Places, Told};
 use register_records::PlainOutput;
 use std::alloc::{AllocError, Global};
 use std::io;
@@ -11,6 +11,7 @@ use std::io::ErrorKind;
 use std::sync::Wait;
 use std::test::Fail;
 use std::thread::Threads;
+use std::time::Clock;
 
 /// Files in memory: a text for each name, and an output for each that is made.
 #[derive(Clone, Copy)]
@@ -18,31 +19,44 @@ struct Shelf {
     alloc: Global,
 }
 
-impl Places<&'static [u8], PlainOutput<Vec<u8>>> for Shelf {
+impl Places<&'static [u8], PlainOutput<Told<Vec<u8>>>> for Shelf {
     ghost is_opened = { λ _ _ _. ⊤ };
 
     ghost is_made = { λ _ _ _ _. ⊤ };
+
+    ghost are_apart = { λ _ _ _. ⊤ };
 
     fn open(&self, name: &str) -> io::Result<&'static [u8]> {
         match name {
             "a.csv" => Ok(ONE_RECORD),
             "b.csv" => Ok(b""),
             "c.csv" => Ok(b"id,calendar,date\nc,gregorian,1700-02-29\n"),
+            "a_linked.csv" | "own.csv" => Ok(ONE_RECORD),
             "B.csv" | "-" | "" | "-x.csv" | "--ring" | "0" | "--help" => Ok(ONE_RECORD),
             name if name.starts_with("many/") => Ok(ONE_RECORD),
             _ => Err(io::Error::from(ErrorKind::NotFound)),
         }
     }
 
-    fn make(&self, name: &str, mark: u32) -> io::Result<PlainOutput<Vec<u8>>> {
+    fn make(&self, name: &str, mark: u32) -> io::Result<PlainOutput<Told<Vec<u8>>>> {
         if name == "c.csv.out.csv" {
             return Err(io::Error::from(ErrorKind::PermissionDenied));
         }
-        Ok(PlainOutput::new(Vec::new(self.alloc), mark))
+        Ok(PlainOutput::new(Told::new(Vec::new(self.alloc)), mark))
     }
 
     fn are_one_file(&self, name: &str, other: &str) -> bool {
-        name == other
+        file_of(name) == file_of(other)
+    }
+}
+
+/// The name of the file that a name on the shelf stands for. The table of `a_linked.csv` is a link to that of `a.csv`,
+/// and the table of `own.csv` to `own.csv` itself.
+fn file_of(name: &str) -> &str {
+    match name {
+        "a_linked.csv.out.csv" => "a.csv.out.csv",
+        "own.csv.out.csv" => "own.csv",
+        _ => name,
     }
 }
 
@@ -55,7 +69,7 @@ struct FilesCase {
     errors: &'static [u8],
 }
 
-const FILES: [FilesCase; 10] = [
+const FILES: [FilesCase; 14] = [
     // A source with a table and one that breaks off, whatever the ring and the stripes.
     FilesCase {
         words: &["--to", "gregorian", "--ring", "1", "a.csv", "b.csv"],
@@ -125,6 +139,32 @@ const FILES: [FilesCase; 10] = [
         tables: &[],
         errors: b"register: cannot make c.csv.out.csv\n",
     },
+    // Two tables that are one file, side by side and with another between them.
+    FilesCase {
+        words: &["a.csv", "a_linked.csv"],
+        status: 3,
+        tables: &[],
+        errors: b"register: cannot make a_linked.csv.out.csv\n",
+    },
+    FilesCase {
+        words: &["a.csv", "b.csv", "a_linked.csv"],
+        status: 3,
+        tables: &[],
+        errors: b"register: cannot make a_linked.csv.out.csv\n",
+    },
+    // A table that is a register: before any table is made, `c.csv.out.csv` among them, which cannot be.
+    FilesCase {
+        words: &["c.csv", "own.csv"],
+        status: 3,
+        tables: &[],
+        errors: b"register: cannot make own.csv.out.csv\n",
+    },
+    FilesCase {
+        words: &["own.csv.out.csv", "own.csv"],
+        status: 3,
+        tables: &[],
+        errors: b"register: cannot open own.csv.out.csv\n",
+    },
     FilesCase {
         words: &["a.csv", "a.csv"],
         status: 2,
@@ -135,7 +175,7 @@ const FILES: [FilesCase; 10] = [
 
 /// What these words give over the shelf, with nothing on standard input.
 fn hear_files(
-    rt: &(impl Threads + Wait + Sync),
+    rt: &(impl Threads + Wait + Clock + Sync),
     alloc: Global,
     words: &[&str],
 ) -> Result<Heard<Vec<u8>, Vec<u8>>, AllocError> {
@@ -162,7 +202,7 @@ fn are_tables(outputs: &[Vec<u8>], tables: &[&[u8]]) -> bool {
 
 /// Whether these words give what is wanted over the shelf, with nothing on standard output.
 fn give_as_wanted(
-    rt: &(impl Threads + Wait + Sync),
+    rt: &(impl Threads + Wait + Clock + Sync),
     alloc: Global,
     words: &[&str],
     case: &FilesCase,
@@ -203,7 +243,7 @@ const TOO_MANY: FilesCase = FilesCase {
 
 /// Whether 33 files are refused.
 fn are_33_files_refused(
-    rt: &(impl Threads + Wait + Sync),
+    rt: &(impl Threads + Wait + Clock + Sync),
     alloc: Global,
 ) -> Result<bool, AllocError> {
     let mut words = Vec::new(alloc);
@@ -220,7 +260,7 @@ fn files_are_no_more_than_32(rt: HostRuntime) -> Result<(), Fail> {
 
 /// Whether 32 files of one record each get their tables with this word.
 fn give_many(
-    rt: &(impl Threads + Wait + Sync),
+    rt: &(impl Threads + Wait + Clock + Sync),
     alloc: Global,
     word: &'static str,
 ) -> Result<bool, AllocError> {

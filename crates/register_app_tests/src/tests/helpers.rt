@@ -1,15 +1,17 @@
 //! What the tests share: the words of a command line, and the program's answer to them over memory.
 
-ghost use Rattle.std.specs.Prelude.{⊤};
+ghost use Rattle.std.specs.Prelude.{◌≡◌, [], ⊤, false};
+ghost use Rattle.register_app.specs.Told.{told_bytes};
 
-use register_app::{Answered, Places, answer};
-use register_records::PlainOutput;
+use register_app::{Answered, Places, Told, answer};
+use register_records::{Output, PlainOutput};
 use std::alloc::{AllocError, Global};
 use std::io;
 use std::io::{ErrorKind, Read, Write};
 use std::process::Abort;
 use std::sync::Wait;
 use std::thread::Threads;
+use std::time::Clock;
 
 /// The text of one record.
 pub const ONE_RECORD: &[u8] = b"id,calendar,date\na,gregorian,1945-11-12\n";
@@ -62,11 +64,11 @@ impl Heard<Vec<u8>, Vec<u8>> {
 /// What the program answers to these words. Nothing is promised of it, so that a test that calls this is proved without
 /// all that is proved of an answer.
 fn answered<
-    T: Threads + Wait + Sync,
+    T: Threads + Wait + Clock + Sync,
     R: Read + Send + Drop,
     W: Write + Drop,
     E: Write + Drop,
-    P: Places<R, PlainOutput<W>>,
+    P: Places<R, PlainOutput<Told<W>>>,
 >(
     rt: &T,
     alloc: Global,
@@ -74,31 +76,33 @@ fn answered<
     input: R,
     output: W,
     places: &P,
-    errors: &mut PlainOutput<E>,
-) -> Answered<PlainOutput<W>> {
-    let output = PlainOutput::new(output, 1);
+    errors: &mut PlainOutput<Told<E>>,
+) -> Answered<PlainOutput<Told<W>>>
+    requires { (told_bytes errors.old.inner ≡ []) × (errors.old.failed ≡ false) }
+{
+    let output = PlainOutput::new(Told::new(output), 1);
     answer(rt, alloc, words, input, output, places, errors)
 }
 
 /// The writers of these outputs.
 fn writers_of<W: Write + Drop>(
     alloc: Global,
-    outputs: Vec<PlainOutput<W>>,
+    outputs: Vec<PlainOutput<Told<W>>>,
 ) -> Result<Vec<W>, AllocError> {
     let mut writers = Vec::new(alloc);
     for output in outputs {
-        writers.push(output.into_inner())?;
+        writers.push(output.into_inner().into_inner())?;
     }
     Ok(writers)
 }
 
 /// Runs the program's answer to these words.
 pub fn hear<
-    T: Threads + Wait + Sync,
+    T: Threads + Wait + Clock + Sync,
     R: Read + Send + Drop,
     W: Write + Drop,
     E: Write + Drop,
-    P: Places<R, PlainOutput<W>>,
+    P: Places<R, PlainOutput<Told<W>>>,
 >(
     rt: &T,
     alloc: Global,
@@ -109,7 +113,7 @@ pub fn hear<
     errors: E,
 ) -> Result<Heard<W, E>, AllocError> {
     let words = words_of(alloc, words)?;
-    let mut errors = PlainOutput::new(errors, 0);
+    let mut errors = PlainOutput::new(Told::new(errors), 0);
     let Answered {
         status,
         output,
@@ -125,19 +129,21 @@ pub fn hear<
     );
     Ok(Heard {
         status,
-        output: output.into_inner(),
+        output: output.into_inner().into_inner(),
         outputs: writers_of(alloc, outputs)?,
-        errors: errors.into_inner(),
+        errors: errors.into_inner().into_inner(),
     })
 }
 
 /// A place without files.
 pub struct NoPlaces;
 
-impl<R, W> Places<R, W> for NoPlaces {
+impl<R, W: Output> Places<R, W> for NoPlaces {
     ghost is_opened = { λ _ _ _. ⊤ };
 
     ghost is_made = { λ _ _ _ _. ⊤ };
+
+    ghost are_apart = { λ _ _ _. ⊤ };
 
     fn open(&self, _name: &str) -> io::Result<R> {
         Err(io::Error::from(ErrorKind::NotFound))
@@ -154,7 +160,7 @@ impl<R, W> Places<R, W> for NoPlaces {
 
 /// Runs the program's answer to these words over a text, without files.
 pub fn hear_text(
-    rt: &(impl Threads + Wait + Sync),
+    rt: &(impl Threads + Wait + Clock + Sync),
     alloc: Global,
     words: &[&str],
     text: &'static [u8],
@@ -181,7 +187,7 @@ pub struct TextCase {
 }
 
 /// Whether the program answers as is wanted.
-fn is_answered(rt: &(impl Threads + Wait + Sync), alloc: Global, case: &TextCase) -> bool {
+fn is_answered(rt: &(impl Threads + Wait + Clock + Sync), alloc: Global, case: &TextCase) -> bool {
     let Ok(heard) = hear_text(rt, alloc, case.words, case.input) else {
         return false;
     };
@@ -190,7 +196,7 @@ fn is_answered(rt: &(impl Threads + Wait + Sync), alloc: Global, case: &TextCase
 
 /// Asserts that the program answers each case as is wanted.
 pub fn assert_answers(
-    rt: &(impl Threads + Wait + Sync + Abort),
+    rt: &(impl Threads + Wait + Clock + Sync + Abort),
     alloc: Global,
     cases: &[TextCase],
 ) {

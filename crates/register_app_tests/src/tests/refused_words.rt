@@ -4,6 +4,7 @@ use crate::tests::helpers::hear_text;
 use std::alloc::Global;
 use std::sync::Wait;
 use std::thread::Threads;
+use std::time::Clock;
 
 /// A command line that is refused with status 2, and what is told.
 #[derive(Clone, Copy)]
@@ -47,7 +48,7 @@ const REFUSED: [Refused; 26] = [
 ];
 
 /// Whether these words are refused: with status 2, nothing on standard output, and this on standard error.
-fn are_refused(rt: &(impl Threads + Wait + Sync), alloc: Global, line: &Refused) -> bool {
+fn are_refused(rt: &(impl Threads + Wait + Clock + Sync), alloc: Global, line: &Refused) -> bool {
     let Ok(heard) = hear_text(rt, alloc, line.words, b"") else {
         return false;
     };

@@ -3,7 +3,7 @@
 ghost use Rattle.std.specs.Prelude.{⊤};
 
 use crate::tests::helpers::{Heard, NoPlaces, hear};
-use register_app::{HELP, Places};
+use register_app::{HELP, Places, Told};
 use register_records::PlainOutput;
 use std::alloc::{AllocError, Global};
 use std::io;
@@ -11,6 +11,7 @@ use std::io::{ErrorKind, Read, Write};
 use std::sync::Wait;
 use std::sync::atomic::{AtomicU32, Ordering};
 use std::thread::Threads;
+use std::time::Clock;
 
 /// How often something was read, opened and made.
 #[derive(Drop)]
@@ -51,10 +52,12 @@ struct CountedFiles<'a> {
     counts: &'a Counts,
 }
 
-impl<'a> Places<CountedText<'a>, PlainOutput<Vec<u8>>> for CountedFiles<'a> {
+impl<'a> Places<CountedText<'a>, PlainOutput<Told<Vec<u8>>>> for CountedFiles<'a> {
     ghost is_opened = { λ _ _ _. ⊤ };
 
     ghost is_made = { λ _ _ _ _. ⊤ };
+
+    ghost are_apart = { λ _ _ _. ⊤ };
 
     fn open(&self, _name: &str) -> io::Result<CountedText<'a>> {
         self.counts.opened.fetch_add(1, Ordering::SeqCst);
@@ -63,9 +66,9 @@ impl<'a> Places<CountedText<'a>, PlainOutput<Vec<u8>>> for CountedFiles<'a> {
         })
     }
 
-    fn make(&self, _name: &str, mark: u32) -> io::Result<PlainOutput<Vec<u8>>> {
+    fn make(&self, _name: &str, mark: u32) -> io::Result<PlainOutput<Told<Vec<u8>>>> {
         self.counts.made.fetch_add(1, Ordering::SeqCst);
-        Ok(PlainOutput::new(Vec::new(self.alloc), mark))
+        Ok(PlainOutput::new(Told::new(Vec::new(self.alloc)), mark))
     }
 
     fn are_one_file(&self, _name: &str, _other: &str) -> bool {
@@ -123,7 +126,7 @@ const TOUCHINGS: [Touching; 6] = [
 
 /// The status that these words give over a text and files that count.
 fn status_of<'a>(
-    rt: &(impl Threads + Wait + Sync),
+    rt: &(impl Threads + Wait + Clock + Sync),
     alloc: Global,
     words: &[&str],
     input: &'a Counts,
@@ -148,7 +151,7 @@ fn status_of<'a>(
 
 /// Whether these words get their status, and nothing is touched that they do not ask for.
 fn touches_as_wanted(
-    rt: &(impl Threads + Wait + Sync),
+    rt: &(impl Threads + Wait + Clock + Sync),
     alloc: Global,
     touching: &Touching,
 ) -> bool {
@@ -197,7 +200,7 @@ impl Write for Broken {
 
 /// What these words give where standard input breaks.
 fn hear_broken<E: Write + Drop>(
-    rt: &(impl Threads + Wait + Sync),
+    rt: &(impl Threads + Wait + Clock + Sync),
     alloc: Global,
     words: &[&str],
     errors: E,
@@ -206,7 +209,7 @@ fn hear_broken<E: Write + Drop>(
 }
 
 /// Whether an input that breaks is told.
-fn is_broken_input_told(rt: &(impl Threads + Wait + Sync), alloc: Global) -> bool {
+fn is_broken_input_told(rt: &(impl Threads + Wait + Clock + Sync), alloc: Global) -> bool {
     let Ok(heard) = hear_broken(rt, alloc, &[], Vec::new(alloc)) else {
         return false;
     };
@@ -214,7 +217,7 @@ fn is_broken_input_told(rt: &(impl Threads + Wait + Sync), alloc: Global) -> boo
 }
 
 /// Whether an output that breaks is told.
-fn is_broken_output_told(rt: &(impl Threads + Wait + Sync), alloc: Global) -> bool {
+fn is_broken_output_told(rt: &(impl Threads + Wait + Clock + Sync), alloc: Global) -> bool {
     let text: &'static [u8] = b"id,calendar,date\n";
     let Ok(heard) = hear(rt, alloc, &[], text, Broken, &NoPlaces, Vec::new(alloc)) else {
         return false;
@@ -223,7 +226,7 @@ fn is_broken_output_told(rt: &(impl Threads + Wait + Sync), alloc: Global) -> bo
 }
 
 /// Whether standard error that breaks changes neither the status nor the output.
-fn are_broken_errors_let_go(rt: &(impl Threads + Wait + Sync), alloc: Global) -> bool {
+fn are_broken_errors_let_go(rt: &(impl Threads + Wait + Clock + Sync), alloc: Global) -> bool {
     let Ok(heard) = hear_broken(rt, alloc, &[], Broken) else {
         return false;
     };
@@ -248,7 +251,7 @@ const FOR_HELP: [&[&str]; 6] = [
 ];
 
 /// Whether these words get help, and nothing is told.
-fn get_help(rt: &(impl Threads + Wait + Sync), alloc: Global, words: &[&str]) -> bool {
+fn get_help(rt: &(impl Threads + Wait + Clock + Sync), alloc: Global, words: &[&str]) -> bool {
     let Ok(heard) = hear_broken(rt, alloc, words, Vec::new(alloc)) else {
         return false;
     };

@@ -4,6 +4,8 @@ use Rattle.register_app.proofs.answering.convert.Goals as goal
 
 pub returns-in-Ok-clause-converted : goal.returns-in-Ok-clause-converted
 returns-in-Ok-clause-converted g c = λ begun. record {
+  setup = c.args.job.now.setup;
+  asked = (refl, refl, refl);
   report = c.in-Ok.report;
   settled = c.in-Ok.ensures.report;
   outputs = refl;

@@ -1,6 +1,6 @@
 use Rattle.std.proofs.Common.{◌∙◌, ap, sym, subst}
 use Rattle.std.proofs.Math.Seq.{map-set_same}
-use Rattle.register_run.specs.Arms.{ArmTook, feeding_lane}
+use Rattle.register_run.specs.Arms.{ArmTook, arm_setup, feeding_lane}
 use Rattle.register_run.proofs.ArmLemmas.{any_set}
 use Rattle.register_run.proofs.joining.pass_at.Goals as goal
 
@@ -13,3 +13,8 @@ pub returns-clause-kept : goal.returns-clause-kept
 returns-clause-kept c =
     λ row h. any_set c.args.arms.now.items c.args.at c.pass.new.self c.index_mut-arm.result.now row
     (λ a. c.pass.ensures.kept row (subst (λ x. ArmTook x row) (sym c.index_mut-arm.ensures.value) a)) h
+
+pub returns-clause-setups : goal.returns-clause-setups
+returns-clause-setups c =
+    map-set_same arm_setup c.args.arms.now.items c.args.at c.pass.new.self c.index_mut-arm.result.now
+    (c.pass.ensures.setup ∙ ap arm_setup c.index_mut-arm.ensures.value)

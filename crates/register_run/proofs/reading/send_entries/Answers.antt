@@ -1,5 +1,5 @@
 use Rattle.std.proofs.Common.{◌≡◌, ◌∙◌, ◌-◌, ◌%◌, ◌<◌, [], ◌∷◌, get_or, ap, refl, sym, subst, arith, length}
-use Rattle.std.proofs.Common.{length-append}
+use Rattle.std.proofs.Common.{length-append, rules, vec_len}
 use Rattle.std.proofs.Math.Seq.{map-set_same}
 use Rattle.lane_rings.specs.Lane.{sender_lane, sent}
 use Rattle.register_records.specs.Entries.{AreNumberedFrom, Numbered}
@@ -7,6 +7,8 @@ use Rattle.register_records.specs.Seen.{entry_seen}
 use Rattle.register_records.specs.Views.{format_of, given_of, reads_by, text_of}
 use Rattle.register_run.proofs.GivenLemmas.{all_among, given_none, numbered_more, sends_all, sends_gone, sends_stopped}
 use Rattle.register_run.proofs.PassageLemmas.{among_none}
+use Rattle.register_run.specs.Machine.{turn}
+use Rattle.register_run.proofs.TurnLemmas.{turns_more, turns_none}
 use Rattle.register_run.proofs.reading.send_entries.Goals as goal
 
 pub returns-in-Err-clause-sends : goal.returns-in-Err-clause-sends
@@ -39,7 +41,7 @@ returns-in-Err-next-clause-sends g c =
 
 pub returns-then-is_err-clause-lanes : goal.returns-then-is_err-clause-lanes
 returns-then-is_err-clause-lanes g c =
-    let items = c.loop.senders.items in let at = (c.number-count.result - 1) % c.len.result in
+    let items = c.loop.senders.items in let at = c.turn_after-turn.result in
     map-set_same sender_lane items
     at c.send.new.self c.index_mut-sender.result.now
     (c.send.ensures.lane ∙ ap sender_lane c.index_mut-sender.ensures.value) ∙ c.loop.invariant.lanes
@@ -47,9 +49,9 @@ returns-then-is_err-clause-lanes g c =
 pub returns-then-is_err-clause-sends : goal.returns-then-is_err-clause-sends
 returns-then-is_err-clause-sends g c =
     let inv = c.loop.invariant in let new = c.next-in-loop.new.self in
-    let items = c.loop.senders.items in let at = (c.number-count.result - 1) % c.len.result in
+    let items = c.loop.senders.items in let at = c.turn_after-turn.result in
     let below : at < length items =
-    (let a = c.len.ensures in let b = c.requires.some in let k = inv.len in let o = c.loop.senders.ok.0 in
+    (let a = c.len.ensures in let b = c.turn_after-turn.ensures.below in let o = c.loop.senders.ok.0 in
     omega arith) in
     let gives = rw c.in-Ok-Some.field-0-is at c.in-Ok-Some.ensures.gives in
     let number = rw c.in-Ok-Some.field-0-is at c.in-Ok-Some.ensures.number in
@@ -68,14 +70,16 @@ returns-then-is_err-clause-sends g c =
 pub loop-preserved : goal.loop-preserved
 loop-preserved g c =
     let inv = c.loop.invariant in let new = c.next-in-loop.new.self in
-    let items = c.loop.senders.items in let at = (c.number-count.result - 1) % c.len.result in
+    let items = c.loop.senders.items in let at = c.turn_after-turn.result in
     let below : at < length items =
-    (let a = c.len.ensures in let b = c.requires.some in let k = inv.len in let o = c.loop.senders.ok.0 in
+    (let a = c.len.ensures in let b = c.turn_after-turn.ensures.below in let o = c.loop.senders.ok.0 in
     omega arith) in
     let gives = rw c.in-Ok-Some.field-0-is at c.in-Ok-Some.ensures.gives in
     let number = rw c.in-Ok-Some.field-0-is at c.in-Ok-Some.ensures.number in
     let longer = length-append {A = Numbered} (given_of c.loop.entries) (entry_seen c.in-Ok-Some.entry ∷ []) in
-    let same : c.number-count.result ≡ c.in-Ok-Some.entry.number = c.number-count.ensures.value in record {
+    let same : c.number-count.result ≡ c.in-Ok-Some.entry.number = c.number-count.ensures.value in
+    let many : vec_len c.args.senders.now ≡ c.len.result =
+    (let a = c.len.ensures in let k = inv.len in let o = c.loop.senders.ok.0 in omega arith) in record {
       len = inv.len;
       lanes =
           map-set_same sender_lane items
@@ -89,8 +93,43 @@ loop-preserved g c =
           subst (λ l. AreNumberedFrom 1 l) (sym gives)
           (numbered_more 1 (given_of c.loop.entries) (entry_seen c.in-Ok-Some.entry) inv.numbered
           (let n = number.0 in omega arith));
+      turns =
+          turns_more (vec_len c.args.senders.now)
+          at items c.index_mut-sender.result.now c.send.new.self c.in-Ok-Some.entry c.send.result
+          c.index_mut-sender.ensures.value
+          (λ w is. sym (c.turn_after-turn.ensures.machine w (is ∙ many) ∙ ap (λ n. turn w (n - 1)) same))
+          c.send.ensures.ok c.send.ensures.gone inv.turns;
       sent =
           all_among (given_of c.loop.entries) (given_of new) items
           at c.index_mut-sender.result.now c.send.new.self c.in-Ok-Some.entry c.send.result
           c.index_mut-sender.ensures.value below gives c.send.ensures.ok c.send.ensures.gone inv.sent;
     }
+
+pub returns-in-Err-clause-turns : goal.returns-in-Err-clause-turns
+returns-in-Err-clause-turns g c = turns_none (vec_len c.args.senders.now) 0 c.args.senders.now.items c.requires.fresh
+
+pub returns-then-is_err-clause-turns : goal.returns-then-is_err-clause-turns
+returns-then-is_err-clause-turns g c =
+    let inv = c.loop.invariant in
+    let items = c.loop.senders.items in let at = c.turn_after-turn.result in
+    let same : c.number-count.result ≡ c.in-Ok-Some.entry.number = c.number-count.ensures.value in
+    let many : vec_len c.args.senders.now ≡ c.len.result =
+    (let a = c.len.ensures in let k = inv.len in let o = c.loop.senders.ok.0 in omega arith) in
+    turns_more (vec_len c.args.senders.now)
+    at items c.index_mut-sender.result.now c.send.new.self c.in-Ok-Some.entry c.send.result
+    c.index_mut-sender.ensures.value
+    (λ w is. sym (c.turn_after-turn.ensures.machine w (is ∙ many) ∙ ap (λ n. turn w (n - 1)) same))
+    c.send.ensures.ok c.send.ensures.gone inv.turns
+
+pub loop-init : goal.loop-init
+loop-init g c = record {
+  len = search rules;
+  lanes = search rules;
+  text = search rules;
+  by = search rules;
+  goes = search rules;
+  count = search rules;
+  numbered = search rules;
+  turns = turns_none (vec_len c.args.senders.now) 0 c.args.senders.now.items c.requires.fresh;
+  sent = search rules;
+}

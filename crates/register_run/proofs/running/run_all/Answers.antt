@@ -10,4 +10,5 @@ returns g c =
     report_of c.args.setup.now c.settle_all-settled.result.items c.args.sources.items c.args.outputs.items
     c.report.result same
     (c.settle_all-settled.ensures.cases ∙ c.drive.ensures.cases
-    ∙ c.start_all-stations.ensures.cases) c.report.ensures.outputs c.report.ensures.ends c.report.ensures.verdict
+    ∙ c.start_all-stations.ensures.cases) c.report.ensures.outputs c.report.ensures.ends c.report.ensures.setups
+    c.report.ensures.verdict

@@ -1,4 +1,4 @@
-use Rattle.std.proofs.Common.{◌≡◌}
+use Rattle.std.proofs.Common.{◌≡◌, None}
 use Rattle.std.specs.Io.KnownBytes.{Keeps}
 use Rattle.register_records.proofs.outputs.PlainOutputOutput.offer.Given as goal
 
@@ -7,5 +7,6 @@ invariant-tries g l =
     record {
       kept : Keeps (g.W.Write.contents l.fn.self.inner) (g.W.Write.contents l.self.inner);
       failed : l.self.failed ≡ l.fn.self.failed;
+      none : l.self.handed_on ≡ None;
       mark : l.self.mark ≡ l.fn.self.mark;
     }

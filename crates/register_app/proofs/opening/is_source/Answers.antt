@@ -1,0 +1,21 @@
+use Rattle.std.proofs.Common.{arith, map}
+use Rattle.std.proofs.lemmas.List.{length-map}
+use Rattle.register_app.proofs.ApartFacts.{all_before, none_before, one_before, value_at}
+use Rattle.register_app.proofs.opening.is_source.Goals as goal
+
+pub files-init : goal.files-init
+files-init g c = none_before (λ file. g.P.Places.are_apart c.args.places.now file c.args.name.now)
+    (map (λ f. f.now) c.args.files.now)
+
+pub files-preserved : goal.files-preserved
+files-preserved g c =
+    one_before (λ file. g.P.Places.are_apart c.args.places.now file c.args.name.now) (map (λ f. f.now) c.args.files.now)
+    c.files.file-index _ c.files.invariant (value_at (λ f. f.now) c.args.files.now c.files.file-index _
+    c.files-test.true)
+    (c.are_one_file.ensures c.if-are_one_file.false)
+
+pub returns : goal.returns
+returns g c = λ no.
+    all_before (λ file. g.P.Places.are_apart c.args.places.now file c.args.name.now) (map (λ f. f.now) c.args.files.now)
+    c.files.file-index c.files.invariant
+    (omega (arith, c.files-test.false, c.files.auto.file-index-end, length-map c.args.files.now (λ f. f.now)))

@@ -15,7 +15,7 @@ use Rattle.register_records.specs.Entries.{are_short, are_utf8, body_of}
 use Rattle.register_records.specs.Lines.{writing}
 use Rattle.register_records.specs.Records.{Fields, Texts}
 use Rattle.register_records.specs.SetupRules.{is_delimiter}
-use Rattle.register_records.specs.Tables.{text_fields}
+use Rattle.register_records.specs.Columns.{text_field}
 use Rattle.register_records.specs.declared.setups.Form.{Form}
 use Rattle.register_records.specs.declared.setups.Form.TheVariants.{Plain, Sealed}
 
@@ -85,25 +85,15 @@ pub bare-record : (form : Form) (ends bytes : List ℕ) → IsBare bytes
     → has_special (body_of form (cut_from 0 ends bytes)) ≡ false
 bare-record form ends bytes h = bare-texts form (cut_from 0 ends bytes) (bare-fields 0 ends bytes h)
 
--- the texts of a body that holds no such byte
-pub bare-parts : (body : Result Texts Refusal) (id calendar date note : List ℕ) → has_special body ≡ false
-    → text_fields Sealed body ≡ id ∷ calendar ∷ date ∷ note ∷ []
-    → IsBare id × IsBare calendar × IsBare date × IsBare note
-bare-parts (Ok t) id calendar date note h e =
-    let a = or_parts _ _ h in
+-- the texts of a body that holds no such byte need no quotes in a table
+pub unquoted : (d : ℕ) → is_delimiter d ≡ true → (body : Result Texts Refusal) → has_special body ≡ false
+    → (needs_quotes (writing d) (text_field (λ t. t.id) body) ≡ false)
+    × (needs_quotes (writing d) (text_field (λ t. t.calendar) body) ≡ false)
+    × (needs_quotes (writing d) (text_field (λ t. t.date) body) ≡ false)
+    × (needs_quotes (writing d) (text_field (λ t. t.note) body) ≡ false)
+unquoted d h (Ok t) bare =
+    let a = or_parts _ _ bare in
     let b = or_parts _ _ a.1 in
     let c = or_parts _ _ b.1 in
-    let same : (t.id ≡ id) × (t.calendar ≡ calendar) × (t.date ≡ date) × (t.note ≡ note) = (cc, cc, cc, cc) in
-    (rw (← same.0) a.0, rw (← same.1) b.0, rw (← same.2) c.0, rw (← same.3) c.1)
-bare-parts (Err r) id calendar date note h e =
-    let same : ([] ≡ id) × ([] ≡ calendar) × ([] ≡ date) × ([] ≡ note) = (cc, cc, cc, cc) in
-    (rw (← same.0) refl, rw (← same.1) refl, rw (← same.2) refl, rw (← same.3) refl)
-
--- they need no quotes in a table
-pub unquoted : (d : ℕ) → is_delimiter d ≡ true → (body : Result Texts Refusal) (id calendar date note : List ℕ)
-    → has_special body ≡ false → text_fields Sealed body ≡ id ∷ calendar ∷ date ∷ note ∷ []
-    → (needs_quotes (writing d) id ≡ false) × (needs_quotes (writing d) calendar ≡ false)
-    × (needs_quotes (writing d) date ≡ false) × (needs_quotes (writing d) note ≡ false)
-unquoted d h body id calendar date note bare e =
-    let parts = bare-parts body id calendar date note bare e in
-    (bare-text d h id parts.0, bare-text d h calendar parts.1, bare-text d h date parts.2, bare-text d h note parts.3)
+    (bare-text d h t.id a.0, bare-text d h t.calendar b.0, bare-text d h t.date c.0, bare-text d h t.note c.1)
+unquoted d h (Err r) bare = (refl, refl, refl, refl)

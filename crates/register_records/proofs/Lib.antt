@@ -8,6 +8,7 @@ pub mod StepFacts
 pub mod CellFacts
 pub mod BareFacts
 pub mod LineFacts
+pub mod AnswerFacts
 pub mod OutcomeFacts
 pub mod Progress
 pub mod OneTable

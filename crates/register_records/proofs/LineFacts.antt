@@ -2,15 +2,15 @@
 use Rattle.std.proofs.Common.{◌≡◌, ◌<◌, ◌≤◌, ◌+◌, ◌^◌, ◌%◌, ◌++◌, ℕ, List, [], ◌∷◌, true, false, refl, sym, ap, ◌∙◌}
 use Rattle.std.proofs.Common.{arith, append_assoc, append-nil, length, length-append, length-set, map, set, take}
 use Rattle.std.proofs.Common.{get_or}
-use Rattle.std.specs.Prelude.{ℤ, pos, negsuc, zero, suc, Some, Ok, Err, slice_get}
+use Rattle.std.specs.Prelude.{ℤ, pos, negsuc, suc, Some, Result, codes, slice_get}
 use Rattle.std.specs.Fmt.{decimal, signed_decimal}
 use Rattle.std.proofs.lemmas.Int.{ints}
 use Rattle.std.proofs.lemmas.Bool.{and_parts}
 use Rattle.std.proofs.lemmas.Bool.Decides.{nat_tests}
 use Rattle.std.proofs.lemmas.Fmt.{decimal_by_steps}
-use Rattle.std.proofs.lemmas.List.{map-append, take_more, take_more_set, take-append-le, take-take}
+use Rattle.std.proofs.lemmas.List.{map-append, take_more, take_more_set, take-append-le}
 use Rattle.std.proofs.lemmas.List.{length-take-le}
-use Rattle.std.proofs.Math.Seq.{take-append-add, take-append_seam}
+use Rattle.std.proofs.Math.Seq.{take-append-add}
 use borrow.Rule.Slice.PartMut.{put_mid}
 use Rattle.std.proofs.lemmas.List.Folds.{list_any-append}
 use Rattle.std.specs.List.{list_all}
@@ -18,19 +18,18 @@ use Rattle.csv.specs.Writing.{field_text, fields_text, is_blank, needs_byte, nee
 use Rattle.csv.proofs.WriteFacts.{fields-snoc}
 use Rattle.day_numbers.specs.Days.{IsDayNumber, all_weekdays, weekday_name, weekday_number}
 use Rattle.day_numbers.specs.declared.day.Weekday.{Weekday}
-use Rattle.register_records.specs.LineViews.{entry_fields}
 use Rattle.register_records.specs.Lines.{line_text, writing}
 use Rattle.register_records.specs.SetupRules.{is_delimiter}
-use Rattle.register_records.specs.Outcomes.{AreCells, TableRow}
-use Rattle.register_records.specs.CellTexts.{cell_bytes}
-use Rattle.register_records.specs.declared.cell_texts.CellText.{CellText}
 use Rattle.date_texts.specs.Cells.{is_plain}
-use Rattle.date_texts.proofs.LawWords.{CellsArePlain}
-use Rattle.register_records.specs.Tables.{row_fields, weekday_text}
-use Rattle.date_texts.specs.Refusals.{refusal_number}
+use Rattle.date_texts.specs.Calendars.{target_name}
 use Rattle.date_texts.specs.declared.calendar.Target.{Target}
+use Rattle.register_records.specs.Columns.{EntryColumn, answer_columns, answer_name, cell_columns, entry_columns}
+use Rattle.register_records.specs.Columns.{entry_field, entry_name, refusal, text_field, weekday_text}
+use Rattle.register_records.specs.LineViews.{noted}
+use Rattle.register_records.specs.Records.{Texts}
 use Rattle.date_texts.specs.declared.refusal.Refusal.{Refusal}
 use Rattle.register_records.specs.declared.setups.Form.{Form}
+use Rattle.register_records.specs.declared.setups.Form.TheVariants.{Plain, Sealed}
 
 -- the bytes of some fields, and of one more
 abbrev pub body : ℕ → List (List ℕ) → List ℕ
@@ -73,7 +72,7 @@ one-item f d before first xs i e field new lt is n =
     (rw (take_more xs i e lt, map-append f (take i xs) (get_or xs i e ∷ []), is) (append_assoc first _ _))
 
 -- more fields
-more-fields-text : (d : ℕ) (fields more : List (List ℕ))
+pub more-fields-text : (d : ℕ) (fields more : List (List ℕ))
     → fields_text (writing d) (fields ++ more) ≡ fields_text (writing d) fields ++ fields_text (writing d) more
 unfolding fields_text
 more-fields-text d [] more = refl
@@ -89,19 +88,6 @@ more-fields d before [] more old new some is n = absurd (omega arith)
 more-fields d before (f ∷ fields) more old new some is n =
     rw (n, is, more-fields-text d fields more) (simp append_assoc refl)
 
--- one more cell that needs no quotes
-pub one-more-cell : (d : ℕ) (cells : List CellText) (i : ℕ) (e : CellText) (bytes : List ℕ) → i < length cells
-    → needs_quotes (writing d) (cell_bytes (get_or cells i e)) ≡ false
-    → bytes ≡ fields_text (writing d) (map cell_bytes (take i cells)) ++ d ∷ cell_bytes (get_or cells i e)
-    → bytes ≡ fields_text (writing d) (map cell_bytes (take (i + 1) cells))
-one-more-cell d cells i e bytes lt plain is =
-    is ∙ sym (rw (
-      take_more cells i e lt,
-      map-append cell_bytes (take i cells) (get_or cells i e ∷ []),
-      fields-snoc (writing d) (map cell_bytes (take i cells)) (cell_bytes (get_or cells i e)),
-      plain-text d (cell_bytes (get_or cells i e)) plain,
-    ) refl)
-
 -- a byte is set in a list, and others are written from the place after it: what lies before, the byte, and some of them
 pub put-after : (room places : List ℕ) (at d k count : ℕ) → at < length room → count ≤ length places
     → take (at + 1 + count) (put_mid (at + 1) k (set room at d) places) ≡ take at room ++ d ∷ take count places
@@ -114,26 +100,6 @@ put-after room places at d k count lt few =
     ∙ ap (λ (t : List ℕ). take (at + 1) base ++ t) (take-append-le count places _ few)
     ∙ ap (λ (t : List ℕ). t ++ take count places) (take_more_set room at d lt)
     ∙ append_assoc (take at room) (d ∷ []) (take count places)
-
--- a list that has grown keeps what it had in front
-pub front-of-grown : (old added grown : List ℕ) (start : ℕ) → grown ≡ old ++ added → length grown ≡ start + length added
-    → take start grown ≡ old
-front-of-grown old added grown start is all =
-    let same : start ≡ length old = omega (arith, ap length is, length-append old added) in
-    ap (take start) is ∙ ap (λ n. take n (old ++ added)) same ∙ take-append_seam old added
-
--- some of a list that was written behind another, where what lies behind both is cut off
-pub cut-behind : (front room behind rest : List ℕ) (start n count : ℕ) → length front ≡ start → count ≤ length room
-    → start + count ≤ n
-    → take (start + count) (take n ((front ++ (room ++ behind)) ++ rest)) ≡ front ++ take count room
-cut-behind front room behind rest start n count long few below =
-    let all : start + count ≤ length (front ++ (room ++ behind)) =
-    omega (arith, length-append front (room ++ behind), length-append room behind) in
-    take-take (start + count) n ((front ++ (room ++ behind)) ++ rest) below
-    ∙ take-append-le (start + count) (front ++ (room ++ behind)) rest all
-    ∙ ap (λ m. take (m + count) (front ++ (room ++ behind))) (sym long)
-    ∙ take-append-add front (room ++ behind) count
-    ∙ ap (λ (t : List ℕ). front ++ t) (take-append-le count room behind few)
 
 -- a digit or a minus sign needs no quotes
 plain-byte : (d c : ℕ) → is_delimiter d ≡ true → 45 ≤ c → c < 58 → needs_byte (writing d) c ≡ false
@@ -161,27 +127,34 @@ plain-day d h (negsuc n) r =
 plain-cell-byte : (d c : ℕ) → is_delimiter d ≡ true → is_plain c ≡ true → needs_byte (writing d) c ≡ false
 plain-cell-byte d c h p = grind (arith, nat_tests)
 
-plain-bytes : (d : ℕ) → is_delimiter d ≡ true → (text : List ℕ) → list_all is_plain text ≡ true
+pub plain-bytes : (d : ℕ) → is_delimiter d ≡ true → (text : List ℕ) → list_all is_plain text ≡ true
     → needs_quotes (writing d) text ≡ false
 plain-bytes d h [] p = refl
 plain-bytes d h (c ∷ text) p =
     let both = and_parts (is_plain c) (list_all is_plain text) p in
     rw (plain-cell-byte d c h both.0, plain-bytes d h text both.1) refl
 
-pub plain-cell : CellsArePlain → (d : ℕ) → is_delimiter d ≡ true → (n : ℤ) (targets : List Target)
-    (cells : List CellText) (i : ℕ) (e : CellText) → i < length cells → AreCells targets (Ok n) (map cell_bytes cells)
-    → needs_quotes (writing d) (cell_bytes (get_or cells i e)) ≡ false
-plain-cell law d h n targets [] i e lt are = absurd (omega arith)
-plain-cell law d h n [] (cell ∷ cells) i e lt are = absurd are
-plain-cell law d h n (target ∷ targets) (cell ∷ cells) zero e lt are =
-    plain-bytes d h (cell_bytes cell) (law target n (cell_bytes cell) are.0)
-plain-cell law d h n (target ∷ targets) (cell ∷ cells) (suc i) e lt are =
-    plain-cell law d h n targets cells i e (omega arith) are.1
-
 -- the name of the weekday of a day
 pub weekday-name : (w : Weekday) (n : ℤ) → slice_get all_weekdays (weekday_number n) ≡ Some w
     → weekday_name w ≡ weekday_text n
 weekday-name w n e = rw e refl
+
+-- the columns of an entry: their names, and what stands in them
+pub entry-names : (form : Form)
+    → codes "row" ∷ codes "id" ∷ codes "calendar" ∷ codes "date" ∷ noted form (codes "note")
+    ≡ map entry_name (entry_columns form)
+entry-names Plain = refl
+entry-names Sealed = refl
+
+pub entry-fields : (form : Form) (n : ℕ) (body : Result Texts Refusal)
+    → decimal n ∷ text_field (λ t. t.id) body ∷ text_field (λ t. t.calendar) body ∷ text_field (λ t. t.date) body
+    ∷ noted form (text_field (λ t. t.note) body) ≡ map (entry_field n body) (entry_columns form)
+entry-fields Plain n body = refl
+entry-fields Sealed n body = refl
+
+pub some-columns : {X : Type 0} (form : Form) (f : EntryColumn → X) → 1 ≤ length (map f (entry_columns form))
+some-columns Plain f = omega arith
+some-columns Sealed f = omega arith
 
 -- equal fields
 pub same-body : (d : ℕ) (before : List ℕ) (fields wanted : List (List ℕ)) (bytes : List ℕ) → fields ≡ wanted
@@ -203,33 +176,21 @@ pub joined : (first : List (List ℕ)) (a b last : List ℕ) (rest : List (List 
     → ((first ++ (a ∷ b ∷ [])) ++ rest) ++ last ∷ [] ≡ first ++ ((a ∷ b ∷ rest) ++ last ∷ [])
 joined first a b last rest = simp append_assoc refl
 
--- the fields of an accepted row, and of a refused one
-pub accepted-fields : (form : Form) (targets : List Target) (row : TableRow) (n : ℤ) → row.outcome ≡ Ok n
-    → ((entry_fields form row ++ (signed_decimal n ∷ weekday_text n ∷ [])) ++ row.cells)
-    ++ [] ∷ [] ≡ row_fields form targets row
-accepted-fields form targets row n e = joined (entry_fields form row) _ _ [] row.cells ∙ rw e refl
-
-pub refused-fields : (form : Form) (targets : List Target) (row : TableRow) (r : Refusal) (last : List ℕ)
-    → row.outcome ≡ Err r → last ≡ decimal (refusal_number r)
-    → ((entry_fields form row ++ ([] ∷ [] ∷ [])) ++ map (λ (t : Target). []) targets) ++ last ∷ []
-    ≡ row_fields form targets row
-refused-fields form targets row r last e z =
-    joined (entry_fields form row) [] [] last (map (λ (t : Target). []) targets) ∙ rw (e, z) refl
-
--- one more of the empty fields that stand for the cells of a refused row
-pub one-empty : {X : Type 0} (first : List (List ℕ)) (xs : List X) (i : ℕ) → i < length xs
-    → (first ++ map {A = X} {B = List ℕ} (λ x. []) (take i xs)) ++ [] ∷ []
-    ≡ first ++ map {A = X} {B = List ℕ} (λ x. []) (take (i + 1) xs)
-one-empty first xs i lt = append_assoc first _ _ ∙ ap (λ (fields : List (List ℕ)). first ++ fields) (empties xs i lt)
-  where
-    empties : {X : Type 0} (xs : List X) (i : ℕ) → i < length xs
-        → map {A = X} {B = List ℕ} (λ x. []) (take i xs) ++ [] ∷ []
-        ≡ map {A = X} {B = List ℕ} (λ x. []) (take (i + 1) xs)
-    empties [] i lt = absurd (omega arith)
-    empties (x ∷ xs) zero lt = refl
-    empties (x ∷ xs) (suc i) lt =
-        let e : suc i + 1 ≡ suc (i + 1) = omega arith in
-        rw e (ap (λ (fields : List (List ℕ)). [] ∷ fields) (empties xs i (omega arith)))
-
 pub two-fields : (fields : List (List ℕ)) (last : List ℕ) → 1 ≤ length fields → 2 ≤ length (fields ++ last ∷ [])
 two-fields fields last some = rw (length-append fields (last ∷ [])) (omega arith)
+
+pub some-fields : (fields more : List (List ℕ)) → 1 ≤ length fields → 1 ≤ length (fields ++ more)
+some-fields fields more some = rw (length-append fields more) (omega arith)
+
+pub two-of : (fields rest : List (List ℕ)) (a b : List ℕ) → 2 ≤ length (fields ++ (a ∷ b ∷ rest))
+two-of fields rest a b = rw (length-append fields (a ∷ b ∷ rest)) (omega arith)
+
+-- the names of the columns of an answer
+name-columns : (place : ℕ) (ts : List Target)
+    → map answer_name (cell_columns place ts ++ refusal ∷ []) ≡ map target_name ts ++ codes "refusal" ∷ []
+name-columns place [] = refl
+name-columns place (t ∷ ts) = ap (λ (names : List (List ℕ)). target_name t ∷ names) (name-columns (place + 1) ts)
+
+pub answer-names : (ts : List Target)
+    → map answer_name (answer_columns ts) ≡ (codes "rd" ∷ codes "weekday" ∷ map target_name ts) ++ codes "refusal" ∷ []
+answer-names ts = ap (λ (names : List (List ℕ)). codes "rd" ∷ codes "weekday" ∷ names) (name-columns 0 ts)

@@ -6,7 +6,9 @@ pub mod Outcomes
 pub mod CellTexts
 pub mod Seen
 pub mod Lines
+pub mod Columns
 pub mod Tables
+pub mod Answers
 pub mod Sources
 pub mod Causes
 pub mod SetupRules

@@ -13,10 +13,6 @@ number_room = 40
 abbrev pub entry_room : ℕ
 entry_room = number_room + (1 + field_room 40) + (1 + field_room 16) + (1 + field_room 32) + (1 + field_room 80)
 
--- the fields that it has of its day, each after a delimiter: a number and a weekday
-abbrev pub day_room : ℕ
-day_room = (1 + number_room) + (1 + 9)
-
--- a cell after a delimiter
-abbrev pub cell_room : ℕ
-cell_room = 1 + 16
+-- the longest answer: a day number, the longest weekday, fourteen cells and a refusal, each after a delimiter
+abbrev pub answer_room : ℕ
+answer_room = (1 + 8) + (1 + 9) + 14 * (1 + 16) + (1 + 1)

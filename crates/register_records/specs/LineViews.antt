@@ -1,12 +1,10 @@
 -- What a clause sees of `Lines`. No public contract cites this file.
-use Rattle.std.specs.Prelude.{◌≡◌, ℕ, List, ◌∷◌, ◌++◌, codes, vec_capacity, vec_len}
-use Rattle.std.specs.Fmt.{decimal}
+use Rattle.std.specs.Prelude.{◌≡◌, ℕ, List, [], ◌∷◌, ◌++◌, vec_capacity, vec_len}
 use Rattle.csv.specs.Writing.{row_body}
 use Rattle.register_records.specs.Lines.{writing}
-use Rattle.register_records.specs.Outcomes.{TableRow}
-use Rattle.register_records.specs.Tables.{note_fields, text_fields}
 use Rattle.register_records.specs.declared.lines.Lines.{Lines}
 use Rattle.register_records.specs.declared.setups.Form.{Form}
+use Rattle.register_records.specs.declared.setups.Form.TheVariants.{Plain, Sealed}
 
 -- their bytes so far
 abbrev pub line_bytes : Lines → List ℕ
@@ -23,13 +21,10 @@ line_capacity lines = vec_capacity lines.bytes
 abbrev pub line_delimiter : Lines → ℕ
 line_delimiter lines = lines.delimiter
 
--- the columns that a heading begins with: those that a table has of the records
-abbrev pub entry_heading : Form → List (List ℕ)
-entry_heading form = codes "row" ∷ codes "id" ∷ codes "calendar" ∷ codes "date" ∷ note_fields form (codes "note")
-
--- the fields that a row begins with: those that it has of its entry
-abbrev pub entry_fields : Form → TableRow → List (List ℕ)
-entry_fields form row = decimal row.number ∷ text_fields form row.body
+-- what stands in the column of notes, where the form has one
+abbrev pub noted : Form → List ℕ → List (List ℕ)
+noted Plain note = []
+noted Sealed note = note ∷ []
 
 -- the bytes so far are those that stood before, and then these fields with the delimiter between two of them
 abbrev pub Begins : List ℕ → List (List ℕ) → Lines → Type 0

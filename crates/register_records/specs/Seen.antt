@@ -1,13 +1,11 @@
 -- What a clause sees of an `Entry` and of the parts of a `Row`.
-use Rattle.std.specs.Prelude.{ℤ, List, map, Result, Ok, Err}
+use Rattle.std.specs.Prelude.{ℕ, ℤ, List, Result, Ok, Err}
 use Rattle.day_numbers.specs.declared.day.Day.{Day}
 use Rattle.date_texts.specs.declared.refusal.Refusal.{Refusal}
-use Rattle.register_records.specs.CellTexts.{cell_bytes}
 use Rattle.register_records.specs.Entries.{Numbered, body_seen}
 use Rattle.register_records.specs.Records.{Texts}
 use Rattle.register_records.specs.declared.columns.Columns.{Columns}
 use Rattle.register_records.specs.Outcomes.{TableRow}
-use Rattle.register_records.specs.declared.cell_texts.CellText.{CellText}
 use Rattle.register_records.specs.declared.entries.Entry.{Entry}
 
 -- the texts in the columns of a record
@@ -24,6 +22,6 @@ outcome_seen (Ok day) = Ok day.number
 outcome_seen (Err r) = Err r
 
 -- the row that an entry, an outcome and cells make
-abbrev pub row_made : Entry → Result Day Refusal → List CellText → TableRow
+abbrev pub row_made : Entry → Result Day Refusal → List (List ℕ) → TableRow
 row_made e outcome cells =
-    record { number = e.number; body = body_seen e.body; outcome = outcome_seen outcome; cells = map cell_bytes cells }
+    record { number = e.number; body = body_seen e.body; outcome = outcome_seen outcome; cells = cells }

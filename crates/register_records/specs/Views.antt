@@ -3,6 +3,7 @@ use Rattle.std.specs.Prelude.{ℕ, List, Option, map}
 use Rattle.std.specs.declared.snapshot.Snapshot.{Snapshot}
 use Rattle.std.specs.declared.io.traits.Read.{Ghosts}
 use Rattle.date_texts.specs.declared.calendar.Target.{Target}
+use Rattle.register_records.specs.Answers.{cells_of}
 use Rattle.register_records.specs.Entries.{Format, Numbered}
 use Rattle.register_records.specs.Outcomes.{TableRow}
 use Rattle.register_records.specs.Seen.{entry_seen, row_made}
@@ -42,7 +43,7 @@ abbrev pub row_targets : Row → List Target
 row_targets row = items_in row.targets
 
 abbrev pub row_seen : Row → TableRow
-row_seen row = row_made row.entry row.outcome (items_in row.cells)
+row_seen row = row_made row.entry row.outcome (cells_of row.answer)
 
 -- how a writer writes lines
 abbrev pub writes_by : RowWriter → Format

@@ -47,21 +47,6 @@ impl CellText {
         self.count = write_cell(&mut self.places, target, day);
     }
 
-    /// How many bytes the text has.
-    pub(crate) fn len(&self) -> usize
-        ensures value { result ≡ self.now.count }
-        ensures few { result ≤ MAX_CELL }
-    {
-        self.count as usize
-    }
-
-    /// All the room of the text: its bytes, and what lies behind them.
-    pub(crate) fn room(&self) -> &[u8]
-        ensures { result.now ≡ self.now.places }
-    {
-        &self.places
-    }
-
     /// The bytes of the text.
     pub fn as_bytes(&self) -> &[u8]
         ensures { result.now ≡ cell_bytes self.now }

@@ -1,6 +1,6 @@
 //! The conversion of an entry.
 
-ghost use Rattle.std.specs.Prelude.{◌≡◌, ◌≤◌, [], length, map};
+ghost use Rattle.std.specs.Prelude.{◌≡◌, ◌≤◌, length, map};
 ghost use Rattle.date_texts.specs.declared.calendar.TheConstants.{MAX_TARGETS};
 ghost use Rattle.register_records.specs.CellTexts.{cell_bytes};
 ghost use Rattle.register_records.specs.Outcomes.{AreCells, IsOutcome, IsRowOf};
@@ -9,6 +9,7 @@ ghost use Rattle.register_records.specs.Seen.{entry_seen, outcome_seen};
 ghost use Rattle.register_records.specs.ShortLists.{items_in};
 ghost use Rattle.register_records.specs.Views.{row_seen, row_targets, targets_of};
 
+use crate::answers::Answer;
 use crate::cell_texts::CellText;
 use crate::entries::{Body, Entry};
 use crate::rows::Row;
@@ -36,8 +37,7 @@ pub(crate) fn day_of_body(body: &Body) -> Result<Day, Refusal>
     }
 }
 
-/// Makes a list the cells of an outcome: one for each target on a day, and none with a refusal. The list is lent, since
-/// it is large.
+/// Makes a list the cells of an outcome: one for each target on a day, and none with a refusal.
 #[inline(never)]
 pub(crate) fn fill(
     cells: &mut ShortList<CellText>,
@@ -70,9 +70,9 @@ pub fn convert(entry: Entry, setup: &Setup) -> Row
         entry,
         outcome,
         targets: ShortList::new(Target::Haab),
-        cells: ShortList::new(CellText::copied("")),
+        answer: Answer::new(b','),
     };
-    fill(&mut row.cells, setup.targets(), outcome);
+    row.answer.set(setup.targets(), outcome, setup.delimiter());
     row.targets = setup.target_list();
     row
 }

@@ -8,6 +8,7 @@
 //! number of the entries. A text without it was cut off.
 #![tactic(auto)]
 
+mod answers;
 mod causes;
 mod cell_texts;
 mod columns;

@@ -3,19 +3,15 @@
 //! The writer of `csv` is made anew for each record and moves a buffer of 8 KiB several times, which
 //! costs more than all else in a row. A line by hand into memory that is used again takes a twentieth.
 
-ghost use Rattle.std.specs.Prelude.{◌≡◌, ◌≤◌, ◌<◌, ◌+◌, ◌*◌, ◌++◌, ◌∷◌, [], ℕ, List, true, false, length, map, take};
-ghost use Rattle.std.specs.Prelude.{IfOk, IsOk, OnOk, get_or, vec_capacity, vec_len};
+ghost use Rattle.std.specs.Prelude.{◌≡◌, ◌≤◌, ◌+◌, ◌++◌, ◌∷◌, [], ℕ, List, true, false, length};
+ghost use Rattle.std.specs.Prelude.{IfOk, IsOk, OnOk, vec_capacity, vec_len};
 ghost use Rattle.csv.specs.Writing as Spec;
-ghost use Rattle.date_texts.specs.declared.calendar.TheConstants.{MAX_TARGETS};
-ghost use Rattle.register_records.specs.CellTexts.{cell_bytes};
-ghost use Rattle.register_records.specs.declared.cell_texts.CellText.{CellText};
-ghost use Rattle.register_records.specs.LineRoom.{cell_room, field_room};
+ghost use Rattle.csv.specs.Writing.{fields_text};
+ghost use Rattle.register_records.specs.LineRoom.{field_room};
 ghost use Rattle.register_records.specs.Lines.{line_text, writing};
 ghost use Rattle.register_records.specs.SetupRules.{is_delimiter};
 ghost use Rattle.register_records.specs.declared.lines.TheConstants.{LINE_ROOM};
 
-use crate::cell_texts::CellText;
-use date_texts::{MAX_CELL, MAX_TARGETS};
 use std::alloc::{AllocError, Global};
 
 const QUOTE: u8 = b'"';
@@ -23,12 +19,6 @@ const QUOTE: u8 = b'"';
 /// Room for the longest line of a row, which has no more bytes than this: the texts quoted with a quote in each place,
 /// the cells and the rest.
 pub const LINE_ROOM: usize = 1024;
-
-/// Room for a cell with a delimiter.
-const CELL_ROOM: usize = 1 + MAX_CELL;
-
-/// What stands in the room of a row's cells before they do.
-static BLANKS: [u8; MAX_TARGETS * CELL_ROOM] = [0; MAX_TARGETS * CELL_ROOM];
 
 /// Lines that wait, and the fields so far of one more behind them, in memory that serves again.
 #[derive(Drop)]
@@ -96,19 +86,6 @@ fn push_field(line: &mut Vec<u8>, delimiter: u8, field: &[u8]) -> Result<(), All
         line.extend_from_slice(field)?;
     }
     Ok(())
-}
-
-/// Writes a delimiter and a cell to a place of the room, and says where they end. All the room of the cell is copied,
-/// and what lies behind its text is written over by the next: a copy of a fixed length is cheap.
-#[inline(always)]
-fn put_cell(room: &mut [u8], at: usize, delimiter: u8, cell: &CellText) -> usize
-    requires { at + cell_room ≤ length room.old }
-    ensures value { take result room.new ≡ take at room.old ++ delimiter ∷ cell_bytes cell.now }
-    ensures grows { result ≤ at + cell_room }
-{
-    room[at] = delimiter;
-    room[at + 1..at + 1 + MAX_CELL].copy_from_slice(cell.room());
-    at + 1 + cell.len()
 }
 
 impl Lines {
@@ -226,29 +203,17 @@ impl Lines {
         }
     }
 
-    /// Appends the cells of a row, which need no quotes.
-    pub fn push_cells(&mut self, cells: &[CellText]) -> Result<(), AllocError>
-        requires few { length cells.now ≤ MAX_TARGETS }
-        requires plain { (i : ℕ) (e : CellText) → i < length cells.now
-            → Spec.needs_quotes (writing (line_delimiter self.old)) (cell_bytes (get_or cells.now i e)) ≡ false }
-        ensures value { (before : List ℕ) (fields : List (List ℕ)) → 1 ≤ length fields → Begins before fields self.old
-            → OnOk result (Begins before (fields ++ map cell_bytes cells.now) self.new) }
+    /// Appends more fields, each behind a delimiter as it stands in the text.
+    pub fn push_fields(&mut self, text: &[u8]) -> Result<(), AllocError>
+        ensures value { (before : List ℕ) (fields more : List (List ℕ)) → 1 ≤ length fields
+            → Begins before fields self.old → text.now ≡ fields_text (writing (line_delimiter self.old)) more
+            → OnOk result (Begins before (fields ++ more) self.new) }
         ensures kept { line_delimiter self.new ≡ line_delimiter self.old }
-        ensures room { line_len self.old + cell_room * length cells.now ≤ line_capacity self.old → IsOk result }
-        ensures grows { OnOk result (line_len self.new ≤ line_len self.old + cell_room * length cells.now) }
+        ensures room { line_len self.old + length text.now ≤ line_capacity self.old → IsOk result }
+        ensures grows { OnOk result (line_len self.new ≤ line_len self.old + length text.now) }
         ensures capacity { line_capacity self.old ≤ line_capacity self.new }
     {
-        // The cells are written where they stay, and the room that they leave goes.
-        let delimiter = self.delimiter;
-        let start = self.bytes.len();
-        self.bytes
-            .extend_from_slice(&BLANKS[..cells.len() * CELL_ROOM])?;
-        let room = &mut self.bytes.as_mut_slice()[start..];
-        let mut end = 0;
-        'cells: for cell in cells {
-            end = put_cell(room, end, delimiter, cell);
-        }
-        self.bytes.truncate(start + end);
+        self.bytes.extend_from_slice(text)?;
         Ok(())
     }
 

@@ -1,32 +1,36 @@
 //! The lines of a table: its heading and its rows.
 
-ghost use Rattle.std.specs.Prelude.{◌≡◌, ◌≤◌, ◌+◌, ◌∷◌, ◌++◌, [], ℕ, List, length, IsOk, OnOk, Ok, Err, true, false};
+ghost use Rattle.std.specs.Prelude.{◌≡◌, ◌≤◌, ◌+◌, ◌∷◌, ◌++◌, [], ℕ, List, length, map, IsOk, OnOk, true, false};
 ghost use Rattle.csv.specs.Writing.{needs_quotes};
 ghost use Rattle.register_records.specs.Entries.{body_seen};
 ghost use Rattle.register_records.specs.LineRoom.{entry_room, field_room};
-ghost use Rattle.register_records.specs.LineViews.{Begins, entry_fields, entry_heading, line_bytes};
-ghost use Rattle.register_records.specs.LineViews.{line_capacity, line_delimiter, line_len};
+ghost use Rattle.register_records.specs.LineViews.{Begins, line_bytes};
+ghost use Rattle.register_records.specs.LineViews.{line_capacity, line_delimiter, line_len, noted};
 ghost use Rattle.register_records.specs.Lines.{line_text, writing};
-ghost use Rattle.register_records.specs.Tables.{heading, note_fields, row_fields, text_fields};
+ghost use Rattle.register_records.specs.Columns.{answer_columns, answer_field, entry_columns, entry_field, entry_name};
+ghost use Rattle.register_records.specs.Columns.{heading, row_fields, text_field};
 ghost use Rattle.register_records.specs.Views.{row_seen, row_targets};
 ghost use Rattle.register_records.specs.declared.entries.TheConstants.{CALENDAR_LIMIT, DATE_LIMIT, ID_LIMIT};
 ghost use Rattle.register_records.specs.declared.entries.TheConstants.{NOTE_LIMIT};
+ghost use Rattle.register_records.specs.declared.answers.TheConstants.{ANSWER_ROOM};
 ghost use Rattle.register_records.specs.declared.lines.TheConstants.{LINE_ROOM};
 
+use crate::answers::Answer;
 use crate::entries::Body;
 use crate::lines::Lines;
 use crate::rows::Row;
 use crate::setups::Form;
-use date_texts::laws::cells_are_plain;
-use date_texts::{Refusal, Target};
-use day_numbers::Day;
+use date_texts::Target;
+use date_texts::laws::one_cell;
 use itoa::Buffer;
 use std::alloc::AllocError;
 
 /// The texts of a body, which are empty where it was refused.
 fn texts_of(body: &Body) -> (&str, &str, &str, &str)
-    ensures value { (form : Form) → text_fields form (body_seen body.now)
-        ≡ result.0.now ∷ result.1.now ∷ result.2.now ∷ note_fields form result.3.now }
+    ensures value { (result.0.now ≡ text_field (λ t. t.id) (body_seen body.now))
+        × (result.1.now ≡ text_field (λ t. t.calendar) (body_seen body.now))
+        × (result.2.now ≡ text_field (λ t. t.date) (body_seen body.now))
+        × (result.3.now ≡ text_field (λ t. t.note) (body_seen body.now)) }
     ensures short { (length result.0.now ≤ ID_LIMIT) × (length result.1.now ≤ CALENDAR_LIMIT)
         × (length result.2.now ≤ DATE_LIMIT) × (length result.3.now ≤ NOTE_LIMIT) }
 {
@@ -45,7 +49,7 @@ fn texts_of(body: &Body) -> (&str, &str, &str, &str)
 fn push_note(lines: &mut Lines, form: Form, note: &[u8], bare: bool) -> Result<(), AllocError>
     requires { bare ≡ true → needs_quotes (writing (line_delimiter lines.old)) note.now ≡ false }
     ensures value { (before : List ℕ) (fields : List (List ℕ)) → 1 ≤ length fields → Begins before fields lines.old
-        → OnOk result (Begins before (fields ++ note_fields form note.now) lines.new) }
+        → OnOk result (Begins before (fields ++ noted form note.now) lines.new) }
     ensures kept { line_delimiter lines.new ≡ line_delimiter lines.old }
     ensures room { line_len lines.old + (1 + field_room (length note.now)) ≤ line_capacity lines.old → IsOk result }
     ensures grows { OnOk result (line_len lines.new ≤ line_len lines.old + (1 + field_room (length note.now))) }
@@ -59,7 +63,7 @@ fn push_note(lines: &mut Lines, form: Form, note: &[u8], bare: bool) -> Result<(
 
 /// Begins the line of the heading: the columns of the entries.
 fn begin_heading(lines: &mut Lines, form: Form) -> Result<(), AllocError>
-    ensures value { OnOk result (Begins (line_bytes lines.old) (entry_heading form) lines.new) }
+    ensures value { OnOk result (Begins (line_bytes lines.old) (map entry_name (entry_columns form)) lines.new) }
     ensures kept { line_delimiter lines.new ≡ line_delimiter lines.old }
     ensures capacity { line_capacity lines.old ≤ line_capacity lines.new }
 {
@@ -96,7 +100,8 @@ pub(crate) fn make_heading(
 /// Begins the line of a row: its number and its texts.
 fn begin_line(lines: &mut Lines, form: Form, row: &Row) -> Result<(), AllocError>
     requires { line_len lines.old + LINE_ROOM ≤ line_capacity lines.old }
-    ensures value { OnOk result (Begins (line_bytes lines.old) (entry_fields form (row_seen row.now)) lines.new) }
+    ensures value { OnOk result (Begins (line_bytes lines.old) (map (entry_field (row_seen row.now).number (row_seen row.now).body)
+        (entry_columns form)) lines.new) }
     ensures kept { line_delimiter lines.new ≡ line_delimiter lines.old }
     ensures room { IsOk result }
     ensures short { line_len lines.new ≤ line_len lines.old + entry_room }
@@ -112,52 +117,39 @@ fn begin_line(lines: &mut Lines, form: Form, row: &Row) -> Result<(), AllocError
     Ok(())
 }
 
-/// Appends the line of an accepted row.
-fn make_accepted(lines: &mut Lines, form: Form, row: &Row, day: Day) -> Result<(), AllocError>
-    requires outcome { row.now.outcome ≡ Ok day }
-    requires room { line_len lines.old + LINE_ROOM ≤ line_capacity lines.old }
-    ensures value { OnOk result (line_bytes lines.new ≡ line_bytes lines.old ++ line_text (line_delimiter lines.old)
-        (row_fields form (row_targets row.now) (row_seen row.now))) }
+/// Appends the fields of a row behind those of its entry: they are copied as they were written for a table with this
+/// delimiter, and written anew for another.
+fn push_answer(lines: &mut Lines, row: &Row) -> Result<(), AllocError>
+    ensures value { (before : List ℕ) (fields : List (List ℕ)) → 1 ≤ length fields → Begins before fields lines.old
+        → OnOk result (Begins before (fields ++ map (answer_field (row_seen row.now).outcome (row_seen row.now).cells)
+        (answer_columns (row_targets row.now))) lines.new) }
     ensures kept { line_delimiter lines.new ≡ line_delimiter lines.old }
-    ensures room { IsOk result }
-    ensures short { line_len lines.new ≤ line_len lines.old + LINE_ROOM }
+    ensures room { line_len lines.old + ANSWER_ROOM ≤ line_capacity lines.old → IsOk result }
+    ensures grows { OnOk result (line_len lines.new ≤ line_len lines.old + ANSWER_ROOM) }
     ensures capacity { line_capacity lines.old ≤ line_capacity lines.new }
 {
-    begin_line(lines, form, row)?;
-    lines.push_plain(Buffer::new().format(day.number()).as_bytes())?;
-    lines.push_plain(day.weekday().name().as_bytes())?;
-    cells_are_plain();
-    lines.push_cells(row.cells())?;
-    lines.push_plain(b"")?;
-    lines.end()?;
-    Ok(())
+    if row.answer().delimiter() == lines.delimiter() {
+        lines.push_fields(row.answer().as_slice())
+    } else {
+        push_other_answer(lines, row)
+    }
 }
 
-/// Appends the line of a refused row.
-fn make_refused(
-    lines: &mut Lines,
-    form: Form,
-    row: &Row,
-    refusal: Refusal,
-) -> Result<(), AllocError>
-    requires outcome { row.now.outcome ≡ Err refusal }
-    requires room { line_len lines.old + LINE_ROOM ≤ line_capacity lines.old }
-    ensures value { OnOk result (line_bytes lines.new ≡ line_bytes lines.old ++ line_text (line_delimiter lines.old)
-        (row_fields form (row_targets row.now) (row_seen row.now))) }
+/// Appends the fields of a row behind those of its entry, written anew.
+#[inline(never)]
+fn push_other_answer(lines: &mut Lines, row: &Row) -> Result<(), AllocError>
+    ensures value { (before : List ℕ) (fields : List (List ℕ)) → 1 ≤ length fields → Begins before fields lines.old
+        → OnOk result (Begins before (fields ++ map (answer_field (row_seen row.now).outcome (row_seen row.now).cells)
+        (answer_columns (row_targets row.now))) lines.new) }
     ensures kept { line_delimiter lines.new ≡ line_delimiter lines.old }
-    ensures room { IsOk result }
-    ensures short { line_len lines.new ≤ line_len lines.old + LINE_ROOM }
+    ensures room { line_len lines.old + ANSWER_ROOM ≤ line_capacity lines.old → IsOk result }
+    ensures grows { OnOk result (line_len lines.new ≤ line_len lines.old + ANSWER_ROOM) }
     ensures capacity { line_capacity lines.old ≤ line_capacity lines.new }
 {
-    begin_line(lines, form, row)?;
-    lines.push_plain(b"")?;
-    lines.push_plain(b"")?;
-    'targets: for _target in row.targets() {
-        lines.push_plain(b"")?;
-    }
-    lines.push_plain(Buffer::new().format(refusal.number()).as_bytes())?;
-    lines.end()?;
-    Ok(())
+    one_cell();
+    let mut answer = Answer::new(lines.delimiter());
+    answer.set(row.targets(), row.outcome(), lines.delimiter());
+    lines.push_fields(answer.as_slice())
 }
 
 /// Appends the line of a row, where there is memory for it.
@@ -170,8 +162,8 @@ pub(crate) fn make_row(lines: &mut Lines, form: Form, row: &Row) -> Result<(), A
     ensures short { line_len lines.new ≤ line_len lines.old + LINE_ROOM }
     ensures capacity { line_capacity lines.old ≤ line_capacity lines.new }
 {
-    match row.outcome() {
-        Ok(day) => make_accepted(lines, form, row, day),
-        Err(refusal) => make_refused(lines, form, row, refusal),
-    }
+    begin_line(lines, form, row)?;
+    push_answer(lines, row)?;
+    lines.end()?;
+    Ok(())
 }

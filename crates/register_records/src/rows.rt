@@ -1,15 +1,20 @@
 //! The row of an entry.
 
-ghost use Rattle.std.specs.Prelude.{◌≡◌, ◌≤◌, length};
+ghost use Rattle.std.specs.Prelude.{◌≡◌, ◌≤◌, length, map};
+ghost use Rattle.register_records.specs.Answers.{answer_bytes, answer_text, cells_of};
+ghost use Rattle.register_records.specs.CellTexts.{cell_bytes};
 ghost use Rattle.register_records.specs.Outcomes.{IsRowOf};
 ghost use Rattle.register_records.specs.ShortLists.{items_in};
-ghost use Rattle.register_records.specs.Seen.{entry_seen, row_made};
+ghost use Rattle.register_records.specs.Seen.{entry_seen, outcome_seen, row_made};
 
+use crate::answers::Answer;
 use crate::cell_texts::CellText;
+use crate::converting::fill;
 use crate::entries::Entry;
 use crate::setups::Setup;
 use crate::short_lists::ShortList;
 use crate::sources::Note;
+use date_texts::laws::one_cell;
 use date_texts::{MAX_TARGETS, Refusal, Target};
 use day_numbers::Day;
 
@@ -20,8 +25,10 @@ pub struct Row {
     pub(crate) entry: Entry,
     pub(crate) outcome: Result<Day, Refusal>,
     pub(crate) targets: ShortList<Target>,
-    pub(crate) cells: ShortList<CellText>,
-    pub ghost is_row: { ∥ IsRowOf (items_in targets) (entry_seen entry) (row_made entry outcome (items_in cells)) ∥₁ },
+    pub(crate) answer: Answer,
+    pub ghost is_row: { ∥ IsRowOf (items_in targets) (entry_seen entry) (row_made entry outcome (cells_of answer)) ∥₁ },
+    ghost written: { answer_bytes answer
+        ≡ answer_text answer.delimiter (items_in targets) (outcome_seen outcome) (cells_of answer) },
 }
 
 impl Row {
@@ -52,12 +59,21 @@ impl Row {
     }
 
     /// The cells, one for each target; a refused row has none.
-    pub fn cells(&self) -> &[CellText]
-        ensures value { result.now ≡ items_in self.now.cells }
-        ensures few { length result.now ≤ MAX_TARGETS }
+    pub fn cells(&self) -> ShortList<CellText>
+        ensures value { map cell_bytes (items_in result) ≡ (row_seen self.now).cells }
         ensures row { ∥ IsRowOf (row_targets self.now) (entry_seen self.now.entry) (row_seen self.now) ∥₁ }
     {
-        self.cells.as_slice()
+        one_cell();
+        let mut cells = ShortList::new(CellText::copied(""));
+        fill(&mut cells, self.targets.as_slice(), self.outcome);
+        cells
+    }
+
+    /// The fields of the row behind those of its entry, as a table with its answer's delimiter has them.
+    pub(crate) fn answer(&self) -> &Answer
+        ensures { result.now ≡ self.now.answer }
+    {
+        &self.answer
     }
 
     /// Whether the row was made for the setup's targets.

@@ -12,7 +12,7 @@ ghost use Rattle.register_records.specs.declared.setups.Form.TheVariants.{Sealed
 ghost use Rattle.register_records.specs.Views.{format_of, given_of, layout_of, line_of, row_seen, text_of};
 ghost use Rattle.register_records.specs.Views.{writes_by};
 
-use crate::converting::{convert, day_of_body, fill};
+use crate::converting::{convert, day_of_body};
 use crate::entries::Entry;
 use crate::outputs::Output;
 use crate::reading::EntryReader;
@@ -194,7 +194,7 @@ fn convert_next<R: Read + Drop, W: Output>(
     let answer = entries.read_next(&mut row.entry);
     // Whatever was read, the row is now made that of its entry.
     let outcome = day_of_body(row.entry.body());
-    fill(&mut row.cells, setup.targets(), outcome);
+    row.answer.set(setup.targets(), outcome, setup.delimiter());
     row.outcome = outcome;
     row.targets = setup.target_list();
     match answer {

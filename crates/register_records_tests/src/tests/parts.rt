@@ -51,8 +51,8 @@ fn tells_its_parts(row: &Row, setup: &Setup, other: &Setup) -> bool {
     row.entry().number() == 1_000_000
         && row.targets().len() == 2
         && row.outcome().is_ok_and(|day| day.number() == 577_736)
-        && row.cells().len() == 2
-        && row.cells().first().is_some_and(|cell| {
+        && row.cells().as_slice().len() == 2
+        && row.cells().as_slice().first().is_some_and(|cell| {
             cell.as_str() == "1582-10-15" && cell.as_bytes().len() == 10
         })
         && row.is_for(setup)
@@ -67,7 +67,7 @@ fn rows_tell_their_parts_and_are_small(rt: HostRuntime) -> Result<(), Fail> {
     let last = Entry::new(1_000_000, fields_of(["", "Julian", "1582-10-05"])?).ok_or("no entry")?;
     let row = row_of(last, &setup);
     assert!(rt; tells_its_parts(&row, &setup, &other));
-    assert!(rt; size_of::<Entry>() == 216 && size_of::<Row>() == 504);
+    assert!(rt; size_of::<Entry>() == 216 && size_of::<Row>() == 544);
     Ok(())
 }
 

@@ -1,12 +1,13 @@
 use Rattle.std.proofs.Common.{◌≡◌, ◌≤◌, ◌++◌, ◌∷◌, [], codes, map, take}
 use Rattle.date_texts.specs.Calendars.{target_name}
-use Rattle.register_records.specs.LineViews.{Begins, entry_heading, line_bytes, line_capacity, line_delimiter}
+use Rattle.register_records.specs.Columns.{entry_columns, entry_name}
+use Rattle.register_records.specs.LineViews.{Begins, line_bytes, line_capacity, line_delimiter}
 use Rattle.register_records.proofs.row_lines.make_heading.Given as goal
 
 abbrev pub invariant-targets : goal.invariant-targets
 invariant-targets l =
     record {
-      begun : Begins (line_bytes l.fn.lines) ((entry_heading l.fn.form ++ (codes "rd" ∷ codes "weekday" ∷ []))
+      begun : Begins (line_bytes l.fn.lines) ((map entry_name (entry_columns l.fn.form) ++ (codes "rd" ∷ codes "weekday" ∷ []))
           ++ map target_name (take l.target-index l.targets)) l.lines;
       kept : line_delimiter l.lines ≡ line_delimiter l.fn.lines;
       capacity : line_capacity l.fn.lines ≤ line_capacity l.lines;

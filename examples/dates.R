@@ -1,5 +1,5 @@
 records <- data.frame(
-  id = c("007", "NA", "Zoë"), calendar = c("julian", "gregorian", "french"),
+  id = c("007", "NA", "C-6"), calendar = c("julian", "gregorian", "french"),
   date = c("1700-02-29", "1700-02-29", "2-4-15")
 )
 write.csv(records, "records.csv", row.names = FALSE, fileEncoding = "UTF-8")

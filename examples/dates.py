@@ -2,7 +2,7 @@ import io, subprocess
 import pandas as pd
 
 records = pd.DataFrame(
-    [["007", "julian", "1700-02-29"], ["NA", "gregorian", "1700-02-29"], ["Zoë", "french", "2-4-15"]],
+    [["007", "julian", "1700-02-29"], ["NA", "gregorian", "1700-02-29"], ["C-6", "french", "2-4-15"]],
     columns=["id", "calendar", "date"],
 )
 run = subprocess.run(

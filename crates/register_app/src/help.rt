@@ -56,8 +56,9 @@ Options:
     --delimiter WORD  what stands between two fields, in text and table:
                       comma, semicolon or tab. Without it: comma.
     --sealed          break off where records were lost: the last line is
-                      END,N, with the number N of the records. The header
-                      is id,calendar,date,note, and the table has a column
+                      END,N, with the number N of the records; write it
+                      after the export from a spreadsheet. The header is
+                      id,calendar,date,note, and the table has a column
                       note. Without it: no note and no such line.
     --summary         report on standard error, for each whole table, its
                       rows and how many were refused by each number.

@@ -11,10 +11,9 @@ const LOOKS: u32 = 8;
 /// a busy loop 4000, a tick of the system's clock.
 const LONG_YIELD: u64 = 2500;
 
-/// How many naps follow when others are seen to be at work, the first time and at most. Each time doubles them, and
-/// each short yield takes one off: a single stray long yield costs little, and beside others that stay the thread seldom
-/// tries a yield. So many of the shortest naps take 1 and 55 milliseconds.
-const FEWEST_NAPS: u32 = 16;
+/// How many naps follow at most when others are seen to be at work. Each time doubles them, and each short yield takes
+/// one off: a single stray long yield costs little, and beside others that stay the thread seldom tries a yield. So many
+/// of the shortest naps take 55 milliseconds.
 const MOST_NAPS: u32 = 1024;
 
 /// A wait of more microseconds is one for something outside, as a slow source: the threads of a run answer one another
@@ -33,10 +32,11 @@ const MANY_SOURCES: usize = 5;
 /// How a thread tells that others are at work, and how long it naps then.
 #[derive(Clone, Copy, Debug)]
 struct Manner {
-    // How many long yields in a row say so.
+    // How many long yields in a row say so. Behind the naps one more is enough.
     long_yields: u32,
-    // A nap in microseconds.
+    // A nap in microseconds, and how many follow the first time.
     nap: u64,
+    fewest_naps: u32,
 }
 
 /// With few threads of one's own, a long yield let somebody else go first. The shortest nap, which the system makes
@@ -44,13 +44,15 @@ struct Manner {
 const FEW: Manner = Manner {
     long_yields: 1,
     nap: 1,
+    fewest_naps: 16,
 };
 
-/// With many, one's own threads make a yield long now and then, but seldom three in a row; and short naps of so many
-/// threads would take the processors from those that have something to do.
+/// With many, one's own threads make a yield long now and then, but seldom three in a row. Short naps of so many threads
+/// would take the processors from those that have something to do, and a few naps would not be felt.
 const MANY: Manner = Manner {
     long_yields: 3,
     nap: 100,
+    fewest_naps: 128,
 };
 
 /// What a thread that waits does between two looks, kept from one wait to the next.
@@ -77,13 +79,14 @@ pub struct Patience {
 impl Patience {
     /// For the threads of a run with so many sources.
     pub fn for_sources(sources: usize) -> Patience {
+        let manner = if sources < MANY_SOURCES { FEW } else { MANY };
         Patience {
-            manner: if sources < MANY_SOURCES { FEW } else { MANY },
+            manner,
             looks: 0,
             since: None,
             long_yields: 0,
             naps: 0,
-            next_naps: FEWEST_NAPS,
+            next_naps: manner.fewest_naps,
         }
     }
 
@@ -118,7 +121,10 @@ impl Patience {
         };
         let waited = now.duration_since(*self.since.get_or_insert(now));
         if waited > Duration::from_micros(LONG_WAIT) {
-            thread::sleep(clock, (waited / PART_OF_A_WAIT).min(Duration::from_micros(LONGEST_SLEEP)));
+            thread::sleep(
+                clock,
+                (waited / PART_OF_A_WAIT).min(Duration::from_micros(LONGEST_SLEEP)),
+            );
         } else {
             self.give_way(clock, now);
         }
@@ -127,14 +133,18 @@ impl Patience {
     // Yields, and goes by how long that took.
     fn give_way(&mut self, clock: &impl Clock, begun: Instant) {
         thread::yield_now();
-        if !begun.elapsed(clock).is_ok_and(|took| took > Duration::from_micros(LONG_YIELD)) {
+        if !begun
+            .elapsed(clock)
+            .is_ok_and(|took| took > Duration::from_micros(LONG_YIELD))
+        {
             self.long_yields = 0;
-            self.next_naps = self.next_naps.saturating_sub(1).max(FEWEST_NAPS);
-            return;
-        }
-        self.long_yields = self.long_yields.saturating_add(1);
-        if self.long_yields >= self.manner.long_yields {
-            self.long_yields = 0;
+            self.next_naps = self
+                .next_naps
+                .saturating_sub(1)
+                .max(self.manner.fewest_naps);
+        } else if self.long_yields + 1 < self.manner.long_yields {
+            self.long_yields += 1;
+        } else {
             self.naps = self.next_naps;
             self.next_naps = self.next_naps.saturating_mul(2).min(MOST_NAPS);
         }

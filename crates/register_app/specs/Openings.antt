@@ -25,11 +25,10 @@ abbrev pub AreMade : {W : Type 0} → (List ℕ → ℕ → W → Type 0) → Li
 AreMade IsMade files outputs = AreMatched (λ i file output. IsMade (file ++ codes ".out.csv") (i + 1) output) files
     outputs
 
--- the name of each file's output was told apart from that of each file
+-- the name of each file's output was told apart from the file's own
 abbrev pub AreNotSources : (List ℕ → List ℕ → Type 0) → List (List ℕ) → Type 0
 AreNotSources AreApart files =
-    (i j : ℕ) (file source : List ℕ) → slice_get files i ≡ Some file → slice_get files j ≡ Some source
-    → AreApart source (file ++ codes ".out.csv")
+    (i : ℕ) (file : List ℕ) → slice_get files i ≡ Some file → AreApart file (file ++ codes ".out.csv")
 
 -- the names of any two outputs were told apart
 abbrev pub AreTwoFiles : (List ℕ → List ℕ → Type 0) → List (List ℕ) → Type 0

@@ -51,19 +51,6 @@ fn open_sources<'a, R: Drop, W: Output, P: Places<R, W>>(
     Ok(sources)
 }
 
-/// Whether an output's name is that of one of these files.
-fn is_source<R, W: Output, P: Places<R, W>>(places: &P, files: &[&str], name: &str) -> bool
-    ensures { result ≡ false → (k : ℕ) (file : List ℕ) → slice_get (map (λ f. f.now) files.now) k ≡ Some file
-        → P.are_apart places.now file name.now }
-{
-    'files: for &file in files {
-        if places.are_one_file(file, name) {
-            return true;
-        }
-    }
-    false
-}
-
 /// Whether an output's name is that of a file that another output goes to.
 fn is_taken<R, W: Output, P: Places<R, W>>(places: &P, names: &[String], name: &str) -> bool
     ensures { result ≡ false → (k : ℕ) (other : List ℕ) → slice_get (map string_bytes names.now) k ≡ Some other
@@ -77,7 +64,7 @@ fn is_taken<R, W: Output, P: Places<R, W>>(places: &P, names: &[String], name: &
     false
 }
 
-/// Refuses the first file whose output would go to one of the files themselves and empty it.
+/// Refuses the first file whose output would go to the file itself and empty it, as where it is a link to it.
 fn keep_sources<'a, R, W: Output, P: Places<R, W>>(
     alloc: Global,
     places: &P,
@@ -90,7 +77,7 @@ fn keep_sources<'a, R, W: Output, P: Places<R, W>>(
         let Ok(name) = output_name(alloc, file) else {
             return Err(Refusal::OutOfMemory);
         };
-        if is_source(places, files, name.as_str()) {
+        if places.are_one_file(file, name.as_str()) {
             return Err(Refusal::CannotMake(file));
         }
     }
@@ -135,8 +122,8 @@ fn make_outputs<'a, R, W: Output + Drop, P: Places<R, W>>(
 /// # Errors
 ///
 /// `CannotOpen` for the first file that cannot be opened, before any output is made; `CannotMake` for the first whose
-/// output would go to one of the files, before any output is made too, or else for the first whose output cannot be
-/// made or goes to the file of an earlier one; `OutOfMemory` where a growth of memory was refused.
+/// output would go to the file itself, before any output is made too, or else for the first whose output cannot be made
+/// or goes to the file of an earlier one; `OutOfMemory` where a growth of memory was refused.
 pub fn open_files<'a, R: Drop, W: Output + Drop, P: Places<R, W>>(
     alloc: Global,
     places: &P,

@@ -152,7 +152,7 @@ const FILES: [FilesCase; 14] = [
         tables: &[],
         errors: b"register: cannot make a_linked.csv.out.csv\n",
     },
-    // A table that is a register: before any table is made, `c.csv.out.csv` among them, which cannot be.
+    // A table that is its own register: before any table is made, `c.csv.out.csv` among them, which cannot be.
     FilesCase {
         words: &["c.csv", "own.csv"],
         status: 3,

@@ -142,9 +142,12 @@ impl Patience {
                 .next_naps
                 .saturating_sub(1)
                 .max(self.manner.fewest_naps);
-        } else if self.long_yields + 1 < self.manner.long_yields {
-            self.long_yields += 1;
-        } else {
+            return;
+        }
+        self.long_yields = self.long_yields.saturating_add(1);
+        if self.long_yields >= self.manner.long_yields {
+            // One more is enough behind the naps.
+            self.long_yields = self.manner.long_yields.saturating_sub(1);
             self.naps = self.next_naps;
             self.next_naps = self.next_naps.saturating_mul(2).min(MOST_NAPS);
         }

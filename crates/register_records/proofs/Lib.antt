@@ -1,3 +1,10 @@
+-- Which file serves which public clause:
+--   RecordsLeft, FieldFacts, HeaderFacts, SealFacts, EntrySteps, StepFacts: `gives`, `number` and `all` of
+--     `EntryReader::next`. GivenFacts: what it has given.
+--   CellFacts, OutcomeFacts: that a row is the row of its entry, for `convert`.
+--   AnswerFacts, LineFacts, BareFacts: that a line is the fields of its row, for `put`, `add` and `open` of `RowWriter`.
+--   Progress: `whole`, `numbers` and `part` of `convert_source`.
+--   OneTable, ReadBack, NoLoss, OneFate: the laws `one_table`, `cells_read_back`, `no_loss_is_sealed`, `one_fate`.
 pub mod FieldFacts
 pub mod SealFacts
 pub mod HeaderFacts

@@ -36,6 +36,10 @@ pub value_at : {F A : Type 0} (v : F → A) (files : List F) (n : ℕ) (d : F) �
     → slice_get (map v files) n ≡ Some (v (get_or files n d))
 value_at v files n d lt = slice_get-map v files n ∙ ap (option_map v) (slice_get-get_or files n d lt)
 
+-- a name that is apart from another one under which it is known
+pub apart_by : {X : Type 0} (Apart : X → X → Type 0) (one name known : X) → name ≡ known → Apart one name → Apart one known
+apart_by Apart one name known same apart = subst (λ n. Apart one n) same apart
+
 -- this holds of any two items before place n, the earlier one first
 abbrev pub HoldOfPairs : {X : Type 0} → (X → X → Type 0) → List X → ℕ → Type 0
 HoldOfPairs {X} R xs n =

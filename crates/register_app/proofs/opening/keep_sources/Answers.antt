@@ -1,6 +1,6 @@
-use Rattle.std.proofs.Common.{◌≡◌, ◌++◌, ◌∙◌, arith, codes, map, subst}
+use Rattle.std.proofs.Common.{◌≡◌, ◌++◌, ◌∙◌, arith, codes, map}
 use Rattle.std.proofs.lemmas.List.{length-map}
-use Rattle.register_app.proofs.ApartFacts.{all_before, none_before, one_before, value_at}
+use Rattle.register_app.proofs.ApartFacts.{all_before, apart_by, none_before, one_before, value_at}
 use Rattle.register_app.proofs.opening.keep_sources.Goals as goal
 
 pub files-init : goal.files-init
@@ -12,7 +12,7 @@ files-preserved g c =
     one_before (λ file. g.P.Places.are_apart c.args.places.now file (file ++ codes ".out.csv"))
     (map (λ f. f.now) c.args.files.now) c.files.file-index _ c.files.invariant
     (value_at (λ f. f.now) c.args.files.now c.files.file-index _ c.files-test.true)
-    (subst (λ name. g.P.Places.are_apart c.args.places.now _ name) (c.as_str.ensures.value ∙ c.in-Ok.ensures)
+    (apart_by (g.P.Places.are_apart c.args.places.now) _ _ _ (c.as_str.ensures.value ∙ c.in-Ok.ensures)
     (c.are_one_file.ensures c.if-are_one_file.false))
 
 pub returns-clause-kept : goal.returns-clause-kept

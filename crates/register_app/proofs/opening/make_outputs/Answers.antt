@@ -29,7 +29,7 @@ files-preserved g c =
     let place = c.files.invariant.0 in (
       ap (λ n. n + 1) place,
       so_far_more (λ i file output. IsNewlyMade g.W.Output.contents g.W.Output.has_failed g.W.Output.own_mark
-      (g.P.Places.is_made c.args.places.now) (file ++ codes ".out.csv") (i + 1) output)
+          (g.P.Places.is_made c.args.places.now) (file ++ codes ".out.csv") (i + 1) output)
           (λ f. f.now) c.args.files.now c.files.outputs.items c.push.new.self.items
           c.files.file-index _ c.in-Ok-make.output c.files.invariant.1 c.files-test.true
           (made_as (λ text mark output. IsNewlyMade g.W.Output.contents g.W.Output.has_failed g.W.Output.own_mark

@@ -59,7 +59,9 @@ fn start_all<
         let Some(output) = rest.next() else {
             unreachable!()
         };
-        stations.push_reserved(Station::start(scope, rt, gate, alloc, patience, setup, source, output));
+        stations.push_reserved(Station::start(
+            scope, rt, gate, alloc, patience, setup, source, output,
+        ));
     }
     stations
 }

@@ -11,9 +11,14 @@ const LOOKS: u32 = 8;
 /// a busy loop 4000, a tick of the system's clock.
 const LONG_YIELD: u64 = 2500;
 
-/// How many naps follow at most when others are seen to be at work. Each time doubles them, and each short yield takes
-/// one off: a single stray long yield costs little, and beside others that stay the thread seldom tries a yield. So many
-/// of the shortest naps take 55 milliseconds.
+/// How many signs a long yield gives that others are at work. A short yield takes one sign away.
+const SIGNS_OF_A_LONG_YIELD: u32 = 2;
+
+/// How many naps follow when there are enough signs, the first time and at most. Each time doubles them, and each short
+/// yield takes one off: a single stray long yield costs little, and beside others that stay the thread seldom tries a
+/// yield. So many of the shortest naps take 1 and 55 milliseconds.
+const FEWEST_NAPS: u32 = 16;
+
 const MOST_NAPS: u32 = 1024;
 
 /// A wait of more microseconds is one for something outside, as a slow source: the threads of a run answer one another
@@ -32,34 +37,26 @@ const MANY_SOURCES: usize = 5;
 /// How a thread tells that others are at work, and how long it naps then.
 #[derive(Clone, Copy, Debug)]
 struct Manner {
-    // How many long yields in a row say so. Behind the naps one more is enough.
-    long_yields: u32,
-    // A nap in microseconds, and how many follow the first time.
+    // How many signs are enough.
+    signs: u32,
+    // A nap in microseconds.
     nap: u64,
-    fewest_naps: u32,
 }
 
 /// With few threads of one's own, a long yield let somebody else go first. The shortest nap, which the system makes
 /// some 55 microseconds, loses the least.
-const FEW: Manner = Manner {
-    long_yields: 1,
-    nap: 1,
-    fewest_naps: 16,
-};
+const FEW: Manner = Manner { signs: 2, nap: 1 };
 
-/// With many, one's own threads make a yield long now and then, but seldom three in a row. Short naps of so many threads
-/// would take the processors from those that have something to do, and a few naps would not be felt.
-const MANY: Manner = Manner {
-    long_yields: 3,
-    nap: 100,
-    fewest_naps: 128,
-};
+/// With many, one's own threads make a yield long now and then, but seldom three in a row; beside a busy loop more than
+/// half of all yields are long. Short naps of so many threads would take the processors from those that have something
+/// to do.
+const MANY: Manner = Manner { signs: 6, nap: 100 };
 
 /// What a thread that waits does between two looks, kept from one wait to the next.
 ///
-/// It looks again at once for a short while, and then yields the processor between looks. Where a yield took long,
-/// others are at work, who go before a thread that yields, but not before one that wakes: so it naps between its next
-/// looks, and then tries a yield again. Where nothing comes for long, it sleeps, for longer the longer it has waited, up
+/// It looks again at once for a short while, and then yields the processor between looks. Where yields take long, others
+/// are at work, who go before a thread that yields, but not before one that wakes: so it naps between its next looks,
+/// and then tries a yield again. Where nothing comes for long, it sleeps, for longer the longer it has waited, up
 /// to a millisecond. Each thread goes by its own yields and waits alone. A clock that cannot be read, or that stands
 /// still, shows neither, and the thread yields.
 #[derive(Clone, Copy, Debug)]
@@ -69,8 +66,8 @@ pub struct Patience {
     looks: u32,
     // When this wait came to its first yield.
     since: Option<Instant>,
-    // The long yields in a row.
-    long_yields: u32,
+    // The signs that others are at work.
+    signs: u32,
     // The naps that are left, and how many come next time.
     naps: u32,
     next_naps: u32,
@@ -79,14 +76,13 @@ pub struct Patience {
 impl Patience {
     /// For the threads of a run with so many sources.
     pub fn for_sources(sources: usize) -> Patience {
-        let manner = if sources < MANY_SOURCES { FEW } else { MANY };
         Patience {
-            manner,
+            manner: if sources < MANY_SOURCES { FEW } else { MANY },
             looks: 0,
             since: None,
-            long_yields: 0,
+            signs: 0,
             naps: 0,
-            next_naps: manner.fewest_naps,
+            next_naps: FEWEST_NAPS,
         }
     }
 
@@ -137,17 +133,13 @@ impl Patience {
             .elapsed(clock)
             .is_ok_and(|took| took > Duration::from_micros(LONG_YIELD))
         {
-            self.long_yields = 0;
-            self.next_naps = self
-                .next_naps
-                .saturating_sub(1)
-                .max(self.manner.fewest_naps);
+            self.signs = self.signs.saturating_sub(1);
+            self.next_naps = self.next_naps.saturating_sub(1).max(FEWEST_NAPS);
             return;
         }
-        self.long_yields = self.long_yields.saturating_add(1);
-        if self.long_yields >= self.manner.long_yields {
-            // One more is enough behind the naps.
-            self.long_yields = self.manner.long_yields.saturating_sub(1);
+        self.signs = self.signs.saturating_add(SIGNS_OF_A_LONG_YIELD);
+        if self.signs >= self.manner.signs {
+            self.signs = 0;
             self.naps = self.next_naps;
             self.next_naps = self.next_naps.saturating_mul(2).min(MOST_NAPS);
         }

@@ -101,14 +101,13 @@ fn naps_after_a_long_yield() -> bool {
         && clock.rest(&mut patience, 1) == (1, 1000)
 }
 
-// Whether, with many, three long yields in a row are needed, and 128 longer naps follow. Behind these one more long yield
-// is enough, and 256 naps follow.
+// Whether, with many, three long yields in a row are needed, and 16 longer naps follow, and the next time 32.
 fn naps_longer_beside_many() -> bool {
     let clock = StepClock::new(Step::Forward(3000));
     let mut patience = Patience::for_sources(5);
     let mut napped = true;
-    for (yields, naps) in [(3, 128), (1, 256)] {
-        for _ in 0..yields {
+    for naps in [16, 32] {
+        for _ in 0..3 {
             patience.renew();
             napped &= clock.rest(&mut patience, 1) == (0, 0);
         }

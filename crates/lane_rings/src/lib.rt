@@ -36,8 +36,8 @@ pub fn lane<T: Drop>(alloc: Global, capacity: usize) -> Result<(Sender<T>, Recei
     patient_lane(alloc, capacity, Patience::for_run(1, 1))
 }
 
-/// A lane as [`lane`] makes it, whose sender waits with this patience, and whose receiver with that of a thread one lane
-/// further.
+/// A lane as [`lane`] makes it, whose sender waits with this patience, and whose receiver with that of a thread one
+/// lane further.
 ///
 /// # Errors
 ///

@@ -7,8 +7,8 @@ use std::{hint, thread};
 /// longer for an item or two.
 const LOOKS: u32 = 8;
 
-/// A yield of more microseconds let others go first: while nobody else is at work it takes some microseconds, and beside
-/// a busy loop 4000, a tick of the system's clock.
+/// A yield of more microseconds let others go first: while nobody else is at work it takes some microseconds, and
+/// beside a busy loop 4000, a tick of the system's clock.
 const LONG_YIELD: u64 = 2500;
 
 /// Where this process had less than this share of the processors, seven parts of eight, others are at work. The threads
@@ -34,9 +34,9 @@ const LONG_NAP: u64 = 100;
 /// From this many sources on a run has many more threads than a machine has processors.
 const MANY_SOURCES: usize = 5;
 
-/// By how many microseconds a nap is longer one lane further from the reader, where threads share processors. The system
-/// ends naps that end near one another together, and the one that is due first runs first: so the threads run in the
-/// order of their lanes, and each finds what the one before it has left.
+/// By how many microseconds a nap is longer one lane further from the reader, where threads share processors. The
+/// system ends naps that end near one another together, and the one that is due first runs first: so the threads run in
+/// the order of their lanes, and each finds what the one before it has left.
 const LONGER_BY_A_LANE: u64 = 15;
 
 /// With so many processors the reader, a converter and the thread that writes have one each.

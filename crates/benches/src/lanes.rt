@@ -15,7 +15,7 @@ use std::alloc::Global;
 use std::io;
 use std::sync::Wait;
 use std::thread::Threads;
-use std::time::Clock;
+use std::time::{Clock, CpuClock};
 
 /// Moved where no number is given.
 const FEW: u64 = 4096;
@@ -24,7 +24,7 @@ const FEW: u64 = 4096;
 const ROW: usize = 72;
 
 /// `false` where there was no memory or no thread.
-fn move_all<R: Threads + Wait + Sync + Clock + Print, T: Copy + Send>(
+fn move_all<R: Threads + Wait + Sync + Clock + CpuClock + Print, T: Copy + Send>(
     rt: &R,
     alloc: Global,
     capacity: usize,
@@ -57,7 +57,7 @@ fn move_all<R: Threads + Wait + Sync + Clock + Print, T: Copy + Send>(
 
 /// Moves so many items; where there is no number a few are moved and no times are printed. `false` where there was no
 /// memory or no thread.
-pub(crate) fn measure_lanes<R: Threads + Wait + Sync + Clock + Print>(
+pub(crate) fn measure_lanes<R: Threads + Wait + Sync + Clock + CpuClock + Print>(
     rt: &R,
     alloc: Global,
     items: Option<u64>,

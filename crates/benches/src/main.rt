@@ -30,13 +30,16 @@ use std::alloc::Global;
 use std::rt::Files;
 use std::sync::Wait;
 use std::thread::Threads;
-use std::time::Clock;
+use std::time::{Clock, CpuClock};
 use std::{env, fs, io};
 use stress::stress;
 use texts::measure_texts;
 
 /// Runs every part for a moment.
-fn run_all<R: Threads + Wait + Sync + Clock + Print>(rt: &R, alloc: Global) -> io::Result<bool> {
+fn run_all<R: Threads + Wait + Sync + Clock + CpuClock + Print>(
+    rt: &R,
+    alloc: Global,
+) -> io::Result<bool> {
     measure_calendars(rt, alloc, None)?;
     println!(rt; "every calendar measured")?;
     measure_texts(rt, alloc, None)?;
@@ -69,7 +72,7 @@ fn make<R: Files>(rt: &R, alloc: Global, kind: &str, count: &str, to: &str) -> i
 }
 
 /// Does what the words ask for.
-fn run<R: Threads + Wait + Sync + Files + Clock + Print>(
+fn run<R: Threads + Wait + Sync + Files + Clock + CpuClock + Print>(
     rt: &R,
     alloc: Global,
     words: &[&str],

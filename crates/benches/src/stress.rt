@@ -15,7 +15,7 @@ use std::alloc::Global;
 use std::io;
 use std::sync::Wait;
 use std::thread::Threads;
-use std::time::{Clock, Instant};
+use std::time::{Clock, CpuClock, Instant};
 use streams::{Paper, Pieces};
 use texts::random_register;
 
@@ -151,7 +151,7 @@ fn random_plans(alloc: Global, random: &mut Random, form: Form) -> io::Result<Ve
 }
 
 /// Converts sources of one seed both ways. The answer is how many sources there were, or none where two differ.
-fn compare<R: Threads + Wait + Clock + Sync + Print>(
+fn compare<R: Threads + Wait + Clock + CpuClock + Sync + Print>(
     rt: &R,
     alloc: Global,
     seed: u64,
@@ -193,7 +193,7 @@ fn compare<R: Threads + Wait + Clock + Sync + Print>(
 
 /// Runs with this seed and those after it, for so many seconds, and stops at the first difference. Where there are no
 /// seconds it runs once and prints nothing.
-pub(crate) fn stress<R: Threads + Wait + Sync + Clock + Print>(
+pub(crate) fn stress<R: Threads + Wait + Sync + Clock + CpuClock + Print>(
     rt: &R,
     alloc: Global,
     seed: u64,

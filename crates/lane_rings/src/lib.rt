@@ -21,7 +21,8 @@ pub use sender::{Closed, Sender};
 use std::alloc::{AllocError, Global};
 pub use wait::Patience;
 
-/// A lane with room for `capacity` items, from 1 to 4096, for a run of one source. It takes all its memory here.
+/// A lane with room for `capacity` items, from 1 to 4096, for a run of one source on one processor. It takes all its
+/// memory here.
 ///
 /// # Errors
 ///
@@ -32,10 +33,11 @@ pub fn lane<T: Drop>(alloc: Global, capacity: usize) -> Result<(Sender<T>, Recei
     ensures capacity { IfOk result (λ ends. lane_capacity (sender_lane ends.0) ≡ capacity) }
     ensures empty { IfOk result (λ ends. (sent ends.0 ≡ []) × (taken ends.1 ≡ [])) }
 {
-    patient_lane(alloc, capacity, Patience::for_sources(1))
+    patient_lane(alloc, capacity, Patience::for_run(1, 1))
 }
 
-/// A lane as [`lane`] makes it, both ends of which wait with this patience.
+/// A lane as [`lane`] makes it, whose sender waits with this patience, and whose receiver with that of a thread one
+/// lane further.
 ///
 /// # Errors
 ///
@@ -56,7 +58,7 @@ pub fn patient_lane<T: Drop>(
         Receiver {
             consumer,
             last: None,
-            patience,
+            patience: patience.a_lane_further(),
         },
     ))
 }

@@ -7,7 +7,7 @@ use crate::sender::Closed;
 use crate::wait::Patience;
 use rtrb::Consumer;
 use std::sync::Wait;
-use std::time::Clock;
+use std::time::{Clock, CpuClock};
 
 /// The end of a lane that takes. It can move to another thread.
 #[derive(Drop)]
@@ -65,7 +65,7 @@ impl<T> Receiver<T> {
     /// Waits for the next item and takes it.
     ///
     /// While nothing is there it waits as [`Patience`] does. It answers `Gone` where `try_take` does.
-    pub fn take(&mut self, rt: &(impl Wait + Clock)) -> Result<Item<T>, Gone<()>>
+    pub fn take(&mut self, rt: &(impl Wait + Clock + CpuClock)) -> Result<Item<T>, Gone<()>>
         ensures lane { receiver_lane self.new ≡ receiver_lane self.old }
         ensures ok { IfOk result (λ item. taken self.new ≡ taken self.old ++ item ∷ []) }
         ensures gone { OnErr result (taken self.new ≡ taken self.old) }
@@ -78,7 +78,7 @@ impl<T> Receiver<T> {
     /// takes it.
     ///
     /// It waits as `take` does, and answers `Gone` where `try_take` does.
-    pub fn wait(&mut self, rt: &(impl Wait + Clock)) -> Result<(), Gone<()>>
+    pub fn wait(&mut self, rt: &(impl Wait + Clock + CpuClock)) -> Result<(), Gone<()>>
         ensures lane { receiver_lane self.new ≡ receiver_lane self.old }
         ensures taken { taken self.new ≡ taken self.old }
         ensures waiting { IsPrefix (waiting self.old) (waiting self.new) }

@@ -2,7 +2,7 @@ use crate::item::{Gone, Item};
 use crate::wait::Patience;
 use rtrb::{Finished, Producer};
 use std::sync::Wait;
-use std::time::Clock;
+use std::time::{Clock, CpuClock};
 
 /// The end of a lane that sends. It can move to another thread.
 #[derive(Drop)]
@@ -28,7 +28,7 @@ impl<T> Sender<T> {
     ///
     /// While the ring is full it waits as [`Patience`] does. Where the receiver was dropped it answers `Gone` with the
     /// item, also where the ring has room.
-    pub fn send(&mut self, rt: &(impl Wait + Clock), item: T) -> Result<(), Gone<T>>
+    pub fn send(&mut self, rt: &(impl Wait + Clock + CpuClock), item: T) -> Result<(), Gone<T>>
         ensures lane { sender_lane self.new ≡ sender_lane self.old }
         ensures ok { OnOk result (sent self.new ≡ sent self.old ++ Entry item ∷ []) }
         ensures gone { IfErr result (λ g. (g.value ≡ item) × (sent self.new ≡ sent self.old)) }
@@ -41,7 +41,7 @@ impl<T> Sender<T> {
     }
 
     // Waits for a free slot. `false` where the receiver was dropped.
-    fn wait_for_room(&mut self, rt: &(impl Wait + Clock)) -> bool
+    fn wait_for_room(&mut self, rt: &(impl Wait + Clock + CpuClock)) -> bool
         ensures lane { sender_lane self.new ≡ sender_lane self.old }
         ensures unsent { sent self.new ≡ sent self.old }
         ensures room { IsTrue result → 0 < known_free self.new.producer }
@@ -68,7 +68,7 @@ impl<T: Drop> Sender<T> {
     /// Waits for room and ends the lane: `count` goes with the end, and nothing follows it.
     ///
     /// It waits as `send` does. Where the receiver was dropped the answer has no confirmation.
-    pub fn close(self, rt: &(impl Wait + Clock), count: u64) -> Closed<T>
+    pub fn close(self, rt: &(impl Wait + Clock + CpuClock), count: u64) -> Closed<T>
         ensures lane { HasConfirmation result → closed_lane result ≡ Some (sender_lane self) }
         ensures sent { HasConfirmation result → all_sent result ≡ sent self ++ End count ∷ [] }
     {
@@ -78,7 +78,7 @@ impl<T: Drop> Sender<T> {
     /// Waits for room and ends the lane of a sender that gives up: nothing follows.
     ///
     /// It waits as `send` does. Where the receiver was dropped the answer has no confirmation.
-    pub fn stop(self, rt: &(impl Wait + Clock)) -> Closed<T>
+    pub fn stop(self, rt: &(impl Wait + Clock + CpuClock)) -> Closed<T>
         ensures lane { HasConfirmation result → closed_lane result ≡ Some (sender_lane self) }
         ensures sent { HasConfirmation result → all_sent result ≡ sent self ++ Stop ∷ [] }
     {
@@ -86,7 +86,7 @@ impl<T: Drop> Sender<T> {
     }
 
     // Sends the last item.
-    fn finish(self, rt: &(impl Wait + Clock), last: Item<T>) -> Closed<T>
+    fn finish(self, rt: &(impl Wait + Clock + CpuClock), last: Item<T>) -> Closed<T>
         ensures lane { HasConfirmation result → closed_lane result ≡ Some (sender_lane self) }
         ensures sent { HasConfirmation result → all_sent result ≡ sent self ++ last ∷ [] }
     {

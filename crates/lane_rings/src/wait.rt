@@ -1,25 +1,46 @@
 //! How a thread waits for another one.
 
-use std::time::{Clock, Duration, Instant};
+use std::time::{Clock, CpuClock, Duration, Instant};
 use std::{hint, thread};
 
 /// How often a thread looks again at once before it begins to yield: on another processor the other thread needs no
 /// longer for an item or two.
 const LOOKS: u32 = 8;
 
-/// A yield of more microseconds let others go first: while nobody else is at work it takes some microseconds, and beside
-/// a busy loop 4000, a tick of the system's clock.
+/// A yield of more microseconds let others go first: while nobody else is at work it takes some microseconds, and
+/// beside a busy loop 4000, a tick of the system's clock.
 const LONG_YIELD: u64 = 2500;
 
-/// How many signs a long yield gives that others are at work. A short yield takes one sign away.
-const SIGNS_OF_A_LONG_YIELD: u32 = 2;
+/// Where this process had less than this share of the processors, seven parts of eight, others are at work. The threads
+/// of a run that is alone make a yield long too, now and then, but only where they fill the processors themselves.
+const SHARE_OF_ONE_ALONE: u32 = 7;
 
-/// How many naps follow when there are enough signs, the first time and at most. Each time doubles them, and each short
+const PARTS_OF_A_SHARE: u32 = 8;
+
+/// How many naps follow where others are at work, the first time and at most. Each time doubles them, and each short
 /// yield takes one off: a single stray long yield costs little, and beside others that stay the thread seldom tries a
 /// yield. So many of the shortest naps take 1 and 55 milliseconds.
 const FEWEST_NAPS: u32 = 16;
 
 const MOST_NAPS: u32 = 1024;
+
+/// A nap in microseconds where a run has few sources: the shortest, which the system makes some 55, loses the least.
+const SHORT_NAP: u64 = 1;
+
+/// A nap in microseconds where it has many: short naps of so many threads would take the processors from those that
+/// have something to do.
+const LONG_NAP: u64 = 100;
+
+/// From this many sources on a run has many more threads than a machine has processors.
+const MANY_SOURCES: usize = 5;
+
+/// By how many microseconds a nap is longer one lane further from the reader, where threads share processors. The
+/// system ends naps that end near one another together, and the one that is due first runs first: so the threads run in
+/// the order of their lanes, and each finds what the one before it has left.
+const LONGER_BY_A_LANE: u64 = 15;
+
+/// With so many processors the reader, a converter and the thread that writes have one each.
+const ONE_FOR_EACH_THREAD: usize = 3;
 
 /// A wait of more microseconds is one for something outside, as a slow source: the threads of a run answer one another
 /// sooner.
@@ -28,61 +49,79 @@ const LONG_WAIT: u64 = 5000;
 /// Such a wait sleeps this part of the time that it has lasted, and so comes late by no more than this part of itself.
 const PART_OF_A_WAIT: u32 = 8;
 
-/// The longest sleep in microseconds, and so the most by which an item comes late.
+/// The longest such sleep in microseconds, and so the most by which an item comes late.
 const LONGEST_SLEEP: u64 = 1000;
 
-/// From this many sources on a run has many more threads than a machine has processors.
-const MANY_SOURCES: usize = 5;
+/// A wait of so many microseconds is a silence: what brings a line each tenth of a second has none.
+const SILENCE: u64 = 250_000;
 
-/// How a thread tells that others are at work, and how long it naps then.
+/// A silence sleeps this part of itself, which begins with what the longest sleep before it was.
+const PART_OF_A_SILENCE: u32 = 256;
+
+/// The longest sleep of a silence in microseconds: with all its threads a run then takes next to no processor time.
+const LONGEST_SLEEP_OF_A_SILENCE: u64 = 10_000;
+
+/// What the clocks showed at the end of a long yield.
 #[derive(Clone, Copy, Debug)]
-struct Manner {
-    // How many signs are enough.
-    signs: u32,
-    // A nap in microseconds.
-    nap: u64,
+struct Reading {
+    time: Instant,
+    // The processor time that the process had used.
+    used: Duration,
 }
-
-/// With few threads of one's own, a long yield let somebody else go first. The shortest nap, which the system makes
-/// some 55 microseconds, loses the least.
-const FEW: Manner = Manner { signs: 2, nap: 1 };
-
-/// With many, one's own threads make a yield long now and then, but seldom three in a row; beside a busy loop more than
-/// half of all yields are long. Short naps of so many threads would take the processors from those that have something
-/// to do.
-const MANY: Manner = Manner { signs: 6, nap: 100 };
 
 /// What a thread that waits does between two looks, kept from one wait to the next.
 ///
-/// It looks again at once for a short while, and then yields the processor between looks. Where yields take long, others
-/// are at work, who go before a thread that yields, but not before one that wakes: so it naps between its next looks,
-/// and then tries a yield again. Where nothing comes for long, it sleeps, for longer the longer it has waited, up
-/// to a millisecond. Each thread goes by its own yields and waits alone. A clock that cannot be read, or that stands
+/// It looks again at once for a short while, and then yields the processor between looks. Where a yield took long, and
+/// this process had less than seven eighths of the processors since the long yield before it, others are at work, who
+/// go before a thread that yields, but not before one that wakes: so it naps between its next looks, and then tries a
+/// yield again. Where nothing comes for long, it sleeps, for longer the longer it has waited, up to a millisecond, and
+/// in a silence up to ten. Each thread goes by its own yields and waits. A clock that cannot be read, or that stands
 /// still, shows neither, and the thread yields.
 #[derive(Clone, Copy, Debug)]
 pub struct Patience {
-    manner: Manner,
+    processors: u32,
+    // A nap in microseconds, and by how much it is longer one lane further.
+    nap: u64,
+    longer: u64,
     // The looks of this wait that were followed by the next one at once.
     looks: u32,
     // When this wait came to its first yield.
     since: Option<Instant>,
-    // The signs that others are at work.
-    signs: u32,
+    // The end of the last long yield.
+    last_long: Option<Reading>,
     // The naps that are left, and how many come next time.
     naps: u32,
     next_naps: u32,
 }
 
 impl Patience {
-    /// For the threads of a run with so many sources.
-    pub fn for_sources(sources: usize) -> Patience {
+    /// For the readers of a run with so many sources, on so many processors.
+    pub fn for_run(sources: usize, processors: usize) -> Patience {
         Patience {
-            manner: if sources < MANY_SOURCES { FEW } else { MANY },
+            processors: u32::try_from(processors).unwrap_or(u32::MAX),
+            nap: if sources < MANY_SOURCES {
+                SHORT_NAP
+            } else {
+                LONG_NAP
+            },
+            longer: if processors < ONE_FOR_EACH_THREAD {
+                LONGER_BY_A_LANE
+            } else {
+                0
+            },
             looks: 0,
             since: None,
-            signs: 0,
+            last_long: None,
             naps: 0,
             next_naps: FEWEST_NAPS,
+        }
+    }
+
+    /// For a thread that is one lane further from the reader.
+    pub fn a_lane_further(self) -> Patience {
+        Patience {
+            nap: self.nap.saturating_add(self.longer),
+            ..self
         }
     }
 
@@ -95,7 +134,7 @@ impl Patience {
 
     /// Lets time pass before the next look: at first none, and then as [`rest`](Self::rest) does.
     #[inline(always)]
-    pub fn pause(&mut self, clock: &impl Clock) {
+    pub fn pause(&mut self, clock: &(impl Clock + CpuClock)) {
         if self.looks < LOOKS {
             self.looks += 1;
             hint::spin_loop();
@@ -105,10 +144,10 @@ impl Patience {
     }
 
     /// Lets others have the processor before the next look.
-    pub fn rest(&mut self, clock: &impl Clock) {
+    pub fn rest(&mut self, clock: &(impl Clock + CpuClock)) {
         if self.naps > 0 {
             self.naps -= 1;
-            thread::sleep(clock, Duration::from_micros(self.manner.nap));
+            thread::sleep(clock, Duration::from_micros(self.nap));
             return;
         }
         let Ok(now) = Instant::now(clock) else {
@@ -117,31 +156,48 @@ impl Patience {
         };
         let waited = now.duration_since(*self.since.get_or_insert(now));
         if waited > Duration::from_micros(LONG_WAIT) {
-            thread::sleep(
-                clock,
-                (waited / PART_OF_A_WAIT).min(Duration::from_micros(LONGEST_SLEEP)),
-            );
+            thread::sleep(clock, sleep_after(waited));
         } else {
             self.give_way(clock, now);
         }
     }
 
     // Yields, and goes by how long that took.
-    fn give_way(&mut self, clock: &impl Clock, begun: Instant) {
+    fn give_way(&mut self, clock: &(impl Clock + CpuClock), begun: Instant) {
         thread::yield_now();
-        if !begun
-            .elapsed(clock)
-            .is_ok_and(|took| took > Duration::from_micros(LONG_YIELD))
-        {
-            self.signs = self.signs.saturating_sub(1);
-            self.next_naps = self.next_naps.saturating_sub(1).max(FEWEST_NAPS);
+        let Ok(now) = Instant::now(clock) else {
             return;
-        }
-        self.signs = self.signs.saturating_add(SIGNS_OF_A_LONG_YIELD);
-        if self.signs >= self.manner.signs {
-            self.signs = 0;
+        };
+        if now.duration_since(begun) <= Duration::from_micros(LONG_YIELD) {
+            self.next_naps = self.next_naps.saturating_sub(1).max(FEWEST_NAPS);
+        } else if self.are_others_at_work(clock, now) {
             self.naps = self.next_naps;
             self.next_naps = self.next_naps.saturating_mul(2).min(MOST_NAPS);
         }
+    }
+
+    // At the end of a long yield: whether others had the processors since the one before it.
+    fn are_others_at_work(&mut self, clock: &impl CpuClock, now: Instant) -> bool {
+        let Ok(used) = clock.process_cpu_time() else {
+            return false;
+        };
+        let Some(last) = self.last_long.replace(Reading { time: now, used }) else {
+            return false;
+        };
+        let own = used.saturating_sub(last.used);
+        let all = now
+            .duration_since(last.time)
+            .saturating_mul(self.processors);
+        !own.is_zero()
+            && own.saturating_mul(PARTS_OF_A_SHARE) < all.saturating_mul(SHARE_OF_ONE_ALONE)
+    }
+}
+
+// The sleep that follows in a long wait that has lasted so long.
+fn sleep_after(waited: Duration) -> Duration {
+    if waited < Duration::from_micros(SILENCE) {
+        (waited / PART_OF_A_WAIT).min(Duration::from_micros(LONGEST_SLEEP))
+    } else {
+        (waited / PART_OF_A_SILENCE).min(Duration::from_micros(LONGEST_SLEEP_OF_A_SILENCE))
     }
 }

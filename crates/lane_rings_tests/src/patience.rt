@@ -4,7 +4,7 @@ use lane_rings::Patience;
 use std::cell::Cell;
 use std::io;
 use std::io::ErrorKind;
-use std::time::{Clock, Duration};
+use std::time::{Clock, CpuClock, Duration};
 
 // What a clock does each time it is read, in microseconds.
 #[derive(Clone, Copy)]
@@ -14,23 +14,54 @@ enum Step {
     Back(u64),
 }
 
-// A clock that keeps how often it was slept by, and the longest of these sleeps in microseconds.
+const HOUR: u64 = 3_600_000_000;
+
+// By readings of the clock that are so far apart each yield is long, and six milliseconds lie between the ends of two.
+const BETWEEN_READINGS: u64 = 3000;
+
+// What a step makes of what a clock shows.
+fn read(step: Step, shown: &Cell<u64>) -> io::Result<Duration> {
+    let now = match step {
+        Step::Fails => return Err(io::Error::from(ErrorKind::Unsupported)),
+        Step::Forward(micros) => shown.get().wrapping_add(micros),
+        Step::Back(micros) => shown.get().wrapping_sub(micros),
+    };
+    shown.set(now);
+    Ok(Duration::from_micros(now))
+}
+
+// The clock and that of the process, and how often the clock was slept by, and the longest of these sleeps in
+// microseconds.
 #[derive(Drop)]
 struct StepClock {
     step: Step,
     now: Cell<u64>,
+    process: Step,
+    used: Cell<u64>,
     sleeps: Cell<u64>,
     longest: Cell<u64>,
 }
 
 impl StepClock {
+    // The process uses next to nothing: others are at work.
     fn new(step: Step) -> StepClock {
+        StepClock::with_process(step, Step::Forward(1))
+    }
+
+    fn with_process(step: Step, process: Step) -> StepClock {
         StepClock {
             step,
-            now: Cell::new(1_000_000_000),
+            now: Cell::new(100 * HOUR),
+            process,
+            used: Cell::new(100 * HOUR),
             sleeps: Cell::new(0),
             longest: Cell::new(0),
         }
+    }
+
+    // By this clock each yield is long.
+    fn of_long_yields(process: Step) -> StepClock {
+        StepClock::with_process(Step::Forward(BETWEEN_READINGS), process)
     }
 
     // Rests so often: the sleeps that came of it, and the longest of them.
@@ -42,17 +73,22 @@ impl StepClock {
         }
         (self.sleeps.get(), self.longest.get())
     }
+
+    // The sleeps of so many waits that rest once each.
+    fn rest_anew(&self, patience: &mut Patience, waits: u32) -> (u64, u64) {
+        self.sleeps.set(0);
+        self.longest.set(0);
+        for _ in 0..waits {
+            patience.renew();
+            patience.rest(self);
+        }
+        (self.sleeps.get(), self.longest.get())
+    }
 }
 
 impl Clock for StepClock {
     fn monotonic(&self) -> io::Result<Duration> {
-        let now = match self.step {
-            Step::Fails => return Err(io::Error::from(ErrorKind::Unsupported)),
-            Step::Forward(micros) => self.now.get().wrapping_add(micros),
-            Step::Back(micros) => self.now.get().wrapping_sub(micros),
-        };
-        self.now.set(now);
-        Ok(Duration::from_micros(now))
+        read(self.step, &self.now)
     }
 
     fn since_1970(&self) -> io::Result<Duration> {
@@ -67,58 +103,167 @@ impl Clock for StepClock {
     }
 }
 
-// Whether a thread never sleeps by such a clock.
+impl CpuClock for StepClock {
+    fn thread_cpu_time(&self) -> io::Result<Duration> {
+        self.process_cpu_time()
+    }
+
+    fn process_cpu_time(&self) -> io::Result<Duration> {
+        read(self.process, &self.used)
+    }
+}
+
+// Whether a thread never sleeps by such a clock, in one wait and in many.
 fn never_sleeps(step: Step) -> bool {
-    let mut patience = Patience::for_sources(1);
-    StepClock::new(step).rest(&mut patience, 1000) == (0, 0)
+    let mut patience = Patience::for_run(1, 4);
+    let clock = StepClock::new(step);
+    clock.rest(&mut patience, 1000) == (0, 0) && clock.rest_anew(&mut patience, 1000) == (0, 0)
 }
 
 #[test]
-fn a_clock_that_shows_no_time_lets_a_thread_yield(rt: HostRuntime) {
+fn a_clock_that_cannot_be_read_lets_a_thread_yield(rt: HostRuntime) {
     assert!(rt; never_sleeps(Step::Fails));
+}
+
+#[test]
+fn a_clock_that_stands_still_lets_a_thread_yield(rt: HostRuntime) {
     assert!(rt; never_sleeps(Step::Forward(0)));
+}
+
+#[test]
+fn a_clock_that_goes_back_lets_a_thread_yield(rt: HostRuntime) {
     assert!(rt; never_sleeps(Step::Back(1000)));
+}
+
+// Whether, by a clock that jumps an hour a reading, the second long yield leads to naps, and a wait that lasted hours
+// to a sleep of ten milliseconds.
+fn naps_and_sleeps_by_jumps() -> bool {
+    let clock = StepClock::new(Step::Forward(HOUR));
+    let mut patience = Patience::for_run(1, 4);
+    clock.rest_anew(&mut patience, 2) == (0, 0)
+        && clock.rest(&mut patience, 16) == (16, 1)
+        && clock.rest(&mut patience, 1) == (1, 10_000)
+}
+
+#[test]
+fn a_clock_that_jumps_makes_a_yield_long_and_a_silence(rt: HostRuntime) {
+    assert!(rt; naps_and_sleeps_by_jumps());
 }
 
 // Whether a wait by a clock that runs a millisecond a reading yields three times, and then sleeps an eighth of the six
 // milliseconds that it has lasted, and a millisecond at most later on; a new wait yields again.
 fn sleeps_longer_in_a_long_wait() -> bool {
     let clock = StepClock::new(Step::Forward(1000));
-    let mut patience = Patience::for_sources(1);
-    let slept = clock.rest(&mut patience, 3) == (0, 0)
+    let mut patience = Patience::for_run(1, 4);
+    clock.rest(&mut patience, 3) == (0, 0)
         && clock.rest(&mut patience, 1) == (1, 750)
-        && clock.rest(&mut patience, 10) == (10, 1000);
-    patience.renew();
-    slept && clock.rest(&mut patience, 1) == (0, 0)
-}
-
-// Whether, with few sources, 16 naps of a microsecond follow a yield of an hour, and then a sleep of a millisecond.
-fn naps_after_a_long_yield() -> bool {
-    let clock = StepClock::new(Step::Forward(3_600_000_000));
-    let mut patience = Patience::for_sources(4);
-    clock.rest(&mut patience, 1) == (0, 0)
-        && clock.rest(&mut patience, 16) == (16, 1)
-        && clock.rest(&mut patience, 1) == (1, 1000)
-}
-
-// Whether, with many, three long yields in a row are needed, and 16 longer naps follow, and the next time 32.
-fn naps_longer_beside_many() -> bool {
-    let clock = StepClock::new(Step::Forward(3000));
-    let mut patience = Patience::for_sources(5);
-    let mut napped = true;
-    for naps in [16, 32] {
-        for _ in 0..3 {
-            patience.renew();
-            napped &= clock.rest(&mut patience, 1) == (0, 0);
-        }
-        napped &= clock.rest(&mut patience, naps) == (u64::from(naps), 100);
-    }
-    napped
+        && clock.rest(&mut patience, 10) == (10, 1000)
+        && clock.rest_anew(&mut patience, 1) == (0, 0)
 }
 
 #[test]
-fn a_thread_sleeps_where_nothing_comes_or_others_are_at_work(rt: HostRuntime) {
+fn a_thread_sleeps_where_nothing_comes(rt: HostRuntime) {
     assert!(rt; sleeps_longer_in_a_long_wait());
-    assert!(rt; naps_after_a_long_yield());
-    assert!(rt; naps_longer_beside_many());
+}
+
+// The sleep of a wait that has lasted so long, 0 where it yields.
+fn sleep_after(waited: u64) -> u64 {
+    let clock = StepClock::new(Step::Forward(0));
+    let mut patience = Patience::for_run(1, 4);
+    clock.rest(&mut patience, 1);
+    clock.now.set(clock.now.get().wrapping_add(waited));
+    clock.rest(&mut patience, 1).1
+}
+
+#[test]
+fn a_long_wait_sleeps_an_eighth_of_itself_up_to_a_millisecond(rt: HostRuntime) {
+    assert!(rt;
+        [5000, 5008, 8000, 100_000, 249_999].map(sleep_after) == [0, 626, 1000, 1000, 1000]
+    );
+}
+
+#[test]
+fn a_silence_sleeps_less_of_itself_up_to_ten_milliseconds(rt: HostRuntime) {
+    assert!(rt;
+        [250_000, 512_000, 1_024_000, 2_560_000, HOUR].map(sleep_after)
+            == [976, 2000, 4000, 10_000, 10_000]
+    );
+}
+
+// Whether yields that are all long never lead to a nap by such a clock of the process.
+fn never_naps(process: Step) -> bool {
+    let mut patience = Patience::for_run(1, 4);
+    StepClock::of_long_yields(process).rest_anew(&mut patience, 1000) == (0, 0)
+}
+
+#[test]
+fn a_clock_of_the_process_that_cannot_be_read_lets_a_thread_yield(rt: HostRuntime) {
+    assert!(rt; never_naps(Step::Fails));
+}
+
+#[test]
+fn a_clock_of_the_process_that_stands_still_lets_a_thread_yield(rt: HostRuntime) {
+    assert!(rt; never_naps(Step::Forward(0)));
+}
+
+#[test]
+fn a_clock_of_the_process_that_goes_back_lets_a_thread_yield(rt: HostRuntime) {
+    assert!(rt; never_naps(Step::Back(1000)));
+}
+
+#[test]
+fn a_clock_of_the_process_that_jumps_lets_a_thread_yield(rt: HostRuntime) {
+    assert!(rt; never_naps(Step::Forward(HOUR)));
+}
+
+// The nap after two long yields between which the process had so many microseconds, 0 where there is none.
+fn nap_after(sources: usize, processors: usize, used: u64) -> u64 {
+    let mut patience = Patience::for_run(sources, processors);
+    StepClock::of_long_yields(Step::Forward(used))
+        .rest_anew(&mut patience, 3)
+        .1
+}
+
+// Six milliseconds of one processor or of four: seven eighths are 5250 microseconds, and 21,000.
+#[test]
+fn naps_follow_a_share_under_seven_eighths(rt: HostRuntime) {
+    assert!(rt; [5249, 5250, 6000].map(|used| nap_after(1, 1, used)) == [1, 0, 0]);
+    assert!(rt; [20_999, 21_000, 24_000].map(|used| nap_after(4, 4, used)) == [1, 0, 0]);
+    assert!(rt; [20_999, 21_000, 24_000].map(|used| nap_after(5, 4, used)) == [100, 0, 0]);
+}
+
+// Whether 16 naps follow the first time, and 32 the next time.
+fn naps_double() -> bool {
+    let clock = StepClock::of_long_yields(Step::Forward(1));
+    let mut patience = Patience::for_run(1, 4);
+    clock.rest_anew(&mut patience, 2) == (0, 0)
+        && clock.rest_anew(&mut patience, 16) == (16, 1)
+        && clock.rest_anew(&mut patience, 1) == (0, 0)
+        && clock.rest_anew(&mut patience, 32) == (32, 1)
+        && clock.rest_anew(&mut patience, 1) == (0, 0)
+}
+
+#[test]
+fn naps_double_beside_others_that_stay(rt: HostRuntime) {
+    assert!(rt; naps_double());
+}
+
+// The naps of the reader's thread and of those one and two lanes further.
+fn naps_by_lane(sources: usize, processors: usize) -> [u64; 3] {
+    let reader = Patience::for_run(sources, processors);
+    let converter = reader.a_lane_further();
+    [reader, converter, converter.a_lane_further()].map(|patience| {
+        let mut patience = patience;
+        StepClock::of_long_yields(Step::Forward(1))
+            .rest_anew(&mut patience, 3)
+            .1
+    })
+}
+
+#[test]
+fn naps_are_longer_one_lane_further_where_threads_share_processors(rt: HostRuntime) {
+    assert!(rt; naps_by_lane(1, 2) == [1, 16, 31]);
+    assert!(rt; naps_by_lane(5, 2) == [100, 115, 130]);
+    assert!(rt; naps_by_lane(1, 4) == [1, 1, 1]);
+    assert!(rt; naps_by_lane(5, 4) == [100, 100, 100]);
 }

@@ -22,7 +22,7 @@ use std::alloc::Global;
 use std::io::Read;
 use std::sync::Wait;
 use std::thread::Threads;
-use std::time::Clock;
+use std::time::{Clock, CpuClock};
 
 /// All texts were converted, refused records included, or a page was printed.
 const COMPLETE: u8 = 0;
@@ -165,14 +165,12 @@ fn tell_report<W, E: Output>(errors: &mut E, summary: bool, report: &Report<W>) 
 
 /// Converts the sources, each to the output at its place, and tells how they have ended. There are no more sources
 /// than a run takes, and as many outputs, so that only want of memory keeps a run from its beginning.
-fn convert<T: Threads + Wait + Clock + Sync, R: Read + Send + Drop, W: Output + Drop, E: Output>(
-    rt: &T,
-    alloc: Global,
-    sources: Vec<R>,
-    outputs: Vec<W>,
-    errors: &mut E,
-    job: &Job<'_>,
-) -> Ran<W>
+fn convert<
+    T: Threads + Wait + Clock + CpuClock + Sync,
+    R: Read + Send + Drop,
+    W: Output + Drop,
+    E: Output,
+>(rt: &T, alloc: Global, sources: Vec<R>, outputs: Vec<W>, errors: &mut E, job: &Job<'_>) -> Ran<W>
     ensures converted { result.status ≢ 3 → IsConverted R.remaining W.contents W.has_failed W.is_flushed W.own_mark
         E.contents E.has_failed
         (task_of job.now) result.status sources.items outputs.items result.outputs.items errors.old errors.new }
@@ -201,7 +199,7 @@ fn convert<T: Threads + Wait + Clock + Sync, R: Read + Send + Drop, W: Output + 
 
 /// Converts the text that standard input gives.
 fn convert_input<
-    T: Threads + Wait + Clock + Sync,
+    T: Threads + Wait + Clock + CpuClock + Sync,
     R: Read + Send + Drop,
     W: Output + Drop,
     E: Output,
@@ -239,7 +237,7 @@ fn convert_input<
 
 /// Converts files.
 fn convert_files<
-    T: Threads + Wait + Clock + Sync,
+    T: Threads + Wait + Clock + CpuClock + Sync,
     R: Read + Send + Drop,
     W: Output + Drop,
     P: Places<R, W>,
@@ -284,7 +282,7 @@ fn convert_files<
 /// Nothing is read where the status is 2 or 3, or where the words ask for a page. A fault of `errors` changes
 /// neither the status nor the outputs.
 pub fn answer<
-    T: Threads + Wait + Clock + Sync,
+    T: Threads + Wait + Clock + CpuClock + Sync,
     R: Read + Send + Drop,
     W: Output + Drop,
     P: Places<R, W>,

@@ -12,7 +12,7 @@ use std::alloc::Global;
 use std::snapshot::Snapshot;
 use std::sync::Wait;
 use std::thread::{Promise, PromisedHandle, Scope, Threads};
-use std::time::Clock;
+use std::time::{Clock, CpuClock};
 
 /// The lanes that a converter was started with.
 #[derive(Drop)]
@@ -70,7 +70,7 @@ impl Arm {
     /// # Errors
     ///
     /// `NoMemory` where a lane is refused its memory, and `NoThread` where the thread does not start.
-    pub(crate) fn start<'s, 'e, T: Threads + Wait + Clock + Sync, G: Gate + Sync>(
+    pub(crate) fn start<'s, 'e, T: Threads + Wait + Clock + CpuClock + Sync, G: Gate + Sync>(
         scope: &'s Scope<'s, &'e ()>,
         rt: &'e T,
         gate: &'e G,
@@ -85,7 +85,8 @@ impl Arm {
         let Ok((sender, entries)) = patient_lane::<Entry>(alloc, setup.ring(), patience) else {
             return Err(StartFault::NoMemory);
         };
-        let Ok((row_sender, rows)) = patient_lane::<Row>(alloc, setup.ring(), patience) else {
+        let further = patience.a_lane_further();
+        let Ok((row_sender, rows)) = patient_lane::<Row>(alloc, setup.ring(), further) else {
             return Err(StartFault::NoMemory);
         };
         let feeding = Snapshot::of(&sender);

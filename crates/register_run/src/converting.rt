@@ -8,7 +8,7 @@ use crate::gates::Gate;
 use lane_rings::{Closed, Item, Receiver, Sender};
 use register_records::{Entry, Row, Setup, convert};
 use std::sync::Wait;
-use std::time::Clock;
+use std::time::{Clock, CpuClock};
 
 /// What a converter hands back: its end of the lane from the reader, and what is left of its end of the lane to the
 /// writer.
@@ -21,7 +21,7 @@ pub(crate) struct Converting {
 /// Sends the row of each entry that it takes, and ends the second lane as the first one ended.
 ///
 /// Where the writer is gone it goes on taking, so that the reader never waits for it.
-pub(crate) fn convert_entries<T: Wait + Clock, G: Gate>(
+pub(crate) fn convert_entries<T: Wait + Clock + CpuClock, G: Gate>(
     rt: &T,
     gate: &G,
     setup: &Setup,

@@ -14,7 +14,7 @@ use std::io::Read;
 use std::snapshot::Snapshot;
 use std::sync::Wait;
 use std::thread::{Scope, Threads};
-use std::time::Clock;
+use std::time::{Clock, CpuClock};
 
 /// The threads of a source, or why there are none.
 #[derive(Drop)]
@@ -33,7 +33,7 @@ impl<R: Read + Drop> Feed<R> {
     ghost use Rattle.register_run.specs.Passages.{HasPassed};
 
     /// Starts the threads of a source. Where they do not start, the source is dropped and the feed has the cause.
-    pub(crate) fn start<'s, 'e, T: Threads + Wait + Clock + Sync, G: Gate + Sync>(
+    pub(crate) fn start<'s, 'e, T: Threads + Wait + Clock + CpuClock + Sync, G: Gate + Sync>(
         scope: &'s Scope<'s, &'e ()>,
         rt: &'e T,
         gate: &'e G,

@@ -21,7 +21,7 @@ use std::io::Read;
 use std::snapshot::Snapshot;
 use std::sync::Wait;
 use std::thread::{Promise, PromisedHandle, Scope, Threads};
-use std::time::Clock;
+use std::time::{Clock, CpuClock};
 
 /// What a look into the lanes of a source found.
 #[derive(Clone, Copy)]
@@ -78,7 +78,7 @@ impl<R: Read + Drop> Link<R> {
     /// # Errors
     ///
     /// `NoMemory` where a list or a lane is refused its memory, and `NoThread` where a thread does not start.
-    pub(crate) fn start<'s, 'e, T: Threads + Wait + Clock + Sync, G: Gate + Sync>(
+    pub(crate) fn start<'s, 'e, T: Threads + Wait + Clock + CpuClock + Sync, G: Gate + Sync>(
         scope: &'s Scope<'s, &'e ()>,
         rt: &'e T,
         gate: &'e G,
@@ -254,7 +254,7 @@ struct Fan {
 
 impl Fan {
     /// Starts the converters of a source.
-    fn start<'s, 'e, T: Threads + Wait + Clock + Sync, G: Gate + Sync>(
+    fn start<'s, 'e, T: Threads + Wait + Clock + CpuClock + Sync, G: Gate + Sync>(
         scope: &'s Scope<'s, &'e ()>,
         rt: &'e T,
         gate: &'e G,

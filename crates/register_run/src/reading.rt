@@ -13,7 +13,7 @@ use register_records::{Cause, Entry, EntryFault, EntryReader, Setup};
 use std::alloc::Global;
 use std::io::Read;
 use std::sync::Wait;
-use std::time::Clock;
+use std::time::{Clock, CpuClock};
 
 /// What a reader hands back: what is left of its ends of the lanes, and the number of entries that it sent, or why it
 /// stopped.
@@ -25,7 +25,7 @@ pub(crate) struct Reading {
 
 /// Sends the entries of a source to the converters by turns, and ends their lanes.
 pub(crate) fn read_source<R: Read + Drop>(
-    rt: &(impl Wait + Clock),
+    rt: &(impl Wait + Clock + CpuClock),
     alloc: Global,
     source: R,
     setup: &Setup,
@@ -61,7 +61,7 @@ fn cause_of(fault: EntryFault) -> Cause
 ///
 /// The cause of the fault of reading that was met, and `Unconfirmed` where a converter is gone.
 fn send_entries<R: Read + Drop>(
-    rt: &(impl Wait + Clock),
+    rt: &(impl Wait + Clock + CpuClock),
     alloc: Global,
     source: R,
     setup: &Setup,
@@ -97,7 +97,7 @@ fn send_entries<R: Read + Drop>(
 
 /// Ends each lane: with the number of its entries where the source was read to its end, else with a stop.
 fn close_all(
-    rt: &(impl Wait + Clock),
+    rt: &(impl Wait + Clock + CpuClock),
     senders: Vec<Sender<Entry>>,
     closed: Vec<Closed<Entry>>,
     outcome: Result<u32, Cause>,
@@ -133,7 +133,11 @@ fn share_of(count: u32, turn: usize, stripes: usize) -> u64
 }
 
 /// Ends a lane with this count, or with a stop where there is none.
-fn close_one(rt: &(impl Wait + Clock), sender: Sender<Entry>, count: Option<u64>) -> Closed<Entry>
+fn close_one(
+    rt: &(impl Wait + Clock + CpuClock),
+    sender: Sender<Entry>,
+    count: Option<u64>,
+) -> Closed<Entry>
     ensures lane { IsOfLane (sender_lane sender) result }
     ensures sent { (given : List Numbered) → AreAmong given (sent sender) → HasConfirmation result
         → AreAmong given (all_sent result) }

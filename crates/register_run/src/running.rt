@@ -19,20 +19,28 @@ use lane_rings::Patience;
 use register_records::{Cause, Form, Output, Setup, SourceEnd};
 use std::alloc::{AllocError, Global};
 use std::io::Read;
+use std::num::NonZeroUsize;
 use std::snapshot::Snapshot;
 use std::sync::Wait;
 use std::thread;
 use std::thread::{Scope, Threads};
-use std::time::Clock;
+use std::time::{Clock, CpuClock};
 
 /// The most sources of a run.
 pub const MAX_SOURCES: usize = 32;
+
+/// The patience of the readers of a run with so many sources. Where the system does not tell how many processors there
+/// are, it is that for one: of that one a run that is alone has its share on any machine.
+fn patience_for(rt: &impl Threads, sources: usize) -> Patience {
+    let processors = thread::available_parallelism(rt).map_or(1, NonZeroUsize::get);
+    Patience::for_run(sources, processors)
+}
 
 /// Starts the threads of each source.
 fn start_all<
     's,
     'e,
-    T: Threads + Wait + Clock + Sync,
+    T: Threads + Wait + Clock + CpuClock + Sync,
     R: Read + Send + Drop + 'e,
     W: Output + Drop,
     G: Gate + Sync,
@@ -41,6 +49,7 @@ fn start_all<
     rt: &'e T,
     gate: &'e G,
     alloc: Global,
+    patience: Patience,
     setup: &'e Setup,
     sources: Vec<R>,
     outputs: Vec<W>,
@@ -52,7 +61,6 @@ fn start_all<
     ensures len { vec_len result ≡ vec_len sources }
     ensures cases { map case_of result.items ≡ cases setup.entry.now sources.items outputs.items }
 {
-    let patience = Patience::for_sources(sources.len());
     let mut stations = stations;
     let mut rest = outputs.into_iter();
     for source in sources {
@@ -83,13 +91,14 @@ fn round<R: Read + Drop, W: Output + Drop>(stations: &mut Vec<Station<R, W>>) ->
 
 /// Takes from all sources and writes until each has ended. After a round that found nothing it rests.
 fn drive<R: Read + Drop, W: Output + Drop>(
-    rt: &(impl Wait + Clock),
+    rt: &(impl Wait + Clock + CpuClock),
+    patience: Patience,
     stations: &mut Vec<Station<R, W>>,
 )
     ensures len { vec_len stations.new ≡ vec_len stations.old }
     ensures cases { map case_of stations.new.items ≡ map case_of stations.old.items }
 {
-    let mut patience = Patience::for_sources(stations.len());
+    let mut patience = patience;
     for _ in rt.forever() {
         if !stations.iter().any(|station| station.is_open()) {
             break;
@@ -222,7 +231,7 @@ fn refused<R, W>(kind: RunFaultKind, sources: Vec<R>, outputs: Vec<W>) -> RunFau
 fn run_all<
     's,
     'e,
-    T: Threads + Wait + Clock + Sync,
+    T: Threads + Wait + Clock + CpuClock + Sync,
     R: Read + Send + Drop + 'e,
     W: Output + Drop,
     G: Gate + Sync,
@@ -248,15 +257,23 @@ fn run_all<
         ends,
         setups,
     } = lists;
-    let mut stations = start_all(scope, rt, gate, alloc, setup, sources, outputs, stations);
-    drive(rt, &mut stations);
+    let patience = patience_for(rt, sources.len());
+    let mut stations = start_all(
+        scope, rt, gate, alloc, patience, setup, sources, outputs, stations,
+    );
+    // This thread is two lanes further than the readers.
+    drive(
+        rt,
+        patience.a_lane_further().a_lane_further(),
+        &mut stations,
+    );
     let settled = settle_all(rt, stations, settled);
     report(settled, written, ends, setups)
 }
 
 /// The run, with threads that end before it answers.
 fn run_in_scope<
-    T: Threads + Wait + Clock + Sync,
+    T: Threads + Wait + Clock + CpuClock + Sync,
     R: Read + Send + Drop,
     W: Output + Drop,
     G: Gate + Sync,
@@ -298,7 +315,7 @@ fn run_in_scope<
 /// outputs as sources, and `NoMemory` where a list that the run needs is refused its memory. The sources and the
 /// outputs are handed back as they were.
 pub fn run_gated<
-    T: Threads + Wait + Clock + Sync,
+    T: Threads + Wait + Clock + CpuClock + Sync,
     R: Read + Send + Drop,
     W: Output + Drop,
     G: Gate + Sync,
@@ -341,7 +358,7 @@ pub fn run_gated<
 /// # Errors
 ///
 /// As those of [`run_gated`].
-pub fn run<T: Threads + Wait + Clock + Sync, R: Read + Send + Drop, W: Output + Drop>(
+pub fn run<T: Threads + Wait + Clock + CpuClock + Sync, R: Read + Send + Drop, W: Output + Drop>(
     rt: &T,
     alloc: Global,
     sources: Vec<R>,

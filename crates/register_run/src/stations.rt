@@ -16,7 +16,7 @@ use std::alloc::Global;
 use std::io::Read;
 use std::sync::Wait;
 use std::thread::{Scope, Threads};
-use std::time::Clock;
+use std::time::{Clock, CpuClock};
 
 /// How many items are taken at most before a source's lines are written and the next source has its turn.
 const MOST_AT_ONCE: u32 = 1024;
@@ -37,7 +37,7 @@ impl<R: Read + Drop, W: Output + Drop> Station<R, W> {
     ghost use Rattle.register_run.specs.Stations.{case_of};
 
     /// Starts the threads of a source.
-    pub(crate) fn start<'s, 'e, T: Threads + Wait + Clock + Sync, G: Gate + Sync>(
+    pub(crate) fn start<'s, 'e, T: Threads + Wait + Clock + CpuClock + Sync, G: Gate + Sync>(
         scope: &'s Scope<'s, &'e ()>,
         rt: &'e T,
         gate: &'e G,

@@ -8,7 +8,7 @@ use std::io::Read;
 use std::sync::Wait;
 use std::test::Fail;
 use std::thread::Threads;
-use std::time::Clock;
+use std::time::{Clock, CpuClock};
 
 mod ends;
 mod faults;
@@ -77,7 +77,7 @@ fn outputs_of(alloc: Global, count: usize) -> Result<Vec<PlainOutput<Vec<u8>>>, 
 }
 
 /// What `run` answers.
-fn answer_of<T: Threads + Wait + Clock + Sync, R: Read + Send + Drop, W: Output + Drop>(
+fn answer_of<T: Threads + Wait + Clock + CpuClock + Sync, R: Read + Send + Drop, W: Output + Drop>(
     rt: &T,
     alloc: Global,
     sources: Vec<R>,
@@ -88,7 +88,7 @@ fn answer_of<T: Threads + Wait + Clock + Sync, R: Read + Send + Drop, W: Output 
 }
 
 /// The report of a run that begins.
-fn report_of<T: Threads + Wait + Clock + Sync, R: Read + Send + Drop, W: Output + Drop>(
+fn report_of<T: Threads + Wait + Clock + CpuClock + Sync, R: Read + Send + Drop, W: Output + Drop>(
     rt: &T,
     alloc: Global,
     sources: Vec<R>,
@@ -102,7 +102,7 @@ fn report_of<T: Threads + Wait + Clock + Sync, R: Read + Send + Drop, W: Output 
 }
 
 /// Whether a run begins and is complete.
-fn completes<T: Threads + Wait + Clock + Sync, R: Read + Send + Drop, W: Output + Drop>(
+fn completes<T: Threads + Wait + Clock + CpuClock + Sync, R: Read + Send + Drop, W: Output + Drop>(
     rt: &T,
     alloc: Global,
     sources: Vec<R>,
@@ -179,7 +179,7 @@ fn has_tables(report: Report<PlainOutput<Vec<u8>>>, counts: &[usize], tables: &[
 
 /// Whether sources of so many records each become their tables under this setup.
 fn become_tables(
-    rt: &(impl Threads + Wait + Clock + Sync),
+    rt: &(impl Threads + Wait + Clock + CpuClock + Sync),
     alloc: Global,
     counts: &[usize],
     setup: &Setup,
@@ -287,7 +287,7 @@ fn a_broken_source_leaves_the_other_one_alone(rt: HostRuntime) -> Result<(), Fai
 
 /// The kind of the fault of a run of so many sources with one output, where the fault gives all of them back.
 fn kind_of_fault(
-    rt: &(impl Threads + Wait + Clock + Sync),
+    rt: &(impl Threads + Wait + Clock + CpuClock + Sync),
     alloc: Global,
     count: usize,
 ) -> Result<Option<RunFaultKind>, Fail> {

@@ -8,7 +8,7 @@ use std::alloc::Global;
 use std::sync::Wait;
 use std::thread;
 use std::thread::Threads;
-use std::time::Clock;
+use std::time::{Clock, CpuClock};
 
 /// As many looks as an end of a lane takes before it yields.
 const LOOKS_BEFORE_YIELD: u32 = 8;
@@ -47,7 +47,7 @@ fn pop_all<T: Copy>(rt: &impl Wait, mut consumer: Consumer<T>, items: u64) {
 }
 
 fn send_all<T: Copy>(
-    rt: &(impl Wait + Clock),
+    rt: &(impl Wait + Clock + CpuClock),
     mut sender: Sender<T>,
     items: u64,
     item: T,
@@ -60,7 +60,7 @@ fn send_all<T: Copy>(
     sender.close(rt, items)
 }
 
-fn take_all<T: Copy>(rt: &(impl Wait + Clock), mut receiver: Receiver<T>) -> Option<()> {
+fn take_all<T: Copy>(rt: &(impl Wait + Clock + CpuClock), mut receiver: Receiver<T>) -> Option<()> {
     for _ in rt.forever() {
         match receiver.take(rt) {
             Ok(Item::Entry(_)) => {}
@@ -92,7 +92,7 @@ pub(crate) fn ring_across<R: Threads + Wait + Sync, T: Copy + Send>(
 }
 
 /// `None` where there was no memory or no thread, or the lane did not end.
-pub(crate) fn lane_across<R: Threads + Wait + Clock + Sync, T: Copy + Send>(
+pub(crate) fn lane_across<R: Threads + Wait + Clock + CpuClock + Sync, T: Copy + Send>(
     rt: &R,
     alloc: Global,
     capacity: usize,

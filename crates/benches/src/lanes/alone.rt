@@ -6,7 +6,7 @@ use lane_rings::{Item, lane};
 use rtrb::RingBuffer;
 use std::alloc::Global;
 use std::sync::Wait;
-use std::time::Clock;
+use std::time::{Clock, CpuClock};
 
 /// `None` where there was no memory, or an end did not answer as it should.
 pub(crate) fn ring_alone<T: Copy>(alloc: Global, capacity: usize, items: u64, item: T) -> Option<()>
@@ -26,7 +26,7 @@ pub(crate) fn ring_alone<T: Copy>(alloc: Global, capacity: usize, items: u64, it
 
 /// `None` as above.
 pub(crate) fn lane_alone<T: Copy>(
-    rt: &(impl Wait + Clock),
+    rt: &(impl Wait + Clock + CpuClock),
     alloc: Global,
     capacity: usize,
     items: u64,

@@ -10,7 +10,7 @@ use std::io;
 use std::io::{ErrorKind, Write};
 use std::sync::Wait;
 use std::thread::Threads;
-use std::time::Clock;
+use std::time::{Clock, CpuClock};
 
 /// Room for all that these tests write.
 const ROOM: usize = 8192;
@@ -198,7 +198,7 @@ const CASES: [Case; 12] = [
 
 /// What these words give where standard error breaks there.
 fn hear_with(
-    rt: &(impl Threads + Wait + Clock + Sync),
+    rt: &(impl Threads + Wait + Clock + CpuClock + Sync),
     alloc: Global,
     case: &Case,
     errors: Break,
@@ -264,7 +264,7 @@ fn has_taken(bytes: &[u8], text: &[u8], place: Break) -> bool {
 
 /// Whether all is as it is wanted where standard error breaks there, but that what is told breaks off.
 fn is_told_until(
-    rt: &(impl Threads + Wait + Clock + Sync),
+    rt: &(impl Threads + Wait + Clock + CpuClock + Sync),
     alloc: Global,
     case: &Case,
     errors: Break,
@@ -307,7 +307,7 @@ const CANNOT_PRINT: &[u8] = b"register: cannot write to standard output\n";
 
 /// What a page gives where standard output and standard error break there.
 fn hear_page(
-    rt: &(impl Threads + Wait + Clock + Sync),
+    rt: &(impl Threads + Wait + Clock + CpuClock + Sync),
     alloc: Global,
     word: &str,
     output: Break,
@@ -322,7 +322,7 @@ fn hear_page(
 /// Whether a page gets this status where standard output and standard error break there, with as much of the page on
 /// the one, and on the other of the line that it cannot be printed, as they could take.
 fn is_printed_until(
-    rt: &(impl Threads + Wait + Clock + Sync),
+    rt: &(impl Threads + Wait + Clock + CpuClock + Sync),
     alloc: Global,
     (word, page): (&str, &str),
     (output, errors): (Break, Break),
@@ -421,7 +421,11 @@ fn fits_refused_memory(heard: &Heard<Breaking, Breaking>, case: &Case) -> bool {
 }
 
 /// Whether these words are answered so where one allocation is refused, which may be one of the test's own.
-fn fits_any_memory(rt: &(impl Threads + Wait + Clock + Sync), alloc: Global, case: &Case) -> bool {
+fn fits_any_memory(
+    rt: &(impl Threads + Wait + Clock + CpuClock + Sync),
+    alloc: Global,
+    case: &Case,
+) -> bool {
     match hear_with(rt, alloc, case, NOWHERE) {
         Ok(heard) => fits_refused_memory(&heard, case),
         Err(_) => true,
@@ -448,7 +452,7 @@ fn is_printed_or_told(heard: &Heard<Breaking, Breaking>, page: &str) -> bool {
 
 /// Whether a page is answered so where one allocation is refused, which may be one of the test's own.
 fn is_page_of_any_memory(
-    rt: &(impl Threads + Wait + Clock + Sync),
+    rt: &(impl Threads + Wait + Clock + CpuClock + Sync),
     alloc: Global,
     word: &str,
     page: &str,

@@ -4,7 +4,7 @@ use crate::tests::helpers::{Heard, TextCase, assert_answers, hear_text};
 use std::alloc::Global;
 use std::sync::Wait;
 use std::thread::Threads;
-use std::time::Clock;
+use std::time::{Clock, CpuClock};
 
 /// The text that the command lines are run on.
 const TEXT: &[u8] = b"id,calendar,date\nb,julian,1582-10-05\n";
@@ -254,7 +254,11 @@ fn is_refusal(heard: &Heard<Vec<u8>, Vec<u8>>, message: &[u8]) -> bool {
 }
 
 /// Whether these options are refused.
-fn is_refused(rt: &(impl Threads + Wait + Clock + Sync), alloc: Global, misuse: &Misuse) -> bool {
+fn is_refused(
+    rt: &(impl Threads + Wait + Clock + CpuClock + Sync),
+    alloc: Global,
+    misuse: &Misuse,
+) -> bool {
     match hear_text(rt, alloc, misuse.words, TEXT) {
         Ok(heard) => is_refusal(&heard, misuse.message),
         Err(_) => false,

@@ -8,7 +8,7 @@ use std::rt::Files;
 use std::sync::Wait;
 use std::test::Fail;
 use std::thread::Threads;
-use std::time::Clock;
+use std::time::{Clock, CpuClock};
 use std::{fs, io};
 
 /// A folder of this test's own.
@@ -27,7 +27,7 @@ const OTHER_REGISTER: &str = "files_of_the_test/other.csv";
 const OTHER_TABLE: &str = "files_of_the_test/other.csv.out.csv";
 
 /// Runs the program's answer to these words over the files of the system.
-fn hear_on_disk<T: Threads + Wait + Clock + Sync + Files>(
+fn hear_on_disk<T: Threads + Wait + Clock + CpuClock + Sync + Files>(
     rt: &T,
     alloc: Global,
     words: &[&str],
@@ -49,7 +49,7 @@ where
 }
 
 /// Whether these words get this status over the files of the system, and this is told.
-fn is_told<T: Threads + Wait + Clock + Sync + Files + AllocGlobal>(
+fn is_told<T: Threads + Wait + Clock + CpuClock + Sync + Files + AllocGlobal>(
     rt: &T,
     words: &[&str],
     status: u8,
@@ -77,7 +77,7 @@ const OLDER_TEXT: &[u8] =
     b"an older and longer text that stands where the table comes to stand, and more\n";
 
 /// Whether a file on disk gets its table, and what stood in the table's file is gone.
-fn gets_one_table<T: Threads + Wait + Clock + Sync + Files + AllocGlobal>(
+fn gets_one_table<T: Threads + Wait + Clock + CpuClock + Sync + Files + AllocGlobal>(
     rt: &T,
 ) -> io::Result<bool>
 where
@@ -90,7 +90,7 @@ where
 }
 
 /// Whether two files on disk get their tables.
-fn get_two_tables<T: Threads + Wait + Clock + Sync + Files + AllocGlobal>(
+fn get_two_tables<T: Threads + Wait + Clock + CpuClock + Sync + Files + AllocGlobal>(
     rt: &T,
 ) -> io::Result<bool>
 where
@@ -115,7 +115,9 @@ const OWN_REGISTER: &str = "files_of_the_test/own.csv";
 const OWN_TABLE: &str = "files_of_the_test/own.csv.out.csv";
 
 /// Whether a register is left as it is where its table would be the very file.
-fn is_kept<T: Threads + Wait + Clock + Sync + Files + AllocGlobal>(rt: &T) -> io::Result<bool>
+fn is_kept<T: Threads + Wait + Clock + CpuClock + Sync + Files + AllocGlobal>(
+    rt: &T,
+) -> io::Result<bool>
 where
     T::File: Send,
 {

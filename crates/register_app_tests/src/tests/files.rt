@@ -11,7 +11,7 @@ use std::io::ErrorKind;
 use std::sync::Wait;
 use std::test::Fail;
 use std::thread::Threads;
-use std::time::Clock;
+use std::time::{Clock, CpuClock};
 
 /// Files in memory: a text for each name, and an output for each that is made.
 #[derive(Clone, Copy)]
@@ -175,7 +175,7 @@ const FILES: [FilesCase; 14] = [
 
 /// What these words give over the shelf, with nothing on standard input.
 fn hear_files(
-    rt: &(impl Threads + Wait + Clock + Sync),
+    rt: &(impl Threads + Wait + Clock + CpuClock + Sync),
     alloc: Global,
     words: &[&str],
 ) -> Result<Heard<Vec<u8>, Vec<u8>>, AllocError> {
@@ -202,7 +202,7 @@ fn are_tables(outputs: &[Vec<u8>], tables: &[&[u8]]) -> bool {
 
 /// Whether these words give what is wanted over the shelf, with nothing on standard output.
 fn give_as_wanted(
-    rt: &(impl Threads + Wait + Clock + Sync),
+    rt: &(impl Threads + Wait + Clock + CpuClock + Sync),
     alloc: Global,
     words: &[&str],
     case: &FilesCase,
@@ -243,7 +243,7 @@ const TOO_MANY: FilesCase = FilesCase {
 
 /// Whether 33 files are refused.
 fn are_33_files_refused(
-    rt: &(impl Threads + Wait + Clock + Sync),
+    rt: &(impl Threads + Wait + Clock + CpuClock + Sync),
     alloc: Global,
 ) -> Result<bool, AllocError> {
     let mut words = Vec::new(alloc);
@@ -260,7 +260,7 @@ fn files_are_no_more_than_32(rt: HostRuntime) -> Result<(), Fail> {
 
 /// Whether 32 files of one record each get their tables with this word.
 fn give_many(
-    rt: &(impl Threads + Wait + Clock + Sync),
+    rt: &(impl Threads + Wait + Clock + CpuClock + Sync),
     alloc: Global,
     word: &'static str,
 ) -> Result<bool, AllocError> {

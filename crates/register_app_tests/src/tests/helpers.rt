@@ -11,7 +11,7 @@ use std::io::{ErrorKind, Read, Write};
 use std::process::Abort;
 use std::sync::Wait;
 use std::thread::Threads;
-use std::time::Clock;
+use std::time::{Clock, CpuClock};
 
 /// The text of one record.
 pub const ONE_RECORD: &[u8] = b"id,calendar,date\na,gregorian,1945-11-12\n";
@@ -64,7 +64,7 @@ impl Heard<Vec<u8>, Vec<u8>> {
 /// What the program answers to these words. Nothing is promised of it, so that a test that calls this is proved without
 /// all that is proved of an answer.
 fn answered<
-    T: Threads + Wait + Clock + Sync,
+    T: Threads + Wait + Clock + CpuClock + Sync,
     R: Read + Send + Drop,
     W: Write + Drop,
     E: Write + Drop,
@@ -98,7 +98,7 @@ fn writers_of<W: Write + Drop>(
 
 /// Runs the program's answer to these words.
 pub fn hear<
-    T: Threads + Wait + Clock + Sync,
+    T: Threads + Wait + Clock + CpuClock + Sync,
     R: Read + Send + Drop,
     W: Write + Drop,
     E: Write + Drop,
@@ -160,7 +160,7 @@ impl<R, W: Output> Places<R, W> for NoPlaces {
 
 /// Runs the program's answer to these words over a text, without files.
 pub fn hear_text(
-    rt: &(impl Threads + Wait + Clock + Sync),
+    rt: &(impl Threads + Wait + Clock + CpuClock + Sync),
     alloc: Global,
     words: &[&str],
     text: &'static [u8],
@@ -187,7 +187,11 @@ pub struct TextCase {
 }
 
 /// Whether the program answers as is wanted.
-fn is_answered(rt: &(impl Threads + Wait + Clock + Sync), alloc: Global, case: &TextCase) -> bool {
+fn is_answered(
+    rt: &(impl Threads + Wait + Clock + CpuClock + Sync),
+    alloc: Global,
+    case: &TextCase,
+) -> bool {
     let Ok(heard) = hear_text(rt, alloc, case.words, case.input) else {
         return false;
     };
@@ -196,7 +200,7 @@ fn is_answered(rt: &(impl Threads + Wait + Clock + Sync), alloc: Global, case: &
 
 /// Asserts that the program answers each case as is wanted.
 pub fn assert_answers(
-    rt: &(impl Threads + Wait + Clock + Sync + Abort),
+    rt: &(impl Threads + Wait + Clock + CpuClock + Sync + Abort),
     alloc: Global,
     cases: &[TextCase],
 ) {

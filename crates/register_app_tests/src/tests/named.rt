@@ -10,7 +10,7 @@ use std::io;
 use std::io::ErrorKind;
 use std::sync::Wait;
 use std::thread::Threads;
-use std::time::Clock;
+use std::time::{Clock, CpuClock};
 
 /// A file in memory.
 #[derive(Clone, Copy)]
@@ -64,7 +64,7 @@ impl Places<&'static [u8], PlainOutput<Told<Vec<u8>>>> for TwoFiles {
 
 /// What the words give over two files.
 fn hear_two(
-    rt: &(impl Threads + Wait + Clock + Sync),
+    rt: &(impl Threads + Wait + Clock + CpuClock + Sync),
     alloc: Global,
     words: &[&str],
 ) -> Result<Heard<Vec<u8>, Vec<u8>>, AllocError> {
@@ -89,7 +89,7 @@ fn hear_two(
 }
 
 /// Whether each file gets the table of its own text.
-fn get_their_own(rt: &(impl Threads + Wait + Clock + Sync), alloc: Global) -> bool {
+fn get_their_own(rt: &(impl Threads + Wait + Clock + CpuClock + Sync), alloc: Global) -> bool {
     let Ok(heard) = hear_two(rt, alloc, &["--to=gregorian", "other.csv", "one.csv"]) else {
         return false;
     };

@@ -4,7 +4,7 @@ use crate::tests::helpers::hear_text;
 use std::alloc::Global;
 use std::sync::Wait;
 use std::thread::Threads;
-use std::time::Clock;
+use std::time::{Clock, CpuClock};
 
 /// A command line that is refused with status 2, and what is told.
 #[derive(Clone, Copy)]
@@ -48,7 +48,11 @@ const REFUSED: [Refused; 26] = [
 ];
 
 /// Whether these words are refused: with status 2, nothing on standard output, and this on standard error.
-fn are_refused(rt: &(impl Threads + Wait + Clock + Sync), alloc: Global, line: &Refused) -> bool {
+fn are_refused(
+    rt: &(impl Threads + Wait + Clock + CpuClock + Sync),
+    alloc: Global,
+    line: &Refused,
+) -> bool {
     let Ok(heard) = hear_text(rt, alloc, line.words, b"") else {
         return false;
     };

@@ -11,7 +11,7 @@ use std::io::{ErrorKind, Read, Write};
 use std::sync::Wait;
 use std::sync::atomic::{AtomicU32, Ordering};
 use std::thread::Threads;
-use std::time::Clock;
+use std::time::{Clock, CpuClock};
 
 /// How often something was read, opened and made.
 #[derive(Drop)]
@@ -126,7 +126,7 @@ const TOUCHINGS: [Touching; 6] = [
 
 /// The status that these words give over a text and files that count.
 fn status_of<'a>(
-    rt: &(impl Threads + Wait + Clock + Sync),
+    rt: &(impl Threads + Wait + Clock + CpuClock + Sync),
     alloc: Global,
     words: &[&str],
     input: &'a Counts,
@@ -151,7 +151,7 @@ fn status_of<'a>(
 
 /// Whether these words get their status, and nothing is touched that they do not ask for.
 fn touches_as_wanted(
-    rt: &(impl Threads + Wait + Clock + Sync),
+    rt: &(impl Threads + Wait + Clock + CpuClock + Sync),
     alloc: Global,
     touching: &Touching,
 ) -> bool {
@@ -200,7 +200,7 @@ impl Write for Broken {
 
 /// What these words give where standard input breaks.
 fn hear_broken<E: Write + Drop>(
-    rt: &(impl Threads + Wait + Clock + Sync),
+    rt: &(impl Threads + Wait + Clock + CpuClock + Sync),
     alloc: Global,
     words: &[&str],
     errors: E,
@@ -209,7 +209,10 @@ fn hear_broken<E: Write + Drop>(
 }
 
 /// Whether an input that breaks is told.
-fn is_broken_input_told(rt: &(impl Threads + Wait + Clock + Sync), alloc: Global) -> bool {
+fn is_broken_input_told(
+    rt: &(impl Threads + Wait + Clock + CpuClock + Sync),
+    alloc: Global,
+) -> bool {
     let Ok(heard) = hear_broken(rt, alloc, &[], Vec::new(alloc)) else {
         return false;
     };
@@ -217,7 +220,10 @@ fn is_broken_input_told(rt: &(impl Threads + Wait + Clock + Sync), alloc: Global
 }
 
 /// Whether an output that breaks is told.
-fn is_broken_output_told(rt: &(impl Threads + Wait + Clock + Sync), alloc: Global) -> bool {
+fn is_broken_output_told(
+    rt: &(impl Threads + Wait + Clock + CpuClock + Sync),
+    alloc: Global,
+) -> bool {
     let text: &'static [u8] = b"id,calendar,date\n";
     let Ok(heard) = hear(rt, alloc, &[], text, Broken, &NoPlaces, Vec::new(alloc)) else {
         return false;
@@ -226,7 +232,10 @@ fn is_broken_output_told(rt: &(impl Threads + Wait + Clock + Sync), alloc: Globa
 }
 
 /// Whether standard error that breaks changes neither the status nor the output.
-fn are_broken_errors_let_go(rt: &(impl Threads + Wait + Clock + Sync), alloc: Global) -> bool {
+fn are_broken_errors_let_go(
+    rt: &(impl Threads + Wait + Clock + CpuClock + Sync),
+    alloc: Global,
+) -> bool {
     let Ok(heard) = hear_broken(rt, alloc, &[], Broken) else {
         return false;
     };
@@ -251,7 +260,11 @@ const FOR_HELP: [&[&str]; 6] = [
 ];
 
 /// Whether these words get help, and nothing is told.
-fn get_help(rt: &(impl Threads + Wait + Clock + Sync), alloc: Global, words: &[&str]) -> bool {
+fn get_help(
+    rt: &(impl Threads + Wait + Clock + CpuClock + Sync),
+    alloc: Global,
+    words: &[&str],
+) -> bool {
     let Ok(heard) = hear_broken(rt, alloc, words, Vec::new(alloc)) else {
         return false;
     };

@@ -8,7 +8,7 @@ use std::sync::atomic::{AtomicU64, Ordering};
 use std::test::Fail;
 use std::thread;
 use std::thread::Threads;
-use std::time::Clock;
+use std::time::{Clock, CpuClock};
 
 /// How many items are sent: more than a ring holds.
 const ITEMS: u32 = 300;
@@ -43,7 +43,7 @@ fn linger(slow: bool) {
 }
 
 /// Sends the items from 0 on and drops the sender, or stops where the receiver is gone.
-fn send_items(rt: &(impl Wait + Clock), sender: Sender<u32>, slow: bool) {
+fn send_items(rt: &(impl Wait + Clock + CpuClock), sender: Sender<u32>, slow: bool) {
     let mut sender = sender;
     for item in 0..ITEMS {
         linger(slow);
@@ -54,7 +54,7 @@ fn send_items(rt: &(impl Wait + Clock), sender: Sender<u32>, slow: bool) {
 }
 
 /// Takes items until the sender is gone, and says how many came in order.
-fn take_items(rt: &(impl Wait + Clock), receiver: Receiver<u32>, slow: bool) -> u32 {
+fn take_items(rt: &(impl Wait + Clock + CpuClock), receiver: Receiver<u32>, slow: bool) -> u32 {
     let mut receiver = receiver;
     for item in 0..ITEMS {
         linger(slow);
@@ -87,7 +87,7 @@ fn try_items(receiver: Receiver<u32>, slow: bool) -> u32 {
 
 /// How many items come in order over a lane before its sender is told as gone.
 fn count_over_lane(
-    rt: &(impl Threads + Wait + Clock + Sync),
+    rt: &(impl Threads + Wait + Clock + CpuClock + Sync),
     alloc: Global,
     slow: Slow,
     waits: bool,
@@ -125,7 +125,7 @@ const WRONG: u64 = 2;
 /// Sends items until the receiver is gone, and notes whether this was told of the item that was sent, and not before
 /// the receiver was to be dropped.
 fn send_until_gone(
-    rt: &(impl Wait + Clock),
+    rt: &(impl Wait + Clock + CpuClock),
     sender: Sender<u32>,
     slow: bool,
     dropping: &AtomicU64,
@@ -144,7 +144,12 @@ fn send_until_gone(
 }
 
 /// Takes a few items and drops the receiver.
-fn take_few(rt: &(impl Wait + Clock), receiver: Receiver<u32>, slow: bool, dropping: &AtomicU64) {
+fn take_few(
+    rt: &(impl Wait + Clock + CpuClock),
+    receiver: Receiver<u32>,
+    slow: bool,
+    dropping: &AtomicU64,
+) {
     let mut receiver = receiver;
     for _ in 0..FEW {
         linger(slow);
@@ -159,7 +164,7 @@ fn take_few(rt: &(impl Wait + Clock), receiver: Receiver<u32>, slow: bool, dropp
 
 /// What a sender is told whose receiver takes a few items and is dropped.
 fn told_to_sender(
-    rt: &(impl Threads + Wait + Clock + Sync),
+    rt: &(impl Threads + Wait + Clock + CpuClock + Sync),
     alloc: Global,
     slow: Slow,
 ) -> Result<u64, AllocError> {
@@ -187,7 +192,7 @@ fn a_receiver_is_gone_only_when_it_is_dropped(rt: HostRuntime) -> Result<(), Fai
 }
 
 /// Sends one item and drops the sender at once.
-fn send_one(rt: &(impl Wait + Clock), sender: Sender<u32>) {
+fn send_one(rt: &(impl Wait + Clock + CpuClock), sender: Sender<u32>) {
     let mut sender = sender;
     let _ = sender.send(rt, 7);
 }
@@ -203,7 +208,11 @@ fn rest_after(look: u32) {
 }
 
 /// Sends an item over each lane and drops its sender at once, when this lane is looked at.
-fn send_one_each(rt: &(impl Wait + Clock), senders: Vec<Sender<u32>>, looked_at: &AtomicU64) {
+fn send_one_each(
+    rt: &(impl Wait + Clock + CpuClock),
+    senders: Vec<Sender<u32>>,
+    looked_at: &AtomicU64,
+) {
     for (place, sender) in senders.into_iter().enumerate() {
         for look in 0..MOST_LOOKS {
             if looked_at.load(Ordering::SeqCst) >= place as u64 {
@@ -229,7 +238,7 @@ fn is_seen(receiver: Receiver<u32>) -> bool {
 }
 
 /// Waits for an item and for the end of the sender, and says whether they come.
-fn is_taken(rt: &(impl Wait + Clock), receiver: Receiver<u32>) -> bool {
+fn is_taken(rt: &(impl Wait + Clock + CpuClock), receiver: Receiver<u32>) -> bool {
     let mut receiver = receiver;
     let first = receiver.take(rt);
     first == Ok(Item::Entry(7)) && receiver.take(rt).is_err()
@@ -244,7 +253,7 @@ enum Way {
 
 /// How many of these lanes give their item.
 fn count_items(
-    rt: &(impl Wait + Clock),
+    rt: &(impl Wait + Clock + CpuClock),
     receivers: Vec<Receiver<u32>>,
     looked_at: &AtomicU64,
     way: Way,
@@ -265,7 +274,7 @@ fn count_items(
 
 /// How many of the lanes give an item that is sent just before the sender is dropped, while the receiver waits.
 fn count_over_lanes(
-    rt: &(impl Threads + Wait + Clock + Sync),
+    rt: &(impl Threads + Wait + Clock + CpuClock + Sync),
     alloc: Global,
     way: Way,
 ) -> Result<usize, AllocError> {

@@ -13,7 +13,7 @@ use std::process::Abort;
 use std::sync::Wait;
 use std::test::Fail;
 use std::thread::Threads;
-use std::time::Clock;
+use std::time::{Clock, CpuClock};
 
 /// The reader of a text in chunks, one for each line, of which the read of this number fails, from 1, or for 0 none.
 fn reader_of(alloc: Global, text: &[u8], fail_read: u32) -> Result<Chunks, AllocError> {
@@ -122,7 +122,7 @@ fn seen_beside_whole(report: &Report<Sink>, table: &[u8]) -> Option<Seen> {
 /// Runs a text of so many records with these faults beside another text, which becomes its table, and says what is
 /// seen of the first.
 fn seen_of(
-    rt: &(impl Threads + Wait + Clock + Sync + Abort),
+    rt: &(impl Threads + Wait + Clock + CpuClock + Sync + Abort),
     alloc: Global,
     (stripes, records): (usize, usize),
     faults: Faults,
@@ -151,7 +151,7 @@ fn is_broken_at_read(seen: Seen, read: u32) -> bool {
 
 /// How many of the first reads break the source, each alone: from the next one on it is whole.
 fn count_of_broken_reads(
-    rt: &(impl Threads + Wait + Clock + Sync + Abort),
+    rt: &(impl Threads + Wait + Clock + CpuClock + Sync + Abort),
     alloc: Global,
     stripes: usize,
 ) -> Result<u32, Fail> {
@@ -196,7 +196,7 @@ fn fault_at(place: u32, by_flush: bool) -> Faults {
 
 /// How many of the first writes or flushes break the source, each alone: from the next one on it is whole.
 fn count_of_broken_writes(
-    rt: &(impl Threads + Wait + Clock + Sync + Abort),
+    rt: &(impl Threads + Wait + Clock + CpuClock + Sync + Abort),
     alloc: Global,
     stripes: usize,
     by_flush: bool,
@@ -318,7 +318,7 @@ fn is_table(report: Report<PlainOutput<Nervous<Vec<u8>>>>, table: &[u8]) -> bool
 
 /// Whether three records become their table by reads and writes that are interrupted.
 fn becomes_table(
-    rt: &(impl Threads + Wait + Clock + Sync),
+    rt: &(impl Threads + Wait + Clock + CpuClock + Sync),
     alloc: Global,
     stripes: usize,
 ) -> Result<bool, Fail> {
@@ -355,7 +355,7 @@ fn reader_of_records(alloc: Global, records: usize) -> Result<Chunks, AllocError
 
 /// What a run answers where memory may be refused. Its sources and outputs take none.
 fn answer_in_need(
-    rt: &(impl Threads + Wait + Clock + Sync),
+    rt: &(impl Threads + Wait + Clock + CpuClock + Sync),
     alloc: Global,
     setup: &Setup,
 ) -> Result<Result<Report<Sink>, RunFault<Chunks, Sink>>, AllocError> {

@@ -10,7 +10,7 @@ use std::sync::Wait;
 use std::sync::atomic::{AtomicU64, Ordering};
 use std::test::Fail;
 use std::thread::Threads;
-use std::time::Clock;
+use std::time::{Clock, CpuClock};
 use std::{io, thread};
 
 /// How often a test looks for what it waits for.
@@ -113,7 +113,7 @@ fn watched_outputs(
 /// Whether a run of two readers is complete, each of which gives its first chunk only after the other one's was asked
 /// for.
 fn readers_meet(
-    rt: &(impl Threads + Wait + Clock + Sync),
+    rt: &(impl Threads + Wait + Clock + CpuClock + Sync),
     alloc: Global,
     stripes: usize,
 ) -> Result<bool, Fail> {
@@ -140,7 +140,7 @@ fn two_readers_meet(rt: HostRuntime) -> Result<(), Fail> {
 
 /// Whether a run is complete whose reader gives the second record only after a row was written.
 fn row_comes_before_record(
-    rt: &(impl Threads + Wait + Clock + Sync),
+    rt: &(impl Threads + Wait + Clock + CpuClock + Sync),
     alloc: Global,
     stripes: usize,
 ) -> Result<bool, Fail> {
@@ -166,7 +166,7 @@ fn first_row_before_second_record(rt: HostRuntime) -> Result<(), Fail> {
 
 /// Whether a run with a gate begins and is complete. Nothing is promised of it, as of a run without one.
 fn completes_gated<
-    T: Threads + Wait + Clock + Sync,
+    T: Threads + Wait + Clock + CpuClock + Sync,
     R: Read + Send + Drop,
     W: Output + Drop,
     G: Gate + Sync,
@@ -200,7 +200,7 @@ impl Gate for Held<'_> {
 
 /// Whether a run with this gate is complete, what the gate waited for has come, and so many entries came to it.
 fn is_held<R: Read + Send + Drop, W: Output + Drop>(
-    rt: &(impl Threads + Wait + Clock + Sync),
+    rt: &(impl Threads + Wait + Clock + CpuClock + Sync),
     alloc: Global,
     sources: Vec<R>,
     outputs: Vec<W>,
@@ -255,7 +255,7 @@ fn converter_beside_writer(rt: HostRuntime) -> Result<(), Fail> {
 
 /// Whether a run of so many stripes and entries is complete whose gate holds each entry until all of them came.
 fn converters_meet(
-    rt: &(impl Threads + Wait + Clock + Sync),
+    rt: &(impl Threads + Wait + Clock + CpuClock + Sync),
     alloc: Global,
     stripes: usize,
 ) -> Result<bool, Fail> {

@@ -10,7 +10,7 @@ use std::io::{Read, Write};
 use std::sync::Wait;
 use std::test::Fail;
 use std::thread::Threads;
-use std::time::Clock;
+use std::time::{Clock, CpuClock};
 
 /// Texts, in which the substitute U+001A stands for the byte FF, which is nowhere in UTF-8. Each has the cause that is
 /// told, or 0, and the rows below the heading.
@@ -146,7 +146,7 @@ fn told_by_one_thread(alloc: Global, text: &str, size: usize) -> Result<Told, Fa
 
 /// Adds how a text, read at once and a byte at a time, ends in a run of so many stripes.
 fn tell_by_run(
-    rt: &(impl Threads + Wait + Clock + Sync),
+    rt: &(impl Threads + Wait + Clock + CpuClock + Sync),
     alloc: Global,
     text: &str,
     stripes: usize,
@@ -169,7 +169,7 @@ fn tell_by_run(
 
 /// How a text ends on one thread and in runs of 1 and 4 stripes, read at once and a byte at a time.
 fn told_by_all(
-    rt: &(impl Threads + Wait + Clock + Sync),
+    rt: &(impl Threads + Wait + Clock + CpuClock + Sync),
     alloc: Global,
     text: &str,
 ) -> Result<Vec<Told>, Fail> {
@@ -311,7 +311,7 @@ fn are_both_right(report: Report<PlainOutput<Counter>>) -> bool {
 
 /// Whether a run converts a million records, and no more of one more beside it.
 fn run_converts(
-    rt: &(impl Threads + Wait + Clock + Sync),
+    rt: &(impl Threads + Wait + Clock + CpuClock + Sync),
     alloc: Global,
     setup: &Setup,
 ) -> Result<bool, Fail> {

@@ -10,7 +10,7 @@ use std::io::Read;
 use std::sync::Wait;
 use std::test::Fail;
 use std::thread::Threads;
-use std::time::Clock;
+use std::time::{Clock, CpuClock};
 
 /// The most records of a source.
 const MOST: u32 = 1_000_000;
@@ -114,7 +114,7 @@ fn has_whole_table(report: Report<PlainOutput<Counter>>) -> bool {
 
 /// Whether a run converts them all.
 fn run_converts(
-    rt: &(impl Threads + Wait + Clock + Sync),
+    rt: &(impl Threads + Wait + Clock + CpuClock + Sync),
     alloc: Global,
     setup: &Setup,
 ) -> Result<bool, Fail> {

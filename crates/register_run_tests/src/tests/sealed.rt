@@ -11,7 +11,7 @@ use std::io::{ErrorKind, Read};
 use std::sync::Wait;
 use std::test::Fail;
 use std::thread::Threads;
-use std::time::Clock;
+use std::time::{Clock, CpuClock};
 
 const HEADER: &str = "id,calendar,date,note\n";
 
@@ -69,7 +69,7 @@ fn joined(alloc: Global, parts: &[&str]) -> Result<Vec<u8>, AllocError> {
 
 /// The report of a run of sealed registers, with rings of one item.
 fn run_sealed<R: Read + Send + Drop>(
-    rt: &(impl Threads + Wait + Clock + Sync),
+    rt: &(impl Threads + Wait + Clock + CpuClock + Sync),
     alloc: Global,
     sources: Vec<R>,
     stripes: usize,
@@ -90,7 +90,7 @@ fn texts_with_ends(alloc: Global) -> Result<Vec<Vec<u8>>, AllocError> {
 
 /// What a run of these registers tells of them.
 fn told_of_ends(
-    rt: &(impl Threads + Wait + Clock + Sync),
+    rt: &(impl Threads + Wait + Clock + CpuClock + Sync),
     alloc: Global,
     stripes: usize,
 ) -> Result<Vec<Told>, Fail> {

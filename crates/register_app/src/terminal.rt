@@ -56,11 +56,12 @@ fn leading_control(text: &[u8]) -> Option<Control>
 fn plain_len(text: &[u8]) -> usize
     ensures { result ≤ length text.now }
 {
-    let mut len = 0;
-    'bytes: while len < text.len() && leading_control(&text[len..]).is_none() {
-        len += 1;
+    for len in 0..text.len() {
+        if leading_control(&text[len..]).is_some() {
+            return len;
+        }
     }
-    len
+    text.len()
 }
 
 /// Writes to a terminal what stands before the first control character, or else the one with which the text begins, and

@@ -65,8 +65,7 @@ fn plain_len(text: &[u8]) -> usize
 }
 
 /// Writes to a terminal what stands before the first control character, or else the one with which the text begins, and
-/// tells how many bytes of the text these are. Of one whose bytes come in two writes nothing is seen here; no line is cut
-/// there.
+/// tells how many bytes of the text these are. One whose two bytes come in two calls is not seen; lines come whole.
 fn write_shown<E: Write>(terminal: &mut E, text: &[u8]) -> io::Result<usize>
     ensures bound { WritesAtMost result text.now }
 {

@@ -73,6 +73,12 @@ int open(const char *name, int flags, ...) {
   return fails("open", -1) ? -1 : syscall(SYS_openat, AT_FDCWD, name, flags, mode);
 }
 
+int flock(int descriptor, int how) { return fails("flock", -1) ? -1 : syscall(SYS_flock, descriptor, how); }
+
+int ftruncate(int descriptor, off_t size) {
+  return fails("ftruncate", -1) ? -1 : syscall(SYS_ftruncate, descriptor, size);
+}
+
 int pthread_create(pthread_t *thread, const pthread_attr_t *how, void *(*body)(void *), void *given) {
   if (fails("pthread_create", -1)) return error;
   return NEXT(pthread_create)(thread, how, body, given);

@@ -4,7 +4,7 @@
 //! the calendars that the words ask for.
 #![tactic(auto)]
 
-use register_app::{Disk, Sink, Source, Told, answer};
+use register_app::{Disk, Sink, Source, Told, answer, lines_to};
 use register_records::PlainOutput;
 use std::fs::OpenOptions;
 use std::process::ExitCode;
@@ -42,7 +42,7 @@ fn main(rt: HostRuntime) -> ExitCode {
     };
     let input = Source::Input(rt.stdin());
     let output = PlainOutput::new(Told::new(Sink::Output(rt.stdout())), 1);
-    let mut errors = PlainOutput::new(Told::new(rt.stderr()), 0);
+    let mut errors = PlainOutput::new(Told::new(lines_to(rt.stderr())), 0);
     let answered = answer(
         &rt,
         rt.alloc(),

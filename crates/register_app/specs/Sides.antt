@@ -1,9 +1,11 @@
--- What a stream that is a standard stream or a file tells: what the one in it tells.
-use Rattle.std.specs.Prelude.{ℕ, List, Option}
+-- What streams that are one of two kinds tell: what the one in them tells.
+use Rattle.std.specs.Prelude.{ℕ, List, Option, None}
 use Rattle.register_app.specs.declared.disk.Sink.{Sink}
 use Rattle.register_app.specs.declared.disk.Sink.TheVariants as sink
 use Rattle.register_app.specs.declared.disk.Source.{Source}
 use Rattle.register_app.specs.declared.disk.Source.TheVariants as source
+use Rattle.register_app.specs.declared.terminal.Lines.{Lines}
+use Rattle.register_app.specs.declared.terminal.Lines.TheVariants as lines
 
 -- the bytes that a source will give
 abbrev pub source_remaining : {I F : Type 0} → (I → Option (List ℕ)) → (F → Option (List ℕ)) → Source I F
@@ -15,3 +17,8 @@ source_remaining of_input of_file (source.File file) = of_file file
 abbrev pub sink_contents : {O F : Type 0} → (O → Option (List ℕ)) → (F → Option (List ℕ)) → Sink O F → Option (List ℕ)
 sink_contents of_output of_file (sink.Output output) = of_output output
 sink_contents of_output of_file (sink.File file) = of_file file
+
+-- the bytes that the stream of lines holds, where they go there as they are; of a terminal nothing is told
+abbrev pub lines_contents : {E : Type 0} → (E → Option (List ℕ)) → Lines E → Option (List ℕ)
+lines_contents of_stream (lines.ToTerminal terminal) = None
+lines_contents of_stream (lines.AsTheyAre stream) = of_stream stream

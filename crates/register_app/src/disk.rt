@@ -6,7 +6,7 @@ ghost use Rattle.register_app.specs.Sides.{sink_contents, source_remaining};
 use crate::places::Places;
 use crate::told::Told;
 use register_records::PlainOutput;
-use std::fs::{OpenFile, OpenOptions};
+use std::fs::{File, OpenFile, OpenOptions, TryLockError};
 use std::io;
 use std::io::{ErrorKind, Read, Write};
 use std::os::unix::fs::MetadataExt;
@@ -55,6 +55,35 @@ impl<O: Write, F: Write> Write for Sink<O, F> {
     }
 }
 
+/// A file that one opening of it can keep from others.
+pub trait Exclusive {
+    /// Keeps the file for this opening of it alone, until it is closed.
+    ///
+    /// # Errors
+    ///
+    /// `WouldBlock` where another opening keeps it. Where the file system has no locks, there is no error.
+    fn keep(&self) -> io::Result<()>;
+}
+
+impl Exclusive for File {
+    fn keep(&self) -> io::Result<()> {
+        match self.try_lock() {
+            Err(TryLockError::WouldBlock) => Err(io::Error::from(ErrorKind::WouldBlock)),
+            Ok(()) | Err(TryLockError::Error(_)) => Ok(()),
+        }
+    }
+}
+
+/// Keeps the file of a table for this run alone, and then empties it where it has bytes. One that was emptied is not
+/// closed before the disk has it, which can take longer than the run.
+fn keep_and_empty<F: OpenFile + Exclusive>(file: &F) -> io::Result<()> {
+    file.keep()?;
+    if file.metadata()?.len() > 0 {
+        file.set_len(0)?;
+    }
+    Ok(())
+}
+
 /// The files of the system.
 #[derive(Clone, Copy)]
 pub struct Disk<'a, F> {
@@ -71,7 +100,10 @@ impl<'a, F: Files> Disk<'a, F> {
 impl<'a, F: Files, I: Read, O: Write> Places<
     Source<I, F::File>,
     PlainOutput<Told<Sink<O, F::File>>>,
-> for Disk<'a, F> {
+> for Disk<'a, F>
+where
+    F::File: Exclusive,
+{
     ghost is_opened = { λ _ _ _. ⊤ };
 
     ghost is_made = { λ _ _ mark output. output.mark ≡ mark };
@@ -91,8 +123,8 @@ impl<'a, F: Files, I: Read, O: Write> Places<
         let file = OpenOptions::new()
             .write(true)
             .create(true)
-            .truncate(true)
             .open(self.files, name)?;
+        keep_and_empty(&file)?;
         Ok(PlainOutput::new(Told::new(Sink::File(file)), mark))
     }
 

@@ -11,12 +11,14 @@ mod places;
 mod refusals;
 mod requests;
 mod telling;
+mod terminal;
 mod told;
 
 pub use answering::{Answered, answer};
-pub use disk::{Disk, Sink, Source};
+pub use disk::{Disk, Exclusive, Sink, Source};
 pub use help::HELP;
 pub use places::Places;
 pub use refusals::Refusal;
 pub use requests::{Job, Request, read_request};
+pub use terminal::{Lines, lines_to};
 pub use told::Told;

@@ -10,4 +10,5 @@ mod named;
 mod refused_words;
 mod sealed;
 mod streams;
+mod terminal;
 mod texts;

@@ -1,8 +1,9 @@
 //! Files of the system, and their tables.
 
 use crate::tests::helpers::{Heard, ONE_RECORD, ONE_ROW, hear};
-use register_app::{Disk, Sink, Source};
+use register_app::{Disk, Exclusive, Sink, Source};
 use std::alloc::{AllocError, Global};
+use std::fs::OpenOptions;
 use std::os::unix::fs::symlink;
 use std::rt::Files;
 use std::sync::Wait;
@@ -33,7 +34,7 @@ fn hear_on_disk<T: Threads + Wait + Clock + CpuClock + Sync + Files>(
     words: &[&str],
 ) -> Result<Heard<Sink<Vec<u8>, T::File>, Vec<u8>>, AllocError>
 where
-    T::File: Send,
+    T::File: Send + Exclusive,
 {
     let input: Source<&'static [u8], T::File> = Source::Input(b"");
     let output = Sink::Output(Vec::new(alloc));
@@ -56,7 +57,7 @@ fn is_told<T: Threads + Wait + Clock + CpuClock + Sync + Files + AllocGlobal>(
     told: &[u8],
 ) -> bool
 where
-    T::File: Send,
+    T::File: Send + Exclusive,
 {
     let Ok(heard) = hear_on_disk(rt, rt.alloc(), words) else {
         return false;
@@ -81,7 +82,7 @@ fn gets_one_table<T: Threads + Wait + Clock + CpuClock + Sync + Files + AllocGlo
     rt: &T,
 ) -> io::Result<bool>
 where
-    T::File: Send,
+    T::File: Send + Exclusive,
 {
     fs::write(rt, REGISTER, ONE_RECORD)?;
     fs::write(rt, TABLE, OLDER_TEXT)?;
@@ -94,7 +95,7 @@ fn get_two_tables<T: Threads + Wait + Clock + CpuClock + Sync + Files + AllocGlo
     rt: &T,
 ) -> io::Result<bool>
 where
-    T::File: Send,
+    T::File: Send + Exclusive,
 {
     fs::write(rt, OTHER_REGISTER, ONE_RECORD)?;
     let words = ["--to", "gregorian", REGISTER, OTHER_REGISTER];
@@ -119,7 +120,7 @@ fn is_kept<T: Threads + Wait + Clock + CpuClock + Sync + Files + AllocGlobal>(
     rt: &T,
 ) -> io::Result<bool>
 where
-    T::File: Send,
+    T::File: Send + Exclusive,
 {
     fs::write(rt, OWN_REGISTER, ONE_RECORD)?;
     // A link is found from the folder that it stands in.
@@ -127,6 +128,25 @@ where
     let told = b"register: cannot make files_of_the_test/own.csv.out.csv\n";
     let is_refused = is_told(rt, &["--to", "gregorian", OWN_REGISTER], 3, told);
     Ok(is_refused && fs::read(rt, OWN_REGISTER)?.as_slice() == ONE_RECORD)
+}
+
+/// Whether a table that another opening of it keeps is refused, and stays as it is, and is made again once that is
+/// closed.
+fn is_left_to_its_keeper<T: Threads + Wait + Clock + Sync + Files + AllocGlobal>(
+    rt: &T,
+) -> io::Result<bool>
+where
+    T::File: Send + Exclusive,
+{
+    let words = ["--to", "gregorian", REGISTER];
+    let told = b"register: cannot make files_of_the_test/register.csv.out.csv\n";
+    fs::write(rt, TABLE, OLDER_TEXT)?;
+    let keeper = OpenOptions::new().write(true).open(rt, TABLE)?;
+    keeper.keep()?;
+    let is_refused = is_told(rt, &words, 3, told);
+    let is_left = fs::read(rt, TABLE)?.as_slice() == OLDER_TEXT;
+    drop(keeper);
+    Ok(is_refused && is_left && is_told(rt, &words, 0, b"") && holds_one_row(rt, TABLE))
 }
 
 /// A folder, a file that is not there, and two names of one file.
@@ -152,6 +172,7 @@ fn files_on_disk_get_their_tables(rt: HostRuntime) -> Result<(), Fail> {
     assert!(rt; gets_one_table(&rt)?);
     assert!(rt; get_two_tables(&rt)?);
     assert!(rt; is_kept(&rt)?);
+    assert!(rt; is_left_to_its_keeper(&rt)?);
     for refused in &REFUSED {
         assert!(rt;
             is_told(&rt, refused.files, 3, refused.told),

@@ -1,0 +1,160 @@
+//! Lines that go to a terminal, and the same lines elsewhere.
+
+use crate::tests::helpers::{NoPlaces, ONE_RECORD, hear};
+use register_app::Lines;
+use std::alloc::{AllocError, Global};
+use std::io;
+use std::io::{ErrorKind, Write};
+use std::sync::Wait;
+use std::test::Fail;
+use std::thread::Threads;
+use std::time::Clock;
+
+/// A stream over memory that takes so many bytes by one write, is interrupted at its second write, and has room for so
+/// many bytes in all.
+#[derive(Drop)]
+struct Slow {
+    bytes: Vec<u8>,
+    most: usize,
+    room: usize,
+    writes: u32,
+}
+
+impl Write for Slow {
+    fn write(&mut self, buf: &[u8]) -> io::Result<usize> {
+        self.writes = self.writes.saturating_add(1);
+        if self.writes == 2 {
+            return Err(io::Error::from(ErrorKind::Interrupted));
+        }
+        let count = buf.len().min(self.most).min(self.room);
+        self.bytes.extend_from_slice(&buf[..count])?;
+        self.room -= count;
+        Ok(count)
+    }
+
+    fn flush(&mut self) -> io::Result<()> {
+        Ok(())
+    }
+}
+
+/// A wrong target, and how the line that names it stands on a terminal.
+#[derive(Clone, Copy)]
+struct Shown {
+    target: &'static str,
+    line: &'static str,
+}
+
+const SHOWN: [Shown; 7] = [
+    Shown {
+        target: "Mayan",
+        line: "register: unknown target: Mayan\n",
+    },
+    Shown {
+        target: "",
+        line: "register: unknown target: \n",
+    },
+    // The first and the last control characters of each kind, and what stands beside them.
+    Shown {
+        target: "\0\u{1f} ~\u{7f}",
+        line: "register: unknown target: \\u{0}\\u{1f} ~\\u{7f}\n",
+    },
+    Shown {
+        target: "\u{80}\u{9f}\u{a0}",
+        line: "register: unknown target: \\u{80}\\u{9f}\u{a0}\n",
+    },
+    Shown {
+        target: "\u{1b}]0;title\u{7}\u{1b}[31mred",
+        line: "register: unknown target: \\u{1b}]0;title\\u{7}\\u{1b}[31mred\n",
+    },
+    Shown {
+        target: "a\tb\rc\nd",
+        line: "register: unknown target: a\\u{9}b\\u{d}c\nd\n",
+    },
+    Shown {
+        target: "Père עברית 日本 \u{2028}",
+        line: "register: unknown target: Père עברית 日本 \u{2028}\n",
+    },
+];
+
+/// What stands on a stream after the answer to a wrong target.
+fn told_to(
+    rt: &(impl Threads + Wait + Clock + Sync),
+    alloc: Global,
+    target: &str,
+    stream: Lines<Slow>,
+) -> Result<Vec<u8>, AllocError> {
+    let words = ["--to", target];
+    let heard = hear(
+        rt,
+        alloc,
+        &words,
+        ONE_RECORD,
+        Vec::new(alloc),
+        &NoPlaces,
+        stream,
+    )?;
+    Ok(match heard.errors {
+        Lines::ToTerminal(slow) => slow.bytes,
+        Lines::AsTheyAre(slow) => slow.bytes,
+    })
+}
+
+/// Whether the line for a target stands on a terminal as it should, where each write takes so many bytes, and what is
+/// there is a front of it where there is no room for all.
+fn is_shown(
+    rt: &(impl Threads + Wait + Clock + Sync),
+    alloc: Global,
+    shown: &Shown,
+    most: usize,
+    room: usize,
+) -> bool {
+    let stream = Lines::ToTerminal(Slow {
+        bytes: Vec::new(alloc),
+        most,
+        room,
+        writes: 0,
+    });
+    let Ok(told) = told_to(rt, alloc, shown.target, stream) else {
+        return false;
+    };
+    let line = shown.line.as_bytes();
+    told.as_slice() == &line[..line.len().min(room)]
+}
+
+/// Whether the line for a target stands elsewhere as it is.
+fn is_as_it_is(rt: &(impl Threads + Wait + Clock + Sync), alloc: Global, target: &str) -> bool {
+    let stream = Lines::AsTheyAre(Slow {
+        bytes: Vec::new(alloc),
+        most: 1,
+        room: 1000,
+        writes: 0,
+    });
+    let Ok(told) = told_to(rt, alloc, target, stream) else {
+        return false;
+    };
+    let Some(name) = told.as_slice().strip_prefix(b"register: unknown target: ") else {
+        return false;
+    };
+    name.strip_suffix(b"\n") == Some(target.as_bytes())
+}
+
+#[test]
+fn control_characters_are_shown_on_a_terminal_alone(rt: HostRuntime) -> Result<(), Fail> {
+    for shown in &SHOWN {
+        for most in [1, 2, 7, 1000] {
+            for room in [0, 27, 28, 31, 36, 1000] {
+                assert!(rt;
+                    is_shown(&rt, rt.alloc(), shown, most, room),
+                    "{}, {most} at a time, room for {room}",
+                    shown.line
+                );
+            }
+        }
+        assert!(rt;
+            is_as_it_is(&rt, rt.alloc(), shown.target),
+            "{}",
+            shown.line
+        );
+    }
+    Ok(())
+}

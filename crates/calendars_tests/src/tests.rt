@@ -1,5 +1,6 @@
 mod dates;
 mod days;
+mod examples;
 mod maya;
 mod months;
 mod new_years;

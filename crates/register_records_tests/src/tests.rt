@@ -9,6 +9,7 @@ use register_records::{
 use std::alloc::Global;
 use std::test::Fail;
 
+mod examples;
 mod faults;
 mod parts;
 mod streams;

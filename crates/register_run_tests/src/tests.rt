@@ -11,6 +11,7 @@ use std::thread::Threads;
 use std::time::Clock;
 
 mod ends;
+mod examples;
 mod faults;
 mod gates;
 mod hostile;

@@ -1,3 +1,5 @@
+//! Known dates and days, and walks from day to day or from month to month.
+
 mod dates;
 mod days;
 mod examples;

@@ -1,3 +1,5 @@
+//! What a calendar is: its dates and its days, matched one to one.
+
 ghost use Rattle.std.specs.Prelude.{◌≡◌, ◌↔◌, ℤ, Option, IsOk, IsSome, IfOk, IfSome, Err, Some};
 ghost use Rattle.day_numbers.specs.Days.{IsDayNumber, IsSinceFirstDay};
 ghost use Rattle.day_numbers.specs.declared.ymd.Ymd.{Ymd};

@@ -1,3 +1,5 @@
+//! Days by their numbers, and the days of the week.
+
 ghost use Rattle.std.specs.Prelude.{◌≡◌, ◌↔◌, IsSome, IfSome, Some, slice_get};
 ghost use Rattle.day_numbers.specs.Days.{IsDayNumber, weekday_number, all_weekdays, weekday_name};
 

@@ -1,3 +1,5 @@
+//! The Hebrew calendar: new years by the molad and what puts them off, and the months from one to the next.
+
 ghost use Rattle.std.specs.Prelude.{◌≡◌, ◌≤◌, ◌<◌, ◌+◌, pos, ◌+ℤ◌, ◌-ℤ◌, ◌≤ℤ◌, ◌<ℤ◌, IsTrue, length};
 ghost use Rattle.std.specs.Prelude.{ℕ, Bool, Contains, not, ◌&&◌, ◌||◌, ◌==◌, if◌then◌else◌, slice_index, take};
 ghost use Rattle.day_numbers.specs.Rules.{total_days, are_months, year_start, IsDateOf, day_number_of, first_day_of};

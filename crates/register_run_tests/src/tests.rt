@@ -1,4 +1,4 @@
-// The tables that are wanted are worked by hand from the calendars' rules.
+//! The tables that are wanted are worked by hand from the calendars' rules.
 
 use date_texts::{Calendar, Target};
 use register_records::{Form, Output, PlainOutput, Setup, SetupFault, SourceEnd};

@@ -1,5 +1,5 @@
-//! The examples in the documents of the crates of calendars, each under the name of what it is an example of. Its lines
-//! stand in both places.
+//! The examples in the doc comments of `day_numbers` and of the crates of calendars, each under the name of its item.
+//! The lines are the same in both places.
 
 use day_numbers::{ArithmeticCalendar, DateFault, Day, Weekday, Ymd};
 use lunar_calendars::hebrew_new_year;

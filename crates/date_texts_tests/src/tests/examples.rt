@@ -1,5 +1,5 @@
-//! The examples in the documents of `date_texts`, each under the name of what it is an example of. Its lines stand in
-//! both places.
+//! The examples in the doc comments of `date_texts`, each under the name of its item. The lines are the same in both
+//! places.
 
 use date_texts::{Calendar, Refusal, Target, cell, day_of_date, read_date, write_date};
 use day_numbers::Day;

@@ -1,5 +1,5 @@
-//! The examples in the documents of `register_records`, each under the name of what it is an example of. Its lines stand
-//! in both places.
+//! The examples in the doc comments of `register_records`, each under the name of its item. The lines are the same in
+//! both places.
 
 use date_texts::{Calendar, Target};
 use register_records::{EntryReader, Form, PlainOutput, Setup, SetupFault, convert_source};

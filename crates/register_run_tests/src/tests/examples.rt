@@ -1,5 +1,4 @@
-//! The example in the documents of `register_run`, under the name of what it is an example of. Its lines stand in both
-//! places.
+//! The example in the doc comment of `run`, under the name of its item. The lines are the same in both places.
 
 use register_records::{Form, PlainOutput, Setup};
 use register_run::{Verdict, run};

@@ -1,5 +1,8 @@
+//! Known dates and days, and walks from day to day or from month to month.
+
 mod dates;
 mod days;
+mod examples;
 mod maya;
 mod months;
 mod new_years;

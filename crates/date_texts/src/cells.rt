@@ -74,6 +74,16 @@ fn push_cell(text: &mut ArrayString<24>, target: Target, day: Day)
 /// that the calendar has on that day, and empty before the calendar's first day. For the haab it is the
 /// day of the month, without leading zeros, a space and the name of the month, and for the tzolkin the
 /// number, a space and the name.
+///
+/// # Examples
+///
+/// ```
+/// // 12 November 1945.
+/// let day = Day::new(710_347).ok_or("out of range")?;
+/// let hebrew = Target::Date(Calendar::Hebrew);
+/// assert_eq!(rt; cell(hebrew, day).as_str(), "5706-09-07");
+/// assert_eq!(rt; cell(Target::Haab, day).as_str(), "7 Zac");
+/// ```
 #[inline(always)]
 pub fn cell(target: Target, day: Day) -> ArrayString<24>
     ensures { IsCell target day.number result.bytes }

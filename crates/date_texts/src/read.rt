@@ -36,6 +36,15 @@ fn date_at(calendar: Calendar, text: &[u8]) -> Option<Date>
 /// # Errors
 ///
 /// `DateText` exactly where the text is not in this grammar, and no other refusal.
+///
+/// # Examples
+///
+/// ```
+/// let date = read_date(Calendar::Julian, " 1582-10-5 ")?;
+/// assert_eq!(rt; day_of_date(&date)?.number(), 577_736);
+/// let slashed = read_date(Calendar::Julian, "1582/10/05");
+/// assert_eq!(rt; slashed, Err(Refusal::DateText));
+/// ```
 pub fn read_date(calendar: Calendar, text: &str) -> Result<Date, Refusal>
     ensures value { (date : Date) → (result ≡ Ok date) ↔ IsDateText calendar text.now date }
     ensures refused { (result ≡ Err Refusal.DateText) ↔ ((date : Date) → ¬ (IsDateText calendar text.now date)) }

@@ -30,6 +30,15 @@ pub fn push_date(text: &mut ArrayString<24>, date: Date)
 /// two, and dashes join them. A week date has the letter W before the week, and no leading zero in the weekday. A long
 /// count has five places without leading zeros, joined by dots. A Roman date has the name of a day in the place of the
 /// day, in capital letters, with a count without leading zeros.
+///
+/// # Examples
+///
+/// ```
+/// let ides_of_march = read_date(Calendar::Julian, "-44-3-15")?;
+/// assert_eq!(rt; write_date(&ides_of_march).as_str(), "-0044-03-15");
+/// let week_date = read_date(Calendar::Iso, "2004-w53-6")?;
+/// assert_eq!(rt; write_date(&week_date).as_str(), "2004-W53-6");
+/// ```
 pub fn write_date(date: &Date) -> ArrayString<24>
     ensures { result.bytes ≡ canonical_text date.now }
 {

@@ -1,3 +1,5 @@
+//! What a calendar is: its dates and its days, matched one to one.
+
 ghost use Rattle.std.specs.Prelude.{◌≡◌, ◌↔◌, ℤ, Option, IsOk, IsSome, IfOk, IfSome, Err, Some};
 ghost use Rattle.day_numbers.specs.Days.{IsDayNumber, IsSinceFirstDay};
 ghost use Rattle.day_numbers.specs.declared.ymd.Ymd.{Ymd};
@@ -49,6 +51,16 @@ pub trait ArithmeticCalendar {
     ///
     /// `NoSuchDate` exactly where the calendar has no such date, whatever its day would be;
     /// `OutOfRange` exactly where it has the date and the day number is not from -3652424 to 3652059.
+    ///
+    /// # Examples
+    ///
+    /// ```
+    /// let date = Ymd::new(1582, 10, 5).ok_or("out of bounds")?;
+    /// let day = Julian.day_of(date)?;
+    /// assert_eq!(rt; Gregorian.date_on(day), Ymd::new(1582, 10, 15));
+    /// let year_zero = Ymd::new(0, 1, 1).ok_or("out of bounds")?;
+    /// assert_eq!(rt; Julian.day_of(year_zero), Err(DateFault::NoSuchDate));
+    /// ```
     fn day_of(&self, date: Ymd) -> Result<Day, DateFault>
         ensures succeeds { IsOk result ↔ (IsDate date × IsDayNumber (day_number date)) }
         ensures value { IfOk result (λ day. day.number ≡ day_number date) }

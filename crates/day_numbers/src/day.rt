@@ -1,3 +1,5 @@
+//! Days by their numbers, and the days of the week.
+
 ghost use Rattle.std.specs.Prelude.{◌≡◌, ◌↔◌, IsSome, IfSome, Some, slice_get};
 ghost use Rattle.day_numbers.specs.Days.{IsDayNumber, weekday_number, all_weekdays, weekday_name};
 
@@ -14,6 +16,15 @@ pub struct Day {
 impl Day {
     /// The day with the fixed day number `number`, or `None` exactly where the number is not from
     /// -3652424 to 3652059.
+    ///
+    /// # Examples
+    ///
+    /// ```
+    /// // 1 January 1970 was a Thursday.
+    /// let day = Day::new(719_163).ok_or("out of range")?;
+    /// assert_eq!(rt; day.weekday(), Weekday::Thursday);
+    /// assert!(rt; Day::new(3_652_060).is_none());
+    /// ```
     pub fn new(number: i64) -> Option<Self>
         ensures made { IsSome result ↔ IsDayNumber number }
         ensures value { IfSome result (λ day. day.number ≡ number) }

@@ -1,3 +1,5 @@
+//! A year, a month and a day, as calendars take and give them.
+
 ghost use Rattle.std.specs.Prelude.{◌≡◌, ◌≤◌, ◌↔◌, IsSome, IfSome};
 ghost use Rattle.day_numbers.specs.Dates.{IsYear, IsYmd};
 

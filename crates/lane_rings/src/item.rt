@@ -1,4 +1,4 @@
-// What goes through a lane, and what comes back when it cannot.
+//! What goes through a lane, and what comes back when it cannot.
 
 /// An item of a lane.
 #[derive(Debug, Drop, Eq, PartialEq)]

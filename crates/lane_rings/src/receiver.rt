@@ -1,3 +1,5 @@
+//! How items are taken from a lane, and how it is confirmed that all were.
+
 ghost use Rattle.std.specs.Prelude.{◌≡◌, Some};
 ghost use Rattle.rtrb.specs.Ring.{received};
 ghost use Rattle.lane_rings.specs.Items.{last_mark};

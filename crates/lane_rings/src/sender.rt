@@ -1,3 +1,5 @@
+//! How items are sent through a lane, and how a lane is closed or stopped.
+
 use crate::item::{Gone, Item};
 use crate::wait::Patience;
 use rtrb::{Finished, Producer};

@@ -1,3 +1,5 @@
+//! Lanes on one thread.
+
 ghost use Rattle.std.specs.Prelude.{◌≡◌};
 ghost use Rattle.lane_rings.specs.Lane.{receiver_lane, sender_lane};
 

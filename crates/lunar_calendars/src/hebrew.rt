@@ -1,3 +1,5 @@
+//! The Hebrew calendar: new years by the molad and what puts them off, and the months from one to the next.
+
 ghost use Rattle.std.specs.Prelude.{◌≡◌, ◌≤◌, ◌<◌, ◌+◌, pos, ◌+ℤ◌, ◌-ℤ◌, ◌≤ℤ◌, ◌<ℤ◌, IsTrue, length};
 ghost use Rattle.std.specs.Prelude.{ℕ, Bool, Contains, not, ◌&&◌, ◌||◌, ◌==◌, if◌then◌else◌, slice_index, take};
 ghost use Rattle.day_numbers.specs.Rules.{total_days, are_months, year_start, IsDateOf, day_number_of, first_day_of};
@@ -265,6 +267,15 @@ impl ArithmeticCalendar for Hebrew {
 /// Friday; Thursday where the molad of a common year is on a Tuesday at 9 hours and 204 parts or later; and
 /// Tuesday where the molad of a year after a leap year is on a Monday at 15 hours and 589 parts or later. It
 /// lies as many days after the first day of year 1 as the years before it have together.
+///
+/// # Examples
+///
+/// ```
+/// // The year 5766 opened on Tuesday, 4 October 2005.
+/// let day = Day::new(hebrew_new_year(5766)).ok_or("out of range")?;
+/// assert_eq!(rt; day.weekday(), Weekday::Tuesday);
+/// assert_eq!(rt; Gregorian.date_on(day), Ymd::new(2005, 10, 4));
+/// ```
 #[tactic(auto, using(crate::proofs::YearLengths::year_start_is))]
 pub fn hebrew_new_year(year: u32) -> i64
     requires low { 1 ≤ year }

@@ -1,3 +1,5 @@
+//! The Islamic calendar: twelve months a year, and its leap years in rounds of 30.
+
 ghost use Rattle.std.specs.Prelude.{◌≡◌, ◌≤◌, ◌<◌, ◌+◌, unsigned_abs};
 ghost use Rattle.day_numbers.specs.Rules.{days_of_years as days_of, total_days, IsDateOf, day_number_of, first_day_of};
 ghost use Rattle.day_numbers.proofs.DateLemmas.{rules_one_date, rules_have_days};

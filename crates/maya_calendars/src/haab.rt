@@ -1,3 +1,5 @@
+//! The haab: eighteen months of twenty days, and five days behind them.
+
 ghost use Rattle.std.specs.Prelude.{◌≡◌, ◌≤◌, ℕ};
 ghost use Rattle.maya_calendars.specs.HaabNames.{all_months, month_name, last_day, haab_after, haab_of};
 ghost use Rattle.day_numbers.specs.Numbered.{IsNumbered};

@@ -1,3 +1,5 @@
+//! Long counts as they are written, place by place.
+
 ghost use Rattle.std.specs.Prelude.{◌≡◌, ◌≤◌, ◌↔◌, IsSome, IfSome};
 ghost use Rattle.maya_calendars.specs.Places.{ArePlaces};
 

@@ -1,3 +1,5 @@
+//! The days of long counts, and the long counts of days.
+
 ghost use Rattle.std.specs.Prelude.{◌≡◌, ◌↔◌, ℤ, ◌≤ℤ◌, IsOk, IsSome, IfOk, IfSome, Err, Some};
 ghost use Rattle.day_numbers.specs.Days.{IsDayNumber};
 ghost use Rattle.day_numbers.specs.declared.calendar.DateFault.{DateFault};

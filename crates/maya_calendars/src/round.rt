@@ -1,3 +1,5 @@
+//! Numbers that move on by one from each day to the next, and begin again after the last.
+
 ghost use Rattle.std.specs.Prelude.{◌≡◌, ◌≤◌};
 ghost use Rattle.maya_calendars.specs.Rounds.{round_number};
 

@@ -1,3 +1,5 @@
+//! The tzolkin: thirteen numbers and twenty names, which both move on from each day to the next.
+
 ghost use Rattle.std.specs.Prelude.{◌≡◌, ◌≤◌, ℕ};
 ghost use Rattle.maya_calendars.specs.TzolkinNames.{all_names, name_text, tzolkin_after, tzolkin_of};
 ghost use Rattle.day_numbers.specs.Numbered.{IsNumbered};

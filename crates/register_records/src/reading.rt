@@ -47,6 +47,17 @@ pub enum EntryFault {
 }
 
 /// The entries of a text, in order, each read when it is asked for.
+///
+/// # Examples
+///
+/// ```
+/// let setup = Setup::new(&[], 16, b',', 1, Form::Plain)?;
+/// let text = b"id,calendar,date\na,gregorian,1945-11-12\n";
+/// let mut entries = EntryReader::open(rt.alloc(), text.as_slice(), &setup)?;
+/// let entry = entries.next()?.ok_or("no entry")?;
+/// assert_eq!(rt; entry.number(), 1);
+/// assert!(rt; entries.next()?.is_none());
+/// ```
 #[derive(Drop)]
 pub struct EntryReader<R: Read> {
     records: Reader<Retrying<R>>,

@@ -98,6 +98,16 @@ impl Setup {
     /// # Errors
     ///
     /// The first that applies of `TargetTwice`, `RingSize`, `Delimiter` and `Stripes`.
+    ///
+    /// # Examples
+    ///
+    /// ```
+    /// let targets = [Target::Date(Calendar::Gregorian), Target::Tzolkin];
+    /// let setup = Setup::new(&targets, 16, b',', 1, Form::Plain)?;
+    /// assert!(rt; setup.targets() == targets.as_slice());
+    /// let fault = Setup::new(&targets, 0, b',', 1, Form::Plain).err();
+    /// assert!(rt; fault == Some(SetupFault::RingSize));
+    /// ```
     pub fn new(
         targets: &[Target],
         ring: usize,

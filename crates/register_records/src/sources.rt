@@ -268,6 +268,17 @@ fn convert_entries<R: Read + Drop, W: Output>(
 ///
 /// The answer is `Whole` where the whole table was written, and else `Broken` with the cause of the
 /// fault; the causes `NoThread` and `Unconfirmed` are never answered.
+///
+/// # Examples
+///
+/// ```
+/// let setup = Setup::new(&[Target::Date(Calendar::Julian)], 16, b',', 1, Form::Plain)?;
+/// let text = b"id,calendar,date\na,gregorian,1752-09-14\n";
+/// let mut output = PlainOutput::new(Vec::new(rt.alloc()), 1);
+/// let end = convert_source(rt.alloc(), text.as_slice(), &mut output, &setup);
+/// let table = output.into_inner();
+/// assert!(rt; end.is_whole() && table.ends_with(b",639797,Thursday,1752-09-03,\n"));
+/// ```
 pub fn convert_source<R: Read + Drop, W: Output>(
     alloc: Global,
     reader: R,

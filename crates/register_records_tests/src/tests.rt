@@ -1,5 +1,5 @@
-// The tables that are wanted are worked by hand from the calendars' rules and from published day numbers: R.D. 719163,
-// a Thursday, is 1970-01-01, and R.D. 577736, a Friday, is 1582-10-05 of the Julian calendar.
+//! The tables that are wanted are worked by hand from the calendars' rules and from published day numbers: R.D. 719163,
+//! a Thursday, is 1970-01-01, and R.D. 577736, a Friday, is 1582-10-05 of the Julian calendar.
 
 use arrayvec::ArrayString;
 use date_texts::{Calendar, Target};
@@ -9,6 +9,7 @@ use register_records::{
 use std::alloc::Global;
 use std::test::Fail;
 
+mod examples;
 mod faults;
 mod parts;
 mod streams;

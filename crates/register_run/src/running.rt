@@ -358,6 +358,17 @@ pub fn run_gated<
 /// # Errors
 ///
 /// As those of [`run_gated`].
+///
+/// # Examples
+///
+/// ```
+/// let setup = Setup::new(&[], 16, b',', 1, Form::Plain)?;
+/// let text = b"id,calendar,date\nx,gregorian,1970-01-01\n";
+/// let sources = Vec::from_array(rt.alloc(), [text.as_slice()])?;
+/// let outputs = Vec::from_array(rt.alloc(), [PlainOutput::new(Vec::new(rt.alloc()), 1)])?;
+/// let answer = run(&rt, rt.alloc(), sources, outputs, &setup);
+/// assert!(rt; answer.is_ok_and(|report| report.verdict == Verdict::Complete));
+/// ```
 pub fn run<T: Threads + Wait + Clock + CpuClock + Sync, R: Read + Send + Drop, W: Output + Drop>(
     rt: &T,
     alloc: Global,

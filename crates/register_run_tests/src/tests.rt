@@ -1,4 +1,4 @@
-// The tables that are wanted are worked by hand from the calendars' rules.
+//! The tables that are wanted are worked by hand from the calendars' rules.
 
 use date_texts::{Calendar, Target};
 use register_records::{Form, Output, PlainOutput, Setup, SetupFault, SourceEnd};
@@ -11,6 +11,7 @@ use std::thread::Threads;
 use std::time::{Clock, CpuClock};
 
 mod ends;
+mod examples;
 mod faults;
 mod gates;
 mod hostile;

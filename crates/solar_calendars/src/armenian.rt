@@ -1,3 +1,5 @@
+//! The Armenian calendar: thirteen months, and no leap years.
+
 ghost use Rattle.day_numbers.specs.Rules.{IsDateOf, day_number_of, first_day_of};
 ghost use Rattle.day_numbers.proofs.DateLemmas.{rules_one_date, rules_have_days};
 ghost use Rattle.solar_calendars.specs.ThirteenMonths.{armenian_rules};

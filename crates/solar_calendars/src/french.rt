@@ -1,3 +1,5 @@
+//! The French Revolutionary calendar: thirteen months, and leap years by its arithmetic rule.
+
 ghost use Rattle.std.specs.Prelude.{◌+◌, ◌*◌};
 ghost use Rattle.day_numbers.specs.Rules.{IsDateOf, day_number_of, first_day_of};
 ghost use Rattle.day_numbers.proofs.DateLemmas.{rules_one_date, rules_have_days};

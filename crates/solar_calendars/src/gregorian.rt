@@ -1,3 +1,5 @@
+//! The Gregorian calendar: dates and days by `jiff` where it has them, and else by a formula for the start of a year.
+
 ghost use Rattle.std.specs.Prelude.{◌≡◌, pos, neg_ℤ, ◌+ℤ◌, ◌*ℤ◌, ◌≤ℤ◌, ◌<ℤ◌, ◌↔◌, IsSome, IfSome};
 ghost use Rattle.day_numbers.specs.Days.{IsDayNumber, IsBetween};
 ghost use Rattle.day_numbers.specs.Dates.{IsYear};

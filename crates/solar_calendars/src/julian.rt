@@ -1,3 +1,5 @@
+//! The Julian calendar: twelve months, a leap year in four, and no year 0.
+
 ghost use Rattle.std.specs.Prelude.{◌≡◌, pos, neg_ℤ, ◌+ℤ◌, ◌≤ℤ◌, ◌<ℤ◌};
 ghost use Rattle.day_numbers.specs.Days.{IsBetween, IsDayNumber};
 ghost use Rattle.day_numbers.specs.Dates.{IsYear};

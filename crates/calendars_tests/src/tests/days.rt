@@ -1,3 +1,5 @@
+//! Days and their weekdays.
+
 use super::table::numbers;
 use day_numbers::{DateFault, Day};
 

@@ -1,3 +1,5 @@
+//! Long counts, haab and tzolkin of known days, and walks from day to day.
+
 use super::table::{answer, numbers};
 use day_numbers::{DateFault, Day};
 use maya_calendars::{LongCount, haab_on, long_day_of, long_on, tzolkin_on};

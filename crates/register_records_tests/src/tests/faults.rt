@@ -1,4 +1,4 @@
-// Readers and outputs that fail at each place in turn, and refused memory.
+//! Readers and outputs that fail at each place in turn, and refused memory.
 
 use super::{THREE_RECORDS, THREE_ROWS, cause_of, fields_of, lines_of_front, plain, row_of};
 use date_texts::Target;

@@ -1,4 +1,4 @@
-// Setups, entries, rows, cells and lines that wait.
+//! Setups, entries, rows, cells and lines that wait.
 
 use super::{GREGORIAN, JULIAN, fields_of, plain, row_of};
 use date_texts::{Refusal, Target};

@@ -1,4 +1,4 @@
-// Streams of the standard library that are interrupted, take a part or fail, and the longest registers.
+//! Streams of the standard library that are interrupted, take a part or fail, and the longest registers.
 
 use super::{THREE_RECORDS, THREE_ROWS, cause_of, lines_of_front, plain};
 use register_records::{Form, Output, PlainOutput, Setup, SourceEnd, convert_source};

@@ -1,4 +1,4 @@
-// Texts and the tables that they become.
+//! Texts and the tables that they become.
 
 use super::{GREGORIAN, ISLAMIC, ISO, JULIAN, LONGCOUNT, ROMAN, cause_of, converted};
 use date_texts::Target;

@@ -1,5 +1,5 @@
-// The ends of a lane on two threads, where one of them is slow: nothing but a dropped end is told as gone, and what was
-// sent before the sender was dropped is taken.
+//! The ends of a lane on two threads, where one of them is slow: nothing but a dropped end is told as gone, and what
+//! was sent before the sender was dropped is taken.
 
 use lane_rings::{Item, Receiver, Sender, lane};
 use std::alloc::{AllocError, Global};

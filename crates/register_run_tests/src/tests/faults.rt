@@ -1,4 +1,4 @@
-// Sources and outputs that fail at each place in turn, and memory that is refused, beside sources that do not fail.
+//! Sources and outputs that fail at each place in turn, and memory that is refused, beside sources that do not fail.
 
 use super::{
     answer_of, cause_of, is_complete, plain_setup, report_of, table_of, tables_of, text_of,

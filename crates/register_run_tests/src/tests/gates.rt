@@ -1,5 +1,5 @@
-// Tests with a gate or with readers that wait show that the work of several threads goes on at the same time. Each of
-// them looks only so often: where what it waits for does not come, it fails.
+//! Tests with a gate or with readers that wait show that the work of several threads goes on at the same time. Each of
+//! them looks only so often: where what it waits for does not come, it fails.
 
 use super::{RECORD, WHOLE_TEXT, completes, is_complete, outputs_of, plain_setup, text_of};
 use register_records::{Output, PlainOutput, Setup};

@@ -1,4 +1,4 @@
-// Texts that are meant to harm, converted on one thread and by runs, read at once and a byte at a time.
+//! Texts that are meant to harm, converted on one thread and by runs, read at once and a byte at a time.
 
 use super::{HEADING, RECORD, cause_of, is_joined, plain_setup, report_of};
 use register_records::faults::{Chunks, Sink};

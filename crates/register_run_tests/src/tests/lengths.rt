@@ -1,4 +1,4 @@
-// Records whose fields have every length that is allowed, a million of them: no length and no number is an error.
+//! Records whose fields have every length that is allowed, a million of them: no length and no number is an error.
 
 use super::hostile::Counter;
 use super::{plain_setup, report_of};

@@ -1,5 +1,5 @@
-// Sealed registers: which are whole, why the others are not, and what stands in their tables. The rows are worked by
-// hand from the calendars' rules: 5 October 1582 in the Julian calendar is day 577736, a Friday.
+//! Sealed registers: which are whole, why the others are not, and what stands in their tables. The rows are worked by
+//! hand from the calendars' rules: 5 October 1582 in the Julian calendar is day 577736, a Friday.
 
 use super::{GREGORIAN, Told, outputs_of, report_of, sources_of, told_by};
 use date_texts::Refusal;

@@ -12,7 +12,3 @@ number_room = 40
 -- the fields that a row has of its entry: a number, and after a delimiter each an id, a calendar, a date and a note
 abbrev pub entry_room : ℕ
 entry_room = number_room + (1 + field_room 40) + (1 + field_room 16) + (1 + field_room 32) + (1 + field_room 80)
-
--- the longest answer: a day number, the longest weekday, fourteen cells and a refusal, each after a delimiter
-abbrev pub answer_room : ℕ
-answer_room = (1 + 8) + (1 + 9) + 14 * (1 + 16) + (1 + 1)

@@ -2,7 +2,7 @@
 
 use crate::tests::helpers::{NoPlaces, ONE_RECORD, hear};
 use register_app::Lines;
-use std::alloc::{AllocError, Global};
+use std::alloc::Global;
 use std::io;
 use std::io::{ErrorKind, Write};
 use std::sync::Wait;
@@ -76,31 +76,32 @@ const SHOWN: [Shown; 7] = [
     },
 ];
 
-/// What stands on a stream after the answer to a wrong target.
-fn told_to(
+/// What a stream has taken.
+fn bytes_of(stream: &Lines<Slow>) -> &[u8] {
+    match stream {
+        Lines::ToTerminal(slow) => slow.bytes.as_slice(),
+        Lines::AsTheyAre(slow) => slow.bytes.as_slice(),
+    }
+}
+
+/// Whether this stands on a stream after the answer to a wrong target.
+fn is_told(
     rt: &(impl Threads + Wait + Clock + Sync),
     alloc: Global,
     target: &str,
     stream: Lines<Slow>,
-) -> Result<Vec<u8>, AllocError> {
+    wanted: &[u8],
+) -> bool {
     let words = ["--to", target];
-    let heard = hear(
-        rt,
-        alloc,
-        &words,
-        ONE_RECORD,
-        Vec::new(alloc),
-        &NoPlaces,
-        stream,
-    )?;
-    Ok(match heard.errors {
-        Lines::ToTerminal(slow) => slow.bytes,
-        Lines::AsTheyAre(slow) => slow.bytes,
-    })
+    let output = Vec::new(alloc);
+    let Ok(heard) = hear(rt, alloc, &words, ONE_RECORD, output, &NoPlaces, stream) else {
+        return false;
+    };
+    bytes_of(&heard.errors) == wanted
 }
 
-/// Whether the line for a target stands on a terminal as it should, where each write takes so many bytes, and what is
-/// there is a front of it where there is no room for all.
+/// Whether the line for a target stands on a terminal as it should, where each write takes so many bytes, and a front of
+/// it where there is no room for all.
 fn is_shown(
     rt: &(impl Threads + Wait + Clock + Sync),
     alloc: Global,
@@ -108,34 +109,34 @@ fn is_shown(
     most: usize,
     room: usize,
 ) -> bool {
+    let line = shown.line.as_bytes();
     let stream = Lines::ToTerminal(Slow {
         bytes: Vec::new(alloc),
         most,
         room,
         writes: 0,
     });
-    let Ok(told) = told_to(rt, alloc, shown.target, stream) else {
-        return false;
-    };
-    let line = shown.line.as_bytes();
-    told.as_slice() == &line[..line.len().min(room)]
+    is_told(
+        rt,
+        alloc,
+        shown.target,
+        stream,
+        &line[..line.len().min(room)],
+    )
 }
 
 /// Whether the line for a target stands elsewhere as it is.
 fn is_as_it_is(rt: &(impl Threads + Wait + Clock + Sync), alloc: Global, target: &str) -> bool {
+    let Ok(line) = format!(in alloc; "register: unknown target: {target}\n") else {
+        return false;
+    };
     let stream = Lines::AsTheyAre(Slow {
         bytes: Vec::new(alloc),
         most: 1,
         room: 1000,
         writes: 0,
     });
-    let Ok(told) = told_to(rt, alloc, target, stream) else {
-        return false;
-    };
-    let Some(name) = told.as_slice().strip_prefix(b"register: unknown target: ") else {
-        return false;
-    };
-    name.strip_suffix(b"\n") == Some(target.as_bytes())
+    is_told(rt, alloc, target, stream, line.as_bytes())
 }
 
 #[test]

@@ -28,6 +28,7 @@ mod seals;
 mod setups;
 mod short_lists;
 mod sources;
+mod target_lists;
 mod writing;
 
 pub use cell_texts::CellText;

@@ -1,4 +1,4 @@
-use Rattle.std.proofs.Common.{◌≡◌, ◌-◌, ◌≤◌, ℕ, arith, drop, length, length-drop}
+use Rattle.std.proofs.Common.{◌≡◌, ◌-◌, ◌≤◌, arith, drop, length, length-drop}
 use Rattle.register_records.specs.TargetNumbers.{number_of}
 use Rattle.register_records.proofs.TargetNumberFacts.{fits}
 use Rattle.register_records.proofs.target_lists.number.Goals as goal

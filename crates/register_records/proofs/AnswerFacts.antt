@@ -18,7 +18,7 @@ use Rattle.date_texts.specs.declared.refusal.Refusal.{Refusal}
 use Rattle.date_texts.specs.declared.refusal.Refusal.TheVariants as refused
 use Rattle.date_texts.proofs.LawWords.{CellsArePlain, OneCell}
 use Rattle.register_records.specs.Answers.{answer_text, cut_cells}
-use Rattle.register_records.specs.Columns.{answer_field, cell_columns, day_number, refusal, weekday}
+use Rattle.register_records.specs.Columns.{answer_field, cell_columns, day_columns, of_day, refusal}
 use Rattle.register_records.specs.Lines.{writing}
 use Rattle.register_records.specs.Outcomes.{AreCells}
 use Rattle.register_records.specs.SetupRules.{is_delimiter}
@@ -146,24 +146,26 @@ cut-answer law d h (Ok n) ts cells front rest a =
 cut-answer law d h (Err r) ts [] front rest a = refl
 cut-answer law d h (Err r) ts (x ∷ cells) front rest a = cc
 
-joined : {X : Type 0} (d : ℕ) (a b : List ℕ) (f : X → List ℕ) (xs : List X) (last : X)
-    → ((text d (a ∷ []) ++ text d (b ∷ [])) ++ text d (map f xs)) ++ text d (f last ∷ [])
-    ≡ text d (a ∷ b ∷ map f (xs ++ last ∷ []))
-joined d a b f xs last =
+-- the fields of an answer, from the first to the last
+joined : {X : Type 0} (d : ℕ) (first : List (List ℕ)) (f : X → List ℕ) (xs : List X) (last : X)
+    → (text d first ++ text d (map f xs)) ++ text d (f last ∷ []) ≡ text d (first ++ map f (xs ++ last ∷ []))
+joined d first f xs last =
     rw (
       map-append f xs (last ∷ []),
-      more-fields-text d (a ∷ b ∷ map f xs) (f last ∷ []),
-      more-fields-text d (a ∷ b ∷ []) (map f xs),
-      more-fields-text d (a ∷ []) (b ∷ []),
-    ) refl
+      more-fields-text d first (map f xs ++ f last ∷ []),
+      more-fields-text d (map f xs) (f last ∷ []),
+    ) (append_assoc (text d first) (text d (map f xs)) (text d (f last ∷ [])))
 
--- the fields of an answer, from the first to the last
 pub whole-answer : (d : ℕ) (ts : List Target) (o : Result ℤ Refusal) (cells : List (List ℕ))
-    → ((text d (answer_field o [] day_number ∷ []) ++ text d (answer_field o [] weekday ∷ []))
+    → (text d (map (λ column. answer_field o [] (of_day column)) day_columns)
     ++ text d (map (answer_field o cells) (cell_columns 0 ts))) ++ text d (answer_field o [] refusal ∷ [])
     ≡ answer_text d ts o cells
-whole-answer d ts (Ok n) cells = joined d _ _ (answer_field (Ok n) cells) (cell_columns 0 ts) refusal
-whole-answer d ts (Err r) cells = joined d _ _ (answer_field (Err r) cells) (cell_columns 0 ts) refusal
+whole-answer d ts (Ok n) cells =
+    joined d (map (λ column. answer_field (Ok n) [] (of_day column)) day_columns) (answer_field (Ok n) cells)
+    (cell_columns 0 ts) refusal
+whole-answer d ts (Err r) cells =
+    joined d (map (λ column. answer_field (Err r) [] (of_day column)) day_columns) (answer_field (Err r) cells)
+    (cell_columns 0 ts) refusal
 
 -- a row has one list of cells
 pub one-cells : OneCell → (o : Result ℤ Refusal) (ts : List Target) (xs ys : List (List ℕ)) → AreCells ts o xs

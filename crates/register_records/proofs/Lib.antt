@@ -3,6 +3,7 @@
 --     `EntryReader::next`. GivenFacts: what it has given.
 --   CellFacts, OutcomeFacts: that a row is the row of its entry, for `convert`.
 --   AnswerFacts, LineFacts, BareFacts: that a line is the fields of its row, for `put`, `add` and `open` of `RowWriter`.
+--   TargetNumberFacts: `is_for` of `Row`.
 --   Progress: `whole`, `numbers` and `part` of `convert_source`.
 --   OneTable, ReadBack, NoLoss, OneFate: the laws `one_table`, `cells_read_back`, `no_loss_is_sealed`, `one_fate`.
 pub mod FieldFacts
@@ -17,6 +18,7 @@ pub mod BareFacts
 pub mod LineFacts
 pub mod AnswerFacts
 pub mod OutcomeFacts
+pub mod TargetNumberFacts
 pub mod Progress
 pub mod OneTable
 pub mod ReadBack

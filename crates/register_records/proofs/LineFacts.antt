@@ -23,13 +23,16 @@ use Rattle.register_records.specs.SetupRules.{is_delimiter}
 use Rattle.date_texts.specs.Cells.{is_plain}
 use Rattle.date_texts.specs.Calendars.{target_name}
 use Rattle.date_texts.specs.declared.calendar.Target.{Target}
-use Rattle.register_records.specs.Columns.{EntryColumn, answer_columns, answer_name, cell_columns, entry_columns}
-use Rattle.register_records.specs.Columns.{entry_field, entry_name, refusal, text_field, weekday_text}
-use Rattle.register_records.specs.LineViews.{noted}
+use Rattle.register_records.specs.Columns.{answer_columns, answer_name, cell_columns, day_columns, entry_columns}
+use Rattle.register_records.specs.Columns.{entry_field, of_day, refusal, weekday_text}
 use Rattle.register_records.specs.Records.{Texts}
 use Rattle.date_texts.specs.declared.refusal.Refusal.{Refusal}
 use Rattle.register_records.specs.declared.setups.Form.{Form}
 use Rattle.register_records.specs.declared.setups.Form.TheVariants.{Plain, Sealed}
+use Rattle.register_records.specs.declared.table_columns.EntryColumn.{EntryColumn}
+use Rattle.register_records.specs.declared.table_columns.EntryColumn.TheVariants.{Calendar, Date, Id, Note, Number}
+use Rattle.register_records.specs.BareTexts.{has_special}
+use Rattle.register_records.proofs.BareFacts.{unquoted}
 
 -- the bytes of some fields, and of one more
 abbrev pub body : ℕ → List (List ℕ) → List ℕ
@@ -70,6 +73,12 @@ pub one-item : {X : Type 0} (f : X → List ℕ) (d : ℕ) (before : List ℕ) (
 one-item f d before first xs i e field new lt is n =
     n ∙ ap (λ (fields : List (List ℕ)). before ++ body d fields)
     (rw (take_more xs i e lt, map-append f (take i xs) (get_or xs i e ∷ []), is) (append_assoc first _ _))
+
+pub one-mapped : {X : Type 0} (f : X → List ℕ) (xs ys : List X) (i : ℕ) (e : X) → ys ≡ xs → i < length ys
+    → map f (take (i + 1) xs) ≡ map f (take i xs) ++ f (get_or ys i e) ∷ []
+one-mapped f xs ys i e same lt =
+    let inside : i < length xs = rw same at lt in
+    rw (same, take_more xs i e inside, map-append f (take i xs) (get_or xs i e ∷ [])) refl
 
 -- more fields
 pub more-fields-text : (d : ℕ) (fields more : List (List ℕ))
@@ -139,18 +148,18 @@ pub weekday-name : (w : Weekday) (n : ℤ) → slice_get all_weekdays (weekday_n
     → weekday_name w ≡ weekday_text n
 weekday-name w n e = rw e refl
 
--- the columns of an entry: their names, and what stands in them
-pub entry-names : (form : Form)
-    → codes "row" ∷ codes "id" ∷ codes "calendar" ∷ codes "date" ∷ noted form (codes "note")
-    ≡ map entry_name (entry_columns form)
-entry-names Plain = refl
-entry-names Sealed = refl
+-- the columns of an entry: the first has its number, the others its texts
+pub first-number : (form : Form) (e : EntryColumn) → get_or (entry_columns form) 0 e ≡ Number
+first-number Plain e = refl
+first-number Sealed e = refl
 
-pub entry-fields : (form : Form) (n : ℕ) (body : Result Texts Refusal)
-    → decimal n ∷ text_field (λ t. t.id) body ∷ text_field (λ t. t.calendar) body ∷ text_field (λ t. t.date) body
-    ∷ noted form (text_field (λ t. t.note) body) ≡ map (entry_field n body) (entry_columns form)
-entry-fields Plain n body = refl
-entry-fields Sealed n body = refl
+pub plain-column : (d : ℕ) → is_delimiter d ≡ true → (n : ℕ) → n < 2 ^ 64 → (texts : Result Texts Refusal)
+    → has_special texts ≡ false → (column : EntryColumn) → needs_quotes (writing d) (entry_field n texts column) ≡ false
+plain-column d h n lt texts bare Number = plain-decimal d h n lt
+plain-column d h n lt texts bare Id = (unquoted d h texts bare).0
+plain-column d h n lt texts bare Calendar = (unquoted d h texts bare).1
+plain-column d h n lt texts bare Date = (unquoted d h texts bare).2
+plain-column d h n lt texts bare Note = (unquoted d h texts bare).3
 
 pub some-columns : {X : Type 0} (form : Form) (f : EntryColumn → X) → 1 ≤ length (map f (entry_columns form))
 some-columns Plain f = omega arith
@@ -165,16 +174,9 @@ pub same-line : (d e : ℕ) (before : List ℕ) (fields wanted : List (List ℕ)
     → fields ≡ wanted → bytes ≡ before ++ line_text d fields → bytes ≡ before ++ line_text e wanted
 same-line d e before fields wanted bytes p q h = rw (← p, ← q) h
 
--- two more fields
-pub two-more : (fields : List (List ℕ)) (x y a b : List ℕ) → x ≡ a → y ≡ b
-    → (fields ++ x ∷ []) ++ y ∷ [] ≡ (fields ++ (a ∷ b ∷ [])) ++ []
-two-more fields x y a b p q =
-    rw (p, q, append_assoc fields (a ∷ []) (b ∷ [])) (sym (append-nil (fields ++ (a ∷ b ∷ []))))
-
--- the fields of a row, from the first to the last
-pub joined : (first : List (List ℕ)) (a b last : List ℕ) (rest : List (List ℕ))
-    → ((first ++ (a ∷ b ∷ [])) ++ rest) ++ last ∷ [] ≡ first ++ ((a ∷ b ∷ rest) ++ last ∷ [])
-joined first a b last rest = simp append_assoc refl
+-- the fields of a heading, from the first to the last
+pub behind : (a b c e : List (List ℕ)) → ((a ++ b) ++ c) ++ e ≡ a ++ (b ++ (c ++ e))
+behind a b c e = simp append_assoc refl
 
 pub two-fields : (fields : List (List ℕ)) (last : List ℕ) → 1 ≤ length fields → 2 ≤ length (fields ++ last ∷ [])
 two-fields fields last some = rw (length-append fields (last ∷ [])) (omega arith)
@@ -192,5 +194,7 @@ name-columns place [] = refl
 name-columns place (t ∷ ts) = ap (λ (names : List (List ℕ)). target_name t ∷ names) (name-columns (place + 1) ts)
 
 pub answer-names : (ts : List Target)
-    → map answer_name (answer_columns ts) ≡ (codes "rd" ∷ codes "weekday" ∷ map target_name ts) ++ codes "refusal" ∷ []
-answer-names ts = ap (λ (names : List (List ℕ)). codes "rd" ∷ codes "weekday" ∷ names) (name-columns 0 ts)
+    → map answer_name (answer_columns ts)
+    ≡ map (λ column. answer_name (of_day column)) day_columns ++ (map target_name ts ++ codes "refusal" ∷ [])
+answer-names ts =
+    ap (λ (names : List (List ℕ)). map (λ column. answer_name (of_day column)) day_columns ++ names) (name-columns 0 ts)

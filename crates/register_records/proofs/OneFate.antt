@@ -11,7 +11,7 @@ use Rattle.csv.specs.Reading.{strip_bom}
 use Rattle.date_texts.specs.Names.{IsNamed}
 use Rattle.date_texts.specs.Numerals.{IsNumeral}
 use Rattle.date_texts.specs.Trimmed.{trimmed}
-use Rattle.register_records.specs.Entries.{AreAll, Format, HasRecords, entries_of, record_limit, text_records}
+use Rattle.register_records.specs.Entries.{Format, HasRecords, entries_of, record_limit, text_records}
 use Rattle.register_records.specs.Headers.{IsHeader}
 use Rattle.register_records.specs.Laws.{Fate, HasFate, OneFate, accepted, no_header, not_sealed, too_many}
 use Rattle.register_records.specs.Records.{Fields, Texts, texts_of}

@@ -11,45 +11,44 @@ use Rattle.register_records.specs.Outcomes.{TableRow}
 use Rattle.register_records.specs.Records.{Texts}
 use Rattle.register_records.specs.declared.setups.Form.{Form}
 use Rattle.register_records.specs.declared.setups.Form.TheVariants.{Plain, Sealed}
+use Rattle.register_records.specs.declared.table_columns.DayColumn.{DayColumn}
+use Rattle.register_records.specs.declared.table_columns.DayColumn.TheVariants.{DayNumber, Weekday}
+use Rattle.register_records.specs.declared.table_columns.EntryColumn.{EntryColumn}
+use Rattle.register_records.specs.declared.table_columns.EntryColumn.TheVariants.{Calendar, Date, Id, Note, Number}
 
--- the columns that a table has of an entry: its number, and the texts of its record
-pub data EntryColumn : Type 0 where
-  number : EntryColumn
-  id : EntryColumn
-  calendar : EntryColumn
-  date : EntryColumn
-  note : EntryColumn
-
--- and those that it has of the answer: the day number, the weekday, the cell of a target at its place, the refusal
+-- the columns that a table has of the answer: those of a day, the cell of a target at its place, the refusal
 pub data AnswerColumn : Type 0 where
-  day_number : AnswerColumn
-  weekday : AnswerColumn
+  of_day : DayColumn → AnswerColumn
   cell : ℕ → Target → AnswerColumn
   refusal : AnswerColumn
 
--- the columns of a table, in order; only a sealed form has notes
+-- the columns of a table, in order: those of an entry, its number and the texts of its record, of which only a sealed
+-- form has notes; and those of the answer
 abbrev pub entry_columns : Form → List EntryColumn
-entry_columns Plain = number ∷ id ∷ calendar ∷ date ∷ []
-entry_columns Sealed = number ∷ id ∷ calendar ∷ date ∷ note ∷ []
+entry_columns Plain = Number ∷ Id ∷ Calendar ∷ Date ∷ []
+entry_columns Sealed = Number ∷ Id ∷ Calendar ∷ Date ∷ Note ∷ []
+
+abbrev pub day_columns : List DayColumn
+day_columns = DayNumber ∷ Weekday ∷ []
 
 abbrev pub cell_columns : ℕ → List Target → List AnswerColumn
 cell_columns place [] = []
 cell_columns place (target ∷ targets) = cell place target ∷ cell_columns (place + 1) targets
 
 abbrev pub answer_columns : List Target → List AnswerColumn
-answer_columns targets = day_number ∷ weekday ∷ (cell_columns 0 targets ++ refusal ∷ [])
+answer_columns targets = map of_day day_columns ++ (cell_columns 0 targets ++ refusal ∷ [])
 
 -- the name of a column
 abbrev pub entry_name : EntryColumn → List ℕ
-entry_name number = codes "row"
-entry_name id = codes "id"
-entry_name calendar = codes "calendar"
-entry_name date = codes "date"
-entry_name note = codes "note"
+entry_name Number = codes "row"
+entry_name Id = codes "id"
+entry_name Calendar = codes "calendar"
+entry_name Date = codes "date"
+entry_name Note = codes "note"
 
 abbrev pub answer_name : AnswerColumn → List ℕ
-answer_name day_number = codes "rd"
-answer_name weekday = codes "weekday"
+answer_name (of_day DayNumber) = codes "rd"
+answer_name (of_day Weekday) = codes "weekday"
 answer_name (cell place target) = target_name target
 answer_name refusal = codes "refusal"
 
@@ -60,11 +59,11 @@ text_field text (Err r) = []
 
 -- what stands in a column of an entry
 abbrev pub entry_field : ℕ → Result Texts Refusal → EntryColumn → List ℕ
-entry_field n body number = decimal n
-entry_field n body id = text_field (λ t. t.id) body
-entry_field n body calendar = text_field (λ t. t.calendar) body
-entry_field n body date = text_field (λ t. t.date) body
-entry_field n body note = text_field (λ t. t.note) body
+entry_field n body Number = decimal n
+entry_field n body Id = text_field (λ t. t.id) body
+entry_field n body Calendar = text_field (λ t. t.calendar) body
+entry_field n body Date = text_field (λ t. t.date) body
+entry_field n body Note = text_field (λ t. t.note) body
 
 -- the name of the weekday of day n
 abbrev pub weekday_text : ℤ → List ℕ
@@ -73,8 +72,8 @@ weekday_text n = option_map_or weekday_name (slice_get all_weekdays (weekday_num
 -- what stands in a column of a day or of a refusal; a field that a refused row has not is empty, and so is the refusal
 -- of an accepted one
 abbrev pub answer_field : Result ℤ Refusal → List (List ℕ) → AnswerColumn → List ℕ
-answer_field (Ok n) cells day_number = signed_decimal n
-answer_field (Ok n) cells weekday = weekday_text n
+answer_field (Ok n) cells (of_day DayNumber) = signed_decimal n
+answer_field (Ok n) cells (of_day Weekday) = weekday_text n
 answer_field (Err r) cells refusal = decimal (refusal_number r)
 answer_field outcome cells (cell place target) = get_or cells place []
 answer_field outcome cells column = []

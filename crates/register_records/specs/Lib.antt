@@ -22,4 +22,5 @@ pub mod ReadingState
 pub mod Conversions
 pub mod Retrying
 pub mod ShortLists
+pub mod TargetNumbers
 pub mod Faults

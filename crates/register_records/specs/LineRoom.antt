@@ -1,5 +1,7 @@
 -- How many bytes the fields of a line take at most. No public contract cites this file.
-use Rattle.std.specs.Prelude.{◌+◌, ◌*◌, ℕ}
+use Rattle.std.specs.Prelude.{◌+◌, ◌*◌, ℕ, List, [], ◌∷◌}
+use Rattle.register_records.specs.declared.table_columns.EntryColumn.{EntryColumn}
+use Rattle.register_records.specs.declared.table_columns.EntryColumn.TheVariants.{Calendar, Date, Id, Note, Number}
 
 -- a field with this many bytes: two quotes, and each byte twice
 abbrev pub field_room : ℕ → ℕ
@@ -9,6 +11,19 @@ field_room n = 2 + 2 * n
 abbrev pub number_room : ℕ
 number_room = 40
 
--- the fields that a row has of its entry: a number, and after a delimiter each an id, a calendar, a date and a note
+-- what stands in a column of an entry
+abbrev pub column_limit : EntryColumn → ℕ
+column_limit Number = number_room
+column_limit Id = 40
+column_limit Calendar = 16
+column_limit Date = 32
+column_limit Note = 80
+
+-- the fields of columns, each after a delimiter
+abbrev pub columns_room : List EntryColumn → ℕ
+columns_room [] = 0
+columns_room (column ∷ columns) = (1 + field_room (column_limit column)) + columns_room columns
+
+-- the fields that a row has of its entry
 abbrev pub entry_room : ℕ
-entry_room = number_room + (1 + field_room 40) + (1 + field_room 16) + (1 + field_room 32) + (1 + field_room 80)
+entry_room = number_room + columns_room (Id ∷ Calendar ∷ Date ∷ Note ∷ [])

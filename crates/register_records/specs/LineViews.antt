@@ -1,10 +1,8 @@
 -- What a clause sees of `Lines`. No public contract cites this file.
-use Rattle.std.specs.Prelude.{◌≡◌, ℕ, List, [], ◌∷◌, ◌++◌, vec_capacity, vec_len}
+use Rattle.std.specs.Prelude.{◌≡◌, ℕ, List, ◌++◌, vec_capacity, vec_len}
 use Rattle.csv.specs.Writing.{row_body}
 use Rattle.register_records.specs.Lines.{writing}
-use Rattle.register_records.specs.declared.lines.Lines.{Lines}
-use Rattle.register_records.specs.declared.setups.Form.{Form}
-use Rattle.register_records.specs.declared.setups.Form.TheVariants.{Plain, Sealed}
+use Rattle.register_records.specs.declared.csv_lines.Lines.{Lines}
 
 -- their bytes so far
 abbrev pub line_bytes : Lines → List ℕ
@@ -20,11 +18,6 @@ line_capacity lines = vec_capacity lines.bytes
 -- the byte between two fields
 abbrev pub line_delimiter : Lines → ℕ
 line_delimiter lines = lines.delimiter
-
--- what stands in the column of notes, where the form has one
-abbrev pub noted : Form → List ℕ → List (List ℕ)
-noted Plain note = []
-noted Sealed note = note ∷ []
 
 -- the bytes so far are those that stood before, and then these fields with the delimiter between two of them
 abbrev pub Begins : List ℕ → List (List ℕ) → Lines → Type 0

@@ -17,7 +17,7 @@ use Rattle.register_records.specs.declared.writing.RowWriter.{RowWriter}
 
 -- a setup's targets in order
 abbrev pub targets_of : Setup → List Target
-targets_of setup = items_in setup.targets
+targets_of setup = items_in setup.targets.items
 
 -- how registers and tables are written
 abbrev pub format_of : Setup → Format
@@ -25,7 +25,7 @@ format_of setup = record { delimiter = setup.delimiter; form = setup.form }
 
 -- what it asks of a table
 abbrev pub layout_of : Setup → Layout
-layout_of setup = record { format = format_of setup; targets = items_in setup.targets }
+layout_of setup = record { format = format_of setup; targets = items_in setup.targets.items }
 
 -- the text that a reader was opened on, where the reader underneath told its bytes; and how it reads that text
 abbrev pub text_of : {R : Type 0} {g : Ghosts R} → EntryReader R g → Option (List ℕ)
@@ -40,7 +40,7 @@ given_of r = map (λ (s : Snapshot Entry). entry_seen s.value) r.given.items
 
 -- a row's targets, and the row as a table has it
 abbrev pub row_targets : Row → List Target
-row_targets row = items_in row.targets
+row_targets row = items_in row.targets.items
 
 abbrev pub row_seen : Row → TableRow
 row_seen row = row_made row.entry row.outcome (cells_of row.answer)

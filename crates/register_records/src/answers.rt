@@ -7,21 +7,25 @@ ghost use Rattle.csv.specs.Writing.{fields_text, needs_quotes};
 ghost use Rattle.date_texts.specs.Cells.{IsCell};
 ghost use Rattle.date_texts.specs.declared.calendar.TheConstants.{MAX_TARGETS};
 ghost use Rattle.date_texts.specs.declared.cells.TheConstants.{MAX_CELL};
-ghost use Rattle.register_records.specs.Columns.{answer_field, cell_columns, day_number, refusal, weekday};
+ghost use Rattle.register_records.specs.Columns.{answer_field, cell_columns, day_columns as day_columns_of, of_day};
+ghost use Rattle.register_records.specs.Columns.{refusal};
 ghost use Rattle.register_records.specs.Lines.{writing};
 ghost use Rattle.register_records.specs.Outcomes.{AreCells};
 ghost use Rattle.register_records.specs.Seen.{outcome_seen};
 ghost use Rattle.register_records.specs.SetupRules.{is_delimiter};
+ghost use Rattle.register_records.specs.declared.table_columns.DayColumn.{DayColumn};
+ghost use Rattle.register_records.specs.declared.table_columns.DayColumn.TheVariants.{DayNumber, Weekday};
 ghost use Rattle.register_records.specs.declared.answers.TheConstants.{ANSWER_ROOM};
 
+use crate::table_columns::{DayColumn, day_columns};
 use date_texts::laws::{cells_are_plain, cells_are_short};
 use date_texts::{MAX_CELL, MAX_TARGETS, Refusal, Target, write_cell};
 use day_numbers::Day;
 use itoa::Buffer;
 
-/// Room for the longest answer: a day number of eight bytes, a weekday of nine, a cell for each target and the digit of
-/// a refusal, each behind a delimiter.
-pub(crate) const ANSWER_ROOM: usize = 259;
+/// Room for the longest answer: nine bytes for each column of a day, a cell for each target and the digit of a refusal,
+/// each behind a delimiter.
+pub(crate) const ANSWER_ROOM: usize = 260;
 
 /// The fields of an answer, each behind a delimiter.
 #[derive(Drop)]
@@ -102,7 +106,7 @@ impl Answer {
     fn push_day_number(&mut self, outcome: Result<Day, Refusal>)
         requires { self.old.len + 9 ≤ ANSWER_ROOM }
         ensures value { answer_bytes self.new ≡ answer_bytes self.old
-            ++ fields_text (writing self.old.delimiter) (answer_field (outcome_seen outcome) [] day_number ∷ []) }
+            ++ fields_text (writing self.old.delimiter) (answer_field (outcome_seen outcome) [] (of_day DayNumber) ∷ []) }
         ensures grows { self.new.len ≤ self.old.len + 9 }
         ensures kept { self.new.delimiter ≡ self.old.delimiter }
     {
@@ -116,13 +120,40 @@ impl Answer {
     fn push_weekday(&mut self, outcome: Result<Day, Refusal>)
         requires { self.old.len + 10 ≤ ANSWER_ROOM }
         ensures value { answer_bytes self.new ≡ answer_bytes self.old
-            ++ fields_text (writing self.old.delimiter) (answer_field (outcome_seen outcome) [] weekday ∷ []) }
+            ++ fields_text (writing self.old.delimiter) (answer_field (outcome_seen outcome) [] (of_day Weekday) ∷ []) }
         ensures grows { self.new.len ≤ self.old.len + 10 }
         ensures kept { self.new.delimiter ≡ self.old.delimiter }
     {
         match outcome {
             Ok(day) => self.push(day.weekday().name().as_bytes()),
             Err(_) => self.push(b""),
+        }
+    }
+
+    /// Appends what stands in a column of a day.
+    fn push_day_column(&mut self, column: DayColumn, outcome: Result<Day, Refusal>)
+        requires { self.old.len + 10 ≤ ANSWER_ROOM }
+        ensures value { answer_bytes self.new ≡ answer_bytes self.old
+            ++ fields_text (writing self.old.delimiter) (answer_field (outcome_seen outcome) [] (of_day column) ∷ []) }
+        ensures grows { self.new.len ≤ self.old.len + 10 }
+        ensures kept { self.new.delimiter ≡ self.old.delimiter }
+    {
+        match column {
+            DayColumn::DayNumber => self.push_day_number(outcome),
+            DayColumn::Weekday => self.push_weekday(outcome),
+        }
+    }
+
+    /// Appends what stands in the columns of a day.
+    fn push_day_columns(&mut self, outcome: Result<Day, Refusal>)
+        requires { self.old.len ≡ 0 }
+        ensures value { answer_bytes self.new ≡ answer_bytes self.old ++ fields_text (writing self.old.delimiter)
+            (map (λ column. answer_field (outcome_seen outcome) [] (of_day column)) day_columns_of) }
+        ensures short { self.new.len ≤ 20 }
+        ensures kept { self.new.delimiter ≡ self.old.delimiter }
+    {
+        'days: for column in day_columns() {
+            self.push_day_column(*column, outcome);
         }
     }
 
@@ -183,7 +214,7 @@ impl Answer {
     /// Appends the cells, which a refused row has not.
     fn push_cells(&mut self, targets: &[Target], outcome: Result<Day, Refusal>)
         requires few { length targets.now ≤ MAX_TARGETS }
-        requires start { self.old.len ≤ 19 }
+        requires start { self.old.len ≤ 20 }
         ensures value { (cells : List (List ℕ)) × AreCells targets.now (outcome_seen outcome) cells
             × (answer_bytes self.new ≡ answer_bytes self.old ++ fields_text (writing self.old.delimiter)
             (map (answer_field (outcome_seen outcome) cells) (cell_columns 0 targets.now)))
@@ -227,8 +258,7 @@ impl Answer {
     {
         cells_are_plain();
         self.clear(delimiter);
-        self.push_day_number(outcome);
-        self.push_weekday(outcome);
+        self.push_day_columns(outcome);
         self.push_cells(targets, outcome);
         self.push_refusal(outcome);
     }

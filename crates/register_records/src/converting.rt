@@ -69,10 +69,9 @@ pub fn convert(entry: Entry, setup: &Setup) -> Row
     let mut row = Row {
         entry,
         outcome,
-        targets: ShortList::new(Target::Haab),
+        targets: setup.target_list(),
         answer: Answer::new(b','),
     };
     row.answer.set(setup.targets(), outcome, setup.delimiter());
-    row.targets = setup.target_list();
     row
 }

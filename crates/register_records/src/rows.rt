@@ -14,6 +14,7 @@ use crate::entries::Entry;
 use crate::setups::Setup;
 use crate::short_lists::ShortList;
 use crate::sources::Note;
+use crate::target_lists::TargetList;
 use date_texts::laws::one_cell;
 use date_texts::{MAX_TARGETS, Refusal, Target};
 use day_numbers::Day;
@@ -24,11 +25,11 @@ use day_numbers::Day;
 pub struct Row {
     pub(crate) entry: Entry,
     pub(crate) outcome: Result<Day, Refusal>,
-    pub(crate) targets: ShortList<Target>,
+    pub(crate) targets: TargetList,
     pub(crate) answer: Answer,
-    pub ghost is_row: { ∥ IsRowOf (items_in targets) (entry_seen entry) (row_made entry outcome (cells_of answer)) ∥₁ },
+    pub ghost is_row: { ∥ IsRowOf (items_in targets.items) (entry_seen entry) (row_made entry outcome (cells_of answer)) ∥₁ },
     ghost written: { answer_bytes answer
-        ≡ answer_text answer.delimiter (items_in targets) (outcome_seen outcome) (cells_of answer) },
+        ≡ answer_text answer.delimiter (items_in targets.items) (outcome_seen outcome) (cells_of answer) },
 }
 
 impl Row {
@@ -80,7 +81,7 @@ impl Row {
     pub fn is_for(&self, setup: &Setup) -> bool
         ensures { (result ≡ true) ↔ (row_targets self.now ≡ targets_of setup.now) }
     {
-        self.targets.as_slice() == setup.targets()
+        self.targets.is_same(&setup.target_list())
     }
 
     /// What the journal gains by the row: its number and its refusal, where it was refused.

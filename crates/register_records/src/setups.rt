@@ -4,9 +4,9 @@ ghost use Rattle.std.specs.Prelude.{◌≡◌, ◌≤◌, ◌<◌, ◌↔◌, �
 ghost use Rattle.register_records.specs.ShortLists.{items_in};
 ghost use Rattle.register_records.specs.SetupRules.{NamesTwice, is_delimiter, is_ring_size, is_stripe_count};
 
-use crate::short_lists::ShortList;
+use crate::target_lists::TargetList;
 use date_texts::laws::few_targets;
-use date_texts::{Calendar, MAX_TARGETS, Target};
+use date_texts::{MAX_TARGETS, Target};
 use thiserror::Error;
 
 /// The largest ring.
@@ -42,7 +42,7 @@ impl Form {
 /// The targets, the size of the rings, the delimiter, the number of converters and the form of a conversion.
 #[derive(Clone, Copy)]
 pub struct Setup {
-    targets: ShortList<Target>,
+    targets: TargetList,
     ring: usize,
     delimiter: u8,
     stripes: usize,
@@ -139,7 +139,7 @@ impl Setup {
         }
         few_targets();
         Ok(Setup {
-            targets: listed(targets),
+            targets: TargetList::new(targets),
             ring,
             delimiter,
             stripes,
@@ -156,8 +156,8 @@ impl Setup {
     }
 
     /// The targets as a list to be kept.
-    pub(crate) fn target_list(&self) -> ShortList<Target>
-        ensures { items_in result ≡ targets_of self.now }
+    pub(crate) fn target_list(&self) -> TargetList
+        ensures { items_in result.items ≡ targets_of self.now }
     {
         self.targets
     }
@@ -192,18 +192,6 @@ impl Setup {
     {
         self.form
     }
-}
-
-/// The list of these targets.
-fn listed(targets: &[Target]) -> ShortList<Target>
-    requires { length targets.now ≤ MAX_TARGETS }
-    ensures { items_in result ≡ targets.now }
-{
-    let mut list = ShortList::new(Target::Date(Calendar::Gregorian));
-    for target in targets {
-        list.push(*target);
-    }
-    list
 }
 
 /// Whether a target stands at two places.

@@ -4,12 +4,12 @@ ghost use Rattle.std.specs.Prelude.{◌≡◌, ◌≢◌, ◌≤◌, ◌+◌, �
 ghost use Rattle.std.specs.Prelude.{Ok, Err, if◌then◌else◌, is_err};
 ghost use Rattle.std.specs.Io.KnownBytes.{Appends};
 ghost use Rattle.register_records.specs.LineViews.{line_capacity};
-ghost use Rattle.register_records.specs.declared.lines.TheConstants.{LINE_ROOM};
+ghost use Rattle.register_records.specs.declared.row_lines.TheConstants.{LINE_ROOM};
 ghost use Rattle.register_records.specs.declared.writing.TheConstants.{MOST_WAITING, ROOM};
 
-use crate::lines::{LINE_ROOM, Lines};
+use crate::csv_lines::Lines;
 use crate::outputs::{Output, send};
-use crate::row_lines::{make_heading, make_row};
+use crate::row_lines::{LINE_ROOM, make_heading, make_row};
 use crate::rows::Row;
 use crate::setups::{Form, Setup};
 use std::alloc::Global;
@@ -113,7 +113,7 @@ impl RowWriter {
         if self.failed {
             return Err(RowFault::Failed);
         }
-        if self.lines.reserve_line().is_err() {
+        if self.lines.reserve(LINE_ROOM).is_err() {
             self.failed = true;
             return Err(RowFault::OutOfMemory);
         }

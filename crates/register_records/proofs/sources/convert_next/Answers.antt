@@ -31,9 +31,9 @@ returns-in-Ok-clause-row g c begun come =
     let setup = c.args.setup.now in
     let row = row_made c.read_next-answer.new.entry c.day_of_body-outcome.result (cells_of c.set.new.self) in
     let same_line :
-    row_line (record { format = writes_by c.args.writer.now; targets = items_in c.target_list-row.result }) row
+    row_line (record { format = writes_by c.args.writer.now; targets = items_in c.target_list-row.result.items }) row
     ≡ row_line (layout_of setup) row
-    = ap (λ (format : Format). row_line (record { format = format; targets = items_in c.target_list-row.result }) row)
+    = ap (λ (format : Format). row_line (record { format = format; targets = items_in c.target_list-row.result.items }) row)
     c.requires.ready.2
     ∙ ap (λ (targets : List Target). row_line (record { format = format_of setup; targets = targets }) row)
     c.target_list-row.ensures in

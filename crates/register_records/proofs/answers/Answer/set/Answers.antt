@@ -1,6 +1,6 @@
 use Rattle.std.proofs.Common.{◌≡◌, ◌∙◌, ◌++◌, ◌∷◌, [], ℕ, List, ap, append_assoc, drop, length, map, subst, sym}
 use Rattle.register_records.specs.Answers.{answer_bytes, answer_text, cells_of, cut_cells}
-use Rattle.register_records.specs.Columns.{answer_field, cell_columns, day_number, refusal, weekday}
+use Rattle.register_records.specs.Columns.{answer_field, cell_columns, day_columns, of_day, refusal}
 use Rattle.register_records.specs.Outcomes.{AreCells}
 use Rattle.register_records.specs.Seen.{outcome_seen}
 use Rattle.register_records.proofs.AnswerFacts.{cut-answer, text, whole-answer}
@@ -13,26 +13,22 @@ returns c =
     let targets = c.args.targets.now in
     let (cells, are, added, lengths) = c.push_cells.ensures.value in
     let one = c.clear.ensures.delimiter in
-    let two = c.push_day_number.ensures.kept ∙ one in
-    let three = c.push_weekday.ensures.kept ∙ two in
-    let four = c.push_cells.ensures.kept ∙ three in
-    let front = answer_bytes c.push_weekday.new.self in
-    let number : answer_bytes c.push_day_number.new.self ≡ text d (answer_field o [] day_number ∷ []) =
-    c.push_day_number.ensures.value
-    ∙ ap (λ (t : List ℕ). t ++ text c.clear.new.self.delimiter (answer_field o [] day_number ∷ [])) c.clear.ensures.none
-    ∙ ap (λ e. text e (answer_field o [] day_number ∷ [])) one in
-    let days : front ≡ text d (answer_field o [] day_number ∷ []) ++ text d (answer_field o [] weekday ∷ []) =
-    c.push_weekday.ensures.value
-    ∙ ap (λ (t : List ℕ). t ++ text c.push_day_number.new.self.delimiter (answer_field o [] weekday ∷ [])) number
-    ∙ ap (λ e. text d (answer_field o [] day_number ∷ []) ++ text e (answer_field o [] weekday ∷ [])) two in
+    let two = c.push_day_columns.ensures.kept ∙ one in
+    let three = c.push_cells.ensures.kept ∙ two in
+    let front = answer_bytes c.push_day_columns.new.self in
+    let first = map (λ column. answer_field o [] (of_day column)) day_columns in
+    let days : front ≡ text d first =
+    c.push_day_columns.ensures.value
+    ∙ ap (λ (t : List ℕ). t ++ text c.clear.new.self.delimiter first) c.clear.ensures.none
+    ∙ ap (λ e. text e first) one in
     let columns = map (answer_field o cells) (cell_columns 0 targets) in
     let middle : answer_bytes c.push_cells.new.self ≡ front ++ text d columns =
-    added ∙ ap (λ e. front ++ text e columns) three in
+    added ∙ ap (λ e. front ++ text e columns) two in
     let last = text d (answer_field o [] refusal ∷ []) in
     let all : answer_bytes c.push_refusal.new.self ≡ (front ++ text d columns) ++ last =
     c.push_refusal.ensures.value
     ∙ ap (λ (t : List ℕ). t ++ text c.push_cells.new.self.delimiter (answer_field o [] refusal ∷ [])) middle
-    ∙ ap (λ e. (front ++ text d columns) ++ text e (answer_field o [] refusal ∷ [])) four in
+    ∙ ap (λ e. (front ++ text d columns) ++ text e (answer_field o [] refusal ∷ [])) three in
     let start : c.push_refusal.new.self.start ≡ length front =
     c.push_refusal.ensures.kept.1 ∙ c.push_cells.ensures.start in
     let same : cells_of c.push_refusal.new.self ≡ cells =
@@ -46,5 +42,5 @@ returns c =
       cells = subst (λ (xs : List (List ℕ)). AreCells targets o xs) (sym same) are;
       written = all ∙ ap (λ (t : List ℕ). (t ++ text d columns) ++ last) days ∙ whole-answer d targets o cells
           ∙ ap (λ (xs : List (List ℕ)). answer_text d targets o xs) (sym same);
-      delimiter = c.push_refusal.ensures.kept.0 ∙ four;
+      delimiter = c.push_refusal.ensures.kept.0 ∙ three;
     }

@@ -1,6 +1,6 @@
 use Rattle.register_records.specs.LineViews.{line_bytes, line_delimiter}
 use Rattle.register_records.proofs.LineFacts.{only-field}
-use Rattle.register_records.proofs.lines.Lines.start.Goals as goal
+use Rattle.register_records.proofs.csv_lines.Lines.start.Goals as goal
 
 pub returns-clause-value : goal.returns-clause-value
 returns-clause-value c =

@@ -1,4 +1,4 @@
-//! The lines of a table, as csv's writer would write them.
+//! Lines of fields, as csv's writer would write them.
 //!
 //! The writer of `csv` is made anew for each record and moves a buffer of 8 KiB several times, which
 //! costs more than all else in a row. A line by hand into memory that is used again takes a twentieth.
@@ -10,15 +10,10 @@ ghost use Rattle.csv.specs.Writing.{fields_text};
 ghost use Rattle.register_records.specs.LineRoom.{field_room};
 ghost use Rattle.register_records.specs.Lines.{line_text, writing};
 ghost use Rattle.register_records.specs.SetupRules.{is_delimiter};
-ghost use Rattle.register_records.specs.declared.lines.TheConstants.{LINE_ROOM};
 
 use std::alloc::{AllocError, Global};
 
 const QUOTE: u8 = b'"';
-
-/// Room for the longest line of a row, which has no more bytes than this: the texts quoted with a quote in each place,
-/// the cells and the rest.
-pub const LINE_ROOM: usize = 1024;
 
 /// Lines that wait, and the fields so far of one more behind them, in memory that serves again.
 #[derive(Drop)]
@@ -133,15 +128,15 @@ impl Lines {
         self.bytes.clear();
     }
 
-    /// Takes memory for one more line of a row, where there is not enough.
-    pub fn reserve_line(&mut self) -> Result<(), AllocError>
+    /// Takes memory for so many bytes more, where there is not enough.
+    pub fn reserve(&mut self, room: usize) -> Result<(), AllocError>
         ensures value { line_bytes self.new ≡ line_bytes self.old }
         ensures kept { line_delimiter self.new ≡ line_delimiter self.old }
-        ensures room { OnOk result (line_len self.new + LINE_ROOM ≤ line_capacity self.new) }
+        ensures room { OnOk result (line_len self.new + room ≤ line_capacity self.new) }
         ensures capacity { line_capacity self.old ≤ line_capacity self.new }
-        ensures roomy { line_len self.old + LINE_ROOM ≤ line_capacity self.old → IsOk result }
+        ensures roomy { line_len self.old + room ≤ line_capacity self.old → IsOk result }
     {
-        self.bytes.reserve(LINE_ROOM)
+        self.bytes.reserve(room)
     }
 
     /// Begins a line with this field, which needs no quotes.

@@ -2,7 +2,7 @@ use Rattle.std.proofs.Common.{◌<◌, ◌∙◌, ◌++◌, ap, append_assoc, ar
 use Rattle.csv.specs.Writing.{escaped}
 use Rattle.csv.proofs.WriteFacts.{quoted-step}
 use Rattle.register_records.specs.Lines.{writing}
-use Rattle.register_records.proofs.lines.push_quoted.Goals as goal
+use Rattle.register_records.proofs.csv_lines.push_quoted.Goals as goal
 
 pub bytes-init : goal.bytes-init
 unfolding escaped

@@ -1,7 +1,7 @@
 use Rattle.std.proofs.Common.{◌∙◌, ◌++◌, ℕ, List, ap}
 use Rattle.register_records.proofs.LineFacts.{more-fields}
 use Rattle.register_records.specs.LineViews.{line_bytes, line_delimiter}
-use Rattle.register_records.proofs.lines.Lines.push_fields.Goals as goal
+use Rattle.register_records.proofs.csv_lines.Lines.push_fields.Goals as goal
 
 pub returns-clause-value : goal.returns-clause-value
 returns-clause-value c before fields more some begun is =

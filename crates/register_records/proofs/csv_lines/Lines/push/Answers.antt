@@ -1,6 +1,6 @@
 use Rattle.register_records.proofs.LineFacts.{one-more}
 use Rattle.register_records.specs.LineViews.{line_delimiter}
-use Rattle.register_records.proofs.lines.Lines.push.Goals as goal
+use Rattle.register_records.proofs.csv_lines.Lines.push.Goals as goal
 
 pub returns-clause-value : goal.returns-clause-value
 returns-clause-value c before fields some begun =

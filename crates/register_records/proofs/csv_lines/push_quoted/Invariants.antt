@@ -2,7 +2,7 @@ use Rattle.std.proofs.Common.{◌≡◌, ◌≤◌, ◌+◌, ◌*◌, ◌++◌, 
 use Rattle.std.specs.Prelude.{vec_capacity, vec_len}
 use Rattle.csv.specs.Writing.{escaped}
 use Rattle.register_records.specs.Lines.{writing}
-use Rattle.register_records.proofs.lines.push_quoted.Given as goal
+use Rattle.register_records.proofs.csv_lines.push_quoted.Given as goal
 
 abbrev pub invariant-bytes : goal.invariant-bytes
 invariant-bytes l =

@@ -1,0 +1,56 @@
+-- Targets have one number, and a number has one list of targets.
+use Rattle.std.proofs.Common.{◌≡◌, ◌<◌, ◌≤◌, ◌-◌, ◌^◌, List, [], ◌∷◌, refl, sym, ap, ◌∙◌, arith, length}
+use Rattle.std.specs.Prelude.{slice_get}
+use Rattle.std.proofs.Math.Nat.{pow-le-pow_right, pow-succ'}
+use Rattle.std.proofs.lemmas.Option.{slice_get_within}
+use Rattle.day_numbers.specs.Numbered.{IsNumbered}
+use Rattle.date_texts.specs.Calendars.{all_targets}
+use Rattle.date_texts.specs.declared.calendar.Calendar.TheVariants.{Gregorian, Iso, Julian, Coptic, Ethiopic, Egyptian}
+use Rattle.date_texts.specs.declared.calendar.Calendar.TheVariants.{Armenian, Islamic, Hebrew, Longcount, French, Roman}
+use Rattle.date_texts.specs.declared.calendar.Target.{Target}
+use Rattle.date_texts.specs.declared.calendar.Target.TheVariants.{Date as DateTarget, Haab, Tzolkin}
+use Rattle.date_texts.proofs.ReadingLemmas.{some_inside}
+use Rattle.register_records.specs.TargetNumbers.{number_of, place_of}
+
+-- the place of a target is its own
+placed : (t : Target) → IsNumbered all_targets (place_of t) t
+placed (DateTarget Gregorian) = (omega arith, refl)
+placed (DateTarget Iso) = (omega arith, refl)
+placed (DateTarget Julian) = (omega arith, refl)
+placed (DateTarget Coptic) = (omega arith, refl)
+placed (DateTarget Ethiopic) = (omega arith, refl)
+placed (DateTarget Egyptian) = (omega arith, refl)
+placed (DateTarget Armenian) = (omega arith, refl)
+placed (DateTarget Islamic) = (omega arith, refl)
+placed (DateTarget Hebrew) = (omega arith, refl)
+placed (DateTarget Longcount) = (omega arith, refl)
+placed (DateTarget French) = (omega arith, refl)
+placed (DateTarget Roman) = (omega arith, refl)
+placed Haab = (omega arith, refl)
+placed Tzolkin = (omega arith, refl)
+
+below : (t : Target) → place_of t < 16
+below t = omega (arith, slice_get_within all_targets (place_of t - 1) t (placed t).1)
+
+one-place : (t u : Target) → place_of t ≡ place_of u → t ≡ u
+one-place t u e =
+    some_inside (sym (placed t).1 ∙ ap (λ k. slice_get all_targets (k - 1)) e ∙ (placed u).1)
+
+pub one-list : (ts us : List Target) → number_of ts ≡ number_of us → ts ≡ us
+one-list [] [] e = refl
+one-list [] (u ∷ us) e = absurd (omega (arith, (placed u).0))
+one-list (t ∷ ts) [] e = absurd (omega (arith, (placed t).0))
+one-list (t ∷ ts) (u ∷ us) e =
+    let first : place_of t ≡ place_of u = omega (arith, below t, below u) in
+    let rest : number_of ts ≡ number_of us = omega (arith, below t, below u) in
+    let head = one-place t u first in
+    let tail = one-list ts us rest in
+    cc
+
+small : (ts : List Target) → number_of ts < 16 ^ length ts
+small [] = omega arith
+small (t ∷ ts) = rw (pow-succ' 16 (length ts)) (omega (arith, below t, small ts))
+
+-- there is room for one more
+pub fits : (ts : List Target) → length ts ≤ 13 → number_of ts < 16 ^ 13
+fits ts few = omega (arith, small ts, pow-le-pow_right {n = 16} (omega arith) few)

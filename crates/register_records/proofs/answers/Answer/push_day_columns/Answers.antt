@@ -1,0 +1,26 @@
+use Rattle.std.proofs.Common.{◌∙◌, ◌+◌, [], append-nil, arith, map, refl, sym, take}
+use Rattle.csv.specs.Writing.{fields_text}
+use Rattle.register_records.specs.Columns.{answer_field, day_columns, of_day}
+use Rattle.register_records.specs.Seen.{outcome_seen}
+use Rattle.register_records.specs.declared.table_columns.DayColumn.{DayColumn}
+use Rattle.register_records.proofs.AnswerFacts.{more-text}
+use Rattle.register_records.proofs.LineFacts.{one-mapped}
+use Rattle.register_records.proofs.answers.Answer.push_day_columns.Goals as goal
+
+pub days-init : goal.days-init
+unfolding fields_text
+days-init c = record { written = sym (append-nil _); short = omega (arith, c.requires); delimiter = refl }
+
+pub days-preserved : goal.days-preserved
+days-preserved c =
+    let inv = c.days.invariant in
+    let i = c.days.column-index in
+    let field = λ (column : DayColumn). answer_field (outcome_seen c.args.outcome) [] (of_day column) in
+    record {
+      written = more-text c.args.self.now.delimiter (map field (take i day_columns)) _
+          (map field (take (i + 1) day_columns)) _ _ _ inv.written
+          (rw inv.delimiter at c.push_day_column.ensures.value)
+          (one-mapped field day_columns _ i _ c.day_columns-column-items.ensures c.days-test.true);
+      short = omega (arith, c.push_day_column.ensures.grows, inv.short);
+      delimiter = c.push_day_column.ensures.kept ∙ inv.delimiter;
+    }

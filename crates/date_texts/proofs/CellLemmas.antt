@@ -21,7 +21,8 @@ use Rattle.date_texts.specs.Calendars.{Reckoning, by_rules, by_weeks, by_places,
 use Rattle.date_texts.specs.Calendars.{IsCivil, grammar}
 use Rattle.date_texts.specs.Calendars.{day_number_by, first_day_by}
 use Rattle.date_texts.specs.Dates.{calendar_of_date, IsDateOfCalendar, day_number_of_date}
-use Rattle.date_texts.specs.DateText.{canonical_text, canonical_ymd}
+use Rattle.date_texts.specs.CivilText.{canonical_civil}
+use Rattle.date_texts.specs.DateText.{canonical_text}
 use Rattle.date_texts.specs.Cells.{IsDateCell, on_date, no_date, IsCell}
 use Rattle.date_texts.proofs.LawWords.{OneCell}
 use Rattle.date_texts.proofs.DateParts.{CountParts, civil_same, count_same}
@@ -110,5 +111,5 @@ date_cell_is t c n x e h = rw e h
 
 -- the canonical text of a year, a month and a day, or of a year, a week and a weekday, is a cell
 pub civil_cell_is : (c : Calendar) (n : ℤ) (d : Ymd) (x : List ℕ) → IsCivil c → IsDateBy (reckoning c) d
-    → day_number_by (reckoning c) d ≡ n → x ≡ canonical_ymd (grammar c) d → IsDateCell c n x
+    → day_number_by (reckoning c) d ≡ n → x ≡ canonical_civil (grammar c) d.year d.month d.day → IsDateCell c n x
 civil_cell_is c n d x civil h i e = on_date (Civil (record { calendar = c; ymd = d; civil = civil })) refl h i e

@@ -18,7 +18,7 @@ use Rattle.date_texts.specs.declared.date.Date.TheVariants.{Civil, Long, Roman}
 use Rattle.date_texts.specs.declared.grammar.Grammar.{Grammar}
 use Rattle.solar_calendars.specs.declared.roman_date.RomanName.{RomanName}
 use Rattle.date_texts.specs.Calendars.{grammar}
-use Rattle.date_texts.specs.Cells.{IsDateCell, on_date, before_first_day, is_plain}
+use Rattle.date_texts.specs.Cells.{IsDateCell, on_date, no_date, is_plain}
 use Rattle.date_texts.specs.Numerals.{IsNumeral, IsYearText, plain, minus}
 use Rattle.date_texts.specs.RomanText.{IsNameText, of_kalends, of_nones, of_ides, of_second_sixth}
 use Rattle.date_texts.proofs.TextWords.{all_digits}
@@ -110,7 +110,7 @@ date_plain (Roman d) =
 
 date_cell_plain : (c : Calendar) (n : ℤ) (text : List ℕ) → IsDateCell c n text → ArePlain text
 date_cell_plain c n text (on_date date p h i e) = rw e (date_plain date)
-date_cell_plain c n text (before_first_day before e) = rw e refl
+date_cell_plain c n text (no_date none e) = rw e refl
 
 -- ---- names with numbers
 all_plain : List (List ℕ) → Bool

@@ -1,6 +1,7 @@
 -- A target and a day have one cell.
 use Rattle.std.proofs.Common.{◌≡◌, ℕ, ◌+◌, ◌*◌, ◌≤◌, List}
-use Rattle.std.proofs.Common.{ℤ, ◌≤ℤ◌, refl, sym, subst, ap, ◌∙◌, arith}
+use Rattle.std.proofs.Common.{Option, Some, None, ℤ, ◌≤ℤ◌, refl, sym, subst, ap, ◌∙◌, arith}
+use Rattle.std.specs.Prelude.{IfSome, IsSome}
 use Rattle.std.proofs.lemmas.Int.{ints}
 use Rattle.day_numbers.specs.declared.ymd.Ymd.{Ymd}
 use Rattle.day_numbers.specs.Days.{IsSinceFirstDay}
@@ -20,8 +21,9 @@ use Rattle.date_texts.specs.Calendars.{Reckoning, by_rules, by_weeks, by_places,
 use Rattle.date_texts.specs.Calendars.{IsCivil, grammar}
 use Rattle.date_texts.specs.Calendars.{day_number_by, first_day_by}
 use Rattle.date_texts.specs.Dates.{calendar_of_date, IsDateOfCalendar, day_number_of_date}
-use Rattle.date_texts.specs.DateText.{canonical_text, canonical_ymd}
-use Rattle.date_texts.specs.Cells.{IsDateCell, on_date, before_first_day, IsCell}
+use Rattle.date_texts.specs.CivilText.{canonical_civil}
+use Rattle.date_texts.specs.DateText.{canonical_text}
+use Rattle.date_texts.specs.Cells.{IsDateCell, on_date, no_date, IsCell}
 use Rattle.date_texts.proofs.LawWords.{OneCell}
 use Rattle.date_texts.proofs.DateParts.{CountParts, civil_same, count_same}
 
@@ -81,18 +83,22 @@ since_first n (Civil d) h i =
 since_first n (Long d) h i = subst (IsSinceFirstDay (first_day_by (reckoning Longcount))) i (since_epoch d)
 since_first n (Roman d) h i = tt
 
-since_first_in : (c : Calendar) (n : ℤ) (d : Date) → calendar_of_date d ≡ c → IsDateOfCalendar d
+-- a calendar has no date before its first day
+pub since_first_in : (c : Calendar) (n : ℤ) (d : Date) → calendar_of_date d ≡ c → IsDateOfCalendar d
     → day_number_of_date d ≡ n → IsSinceFirstDay (first_day_by (reckoning c)) n
 since_first_in c n d p h i = subst (λ x. IsSinceFirstDay (first_day_by (reckoning x)) n) p (since_first n d h i)
+
+-- a date that was found
+pub found_date : (found : Option Date) (Is : Date → Type 0) → IsSome found → IfSome found Is → (date : Date) × Is date
+found_date (Some date) Is some is = (date, is)
+found_date None Is some is = absurd (cc)
 
 one_date_cell : OneRomanDate → (c : Calendar) (n : ℤ) (x y : List ℕ) → IsDateCell c n x → IsDateCell c n y → x ≡ y
 one_date_cell one c n x y (on_date d p h i e) (on_date d' p' h' i' e') =
     e ∙ ap canonical_text (one_date_on_day one n d d' (p ∙ sym p') h i h' i') ∙ sym e'
-one_date_cell one c n x y (on_date d p h i e) (before_first_day before e') =
-    absurd (before (since_first_in c n d p h i))
-one_date_cell one c n x y (before_first_day before e) (on_date d' p' h' i' e') =
-    absurd (before (since_first_in c n d' p' h' i'))
-one_date_cell one c n x y (before_first_day before e) (before_first_day before' e') = e ∙ sym e'
+one_date_cell one c n x y (on_date d p h i e) (no_date none e') = absurd (none d p h i)
+one_date_cell one c n x y (no_date none e) (on_date d' p' h' i' e') = absurd (none d' p' h' i')
+one_date_cell one c n x y (no_date none e) (no_date none' e') = e ∙ sym e'
 
 -- a target and a day have at most one cell
 pub one_cell : OneRomanDate → OneCell
@@ -105,5 +111,5 @@ date_cell_is t c n x e h = rw e h
 
 -- the canonical text of a year, a month and a day, or of a year, a week and a weekday, is a cell
 pub civil_cell_is : (c : Calendar) (n : ℤ) (d : Ymd) (x : List ℕ) → IsCivil c → IsDateBy (reckoning c) d
-    → day_number_by (reckoning c) d ≡ n → x ≡ canonical_ymd (grammar c) d → IsDateCell c n x
+    → day_number_by (reckoning c) d ≡ n → x ≡ canonical_civil (grammar c) d.year d.month d.day → IsDateCell c n x
 civil_cell_is c n d x civil h i e = on_date (Civil (record { calendar = c; ymd = d; civil = civil })) refl h i e

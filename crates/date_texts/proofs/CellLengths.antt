@@ -14,7 +14,7 @@ use Rattle.date_texts.specs.declared.date.Date.TheVariants.{Civil, Long, Roman}
 use Rattle.date_texts.specs.declared.grammar.Grammar.{Grammar}
 use Rattle.solar_calendars.specs.declared.roman_date.RomanName.{RomanName}
 use Rattle.date_texts.specs.Calendars.{grammar}
-use Rattle.date_texts.specs.Cells.{IsDateCell, on_date, before_first_day}
+use Rattle.date_texts.specs.Cells.{IsDateCell, on_date, no_date}
 use Rattle.date_texts.specs.Dates.{IsDateOfCalendar}
 use Rattle.date_texts.specs.Numerals.{IsYearText, plain, minus}
 use Rattle.date_texts.proofs.TextParts.{IsMark, no_letter, capital_letter, small_letter, CivilParts, RomanParts}
@@ -92,7 +92,7 @@ date_length (Roman d) h =
 
 date_cell_length : (c : Calendar) (n : ℤ) (text : List ℕ) → IsDateCell c n text → length text ≤ 16
 date_cell_length c n text (on_date date p h i e) = rw e (date_length date h)
-date_cell_length c n text (before_first_day before e) = rw e (omega arith)
+date_cell_length c n text (no_date none e) = rw e (omega arith)
 
 -- ---- names with numbers
 all_short : List (List ℕ) → Bool

@@ -6,6 +6,7 @@ use Rattle.std.proofs.Math.Seq.{lt-length-set}
 use Rattle.std.proofs.lemmas.Fmt.{decimal_digit}
 use Rattle.std.proofs.lemmas.List.{take-set, take-take, take_more_set}
 use Rattle.itoa.proofs.Decimal.{pair, decimal_two}
+use Rattle.date_texts.specs.declared.grammar.Grammar.TheVariants.{Civil}
 use Rattle.date_texts.specs.CivilText.{canonical_civil}
 use Rattle.date_texts.specs.RomanText.{canonical_roman, canonical_name}
 use Rattle.date_texts.specs.Numerals.{padded}
@@ -36,7 +37,7 @@ tens_and_ones places at n room low high =
 
 -- the front of a civil date's bytes, and then a name
 pub roman_from_month_date : (places : List ℕ) (year month : ℕ) (name : RomanName) → year ≤ 9_999 → month ≤ 99
-    → take 10 places ≡ canonical_civil (pos year) month 0
+    → take 10 places ≡ canonical_civil Civil (pos year) month 0
     → take 8 places ++ canonical_name name ≡ canonical_roman (pos year) month name
 roman_from_month_date places year month name h i e =
     let front : take 8 places ≡ (pair (year / 100) ++ pair (year % 100)) ++ 45 ∷ (pair month ++ 45 ∷ []) =

@@ -25,10 +25,10 @@ use Rattle.date_texts.specs.Numerals.{IsNumeral, IsYearText, plain, minus}
 use Rattle.date_texts.proofs.TextWords.{all_digits, is_blank, trim_end}
 use Rattle.date_texts.proofs.TextParts.{CivilParts, civil_parts, civil_whole, LongParts, long_parts, long_whole}
 use Rattle.date_texts.proofs.TextParts.{RomanParts, roman_parts, roman_whole}
-use Rattle.date_texts.specs.CivilText.{IsCivilText}
+use Rattle.date_texts.specs.CivilText.{IsCivilText, canonical_civil}
 use Rattle.date_texts.specs.LongText.{IsLongText}
 use Rattle.date_texts.specs.RomanText.{IsRomanText, IsNameText, of_kalends, of_nones, of_ides, of_second_sixth}
-use Rattle.date_texts.specs.DateText.{SaysDate, IsDateText, canonical_ymd, canonical_text}
+use Rattle.date_texts.specs.DateText.{SaysDate, IsDateText, canonical_text}
 use Rattle.date_texts.specs.Reading.{civil_at, long_at, roman_at}
 use Rattle.date_texts.proofs.DateParts.{ymd_same, civil_same, count_same, roman_same}
 use Rattle.date_texts.proofs.ReadingLemmas.{both_true, some_inside, civil_read, civil_take, long_read, long_take}
@@ -270,7 +270,7 @@ roman_trimmed text z m x h =
 
 -- the canonical text of a date is a date text that says it
 canonical_by : (grammar : Grammar) (d : Ymd) → (grammar ≡ grammars.Civil) ⊎ (grammar ≡ grammars.Week)
-    → CivilParts grammar (canonical_ymd grammar d) d.year d.month d.day
+    → CivilParts grammar (canonical_civil grammar d.year d.month d.day) d.year d.month d.day
 canonical_by grammars.Civil d h = canonical_civil_is d.year d.month d.day d.year_in d.month_in d.day_in
 canonical_by grammars.Week d h = canonical_week_is d.year d.month d.day d.year_in d.month_in d.day_in
 canonical_by grammars.LongCount d h = absurd (elim h [ inl e ↦ cc | inr e ↦ cc ])

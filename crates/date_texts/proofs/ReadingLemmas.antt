@@ -20,7 +20,7 @@ use Rattle.date_texts.specs.Numerals.{IsNumeral, IsYearText, plain, minus, padde
 use Rattle.date_texts.specs.Numerals.{canonical_year}
 use Rattle.date_texts.proofs.TextWords.{all_digits, value_after}
 use Rattle.date_texts.proofs.TextParts.{IsMark, no_letter, capital_letter, small_letter, CivilParts, LongParts}
-use Rattle.date_texts.specs.CivilText.{canonical_civil, canonical_week}
+use Rattle.date_texts.specs.CivilText.{canonical_civil}
 use Rattle.date_texts.specs.LongText.{canonical_long}
 use Rattle.date_texts.specs.Reading.{digits_at, number_at, after_byte, year_at, after_week_letter, after_mark}
 use Rattle.date_texts.specs.Reading.{civil_at, place_at, long_at, all_read, as_year, as_year_before_zero, signed_year}
@@ -437,7 +437,7 @@ decimal_numeral most n small less one =
 
 -- so it is read back to what it was written for
 pub canonical_civil_is : (z : ℤ) (m d : ℕ) → IsBetween (neg_ℤ (pos 99_999)) (pos 99_999) z → m ≤ 99 → d ≤ 99
-    → CivilParts Civil (canonical_civil z m d) z m d
+    → CivilParts Civil (canonical_civil Civil z m d) z m d
 canonical_civil_is z m d h i j = record {
   year_text = canonical_year z;
   mark = [];
@@ -451,7 +451,7 @@ canonical_civil_is z m d h i j = record {
 }
 
 pub canonical_week_is : (z : ℤ) (w d : ℕ) → IsBetween (neg_ℤ (pos 99_999)) (pos 99_999) z → w ≤ 99 → d ≤ 99
-    → CivilParts Week (canonical_week z w d) z w d
+    → CivilParts Week (canonical_civil Week z w d) z w d
 canonical_week_is z w d h i j = record {
   year_text = canonical_year z;
   mark = 87 ∷ [];

@@ -5,7 +5,8 @@ use Rattle.std.specs.Fmt.{decimal}
 use Rattle.std.proofs.lemmas.Fmt.{decimal_digit}
 use Rattle.itoa.proofs.Decimal.{pair, decimal_two, decimal_pair, length_one, length_pair, length_four}
 use Rattle.date_texts.specs.Numerals.{padded}
-use Rattle.date_texts.specs.CivilText.{canonical_civil, canonical_week}
+use Rattle.date_texts.specs.declared.grammar.Grammar.TheVariants.{Civil, Week}
+use Rattle.date_texts.specs.CivilText.{canonical_civil}
 
 pub two_digits : (n : ℕ) → n ≤ 99 → padded 2 n ≡ pair n
 two_digits n h =
@@ -103,7 +104,7 @@ four_digits n h =
 
 pub month_date_bytes : (year month day : ℕ) → year ≤ 9_999 → month ≤ 99 → day ≤ 99
     → (pair (year / 100) ++ pair (year % 100)) ++ 45 ∷ (pair month ++ 45 ∷ pair day)
-    ≡ canonical_civil (pos year) month day
+    ≡ canonical_civil Civil (pos year) month day
 month_date_bytes year month day h i j =
     sym (ap (λ (ds : List ℕ). ds ++ 45 ∷ (padded 2 month ++ 45 ∷ padded 2 day)) (four_digits year h)
     ∙ ap (λ (ds : List ℕ). (pair (year / 100) ++ pair (year % 100)) ++ 45 ∷ (ds ++ 45 ∷ padded 2 day))
@@ -113,7 +114,7 @@ month_date_bytes year month day h i j =
 
 pub week_date_bytes : (year week weekday : ℕ) → year ≤ 9_999 → week ≤ 99 → weekday ≤ 9
     → (pair (year / 100) ++ pair (year % 100)) ++ 45 ∷ (codes "W" ++ (pair week ++ 45 ∷ (48 + weekday) ∷ []))
-    ≡ canonical_week (pos year) week weekday
+    ≡ canonical_civil Week (pos year) week weekday
 week_date_bytes year week weekday h i j =
     sym (ap (λ (ds : List ℕ). ds ++ 45 ∷ (codes "W" ++ (padded 2 week ++ 45 ∷ decimal weekday))) (four_digits year h)
     ∙ ap (λ (ds : List ℕ). (pair (year / 100) ++ pair (year % 100))

@@ -19,19 +19,33 @@ use Rattle.date_texts.specs.declared.grammar.Grammar.{Grammar}
 use Rattle.date_texts.specs.declared.grammar.Grammar.TheVariants as grammars
 use Rattle.date_texts.specs.declared.calendar.Target.TheVariants.{Date as DateTarget, Haab, Tzolkin}
 
+-- how a calendar tells days: by rules for its years and months, by years of weeks, by a count in places, or by names
+pub data Reckoning : Type 0 where
+  by_rules : Rules → Reckoning
+  by_weeks : Reckoning
+  by_places : Reckoning
+  by_names : Reckoning
+
+-- what a calendar is known by: its name, and how it tells days
+abbrev pub known_by : Calendar → List ℕ × Reckoning
+known_by Gregorian = (codes "gregorian", by_rules gregorian_rules)
+known_by Iso = (codes "iso", by_weeks)
+known_by Julian = (codes "julian", by_rules julian_rules)
+known_by Coptic = (codes "coptic", by_rules coptic_rules)
+known_by Ethiopic = (codes "ethiopic", by_rules ethiopic_rules)
+known_by Egyptian = (codes "egyptian", by_rules egyptian_rules)
+known_by Armenian = (codes "armenian", by_rules armenian_rules)
+known_by Islamic = (codes "islamic", by_rules islamic_rules)
+known_by Hebrew = (codes "hebrew", by_rules hebrew_rules)
+known_by Longcount = (codes "longcount", by_places)
+known_by French = (codes "french", by_rules french_rules)
+known_by Roman = (codes "roman", by_names)
+
 abbrev pub calendar_name : Calendar → List ℕ
-calendar_name Gregorian = codes "gregorian"
-calendar_name Iso = codes "iso"
-calendar_name Julian = codes "julian"
-calendar_name Coptic = codes "coptic"
-calendar_name Ethiopic = codes "ethiopic"
-calendar_name Egyptian = codes "egyptian"
-calendar_name Armenian = codes "armenian"
-calendar_name Islamic = codes "islamic"
-calendar_name Hebrew = codes "hebrew"
-calendar_name Longcount = codes "longcount"
-calendar_name French = codes "french"
-calendar_name Roman = codes "roman"
+calendar_name calendar = (known_by calendar).0
+
+abbrev pub reckoning : Calendar → Reckoning
+reckoning calendar = (known_by calendar).1
 
 abbrev pub target_name : Target → List ℕ
 target_name (DateTarget calendar) = calendar_name calendar
@@ -47,27 +61,6 @@ all_calendars =
 -- the default targets: the dates of every calendar, the haab and the tzolkin
 abbrev pub all_targets : List Target
 all_targets = map DateTarget all_calendars ++ Haab ∷ Tzolkin ∷ []
-
--- how a calendar tells days: by rules for its years and months, by years of weeks, by a count in places, or by names
-pub data Reckoning : Type 0 where
-  by_rules : Rules → Reckoning
-  by_weeks : Reckoning
-  by_places : Reckoning
-  by_names : Reckoning
-
-abbrev pub reckoning : Calendar → Reckoning
-reckoning Gregorian = by_rules gregorian_rules
-reckoning Iso = by_weeks
-reckoning Julian = by_rules julian_rules
-reckoning Coptic = by_rules coptic_rules
-reckoning Ethiopic = by_rules ethiopic_rules
-reckoning Egyptian = by_rules egyptian_rules
-reckoning Armenian = by_rules armenian_rules
-reckoning Islamic = by_rules islamic_rules
-reckoning Hebrew = by_rules hebrew_rules
-reckoning Longcount = by_places
-reckoning French = by_rules french_rules
-reckoning Roman = by_names
 
 -- how the dates of a calendar are written
 abbrev pub grammar_by : Reckoning → Grammar

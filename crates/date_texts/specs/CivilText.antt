@@ -18,10 +18,8 @@ abbrev pub IsCivilText : Grammar → List ℕ → ℤ → ℕ → ℕ → Type 0
 IsCivilText grammar text year month day =
     Joined 45 (λ y. IsYearText y year) (Joined 45 (λ m. IsMonthText grammar m month) (λ d. IsNumeral 2 d day)) text
 
--- 1945-11-12
-abbrev pub canonical_civil : ℤ → ℕ → ℕ → List ℕ
-canonical_civil year month day = canonical_year year ++ 45 ∷ (padded 2 month ++ 45 ∷ padded 2 day)
-
--- 2004-W53-6
-abbrev pub canonical_week : ℤ → ℕ → ℕ → List ℕ
-canonical_week year week weekday = canonical_year year ++ 45 ∷ (codes "W" ++ (padded 2 week ++ 45 ∷ decimal weekday))
+-- 2004-W53-6 of a week date, and 1945-11-12
+abbrev pub canonical_civil : Grammar → ℤ → ℕ → ℕ → List ℕ
+canonical_civil Week year week weekday =
+    canonical_year year ++ 45 ∷ (codes "W" ++ (padded 2 week ++ 45 ∷ decimal weekday))
+canonical_civil grammar year month day = canonical_year year ++ 45 ∷ (padded 2 month ++ 45 ∷ padded 2 day)

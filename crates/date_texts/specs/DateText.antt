@@ -3,15 +3,12 @@
 -- largest unit first, joined by dashes, W before a week), with shorter numbers and years before 0 allowed;
 -- the places of a long count are joined by dots, and a Roman date has the name of a day in the place of the day.
 use Rattle.std.specs.Prelude.{◌≡◌, ℕ, List}
-use Rattle.day_numbers.specs.declared.ymd.Ymd.{Ymd}
 use Rattle.date_texts.specs.declared.calendar.Calendar.{Calendar}
 use Rattle.date_texts.specs.declared.calendar.Calendar.TheVariants.{Longcount, Roman as RomanCalendar}
-use Rattle.date_texts.specs.declared.grammar.Grammar.{Grammar}
-use Rattle.date_texts.specs.declared.grammar.Grammar.TheVariants as grammars
 use Rattle.date_texts.specs.declared.date.Date.{Date}
 use Rattle.date_texts.specs.declared.date.Date.TheVariants.{Civil, Long, Roman}
 use Rattle.date_texts.specs.Calendars.{grammar}
-use Rattle.date_texts.specs.CivilText.{IsCivilText, canonical_civil, canonical_week}
+use Rattle.date_texts.specs.CivilText.{IsCivilText, canonical_civil}
 use Rattle.date_texts.specs.LongText.{IsLongText, canonical_long}
 use Rattle.date_texts.specs.RomanText.{IsRomanText, canonical_roman}
 use Rattle.date_texts.specs.Trimmed.{trimmed}
@@ -27,13 +24,8 @@ SaysDate calendar text (Roman d) = (RomanCalendar ≡ calendar) × IsRomanText t
 abbrev pub IsDateText : Calendar → List ℕ → Date → Type 0
 IsDateText calendar text date = SaysDate calendar (trimmed text) date
 
--- a week date has its own canonical text
-abbrev pub canonical_ymd : Grammar → Ymd → List ℕ
-canonical_ymd grammars.Week d = canonical_week d.year d.month d.day
-canonical_ymd _ d = canonical_civil d.year d.month d.day
-
 -- the text that a date is written as
 abbrev pub canonical_text : Date → List ℕ
-canonical_text (Civil d) = canonical_ymd (grammar d.calendar) d.ymd
+canonical_text (Civil d) = canonical_civil (grammar d.calendar) d.ymd.year d.ymd.month d.ymd.day
 canonical_text (Long n) = canonical_long n.baktun n.katun n.tun n.uinal n.kin
 canonical_text (Roman d) = canonical_roman d.year d.month d.name

@@ -5,8 +5,8 @@ ghost use Rattle.day_numbers.specs.declared.ymd.Ymd.{Ymd};
 ghost use Rattle.maya_calendars.specs.LongCounts.{IsLongCount};
 ghost use Rattle.date_texts.specs.Calendars.{IsCivil, IsDateBy, day_number_by, reckoning};
 ghost use Rattle.date_texts.specs.Cells.{IsDateCell, IsCell, numbered_name};
-ghost use Rattle.date_texts.specs.CivilText.{canonical_civil, canonical_week};
-ghost use Rattle.date_texts.specs.DateText.{canonical_text, canonical_ymd};
+ghost use Rattle.date_texts.specs.CivilText.{canonical_civil};
+ghost use Rattle.date_texts.specs.DateText.{canonical_text};
 ghost use Rattle.date_texts.specs.declared.calendar.Calendar.TheVariants.{Longcount, Roman};
 ghost use Rattle.date_texts.specs.declared.date.Date.{Date};
 
@@ -102,7 +102,7 @@ fn write_month_date(places: &mut [u8; MAX_CELL], year: u16, month: u8, day: u8)
     requires year { year ≤ 9_999 }
     requires month { month ≤ 99 }
     requires day { day ≤ 99 }
-    ensures { take 10 places.new ≡ canonical_civil (pos year) month day }
+    ensures { take 10 places.new ≡ canonical_civil Grammar.Civil (pos year) month day }
 {
     let century = two_digits((year / 100) as u8);
     let rest = two_digits((year % 100) as u8);
@@ -120,7 +120,7 @@ fn write_week_date(places: &mut [u8; MAX_CELL], year: u16, week: u8, weekday: u8
     requires year { year ≤ 9_999 }
     requires week { week ≤ 99 }
     requires weekday { weekday ≤ 9 }
-    ensures { take 10 places.new ≡ canonical_week (pos year) week weekday }
+    ensures { take 10 places.new ≡ canonical_civil Grammar.Week (pos year) week weekday }
 {
     let century = two_digits((year / 100) as u8);
     let rest = two_digits((year % 100) as u8);
@@ -135,7 +135,7 @@ fn write_week_date(places: &mut [u8; MAX_CELL], year: u16, week: u8, weekday: u8
 /// Writes a date to the front of a cell's room, where it is short, and says whether it is.
 #[inline(always)]
 fn write_short_date(places: &mut [u8; MAX_CELL], grammar: Grammar, date: Ymd) -> bool
-    ensures { result ≡ true → take 10 places.new ≡ canonical_ymd grammar date }
+    ensures { result ≡ true → take 10 places.new ≡ canonical_civil grammar date.year date.month date.day }
 {
     let Ok(year) = u16::try_from(date.year()) else {
         return false;

@@ -2,6 +2,7 @@
 
 ghost use Rattle.std.specs.Prelude.{◌≡◌, ◌≢◌, ◌<◌, ◌≤◌, ℕ, ℤ, IsTrue, List, length, slice_get};
 ghost use Rattle.std.specs.List.{list_all};
+ghost use Rattle.day_numbers.specs.Days.{IsSinceFirstDay};
 ghost use Rattle.date_texts.specs.declared.calendar.Calendar.{Calendar};
 ghost use Rattle.date_texts.specs.declared.calendar.Target.{Target};
 ghost use Rattle.date_texts.specs.declared.date.Date.{Date};
@@ -9,12 +10,15 @@ ghost use Rattle.date_texts.specs.declared.calendar.TheConstants.{MAX_TARGETS};
 ghost use Rattle.date_texts.specs.declared.cells.TheConstants.{MAX_CELL};
 ghost use Rattle.date_texts.specs.declared.calendar.TheConstants.Target.{ALL};
 ghost use Rattle.date_texts.specs.declared.calendar.TheConstants.Calendar.{ALL as EVERY_CALENDAR};
-ghost use Rattle.date_texts.specs.Calendars.{calendar_name, target_name, all_calendars, all_targets};
+ghost use Rattle.date_texts.specs.Calendars.{all_calendars, all_targets, calendar_name, first_day_by, reckoning, target_name};
 ghost use Rattle.date_texts.specs.Cells.{IsCell, is_plain};
-ghost use Rattle.date_texts.specs.Dates.{calendar_of_date};
+ghost use Rattle.date_texts.specs.Dates.{IsDateOfCalendar, calendar_of_date, day_number_of_date};
 ghost use Rattle.date_texts.specs.DateText.{IsDateText, canonical_text};
 ghost use Rattle.date_texts.specs.Names.{IsNamed};
 
+use crate::calendar::Calendar;
+use crate::days::date_on_day;
+use day_numbers::Day;
 use maya_calendars::laws::{haab_days_in_range, tzolkin_numbers_in_range};
 use solar_calendars::laws::one_roman_date;
 
@@ -39,6 +43,18 @@ pub fn one_date_text()
 pub fn canonical_texts_read_back()
     ensures { (date : Date) → IsDateText (calendar_of_date date) (canonical_text date) date }
 {}
+
+/// A calendar has a date on each day from its first day on, and none before: there its cells are empty.
+pub fn first_days(calendar: Calendar, day: Day)
+    ensures since { IsSinceFirstDay (first_day_by (reckoning calendar)) day.number
+        → ∥ ((date : Date) × (calendar_of_date date ≡ calendar) × IsDateOfCalendar date
+        × (day_number_of_date date ≡ day.number)) ∥₁ }
+    ensures before { ¬ (IsSinceFirstDay (first_day_by (reckoning calendar)) day.number)
+        → (date : Date) → calendar_of_date date ≡ calendar → IsDateOfCalendar date
+        → ¬ (day_number_of_date date ≡ day.number) }
+{
+    let _ = date_on_day(calendar, day);
+}
 
 /// A target and a day have one cell at most.
 pub fn one_cell()

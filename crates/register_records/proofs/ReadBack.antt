@@ -2,7 +2,7 @@
 use Rattle.std.proofs.Common.{sym, subst}
 use Rattle.std.specs.Prelude.{Ok}
 use Rattle.day_numbers.specs.Days.{IsDayNumber}
-use Rattle.date_texts.specs.Cells.{before_first_day, on_date}
+use Rattle.date_texts.specs.Cells.{no_date, on_date}
 use Rattle.date_texts.specs.DateText.{IsDateText}
 use Rattle.date_texts.specs.Dates.{calendar_of_date}
 use Rattle.date_texts.proofs.LawWords.{CanonicalTextsReadBack}
@@ -15,4 +15,4 @@ cells-read-back law calendar n texts within named (on_date date of is day text) 
     let dated = subst (λ c. IsDateText c texts.date date) of written in
     subst (λ m. IsOutcome (Ok texts) (Ok m)) day
     (accepted calendar date (record { named = named; dated = dated }) is (subst IsDayNumber (sym day) within))
-cells-read-back law calendar n texts within named (before_first_day before empty) some = absurd (some empty)
+cells-read-back law calendar n texts within named (no_date none empty) some = absurd (some empty)

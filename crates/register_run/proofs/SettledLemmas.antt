@@ -25,7 +25,7 @@ use Rattle.register_records.specs.Sources.{ArePartOfTable, Gains, IfBroken, IfWh
 use Rattle.register_records.specs.Tables.{Layout, table_text}
 use Rattle.register_records.specs.Views.{format_of, layout_of, row_seen, row_targets, waiting_in}
 use Rattle.register_run.specs.declared.tables.Table.{Table}
-use Rattle.register_run.specs.Headline.{AreRowsInOrder, IsSettled}
+use Rattle.register_run.specs.Headline.{IsSettled}
 use Rattle.register_run.specs.Passages.{HasPassed, IsGiven, IsOfGiven, is_of_reading, tells_of_text}
 use Rattle.register_run.specs.TablesWritten.{AllSent, Holds, Stands, entries_seen, rows_seen, waiting_of}
 use Rattle.register_run.proofs.FrontLemmas.{first_of_first, front_all, rows_front}
@@ -95,7 +95,7 @@ module _ {W : Type 0} (o : outputs.Ghosts W) (text : Option (List ℕ)) (table :
 
   in_order_so : (b : Bool) → is_some table.writer ≡ b → table.sunk ≡ false
       → AreRowsOf (layout_of table.setup).targets (entries_seen rows) (rows_seen rows)
-      → Gains (o.contents table.given.value) (o.contents table.output) (AreRowsInOrder (layout_of table.setup))
+      → Gains (o.contents table.given.value) (o.contents table.output) (ArePartOfTable (layout_of table.setup) None)
   in_order_so false b dry are = (
     [],
     inl refl,
@@ -104,7 +104,10 @@ module _ {W : Type 0} (o : outputs.Ghosts W) (text : Option (List ℕ)) (table :
   )
   in_order_so true b dry are = (
     table_text (layout_of table.setup) (rows_seen rows),
-    inr (entries_seen rows, rows_seen rows, table_is are),
+    inr (
+      length (rows_seen rows),
+      record { entries = entries_seen rows; rows = rows_seen rows; table = table_is are; counted = refl; first = tt },
+    ),
     (written dry b).0,
   )
 
@@ -170,9 +173,6 @@ module _ {W : Type 0} (o : outputs.Ghosts W) (text : Option (List ℕ)) (table :
       subst (λ p. IfErr p (λ d. d ≡ cause.NotSealed
       → (table.setup.form ≡ Sealed)
       × IfSome text (λ t. IsNotSealed (format_of table.setup) t))) fact.0 is.not_sealed in record {
-        whole = tt;
-        flushed = tt;
-        good = tt;
         part = λ e. part_so given is all (is_some table.writer) refl dry fact.2 are;
         bad_header = λ e. (bad e).1;
         too_many = many;
@@ -186,9 +186,6 @@ module _ {W : Type 0} (o : outputs.Ghosts W) (text : Option (List ℕ)) (table :
       → ∥ IsSettled o.contents o.has_failed o.is_flushed (layout_of table.setup) text table.given.value table.output
       (end.Broken c) ∥₁
   threads_so c other sink = ∥∥₁_map (rows_are (layout_of table.setup).targets rows holds.targets) (λ are. record {
-    whole = tt;
-    flushed = tt;
-    good = tt;
     part = λ e. absurd (cc);
     bad_header = λ e. absurd (let k : is_of_reading c ≡ true = ap is_of_reading e in cc);
     too_many = λ e. absurd (let k : is_of_reading c ≡ true = ap is_of_reading e in cc);
@@ -245,7 +242,7 @@ module _ {W : Type 0} (o : outputs.Ghosts W) (text : Option (List ℕ)) (table :
       let len : length given ≡ length (entries_seen rows) = sym ended.0 ∙ whole.3 ∙ sym entries_len in
       let same = front_all given (entries_seen rows) front.0 front.1 len in
       let bytes = written dry (sym is_headed ∙ whole.2) in record {
-        whole = (
+        table = (
           table_text (layout_of table.setup) (rows_seen rows),
           record {
             entries = entries_seen rows;
@@ -260,11 +257,4 @@ module _ {W : Type 0} (o : outputs.Ghosts W) (text : Option (List ℕ)) (table :
         );
         flushed = bytes.1;
         good = table.good dry;
-        part = tt;
-        bad_header = tt;
-        too_many = tt;
-        not_sealed = tt;
-        in_order = tt;
-        sink = tt;
-        kept = tt;
       }))

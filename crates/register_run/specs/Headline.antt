@@ -1,41 +1,46 @@
 -- What a run promises of each source.
-use Rattle.std.specs.Prelude.{◌≡◌, ◌⊎◌, ℕ, List, [], Option, Some, IfSome, Bool, true, false, slice_get}
-use Rattle.register_records.specs.Entries.{HasNoHeader, HasTooMany, IsNotSealed, Numbered}
-use Rattle.register_records.specs.Outcomes.{TableRow}
-use Rattle.register_records.specs.Sources.{ArePartOfTable, Gains, IfBroken, IfWhole, IsTableOf, IsWholeTable}
+use Rattle.std.specs.Prelude.{◌≡◌, ℕ, List, [], ◌∷◌, Option, None, IfSome, ⊤, Bool, true, false}
+use Rattle.register_records.specs.Entries.{HasNoHeader, HasTooMany, IsNotSealed}
+use Rattle.register_records.specs.Sources.{ArePartOfTable, Gains, IsWholeTable}
 use Rattle.register_records.specs.Tables.{Layout}
 use Rattle.register_records.specs.declared.setups.Form.TheVariants.{Sealed}
+use Rattle.register_records.specs.declared.sources.Cause.{Cause}
 use Rattle.register_records.specs.declared.sources.Cause.TheVariants as cause
+use Rattle.register_records.specs.declared.sources.Note.{Note}
 use Rattle.register_records.specs.declared.sources.SourceEnd.{SourceEnd}
+use Rattle.register_records.specs.declared.sources.SourceEnd.TheVariants as ended
 use Rattle.register_run.specs.Passages.{is_of_reading}
 
--- this holds at each place: of the source there, of the output as handed in and as handed back, and of the end
-abbrev pub AtEachPlace : {R W : Type 0} → List R → List W → List W → List SourceEnd
-    → (R → W → W → SourceEnd → Type 0) → Type 0
-AtEachPlace {R} {W} sources given written ends Holds =
-    (i : ℕ) (source : R) (before after : W) (end : SourceEnd)
-    → slice_get sources i ≡ Some source → slice_get given i ≡ Some before → slice_get written i ≡ Some after
-    → slice_get ends i ≡ Some end → Holds source before after end
+-- the lists have one length, and this holds at each place: of the source there, of its output as it was handed in and
+-- as it is handed back, and of its end
+abbrev pub AtEachPlace : {R W : Type 0} → (R → W → W → SourceEnd → Type 0) → List R → List W → List W → List SourceEnd
+    → Type 0
+AtEachPlace Holds [] [] [] [] = ⊤
+AtEachPlace Holds (r ∷ rs) (g ∷ gs) (w ∷ ws) (e ∷ es) = Holds r g w e × AtEachPlace Holds rs gs ws es
+AtEachPlace Holds sources given written ends = ⊥
 
--- these bytes are none, or the table of entries numbered 1, 2, and so on: the heading, and the row of each
-abbrev pub AreRowsInOrder : Layout → List ℕ → Type 0
-AreRowsInOrder layout bytes =
-    (bytes ≡ []) ⊎ ((entries : List Numbered) × (rows : List TableRow) × IsTableOf layout entries rows bytes)
+-- of the output of a source with this text, where it tells its bytes: as it was handed in, and as it is handed back
+module _ {W : Type 0} (contents : W → Option (List ℕ)) (has_failed is_flushed : W → Bool) (layout : Layout)
+    (text : Option (List ℕ)) (given written : W) where
+  -- the source is whole: the output has gained the table of the text, and nothing else; all that it took was handed on,
+  -- and it has failed no more than before
+  pub record IsWhole (rows refused : ℕ) (journal : List Note) : Type 0 where
+    pub table : Gains (contents given) (contents written) (IsWholeTable layout text rows refused journal)
+    pub flushed : is_flushed written ≡ true
+    pub good : has_failed written ≡ has_failed given
 
--- a source of this text has ended so, with this output
-pub record IsSettled {W : Type 0} (contents : W → Option (List ℕ)) (has_failed is_flushed : W → Bool)
-    (layout : Layout) (text : Option (List ℕ)) (given written : W) (end : SourceEnd) : Type 0 where
-  pub whole : IfWhole end (λ rows refused journal.
-      Gains (contents given) (contents written) (IsWholeTable layout text rows refused journal))
-  pub flushed : IfWhole end (λ rows refused journal. is_flushed written ≡ true)
-  pub good : IfWhole end (λ rows refused journal. has_failed written ≡ has_failed given)
-  pub part : IfBroken end (λ c. is_of_reading c ≡ true
-      → Gains (contents given) (contents written) (ArePartOfTable layout text))
-  pub bad_header : IfBroken end (λ c. c ≡ cause.BadHeader → IfSome text (λ t. HasNoHeader layout.format t))
-  pub too_many : IfBroken end (λ c. c ≡ cause.TooManyRecords → IfSome text (λ t. HasTooMany layout.format t))
-  pub not_sealed : IfBroken end (λ c. c ≡ cause.NotSealed
-      → (layout.format.form ≡ Sealed) × IfSome text (λ t. IsNotSealed layout.format t))
-  pub in_order : IfBroken end (λ c. has_failed written ≡ false
-      → Gains (contents given) (contents written) (AreRowsInOrder layout))
-  pub sink : IfBroken end (λ c. c ≡ cause.SinkFault → has_failed written ≡ true)
-  pub kept : IfBroken end (λ c. is_of_reading c ≡ true → has_failed written ≡ has_failed given)
+  -- the source is broken for this cause; in a table of no known text the rows are in the order of their numbers, from
+  -- 1, and each is the row of the entry that it carries
+  pub record IsBroken (c : Cause) : Type 0 where
+    pub part : is_of_reading c ≡ true → Gains (contents given) (contents written) (ArePartOfTable layout text)
+    pub kept : is_of_reading c ≡ true → has_failed written ≡ has_failed given
+    pub bad_header : c ≡ cause.BadHeader → IfSome text (HasNoHeader layout.format)
+    pub too_many : c ≡ cause.TooManyRecords → IfSome text (HasTooMany layout.format)
+    pub not_sealed : c ≡ cause.NotSealed → (layout.format.form ≡ Sealed) × IfSome text (IsNotSealed layout.format)
+    pub in_order : has_failed written ≡ false → Gains (contents given) (contents written) (ArePartOfTable layout None)
+    pub sink : c ≡ cause.SinkFault → has_failed written ≡ true
+
+  -- the source has ended so
+  abbrev pub IsSettled : SourceEnd → Type 0
+  IsSettled (ended.Whole rows refused journal) = IsWhole rows refused journal.items
+  IsSettled (ended.Broken c) = IsBroken c

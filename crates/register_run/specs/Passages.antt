@@ -88,14 +88,11 @@ pub record IsConverting (from into : Lane) (r : Converting) : Type 0 where
 
 -- the reader alone gives these causes
 abbrev pub is_of_reading : Cause → Bool
-is_of_reading cause.NoMemory = false
-is_of_reading cause.NoThread = false
-is_of_reading cause.Unconfirmed = false
-is_of_reading cause.SinkFault = false
 is_of_reading cause.ReadFault = true
 is_of_reading cause.BadHeader = true
 is_of_reading cause.TooManyRecords = true
 is_of_reading cause.NotSealed = true
+is_of_reading cause = false
 
 -- neither the reader nor the output gives this cause
 abbrev pub IsOfThreads : Cause → Type 0

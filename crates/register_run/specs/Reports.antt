@@ -1,11 +1,10 @@
 -- What a run answers of its lists.
-use Rattle.std.specs.Prelude.{◌≡◌, ◌↔◌, ℕ, List, All, Bool, Option, length, map, true}
+use Rattle.std.specs.Prelude.{◌≡◌, ◌↔◌, ℕ, List, All, Bool, Option, map, true}
 use Rattle.register_records.specs.Sources.{is_whole_end}
 use Rattle.register_records.specs.Views.{layout_of}
 use Rattle.register_records.specs.declared.setups.Setup.{Setup}
 use Rattle.register_records.specs.declared.sources.Cause.TheVariants as cause
 use Rattle.register_records.specs.declared.sources.SourceEnd.TheVariants as ended
-use Rattle.register_records.specs.declared.sources.SourceEnd.{SourceEnd}
 use Rattle.register_run.specs.declared.reports.Report.{Report}
 use Rattle.register_run.specs.declared.reports.RunFaultKind.{RunFaultKind}
 use Rattle.register_run.specs.declared.reports.RunFaultKind.TheVariants.{NoMemory, OutputCount, TooManySources}
@@ -18,22 +17,18 @@ run_fault_number TooManySources = 1
 run_fault_number OutputCount = 2
 run_fault_number NoMemory = 3
 
--- this holds of each source: of it, of its output as it was handed in and as it is handed back, and of its end
-abbrev pub OfEachSource : {R W : Type 0} → List R → List W → Report W → (R → W → W → SourceEnd → Type 0) → Type 0
-OfEachSource sources given report Holds = AtEachPlace sources given report.outputs.items report.ends.items Holds
-
 -- the setup that the threads of each source were started by
 abbrev pub setups_of : {W : Type 0} → Report W → List Setup
 setups_of report = map (λ s. s.value) report.setups.items
 
--- each source was run by this setup and has ended as it should, and the report says how
+-- each source was run by this setup and has ended as it should, and with no header it has its output as it was; and
+-- the report says how
 pub record IsReport {R W : Type 0} (remaining : R → Option (List ℕ)) (contents : W → Option (List ℕ))
     (has_failed is_flushed : W → Bool) (own_mark : W → ℕ)
     (setup : Setup) (sources : List R) (given : List W) (report : Report W) : Type 0 where
-  pub places : OfEachSource sources given report (λ source before after end.
-      ∥ IsSettled contents has_failed is_flushed (layout_of setup) (remaining source) before after end ∥₁
-      × (end ≡ ended.Broken cause.BadHeader → after ≡ before))
-  pub by_setup : setups_of report ≡ map (λ source. setup) sources
-  pub verdict : (report.verdict ≡ Complete) ↔ All (λ e. is_whole_end e ≡ true) report.ends.items
+  pub places : AtEachPlace (λ source before after end. (end ≡ ended.Broken cause.BadHeader → after ≡ before)
+      × ∥ IsSettled contents has_failed is_flushed (layout_of setup) (remaining source) before after end ∥₁)
+      sources given report.outputs.items report.ends.items
   pub marks : map own_mark report.outputs.items ≡ map own_mark given
-  pub lengths : (length report.outputs.items ≡ length given) × (length report.ends.items ≡ length sources)
+  pub by_setup : setups_of report ≡ map (λ source. setup) sources
+  pub verdict : (report.verdict ≡ Complete) ↔ All (λ end. is_whole_end end ≡ true) report.ends.items

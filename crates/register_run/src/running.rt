@@ -1,14 +1,10 @@
 //! The run over a list of sources.
 
-ghost use Rattle.std.specs.Prelude.{◌≡◌, ◌≢◌, ◌<◌, ◌≤◌, ◌↔◌, [], All, IfErr, IfOk, IfSome, IsErrAnd, map, true, false};
+ghost use Rattle.std.specs.Prelude.{◌≡◌, ◌≢◌, ◌<◌, ◌≤◌, ◌↔◌, [], All, IfErr, IfOk, IsErrAnd, map, true};
 ghost use Rattle.std.specs.Prelude.{vec_capacity, vec_len};
-ghost use Rattle.register_records.specs.Entries.{HasNoHeader, HasTooMany, IsNotSealed};
-ghost use Rattle.register_records.specs.Sources.{ArePartOfTable, Gains, IfBroken, IfWhole, IsWholeTable, is_whole_end};
-ghost use Rattle.register_records.specs.Views.{format_of, layout_of};
+ghost use Rattle.register_records.specs.Sources.{is_whole_end};
 ghost use Rattle.register_run.specs.Cases.{cases, end_of, ended_case, output_of, setup_of};
-ghost use Rattle.register_run.specs.Headline.{AreRowsInOrder};
-ghost use Rattle.register_run.specs.Passages.{is_of_reading};
-ghost use Rattle.register_run.specs.Reports.{IsReport, OfEachSource, setups_of};
+ghost use Rattle.register_run.specs.Reports.{IsReport, setups_of};
 ghost use Rattle.register_run.specs.Stations.{case_of};
 
 use crate::gates::{Gate, Open};
@@ -16,7 +12,7 @@ use crate::reports::{Report, RunFault, RunFaultKind, Verdict};
 use crate::settling::Settled;
 use crate::stations::Station;
 use lane_rings::Patience;
-use register_records::{Cause, Form, Output, Setup, SourceEnd};
+use register_records::{Output, Setup, SourceEnd};
 use std::alloc::{AllocError, Global};
 use std::io::Read;
 use std::num::NonZeroUsize;
@@ -327,7 +323,7 @@ pub fn run_gated<
     setup: &Setup,
     gate: &G,
 ) -> Result<Report<W>, RunFault<R, W>>
-    // The headline in one word: what the clauses of `run` say one by one.
+    // The headline, as `run` says it.
     ensures report { IfOk result (λ r.
         IsReport R.remaining W.contents W.has_failed W.is_flushed W.own_mark
         setup.now sources.items outputs.items r) }
@@ -352,8 +348,7 @@ pub fn run_gated<
     Ok(run_in_scope(rt, gate, alloc, setup, sources, outputs, lists))
 }
 
-/// Converts many sources at once, as [`run_gated`] does with the gate [`Open`]. The clauses say what its report says,
-/// one by one.
+/// Converts many sources at once, as [`run_gated`] does with the gate [`Open`].
 ///
 /// # Errors
 ///
@@ -377,49 +372,8 @@ pub fn run<T: Threads + Wait + Clock + CpuClock + Sync, R: Read + Send + Drop, W
     setup: &Setup,
 ) -> Result<Report<W>, RunFault<R, W>>
     // The headline. A source that is whole has its table in its output: the output there has gained exactly the table
-    // of the source's text, and nothing else.
-    ensures whole { IfOk result (λ r. OfEachSource sources.items outputs.items r (λ source given written end.
-        IfWhole end (λ rows refused journal. ∥ Gains (W.contents given) (W.contents written)
-        (IsWholeTable (layout_of setup.now) (R.remaining source) rows refused journal) ∥₁))) }
-    ensures handed_on { IfOk result (λ r. OfEachSource sources.items outputs.items r (λ source given written end.
-        IfWhole end (λ rows refused journal. W.is_flushed written ≡ true))) }
-    ensures verdict { IfOk result (λ r. (r.verdict ≡ Verdict.Complete)
-        ↔ All (λ e. is_whole_end e ≡ true) r.ends.items) }
-    ensures marks { IfOk result (λ r. map W.own_mark r.outputs.items ≡ map W.own_mark outputs.items) }
-    ensures lengths { IfOk result (λ r. (vec_len r.outputs ≡ vec_len outputs) × (vec_len r.ends ≡ vec_len sources)) }
-
-    // A source that is broken for a cause of reading leaves a front of its table, or nothing.
-    ensures part { IfOk result (λ r. OfEachSource sources.items outputs.items r (λ source given written end.
-        IfBroken end (λ c. is_of_reading c ≡ true → ∥ Gains (W.contents given) (W.contents written)
-        (ArePartOfTable (layout_of setup.now) (R.remaining source)) ∥₁))) }
-    ensures bad_header { IfOk result (λ r. OfEachSource sources.items outputs.items r (λ source given written end.
-        IfBroken end (λ c. c ≡ Cause.BadHeader → (written ≡ given)
-        × IfSome (R.remaining source) (λ text. HasNoHeader (format_of setup.now) text)))) }
-    ensures too_many_records { IfOk result (λ r. OfEachSource sources.items outputs.items r (λ source given written end.
-        IfBroken end (λ c. c ≡ Cause.TooManyRecords
-        → ∥ IfSome (R.remaining source) (λ text. HasTooMany (format_of setup.now) text) ∥₁))) }
-    ensures not_sealed { IfOk result (λ r. OfEachSource sources.items outputs.items r (λ source given written end.
-        IfBroken end (λ c. c ≡ Cause.NotSealed → (setup.now.form ≡ Form.Sealed)
-        × ∥ IfSome (R.remaining source) (λ text. IsNotSealed (format_of setup.now) text) ∥₁))) }
-
-    // Whatever the cause, an output that has not failed has gained rows in the order of their numbers, from 1.
-    ensures in_order { IfOk result (λ r. OfEachSource sources.items outputs.items r (λ source given written end.
-        IfBroken end (λ c. W.has_failed written ≡ false → ∥ Gains (W.contents given) (W.contents written)
-        (AreRowsInOrder (layout_of setup.now)) ∥₁))) }
-
-    // An output is the cause only where it has failed, and it has failed no more than before with a whole source and
-    // with the causes of reading.
-    ensures sink { IfOk result (λ r. OfEachSource sources.items outputs.items r (λ source given written end.
-        IfBroken end (λ c. c ≡ Cause.SinkFault → W.has_failed written ≡ true))) }
-    ensures kept { IfOk result (λ r. OfEachSource sources.items outputs.items r (λ source given written end.
-        IfBroken end (λ c. is_of_reading c ≡ true → W.has_failed written ≡ W.has_failed given))) }
-    ensures good { IfOk result (λ r. OfEachSource sources.items outputs.items r (λ source given written end.
-        IfWhole end (λ rows refused journal. W.has_failed written ≡ W.has_failed given))) }
-
-    // The threads of each source were started by this setup: by its ring and its stripes too.
-    ensures setups { IfOk result (λ r. setups_of r ≡ map (λ source. setup.now) sources.items) }
-
-    // All of this in one word, for a caller that hands it on.
+    // of the source's text, and nothing else. The run is complete exactly where every source is whole, and every other
+    // source is told with its cause. A field of `IsReport`, `IsWhole` and `IsBroken` says each part of this.
     ensures report { IfOk result (λ r.
         IsReport R.remaining W.contents W.has_failed W.is_flushed W.own_mark
         setup.now sources.items outputs.items r) }

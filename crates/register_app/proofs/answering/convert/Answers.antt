@@ -1,5 +1,6 @@
 -- A run that began has a report, and what was told is that.
-use Rattle.std.proofs.Common.{refl}
+use Rattle.std.proofs.Common.{arith, refl}
+use Rattle.register_run.proofs.HeadlineLemmas.{lengths_of}
 use Rattle.register_app.proofs.answering.convert.Goals as goal
 
 pub returns-in-Ok-clause-converted : goal.returns-in-Ok-clause-converted
@@ -13,3 +14,9 @@ returns-in-Ok-clause-converted g c = λ begun. record {
   lines = c.tell_report-status.ensures.lines;
   quiet = c.tell_report-status.ensures.quiet;
 }
+
+pub returns-in-Ok-clause-len : goal.returns-in-Ok-clause-len
+returns-in-Ok-clause-len g c =
+    let same = (lengths_of _ _ _ _ _ c.in-Ok.ensures.report.places).0 in
+    let written = c.in-Ok.report.outputs.ok.0 in let given = c.args.outputs.ok.0 in
+    omega (arith, same)

@@ -1,5 +1,6 @@
 -- The lists of the run hold standard input and standard output alone.
 use Rattle.std.proofs.Common.{◌≡◌, ◌∙◌, ◌∷◌, ◌++◌, [], ap, length, rules}
+use Rattle.register_run.proofs.HeadlineLemmas.{lengths_of}
 use Rattle.register_app.proofs.ReportFacts.{taken_alone}
 use Rattle.register_app.proofs.answering.convert_input.Goals as goal
 
@@ -8,7 +9,7 @@ returns-clause-converted g c = λ begun.
     let sources : c.push_reserved.new.self.items ≡ c.args.input ∷ [] = search rules in
     let given : c.push_reserved-2.new.self.items ≡ c.args.output ∷ [] = search rules in
     let ran = c.convert-status.ensures.converted begun in
-    let one = ap length ran.outputs ∙ ran.settled.lengths.0 ∙ ap length given in
+    let one = ap length ran.outputs ∙ (lengths_of _ _ _ _ _ ran.settled.places).0 ∙ ap length given in
     let rest = taken_alone c.convert-status.result.outputs.items c.pop.new.self.items c.in-Some.output
     c.in-Some.ensures.items one in
     let written : c.convert-status.result.outputs.items

@@ -1,17 +1,24 @@
 -- Rows that were taken from one of several arms, and what is left of the senders of several lanes.
-use Rattle.std.proofs.Common.{◌≡◌, sym, subst, ℕ, zero, suc, ◌<◌, List, [], ◌∷◌, ◌++◌, ◌⊎◌, inl, inr, set, get_or}
-use Rattle.std.proofs.Common.{length, map, append_assoc, append-nil, arith}
-use Rattle.std.specs.Prelude.{All, IfSome, None, Option, Some}
-use Rattle.std.proofs.lemmas.List.Elements.{All-push}
+use Rattle.std.proofs.Common.{◌≡◌, sym, subst, ℕ, zero, suc, ◌<◌, ◌+◌, List, [], ◌∷◌, ◌++◌, inl, inr, set, get_or}
+use Rattle.std.proofs.Common.{length, map, append_assoc, append-nil, arith, refl, true}
+use Rattle.std.specs.Prelude.{◌&&◌, Bool, false, IfSome, None, Option, Some}
+use Rattle.std.specs.List.{AllZip, Contains}
+use Rattle.lane_rings.specs.Items.{entries_in}
+use Rattle.lane_rings.specs.declared.item.Item.TheVariants as item
 use Rattle.lane_rings.specs.declared.sender.Closed.{Closed}
 use Rattle.lane_rings.specs.declared.sender.Sender.{Sender}
-use Rattle.lane_rings.specs.Lane.{HasConfirmation, Lane, all_sent, sender_lane, sent}
+use Rattle.lane_rings.specs.Lane.{HasConfirmation, all_sent, sender_lane, taken}
 use Rattle.register_records.specs.Entries.{Numbered}
+use Rattle.register_records.specs.Seen.{entry_seen}
 use Rattle.register_records.specs.declared.entries.Entry.{Entry}
 use Rattle.register_records.specs.declared.rows.Row.{Row}
 use Rattle.register_run.specs.declared.arms.Arm.{Arm}
-use Rattle.register_run.specs.Arms.{AnyTook, ArmTook, feeding_lane}
-use Rattle.register_run.specs.Passages.{AreAmong, AreOfLanes, IsOfGiven, IsOfLane}
+use Rattle.register_run.specs.Arms.{AnyTook, ArmTook, HasPassedOn, HavePassedOn, feeding_lane}
+use Rattle.register_run.specs.Carried.{HasEnded, WereDealt, carried, dealt, row_entries, rows_carried}
+use Rattle.register_run.specs.Machine.{World}
+use Rattle.register_run.specs.Passages.{AreOfLanes, IsOfGiven}
+use Rattle.register_run.proofs.CarriedLemmas.{entry_within, map_within, prefix_within}
+use Rattle.register_run.proofs.DealtLemmas.{dealt_within}
 
 pub any_set : (arms : List Arm) (i : ℕ) (new d : Arm) (row : Row) → (ArmTook (get_or arms i d) row → ArmTook new row)
     → AnyTook arms row → AnyTook (set arms i new) row
@@ -32,12 +39,37 @@ pub some_here : {B : Type 0} (arms : List Arm) (i : ℕ) (d : Arm) (found : Opti
 some_here arms i d None row_of below h = tt
 some_here arms i d (Some b) row_of below h = any_here arms i d (row_of b) below h
 
--- the first of a list, and the rest
-pub all_tail : {X : Type 0} (P : X → Type 0) (xs : List X) (x : X) (rest : List X) → xs ≡ x ∷ rest → All P xs
-    → P x × All P rest
-all_tail P xs x rest e h =
-    let h' : All P (x ∷ rest) = subst (λ l. All P l) e h in
-    (h' 0 x (omega arith), λ k d below. h' (suc k) d (omega arith))
+-- the same of two lists, place by place
+module _ {X Y : Type 0} (P : X → Y → Type 0) where
+  pub zip_begin : (xs left : List X) (ys : List Y) → left ≡ xs → ys ≡ [] → (more : List Y) → AllZip P left more
+      → AllZip P xs (ys ++ more)
+  zip_begin xs left ys ex ey more h =
+      subst (λ l. AllZip P xs (l ++ more)) (sym ey) (subst (λ l. AllZip P l more) ex h)
+
+  pub zip_more : (all left : List X) (x : X) (rest : List X) (ys new : List Y) (y : Y) → left ≡ x ∷ rest
+      → new ≡ ys ++ y ∷ [] → P x y
+      → ((more : List Y) → AllZip P left more → AllZip P all (ys ++ more))
+      → (more : List Y) → AllZip P rest more → AllZip P all (new ++ more)
+  zip_more all left x rest ys new y ex ey here k more h =
+      subst (λ l. AllZip P all (l ++ more)) (sym ey)
+      (subst (λ l. AllZip P all l) (sym (append_assoc ys (y ∷ []) more))
+      (k (y ∷ more) (subst (λ l. AllZip P l (y ∷ more)) (sym ex) (here, h))))
+
+  none_left : (left : List X) → length left ≡ 0 → AllZip P left []
+  none_left [] e = tt
+  none_left (x ∷ rest) e = absurd (omega arith)
+
+  pub zip_end : (all left : List X) (ys : List Y) → length left ≡ 0
+      → ((more : List Y) → AllZip P left more → AllZip P all (ys ++ more)) → AllZip P all ys
+  zip_end all left ys e k = subst (λ l. AllZip P all l) (append-nil ys) (k [] (none_left left e))
+
+-- what is left of senders is that of their lanes
+pub ended_lanes : (senders : List (Sender Entry)) (closed : List (Closed Entry)) → AllZip HasEnded senders closed
+    → AreOfLanes (map sender_lane senders) closed
+ended_lanes [] [] h = tt
+ended_lanes [] (c ∷ closed) h = h
+ended_lanes (s ∷ senders) [] h = h
+ended_lanes (s ∷ senders) (c ∷ closed) h = (h.0.lane, ended_lanes senders closed h.1)
 
 pub from_tail : (arms : List Arm) (arm : Arm) (rest : List Arm) (closed : List (Closed Entry)) (one : Closed Entry)
     (more : List (Closed Entry)) → arms ≡ arm ∷ rest → closed ≡ one ∷ more → AreOfLanes (map feeding_lane arms) closed
@@ -46,62 +78,67 @@ from_tail arms arm rest closed one more e f h =
     (subst (λ c. AreOfLanes (map feeding_lane (arm ∷ rest)) c) f
     (subst (λ a. AreOfLanes (map feeding_lane a) closed) e h)).1
 
-pub took_tail : (given : List Numbered) (arms : List Arm) (arm : Arm) (rest : List Arm) (row : Row) → arms ≡ arm ∷ rest
-    → (ArmTook arm row → IsOfGiven given row) → IsOfGiven given row ⊎ AnyTook arms row
-    → IsOfGiven given row ⊎ AnyTook rest row
-took_tail given arms arm rest row e here (inl a) = inl a
-took_tail given arms arm rest row e here (inr b) =
-    elim (subst (λ l. AnyTook l row) e b) [ inl a ↦ inl (here a) | inr c ↦ inr c ]
+-- arms that are joined one after the other, with what is left of the senders that fed them
+pub begin_passed : (arms left : List Arm) (closed rest : List (Closed Entry)) → left ≡ arms → rest ≡ closed
+    → (b : Bool) → HavePassedOn b left rest → HavePassedOn b arms closed
+begin_passed arms left closed rest e f b h =
+    subst (λ a. HavePassedOn b a closed) e (subst (λ c. HavePassedOn b left c) f h)
 
-pub none_took : (arms : List Arm) (row : Row) → length arms ≡ 0 → AnyTook arms row → ⊥
-none_took [] row e h = h
-none_took (arm ∷ rest) row e h = absurd (omega arith)
+pub and_left : (a b : Bool) → (a && b) ≡ true → a ≡ true
+and_left true b e = refl
+and_left false b e = e
 
--- lanes that are closed one after the other
-pub begin_from : (senders left : List (Sender Entry)) (closed : List (Closed Entry)) → left ≡ senders → closed ≡ []
-    → (more : List (Closed Entry)) → AreOfLanes (map sender_lane left) more
-    → AreOfLanes (map sender_lane senders) (closed ++ more)
-begin_from senders left closed el ec more h =
-    subst (λ c. AreOfLanes (map sender_lane senders) (c ++ more)) (sym ec)
-    (subst (λ l. AreOfLanes (map sender_lane l) more) el h)
+pub and_right : (a b : Bool) → (a && b) ≡ true → b ≡ true
+and_right true b e = e
+and_right false b e = cc
 
-pub more_from : (all : List Lane) (left : List (Sender Entry)) (s : Sender Entry) (rest : List (Sender Entry))
-    (closed new : List (Closed Entry)) (one : Closed Entry) → left ≡ s ∷ rest → new ≡ closed ++ one ∷ []
-    → IsOfLane (sender_lane s) one
-    → ((more : List (Closed Entry)) → AreOfLanes (map sender_lane left) more → AreOfLanes all (closed ++ more))
-    → (more : List (Closed Entry)) → AreOfLanes (map sender_lane rest) more → AreOfLanes all (new ++ more)
-more_from all left s rest closed new one el en here k more h =
-    subst (λ n. AreOfLanes all (n ++ more)) (sym en)
-    (subst (λ x. AreOfLanes all x) (sym (append_assoc closed (one ∷ []) more))
-    (k (one ∷ more) (subst (λ l. AreOfLanes (map sender_lane l) (one ∷ more)) (sym el) (here, h))))
+for_less : (a b : Bool) (arm : Arm) (one : Closed Entry) → (b ≡ true → a ≡ true) → HasPassedOn a arm one
+    → HasPassedOn b arm one
+for_less a b arm one fewer h = record {
+  confirmed = h.confirmed;
+  first = h.first;
+  all = λ e. h.all (fewer e);
+  none_waits = h.none_waits;
+}
 
-none_left : (left : List (Sender Entry)) → length left ≡ 0 → AreOfLanes (map sender_lane left) []
-none_left [] e = tt
-none_left (s ∷ rest) e = absurd (omega arith)
+pub more_passed : (arms left : List Arm) (arm : Arm) (rest : List Arm) (closed left' : List (Closed Entry))
+    (one : Closed Entry) (rest' : List (Closed Entry)) (a : Bool) → left ≡ arm ∷ rest → left' ≡ one ∷ rest'
+    → HasPassedOn a arm one → (b : Bool) → (b ≡ true → a ≡ true)
+    → (HavePassedOn b left left' → HavePassedOn b arms closed)
+    → HavePassedOn b rest rest' → HavePassedOn b arms closed
+more_passed arms left arm rest closed left' one rest' a e f here b fewer k h =
+    k (subst (λ l. HavePassedOn b l left') (sym e) (subst (λ l. HavePassedOn b (arm ∷ rest) l) (sym f)
+    (for_less a b arm one fewer here, h)))
 
-pub end_from : (all : List Lane) (left : List (Sender Entry)) (closed : List (Closed Entry)) → length left ≡ 0
-    → ((more : List (Closed Entry)) → AreOfLanes (map sender_lane left) more → AreOfLanes all (closed ++ more))
-    → AreOfLanes all closed
-end_from all left closed e k = subst (λ c. AreOfLanes all c) (append-nil closed) (k [] (none_left left e))
+pub end_passed : (left : List Arm) (left' : List (Closed Entry)) → length left ≡ 0
+    → AreOfLanes (map feeding_lane left) left' → (b : Bool) → HavePassedOn b left left'
+end_passed [] [] e from b = tt
+end_passed [] (c ∷ closed) e from b = from
+end_passed (arm ∷ left) left' e from b = absurd (omega arith)
 
--- what the lanes of senders, and of what is left of them, have carried
-pub begin_sent : (given : List Numbered) (senders left : List (Sender Entry)) (closed : List (Closed Entry))
-    → left ≡ senders → closed ≡ [] → All (λ s. AreAmong given (sent s)) senders
-    → All (λ s. AreAmong given (sent s)) left × All (λ c. HasConfirmation c → AreAmong given (all_sent c)) closed
-begin_sent given senders left closed el ec h = (
-  subst (λ l. All (λ s. AreAmong given (sent s)) l) (sym el) h,
-  subst (λ l. All (λ c. HasConfirmation c → AreAmong given (all_sent c)) l) (sym ec)
-      (λ k d below. absurd (omega arith)),
-)
+-- each row that was taken is of an entry that was given
+took_one : (given : List Numbered) (w : World) (i : ℕ) (b : Bool) (arm : Arm) (closed : Closed Entry) (row : Row)
+    → HasPassedOn b arm closed → (HasConfirmation closed → carried (all_sent closed) ≡ dealt w i given)
+    → ArmTook arm row → IsOfGiven given row
+unfolding ArmTook
+took_one given w i b arm closed row on deals took =
+    let took' : Contains (taken arm.rows) (item.Entry row) =
+    subst (λ l. Contains l (item.Entry row)) (append-nil (taken arm.rows))
+    (subst (λ l. Contains (taken arm.rows ++ l) (item.Entry row)) on.none_waits took) in
+    let made : Contains (rows_carried (taken arm.rows)) (entry_seen row.entry) =
+    map_within entry_seen (row_entries (taken arm.rows)) row.entry
+    (map_within (λ (r : Row). r.entry) (entries_in (taken arm.rows)) row (entry_within (taken arm.rows) row took')) in
+    let sent' = prefix_within (rows_carried (taken arm.rows)) (carried (all_sent closed)) (entry_seen row.entry) on.first
+    made in
+    dealt_within w i given (entry_seen row.entry)
+    (subst (λ l. Contains l (entry_seen row.entry)) (deals on.confirmed) sent')
 
-pub more_sent : (given : List Numbered) (left : List (Sender Entry)) (s : Sender Entry) (rest : List (Sender Entry))
-    (closed new : List (Closed Entry)) (one : Closed Entry) → left ≡ s ∷ rest → new ≡ closed ++ one ∷ []
-    → (AreAmong given (sent s) → HasConfirmation one → AreAmong given (all_sent one))
-    → All (λ s. AreAmong given (sent s)) left × All (λ c. HasConfirmation c → AreAmong given (all_sent c)) closed
-    → All (λ s. AreAmong given (sent s)) rest × All (λ c. HasConfirmation c → AreAmong given (all_sent c)) new
-more_sent given left s rest closed new one el en here h =
-    let t = all_tail (λ s. AreAmong given (sent s)) left s rest el h.0 in (
-      t.1,
-      subst (λ l. All (λ c. HasConfirmation c → AreAmong given (all_sent c)) l) (sym en)
-          (All-push (λ c. HasConfirmation c → AreAmong given (all_sent c)) closed one h.1 (here t.0)),
-    )
+pub took_given : (given : List Numbered) (w : World) (i : ℕ) (b : Bool) (arms : List Arm)
+    (closed : List (Closed Entry)) (row : Row) → HavePassedOn b arms closed → WereDealt w i given closed
+    → AnyTook arms row → IsOfGiven given row
+took_given given w i b [] closed row on deals h = absurd h
+took_given given w i b (arm ∷ arms) [] row on deals h = absurd on
+took_given given w i b (arm ∷ arms) (c ∷ closed) row on deals (inl here) =
+    took_one given w i b arm c row on.0 deals.0 here
+took_given given w i b (arm ∷ arms) (c ∷ closed) row on deals (inr there) =
+    took_given given w (i + 1) b arms closed row on.1 deals.1 there

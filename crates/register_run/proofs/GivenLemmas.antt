@@ -1,8 +1,6 @@
 -- What a reader gave of a text, by how it ended.
-use Rattle.std.proofs.Common.{◌≡◌, sym, subst, refl, ℕ, ◌+◌, List, [], ◌∷◌, ◌++◌, length, Option, inl, inr, arith, ◌<◌}
-use Rattle.std.proofs.Common.{get_or, set}
-use Rattle.std.specs.Prelude.{All, Err, IfErr, IfSome, Ok, OnOk, Result}
-use Rattle.std.proofs.lemmas.List.Elements.{All-set}
+use Rattle.std.proofs.Common.{◌≡◌, subst, refl, ℕ, ◌+◌, List, [], ◌∷◌, ◌++◌, length, Option, inl, inr, arith}
+use Rattle.std.specs.Prelude.{Err, IfSome, Ok}
 use Rattle.std.proofs.Math.Logic.{∥∥₁_elim, ∥∥₁_map, ∥∥₁_prop}
 use Rattle.register_records.specs.Entries.{AreNumberedFrom, Format, HasEntries, HasFirstEntries, HasNoHeader}
 use Rattle.register_records.specs.Entries.{HasTooMany, IsNotSealed, Numbered}
@@ -11,15 +9,12 @@ use Rattle.register_records.specs.declared.reading.EntryFault.TheVariants as fau
 use Rattle.register_records.specs.declared.setups.Form.TheVariants.{Sealed}
 use Rattle.register_records.specs.declared.sources.Cause.{Cause}
 use Rattle.register_records.specs.declared.sources.Cause.TheVariants as cause
-use Rattle.lane_rings.specs.declared.item.Gone.{Gone}
-use Rattle.lane_rings.specs.declared.item.Item.TheVariants as item
 use Rattle.lane_rings.specs.declared.sender.Sender.{Sender}
-use Rattle.lane_rings.specs.Lane.{sent}
-use Rattle.register_records.specs.Seen.{entry_seen}
 use Rattle.register_records.specs.declared.entries.Entry.{Entry}
 use Rattle.register_records.specs.declared.rows.Row.{Row}
-use Rattle.register_run.specs.Passages.{AreAmong, HasPassed, IsCauseOf, IsGiven, IsOfThreads, Sends}
-use Rattle.register_run.proofs.PassageLemmas.{among_given, among_send}
+use Rattle.register_run.specs.Carried.{AreDealt}
+use Rattle.register_run.specs.Machine.{World}
+use Rattle.register_run.specs.Passages.{HasPassed, IsCauseOf, IsGiven, IsOfThreads, Sends}
 
 pub numbered_more : (k : ℕ) (given : List Numbered) (n : Numbered) → AreNumberedFrom k given
     → n.number ≡ k + length given → AreNumberedFrom k (given ++ n ∷ [])
@@ -135,7 +130,7 @@ along P text text' d d' e f h = subst (λ t. P t d) e (subst (λ n. P text' n) f
 module _ (text text' : Option (List ℕ)) (d d' : Format) (same : text' ≡ text) (by : d' ≡ d) (given old : List Numbered)
     (kept : given ≡ old) (numbered : AreNumberedFrom 1 old)
     (first : ∥ IfSome text' (λ t. HasFirstEntries d' t given) ∥₁) (senders : List (Sender Entry))
-    (among : All (λ s. AreAmong old (sent s)) senders) where
+    (deals : (w : World) → w.converters ≡ length senders → AreDealt w 0 old senders) where
   first' : ∥ IfSome text (λ t. HasFirstEntries d t old) ∥₁
   first' =
       subst (λ g. ∥ IfSome text (λ t. HasFirstEntries d t g) ∥₁) kept
@@ -147,7 +142,7 @@ module _ (text text' : Option (List ℕ)) (d d' : Format) (same : text' ≡ text
       let all' =
       subst (λ g. ∥ IfSome text (λ t. HasEntries d t g) ∥₁) kept
       (along (λ o n. ∥ IfSome o (λ t. HasEntries n t given) ∥₁) text text' d d' same by all) in
-      ∥∥₁_map (given_all text d n old count numbered first' all') (λ is. (old, is, among))
+      ∥∥₁_map (given_all text d n old count numbered first' all') (λ is. (old, is, deals))
 
   pub sends_stopped : (f : EntryFault) (c : Cause) → IsCauseOf f c → (f ≡ fault.BadHeader → ⊥)
       → (f ≡ fault.TooManyRecords → ∥ IfSome text' (λ t. HasTooMany d' t) ∥₁)
@@ -160,22 +155,10 @@ module _ (text text' : Option (List ℕ)) (d d' : Format) (same : text' ≡ text
       let unsealed' =
       λ (e : f ≡ fault.NotSealed). along (λ o n. (n.form ≡ Sealed)
       × ∥ IfSome o (λ t. IsNotSealed n t) ∥₁) text text' d d' same by (unsealed e) in
-      ∥∥₁_map (given_stopped text d f c old is bad many' unsealed' numbered first') (λ is'. (old, is', among))
+      ∥∥₁_map (given_stopped text d f c old is bad many' unsealed' numbered first') (λ is'. (old, is', deals))
 
   pub sends_gone : ∥ Sends text d (Err cause.Unconfirmed) senders ∥₁
-  sends_gone = ∥∥₁_map (given_gone text d old numbered first') (λ is. (old, is, among))
-
--- one more entry was given, and sent to one of the converters if it was there
-pub all_among : (given more : List Numbered) (senders : List (Sender Entry)) (at : ℕ) (old new : Sender Entry)
-    (e : Entry) (r : Result (Unit {0}) (Gone Entry))
-    → old ≡ get_or senders at old → at < length senders → more ≡ given ++ entry_seen e ∷ []
-    → OnOk r (sent new ≡ sent old ++ item.Entry e ∷ []) → IfErr r (λ g. (g.value ≡ e) × (sent new ≡ sent old))
-    → All (λ s. AreAmong given (sent s)) senders → All (λ s. AreAmong more (sent s)) (set senders at new)
-all_among given more senders at old new e r is below m ok gone all =
-    let before : AreAmong given (sent old) = subst (λ s. AreAmong given (sent s)) (sym is) (all at old below) in
-    All-set (λ s. AreAmong more (sent s)) senders
-    at new (among_send given more (sent old) (sent new) e r m ok gone before)
-    (λ k d at'. among_given given more (sent (get_or senders k d)) (entry_seen e) m (all k d at'))
+  sends_gone = ∥∥₁_map (given_gone text d old numbered first') (λ is. (old, is, deals))
 
 -- an answer that does not speak of the text says nothing
 pub passed_not : (text : Option (List ℕ)) (d : Format) (c : Cause) (took : Row → Type 0) → IsOfThreads c

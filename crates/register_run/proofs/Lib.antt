@@ -1,11 +1,16 @@
 -- Which file serves which public clause:
 --   ArmLemmas, FeedLemmas, PassageLemmas, GivenLemmas, FrontLemmas, MoveLemmas: that the rows that were taken from a
---     source's lanes are those of its entries. TurnLemmas: that its entries went out by turns.
+--     source's lanes are those of its entries. CarriedLemmas, DealtLemmas, PoppedLemmas: that each lane carries what
+--     the machine deals to its stripe, in order, and that the writer goes by the machine's turns.
+--     HistoryLemmas: that some schedule of the machine has the histories of these lanes.
 --   TableLemmas, StationLemmas, SettledLemmas: what is known of one source and its output.
 --   HeadlineLemmas: from there to the clauses of `run` and `run_gated`.
 --   ActLemmas, InvariantLemmas, StateLemmas, PlaceLemmas, NextActLemmas, NumberLemmas, PartLemmas, TotalLemmas,
 --     ScheduleLemmas: the law `every_schedule`. ScheduleExamples computes schedules, for the definitions.
 pub mod ArmLemmas
+pub mod CarriedLemmas
+pub mod DealtLemmas
+pub mod PoppedLemmas
 pub mod FeedLemmas
 pub mod FrontLemmas
 pub mod GivenLemmas
@@ -25,4 +30,4 @@ pub mod PlaceLemmas
 pub mod NextActLemmas
 pub mod ScheduleLemmas
 pub mod ScheduleExamples
-mod TurnLemmas
+pub mod HistoryLemmas

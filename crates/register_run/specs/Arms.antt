@@ -1,10 +1,15 @@
 -- What a link sees of its arms. No public contract cites this file.
-use Rattle.std.specs.Prelude.{List, [], ◌∷◌, ◌++◌, ◌⊎◌}
-use Rattle.std.specs.List.{Contains}
+use Rattle.std.specs.Prelude.{◌≡◌, ◌⊎◌, ⊤, List, [], ◌∷◌, ◌++◌, Bool, true}
+use Rattle.std.specs.List.{AllZip, Contains}
+use mathlib.Core.List.{IsPrefix}
+use Rattle.lane_rings.specs.declared.item.Item.{Item}
 use Rattle.lane_rings.specs.declared.item.Item.TheVariants as item
-use Rattle.lane_rings.specs.Lane.{Lane, sender_lane, taken, waiting}
+use Rattle.lane_rings.specs.declared.sender.Closed.{Closed}
+use Rattle.lane_rings.specs.Lane.{HasConfirmation, Lane, all_sent, sender_lane, taken, waiting}
+use Rattle.register_records.specs.declared.entries.Entry.{Entry}
 use Rattle.register_records.specs.declared.rows.Row.{Row}
 use Rattle.register_records.specs.declared.setups.Setup.{Setup}
+use Rattle.register_run.specs.Carried.{carried, rows_carried}
 use Rattle.register_run.specs.declared.arms.Arm.{Arm}
 
 -- the lane that feeds the converter
@@ -23,3 +28,27 @@ ArmTook arm row = Contains (taken arm.rows ++ waiting arm.rows) (item.Entry row)
 abbrev pub AnyTook : List Arm → Row → Type 0
 AnyTook [] row = ⊥
 AnyTook (arm ∷ rest) row = ArmTook arm row ⊎ AnyTook rest row
+
+-- the first of these items is a row
+abbrev pub StartWithRow : List (Item Row) → Type 0
+StartWithRow [] = ⊥
+StartWithRow (item.Entry row ∷ items) = ⊤
+StartWithRow (item.End n ∷ items) = ⊥
+StartWithRow (item.Stop ∷ items) = ⊥
+
+-- a look found a row, which was not taken yet
+abbrev pub IsRowNext : Arm → Type 0
+IsRowNext arm = StartWithRow (waiting arm.rows)
+
+-- both lanes of an arm are confirmed, and this is what is left of the sender that fed it: the rows that were taken are
+-- those of the first entries that were sent, in order, and of all of them where their lane ended with the number of the
+-- rows that were taken; none waits
+pub record HasPassedOn (ended : Bool) (arm : Arm) (closed : Closed Entry) : Type 0 where
+  pub confirmed : HasConfirmation closed
+  pub first : IsPrefix (rows_carried (taken arm.rows)) (carried (all_sent closed))
+  pub all : ended ≡ true → rows_carried (taken arm.rows) ≡ carried (all_sent closed)
+  pub none_waits : waiting arm.rows ≡ []
+
+-- the same of each of these arms
+abbrev pub HavePassedOn : Bool → List Arm → List (Closed Entry) → Type 0
+HavePassedOn ended arms closed = AllZip (HasPassedOn ended) arms closed

@@ -5,7 +5,7 @@ use Rattle.register_records.specs.declared.setups.Setup.{Setup}
 use Rattle.register_run.specs.declared.feeds.Feed.{Feed}
 use Rattle.register_run.specs.declared.links.Link.{Link}
 use Rattle.register_run.specs.declared.starting.StartFault.{StartFault}
-use Rattle.register_run.specs.Links.{Passed}
+use Rattle.register_run.specs.Links.{IsNext, Passed}
 
 module _ {R : Type 0} where
   -- the source and the setup that the feed was made for
@@ -22,3 +22,11 @@ module _ {R : Type 0} where
   -- the row was taken, or was seen to be next
   abbrev pub Took : Feed R → Row → Type 0
   Took feed row = PassedBy feed.link row
+
+  abbrev pub IsNextBy : Result (Link R) StartFault → Type 0
+  IsNextBy (Ok link) = IsNext link
+  IsNextBy (Err fault) = ⊥
+
+  -- a look found a row, which was not taken yet
+  abbrev pub IsFound : Feed R → Type 0
+  IsFound feed = IsNextBy feed.link

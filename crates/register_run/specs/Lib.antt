@@ -1,5 +1,7 @@
+pub mod Carried
 pub mod Passages
 pub mod Arms
+pub mod Popped
 pub mod Links
 pub mod Feeds
 pub mod TablesWritten
@@ -11,5 +13,5 @@ pub mod Reports
 pub mod Machine
 pub mod Schedules
 pub mod EveryScheduleLaw
-pub mod Turns
+pub mod Histories
 pub mod Starts

@@ -1,5 +1,5 @@
 -- The machine of striped lanes: a reader, a writer, and converters between them with two lanes each. It is a model that
--- stands by itself and has nothing of the run's code. No contract of the run cites it.
+-- stands by itself and has nothing of the run's code. Contracts of the run's own threads and lanes cite it.
 use Rattle.std.specs.Prelude.{ℕ, ◌+◌, ◌%◌, ◌==◌, if◌then◌else◌, nat_lt, Bool, List, [], ◌∷◌, ◌++◌, length}
 use Rattle.std.specs.Prelude.{Option, Some, None, slice_get}
 use Rattle.register_records.specs.Entries.{Numbered}

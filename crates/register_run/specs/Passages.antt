@@ -1,12 +1,10 @@
 -- What the threads of a source owe, by the lanes that they were given.
-use Rattle.std.specs.Prelude.{◌≡◌, ◌⊎◌, ⊤, ℕ, List, [], ◌∷◌, length, All, Option, Some, IfSome, MatchOption, Result, Ok}
+use Rattle.std.specs.Prelude.{◌≡◌, ◌⊎◌, ⊤, ℕ, List, [], ◌∷◌, length, Option, Some, IfSome, MatchOption, Result, Ok}
 use Rattle.std.specs.Prelude.{Err, IfOk, IfErr, Bool, true, false}
 use Rattle.std.specs.List.{Contains}
-use Rattle.lane_rings.specs.declared.item.Item.{Item}
-use Rattle.lane_rings.specs.declared.item.Item.TheVariants as item
 use Rattle.lane_rings.specs.declared.sender.Sender.{Sender}
 use Rattle.lane_rings.specs.declared.sender.Closed.{Closed}
-use Rattle.lane_rings.specs.Lane.{Lane, HasConfirmation, all_sent, closed_lane, receiver_lane, sent, taken}
+use Rattle.lane_rings.specs.Lane.{Lane, HasConfirmation, all_sent, closed_lane, receiver_lane, taken}
 use Rattle.register_records.specs.Causes.{entry_fault_cause}
 use Rattle.register_records.specs.Entries.{AreNumberedFrom, Format, HasEntries, HasFirstEntries, HasNoHeader}
 use Rattle.register_records.specs.Entries.{HasTooMany, IsNotSealed, Numbered}
@@ -17,6 +15,8 @@ use Rattle.register_records.specs.declared.rows.Row.{Row}
 use Rattle.register_records.specs.declared.setups.Form.TheVariants.{Sealed}
 use Rattle.register_records.specs.declared.sources.Cause.{Cause}
 use Rattle.register_records.specs.declared.sources.Cause.TheVariants as cause
+use Rattle.register_run.specs.Carried.{AreDealt, AreOfAllTaken, AreOfTaken, HasEnd, WereDealt}
+use Rattle.register_run.specs.Machine.{World}
 use Rattle.register_run.specs.declared.reading.Reading.{Reading}
 use Rattle.register_run.specs.declared.converting.Converting.{Converting}
 
@@ -50,20 +50,17 @@ IsNotSunk outcome = IfErr outcome (λ c. c ≡ cause.SinkFault → ⊥)
 abbrev pub IsCauseOf : EntryFault → Cause → Type 0
 IsCauseOf fault c = MatchOption (entry_fault_cause fault) (c ≡ cause.Unconfirmed) (λ is. c ≡ is)
 
--- each entry among the items is one of those given
-abbrev pub AreAmong : List Numbered → List (Item Entry) → Type 0
-AreAmong given items = (e : Entry) → Contains items (item.Entry e) → Contains given (entry_seen e)
-
--- a reader gave entries of the text, and sent no others
+-- a reader gave entries of the text, and the machine of as many stripes as there are senders deals them so
 abbrev pub Sends : Option (List ℕ) → Format → Result ℕ Cause → List (Sender Entry) → Type 0
 Sends text format outcome senders =
-    (given : List Numbered) × IsGiven text format outcome given × All (λ s. AreAmong given (sent s)) senders
+    (given : List Numbered) × IsGiven text format outcome given
+    × ((w : World) → w.converters ≡ length senders → AreDealt w 0 given senders)
 
 -- the same, of lanes that were ended
 abbrev pub HasSent : Option (List ℕ) → Format → Result ℕ Cause → List (Closed Entry) → Type 0
 HasSent text format outcome closed =
     (given : List Numbered) × IsGiven text format outcome given
-    × All (λ c. HasConfirmation c → AreAmong given (all_sent c)) closed
+    × ((w : World) → w.converters ≡ length closed → WereDealt w 0 given closed)
 
 -- a reader of this text, which was given the senders of these lanes, may answer so
 pub record IsReading (text : Option (List ℕ)) (format : Format) (lanes : List Lane) (r : Reading) : Type 0 where
@@ -71,20 +68,13 @@ pub record IsReading (text : Option (List ℕ)) (format : Format) (lanes : List 
   pub entries : ∥ HasSent text format r.outcome r.closed.items ∥₁
   pub not_sunk : IsNotSunk r.outcome
 
--- of the rows among the items, one at most is new: the row of this entry
-abbrev pub GainsRowOf : List (Item Row) → List (Item Row) → Entry → Type 0
-GainsRowOf old new entry =
-    (row : Row) → Contains new (item.Entry row) → Contains old (item.Entry row) ⊎ (row.entry ≡ entry)
-
--- each row that was sent is the row of an entry that was taken
-abbrev pub AreOfTaken : List (Item Entry) → List (Item Row) → Type 0
-AreOfTaken entries rows = (row : Row) → Contains rows (item.Entry row) → Contains entries (item.Entry row.entry)
-
--- a converter which was given these two lanes may answer so
+-- a converter which was given these two lanes may answer so: its rows are those of the first entries that it took, and
+-- of all of them where it ended their lane with an `End`
 pub record IsConverting (from into : Lane) (r : Converting) : Type 0 where
   pub handed : receiver_lane r.entries ≡ from
   pub closed : IsOfLane into r.closed
   pub rows : HasConfirmation r.closed → AreOfTaken (taken r.entries) (all_sent r.closed)
+  pub all : HasConfirmation r.closed → HasEnd (all_sent r.closed) → AreOfAllTaken (taken r.entries) (all_sent r.closed)
 
 -- the reader alone gives these causes
 abbrev pub is_of_reading : Cause → Bool

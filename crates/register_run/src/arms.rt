@@ -1,7 +1,7 @@
 //! A converter with its two lanes, as the writer has it.
 
-ghost use Rattle.std.specs.Prelude.{◌≡◌, [], List, IfOk, IfSome, OnOk};
-ghost use Rattle.lane_rings.specs.Lane.{lane_capacity, receiver_lane, sender_lane, sent};
+ghost use Rattle.std.specs.Prelude.{◌≡◌, ◌+◌, [], IfOk, IfSome};
+ghost use Rattle.lane_rings.specs.Lane.{lane_capacity, receiver_lane, sender_lane, sent, taken};
 
 use crate::converting::{Converting, convert_entries};
 use crate::gates::Gate;
@@ -60,10 +60,9 @@ pub(crate) struct Arm {
 }
 
 impl Arm {
-    ghost use Rattle.lane_rings.specs.Lane.{HasConfirmation, all_sent};
-    ghost use Rattle.register_records.specs.Entries.{Numbered};
-    ghost use Rattle.register_run.specs.Arms.{ArmTook, arm_setup, feeding_lane};
-    ghost use Rattle.register_run.specs.Passages.{AreAmong, IsConverting, IsOfGiven, IsOfLane};
+    ghost use Rattle.register_run.specs.Arms.{ArmTook, HasPassedOn, IsRowNext, arm_setup, feeding_lane};
+    ghost use Rattle.register_run.specs.Passages.{IsConverting, IsOfLane};
+    ghost use Rattle.register_run.specs.Popped.{HasLooked, popped_from};
 
     /// Starts a converter, and gives the sender that feeds it.
     ///
@@ -80,6 +79,7 @@ impl Arm {
     ) -> Result<(Sender<Entry>, Arm), StartFault>
         ensures lane { IfOk result (λ r. feeding_lane r.1 ≡ sender_lane r.0) }
         ensures fresh { IfOk result (λ r. sent r.0 ≡ []) }
+        ensures untaken { IfOk result (λ r. taken r.1.rows ≡ []) }
         ensures setup { IfOk result (λ r. arm_setup r.1 ≡ setup.entry.now) }
     {
         let Ok((sender, entries)) = patient_lane::<Entry>(alloc, setup.ring(), patience) else {
@@ -97,7 +97,7 @@ impl Arm {
         let worker = scope.spawn_with(
             lanes,
             move || -> Converting
-                requires { sent row_sender ≡ [] }
+                requires { (sent row_sender ≡ []) × (taken entries ≡ []) }
                 ensures { IsConverting (receiver_lane entries) (sender_lane row_sender) result }
             { convert_entries(rt, gate, setup, entries, row_sender) },
         );
@@ -128,6 +128,7 @@ impl Arm {
         ensures lane { feeding_lane self.new ≡ feeding_lane self.old }
         ensures setup { arm_setup self.new ≡ arm_setup self.old }
         ensures kept { (row : Row) → ArmTook self.old row → ArmTook self.new row }
+        ensures looked { HasLooked self.old self.new result }
     {
         match self.rows.look() {
             Ok(true) => self.ahead(),
@@ -145,6 +146,7 @@ impl Arm {
         ensures lane { feeding_lane self.new ≡ feeding_lane self.old }
         ensures setup { arm_setup self.new ≡ arm_setup self.old }
         ensures kept { (row : Row) → ArmTook self.old row → ArmTook self.new row }
+        ensures looked { HasLooked self.old self.new result }
     {
         match self.rows.next() {
             None => Ahead::Nothing,
@@ -173,17 +175,18 @@ impl Arm {
         }
     }
 
-    /// Takes the row that a look found, if it did.
+    /// Takes the row that a look found.
     #[tactic(auto, using(crate::proofs::PassageLemmas::same_seen), unfolding(crate::specs::Arms::ArmTook))]
     pub(crate) fn pass(&mut self)
+        requires { IsRowNext self.old }
         ensures lane { feeding_lane self.new ≡ feeding_lane self.old }
         ensures setup { arm_setup self.new ≡ arm_setup self.old }
         ensures kept { (row : Row) → ArmTook self.old row → ArmTook self.new row }
+        ensures same { self.new.«open» ≡ self.old.«open» }
+        ensures one { popped_from self.new ≡ popped_from self.old + 1 }
     {
-        if let Some(Item::Entry(_)) = self.rows.next() {
-            self.rows.pass();
-            self.count = self.count.saturating_add(1);
-        }
+        self.rows.pass();
+        self.count = self.count.saturating_add(1);
     }
 
     /// Joins the thread and confirms both lanes. `closed` is what is left of the sender that fed the converter. The
@@ -198,9 +201,7 @@ impl Arm {
         closed: Closed<Entry>,
     ) -> Result<bool, Unconfirmed>
         requires { IsOfLane (feeding_lane self) closed }
-        ensures passed { OnOk result ((given : List Numbered)
-            → (HasConfirmation closed → AreAmong given (all_sent closed))
-            → (row : Row) → ArmTook self row → IsOfGiven given row) }
+        ensures passed { IfOk result (λ ended. HasPassedOn ended self closed) }
     {
         let Arm {
             worker,

@@ -1,7 +1,7 @@
 //! The work of a thread that converts.
 
 ghost use Rattle.std.specs.Prelude.{◌≡◌, []};
-ghost use Rattle.lane_rings.specs.Lane.{receiver_lane, sender_lane, sent};
+ghost use Rattle.lane_rings.specs.Lane.{receiver_lane, sender_lane, sent, taken};
 ghost use Rattle.register_run.specs.Passages.{IsConverting};
 
 use crate::gates::Gate;
@@ -20,7 +20,7 @@ pub(crate) struct Converting {
 
 /// Sends the row of each entry that it takes, and ends the second lane as the first one ended.
 ///
-/// Where the writer is gone it goes on taking, so that the reader never waits for it.
+/// Where the writer is gone it goes on taking, so that the reader never waits for it, and ends with a stop.
 pub(crate) fn convert_entries<T: Wait + Clock + CpuClock, G: Gate>(
     rt: &T,
     gate: &G,
@@ -28,7 +28,8 @@ pub(crate) fn convert_entries<T: Wait + Clock + CpuClock, G: Gate>(
     entries: Receiver<Entry>,
     rows: Sender<Row>,
 ) -> Converting
-    requires { sent rows ≡ [] }
+    requires none_sent { sent rows ≡ [] }
+    requires none_taken { taken entries ≡ [] }
     ensures { IsConverting (receiver_lane entries) (sender_lane rows) result }
 {
     let mut entries = entries;
@@ -52,6 +53,10 @@ pub(crate) fn convert_entries<T: Wait + Clock + CpuClock, G: Gate>(
             Some(Item::End(count)) => {
                 let count = *count;
                 entries.pass();
+                if gone {
+                    let closed = rows.stop(rt);
+                    return Converting { entries, closed };
+                }
                 let closed = rows.close(rt, count);
                 return Converting { entries, closed };
             }

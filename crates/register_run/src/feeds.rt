@@ -29,7 +29,7 @@ pub(crate) struct Feed<R: Read> {
 impl<R: Read + Drop> Feed<R> {
     ghost use Rattle.register_records.specs.declared.rows.Row.{Row};
     ghost use Rattle.register_records.specs.Views.{format_of};
-    ghost use Rattle.register_run.specs.Feeds.{Took, fed_by, fed_from};
+    ghost use Rattle.register_run.specs.Feeds.{IsFound, Took, fed_by, fed_from};
     ghost use Rattle.register_run.specs.Passages.{HasPassed};
 
     /// Starts the threads of a source. Where they do not start, the source is dropped and the feed has the cause.
@@ -60,6 +60,7 @@ impl<R: Read + Drop> Feed<R> {
         ensures source { fed_from self.new ≡ fed_from self.old }
         ensures setup { fed_by self.new ≡ fed_by self.old }
         ensures kept { (row : Row) → Took self.old row → Took self.new row }
+        ensures row { result ≡ Found.Row → IsFound self.new }
     {
         match &mut self.link {
             Ok(link) => link.look(),
@@ -79,6 +80,7 @@ impl<R: Read + Drop> Feed<R> {
 
     /// Takes the row that a look found.
     pub(crate) fn pass(&mut self)
+        requires { IsFound self.old }
         ensures source { fed_from self.new ≡ fed_from self.old }
         ensures setup { fed_by self.new ≡ fed_by self.old }
         ensures kept { (row : Row) → Took self.old row → Took self.new row }

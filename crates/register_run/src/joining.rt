@@ -1,10 +1,9 @@
 //! What a link does with all its arms.
 
-ghost use Rattle.std.specs.Prelude.{◌≡◌, ◌<◌, List, All, IfSome, OnOk, map, vec_len};
-ghost use Rattle.lane_rings.specs.Lane.{HasConfirmation, all_sent};
-ghost use Rattle.register_records.specs.Entries.{Numbered};
-ghost use Rattle.register_run.specs.Arms.{AnyTook, arm_setup, feeding_lane};
-ghost use Rattle.register_run.specs.Passages.{AreAmong, AreOfLanes, IsOfGiven};
+ghost use Rattle.std.specs.Prelude.{◌≡◌, ◌<◌, IfOk, IfSome, map, vec_len};
+ghost use Rattle.register_run.specs.Arms.{AnyTook, HavePassedOn, arm_setup, feeding_lane};
+ghost use Rattle.register_run.specs.Passages.{AreOfLanes};
+ghost use Rattle.register_run.specs.Popped.{HasLookedAt, HasPopped, IsRowNextAt};
 
 use crate::arms::{Ahead, Arm};
 use lane_rings::{Closed, Unconfirmed};
@@ -23,9 +22,7 @@ pub(crate) fn join_arms(
     closed: Vec<Closed<Entry>>,
 ) -> Result<bool, Unconfirmed>
     requires { AreOfLanes (map feeding_lane arms.items) closed.items }
-    ensures { OnOk result ((given : List Numbered)
-        → All (λ c. HasConfirmation c → AreAmong given (all_sent c)) closed.items
-        → (row : Row) → AnyTook arms.items row → IsOfGiven given row) }
+    ensures { IfOk result (λ ended. HavePassedOn ended arms.items closed.items) }
 {
     let mut confirmed = true;
     let mut ended = true;
@@ -53,6 +50,7 @@ pub(crate) fn look_at(arms: &mut Vec<Arm>, at: usize) -> Ahead
     ensures setups { map arm_setup arms.new.items ≡ map arm_setup arms.old.items }
     ensures len { vec_len arms.new ≡ vec_len arms.old }
     ensures kept { (row : Row) → AnyTook arms.old.items row → AnyTook arms.new.items row }
+    ensures looked { HasLookedAt at arms.old.items arms.new.items result }
 {
     let arm = &mut arms[at];
     arm.look()
@@ -69,11 +67,13 @@ pub(crate) fn row_at(arms: &Vec<Arm>, at: usize) -> Option<&Row>
 
 /// Takes the row that a look at one arm found.
 pub(crate) fn pass_at(arms: &mut Vec<Arm>, at: usize)
-    requires { at < vec_len arms.old }
+    requires within { at < vec_len arms.old }
+    requires row { IsRowNextAt arms.old.items at }
     ensures lanes { map feeding_lane arms.new.items ≡ map feeding_lane arms.old.items }
     ensures setups { map arm_setup arms.new.items ≡ map arm_setup arms.old.items }
     ensures len { vec_len arms.new ≡ vec_len arms.old }
     ensures kept { (row : Row) → AnyTook arms.old.items row → AnyTook arms.new.items row }
+    ensures popped { HasPopped arms.old.items arms.new.items }
 {
     let arm = &mut arms[at];
     arm.pass();

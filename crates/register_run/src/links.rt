@@ -1,12 +1,13 @@
 //! The threads of a source, and the ends of its last lanes.
 
-ghost use Rattle.std.specs.Prelude.{◌≡◌, ◌<◌, ◌≤◌, ◌+◌, [], ℕ, Some, slice_get, All, IfOk, IfSome, length, map};
+ghost use Rattle.std.specs.Prelude.{◌≡◌, ◌≢◌, ◌<◌, ◌≤◌, ◌+◌, [], ℕ, Some, slice_get, All, IfOk, IfSome, length, map};
 ghost use Rattle.std.specs.Prelude.{replicate, true, vec_capacity, vec_len};
 ghost use Rattle.lane_rings.specs.Lane.{sender_lane, sent};
 ghost use Rattle.register_records.specs.Views.{format_of};
 ghost use Rattle.register_run.specs.Arms.{arm_setup, feeding_lane};
 ghost use Rattle.register_run.specs.Machine.{World, turn as turn_in};
 ghost use Rattle.register_run.specs.Passages.{IsOfThreads};
+ghost use Rattle.register_run.specs.Popped.{AreOpen, IsInTurn, popped};
 
 use crate::arms::{Ahead, Arm};
 use crate::gates::Gate;
@@ -64,13 +65,14 @@ pub(crate) struct Link<R: Read> {
     stopped: bool,
     ghost fed: { map feeding_lane arms.items ≡ map sender_lane reader.promise.senders.value.items },
     ghost in_turn: { turn < vec_len arms },
+    ghost by_turns: { IsInTurn arms.items turn },
     // There are as many arms as the setup has stripes, and each was started by it.
     ghost staffed: { map arm_setup arms.items
         ≡ replicate reader.promise.setup.value.stripes reader.promise.setup.value },
 }
 
 impl<R: Read + Drop> Link<R> {
-    ghost use Rattle.register_run.specs.Links.{Passed, started_on, started_by};
+    ghost use Rattle.register_run.specs.Links.{IsNext, IsOfMachine, Passed, started_on, started_by};
     ghost use Rattle.register_run.specs.Passages.{HasPassed, IsReading};
 
     /// Starts the threads of a source, the converters before the reader. What was not started is dropped.
@@ -131,6 +133,7 @@ impl<R: Read + Drop> Link<R> {
         ensures source { started_on self.new ≡ started_on self.old }
         ensures setup { started_by self.new ≡ started_by self.old }
         ensures kept { (row : Row) → Passed self.old row → Passed self.new row }
+        ensures row { result ≡ Found.Row → IsNext self.new }
     {
         match look_at(&mut self.arms, self.turn) {
             Ahead::Nothing => Found::Nothing,
@@ -152,30 +155,25 @@ impl<R: Read + Drop> Link<R> {
 
     /// Takes the row that a look found, and gives the turn on.
     pub(crate) fn pass(&mut self)
+        requires { IsNext self.old }
         ensures source { started_on self.new ≡ started_on self.old }
         ensures setup { started_by self.new ≡ started_by self.old }
         ensures kept { (row : Row) → Passed self.old row → Passed self.new row }
     {
         pass_at(&mut self.arms, self.turn);
-        self.advance();
+        self.turn = next_open(&self.arms, self.turn);
     }
 
-    /// Gives the turn to the next arm whose lane has not ended, if there is one.
-    fn advance(&mut self)
+    /// A lane has ended, by a stop or by an end. With the last one the source has. The turn goes to the next arm whose
+    /// lane has not ended, if there is one.
+    fn end_of_lane(&mut self, by_stop: bool) -> Found
+        requires { AreOpen self.old.arms.items → ⊥ }
+        ensures row { result ≢ Found.Row }
         ensures source { started_on self.new ≡ started_on self.old }
         ensures setup { started_by self.new ≡ started_by self.old }
         ensures arms { self.new.arms ≡ self.old.arms }
     {
         self.turn = next_open(&self.arms, self.turn);
-    }
-
-    /// A lane has ended, by a stop or by an end. With the last one the source has.
-    fn end_of_lane(&mut self, by_stop: bool) -> Found
-        ensures source { started_on self.new ≡ started_on self.old }
-        ensures setup { started_by self.new ≡ started_by self.old }
-        ensures arms { self.new.arms ≡ self.old.arms }
-    {
-        self.advance();
         self.stopped = self.stopped || by_stop;
         if self.arms.iter().any(|arm| arm.is_open()) {
             Found::Other
@@ -193,7 +191,8 @@ impl<R: Read + Drop> Link<R> {
     /// The lowest of the causes that were met: those of reading, and `Unconfirmed` where a lane is not confirmed, or
     /// where the lanes ended otherwise than the reader did.
     pub(crate) fn finish(self, rt: &impl Threads) -> Result<u32, Cause>
-        ensures { HasPassed (R.remaining (started_on self)) (format_of (started_by self)) result (Passed self) }
+        ensures passed { HasPassed (R.remaining (started_on self)) (format_of (started_by self)) result (Passed self) }
+        ensures machine { IfOk result (λ count. ∥ IsOfMachine (R.remaining (started_on self)) count self ∥₁) }
     {
         let Link {
             reader,
@@ -268,6 +267,7 @@ impl Fan {
         ensures fresh { IfOk result (λ f. All (λ s. sent s ≡ []) f.senders.items) }
         ensures setups { IfOk result (λ f. map arm_setup f.arms.items
             ≡ replicate setup.entry.now.stripes setup.entry.now) }
+        ensures unpopped { IfOk result (λ f. popped f.arms.items ≡ 0) }
     {
         let stripes = setup.stripes();
         let Ok(mut arms) = Vec::with_capacity(alloc, stripes) else {

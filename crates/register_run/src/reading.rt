@@ -1,11 +1,11 @@
 //! The work of the thread that reads a source.
 
-ghost use Rattle.std.specs.Prelude.{◌≡◌, ◌<◌, ◌≤◌, [], All, List, map, vec_capacity, vec_len};
-ghost use Rattle.lane_rings.specs.Lane.{HasConfirmation, all_sent, sender_lane, sent};
-ghost use Rattle.register_records.specs.Entries.{Numbered};
+ghost use Rattle.std.specs.Prelude.{◌≡◌, ◌<◌, ◌≤◌, [], All, map, vec_capacity, vec_len};
+ghost use Rattle.std.specs.List.{AllZip};
+ghost use Rattle.lane_rings.specs.Lane.{sender_lane, sent};
 ghost use Rattle.register_records.specs.Views.{format_of};
-ghost use Rattle.register_run.specs.Turns.{GoByTurns};
-ghost use Rattle.register_run.specs.Passages.{AreAmong, AreOfLanes, IsCauseOf, IsNotSunk, IsOfLane, IsReading, Sends};
+ghost use Rattle.register_run.specs.Carried.{HasEnded};
+ghost use Rattle.register_run.specs.Passages.{IsCauseOf, IsNotSunk, IsReading, Sends};
 
 use crate::turns::turn_after;
 use lane_rings::{Closed, Sender};
@@ -72,7 +72,6 @@ fn send_entries<R: Read + Drop>(
     ensures lanes { map sender_lane senders.new.items ≡ map sender_lane senders.old.items }
     ensures not_sunk { IsNotSunk result }
     ensures sends { ∥ Sends (R.remaining source) (format_of setup.now) result senders.new.items ∥₁ }
-    ensures turns { GoByTurns (vec_len senders.old) 0 senders.new.items }
 {
     let mut entries = match EntryReader::open(alloc, source, setup) {
         Ok(entries) => entries,
@@ -105,9 +104,7 @@ fn close_all(
     requires some { 0 < vec_len senders }
     requires room { vec_len senders ≤ vec_capacity closed }
     requires none { closed.items ≡ [] }
-    ensures from { AreOfLanes (map sender_lane senders.items) result.items }
-    ensures sent { (given : List Numbered) → All (λ s. AreAmong given (sent s)) senders.items
-        → All (λ c. HasConfirmation c → AreAmong given (all_sent c)) result.items }
+    ensures { AllZip HasEnded senders.items result.items }
 {
     let stripes = senders.len();
     let mut closed = closed;
@@ -138,9 +135,7 @@ fn close_one(
     sender: Sender<Entry>,
     count: Option<u64>,
 ) -> Closed<Entry>
-    ensures lane { IsOfLane (sender_lane sender) result }
-    ensures sent { (given : List Numbered) → AreAmong given (sent sender) → HasConfirmation result
-        → AreAmong given (all_sent result) }
+    ensures { HasEnded sender result }
 {
     match count {
         Some(count) => sender.close(rt, count),

@@ -1,7 +1,7 @@
 //! A source's place at the thread that writes.
 
 ghost use Rattle.std.specs.Prelude.{◌≡◌};
-ghost use Rattle.register_run.specs.Feeds.{fed_by};
+ghost use Rattle.register_run.specs.Feeds.{IsFound, fed_by};
 ghost use Rattle.register_run.specs.TablesWritten.{made_by};
 ghost use Rattle.register_run.specs.Written.{Wrote};
 
@@ -104,6 +104,7 @@ impl<R: Read + Drop, W: Output + Drop> Station<R, W> {
 
     /// Adds the row that a look found to the table from where it lies in its lane, and then takes it.
     fn take_row(&mut self)
+        requires { IsFound self.old.feed }
         ensures { case_of self.new ≡ case_of self.old }
     {
         self.add_row();
@@ -112,7 +113,8 @@ impl<R: Read + Drop, W: Output + Drop> Station<R, W> {
 
     /// Adds the row that a look found to the table, unless it came after a stop.
     fn add_row(&mut self)
-        ensures { case_of self.new ≡ case_of self.old }
+        ensures case { case_of self.new ≡ case_of self.old }
+        ensures feed { self.new.feed ≡ self.old.feed }
     {
         if let Some(row) = self.feed.row() {
             self.table.add(row);

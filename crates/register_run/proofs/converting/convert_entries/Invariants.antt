@@ -1,6 +1,6 @@
-use Rattle.std.proofs.Common.{◌≡◌}
+use Rattle.std.proofs.Common.{◌≡◌, false}
 use Rattle.lane_rings.specs.Lane.{sent, taken, sender_lane, receiver_lane}
-use Rattle.register_run.specs.Passages.{AreOfTaken}
+use Rattle.register_run.specs.Carried.{AreOfAllTaken, AreOfTaken}
 use Rattle.register_run.proofs.converting.convert_entries.Given as goal
 
 abbrev pub invariant-loop : goal.invariant-loop
@@ -8,4 +8,5 @@ invariant-loop g l = record {
   from : receiver_lane l.entries ≡ receiver_lane l.fn.entries;
   into : sender_lane l.rows ≡ sender_lane l.fn.rows;
   rows : AreOfTaken (taken l.entries) (sent l.rows);
+  all : l.gone ≡ false → AreOfAllTaken (taken l.entries) (sent l.rows);
 }

@@ -1,7 +1,8 @@
-use Rattle.std.proofs.Common.{◌∙◌, ap, sym, subst}
+use Rattle.std.proofs.Common.{◌∙◌, ap, rules, sym, subst}
 use Rattle.std.proofs.Math.Seq.{map-set_same}
 use Rattle.register_run.specs.Arms.{ArmTook, arm_setup, feeding_lane}
 use Rattle.register_run.proofs.ArmLemmas.{any_set}
+use Rattle.register_run.proofs.PoppedLemmas.{looked_at}
 use Rattle.register_run.proofs.joining.look_at.Goals as goal
 
 pub returns-clause-lanes : goal.returns-clause-lanes
@@ -18,3 +19,8 @@ pub returns-clause-setups : goal.returns-clause-setups
 returns-clause-setups c =
     map-set_same arm_setup c.args.arms.now.items c.args.at c.look.new.self c.index_mut-arm.result.now
     (c.look.ensures.setup ∙ ap arm_setup c.index_mut-arm.ensures.value)
+
+pub returns-clause-looked : goal.returns-clause-looked
+returns-clause-looked c =
+    looked_at c.args.arms.now.items c.args.at c.look.new.self c.index_mut-arm.result.now
+    (let b = c.requires in search rules) c.index_mut-arm.ensures.value c.look.result c.look.ensures.looked

@@ -1,15 +1,27 @@
-use Rattle.std.proofs.Common.{subst}
+use Rattle.std.proofs.Common.{◌∙◌, subst}
 use Rattle.std.proofs.Math.Logic.{∥∥₁_map}
+use Rattle.std.proofs.lemmas.Slice.Zip.{AllZip-long}
+use Rattle.register_run.specs.Carried.{HasEnded}
 use Rattle.register_run.specs.Passages.{AreOfLanes}
+use Rattle.register_run.proofs.ArmLemmas.{ended_lanes}
+use Rattle.register_run.proofs.DealtLemmas.{dealt_ended}
 use Rattle.register_run.proofs.reading.read_source.Goals as goal
 
 pub returns : goal.returns
-returns g c = record {
-  from =
-      subst (λ lanes. AreOfLanes lanes c.close_all-closed.result.items) c.send_entries-outcome.ensures.lanes
-      c.close_all-closed.ensures.from;
-  entries =
-      ∥∥₁_map c.send_entries-outcome.ensures.sends
-      (λ (given, is, among). (given, is, c.close_all-closed.ensures.sent given among));
-  not_sunk = c.send_entries-outcome.ensures.not_sunk;
-}
+returns g c =
+    let senders = c.send_entries-outcome.new.senders.items in
+    let closed = c.close_all-closed.result.items in
+    let ends = c.close_all-closed.ensures in record {
+      from =
+          subst (λ lanes. AreOfLanes lanes closed) c.send_entries-outcome.ensures.lanes
+          (ended_lanes senders closed ends);
+      entries =
+          ∥∥₁_map c.send_entries-outcome.ensures.sends
+          (λ (given, is, deals). (
+            given,
+            is,
+            λ w many.
+                dealt_ended w 0 given senders closed ends (deals w (many ∙ AllZip-long HasEnded senders closed ends)),
+          ));
+      not_sunk = c.send_entries-outcome.ensures.not_sunk;
+    }

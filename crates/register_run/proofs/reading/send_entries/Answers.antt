@@ -1,14 +1,15 @@
-use Rattle.std.proofs.Common.{◌≡◌, ◌∙◌, ◌-◌, ◌%◌, ◌<◌, [], ◌∷◌, get_or, ap, refl, sym, subst, arith, length}
-use Rattle.std.proofs.Common.{length-append, rules, vec_len}
+use Rattle.std.proofs.Common.{◌≡◌, ◌∙◌, ◌-◌, [], ◌∷◌, ap, refl, sym, subst, arith, length}
+use Rattle.std.proofs.Common.{length-append, rules}
 use Rattle.std.proofs.Math.Seq.{map-set_same}
-use Rattle.lane_rings.specs.Lane.{sender_lane, sent}
+use Rattle.std.proofs.lemmas.List.{length-set}
+use Rattle.lane_rings.specs.Lane.{sender_lane}
 use Rattle.register_records.specs.Entries.{AreNumberedFrom, Numbered}
 use Rattle.register_records.specs.Seen.{entry_seen}
 use Rattle.register_records.specs.Views.{format_of, given_of, reads_by, text_of}
-use Rattle.register_run.proofs.GivenLemmas.{all_among, given_none, numbered_more, sends_all, sends_gone, sends_stopped}
-use Rattle.register_run.proofs.PassageLemmas.{among_none}
+use Rattle.register_run.specs.Carried.{AreDealt}
+use Rattle.register_run.proofs.DealtLemmas.{dealt_none, dealt_send, dealt_unsent}
+use Rattle.register_run.proofs.GivenLemmas.{given_none, numbered_more, sends_all, sends_gone, sends_stopped}
 use Rattle.register_run.specs.Machine.{turn}
-use Rattle.register_run.proofs.TurnLemmas.{turns_more, turns_none}
 use Rattle.register_run.proofs.reading.send_entries.Goals as goal
 
 pub returns-in-Err-clause-sends : goal.returns-in-Err-clause-sends
@@ -17,7 +18,7 @@ returns-in-Err-clause-sends g c =
     given_none (g.R.Read.remaining c.args.source)
     (format_of c.args.setup.now) c.in-Err.fault c.cause_of.result c.cause_of.ensures c.in-Err.ensures.bad
     c.in-Err.ensures.told.0 c.in-Err.ensures.told.2 in
-    ∣ ([], is, λ k d below. among_none [] (sent (get_or c.args.senders.now.items k d)) (c.requires.fresh k d below)) ∣₁
+    ∣ ([], is, λ w many. dealt_none w 0 c.args.senders.now.items c.requires.fresh) ∣₁
 
 pub returns-in-Ok-None-clause-sends : goal.returns-in-Ok-None-clause-sends
 returns-in-Ok-None-clause-sends g c =
@@ -26,7 +27,7 @@ returns-in-Ok-None-clause-sends g c =
     let kept = (rw c.in-Ok-None.field-0-is at c.in-Ok-None.ensures.ends) refl in
     sends_all (g.R.Read.remaining c.args.source) (text_of new) (format_of c.args.setup.now) (reads_by new)
     (c.next-in-loop.ensures.text.0 ∙ inv.text) (c.next-in-loop.ensures.text.1 ∙ inv.by)
-    (given_of new) (given_of c.loop.entries) kept.1 inv.numbered new.first c.loop.senders.items inv.sent c.loop.count
+    (given_of new) (given_of c.loop.entries) kept.1 inv.numbered new.first c.loop.senders.items inv.deals c.loop.count
     inv.count all
 
 pub returns-in-Err-next-clause-sends : goal.returns-in-Err-next-clause-sends
@@ -35,7 +36,7 @@ returns-in-Err-next-clause-sends g c =
     sends_stopped (g.R.Read.remaining c.args.source) (text_of new) (format_of c.args.setup.now) (reads_by new)
     (c.next-in-loop.ensures.text.0 ∙ inv.text) (c.next-in-loop.ensures.text.1 ∙ inv.by)
     (given_of new) (given_of c.loop.entries) c.in-Err-next.ensures.kept inv.numbered new.first c.loop.senders.items
-    inv.sent
+    inv.deals
     c.in-Err-next.fault _ c.cause_of-in-Err-next.ensures c.in-Err-next.ensures.no_header
     (λ e. (c.in-Err-next.ensures.many e).1) c.in-Err-next.ensures.not_sealed
 
@@ -48,38 +49,24 @@ returns-then-is_err-clause-lanes g c =
 
 pub returns-then-is_err-clause-sends : goal.returns-then-is_err-clause-sends
 returns-then-is_err-clause-sends g c =
-    let inv = c.loop.invariant in let new = c.next-in-loop.new.self in
+    let inv = c.loop.invariant in let was = c.loop.entries in
     let items = c.loop.senders.items in let at = c.turn_after-turn.result in
-    let below : at < length items =
-    (let a = c.len.ensures in let b = c.turn_after-turn.ensures.below in let o = c.loop.senders.ok.0 in
-    omega arith) in
-    let gives = rw c.in-Ok-Some.field-0-is at c.in-Ok-Some.ensures.gives in
-    let number = rw c.in-Ok-Some.field-0-is at c.in-Ok-Some.ensures.number in
-    let numbered =
-    subst (λ l. AreNumberedFrom 1 l) (sym gives)
-    (numbered_more 1 (given_of c.loop.entries) (entry_seen c.in-Ok-Some.entry) inv.numbered
-    (let n = number.0 in omega arith)) in
-    let among =
-    all_among (given_of c.loop.entries) (given_of new) items
-    at c.index_mut-sender.result.now c.send.new.self c.in-Ok-Some.entry c.send.result
-    c.index_mut-sender.ensures.value below gives c.send.ensures.ok c.send.ensures.gone inv.sent in
-    sends_gone (g.R.Read.remaining c.args.source) (text_of new) (format_of c.args.setup.now) (reads_by new)
-    (c.next-in-loop.ensures.text.0 ∙ inv.text) (c.next-in-loop.ensures.text.1 ∙ inv.by)
-    (given_of new) (given_of new) refl numbered new.first _ among
+    sends_gone (g.R.Read.remaining c.args.source) (text_of was) (format_of c.args.setup.now) (reads_by was)
+    inv.text inv.by (given_of was) (given_of was) refl inv.numbered was.first _
+    (λ w many. dealt_unsent w at (given_of was) items c.send.new.self c.index_mut-sender.result.now
+    c.in-Ok-Some.entry c.send.result c.index_mut-sender.ensures.value (sym c.is_err.ensures.value ∙ c.if-is_err.true) c.send.ensures.gone
+    (inv.deals w (many ∙ length-set items at c.send.new.self)))
 
 pub loop-preserved : goal.loop-preserved
 loop-preserved g c =
     let inv = c.loop.invariant in let new = c.next-in-loop.new.self in
     let items = c.loop.senders.items in let at = c.turn_after-turn.result in
-    let below : at < length items =
-    (let a = c.len.ensures in let b = c.turn_after-turn.ensures.below in let o = c.loop.senders.ok.0 in
-    omega arith) in
     let gives = rw c.in-Ok-Some.field-0-is at c.in-Ok-Some.ensures.gives in
     let number = rw c.in-Ok-Some.field-0-is at c.in-Ok-Some.ensures.number in
     let longer = length-append {A = Numbered} (given_of c.loop.entries) (entry_seen c.in-Ok-Some.entry ∷ []) in
     let same : c.number-count.result ≡ c.in-Ok-Some.entry.number = c.number-count.ensures.value in
-    let many : vec_len c.args.senders.now ≡ c.len.result =
-    (let a = c.len.ensures in let k = inv.len in let o = c.loop.senders.ok.0 in omega arith) in record {
+    let many : length items ≡ c.len.result =
+    (let a = c.len.ensures in let o = c.loop.senders.ok.0 in omega arith) in record {
       len = inv.len;
       lanes =
           map-set_same sender_lane items
@@ -93,33 +80,14 @@ loop-preserved g c =
           subst (λ l. AreNumberedFrom 1 l) (sym gives)
           (numbered_more 1 (given_of c.loop.entries) (entry_seen c.in-Ok-Some.entry) inv.numbered
           (let n = number.0 in omega arith));
-      turns =
-          turns_more (vec_len c.args.senders.now)
-          at items c.index_mut-sender.result.now c.send.new.self c.in-Ok-Some.entry c.send.result
-          c.index_mut-sender.ensures.value
-          (λ w is. sym (c.turn_after-turn.ensures.machine w (is ∙ many) ∙ ap (λ n. turn w (n - 1)) same))
-          c.send.ensures.ok c.send.ensures.gone inv.turns;
-      sent =
-          all_among (given_of c.loop.entries) (given_of new) items
-          at c.index_mut-sender.result.now c.send.new.self c.in-Ok-Some.entry c.send.result
-          c.index_mut-sender.ensures.value below gives c.send.ensures.ok c.send.ensures.gone inv.sent;
+      deals = λ w is.
+          let before = is ∙ length-set items at c.send.new.self in
+          dealt_send w at (given_of c.loop.entries) (given_of new) items c.send.new.self c.index_mut-sender.result.now
+          c.in-Ok-Some.entry c.send.result c.index_mut-sender.ensures.value
+          (sym c.is_err.ensures.value ∙ c.if-is_err.false) gives
+          (sym (c.turn_after-turn.ensures.machine w (before ∙ many) ∙ ap (λ n. turn w (n - 1)) same))
+          c.send.ensures.ok (inv.deals w before);
     }
-
-pub returns-in-Err-clause-turns : goal.returns-in-Err-clause-turns
-returns-in-Err-clause-turns g c = turns_none (vec_len c.args.senders.now) 0 c.args.senders.now.items c.requires.fresh
-
-pub returns-then-is_err-clause-turns : goal.returns-then-is_err-clause-turns
-returns-then-is_err-clause-turns g c =
-    let inv = c.loop.invariant in
-    let items = c.loop.senders.items in let at = c.turn_after-turn.result in
-    let same : c.number-count.result ≡ c.in-Ok-Some.entry.number = c.number-count.ensures.value in
-    let many : vec_len c.args.senders.now ≡ c.len.result =
-    (let a = c.len.ensures in let k = inv.len in let o = c.loop.senders.ok.0 in omega arith) in
-    turns_more (vec_len c.args.senders.now)
-    at items c.index_mut-sender.result.now c.send.new.self c.in-Ok-Some.entry c.send.result
-    c.index_mut-sender.ensures.value
-    (λ w is. sym (c.turn_after-turn.ensures.machine w (is ∙ many) ∙ ap (λ n. turn w (n - 1)) same))
-    c.send.ensures.ok c.send.ensures.gone inv.turns
 
 pub loop-init : goal.loop-init
 loop-init g c = record {
@@ -130,6 +98,6 @@ loop-init g c = record {
   goes = search rules;
   count = search rules;
   numbered = search rules;
-  turns = turns_none (vec_len c.args.senders.now) 0 c.args.senders.now.items c.requires.fresh;
-  sent = search rules;
+  deals = λ w many. subst (λ l. AreDealt w 0 l c.args.senders.now.items) (sym c.in-Ok.ensures.none_given)
+      (dealt_none w 0 c.args.senders.now.items c.requires.fresh);
 }

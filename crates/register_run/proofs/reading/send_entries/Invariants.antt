@@ -1,11 +1,10 @@
 use Rattle.std.proofs.Common.{◌≡◌, length, map, vec_len, false}
-use Rattle.std.specs.Prelude.{All}
-use Rattle.lane_rings.specs.Lane.{sender_lane, sent}
+use Rattle.lane_rings.specs.Lane.{sender_lane}
 use Rattle.register_records.specs.Entries.{AreNumberedFrom}
 use Rattle.register_records.specs.Views.{given_of, reads_by, text_of}
 use Rattle.register_records.specs.Views.{format_of}
-use Rattle.register_run.specs.Passages.{AreAmong}
-use Rattle.register_run.specs.Turns.{GoByTurns}
+use Rattle.register_run.specs.Carried.{AreDealt}
+use Rattle.register_run.specs.Machine.{World}
 use Rattle.register_run.proofs.reading.send_entries.Given as goal
 
 abbrev pub invariant-loop : goal.invariant-loop
@@ -17,6 +16,5 @@ invariant-loop g l = record {
   goes : l.entries.failed ≡ false;
   count : l.count ≡ length (given_of l.entries);
   numbered : AreNumberedFrom 1 (given_of l.entries);
-  turns : GoByTurns (vec_len l.initial.senders) 0 l.senders.items;
-  sent : All (λ s. AreAmong (given_of l.entries) (sent s)) l.senders.items;
+  deals : (w : World) → w.converters ≡ length l.senders.items → AreDealt w 0 (given_of l.entries) l.senders.items;
 }

@@ -1,13 +1,13 @@
 use Rattle.std.proofs.Common.{refl}
-use Rattle.register_run.specs.Arms.{ArmTook}
-use Rattle.register_run.proofs.PassageLemmas.{passage}
+use Rattle.lane_rings.specs.Lane.{items}
+use Rattle.register_run.proofs.CarriedLemmas.{passed_on}
 use Rattle.register_run.proofs.arms.Arm.finish.Goals as goal
 
 pub returns : goal.returns
-unfolding ArmTook
 returns g c = record {
   passed =
-      λ given among row took. passage given _ _ c.args.closed _ c.args.self.rows among c.join-entries.ensures
+      passed_on _ _ c.args.self c.args.closed c.join-entries.result c.join-entries.ensures
       (c.in_ok-confirm.ensures.whole.0 refl) (c.in_ok-confirmed.ensures.whole.0 refl)
-      (c.in_ok-confirmed.ensures.none_waits refl) row took;
+      (c.in_ok-confirmed.ensures.none_waits refl) (items c.in_ok-confirmed.confirmed) c.ended.result
+      c.args.self.count c.eq.result c.in_ok-confirmed.ensures.items c.ended.ensures c.eq.ensures;
 }

@@ -1,14 +1,16 @@
 use Rattle.std.proofs.Common.{◌≡◌, [], rules}
-use Rattle.lane_rings.specs.Lane.{sender_lane, sent}
+use Rattle.lane_rings.specs.Lane.{sender_lane, sent, taken}
 use Rattle.register_run.specs.Arms.{arm_setup, feeding_lane}
 use Rattle.register_run.proofs.MoveLemmas.{all_more, both_more, each_more}
+use Rattle.register_run.proofs.PoppedLemmas.{unpopped_more}
 use Rattle.register_run.proofs.links.Fan.start.Goals as goal
 
 pub loop-preserved : goal.loop-preserved
 loop-preserved g c =
     let fed : feeding_lane c.in-Ok-start.arm ≡ sender_lane c.in-Ok-start.sender = search rules in
     let setup : arm_setup c.in-Ok-start.arm ≡ c.args.setup.now = search rules in
-    let fresh : sent c.in-Ok-start.sender ≡ [] = search rules in record {
+    let fresh : sent c.in-Ok-start.sender ≡ [] = search rules in
+    let untaken : taken c.in-Ok-start.arm.rows ≡ [] = search rules in record {
       arms = search rules;
       senders = search rules;
       fed = both_more feeding_lane sender_lane _ _ _ _ c.in-Ok-start.arm c.in-Ok-start.sender
@@ -17,4 +19,6 @@ loop-preserved g c =
           c.push_reserved-in-Ok-start.ensures.items setup c.loop.invariant.setups;
       fresh = each_more (λ s. sent s ≡ []) _ _ c.in-Ok-start.sender c.push_reserved.ensures.items c.loop.invariant.fresh
           fresh;
+      unpopped = unpopped_more _ _ c.in-Ok-start.arm c.push_reserved-in-Ok-start.ensures.items untaken
+          c.loop.invariant.unpopped;
     }

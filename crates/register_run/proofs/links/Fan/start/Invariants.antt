@@ -2,6 +2,7 @@ use Rattle.std.proofs.Common.{◌≡◌, ◌≤◌, map, replicate, vec_len, vec
 use Rattle.std.specs.Prelude.{All}
 use Rattle.lane_rings.specs.Lane.{sender_lane, sent}
 use Rattle.register_run.specs.Arms.{arm_setup, feeding_lane}
+use Rattle.register_run.specs.Popped.{popped}
 use Rattle.register_run.proofs.links.Fan.start.Given as goal
 
 abbrev pub invariant-loop : goal.invariant-loop
@@ -11,4 +12,5 @@ invariant-loop g l = record {
   fed : map feeding_lane l.arms.items ≡ map sender_lane l.senders.items;
   setups : map arm_setup l.arms.items ≡ replicate l.counter l.setup;
   fresh : All (λ s. sent s ≡ []) l.senders.items;
+  unpopped : popped l.arms.items ≡ 0;
 }

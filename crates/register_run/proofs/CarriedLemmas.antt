@@ -1,0 +1,179 @@
+-- What lanes carry: the rows of a converter by the entries that it took.
+use Rattle.std.proofs.Common.{◌≡◌, ◌∙◌, ap, sym, subst, refl, zero, suc, List, [], ◌∷◌, ◌++◌, append_assoc, append-nil}
+use Rattle.std.proofs.Common.{ℕ, ◌+◌, length, map, false, true, Option, None, Some, arith}
+use Rattle.std.specs.Prelude.{Bool, Err, IfErr, MatchOption, Ok, OnOk, Result, eqb, is_err}
+use Rattle.std.specs.List.{Contains}
+use Rattle.std.specs.Option.{option_eq}
+use Rattle.std.proofs.lemmas.List.{length_push, map-append}
+use Rattle.std.proofs.lemmas.List.Elements.{Contains-append_left}
+use mathlib.Core.List.{IsPrefix}
+use Rattle.lane_rings.proofs.Ends.{entries_in_append, last_mark_append}
+use Rattle.lane_rings.specs.Items.{entries_in, last_mark}
+use Rattle.lane_rings.specs.Lane.{IsWhole, Lane, all_sent, taken, waiting}
+use Rattle.lane_rings.specs.declared.item.Gone.{Gone}
+use Rattle.lane_rings.specs.declared.item.Item.{Item}
+use Rattle.lane_rings.specs.declared.item.Item.TheVariants as item
+use Rattle.lane_rings.specs.declared.item.Mark.TheVariants.{Counted, Stopped}
+use Rattle.lane_rings.specs.declared.sender.Closed.{Closed}
+use Rattle.register_records.specs.Seen.{entry_seen}
+use Rattle.register_records.specs.declared.entries.Entry.{Entry}
+use Rattle.register_records.specs.declared.rows.Row.{Row}
+use Rattle.register_run.specs.Arms.{HasPassedOn, StartWithRow}
+use Rattle.register_run.specs.Carried.{AreOfAllTaken, AreOfTaken, HasEnd, carried, row_entries, rows_carried}
+use Rattle.register_run.specs.Passages.{IsConverting}
+use Rattle.register_run.specs.declared.arms.Arm.{Arm}
+use Rattle.register_run.specs.declared.converting.Converting.{Converting}
+use Rattle.register_run.proofs.PassageLemmas.{took_next}
+
+module _ {T : Type 0} where
+  -- one more item is an entry
+  pub one_more : (items all : List (Item T)) (x : T) → all ≡ items ++ item.Entry x ∷ []
+      → entries_in all ≡ entries_in items ++ x ∷ []
+  one_more items all x is = ap (λ (l : List (Item T)). entries_in l) is ∙ entries_in_append items (item.Entry x ∷ [])
+
+  -- one more item is no entry
+  pub no_more : (items all : List (Item T)) (last : Item T) → entries_in (last ∷ []) ≡ [] → all ≡ items ++ last ∷ []
+      → entries_in all ≡ entries_in items
+  no_more items all last none is =
+      ap (λ (l : List (Item T)). entries_in l) is ∙ entries_in_append items (last ∷ [])
+      ∙ ap (λ (l : List T). entries_in items ++ l) none ∙ append-nil (entries_in items)
+
+  -- an item that is an entry is one of the entries
+  pub entry_within : (items : List (Item T)) (x : T) → Contains items (item.Entry x) → Contains (entries_in items) x
+  entry_within [] x (k, below, is) = absurd (omega arith)
+  entry_within (item.Entry y ∷ items) x (zero, below, is) = (0, omega arith, cc)
+  entry_within (item.Entry y ∷ items) x (suc k, below, is) =
+      let more = entry_within items x (k, omega arith, is) in (suc more.0, omega (arith, more.1), more.2)
+  entry_within (item.End n ∷ items) x (zero, below, is) = cc
+  entry_within (item.End n ∷ items) x (suc k, below, is) = entry_within items x (k, omega arith, is)
+  entry_within (item.Stop ∷ items) x (zero, below, is) = cc
+  entry_within (item.Stop ∷ items) x (suc k, below, is) = entry_within items x (k, omega arith, is)
+
+module _ {X Y : Type 0} (f : X → Y) where
+  -- f of an element is one of those of all
+  pub map_within : (xs : List X) (x : X) → Contains xs x → Contains (map f xs) (f x)
+  map_within [] x (k, below, is) = absurd (omega arith)
+  map_within (y ∷ xs) x (zero, below, is) = (0, omega arith, ap f is)
+  map_within (y ∷ xs) x (suc k, below, is) =
+      let more = map_within xs x (k, omega arith, is) in (suc more.0, omega (arith, more.1), more.2)
+
+  pub map_prefix : (xs ys : List X) → IsPrefix xs ys → IsPrefix (map f xs) (map f ys)
+  map_prefix xs ys (rest, is) = (map f rest, sym (map-append f xs rest) ∙ ap (λ (l : List X). map f l) is)
+
+pub prefix_within : {X : Type 0} (xs ys : List X) (x : X) → IsPrefix xs ys → Contains xs x → Contains ys x
+prefix_within xs ys x (rest, is) h = subst (λ l. Contains l x) is (Contains-append_left xs rest x h)
+
+-- one more item is a row
+rows_more : (items all : List (Item Row)) (made : Row) (e : Entry) → all ≡ items ++ item.Entry made ∷ []
+    → made.entry ≡ e → row_entries all ≡ row_entries items ++ e ∷ []
+rows_more items all made e is of =
+    ap (λ (l : List Row). map (λ (row : Row). row.entry) l) (one_more items all made is)
+    ∙ map-append (λ (row : Row). row.entry) (entries_in items) (made ∷ [])
+    ∙ ap (λ (x : Entry). row_entries items ++ x ∷ []) of
+
+rows_none : (items all : List (Item Row)) (last : Item Row) → entries_in (last ∷ []) ≡ [] → all ≡ items ++ last ∷ []
+    → row_entries all ≡ row_entries items
+rows_none items all last none is =
+    ap (λ (l : List Row). map (λ (row : Row). row.entry) l) (no_more items all last none is)
+
+-- nothing was sent, and nothing taken
+pub none_taken : (entries : List (Item Entry)) (rows : List (Item Row)) → entries ≡ [] → rows ≡ []
+    → AreOfAllTaken entries rows
+none_taken entries rows none none' =
+    ap (λ (l : List (Item Row)). row_entries l) none' ∙ sym (ap (λ (l : List (Item Entry)). entries_in l) none)
+
+-- the rows of all entries are those of the first of them
+pub first_of_all : (entries : List (Item Entry)) (rows : List (Item Row)) → AreOfAllTaken entries rows
+    → AreOfTaken entries rows
+first_of_all entries rows all = ([], append-nil (row_entries rows) ∙ all)
+
+-- one more entry was taken, and its row was sent if the writer was there
+pub row_sent : (entries all : List (Item Entry)) (rows more : List (Item Row)) (made : Row) (e : Entry)
+    (r : Result (Unit {0}) (Gone Row)) → all ≡ entries ++ item.Entry e ∷ []
+    → OnOk r (more ≡ rows ++ item.Entry made ∷ []) → IfErr r (λ g. (g.value ≡ made) × (more ≡ rows))
+    → made.entry ≡ e → AreOfAllTaken entries rows
+    → AreOfTaken all more × (is_err r ≡ false → AreOfAllTaken all more)
+row_sent entries all rows more made e (Ok u) is ok gone of before =
+    let same : AreOfAllTaken all more =
+    rows_more rows more made e ok of ∙ ap (λ (l : List Entry). l ++ e ∷ []) before ∙ sym (one_more entries all e is) in
+    (first_of_all all more same, λ sure. same)
+row_sent entries all rows more made e (Err g) is ok gone of before = (
+  (
+    e ∷ [],
+    ap (λ (l : List (Item Row)). row_entries l ++ e ∷ []) gone.1 ∙ ap (λ (l : List Entry). l ++ e ∷ []) before
+        ∙ sym (one_more entries all e is),
+  ),
+  λ sure. cc,
+)
+
+-- one more entry was taken, and no row sent
+pub row_left : (entries all : List (Item Entry)) (rows : List (Item Row)) (e : Entry)
+    → all ≡ entries ++ item.Entry e ∷ [] → AreOfTaken entries rows → AreOfTaken all rows
+row_left entries all rows e is (rest, before) = (
+  rest ++ e ∷ [],
+  sym (append_assoc (row_entries rows) rest (e ∷ [])) ∙ ap (λ (l : List Entry). l ++ e ∷ []) before
+      ∙ sym (one_more entries all e is),
+)
+
+-- the rows were ended, and no more entries taken
+module _ (entries all : List (Item Entry)) (rows more : List (Item Row)) (last : Item Row)
+    (same : entries_in all ≡ entries_in entries) (none : entries_in (last ∷ []) ≡ []) (is : more ≡ rows ++ last ∷ [])
+  where
+    pub first_ended : AreOfTaken entries rows → AreOfTaken all more
+    first_ended (rest, before) =
+        (rest, ap (λ (l : List Entry). l ++ rest) (rows_none rows more last none is) ∙ before ∙ sym same)
+
+    pub all_ended : AreOfAllTaken entries rows → AreOfAllTaken all more
+    all_ended before = rows_none rows more last none is ∙ before ∙ sym same
+
+-- items that end with a stop do not end with an end
+pub stop_is_no_end : (entries : List (Item Entry)) (rows all : List (Item Row)) → all ≡ rows ++ item.Stop ∷ []
+    → HasEnd all → AreOfAllTaken entries all
+stop_is_no_end entries rows all is (n, ends) =
+    let stopped = ap (λ (l : List (Item Row)). last_mark l) is ∙ last_mark_append rows item.Stop in cc
+
+-- an item that was next was taken, and it is a row
+pub row_taken : (old new seen rest : List (Item Row)) → StartWithRow seen → new ++ rest ≡ old ++ seen
+    → length new ≡ length old + 1 → length (entries_in new) ≡ length (entries_in old) + 1
+row_taken old new [] rest starts is one = absurd starts
+row_taken old new (item.Entry row ∷ seen) rest starts is one =
+    ap length (one_more old new row
+    (took_next old old (item.Entry row ∷ seen) new rest (item.Entry row) refl (seen, refl) is one))
+    ∙ length_push (entries_in old) row
+row_taken old new (item.End n ∷ seen) rest starts is one = absurd starts
+row_taken old new (item.Stop ∷ seen) rest starts is one = absurd starts
+
+-- with both lanes of a converter confirmed, its rows are those of the first entries that were sent, and of all of them
+-- where they end with an end
+module _ (from into : Lane) (arm : Arm) (fed : Closed Entry) (converting : Converting)
+    (keeps : IsConverting from into converting) (first : IsWhole fed converting.entries)
+    (second : IsWhole converting.closed arm.rows) (none : waiting arm.rows ≡ []) where
+  all_passed : HasEnd (taken arm.rows) → rows_carried (taken arm.rows) ≡ carried (all_sent fed)
+  all_passed ends =
+      ap (λ (l : List (Item Row)). rows_carried l) (sym second.equal)
+      ∙ ap (λ (l : List Entry). map entry_seen l)
+      (keeps.all second.confirmed (subst (λ l. HasEnd l) (sym second.equal) ends))
+      ∙ ap (λ (l : List (Item Entry)). carried l) (sym first.equal)
+
+  first_passed : IsPrefix (rows_carried (taken arm.rows)) (carried (all_sent fed))
+  first_passed =
+      subst (λ l. IsPrefix (rows_carried (taken arm.rows)) (carried l)) (sym first.equal)
+      (subst (λ l. IsPrefix (rows_carried l) (carried (taken converting.entries))) second.equal
+      (map_prefix entry_seen (row_entries (all_sent converting.closed)) (entries_in (taken converting.entries))
+      (keeps.rows second.confirmed)))
+
+  ends_so : (items : List (Item Row)) (ended : Option ℕ) (count : ℕ) → items ≡ taken arm.rows
+      → MatchOption ended (last_mark items ≡ Some Stopped) (λ n. last_mark items ≡ Some (Counted n))
+      → option_eq eqb ended (Some count) ≡ true → HasEnd (taken arm.rows)
+  ends_so items None count same mark is = cc
+  ends_so items (Some n) count same mark is = (n, ap (λ (l : List (Item Row)). last_mark l) (sym same) ∙ mark)
+
+  pub passed_on : (items : List (Item Row)) (ended : Option ℕ) (count : ℕ) (b : Bool) → items ≡ taken arm.rows
+      → MatchOption ended (last_mark items ≡ Some Stopped) (λ n. last_mark items ≡ Some (Counted n))
+      → b ≡ option_eq eqb ended (Some count) → HasPassedOn b arm fed
+  passed_on items ended count b same mark is = record {
+    confirmed = first.confirmed;
+    first = first_passed;
+    all = λ e. all_passed (ends_so items ended count same mark (sym is ∙ e));
+    none_waits = none;
+  }

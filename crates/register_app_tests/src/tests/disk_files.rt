@@ -132,7 +132,7 @@ where
 
 /// Whether a table that another opening of it keeps is refused, and stays as it is, and is made again once that is
 /// closed.
-fn is_left_to_its_keeper<T: Threads + Wait + Clock + Sync + Files + AllocGlobal>(
+fn is_left_to_its_keeper<T: Threads + Wait + Clock + CpuClock + Sync + Files + AllocGlobal>(
     rt: &T,
 ) -> io::Result<bool>
 where

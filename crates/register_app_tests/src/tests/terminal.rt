@@ -8,7 +8,7 @@ use std::io::{ErrorKind, Write};
 use std::sync::Wait;
 use std::test::Fail;
 use std::thread::Threads;
-use std::time::Clock;
+use std::time::{Clock, CpuClock};
 
 /// A stream over memory that takes so many bytes by one write, is interrupted at its second write, and has room for so
 /// many bytes in all.
@@ -86,7 +86,7 @@ fn bytes_of(stream: &Lines<Slow>) -> &[u8] {
 
 /// Whether this stands on a stream after the answer to a wrong target.
 fn is_told(
-    rt: &(impl Threads + Wait + Clock + Sync),
+    rt: &(impl Threads + Wait + Clock + CpuClock + Sync),
     alloc: Global,
     target: &str,
     stream: Lines<Slow>,
@@ -103,7 +103,7 @@ fn is_told(
 /// Whether the line for a target stands on a terminal as it should, where each write takes so many bytes, and a front of
 /// it where there is no room for all.
 fn is_shown(
-    rt: &(impl Threads + Wait + Clock + Sync),
+    rt: &(impl Threads + Wait + Clock + CpuClock + Sync),
     alloc: Global,
     shown: &Shown,
     most: usize,
@@ -126,7 +126,7 @@ fn is_shown(
 }
 
 /// Whether the line for a target stands elsewhere as it is.
-fn is_as_it_is(rt: &(impl Threads + Wait + Clock + Sync), alloc: Global, target: &str) -> bool {
+fn is_as_it_is(rt: &(impl Threads + Wait + Clock + CpuClock + Sync), alloc: Global, target: &str) -> bool {
     let Ok(line) = format!(in alloc; "register: unknown target: {target}\n") else {
         return false;
     };

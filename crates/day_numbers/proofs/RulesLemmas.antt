@@ -19,59 +19,59 @@ next_year without_zero (negsuc zero) = pos 1
 next_year from_one (negsuc zero) = pos 1
 next_year years (negsuc (suc n)) = negsuc n
 
-pub years-suc : (f : ℤ → ℕ) (n : ℕ) → days_of_years f (suc n) ≡ days_of_years f n + f (pos (suc n))
+pub years_suc : (f : ℤ → ℕ) (n : ℕ) → days_of_years f (suc n) ≡ days_of_years f n + f (pos (suc n))
 unfolding days_of_years
-years-suc f n = refl
+years_suc f n = refl
 
-pub years-zero : (f : ℤ → ℕ) → days_of_years f 0 ≡ 0
+pub years_zero : (f : ℤ → ℕ) → days_of_years f 0 ≡ 0
 unfolding days_of_years
-years-zero f = refl
+years_zero f = refl
 
-before-suc : (s : Years) (f : ℤ → ℕ) (n : ℕ)
+before_suc : (s : Years) (f : ℤ → ℕ) (n : ℕ)
     → days_of_years_before s f (suc n) ≡ days_of_years_before s f n + f (year_before s n)
 unfolding days_of_years_before
-before-suc s f n = refl
+before_suc s f n = refl
 
-before-zero : (s : Years) (f : ℤ → ℕ) → days_of_years_before s f 0 ≡ 0
+before_zero : (s : Years) (f : ℤ → ℕ) → days_of_years_before s f 0 ≡ 0
 unfolding days_of_years_before
-before-zero s f = refl
+before_zero s f = refl
 
-pub start-one : (s : Years) (e : ℤ) (f : ℤ → ℕ) → start_of_year s e f (pos 1) ≡ e
+pub start_one : (s : Years) (e : ℤ) (f : ℤ → ℕ) → start_of_year s e f (pos 1) ≡ e
 unfolding start_of_year
-start-one s e f = omega (arith, signed_arith, years-zero f)
+start_one s e f = omega (arith, signed_arith, years_zero f)
 
 -- each year begins after the days of the one before
-pub start-next : (s : Years) (e : ℤ) (f : ℤ → ℕ) (y : ℤ) → HasYear s y
+pub start_next : (s : Years) (e : ℤ) (f : ℤ → ℕ) (y : ℤ) → HasYear s y
     → start_of_year s e f (next_year s y) ≡ start_of_year s e f y +ℤ pos (f y)
 unfolding start_of_year
-start-next s e f (pos (suc n)) h = omega (arith, signed_arith, years-suc f n)
-start-next with_zero e f (pos zero) h =
-    omega (arith, signed_arith, years-zero f, before-suc with_zero f 0, before-zero with_zero f)
-start-next without_zero e f (pos zero) h = absurd h
-start-next from_one e f (pos zero) h = absurd h
-start-next with_zero e f (negsuc zero) h = omega (arith, signed_arith, before-suc with_zero f 1)
-start-next with_zero e f (negsuc (suc n)) h = omega (arith, signed_arith, before-suc with_zero f (suc (suc n)))
-start-next without_zero e f (negsuc zero) h =
-    omega (arith, signed_arith, years-zero f, before-suc without_zero f 0, before-zero without_zero f)
-start-next without_zero e f (negsuc (suc n)) h = omega (arith, signed_arith, before-suc without_zero f (suc n))
-start-next from_one e f (negsuc n) h = absurd h
+start_next s e f (pos (suc n)) h = omega (arith, signed_arith, years_suc f n)
+start_next with_zero e f (pos zero) h =
+    omega (arith, signed_arith, years_zero f, before_suc with_zero f 0, before_zero with_zero f)
+start_next without_zero e f (pos zero) h = absurd h
+start_next from_one e f (pos zero) h = absurd h
+start_next with_zero e f (negsuc zero) h = omega (arith, signed_arith, before_suc with_zero f 1)
+start_next with_zero e f (negsuc (suc n)) h = omega (arith, signed_arith, before_suc with_zero f (suc (suc n)))
+start_next without_zero e f (negsuc zero) h =
+    omega (arith, signed_arith, years_zero f, before_suc without_zero f 0, before_zero without_zero f)
+start_next without_zero e f (negsuc (suc n)) h = omega (arith, signed_arith, before_suc without_zero f (suc n))
+start_next from_one e f (negsuc n) h = absurd h
 
 -- a closed formula that is right at year 1 and grows by each year's length gives the first day of each year
-pub start_is-from_one : (e : ℤ) (f : ℤ → ℕ) (g : ℤ → ℤ) → g (pos 1) ≡ e
+pub start_is_from_one : (e : ℤ) (f : ℤ → ℕ) (g : ℤ → ℤ) → g (pos 1) ≡ e
     → ((y : ℤ) → HasYear from_one y → g (next_year from_one y) ≡ g y +ℤ pos (f y)) → (n : ℕ)
     → g (pos (suc n)) ≡ start_of_year from_one e f (pos (suc n))
-start_is-from_one e f g one more zero = one ∙ sym (start-one from_one e f)
-start_is-from_one e f g one more (suc n) =
-    more (pos (suc n)) tt ∙ ap (λ z. z +ℤ pos (f (pos (suc n)))) (start_is-from_one e f g one more n)
-    ∙ sym (start-next from_one e f (pos (suc n)) tt)
+start_is_from_one e f g one more zero = one ∙ sym (start_one from_one e f)
+start_is_from_one e f g one more (suc n) =
+    more (pos (suc n)) tt ∙ ap (λ z. z +ℤ pos (f (pos (suc n)))) (start_is_from_one e f g one more n)
+    ∙ sym (start_next from_one e f (pos (suc n)) tt)
 
 start_later : (s : Years) (e : ℤ) (f : ℤ → ℕ) (g : ℤ → ℤ) → g (pos 1) ≡ e
     → ((y : ℤ) → HasYear s y → g (next_year s y) ≡ g y +ℤ pos (f y)) → (n : ℕ)
     → g (pos (suc n)) ≡ start_of_year s e f (pos (suc n))
-start_later s e f g one more zero = one ∙ sym (start-one s e f)
+start_later s e f g one more zero = one ∙ sym (start_one s e f)
 start_later s e f g one more (suc n) =
     more (pos (suc n)) tt ∙ ap (λ z. z +ℤ pos (f (pos (suc n)))) (start_later s e f g one more n)
-    ∙ sym (start-next s e f (pos (suc n)) tt)
+    ∙ sym (start_next s e f (pos (suc n)) tt)
 
 -- the same two, going backwards by one
 back_one : (a b c d : ℤ) (n : ℕ) → c ≡ a +ℤ pos n → d ≡ b +ℤ pos n → c ≡ d → a ≡ b
@@ -80,7 +80,7 @@ back_one a b c d n p q e = omega (arith, signed_arith)
 start_earlier : (s : Years) (e : ℤ) (f : ℤ → ℕ) (g : ℤ → ℤ) (y : ℤ)
     → ((y : ℤ) → HasYear s y → g (next_year s y) ≡ g y +ℤ pos (f y)) → HasYear s y
     → g (next_year s y) ≡ start_of_year s e f (next_year s y) → g y ≡ start_of_year s e f y
-start_earlier s e f g y more h same = back_one _ _ _ _ (f y) (more y h) (start-next s e f y h) same
+start_earlier s e f g y more h same = back_one _ _ _ _ (f y) (more y h) (start_next s e f y h) same
 
 pub start_is : (s : Years) (e : ℤ) (f : ℤ → ℕ) (g : ℤ → ℤ) → g (pos 1) ≡ e
     → ((y : ℤ) → HasYear s y → g (next_year s y) ≡ g y +ℤ pos (f y)) → (y : ℤ) → HasYear s y
@@ -106,36 +106,36 @@ pub start_is_from : (e : ℤ) (f : ℤ → ℕ) (g : ℤ → ℤ) (low : ℕ) �
     → ((y : ℤ) → negsuc low ≤ℤ y → g (y +ℤ pos 1) ≡ g y +ℤ pos (f y)) → (y : ℤ) → negsuc low ≤ℤ y
     → g y ≡ start_of_year with_zero e f y
 start_is_from e f g low one more (pos zero) h =
-    back_one _ _ _ _ (f (pos 0)) (more (pos 0) h) (start-next with_zero e f (pos 0) tt)
-    (one ∙ sym (start-one with_zero e f))
-start_is_from e f g low one more (pos (suc zero)) h = one ∙ sym (start-one with_zero e f)
+    back_one _ _ _ _ (f (pos 0)) (more (pos 0) h) (start_next with_zero e f (pos 0) tt)
+    (one ∙ sym (start_one with_zero e f))
+start_is_from e f g low one more (pos (suc zero)) h = one ∙ sym (start_one with_zero e f)
 start_is_from e f g low one more (pos (suc (suc n))) h =
     let below : negsuc low ≤ℤ pos (suc n) = omega (arith, signed_arith) in
     let next : pos (suc n) +ℤ pos 1 ≡ pos (suc (suc n)) = omega (arith, signed_arith) in
     rw next at (more (pos (suc n)) below)
     ∙ ap (λ z. z +ℤ pos (f (pos (suc n)))) (start_is_from e f g low one more (pos (suc n)) below)
-    ∙ sym (start-next with_zero e f (pos (suc n)) tt)
+    ∙ sym (start_next with_zero e f (pos (suc n)) tt)
 start_is_from e f g low one more (negsuc zero) h =
-    back_one _ _ _ _ (f (negsuc 0)) (more (negsuc 0) h) (start-next with_zero e f (negsuc 0) tt)
-    (back_one _ _ _ _ (f (pos 0)) (more (pos 0) (omega (arith, signed_arith))) (start-next with_zero e f (pos 0) tt)
-    (one ∙ sym (start-one with_zero e f)))
+    back_one _ _ _ _ (f (negsuc 0)) (more (negsuc 0) h) (start_next with_zero e f (negsuc 0) tt)
+    (back_one _ _ _ _ (f (pos 0)) (more (pos 0) (omega (arith, signed_arith))) (start_next with_zero e f (pos 0) tt)
+    (one ∙ sym (start_one with_zero e f)))
 start_is_from e f g low one more (negsuc (suc n)) h =
     let next : negsuc (suc n) +ℤ pos 1 ≡ negsuc n = omega (arith, signed_arith) in
     back_one _ _ _ _ (f (negsuc (suc n))) (rw next at (more (negsuc (suc n)) h))
-    (start-next with_zero e f (negsuc (suc n)) tt)
+    (start_next with_zero e f (negsuc (suc n)) tt)
     (start_is_from e f g low one more (negsuc n) (omega (arith, signed_arith)))
 
 -- years begin in their order
 years_mono : (f : ℤ → ℕ) (n k : ℕ) → days_of_years f n ≤ days_of_years f (k + n)
 years_mono f n zero = let same : 0 + n ≡ n = omega arith in rw same (omega arith)
 years_mono f n (suc k) =
-    let next : suc k + n ≡ suc (k + n) = omega arith in rw next (omega (arith, years_mono f n k, years-suc f (k + n)))
+    let next : suc k + n ≡ suc (k + n) = omega arith in rw next (omega (arith, years_mono f n k, years_suc f (k + n)))
 
 before_mono : (s : Years) (f : ℤ → ℕ) (n k : ℕ) → days_of_years_before s f n ≤ days_of_years_before s f (k + n)
 before_mono s f n zero = let same : 0 + n ≡ n = omega arith in rw same (omega arith)
 before_mono s f n (suc k) =
     let next : suc k + n ≡ suc (k + n) = omega arith in
-    rw next (omega (arith, before_mono s f n k, before-suc s f (k + n)))
+    rw next (omega (arith, before_mono s f n k, before_suc s f (k + n)))
 
 years_le : (f : ℤ → ℕ) (m n : ℕ) → m ≤ n → days_of_years f m ≤ days_of_years f n
 years_le f m n h = let same : n - m + m ≡ n = omega arith in rw same at (years_mono f m (n - m))
@@ -187,7 +187,7 @@ next_le s (negsuc (suc n)) z h lt = omega (arith, signed_arith)
 -- a later year begins after all days of an earlier one
 pub start-later : (s : Years) (e : ℤ) (f : ℤ → ℕ) (y z : ℤ) → HasYear s y → HasYear s z → y <ℤ z
     → (start_of_year s e f y +ℤ pos (f y)) ≤ℤ start_of_year s e f z
-start-later s e f y z h k lt = rw (← start-next s e f y h) (start_mono s e f (next_year s y) z (next_le s y z k lt))
+start-later s e f y z h k lt = rw (← start_next s e f y h) (start_mono s e f (next_year s y) z (next_le s y z k lt))
 
 -- a day lies in one year
 pub year_unique : (s : Years) (e : ℤ) (f : ℤ → ℕ) (y z n : ℤ) → HasYear s y → HasYear s z → start_of_year s e f y ≤ℤ n
@@ -232,9 +232,9 @@ total_bound : (m : Month) (ms : List Month) → (IsTrue (are_months ms) → tota
     → IsTrue (are_months (m ∷ ms)) → total_days (m ∷ ms) ≤ 99 * length (m ∷ ms)
 total_bound m ms more h = grind (arith, nat_tests)
 
-pub total-le : (ms : List Month) → IsTrue (are_months ms) → total_days ms ≤ 99 * length ms
-total-le [] h = omega arith
-total-le (m ∷ ms) h = total_bound m ms (total-le ms) h
+pub total_le : (ms : List Month) → IsTrue (are_months ms) → total_days ms ≤ 99 * length ms
+total_le [] h = omega arith
+total_le (m ∷ ms) h = total_bound m ms (total_le ms) h
 
 has_day_from : (s : Years) (e : ℤ) (f : ℤ → ℕ) (y n : ℤ) → HasYear s y → start_of_year s e f y ≤ℤ n
     → IsSinceFirstDay (first_day_by s e) n
@@ -242,7 +242,7 @@ has_day_from from_one e f (pos (suc k)) n h le =
     omega (
       arith,
       signed_arith,
-      start-one from_one e f,
+      start_one from_one e f,
       start_mono from_one e f (pos 1) (pos (suc k)) (omega (arith, signed_arith)),
     )
 has_day_from from_one e f (pos zero) n h le = absurd h
@@ -271,9 +271,9 @@ number_from_parts r y s m d before ms e f k = rw (f, e, k) refl
 -- a closed sum that is right at year 1 and grows by each year's length gives the first day of each year from year 1 on
 pub year_starts : (s : Years) (e : ℤ) (f : ℤ → ℕ) (g : ℕ → ℕ) → g 0 ≡ 0 → ((n : ℕ) → g (suc n) ≡ g n + f (pos (suc n)))
     → (n : ℕ) → e +ℤ pos (g n) ≡ start_of_year s e f (pos (suc n))
-year_starts s e f g none more zero = omega (arith, signed_arith, none, start-one s e f)
+year_starts s e f g none more zero = omega (arith, signed_arith, none, start_one s e f)
 year_starts s e f g none more (suc n) =
-    omega (arith, signed_arith, more n, year_starts s e f g none more n, start-next s e f (pos (suc n)) tt)
+    omega (arith, signed_arith, more n, year_starts s e f g none more n, start_next s e f (pos (suc n)) tt)
 
 -- in a calendar from year 1 on, the sum of epoch and days before is the first day of the year
 pub sum_is_start : (e : ℤ) (f : ℤ → ℕ) (y z b : ℤ) (n s : ℕ) → s ≡ days_of_years f n → b ≡ e → y ≡ pos (suc n)
@@ -289,7 +289,7 @@ unfolding start_of_year
 sum_in_year e f d b n k p q r t =
     let next : n + 1 ≡ suc n = omega arith in
     let before = rw next at q in
-    omega (arith, signed_arith, p, before, r, t, years-suc f n)
+    omega (arith, signed_arith, p, before, r, t, years_suc f n)
 
 pub year_from_one : (y : ℤ) → HasYear from_one y → pos 1 ≤ℤ y
 year_from_one (pos (suc n)) h = omega (arith, signed_arith)

@@ -40,15 +40,15 @@ starts_near [] (suc i) h le = absurd (omega arith)
 starts_near (m ∷ ms) (suc i) h le =
     let more = starts_near ms i h.2 (omega arith) in (omega (arith, more, h.0), omega (arith, more, h.1))
 
-start-suc : (ms : List Month) (i : ℕ) → i < length ms
+start_suc : (ms : List Month) (i : ℕ) → i < length ms
     → total_days (take (suc i) ms) ≡ total_days (take i ms) + (month_of ms i).days
-start-suc [] i h = absurd (omega arith)
-start-suc (m ∷ ms) zero h = omega arith
-start-suc (m ∷ ms) (suc i) h = omega (arith, start-suc ms i (omega arith))
+start_suc [] i h = absurd (omega arith)
+start_suc (m ∷ ms) zero h = omega arith
+start_suc (m ∷ ms) (suc i) h = omega (arith, start_suc ms i (omega arith))
 
-start-all : (ms : List Month) → total_days (take (length ms) ms) ≡ total_days ms
-start-all [] = refl
-start-all (m ∷ ms) = ap (λ n. m.days + n) (start-all ms)
+start_all : (ms : List Month) → total_days (take (length ms) ms) ≡ total_days ms
+start_all [] = refl
+start_all (m ∷ ms) = ap (λ n. m.days + n) (start_all ms)
 
 -- the month of an index by its number
 has_its_number : (ms : List Month) (i : ℕ) → i < length ms → IsTrue (has_number ms (month_of ms i).number)
@@ -107,7 +107,7 @@ record Holds (ms : List Month) (place index : ℕ) : Type 0 where
 least_inside : (ms : List Month) (place least : ℕ) → AreEven ms → 30 * least ≤ place → place < total_days ms
     → least < length ms
 least_inside ms place least h low inside =
-    omega (arith, starts_near ms (length ms) h (omega arith), start-all ms)
+    omega (arith, starts_near ms (length ms) h (omega arith), start_all ms)
 
 next_inside : (ms : List Month) (place least : ℕ) → least < length ms → total_days (take (suc least) ms) ≤ place
     → place < total_days ms → suc least < length ms
@@ -117,7 +117,7 @@ next_inside ms place least h low inside =
       | inr more ↦
           let last : suc least ≡ length ms = omega arith in
           let whole = rw last at low in
-          absurd (omega (arith, whole, start-all ms))
+          absurd (omega (arith, whole, start_all ms))
     ]
 
 holds_least : (ms : List Month) (place least : ℕ) → AreEven ms → 30 * least ≤ place → place < total_days ms
@@ -169,7 +169,7 @@ short (m ∷ ms) (suc i) h lt = short ms i h.2 (omega arith)
 placed : (ms : List Month) (place index start : ℕ) → AreEven ms → IsTrue (are_months ms) → Holds ms place index
     → start ≡ total_days (take index ms) → IsPlacedIn ms place start (month_of ms index).number
 placed ms place index start h numbers at e =
-    let step = start-suc ms index at.inside in
+    let step = start_suc ms index at.inside in
     let few = short ms index h at.inside in
     let number = numbered ms index numbers at.inside in
     record {

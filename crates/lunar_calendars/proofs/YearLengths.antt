@@ -5,7 +5,7 @@ use Rattle.std.proofs.Common.{refl, sym, ap, ◌∙◌, arith, ℤ, pos, ◌+ℤ
 use Rattle.std.specs.Prelude.{Contains}
 use Rattle.std.proofs.lemmas.Bool.Decides.{nat_tests}
 use Rattle.day_numbers.specs.Rules.{total_days, days_of_years, start_of_year, year_start}
-use Rattle.day_numbers.proofs.RulesLemmas.{years-zero, years-suc}
+use Rattle.day_numbers.proofs.RulesLemmas.{years_zero, years_suc}
 use Rattle.day_numbers.proofs.SignedArithmetic.{signed_arith}
 use Rattle.lunar_calendars.specs.Hebrew.{IsYearLength, is_leap_year, epoch, new_year_of, days_in_year, months_by_length}
 use Rattle.lunar_calendars.specs.Hebrew.{months_of_year, year_lengths, hebrew_rules}
@@ -141,11 +141,11 @@ total_of n = total_by (is_leap_year (suc n)) (days_in_year (suc n)) (length_of n
 
 -- so the sum of the lengths of the years before is the new year by the postponements
 days_before : (n : ℕ) → days_of_years (λ year. total_days (months_of_year (unsigned_abs year))) n ≡ new_year_after n
-days_before zero = years-zero _ ∙ sym first_new_year
+days_before zero = years_zero _ ∙ sym first_new_year
 days_before (suc n) =
     omega (
       arith,
-      years-suc (λ year. total_days (months_of_year (unsigned_abs year))) n,
+      years_suc (λ year. total_days (months_of_year (unsigned_abs year))) n,
       total_of n,
       days_more n,
       days_before n,

@@ -22,74 +22,74 @@ use Rattle.register_records.specs.Columns.{answer_field, cell_columns, day_colum
 use Rattle.register_records.specs.Lines.{writing}
 use Rattle.register_records.specs.Outcomes.{AreCells}
 use Rattle.register_records.specs.SetupRules.{is_delimiter}
-use Rattle.register_records.proofs.LineFacts.{more-fields-text, plain-bytes, plain-text, put-after}
+use Rattle.register_records.proofs.LineFacts.{more_fields_text, plain_bytes, plain_text, put_after}
 
 -- the bytes of fields behind delimiters
 abbrev pub text : ℕ → List (List ℕ) → List ℕ
 text d fields = fields_text (writing d) fields
 
 -- of one that needs no quotes
-pub one-field : (d : ℕ) (field : List ℕ) → needs_quotes (writing d) field ≡ false
+pub one_field : (d : ℕ) (field : List ℕ) → needs_quotes (writing d) field ≡ false
     → text d (field ∷ []) ≡ d ∷ field
 unfolding fields_text
-one-field d field h = rw (plain-text d field h) (ap (λ (t : List ℕ). d ∷ t) (append-nil field))
+one_field d field h = rw (plain_text d field h) (ap (λ (t : List ℕ). d ∷ t) (append-nil field))
 
 -- of some, and of more
-pub more-text : (d : ℕ) (xs ys zs : List (List ℕ)) (old mid new : List ℕ) → mid ≡ old ++ text d xs
+pub more_text : (d : ℕ) (xs ys zs : List (List ℕ)) (old mid new : List ℕ) → mid ≡ old ++ text d xs
     → new ≡ mid ++ text d ys → zs ≡ xs ++ ys → new ≡ old ++ text d zs
-more-text d xs ys zs old mid new m n z =
-    rw (n, m, z, more-fields-text d xs ys) (append_assoc old (text d xs) (text d ys))
+more_text d xs ys zs old mid new m n z =
+    rw (n, m, z, more_fields_text d xs ys) (append_assoc old (text d xs) (text d ys))
 
 -- a field that is put behind a delimiter
-pub put-field : (places field : List ℕ) (at d k : ℕ) → at < length places → needs_quotes (writing d) field ≡ false
+pub put_field : (places field : List ℕ) (at d k : ℕ) → at < length places → needs_quotes (writing d) field ≡ false
     → take (at + 1 + length field) (put_mid (at + 1) k (set places at d) field) ≡ take at places ++ text d (field ∷ [])
-put-field places field at d k lt plain =
-    put-after places field at d k (length field) lt (omega arith)
+put_field places field at d k lt plain =
+    put_after places field at d k (length field) lt (omega arith)
     ∙ ap (λ (t : List ℕ). take at places ++ d ∷ t) (take_all (length field) field (omega arith))
-    ∙ ap (λ (t : List ℕ). take at places ++ t) (sym (one-field d field plain))
+    ∙ ap (λ (t : List ℕ). take at places ++ t) (sym (one_field d field plain))
 
 -- a cell that is put behind a delimiter, in the room of one
-pub put-cell : (places room rest sub : List ℕ) (at d k n : ℕ) → at < length places → n ≤ length room
+pub put_cell : (places room rest sub : List ℕ) (at d k n : ℕ) → at < length places → n ≤ length room
     → sub ≡ room ++ rest → needs_quotes (writing d) (take n room) ≡ false
     → take (at + (1 + n)) (put_mid (at + 1) k (set places at d) sub) ≡ take at places ++ text d (take n room ∷ [])
-put-cell places room rest sub at d k n lt few is plain =
+put_cell places room rest sub at d k n lt few is plain =
     let same : at + (1 + n) ≡ at + 1 + n = omega arith in
     let cut : take n sub ≡ take n room = ap (take n) is ∙ take-append-le n room rest few in
-    let long : n ≤ length sub = rw is (omega (arith, length-append-le room rest)) in
-    rw same (put-after places sub at d k n lt long)
+    let long : n ≤ length sub = rw is (omega (arith, length_append_le room rest)) in
+    rw same (put_after places sub at d k n lt long)
     ∙ ap (λ (t : List ℕ). take at places ++ d ∷ t) cut
-    ∙ ap (λ (t : List ℕ). take at places ++ t) (sym (one-field d (take n room) plain))
+    ∙ ap (λ (t : List ℕ). take at places ++ t) (sym (one_field d (take n room) plain))
   where
-    length-append-le : (room rest : List ℕ) → length room ≤ length (room ++ rest)
-    length-append-le [] rest = omega arith
-    length-append-le (x ∷ room) rest = omega (arith, length-append-le room rest)
+    length_append_le : (room rest : List ℕ) → length room ≤ length (room ++ rest)
+    length_append_le [] rest = omega arith
+    length_append_le (x ∷ room) rest = omega (arith, length_append_le room rest)
 
 -- a day number has eight bytes at most, and a refusal's one
-pub day-length : (z : ℤ) → IsDayNumber z → length (signed_decimal z) ≤ 8
-day-length (pos n) r = length_signed_le 7 (pos n) (omega (arith, ints, r.0, r.1)) (omega (arith, ints, r.0, r.1))
-day-length (negsuc n) r = length_signed_le 7 (negsuc n) (omega (arith, ints, r.0, r.1)) (omega (arith, ints, r.0, r.1))
+pub day_length : (z : ℤ) → IsDayNumber z → length (signed_decimal z) ≤ 8
+day_length (pos n) r = length_signed_le 7 (pos n) (omega (arith, ints, r.0, r.1)) (omega (arith, ints, r.0, r.1))
+day_length (negsuc n) r = length_signed_le 7 (negsuc n) (omega (arith, ints, r.0, r.1)) (omega (arith, ints, r.0, r.1))
 
-refusal-below : (r : Refusal) → refusal_number r < 10
-refusal-below refused.FieldCount = omega arith
-refusal-below refused.FieldTooLong = omega arith
-refusal-below refused.NotUtf8 = omega arith
-refusal-below refused.UnknownCalendar = omega arith
-refusal-below refused.DateText = omega arith
-refusal-below refused.NoSuchDate = omega arith
-refusal-below refused.OutOfRange = omega arith
+refusal_below : (r : Refusal) → refusal_number r < 10
+refusal_below refused.FieldCount = omega arith
+refusal_below refused.FieldTooLong = omega arith
+refusal_below refused.NotUtf8 = omega arith
+refusal_below refused.UnknownCalendar = omega arith
+refusal_below refused.DateText = omega arith
+refusal_below refused.NoSuchDate = omega arith
+refusal_below refused.OutOfRange = omega arith
 
-pub refusal-length : (r : Refusal) → length (decimal (refusal_number r)) ≤ 1
-refusal-length r =
-    let below = refusal-below r in
+pub refusal_length : (r : Refusal) → length (decimal (refusal_number r)) ≤ 1
+refusal_length r =
+    let below = refusal_below r in
     length-decimal-le 1 (refusal_number r) (omega arith) (omega (arith, below)) (omega (arith, below))
 
 -- one more of the cells of a day
-pub cells-last : (n : ℤ) (ts : List Target) (cells : List (List ℕ)) (t : Target) (cell : List ℕ)
+pub cells_last : (n : ℤ) (ts : List Target) (cells : List (List ℕ)) (t : Target) (cell : List ℕ)
     → AreCells ts (Ok n) cells → IsCell t n cell → AreCells (ts ++ t ∷ []) (Ok n) (cells ++ cell ∷ [])
-cells-last n [] [] t cell a h = (h, tt)
-cells-last n [] (x ∷ cells) t cell a h = absurd a
-cells-last n (s ∷ ts) [] t cell a h = absurd a
-cells-last n (s ∷ ts) (x ∷ cells) t cell a h = (a.0, cells-last n ts cells t cell a.1 h)
+cells_last n [] [] t cell a h = (h, tt)
+cells_last n [] (x ∷ cells) t cell a h = absurd a
+cells_last n (s ∷ ts) [] t cell a h = absurd a
+cells_last n (s ∷ ts) (x ∷ cells) t cell a h = (a.0, cells_last n ts cells t cell a.1 h)
 
 -- what stands in the columns of the cells: on a day the cells, and else nothing
 pub day-columns : (n : ℤ) (place : ℕ) (all : List (List ℕ)) (ts : List Target) (cells : List (List ℕ))
@@ -105,46 +105,46 @@ day-columns n place all (t ∷ ts) (x ∷ cells) e a =
     let more = day-columns n (place + 1) all ts cells rest a.1 in
     cc (first, more)
 
-nothing-at : (place : ℕ) → get_or {A = List ℕ} [] place [] ≡ []
-nothing-at zero = refl
-nothing-at (suc place) = refl
+nothing_at : (place : ℕ) → get_or {A = List ℕ} [] place [] ≡ []
+nothing_at zero = refl
+nothing_at (suc place) = refl
 
-pub no-columns : (r : Refusal) (place : ℕ) (ts : List Target)
+pub no_columns : (r : Refusal) (place : ℕ) (ts : List Target)
     → map (answer_field (Err r) []) (cell_columns place ts) ≡ map {A = Target} {B = List ℕ} (λ t. []) ts
-no-columns r place [] = refl
-no-columns r place (t ∷ ts) =
-    let more = no-columns r (place + 1) ts in
-    let none = nothing-at place in
+no_columns r place [] = refl
+no_columns r place (t ∷ ts) =
+    let more = no_columns r (place + 1) ts in
+    let none = nothing_at place in
     cc (more, none)
 
 -- the cells are what is cut from their fields by their lengths
-cut-back : CellsArePlain → (d : ℕ) → is_delimiter d ≡ true → (n : ℤ) (ts : List Target) (cells : List (List ℕ))
+cut_back : CellsArePlain → (d : ℕ) → is_delimiter d ≡ true → (n : ℤ) (ts : List Target) (cells : List (List ℕ))
     (rest : List ℕ) → AreCells ts (Ok n) cells → cut_cells (map length cells) (text d cells ++ rest) ≡ cells
 unfolding fields_text
-cut-back law d h n [] [] rest a = refl
-cut-back law d h n [] (x ∷ cells) rest a = absurd a
-cut-back law d h n (t ∷ ts) [] rest a = absurd a
-cut-back law d h n (t ∷ ts) (x ∷ cells) rest a =
-    let plain = plain-text d x (plain-bytes d h x (law t n x a.0)) in
+cut_back law d h n [] [] rest a = refl
+cut_back law d h n [] (x ∷ cells) rest a = absurd a
+cut_back law d h n (t ∷ ts) [] rest a = absurd a
+cut_back law d h n (t ∷ ts) (x ∷ cells) rest a =
+    let plain = plain_text d x (plain_bytes d h x (law t n x a.0)) in
     let whole : text d (x ∷ cells) ++ rest ≡ d ∷ (x ++ (text d cells ++ rest)) =
     ap (λ (y : List ℕ). (d ∷ (y ++ text d cells)) ++ rest) plain
     ∙ ap (λ (y : List ℕ). d ∷ y) (append_assoc x (text d cells) rest) in
     let behind : drop (1 + length x) (d ∷ (x ++ (text d cells ++ rest))) ≡ text d cells ++ rest =
-    rw (one-more-drop (length x)) (drop-append_seam x (text d cells ++ rest)) in
-    rw (whole, take-append_seam x (text d cells ++ rest), behind, cut-back law d h n ts cells rest a.1) refl
+    rw (one_more_drop (length x)) (drop-append_seam x (text d cells ++ rest)) in
+    rw (whole, take-append_seam x (text d cells ++ rest), behind, cut_back law d h n ts cells rest a.1) refl
   where
-    one-more-drop : (k : ℕ) → 1 + k ≡ suc k
-    one-more-drop k = omega arith
+    one_more_drop : (k : ℕ) → 1 + k ≡ suc k
+    one_more_drop k = omega arith
 
 -- they are cut from the answer
-pub cut-answer : CellsArePlain → (d : ℕ) → is_delimiter d ≡ true → (o : Result ℤ Refusal) (ts : List Target)
+pub cut_answer : CellsArePlain → (d : ℕ) → is_delimiter d ≡ true → (o : Result ℤ Refusal) (ts : List Target)
     (cells : List (List ℕ)) (front rest : List ℕ) → AreCells ts o cells
     → cut_cells (map length cells)
     (drop (length front) (front ++ (text d (map (answer_field o cells) (cell_columns 0 ts)) ++ rest))) ≡ cells
-cut-answer law d h (Ok n) ts cells front rest a =
-    rw (drop-append_seam front _, day-columns n 0 cells ts cells refl a) (cut-back law d h n ts cells rest a)
-cut-answer law d h (Err r) ts [] front rest a = refl
-cut-answer law d h (Err r) ts (x ∷ cells) front rest a = cc
+cut_answer law d h (Ok n) ts cells front rest a =
+    rw (drop-append_seam front _, day-columns n 0 cells ts cells refl a) (cut_back law d h n ts cells rest a)
+cut_answer law d h (Err r) ts [] front rest a = refl
+cut_answer law d h (Err r) ts (x ∷ cells) front rest a = cc
 
 -- the fields of an answer, from the first to the last
 joined : {X : Type 0} (d : ℕ) (first : List (List ℕ)) (f : X → List ℕ) (xs : List X) (last : X)
@@ -152,40 +152,40 @@ joined : {X : Type 0} (d : ℕ) (first : List (List ℕ)) (f : X → List ℕ) (
 joined d first f xs last =
     rw (
       map-append f xs (last ∷ []),
-      more-fields-text d first (map f xs ++ f last ∷ []),
-      more-fields-text d (map f xs) (f last ∷ []),
+      more_fields_text d first (map f xs ++ f last ∷ []),
+      more_fields_text d (map f xs) (f last ∷ []),
     ) (append_assoc (text d first) (text d (map f xs)) (text d (f last ∷ [])))
 
-pub whole-answer : (d : ℕ) (ts : List Target) (o : Result ℤ Refusal) (cells : List (List ℕ))
+pub whole_answer : (d : ℕ) (ts : List Target) (o : Result ℤ Refusal) (cells : List (List ℕ))
     → (text d (map (λ column. answer_field o [] (of_day column)) day_columns)
     ++ text d (map (answer_field o cells) (cell_columns 0 ts))) ++ text d (answer_field o [] refusal ∷ [])
     ≡ answer_text d ts o cells
-whole-answer d ts (Ok n) cells =
+whole_answer d ts (Ok n) cells =
     joined d (map (λ column. answer_field (Ok n) [] (of_day column)) day_columns) (answer_field (Ok n) cells)
     (cell_columns 0 ts) refusal
-whole-answer d ts (Err r) cells =
+whole_answer d ts (Err r) cells =
     joined d (map (λ column. answer_field (Err r) [] (of_day column)) day_columns) (answer_field (Err r) cells)
     (cell_columns 0 ts) refusal
 
 -- a row has one list of cells
-pub one-cells : OneCell → (o : Result ℤ Refusal) (ts : List Target) (xs ys : List (List ℕ)) → AreCells ts o xs
+pub one_cells : OneCell → (o : Result ℤ Refusal) (ts : List Target) (xs ys : List (List ℕ)) → AreCells ts o xs
     → AreCells ts o ys → xs ≡ ys
-one-cells law (Err r) ts xs ys a b = a ∙ sym b
-one-cells law (Ok n) [] [] [] a b = refl
-one-cells law (Ok n) [] [] (y ∷ ys) a b = absurd b
-one-cells law (Ok n) [] (x ∷ xs) ys a b = absurd a
-one-cells law (Ok n) (t ∷ ts) [] ys a b = absurd a
-one-cells law (Ok n) (t ∷ ts) (x ∷ xs) [] a b = absurd b
-one-cells law (Ok n) (t ∷ ts) (x ∷ xs) (y ∷ ys) a b =
+one_cells law (Err r) ts xs ys a b = a ∙ sym b
+one_cells law (Ok n) [] [] [] a b = refl
+one_cells law (Ok n) [] [] (y ∷ ys) a b = absurd b
+one_cells law (Ok n) [] (x ∷ xs) ys a b = absurd a
+one_cells law (Ok n) (t ∷ ts) [] ys a b = absurd a
+one_cells law (Ok n) (t ∷ ts) (x ∷ xs) [] a b = absurd b
+one_cells law (Ok n) (t ∷ ts) (x ∷ xs) (y ∷ ys) a b =
     let first = law t n x y a.0 b.0 in
-    let rest = one-cells law (Ok n) ts xs ys a.1 b.1 in
+    let rest = one_cells law (Ok n) ts xs ys a.1 b.1 in
     cc
 
 -- one more of the empty fields that stand for the cells of a refused row
-pub one-empty : {X : Type 0} (xs : List X) (i : ℕ) → i < length xs
+pub one_empty : {X : Type 0} (xs : List X) (i : ℕ) → i < length xs
     → map {A = X} {B = List ℕ} (λ x. []) (take i xs) ++ [] ∷ [] ≡ map {A = X} {B = List ℕ} (λ x. []) (take (i + 1) xs)
-one-empty [] i lt = absurd (omega arith)
-one-empty (x ∷ xs) zero lt = refl
-one-empty (x ∷ xs) (suc i) lt =
+one_empty [] i lt = absurd (omega arith)
+one_empty (x ∷ xs) zero lt = refl
+one_empty (x ∷ xs) (suc i) lt =
     let e : suc i + 1 ≡ suc (i + 1) = omega arith in
-    rw e (ap (λ (fields : List (List ℕ)). [] ∷ fields) (one-empty xs i (omega arith)))
+    rw e (ap (λ (fields : List (List ℕ)). [] ∷ fields) (one_empty xs i (omega arith)))

@@ -24,19 +24,19 @@ abbrev pub IsBare : List ℕ → Type 0
 IsBare text = list_any is_special_byte text ≡ false
 
 -- a byte that does not
-bare-byte : (d c : ℕ) → is_delimiter d ≡ true → is_special_byte c ≡ false → needs_byte (writing d) c ≡ false
-bare-byte d c h p = grind (arith, nat_tests)
+bare_byte : (d c : ℕ) → is_delimiter d ≡ true → is_special_byte c ≡ false → needs_byte (writing d) c ≡ false
+bare_byte d c h p = grind (arith, nat_tests)
 
-pub bare-text : (d : ℕ) → is_delimiter d ≡ true → (text : List ℕ) → IsBare text
+pub bare_text : (d : ℕ) → is_delimiter d ≡ true → (text : List ℕ) → IsBare text
     → needs_quotes (writing d) text ≡ false
-bare-text d h [] p = refl
-bare-text d h (c ∷ text) p =
+bare_text d h [] p = refl
+bare_text d h (c ∷ text) p =
     let both = or_parts (is_special_byte c) (list_any is_special_byte text) p in
-    rw (bare-byte d c h both.0, bare-text d h text both.1) refl
+    rw (bare_byte d c h both.0, bare_text d h text both.1) refl
 
 -- a part of a text without such a byte
-bare-part : (k s : ℕ) (bytes : List ℕ) → IsBare bytes → IsBare (take k (drop s bytes))
-bare-part k s bytes h =
+bare_part : (k s : ℕ) (bytes : List ℕ) → IsBare bytes → IsBare (take k (drop s bytes))
+bare_part k s bytes h =
     let behind = or_parts _ _ (sym (list_any-append is_special_byte (take s bytes) (drop s bytes))
     ∙ ap (list_any is_special_byte) (take-append-drop s bytes) ∙ h) in
     let front = or_parts _ _ (sym (list_any-append is_special_byte (take k (drop s bytes)) (drop k (drop s bytes)))
@@ -49,41 +49,41 @@ AreBare [] = ⊤
 AreBare (f ∷ fs) = IsBare f × AreBare fs
 
 -- the fields of a record whose bytes are such
-bare-fields : (s : ℕ) (ends bytes : List ℕ) → IsBare bytes → AreBare (cut_from s ends bytes)
+bare_fields : (s : ℕ) (ends bytes : List ℕ) → IsBare bytes → AreBare (cut_from s ends bytes)
 unfolding cut_from
-bare-fields s [] bytes h = tt
-bare-fields s (end ∷ ends) bytes h = (bare-part (end - s) s bytes h, bare-fields end ends bytes h)
+bare_fields s [] bytes h = tt
+bare_fields s (end ∷ ends) bytes h = (bare_part (end - s) s bytes h, bare_fields end ends bytes h)
 
-bare-if : (t : Texts) → (short utf8 : Bool) → has_special (Ok t) ≡ false
+bare_if : (t : Texts) → (short utf8 : Bool) → has_special (Ok t) ≡ false
     → has_special (if short then (if utf8 then Ok t else Err refusal.NotUtf8) else Err refusal.FieldTooLong) ≡ false
-bare-if t true true h = h
-bare-if t true false h = refl
-bare-if t false utf8 h = refl
+bare_if t true true h = h
+bare_if t true false h = refl
+bare_if t false utf8 h = refl
 
 four : (t : Texts) → IsBare t.id → IsBare t.calendar → IsBare t.date → IsBare t.note → has_special (Ok t) ≡ false
 four t a b c d = or_from _ _ a (or_from _ _ b (or_from _ _ c d))
 
-bare-texts : (form : Form) (fs : Fields) → AreBare fs → has_special (body_of form fs) ≡ false
-bare-texts Plain [] h = refl
-bare-texts Plain (a ∷ []) h = refl
-bare-texts Plain (a ∷ b ∷ []) h = refl
-bare-texts Plain (a ∷ b ∷ c ∷ []) h =
+bare_texts : (form : Form) (fs : Fields) → AreBare fs → has_special (body_of form fs) ≡ false
+bare_texts Plain [] h = refl
+bare_texts Plain (a ∷ []) h = refl
+bare_texts Plain (a ∷ b ∷ []) h = refl
+bare_texts Plain (a ∷ b ∷ c ∷ []) h =
     let t : Texts = record { id = a; calendar = b; date = c; note = [] } in
-    bare-if t (are_short t) (are_utf8 t) (four t h.0 h.1.0 h.1.1.0 refl)
-bare-texts Plain (a ∷ b ∷ c ∷ d ∷ rest) h = refl
-bare-texts Sealed [] h = refl
-bare-texts Sealed (a ∷ []) h = refl
-bare-texts Sealed (a ∷ b ∷ []) h = refl
-bare-texts Sealed (a ∷ b ∷ c ∷ []) h = refl
-bare-texts Sealed (a ∷ b ∷ c ∷ d ∷ []) h =
+    bare_if t (are_short t) (are_utf8 t) (four t h.0 h.1.0 h.1.1.0 refl)
+bare_texts Plain (a ∷ b ∷ c ∷ d ∷ rest) h = refl
+bare_texts Sealed [] h = refl
+bare_texts Sealed (a ∷ []) h = refl
+bare_texts Sealed (a ∷ b ∷ []) h = refl
+bare_texts Sealed (a ∷ b ∷ c ∷ []) h = refl
+bare_texts Sealed (a ∷ b ∷ c ∷ d ∷ []) h =
     let t : Texts = record { id = a; calendar = b; date = c; note = d } in
-    bare-if t (are_short t) (are_utf8 t) (four t h.0 h.1.0 h.1.1.0 h.1.1.1.0)
-bare-texts Sealed (a ∷ b ∷ c ∷ d ∷ e ∷ rest) h = refl
+    bare_if t (are_short t) (are_utf8 t) (four t h.0 h.1.0 h.1.1.0 h.1.1.1.0)
+bare_texts Sealed (a ∷ b ∷ c ∷ d ∷ e ∷ rest) h = refl
 
 -- the body of a record whose bytes are such
-pub bare-record : (form : Form) (ends bytes : List ℕ) → IsBare bytes
+pub bare_record : (form : Form) (ends bytes : List ℕ) → IsBare bytes
     → has_special (body_of form (cut_from 0 ends bytes)) ≡ false
-bare-record form ends bytes h = bare-texts form (cut_from 0 ends bytes) (bare-fields 0 ends bytes h)
+bare_record form ends bytes h = bare_texts form (cut_from 0 ends bytes) (bare_fields 0 ends bytes h)
 
 -- the texts of a body that holds no such byte need no quotes in a table
 pub unquoted : (d : ℕ) → is_delimiter d ≡ true → (body : Result Texts Refusal) → has_special body ≡ false
@@ -95,5 +95,5 @@ unquoted d h (Ok t) bare =
     let a = or_parts _ _ bare in
     let b = or_parts _ _ a.1 in
     let c = or_parts _ _ b.1 in
-    (bare-text d h t.id a.0, bare-text d h t.calendar b.0, bare-text d h t.date c.0, bare-text d h t.note c.1)
+    (bare_text d h t.id a.0, bare_text d h t.calendar b.0, bare_text d h t.date c.0, bare_text d h t.note c.1)
 unquoted d h (Err r) bare = (refl, refl, refl, refl)

@@ -10,16 +10,16 @@ use Rattle.date_texts.specs.Cells.{IsCell, is_plain}
 use Rattle.date_texts.proofs.LawWords.{CellsArePlain}
 use Rattle.date_texts.specs.declared.calendar.Target.{Target}
 
-plain-is-ascii : (c : ℕ) → is_plain c ≡ true → c < 128
-plain-is-ascii c p = grind (arith, nat_tests)
+plain_is_ascii : (c : ℕ) → is_plain c ≡ true → c < 128
+plain_is_ascii c p = grind (arith, nat_tests)
 
-plain-text-is-ascii : (text : List ℕ) → list_all is_plain text ≡ true → IsAscii text
-plain-text-is-ascii [] p = IsAscii-nil
-plain-text-is-ascii (c ∷ text) p =
+plain_text_is_ascii : (text : List ℕ) → list_all is_plain text ≡ true → IsAscii text
+plain_text_is_ascii [] p = IsAscii-nil
+plain_text_is_ascii (c ∷ text) p =
     let both = and_parts (is_plain c) (list_all is_plain text) p in
-    IsAscii-cons c text (plain-is-ascii c both.0) (plain-text-is-ascii text both.1)
+    IsAscii-cons c text (plain_is_ascii c both.0) (plain_text_is_ascii text both.1)
 
-pub cell-is-text : CellsArePlain → (target : Target) (n : ℤ) (text : List ℕ) → IsCell target n text
+pub cell_is_text : CellsArePlain → (target : Target) (n : ℤ) (text : List ℕ) → IsCell target n text
     → is_utf8 text ≡ true
-cell-is-text law target n text is =
-    is_utf8-from_IsUtf8 text (IsUtf8-from_ascii text (plain-text-is-ascii text (law target n text is)))
+cell_is_text law target n text is =
+    is_utf8-from_IsUtf8 text (IsUtf8-from_ascii text (plain_text_is_ascii text (law target n text is)))

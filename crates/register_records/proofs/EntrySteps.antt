@@ -10,53 +10,53 @@ use Rattle.csv.proofs.ReadFacts.{rows-end, rows-more}
 use Rattle.register_records.specs.Headers.{IsHeader}
 use Rattle.register_records.specs.Entries.{Fields, Format, HasNoHeader, text_records}
 use Rattle.register_records.specs.ReadingState.{Reads, TakesFirst, all_after, records_left}
-use Rattle.register_records.proofs.RecordsLeft.{all-more, all-none}
+use Rattle.register_records.proofs.RecordsLeft.{all_more, all_none}
 
-one-record : (cfg cfg2 : Config) (s s2 : State) (y z : List ℕ) (f : Fields) → cfg2 ≡ cfg → Reached cfg s y (f ∷ []) s2 z
+one_record : (cfg cfg2 : Config) (s s2 : State) (y z : List ℕ) (f : Fields) → cfg2 ≡ cfg → Reached cfg s y (f ∷ []) s2 z
     → all_after cfg s y ≡ f ∷ all_after cfg2 s2 z
 unfolding Reached
-one-record cfg cfg2 s s2 y z f e h =
+one_record cfg cfg2 s s2 y z f e h =
     let (p, next, first, ends) = h in
-    all-more cfg s y p next ∙ rw (← first, ends.0, ends.1, e) refl
+    all_more cfg s y p next ∙ rw (← first, ends.0, ends.1, e) refl
 
-nothing-yet : (cfg : Config) (s : State) (y : List ℕ) → Reached cfg s y [] s y
+nothing_yet : (cfg : Config) (s : State) (y : List ℕ) → Reached cfg s y [] s y
 unfolding Reached
-nothing-yet cfg s y = (refl, refl)
+nothing_yet cfg s y = (refl, refl)
 
 -- a read that found a record
-pub read-more : {R : Type 0} (rem : R → Option (List ℕ)) (a b : Reader R) (f : Fields) → ReadRecord rem a b true f
+pub read_more : {R : Type 0} (rem : R → Option (List ℕ)) (a b : Reader R) (f : Fields) → ReadRecord rem a b true f
     → TakesFirst (records_left rem a) (records_left rem b) f
-read-more {R = R} rem a b f r = by (source_of rem a) refl
+read_more {R = R} rem a b f r = by (source_of rem a) refl
   where
     by : (o : Option (List ℕ)) → source_of rem a ≡ o
         → TakesFirst (option_map (all_after a.config a.state) o) (records_left rem b) f
     by None e = tt
     by (Some y) e =
-        let m = rows-more rem a b f a.config a.state y y [] refl e (nothing-yet a.config a.state y) r in
-        rw m.1 (one-record a.config b.config a.state b.state y m.0 f r.2 m.2)
+        let m = rows-more rem a b f a.config a.state y y [] refl e (nothing_yet a.config a.state y) r in
+        rw m.1 (one_record a.config b.config a.state b.state y m.0 f r.2 m.2)
 
 -- a read that found none
-pub read-none : {R : Type 0} (rem : R → Option (List ℕ)) (a b : Reader R) (f : Fields) → ReadRecord rem a b false f
+pub read_none : {R : Type 0} (rem : R → Option (List ℕ)) (a b : Reader R) (f : Fields) → ReadRecord rem a b false f
     → IfSome (records_left rem a) (λ rows. rows ≡ [])
-read-none {R = R} rem a b f r = by (source_of rem a) refl
+read_none {R = R} rem a b f r = by (source_of rem a) refl
   where
     by : (o : Option (List ℕ)) → source_of rem a ≡ o
         → IfSome (option_map (all_after a.config a.state) o) (λ rows. rows ≡ [])
     by None e = tt
-    by (Some y) e = all-none a.config a.state y (rows-end rem a b f a.config y refl e r)
+    by (Some y) e = all_none a.config a.state y (rows-end rem a b f a.config y refl e r)
 
 -- a read of either kind
 pub reads : {R : Type 0} (rem : R → Option (List ℕ)) (a b : Reader R) (found : Bool) (f : Fields)
     → ReadRecord rem a b found f → Reads (records_left rem a) (records_left rem b) found f
-reads rem a b true f r = read-more rem a b f r
-reads rem a b false f r = read-none rem a b f r
+reads rem a b true f r = read_more rem a b f r
+reads rem a b false f r = read_none rem a b f r
 
 -- the records of a text, at a reader that is at its start
-pub at-start : {R : Type 0} (rem : R → Option (List ℕ)) (a : Reader R) (d : ℕ) (o : Option (List ℕ))
+pub at_start : {R : Type 0} (rem : R → Option (List ℕ)) (a : Reader R) (d : ℕ) (o : Option (List ℕ))
     → reader_config a ≡ record default_config { delimiter = d } → reader_state a ≡ st.StartRecord
     → source_of rem a ≡ option_map strip_bom o → records_left rem a ≡ option_map (text_records d) o
-at-start rem a d None config state source = rw (source) refl
-at-start rem a d (Some text) config state source = rw (source, config, state) refl
+at_start rem a d None config state source = rw (source) refl
+at_start rem a d (Some text) config state source = rw (source, config, state) refl
 
 -- a first record that is no header
 pub refuses : (o : Option (List ℕ)) (y : Option (List Fields)) (format : Format) (f : Fields)
@@ -67,8 +67,8 @@ refuses (Some text) None format f t h = absurd t
 refuses (Some text) (Some rest) format f t h = λ rows a. let same : a.0 ≡ f = cc (t, a.1) in h (rw same at a.2)
 
 -- no record
-pub refuses-none : (o : Option (List ℕ)) (format : Format)
+pub refuses_none : (o : Option (List ℕ)) (format : Format)
     → IfSome (option_map (text_records format.delimiter) o) (λ rows. rows ≡ [])
     → IfSome o (λ text. HasNoHeader format text)
-refuses-none None format t = tt
-refuses-none (Some text) format t = λ rows a. let none : a.0 ∷ rows ≡ [] = sym a.1 ∙ t in cc
+refuses_none None format t = tt
+refuses_none (Some text) format t = λ rows a. let none : a.0 ∷ rows ≡ [] = sym a.1 ∙ t in cc

@@ -18,43 +18,43 @@ use Rattle.register_records.specs.declared.entries.Entry.{Entry}
 use Rattle.register_records.specs.declared.setups.Form.{Form}
 use Rattle.register_records.specs.declared.setups.Form.TheVariants.{Plain, Sealed}
 
-pub if-some : {X : Type 0} (o : Option X) (P Q : X → Type 0) → ((x : X) → P x → Q x) → IfSome o P → IfSome o Q
-if-some None P Q f h = tt
-if-some (Some x) P Q f h = f x h
+pub if_some : {X : Type 0} (o : Option X) (P Q : X → Type 0) → ((x : X) → P x → Q x) → IfSome o P → IfSome o Q
+if_some None P Q f h = tt
+if_some (Some x) P Q f h = f x h
 
 -- a record that is no seal comes before the first seal
-pub no-seal-first : (form : Form) (r : Fields) (rest : List Fields) → IsNoSeal form r
+pub no_seal_first : (form : Form) (r : Fields) (rest : List Fields) → IsNoSeal form r
     → entry_records form (r ∷ rest) ≡ r ∷ entry_records form rest
 unfolding before_seal
-no-seal-first Plain r rest h = refl
-no-seal-first Sealed r rest h = rw h refl
+no_seal_first Plain r rest h = refl
+no_seal_first Sealed r rest h = rw h refl
 
 -- no record is before a seal that stands first
-pub seal-first : (r : Fields) (rest : List Fields) → is_seal r ≡ true → before_seal (r ∷ rest) ≡ []
+pub seal_first : (r : Fields) (rest : List Fields) → is_seal r ≡ true → before_seal (r ∷ rest) ≡ []
 unfolding before_seal
-seal-first r rest h = rw h refl
+seal_first r rest h = rw h refl
 
-pub before-none : before_seal [] ≡ []
+pub before_none : before_seal [] ≡ []
 unfolding before_seal
-before-none = refl
+before_none = refl
 
 -- the first of the entries that are left
-first-entry : (form : Form) (k : ℕ) (r : Fields) (rest : List Fields) → k < record_limit
+first_entry : (form : Form) (k : ℕ) (r : Fields) (rest : List Fields) → k < record_limit
     → entries_from form k (r ∷ rest) ≡ record { number = k + 1; body = body_of form r } ∷ entries_from form (k + 1) rest
 unfolding entries_from
-first-entry form k r rest h = let e : nat_lt k record_limit ≡ true = grind (arith, nat_tests) in rw e refl
+first_entry form k r rest h = let e : nat_lt k record_limit ≡ true = grind (arith, nat_tests) in rw e refl
 
-entries-none : (form : Form) (k : ℕ) → entries_from form k [] ≡ []
+entries_none : (form : Form) (k : ℕ) → entries_from form k [] ≡ []
 unfolding entries_from
-entries-none form k = refl
+entries_none form k = refl
 
 -- a first record that is a header
-pub stands-first : (o : Option (List ℕ)) (y : Option (List Fields)) (format : Format) (f : Fields)
+pub stands_first : (o : Option (List ℕ)) (y : Option (List Fields)) (format : Format) (f : Fields)
     → TakesFirst (option_map (text_records format.delimiter) o) y f → IsHeader format.form f
     → IfSome o (λ text. Stands format text false false y [])
-stands-first None y format f t h = tt
-stands-first (Some text) None format f t h = absurd t
-stands-first (Some text) (Some rest) format f t h =
+stands_first None y format f t h = tt
+stands_first (Some text) None format f t h = absurd t
+stands_first (Some text) (Some rest) format f t h =
     record {
       past = [];
       rest = rest;
@@ -93,11 +93,11 @@ module _ (format : Format) (text : List ℕ) where
         no_seal = λ more.
             ap (entry_records form) (append_assoc s.past (f ∷ []) more)
             ∙ (s.no_seal (f ∷ more)
-            ∙ (ap (λ (t : List Fields). s.past ++ t) (no-seal-first form f more n)
+            ∙ (ap (λ (t : List Fields). s.past ++ t) (no_seal_first form f more n)
             ∙ sym (append_assoc s.past (f ∷ []) (entry_records form more))));
         followed = λ more.
             ap (entries_from form 0) (append_assoc s.past (f ∷ []) more)
-            ∙ (s.followed (f ∷ more) ∙ rw (longer, e, first-entry form (length given) f more h)
+            ∙ (s.followed (f ∷ more) ∙ rw (longer, e, first_entry form (length given) f more h)
             (sym (append_assoc given _ _)));
         left_is = λ _ _. refl;
         ended = λ d. absurd (cc);
@@ -120,7 +120,7 @@ module _ (format : Format) (text : List ℕ) where
 
   ends-none : (k : Form) (count : ℕ) (rows : List Fields) → EndsAt k count rows → entry_records k rows ≡ []
   ends-none Plain count rows e = e
-  ends-none Sealed count rows e = rw e.1 (seal-first e.0 [] e.2)
+  ends-none Sealed count rows e = rw e.1 (seal_first e.0 [] e.2)
 
   closed-so : (k : Form) (past rest : List Fields) → entry_records k (past ++ rest) ≡ past → EndsAt k (length past) rest
       → AreClosed k (past ++ rest)
@@ -146,7 +146,7 @@ module _ (format : Format) (text : List ℕ) where
         s.accepted,
         (rw before (omega (arith, s.counted, h)), closed-so form s.past s.rest before (rw s.counted ends)),
         sym (ap (entries_from form 0) (before ∙ sym (append-nil s.past))
-            ∙ (s.followed [] ∙ rw (entries-none form (length given)) (append-nil given))),
+            ∙ (s.followed [] ∙ rw (entries_none form (length given)) (append-nil given))),
       )
 
   stands-end : (left left2 : Option (List Fields)) (given : List Numbered) → Stands format text false false left given
@@ -212,33 +212,33 @@ module _ (format : Format) (text : List ℕ) where
   going failed done left given e f s = rw (e, f) at s
 
 -- an entry that a snapshot was taken of
-pub shown-more : (given : List (Snapshot Entry)) (s : Snapshot Entry) (e : Entry) → s.value ≡ e
+pub shown_more : (given : List (Snapshot Entry)) (s : Snapshot Entry) (e : Entry) → s.value ≡ e
     → entries_shown (given ++ s ∷ []) ≡ entries_shown given ++ entry_seen e ∷ []
-shown-more [] s e h = rw h refl
-shown-more (x ∷ given) s e h = ap (λ (t : List Numbered). entry_seen x.value ∷ t) (shown-more given s e h)
+shown_more [] s e h = rw h refl
+shown_more (x ∷ given) s e h = ap (λ (t : List Numbered). entry_seen x.value ∷ t) (shown_more given s e h)
 
-pub shown-length : (given : List (Snapshot Entry)) → length (entries_shown given) ≡ length given
-shown-length [] = refl
-shown-length (x ∷ given) = ap suc (shown-length given)
+pub shown_length : (given : List (Snapshot Entry)) → length (entries_shown given) ≡ length given
+shown_length [] = refl
+shown_length (x ∷ given) = ap suc (shown_length given)
 
-entry-is : (form : Form) (e : Entry) (k : ℕ) (f : Fields) → e.number ≡ k + 1
+entry_is : (form : Form) (e : Entry) (k : ℕ) (f : Fields) → e.number ≡ k + 1
     → body_seen e.body ≡ body_of form f
     → entry_seen e ≡ record { number = k + 1; body = body_of form f }
-entry-is form e k f n b = rw (n, b) refl
+entry_is form e k f n b = rw (n, b) refl
 
 -- the same, where the text may be unknown
 abbrev pub MayStand : Option (List ℕ) → Format → Bool → Bool → Option (List Fields) → List Numbered → Type 0
 MayStand o format failed done left given = ∥ IfSome o (λ text. Stands format text failed done left given) ∥₁
 
 may : (o : Option (List ℕ)) (P Q : List ℕ → Type 0) → ((t : List ℕ) → P t → Q t) → ∥ IfSome o P ∥₁ → ∥ IfSome o Q ∥₁
-may o P Q f h = ∥∥₁_map h (if-some o P Q f)
+may o P Q f h = ∥∥₁_map h (if_some o P Q f)
 
-pub first-step : (o p : Option (List ℕ)) (left : Option (List Fields)) (d e : ℕ) (j k : Form) (given : List Numbered)
+pub first_step : (o p : Option (List ℕ)) (left : Option (List Fields)) (d e : ℕ) (j k : Form) (given : List Numbered)
     (f : Fields) → p ≡ o → e ≡ d → k ≡ j
     → given ≡ [] → TakesFirst (option_map (text_records d) o) left f → IsHeader j f
     → MayStand p (format_by e k) false false left given
-first-step o p left d e j k given f a b c h t i =
-    let s = stands-first o left (format_by d j) f t i in rw (a, b, c, h) (∣ s ∣₁)
+first_step o p left d e j k given f a b c h t i =
+    let s = stands_first o left (format_by d j) f t i in rw (a, b, c, h) (∣ s ∣₁)
 
 module _ (o : Option (List ℕ)) (format : Format) (failed done : Bool) (left : Option (List Fields))
     (given : List Numbered)
@@ -263,7 +263,7 @@ module _ (o : Option (List ℕ)) (format : Format) (failed done : Bool) (left : 
         (may o _ _
         (λ t s. stands-more format t left left2 given g.fields (entry_seen x)
         (going format t failed done left given goes before s) g.first g.no_seal
-        (rw (← counted) h) (entry-is format.form x (length given) g.fields number g.body)) stands)
+        (rw (← counted) h) (entry_is format.form x (length given) g.fields number g.body)) stands)
 
     module _ (few : length given ≤ record_limit) where
       pub may-all : IfSome left (EndsAt format.form count) → ∥ IfSome o (λ text. HasEntries format text given) ∥₁

@@ -38,23 +38,23 @@ use Rattle.register_records.proofs.BareFacts.{unquoted}
 abbrev pub body : ℕ → List (List ℕ) → List ℕ
 body d fields = row_body (writing d) fields
 
-pub one-more : (d : ℕ) (before : List ℕ) (fields : List (List ℕ)) (field old mid new : List ℕ) → 1 ≤ length fields
+pub one_more : (d : ℕ) (before : List ℕ) (fields : List (List ℕ)) (field old mid new : List ℕ) → 1 ≤ length fields
     → old ≡ before ++ body d fields → mid ≡ old ++ d ∷ [] → new ≡ mid ++ field_text (writing d) field
     → new ≡ before ++ body d (fields ++ field ∷ [])
-one-more d before [] field old mid new some is m n = absurd (omega arith)
-one-more d before (f ∷ fs) field old mid new some is m n =
+one_more d before [] field old mid new some is m n = absurd (omega arith)
+one_more d before (f ∷ fs) field old mid new some is m n =
     rw (n, m, is, fields-snoc (writing d) fs field) (simp append_assoc refl)
 
 -- a field that needs no quotes
-pub plain-text : (d : ℕ) (field : List ℕ) → needs_quotes (writing d) field ≡ false
+pub plain_text : (d : ℕ) (field : List ℕ) → needs_quotes (writing d) field ≡ false
     → field_text (writing d) field ≡ field
-plain-text d field h = rw h refl
+plain_text d field h = rw h refl
 
-pub only-field : (d : ℕ) (before field bytes : List ℕ) → needs_quotes (writing d) field ≡ false
+pub only_field : (d : ℕ) (before field bytes : List ℕ) → needs_quotes (writing d) field ≡ false
     → bytes ≡ before ++ field → bytes ≡ before ++ body d (field ∷ [])
 unfolding fields_text
-only-field d before field bytes h e =
-    e ∙ ap (λ (t : List ℕ). before ++ t) (rw (plain-text d field h) (sym (append-nil field)))
+only_field d before field bytes h e =
+    e ∙ ap (λ (t : List ℕ). before ++ t) (rw (plain_text d field h) (sym (append-nil field)))
 
 -- a line of two fields or more is never blank
 pub ended : (d : ℕ) (before : List ℕ) (fields : List (List ℕ)) (old new : List ℕ) → 2 ≤ length fields
@@ -66,41 +66,41 @@ ended d before (a ∷ b ∷ rest) old new some is n =
     rw (n, is) (append_assoc before (body d (a ∷ b ∷ rest)) (10 ∷ []))
 
 -- one more of the fields that the items of a list give
-pub one-item : {X : Type 0} (f : X → List ℕ) (d : ℕ) (before : List ℕ) (first : List (List ℕ)) (xs : List X) (i : ℕ)
+pub one_item : {X : Type 0} (f : X → List ℕ) (d : ℕ) (before : List ℕ) (first : List (List ℕ)) (xs : List X) (i : ℕ)
     (e : X) (field new : List ℕ) → i < length xs → field ≡ f (get_or xs i e)
     → new ≡ before ++ body d ((first ++ map f (take i xs)) ++ field ∷ [])
     → new ≡ before ++ body d (first ++ map f (take (i + 1) xs))
-one-item f d before first xs i e field new lt is n =
+one_item f d before first xs i e field new lt is n =
     n ∙ ap (λ (fields : List (List ℕ)). before ++ body d fields)
     (rw (take_more xs i e lt, map-append f (take i xs) (get_or xs i e ∷ []), is) (append_assoc first _ _))
 
-pub one-mapped : {X : Type 0} (f : X → List ℕ) (xs ys : List X) (i : ℕ) (e : X) → ys ≡ xs → i < length ys
+pub one_mapped : {X : Type 0} (f : X → List ℕ) (xs ys : List X) (i : ℕ) (e : X) → ys ≡ xs → i < length ys
     → map f (take (i + 1) xs) ≡ map f (take i xs) ++ f (get_or ys i e) ∷ []
-one-mapped f xs ys i e same lt =
+one_mapped f xs ys i e same lt =
     let inside : i < length xs = rw same at lt in
     rw (same, take_more xs i e inside, map-append f (take i xs) (get_or xs i e ∷ [])) refl
 
 -- more fields
-pub more-fields-text : (d : ℕ) (fields more : List (List ℕ))
+pub more_fields_text : (d : ℕ) (fields more : List (List ℕ))
     → fields_text (writing d) (fields ++ more) ≡ fields_text (writing d) fields ++ fields_text (writing d) more
 unfolding fields_text
-more-fields-text d [] more = refl
-more-fields-text d (f ∷ fields) more =
+more_fields_text d [] more = refl
+more_fields_text d (f ∷ fields) more =
     ap (λ (t : List ℕ). d ∷ t)
-    (ap (λ (t : List ℕ). field_text (writing d) f ++ t) (more-fields-text d fields more)
+    (ap (λ (t : List ℕ). field_text (writing d) f ++ t) (more_fields_text d fields more)
     ∙ sym (append_assoc (field_text (writing d) f) (fields_text (writing d) fields) (fields_text (writing d) more)))
 
-pub more-fields : (d : ℕ) (before : List ℕ) (fields more : List (List ℕ)) (old new : List ℕ) → 1 ≤ length fields
+pub more_fields : (d : ℕ) (before : List ℕ) (fields more : List (List ℕ)) (old new : List ℕ) → 1 ≤ length fields
     → old ≡ before ++ body d fields → new ≡ old ++ fields_text (writing d) more
     → new ≡ before ++ body d (fields ++ more)
-more-fields d before [] more old new some is n = absurd (omega arith)
-more-fields d before (f ∷ fields) more old new some is n =
-    rw (n, is, more-fields-text d fields more) (simp append_assoc refl)
+more_fields d before [] more old new some is n = absurd (omega arith)
+more_fields d before (f ∷ fields) more old new some is n =
+    rw (n, is, more_fields_text d fields more) (simp append_assoc refl)
 
 -- a byte is set in a list, and others are written from the place after it: what lies before, the byte, and some of them
-pub put-after : (room places : List ℕ) (at d k count : ℕ) → at < length room → count ≤ length places
+pub put_after : (room places : List ℕ) (at d k count : ℕ) → at < length room → count ≤ length places
     → take (at + 1 + count) (put_mid (at + 1) k (set room at d) places) ≡ take at room ++ d ∷ take count places
-put-after room places at d k count lt few =
+put_after room places at d k count lt few =
     let base = set room at d in
     let front : at + 1 ≡ length (take (at + 1) base) =
     omega (arith, length-take-le (at + 1) base (omega (arith, length-set room at d))) in
@@ -111,37 +111,37 @@ put-after room places at d k count lt few =
     ∙ append_assoc (take at room) (d ∷ []) (take count places)
 
 -- a digit or a minus sign needs no quotes
-plain-byte : (d c : ℕ) → is_delimiter d ≡ true → 45 ≤ c → c < 58 → needs_byte (writing d) c ≡ false
-plain-byte d c h low high = grind (arith, nat_tests)
+plain_byte : (d c : ℕ) → is_delimiter d ≡ true → 45 ≤ c → c < 58 → needs_byte (writing d) c ≡ false
+plain_byte d c h low high = grind (arith, nat_tests)
 
-pub plain-decimal : (d : ℕ) → is_delimiter d ≡ true → (n : ℕ) → n < 2 ^ 64
+pub plain_decimal : (d : ℕ) → is_delimiter d ≡ true → (n : ℕ) → n < 2 ^ 64
     → needs_quotes (writing d) (decimal n) ≡ false
-plain-decimal d h =
+plain_decimal d h =
     decimal_by_steps (λ n ds. needs_quotes (writing d) ds ≡ false)
-    (λ n lt. rw (plain-byte d (48 + n) h (omega arith) (omega arith)) refl)
+    (λ n lt. rw (plain_byte d (48 + n) h (omega arith) (omega arith)) refl)
     (λ n ds ge before. rw (
       list_any-append (needs_byte (writing d)) ds ((48 + n % 10) ∷ []),
       before,
-      plain-byte d (48 + n % 10) h (omega arith) (omega arith),
+      plain_byte d (48 + n % 10) h (omega arith) (omega arith),
     ) refl)
 
 -- a number of a day
-pub plain-day : (d : ℕ) → is_delimiter d ≡ true → (z : ℤ) → IsDayNumber z
+pub plain_day : (d : ℕ) → is_delimiter d ≡ true → (z : ℤ) → IsDayNumber z
     → needs_quotes (writing d) (signed_decimal z) ≡ false
-plain-day d h (pos n) r = plain-decimal d h n (omega (arith, ints, r.0, r.1))
-plain-day d h (negsuc n) r =
-    rw (plain-byte d 45 h (omega arith) (omega arith), plain-decimal d h (suc n) (omega (arith, ints, r.0, r.1))) refl
+plain_day d h (pos n) r = plain_decimal d h n (omega (arith, ints, r.0, r.1))
+plain_day d h (negsuc n) r =
+    rw (plain_byte d 45 h (omega arith) (omega arith), plain_decimal d h (suc n) (omega (arith, ints, r.0, r.1))) refl
 
 -- the bytes of cells need no quotes
-plain-cell-byte : (d c : ℕ) → is_delimiter d ≡ true → is_plain c ≡ true → needs_byte (writing d) c ≡ false
-plain-cell-byte d c h p = grind (arith, nat_tests)
+plain_cell_byte : (d c : ℕ) → is_delimiter d ≡ true → is_plain c ≡ true → needs_byte (writing d) c ≡ false
+plain_cell_byte d c h p = grind (arith, nat_tests)
 
-pub plain-bytes : (d : ℕ) → is_delimiter d ≡ true → (text : List ℕ) → list_all is_plain text ≡ true
+pub plain_bytes : (d : ℕ) → is_delimiter d ≡ true → (text : List ℕ) → list_all is_plain text ≡ true
     → needs_quotes (writing d) text ≡ false
-plain-bytes d h [] p = refl
-plain-bytes d h (c ∷ text) p =
+plain_bytes d h [] p = refl
+plain_bytes d h (c ∷ text) p =
     let both = and_parts (is_plain c) (list_all is_plain text) p in
-    rw (plain-cell-byte d c h both.0, plain-bytes d h text both.1) refl
+    rw (plain_cell_byte d c h both.0, plain_bytes d h text both.1) refl
 
 -- the name of the weekday of a day
 pub weekday-name : (w : Weekday) (n : ℤ) → slice_get all_weekdays (weekday_number n) ≡ Some w
@@ -149,26 +149,26 @@ pub weekday-name : (w : Weekday) (n : ℤ) → slice_get all_weekdays (weekday_n
 weekday-name w n e = rw e refl
 
 -- the columns of an entry: the first has its number, the others its texts
-pub first-number : (form : Form) (e : EntryColumn) → get_or (entry_columns form) 0 e ≡ Number
-first-number Plain e = refl
-first-number Sealed e = refl
+pub first_number : (form : Form) (e : EntryColumn) → get_or (entry_columns form) 0 e ≡ Number
+first_number Plain e = refl
+first_number Sealed e = refl
 
-pub plain-column : (d : ℕ) → is_delimiter d ≡ true → (n : ℕ) → n < 2 ^ 64 → (texts : Result Texts Refusal)
+pub plain_column : (d : ℕ) → is_delimiter d ≡ true → (n : ℕ) → n < 2 ^ 64 → (texts : Result Texts Refusal)
     → has_special texts ≡ false → (column : EntryColumn) → needs_quotes (writing d) (entry_field n texts column) ≡ false
-plain-column d h n lt texts bare Number = plain-decimal d h n lt
-plain-column d h n lt texts bare Id = (unquoted d h texts bare).0
-plain-column d h n lt texts bare Calendar = (unquoted d h texts bare).1
-plain-column d h n lt texts bare Date = (unquoted d h texts bare).2
-plain-column d h n lt texts bare Note = (unquoted d h texts bare).3
+plain_column d h n lt texts bare Number = plain_decimal d h n lt
+plain_column d h n lt texts bare Id = (unquoted d h texts bare).0
+plain_column d h n lt texts bare Calendar = (unquoted d h texts bare).1
+plain_column d h n lt texts bare Date = (unquoted d h texts bare).2
+plain_column d h n lt texts bare Note = (unquoted d h texts bare).3
 
-pub some-columns : {X : Type 0} (form : Form) (f : EntryColumn → X) → 1 ≤ length (map f (entry_columns form))
-some-columns Plain f = omega arith
-some-columns Sealed f = omega arith
+pub some_columns : {X : Type 0} (form : Form) (f : EntryColumn → X) → 1 ≤ length (map f (entry_columns form))
+some_columns Plain f = omega arith
+some_columns Sealed f = omega arith
 
 -- equal fields
-pub same-body : (d : ℕ) (before : List ℕ) (fields wanted : List (List ℕ)) (bytes : List ℕ) → fields ≡ wanted
+pub same_body : (d : ℕ) (before : List ℕ) (fields wanted : List (List ℕ)) (bytes : List ℕ) → fields ≡ wanted
     → bytes ≡ before ++ body d fields → bytes ≡ before ++ body d wanted
-same-body d before fields wanted bytes e h = h ∙ ap (λ (fields : List (List ℕ)). before ++ body d fields) e
+same_body d before fields wanted bytes e h = h ∙ ap (λ (fields : List (List ℕ)). before ++ body d fields) e
 
 pub same-line : (d e : ℕ) (before : List ℕ) (fields wanted : List (List ℕ)) (bytes : List ℕ) → d ≡ e
     → fields ≡ wanted → bytes ≡ before ++ line_text d fields → bytes ≡ before ++ line_text e wanted
@@ -178,23 +178,23 @@ same-line d e before fields wanted bytes p q h = rw (← p, ← q) h
 pub behind : (a b c e : List (List ℕ)) → ((a ++ b) ++ c) ++ e ≡ a ++ (b ++ (c ++ e))
 behind a b c e = simp append_assoc refl
 
-pub two-fields : (fields : List (List ℕ)) (last : List ℕ) → 1 ≤ length fields → 2 ≤ length (fields ++ last ∷ [])
-two-fields fields last some = rw (length-append fields (last ∷ [])) (omega arith)
+pub two_fields : (fields : List (List ℕ)) (last : List ℕ) → 1 ≤ length fields → 2 ≤ length (fields ++ last ∷ [])
+two_fields fields last some = rw (length-append fields (last ∷ [])) (omega arith)
 
-pub some-fields : (fields more : List (List ℕ)) → 1 ≤ length fields → 1 ≤ length (fields ++ more)
-some-fields fields more some = rw (length-append fields more) (omega arith)
+pub some_fields : (fields more : List (List ℕ)) → 1 ≤ length fields → 1 ≤ length (fields ++ more)
+some_fields fields more some = rw (length-append fields more) (omega arith)
 
-pub two-of : (fields rest : List (List ℕ)) (a b : List ℕ) → 2 ≤ length (fields ++ (a ∷ b ∷ rest))
-two-of fields rest a b = rw (length-append fields (a ∷ b ∷ rest)) (omega arith)
+pub two_of : (fields rest : List (List ℕ)) (a b : List ℕ) → 2 ≤ length (fields ++ (a ∷ b ∷ rest))
+two_of fields rest a b = rw (length-append fields (a ∷ b ∷ rest)) (omega arith)
 
 -- the names of the columns of an answer
-name-columns : (place : ℕ) (ts : List Target)
+name_columns : (place : ℕ) (ts : List Target)
     → map answer_name (cell_columns place ts ++ refusal ∷ []) ≡ map target_name ts ++ codes "refusal" ∷ []
-name-columns place [] = refl
-name-columns place (t ∷ ts) = ap (λ (names : List (List ℕ)). target_name t ∷ names) (name-columns (place + 1) ts)
+name_columns place [] = refl
+name_columns place (t ∷ ts) = ap (λ (names : List (List ℕ)). target_name t ∷ names) (name_columns (place + 1) ts)
 
-pub answer-names : (ts : List Target)
+pub answer_names : (ts : List Target)
     → map answer_name (answer_columns ts)
     ≡ map (λ column. answer_name (of_day column)) day_columns ++ (map target_name ts ++ codes "refusal" ∷ [])
-answer-names ts =
-    ap (λ (names : List (List ℕ)). map (λ column. answer_name (of_day column)) day_columns ++ names) (name-columns 0 ts)
+answer_names ts =
+    ap (λ (names : List (List ℕ)). map (λ column. answer_name (of_day column)) day_columns ++ names) (name_columns 0 ts)

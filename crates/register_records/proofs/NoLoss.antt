@@ -14,27 +14,27 @@ abbrev IsOne : Fields → List Fields → Type 0
 IsOne r [] = ⊥
 IsOne r (x ∷ rest) = (r ≡ x) ⊎ IsOne r rest
 
-one-of-two : (r : Fields) (xs ys : List Fields) → IsOne r (xs ++ ys) → IsOne r xs ⊎ IsOne r ys
-one-of-two r [] ys h = inr h
-one-of-two r (x ∷ xs) ys (inl e) = inl (inl e)
-one-of-two r (x ∷ xs) ys (inr h) = elim (one-of-two r xs ys h) [ inl a ↦ inl (inr a) | inr b ↦ inr b ]
+one_of_two : (r : Fields) (xs ys : List Fields) → IsOne r (xs ++ ys) → IsOne r xs ⊎ IsOne r ys
+one_of_two r [] ys h = inr h
+one_of_two r (x ∷ xs) ys (inl e) = inl (inl e)
+one_of_two r (x ∷ xs) ys (inr h) = elim (one_of_two r xs ys h) [ inl a ↦ inl (inr a) | inr b ↦ inr b ]
 
-last-is-one : (r : Fields) (xs : List Fields) → IsOne r (xs ++ r ∷ [])
-last-is-one r [] = inl refl
-last-is-one r (x ∷ xs) = inr (last-is-one r xs)
+last_is_one : (r : Fields) (xs : List Fields) → IsOne r (xs ++ r ∷ [])
+last_is_one r [] = inl refl
+last_is_one r (x ∷ xs) = inr (last_is_one r xs)
 
 -- what is left was there
-was-one : (records left : List Fields) (r : Fields) → AreLeftOf records left → IsOne r left → IsOne r records
-was-one records left r none h = absurd h
-was-one records left r (kept a) (inl e) = inl e
-was-one records left r (kept a) (inr h) = inr (was-one _ _ r a h)
-was-one records left r (taken a) h = inr (was-one _ _ r a h)
+was_one : (records left : List Fields) (r : Fields) → AreLeftOf records left → IsOne r left → IsOne r records
+was_one records left r none h = absurd h
+was_one records left r (kept a) (inl e) = inl e
+was_one records left r (kept a) (inr h) = inr (was_one _ _ r a h)
+was_one records left r (taken a) h = inr (was_one _ _ r a h)
 
 -- no seal stands before the first one, and no header is a seal
-before-no-seal : (rs : List Fields) (r : Fields) → IsOne r (before_seal rs) → is_seal r ≡ false
+before_no_seal : (rs : List Fields) (r : Fields) → IsOne r (before_seal rs) → is_seal r ≡ false
 unfolding before_seal
-before-no-seal [] r h = absurd h
-before-no-seal (x ∷ rs) r h = by (is_seal x) refl (before-no-seal rs r) h
+before_no_seal [] r h = absurd h
+before_no_seal (x ∷ rs) r h = by (is_seal x) refl (before_no_seal rs r) h
   where
     by : (b : Bool) → is_seal x ≡ b → (IsOne r (before_seal rs) → is_seal r ≡ false)
         → IsOne r (if b then [] else x ∷ before_seal rs) → is_seal r ≡ false
@@ -42,43 +42,43 @@ before-no-seal (x ∷ rs) r h = by (is_seal x) refl (before-no-seal rs r) h
     by false e later (inl same) = rw same e
     by false e later (inr more) = later more
 
-header-no-seal : (fs : Fields) → IsHeader Sealed fs → is_seal fs ≡ false
-header-no-seal [] h = refl
-header-no-seal (a ∷ []) h = refl
-header-no-seal (a ∷ b ∷ []) h = absurd h
-header-no-seal (a ∷ b ∷ c ∷ rest) h = refl
+header_no_seal : (fs : Fields) → IsHeader Sealed fs → is_seal fs ≡ false
+header_no_seal [] h = refl
+header_no_seal (a ∷ []) h = refl
+header_no_seal (a ∷ b ∷ []) h = absurd h
+header_no_seal (a ∷ b ∷ c ∷ rest) h = refl
 
-one-number : (seal : Fields) (n m : ℕ) → Agrees seal n → Agrees seal m → n ≡ m
-one-number [] n m a b = absurd a
-one-number (x ∷ []) n m a b = absurd a
-one-number (x ∷ y ∷ []) n m a b = a.value ∙ sym b.value
-one-number (x ∷ y ∷ z ∷ rest) n m a b = absurd a
+one_number : (seal : Fields) (n m : ℕ) → Agrees seal n → Agrees seal m → n ≡ m
+one_number [] n m a b = absurd a
+one_number (x ∷ []) n m a b = absurd a
+one_number (x ∷ y ∷ []) n m a b = a.value ∙ sym b.value
+one_number (x ∷ y ∷ z ∷ rest) n m a b = absurd a
 
 -- of these records only the last is a seal
-only-seal : (header : Fields) (after : List Fields) (seal r : Fields) → IsHeader Sealed header → is_seal r ≡ true
+only_seal : (header : Fields) (after : List Fields) (seal r : Fields) → IsHeader Sealed header → is_seal r ≡ true
     → IsOne r (header ∷ (before_seal after ++ seal ∷ [])) → r ≡ seal
-only-seal header after seal r ok is (inl e) =
-    let other = header-no-seal header ok in absurd (let clash : true ≡ false = sym is ∙ (ap is_seal e ∙ other) in cc)
-only-seal header after seal r ok is (inr h) =
-    elim (one-of-two r (before_seal after) (seal ∷ []) h) [
-      | inl before ↦ absurd (let clash : true ≡ false = sym is ∙ before-no-seal after r before in cc)
+only_seal header after seal r ok is (inl e) =
+    let other = header_no_seal header ok in absurd (let clash : true ≡ false = sym is ∙ (ap is_seal e ∙ other) in cc)
+only_seal header after seal r ok is (inr h) =
+    elim (one_of_two r (before_seal after) (seal ∷ []) h) [
+      | inl before ↦ absurd (let clash : true ≡ false = sym is ∙ before_no_seal after r before in cc)
       | inr (inl e) ↦ e
       | inr (inr other) ↦ absurd other
     ]
 
-pub no-loss : NoLossIsSealed
-no-loss records left (after, (header, first, ok), (few, (seal, ends, is, agrees))) are_left shorter
+pub no_loss : NoLossIsSealed
+no_loss records left (after, (header, first, ok), (few, (seal, ends, is, agrees))) are_left shorter
     (after2, (header2, first2, ok2), (few2, (seal2, ends2, is2, agrees2))) =
     let all : records ≡ header ∷ (before_seal after ++ seal ∷ []) =
     first ∙ ap (λ (rs : List Fields). header ∷ rs) ends in
     let all2 : left ≡ header2 ∷ (before_seal after2 ++ seal2 ∷ []) =
     first2 ∙ ap (λ (rs : List Fields). header2 ∷ rs) ends2 in
-    let there : IsOne seal2 left = rw all2 (inr (last-is-one seal2 (before_seal after2))) in
+    let there : IsOne seal2 left = rw all2 (inr (last_is_one seal2 (before_seal after2))) in
     let was : IsOne seal2 (header ∷ (before_seal after ++ seal ∷ [])) =
-    rw all at (was-one records left seal2 are_left there) in
-    let same : seal2 ≡ seal = only-seal header after seal seal2 ok is2 was in
+    rw all at (was_one records left seal2 are_left there) in
+    let same : seal2 ≡ seal = only_seal header after seal seal2 ok is2 was in
     let count : length (before_seal after) ≡ length (before_seal after2) =
-    one-number seal _ _ agrees (rw same at agrees2) in
+    one_number seal _ _ agrees (rw same at agrees2) in
     let long : length records ≡ length (before_seal after) + 2 =
     ap length all ∙ rw (length-append (before_seal after) (seal ∷ [])) (omega arith) in
     let long2 : length left ≡ length (before_seal after2) + 2 =

@@ -41,31 +41,31 @@ module _ (one-calendar : OneCalendar) (one_date_text : OneDateText) (one_cell : 
   after-refused b p r (accepted {t = u} c d says is within) e = cc
 
   module _ (t : Texts) where
-    after-unknown : (b : Result Texts Refusal) (p : Result ℤ Refusal) → IsOutcome b p → b ≡ Ok t
+    after_unknown : (b : Result Texts Refusal) (p : Result ℤ Refusal) → IsOutcome b p → b ≡ Ok t
         → ((c : Calendar) → ¬ (IsNamed t.calendar (calendar_name c))) → Err refusal.UnknownCalendar ≡ p
-    after-unknown b p (refused {r = r}) e absent = cc
-    after-unknown b p (unknown_calendar {t = u} none) e absent = refl
-    after-unknown b p (no_date_text {t = u} c named none) e absent =
+    after_unknown b p (refused {r = r}) e absent = cc
+    after_unknown b p (unknown_calendar {t = u} none) e absent = refl
+    after_unknown b p (no_date_text {t = u} c named none) e absent =
         let same : u ≡ t = cc in absurd (absent c (rw same at named))
-    after-unknown b p (no_such_date {t = u} c d says none) e absent =
+    after_unknown b p (no_such_date {t = u} c d says none) e absent =
         let same : u ≡ t = cc in absurd (absent c (rw same at says).named)
-    after-unknown b p (out_of_range {t = u} c d says is out) e absent =
+    after_unknown b p (out_of_range {t = u} c d says is out) e absent =
         let same : u ≡ t = cc in absurd (absent c (rw same at says).named)
-    after-unknown b p (accepted {t = u} c d says is within) e absent =
+    after_unknown b p (accepted {t = u} c d says is within) e absent =
         let same : u ≡ t = cc in absurd (absent c (rw same at says).named)
 
-    after-no-text : (b : Result Texts Refusal) (p : Result ℤ Refusal) → IsOutcome b p → b ≡ Ok t → (a : Calendar)
+    after_no_text : (b : Result Texts Refusal) (p : Result ℤ Refusal) → IsOutcome b p → b ≡ Ok t → (a : Calendar)
         → IsNamed t.calendar (calendar_name a)
         → ((f : Date) → ¬ (IsDateText a t.date f)) → Err refusal.DateText ≡ p
-    after-no-text b p (refused {r = r}) e a n absent = cc
-    after-no-text b p (unknown_calendar {t = u} none) e a n absent =
+    after_no_text b p (refused {r = r}) e a n absent = cc
+    after_no_text b p (unknown_calendar {t = u} none) e a n absent =
         let same : t ≡ u = cc in absurd (none a (rw same at n))
-    after-no-text b p (no_date_text {t = u} c named none) e a n absent = refl
-    after-no-text b p (no_such_date {t = u} c d says none) e a n absent =
+    after_no_text b p (no_date_text {t = u} c named none) e a n absent = refl
+    after_no_text b p (no_such_date {t = u} c d says none) e a n absent =
         let same : u ≡ t = cc in absurd (text-clash _ _ a c d n absent (rw same at says))
-    after-no-text b p (out_of_range {t = u} c d says is out) e a n absent =
+    after_no_text b p (out_of_range {t = u} c d says is out) e a n absent =
         let same : u ≡ t = cc in absurd (text-clash _ _ a c d n absent (rw same at says))
-    after-no-text b p (accepted {t = u} c d says is within) e a n absent =
+    after_no_text b p (accepted {t = u} c d says is within) e a n absent =
         let same : u ≡ t = cc in absurd (text-clash _ _ a c d n absent (rw same at says))
 
     -- what a date says of the outcome
@@ -75,21 +75,21 @@ module _ (one-calendar : OneCalendar) (one_date_text : OneDateText) (one_cell : 
         × (IsDateOfCalendar f → ¬ (IsDayNumber (day_number_of_date f)) → o ≡ Err refusal.OutOfRange)
         × (IsDateOfCalendar f → IsDayNumber (day_number_of_date f) → o ≡ Ok (day_number_of_date f))
 
-    of-date : (b : Result Texts Refusal) (p : Result ℤ Refusal) → IsOutcome b p → b ≡ Ok t → (a : Calendar) (f : Date)
+    of_date : (b : Result Texts Refusal) (p : Result ℤ Refusal) → IsOutcome b p → b ≡ Ok t → (a : Calendar) (f : Date)
         → Says t.calendar t.date a f → DateOutcome f p
-    of-date b p (refused {r = r}) e a f s = cc
-    of-date b p (unknown_calendar {t = u} none) e a f s = let same : t ≡ u = cc in absurd (none a (rw same at s).named)
-    of-date b p (no_date_text {t = u} c named none) e a f s =
+    of_date b p (refused {r = r}) e a f s = cc
+    of_date b p (unknown_calendar {t = u} none) e a f s = let same : t ≡ u = cc in absurd (none a (rw same at s).named)
+    of_date b p (no_date_text {t = u} c named none) e a f s =
         let same : t ≡ u = cc in absurd (text-clash _ _ c a f named none (rw same at s))
-    of-date b p (no_such_date {t = u} c d says none) e a f s =
+    of_date b p (no_such_date {t = u} c d says none) e a f s =
         let same : u ≡ t = cc in
         let date = one-date _ _ c a d f (rw same at says) s in
         (λ x. refl, λ x y. absurd ((rw date at none) x), λ x y. absurd ((rw date at none) x))
-    of-date b p (out_of_range {t = u} c d says is out) e a f s =
+    of_date b p (out_of_range {t = u} c d says is out) e a f s =
         let same : u ≡ t = cc in
         let date = one-date _ _ c a d f (rw same at says) s in
         (λ x. absurd (x (rw date at is)), λ x y. refl, λ x y. absurd ((rw date at out) y))
-    of-date b p (accepted {t = u} c d says is within) e a f s =
+    of_date b p (accepted {t = u} c d says is within) e a f s =
         let same : u ≡ t = cc in
         let date = one-date _ _ c a d f (rw same at says) s in
         (λ x. absurd (x (rw date at is)), λ x y. absurd (y (rw date at within)), λ x y. rw date refl)
@@ -97,11 +97,11 @@ module _ (one-calendar : OneCalendar) (one_date_text : OneDateText) (one_cell : 
   -- a body has one outcome at most
   one-outcome : (b : Result Texts Refusal) (o p : Result ℤ Refusal) → IsOutcome b o → IsOutcome b p → o ≡ p
   one-outcome b o p (refused {r = r}) k = after-refused b p r k refl
-  one-outcome b o p (unknown_calendar {t = t} none) k = after-unknown t b p k refl none
-  one-outcome b o p (no_date_text {t = t} c named none) k = after-no-text t b p k refl c named none
-  one-outcome b o p (no_such_date {t = t} c d says none) k = sym ((of-date t b p k refl c d says).0 none)
-  one-outcome b o p (out_of_range {t = t} c d says is out) k = sym ((of-date t b p k refl c d says).1 is out)
-  one-outcome b o p (accepted {t = t} c d says is within) k = sym ((of-date t b p k refl c d says).2 is within)
+  one-outcome b o p (unknown_calendar {t = t} none) k = after_unknown t b p k refl none
+  one-outcome b o p (no_date_text {t = t} c named none) k = after_no_text t b p k refl c named none
+  one-outcome b o p (no_such_date {t = t} c d says none) k = sym ((of_date t b p k refl c d says).0 none)
+  one-outcome b o p (out_of_range {t = t} c d says is out) k = sym ((of_date t b p k refl c d says).1 is out)
+  one-outcome b o p (accepted {t = t} c d says is within) k = sym ((of_date t b p k refl c d says).2 is within)
 
   one-cells-on : (n : ℤ) (targets : List Target) (xs ys : List (List ℕ)) → AreCells targets (Ok n) xs
       → AreCells targets (Ok n) ys → xs ≡ ys
@@ -115,10 +115,10 @@ module _ (one-calendar : OneCalendar) (one_date_text : OneDateText) (one_cell : 
       let rest = one-cells-on n targets xs ys a.1 b.1 in
       cc
 
-  one-cells : (targets : List Target) (o : Result ℤ Refusal) (xs ys : List (List ℕ)) → AreCells targets o xs
+  one_cells : (targets : List Target) (o : Result ℤ Refusal) (xs ys : List (List ℕ)) → AreCells targets o xs
       → AreCells targets o ys → xs ≡ ys
-  one-cells targets (Ok n) xs ys a b = one-cells-on n targets xs ys a b
-  one-cells targets (Err r) xs ys a b = a ∙ sym b
+  one_cells targets (Ok n) xs ys a b = one-cells-on n targets xs ys a b
+  one_cells targets (Err r) xs ys a b = a ∙ sym b
 
   made-row : (n m : ℕ) (b c : Result Texts Refusal) (o p : Result ℤ Refusal) (xs ys : List (List ℕ)) → n ≡ m → b ≡ c
       → o ≡ p → xs ≡ ys
@@ -131,7 +131,7 @@ module _ (one-calendar : OneCalendar) (one_date_text : OneDateText) (one_cell : 
   one-row targets entry r s a b =
       let same = one-outcome entry.body r.outcome s.outcome a.outcome b.outcome in
       made-row _ _ _ _ _ _ _ _ (a.number ∙ sym b.number) (a.body ∙ sym b.body) same
-      (one-cells targets s.outcome r.cells s.cells (rw same at a.cells) b.cells)
+      (one_cells targets s.outcome r.cells s.cells (rw same at a.cells) b.cells)
 
   one-rows : (targets : List Target) (entries : List Numbered) (rows more : List TableRow)
       → AreRowsOf targets entries rows → AreRowsOf targets entries more → rows ≡ more
@@ -145,14 +145,14 @@ module _ (one-calendar : OneCalendar) (one_date_text : OneDateText) (one_cell : 
       let rest = one-rows targets entries rows more a.1 b.1 in
       cc
 
-  one-list : (format : Format) (text : List ℕ) (entries others : List Numbered) → HasEntries format text entries
+  one_list : (format : Format) (text : List ℕ) (entries others : List Numbered) → HasEntries format text entries
       → HasEntries format text others → entries ≡ others
-  one-list format text entries others (records, (header, is, ok), all, made)
+  one_list format text entries others (records, (header, is, ok), all, made)
       (records2, (header2, is2, ok2), all2, made2) =
       let same : records ≡ records2 = cc in
       made ∙ (ap (entries_of format.form) same ∙ sym made2)
 
   pub one-table : OneTable
   one-table layout text entries others rows more h k a b =
-      let same = one-list layout.format text entries others h k in
+      let same = one_list layout.format text entries others h k in
       (same, one-rows layout.targets others rows more (rw same at a) b)

@@ -22,14 +22,14 @@ use Rattle.date_texts.specs.declared.refusal.Refusal.{Refusal}
 use Rattle.date_texts.specs.declared.refusal.Refusal.TheVariants as refusal
 
 -- a name that was not found names no calendar
-pub no-calendar : (name : List ℕ) (found : Option Calendar) → found ≡ None
+pub no_calendar : (name : List ℕ) (found : Option Calendar) → found ≡ None
     → ((calendar : Calendar) → (found ≡ Some calendar) ↔ IsNamed name (calendar_name calendar))
     → (calendar : Calendar) → ¬ (IsNamed name (calendar_name calendar))
-no-calendar name found e h calendar named = let some = (h calendar).1 named in cc
+no_calendar name found e h calendar named = let some = (h calendar).1 named in cc
 
 -- of a date, one of the three holds: it is none, or its day is in the range, or it is not
-one-of-three : {A B : Type 0} → ¬ (A × B) → ¬ (¬ A) → ¬ (A × ¬ B) → ⊥
-one-of-three both some out = some (λ a. out (a, λ b. both (a, b)))
+one_of_three : {A B : Type 0} → ¬ (A × B) → ¬ (¬ A) → ¬ (A × ¬ B) → ⊥
+one_of_three both some out = some (λ a. out (a, λ b. both (a, b)))
 
 module _ (t : Texts) (c : Calendar) (d : Date) where
   -- what the day of a date says
@@ -42,7 +42,7 @@ module _ (t : Texts) (c : Calendar) (d : Date) where
 
   other-refusal : (r : Refusal) → ¬ (r ≡ refusal.NoSuchDate) → ¬ (r ≡ refusal.OutOfRange) → SaysDay (Err r) → ⊥
   other-refusal r n o h =
-      one-of-three (λ both. not-ok r (h.0.1 both)) (λ none. n (same r _ (h.2.1 none))) (λ out. o (same r _ (h.3.1 out)))
+      one_of_three (λ both. not-ok r (h.0.1 both)) (λ none. n (same r _ (h.2.1 none))) (λ out. o (same r _ (h.3.1 out)))
     where
       not-ok : (r : Refusal) → IsOk {T = Day} {E = Refusal} (Err r) → ⊥
       not-ok r e = cc
@@ -61,17 +61,17 @@ module _ (t : Texts) (c : Calendar) (d : Date) where
   day-outcome s (Err refusal.UnknownCalendar) h = absurd (other-refusal refusal.UnknownCalendar (λ e. cc) (λ e. cc) h)
   day-outcome s (Err refusal.DateText) h = absurd (other-refusal refusal.DateText (λ e. cc) (λ e. cc) h)
 
-cells-last : (n : ℤ) (ts : List Target) (texts : List (List ℕ)) (t : Target) (text : List ℕ) → AreCells ts (Ok n) texts
+cells_last : (n : ℤ) (ts : List Target) (texts : List (List ℕ)) (t : Target) (text : List ℕ) → AreCells ts (Ok n) texts
     → IsCell t n text → AreCells (ts ++ t ∷ []) (Ok n) (texts ++ text ∷ [])
-cells-last n [] [] t text a h = (h, tt)
-cells-last n [] (x ∷ texts) t text a h = absurd a
-cells-last n (s ∷ ts) [] t text a h = absurd a
-cells-last n (s ∷ ts) (x ∷ texts) t text a h = (a.0, cells-last n ts texts t text a.1 h)
+cells_last n [] [] t text a h = (h, tt)
+cells_last n [] (x ∷ texts) t text a h = absurd a
+cells_last n (s ∷ ts) [] t text a h = absurd a
+cells_last n (s ∷ ts) (x ∷ texts) t text a h = (a.0, cells_last n ts texts t text a.1 h)
 
 -- one more cell
-pub cells-more : (n : ℤ) (ts : List Target) (i : ℕ) (d : Target) (made made2 : List CellText) (cell : CellText)
+pub cells_more : (n : ℤ) (ts : List Target) (i : ℕ) (d : Target) (made made2 : List CellText) (cell : CellText)
     → i < length ts → AreCells (take i ts) (Ok n) (map cell_bytes made) → IsCell (get_or ts i d) n (cell_bytes cell)
     → made2 ≡ made ++ cell ∷ [] → AreCells (take (i + 1) ts) (Ok n) (map cell_bytes made2)
-cells-more n ts i d made made2 cell lt h is e =
+cells_more n ts i d made made2 cell lt h is e =
     rw (e, map-append cell_bytes made (cell ∷ []), take_more ts i d lt)
-    (cells-last n (take i ts) (map cell_bytes made) (get_or ts i d) (cell_bytes cell) h is)
+    (cells_last n (take i ts) (map cell_bytes made) (get_or ts i d) (cell_bytes cell) h is)

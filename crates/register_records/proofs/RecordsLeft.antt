@@ -11,21 +11,21 @@ use Rattle.register_records.specs.Entries.{Fields}
 use Rattle.register_records.specs.ReadingState.{all_after}
 
 -- one of two ways to a record
-either-way : (b : Bool) (first : Read) (more : Option Read) (p : Read) (n : ℕ)
+either_way : (b : Bool) (first : Read) (more : Option Read) (p : Read) (n : ℕ)
     → (if b then Some first else more) ≡ Some p → length first.2 ≤ n
     → ((q : Read) → more ≡ Some q → length q.2 ≤ n) → length p.2 ≤ n
-either-way true first more p n e h g = let same : first ≡ p = cc in rw (← same) h
-either-way false first more p n e h g = g p e
+either_way true first more p n e h g = let same : first ≡ p = cc in rw (← same) h
+either_way false first more p n e h g = g p e
 
 -- a record leaves no more than there was, and takes a byte where there is one
 leaves : (cfg : Config) (xs : List ℕ) (s : State) (fs : Fields) (f : List ℕ) (p : Read)
     → next_record cfg s fs f xs ≡ Some p → length p.2 ≤ length xs
 unfolding next_record
 leaves cfg [] s fs f p e =
-    either-way (ends_at_end s) (fs ++ (f ∷ []), st.StartRecord, []) None p 0 e (omega arith) (λ q x. cc)
+    either_way (ends_at_end s) (fs ++ (f ∷ []), st.StartRecord, []) None p 0 e (omega arith) (λ q x. cc)
 leaves cfg (c ∷ rest) s fs f p e =
     let h =
-    either-way (is_end (step cfg s c).1) (fields_after (step cfg s c).1 fs f, (step cfg s c).0, rest)
+    either_way (is_end (step cfg s c).1) (fields_after (step cfg s c).1 fs f, (step cfg s c).0, rest)
     (next_record cfg (step cfg s c).0 (fields_after (step cfg s c).1 fs f) (field_after (step cfg s c).1 c f) rest) p
     (length rest) e (omega arith)
     (λ q x. leaves cfg rest (step cfg s c).0 (fields_after (step cfg s c).1 fs f)
@@ -36,34 +36,34 @@ takes : (cfg : Config) (c : ℕ) (rest : List ℕ) (s : State) (fs : Fields) (f 
     → next_record cfg s fs f (c ∷ rest) ≡ Some p → length p.2 ≤ length rest
 unfolding next_record
 takes cfg c rest s fs f p e =
-    either-way (is_end (step cfg s c).1) (fields_after (step cfg s c).1 fs f, (step cfg s c).0, rest)
+    either_way (is_end (step cfg s c).1) (fields_after (step cfg s c).1 fs f, (step cfg s c).0, rest)
     (next_record cfg (step cfg s c).0 (fields_after (step cfg s c).1 fs f) (field_after (step cfg s c).1 c f) rest) p
     (length rest) e (omega arith)
     (λ q x. leaves cfg rest (step cfg s c).0 (fields_after (step cfg s c).1 fs f)
     (field_after (step cfg s c).1 c f) q x)
 
 -- nothing is left of no text
-none-left : (cfg : Config) (n : ℕ) → records_from cfg n st.StartRecord [] ≡ []
+none_left : (cfg : Config) (n : ℕ) → records_from cfg n st.StartRecord [] ≡ []
 unfolding records_from next_record
-none-left cfg zero = refl
-none-left cfg (suc n) = refl
+none_left cfg zero = refl
+none_left cfg (suc n) = refl
 
 -- at the end of a text there is one record at most, and then none
-end-state : (b : Bool) (first : Fields) (p : Read) → (if b then Some (first, st.StartRecord, []) else None) ≡ Some p
+end_state : (b : Bool) (first : Fields) (p : Read) → (if b then Some (first, st.StartRecord, []) else None) ≡ Some p
     → (p.1 ≡ st.StartRecord) × (p.2 ≡ [])
-end-state true first p e = let same : (first, st.StartRecord, []) ≡ p = cc in rw (← same) (refl, refl)
-end-state false first p e = cc
+end_state true first p e = let same : (first, st.StartRecord, []) ≡ p = cc in rw (← same) (refl, refl)
+end_state false first p e = cc
 
-after-end : (cfg : Config) (s : State) (p : Read) (n : ℕ) → next_record cfg s [] [] [] ≡ Some p
+after_end : (cfg : Config) (s : State) (p : Read) (n : ℕ) → next_record cfg s [] [] [] ≡ Some p
     → records_from cfg n p.1 p.2 ≡ []
 unfolding next_record
-after-end cfg s p n e = let h = end-state (ends_at_end s) ([] ∷ []) p e in rw (h.0, h.1) (none-left cfg n)
+after_end cfg s p n e = let h = end_state (ends_at_end s) ([] ∷ []) p e in rw (h.0, h.1) (none_left cfg n)
 
 -- what two counts of turns do alike
-next-alike : (more other : State → List ℕ → List Fields) (o : Option Read)
+next_alike : (more other : State → List ℕ → List Fields) (o : Option Read)
     → ((p : Read) → o ≡ Some p → more p.1 p.2 ≡ other p.1 p.2) → records_next more o ≡ records_next other o
-next-alike more other None h = refl
-next-alike more other (Some p) h = ap (λ (t : List Fields). p.0 ∷ t) (h p refl)
+next_alike more other None h = refl
+next_alike more other (Some p) h = ap (λ (t : List Fields). p.0 ∷ t) (h p refl)
 
 -- turns enough are turns enough
 stable : (cfg : Config) (n m : ℕ) (s : State) (xs : List ℕ) → length xs < n → length xs < m
@@ -72,31 +72,31 @@ unfolding records_from
 stable cfg zero m s xs a b = absurd (omega arith)
 stable cfg (suc n) zero s xs a b = absurd (omega arith)
 stable cfg (suc n) (suc m) s [] a b =
-    next-alike (records_from cfg n) (records_from cfg m) (next_record cfg s [] [] []) (λ p e. after-end cfg s p n e
-    ∙ sym (after-end cfg s p m e))
+    next_alike (records_from cfg n) (records_from cfg m) (next_record cfg s [] [] []) (λ p e. after_end cfg s p n e
+    ∙ sym (after_end cfg s p m e))
 stable cfg (suc n) (suc m) s (c ∷ rest) a b =
-    next-alike (records_from cfg n) (records_from cfg m) (next_record cfg s [] [] (c ∷ rest))
+    next_alike (records_from cfg n) (records_from cfg m) (next_record cfg s [] [] (c ∷ rest))
     (λ p e. let h = takes cfg c rest s [] [] p e in stable cfg n m p.1 p.2 (omega (arith, h)) (omega (arith, h)))
 
 -- the first turn
-first-turn : (cfg : Config) (s : State) (xs : List ℕ)
+first_turn : (cfg : Config) (s : State) (xs : List ℕ)
     → all_after cfg s xs ≡ records_next (records_from cfg (length xs)) (next_record cfg s [] [] xs)
 unfolding records_from
-first-turn cfg s xs = rw add-one refl
+first_turn cfg s xs = rw add-one refl
 
 -- the next record, and those after it
-pub all-more : (cfg : Config) (s : State) (xs : List ℕ) (p : Read) → next_record cfg s [] [] xs ≡ Some p
+pub all_more : (cfg : Config) (s : State) (xs : List ℕ) (p : Read) → next_record cfg s [] [] xs ≡ Some p
     → all_after cfg s xs ≡ p.0 ∷ all_after cfg p.1 p.2
-all-more cfg s [] p e =
-    first-turn cfg s []
+all_more cfg s [] p e =
+    first_turn cfg s []
     ∙ rw e (ap (λ (t : List Fields). p.0 ∷ t)
-    (after-end cfg s p 0 e ∙ sym (after-end cfg s p (length p.2 + 1) e)))
-all-more cfg s (c ∷ rest) p e =
+    (after_end cfg s p 0 e ∙ sym (after_end cfg s p (length p.2 + 1) e)))
+all_more cfg s (c ∷ rest) p e =
     let h = takes cfg c rest s [] [] p e in
-    first-turn cfg s (c ∷ rest)
+    first_turn cfg s (c ∷ rest)
     ∙ rw e (ap (λ (t : List Fields). p.0 ∷ t)
     (stable cfg (length (c ∷ rest)) (length p.2 + 1) p.1 p.2 (omega (arith, h)) (omega arith)))
 
 -- none
-pub all-none : (cfg : Config) (s : State) (xs : List ℕ) → next_record cfg s [] [] xs ≡ None → all_after cfg s xs ≡ []
-all-none cfg s xs e = first-turn cfg s xs ∙ rw e refl
+pub all_none : (cfg : Config) (s : State) (xs : List ℕ) → next_record cfg s [] [] xs ≡ None → all_after cfg s xs ≡ []
+all_none cfg s xs e = first_turn cfg s xs ∙ rw e refl

@@ -6,35 +6,35 @@ use Rattle.register_records.specs.Seals.{Agrees, is_seal}
 use Rattle.register_records.specs.ReadingState.{HasEntry, IsNoSeal, LacksSeal, Reads, TakesFirst}
 use Rattle.register_records.specs.declared.setups.Form.{Form}
 use Rattle.register_records.specs.declared.setups.Form.TheVariants.{Plain, Sealed}
-use Rattle.register_records.proofs.GivenFacts.{before-none, if-some, no-seal-first, seal-first}
+use Rattle.register_records.proofs.GivenFacts.{before_none, if_some, no_seal_first, seal_first}
 
 -- of a read that found a record, or none
 pub found : (left after : Option (List Fields)) (b : Bool) (f : Fields) → Reads left after b f → b ≡ true
     → TakesFirst left after f
 found left after b f h e = rw e at h
 
-pub found-none : (left after : Option (List Fields)) (b : Bool) (f : Fields) → Reads left after b f → b ≡ false
+pub found_none : (left after : Option (List Fields)) (b : Bool) (f : Fields) → Reads left after b f → b ≡ false
     → IfSome left (λ rows. rows ≡ [])
-found-none left after b f h e = rw e at h
+found_none left after b f h e = rw e at h
 
 -- a fault that was handed on
-pub told-on : {T E : Type 0} (r : Result T E) (e : E) (P : E → Type 0) → IsErrAnd r (λ x. x ≡ e) → P e → IfErr r P
-told-on (Ok x) e P h p = tt
-told-on (Err x) e P h p = rw h p
+pub told_on : {T E : Type 0} (r : Result T E) (e : E) (P : E → Type 0) → IsErrAnd r (λ x. x ≡ e) → P e → IfErr r P
+told_on (Ok x) e P h p = tt
+told_on (Err x) e P h p = rw h p
 
 -- what holds of a list whose first record was taken
-of-first : (left mid : Option (List Fields)) (f : Fields) (P : List Fields → Type 0) → TakesFirst left mid f
+of_first : (left mid : Option (List Fields)) (f : Fields) (P : List Fields → Type 0) → TakesFirst left mid f
     → ((rest : List Fields) → P (f ∷ rest)) → IfSome left P
-of-first None mid f P t h = tt
-of-first (Some rows) None f P t h = absurd t
-of-first (Some rows) (Some rest) f P t h = rw t (h rest)
+of_first None mid f P t h = tt
+of_first (Some rows) None f P t h = absurd t
+of_first (Some rows) (Some rest) f P t h = rw t (h rest)
 
-lacks-none : (count : ℕ) (rows : List Fields) → rows ≡ [] → LacksSeal Sealed count rows
-lacks-none count rows e = (rw e before-none, λ ends. let clash : ends.0 ∷ [] ≡ [] = sym ends.1 ∙ e in absurd (cc))
+lacks_none : (count : ℕ) (rows : List Fields) → rows ≡ [] → LacksSeal Sealed count rows
+lacks_none count rows e = (rw e before_none, λ ends. let clash : ends.0 ∷ [] ≡ [] = sym ends.1 ∙ e in absurd (cc))
 
-pub no-seal-left : (left : Option (List Fields)) (form : Form) (count : ℕ) → form ≡ Sealed
+pub no_seal_left : (left : Option (List Fields)) (form : Form) (count : ℕ) → form ≡ Sealed
     → IfSome left (λ rows. rows ≡ []) → IfSome left (LacksSeal form count)
-no-seal-left left form count e h = if-some left _ _ (λ rows none. rw e (lacks-none count rows none)) h
+no_seal_left left form count e h = if_some left _ _ (λ rows none. rw e (lacks_none count rows none)) h
 
 -- what holds of every list holds of the one that is left
 pub always : (left : Option (List Fields)) (P : List Fields → Type 0) → ((rows : List Fields) → P rows) → IfSome left P
@@ -42,19 +42,19 @@ always None P h = tt
 always (Some rows) P h = h rows
 
 -- a list whose first record was taken is not empty
-pub not-empty : (left after : Option (List Fields)) (f : Fields) (P : Type 0) → TakesFirst left after f
+pub not_empty : (left after : Option (List Fields)) (f : Fields) (P : Type 0) → TakesFirst left after f
     → IfSome left (λ rows. rows ≡ [] → P)
-not-empty left after f P t = of-first left after f (λ rows. rows ≡ [] → P) t (λ rest e. absurd (cc (e)))
+not_empty left after f P t = of_first left after f (λ rows. rows ≡ [] → P) t (λ rest e. absurd (cc (e)))
 
 -- a seal is left that does not agree, or stands before another record
-pub seal-lacks : (left mid : Option (List Fields)) (form : Form) (count : ℕ) (f : Fields) → form ≡ Sealed
+pub seal_lacks : (left mid : Option (List Fields)) (form : Form) (count : ℕ) (f : Fields) → form ≡ Sealed
     → TakesFirst left mid f → is_seal f ≡ true → IfSome mid (λ rows. rows ≡ [] → ¬ (Agrees f count))
     → IfSome left (LacksSeal form count)
-seal-lacks None mid form count f e t is last = tt
-seal-lacks (Some rows) None form count f e t is last = absurd t
-seal-lacks (Some rows) (Some rest) form count f e t is last =
+seal_lacks None mid form count f e t is last = tt
+seal_lacks (Some rows) None form count f e t is last = absurd t
+seal_lacks (Some rows) (Some rest) form count f e t is last =
     rw (e, t) (
-      seal-first f rest is,
+      seal_first f rest is,
       λ ends.
           let same : ends.0 ≡ f = cc (ends.1) in
           let none : rest ≡ [] = cc (ends.1) in
@@ -62,16 +62,16 @@ seal-lacks (Some rows) (Some rest) form count f e t is last =
     )
 
 -- an entry's record is left
-pub entry-left : (left mid : Option (List Fields)) (form : Form) (f : Fields) → TakesFirst left mid f → IsNoSeal form f
+pub entry_left : (left mid : Option (List Fields)) (form : Form) (f : Fields) → TakesFirst left mid f → IsNoSeal form f
     → IfSome left (HasEntry form)
-entry-left left mid form f t other =
-    of-first left mid f (HasEntry form) t (λ rest. rw (no-seal-first form f rest other) (omega arith))
+entry_left left mid form f t other =
+    of_first left mid f (HasEntry form) t (λ rest. rw (no_seal_first form f rest other) (omega arith))
 
 -- a record that is no seal, or whose form has none
-pub plain-no-seal : (form : Form) (f : Fields) → (form ≡ Sealed → ⊥) → IsNoSeal form f
-plain-no-seal Plain f h = tt
-plain-no-seal Sealed f h = absurd (h refl)
+pub plain_no_seal : (form : Form) (f : Fields) → (form ≡ Sealed → ⊥) → IsNoSeal form f
+plain_no_seal Plain f h = tt
+plain_no_seal Sealed f h = absurd (h refl)
 
-pub other-no-seal : (form : Form) (f : Fields) → is_seal f ≡ false → IsNoSeal form f
-other-no-seal Plain f h = tt
-other-no-seal Sealed f h = h
+pub other_no_seal : (form : Form) (f : Fields) → is_seal f ≡ false → IsNoSeal form f
+other_no_seal Plain f h = tt
+other_no_seal Sealed f h = h

@@ -32,19 +32,19 @@ placed Tzolkin = (omega arith, refl)
 below : (t : Target) → place_of t < 16
 below t = omega (arith, slice_get_within all_targets (place_of t - 1) t (placed t).1)
 
-one-place : (t u : Target) → place_of t ≡ place_of u → t ≡ u
-one-place t u e =
+one_place : (t u : Target) → place_of t ≡ place_of u → t ≡ u
+one_place t u e =
     some_inside (sym (placed t).1 ∙ ap (λ k. slice_get all_targets (k - 1)) e ∙ (placed u).1)
 
-pub one-list : (ts us : List Target) → number_of ts ≡ number_of us → ts ≡ us
-one-list [] [] e = refl
-one-list [] (u ∷ us) e = absurd (omega (arith, (placed u).0))
-one-list (t ∷ ts) [] e = absurd (omega (arith, (placed t).0))
-one-list (t ∷ ts) (u ∷ us) e =
+pub one_list : (ts us : List Target) → number_of ts ≡ number_of us → ts ≡ us
+one_list [] [] e = refl
+one_list [] (u ∷ us) e = absurd (omega (arith, (placed u).0))
+one_list (t ∷ ts) [] e = absurd (omega (arith, (placed t).0))
+one_list (t ∷ ts) (u ∷ us) e =
     let first : place_of t ≡ place_of u = omega (arith, below t, below u) in
     let rest : number_of ts ≡ number_of us = omega (arith, below t, below u) in
-    let head = one-place t u first in
-    let tail = one-list ts us rest in
+    let head = one_place t u first in
+    let tail = one_list ts us rest in
     cc
 
 small : (ts : List Target) → number_of ts < 16 ^ length ts

@@ -2,7 +2,7 @@
 use Rattle.std.proofs.Common.{◌≡◌, ℕ, zero, suc, ◌+◌, ◌-◌, ◌*◌, ◌/◌, ◌≤◌, ◌<◌, cond, arith, pos}
 use Rattle.std.proofs.lemmas.Bool.Decides.{nat_tests}
 use Rattle.day_numbers.specs.Rules.{days_of_years, total_days}
-use Rattle.day_numbers.proofs.RulesLemmas.{years-zero, years-suc}
+use Rattle.day_numbers.proofs.RulesLemmas.{years_zero, years_suc}
 use Rattle.solar_calendars.specs.ThirteenMonths.{thirteen_months}
 use Rattle.solar_calendars.specs.French.{is_french_leap}
 use Rattle.solar_calendars.proofs.ThirteenMonthsLemmas.{length_by, length_is}
@@ -14,9 +14,9 @@ leap_step n = grind (arith, nat_tests)
 
 pub french_sum : (n : ℕ) → days_of_years (λ y. total_days (thirteen_months (is_french_leap y))) n + n / 100 + n / 4_000
     ≡ 365 * n + n / 4 + n / 400
-french_sum zero = omega (arith, years-zero (length_by is_french_leap))
+french_sum zero = omega (arith, years_zero (length_by is_french_leap))
 french_sum (suc n) =
-    omega (arith, years-suc (length_by is_french_leap) n, length_is is_french_leap (suc n), leap_step n, french_sum n)
+    omega (arith, years_suc (length_by is_french_leap) n, length_is is_french_leap (suc n), leap_step n, french_sum n)
 
 -- the whole years that the days fill are this estimate or one less
 pub estimate : (days most : ℕ) → most ≡ 4_000 * (days + 2) / 1_460_969

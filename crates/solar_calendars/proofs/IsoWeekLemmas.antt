@@ -4,7 +4,7 @@ use Rattle.std.proofs.Common.{refl, sym, ap, ◌∙◌, arith, ℤ, pos, negsuc,
 use Rattle.day_numbers.specs.Days.{IsDayNumber}
 use Rattle.day_numbers.specs.Rules.{with_zero, year_start, year_length}
 use Rattle.day_numbers.specs.declared.ymd.Ymd.{Ymd}
-use Rattle.day_numbers.proofs.RulesLemmas.{next_year, start-next}
+use Rattle.day_numbers.proofs.RulesLemmas.{next_year, start_next}
 use Rattle.day_numbers.proofs.SignedArithmetic.{signed_arith}
 use Rattle.solar_calendars.specs.Gregorian.{gregorian_rules, is_gregorian_leap}
 use Rattle.solar_calendars.specs.IsoWeek.{monday_on_or_before, week_year_start, IsWeekDate, week_day_number}
@@ -18,7 +18,7 @@ next_is (negsuc (suc n)) = omega (arith, signed_arith)
 
 january : (y : ℤ) → year_start gregorian_rules (y +ℤ pos 1)
     ≡ year_start gregorian_rules y +ℤ pos (365 + cond (is_gregorian_leap y) 1 0)
-january y = rw (← next_is y, ← length_is y) (start-next with_zero _ _ y (any_year y))
+january y = rw (← next_is y, ← length_is y) (start_next with_zero _ _ y (any_year y))
 
 leap_small : (y : ℤ) → cond (is_gregorian_leap y) 1 0 ≤ 1
 leap_small y = grind arith

@@ -6,7 +6,7 @@ use Rattle.std.proofs.lemmas.Bool.{cases_eq, ne_eqb}
 use Rattle.std.proofs.lemmas.Bool.Decides.{nat_tests}
 use Rattle.day_numbers.specs.Rules.{without_zero, HasYear, numbered_from, days_before_month, days_of_month}
 use Rattle.day_numbers.specs.Rules.{total_days, year_start, year_length}
-use Rattle.day_numbers.proofs.RulesLemmas.{next_year, start-next}
+use Rattle.day_numbers.proofs.RulesLemmas.{next_year, start_next}
 use Rattle.day_numbers.proofs.SignedArithmetic.{signed_arith}
 use Rattle.solar_calendars.specs.Julian.{julian_rules, is_julian_leap}
 use Rattle.solar_calendars.specs.TwelveMonths.{twelve_months}
@@ -60,7 +60,7 @@ january y h =
     (year_length julian_rules (year_before y)) =
     subst (λ z. year_start julian_rules z ≡ year_start julian_rules (year_before y) +ℤ pos
     (year_length julian_rules (year_before y))) b.1
-    (start-next without_zero _ (year_length julian_rules) (year_before y) b.0) in
+    (start_next without_zero _ (year_length julian_rules) (year_before y) b.0) in
     omega (arith, signed_arith, start, year_length_is (is_julian_leap (year_before y)))
 
 -- the Ides, in bounds

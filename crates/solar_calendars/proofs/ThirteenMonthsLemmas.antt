@@ -2,7 +2,7 @@
 use Rattle.std.proofs.Common.{◌≡◌, ℕ, zero, suc, ◌+◌, ◌*◌, ◌/◌, Bool, cond, arith, ℤ, pos}
 use Rattle.std.proofs.lemmas.Bool.Decides.{nat_tests}
 use Rattle.day_numbers.specs.Rules.{days_of_years, total_days}
-use Rattle.day_numbers.proofs.RulesLemmas.{years-zero, years-suc}
+use Rattle.day_numbers.proofs.RulesLemmas.{years_zero, years_suc}
 use Rattle.solar_calendars.specs.ThirteenMonths.{thirteen_months, is_third_of_four, is_never}
 
 -- the days of a year, by whether it is a leap year
@@ -17,16 +17,16 @@ third_of_four_step n = grind (arith, nat_tests)
 
 pub third_of_four_sum : (n : ℕ)
     → days_of_years (λ y. total_days (thirteen_months (is_third_of_four y))) n ≡ 365 * n + (n + 1) / 4
-third_of_four_sum zero = years-zero _
+third_of_four_sum zero = years_zero _
 third_of_four_sum (suc n) =
     omega (
       arith,
-      years-suc (length_by is_third_of_four) n,
+      years_suc (length_by is_third_of_four) n,
       length_is is_third_of_four (suc n),
       third_of_four_step (suc n),
       third_of_four_sum n,
     )
 
 pub never_sum : (n : ℕ) → days_of_years (λ y. total_days (thirteen_months (is_never y))) n ≡ 365 * n
-never_sum zero = years-zero _
-never_sum (suc n) = omega (arith, years-suc (length_by is_never) n, never_sum n)
+never_sum zero = years_zero _
+never_sum (suc n) = omega (arith, years_suc (length_by is_never) n, never_sum n)

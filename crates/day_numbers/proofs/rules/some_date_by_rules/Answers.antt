@@ -1,7 +1,7 @@
 use Rattle.std.proofs.Common.{arith, rules, to_z-of_z, FitsSigned, w32, w64}
 use Rattle.std.proofs.lemmas.Int.{ints}
 use Rattle.day_numbers.proofs.SignedArithmetic.{signed_arith}
-use Rattle.day_numbers.proofs.RulesLemmas.{total-le, date_at_place}
+use Rattle.day_numbers.proofs.RulesLemmas.{total_le, date_at_place}
 use Rattle.std.proofs.lemmas.Option.{IfSome_then}
 use Rattle.day_numbers.proofs.rules.some_date_by_rules.Goals as goal
 
@@ -10,21 +10,21 @@ overflow_sub-place g c =
     let n : FitsSigned w64 c.number-number.result = search rules in
     let after = simp to_z-of_z at c.year_with-year.ensures.after in
     let before = simp to_z-of_z at c.year_with-year.ensures.before in
-    omega (arith, ints, after, before, total-le c.year_with-year.result.months.now c.year_with-year.ensures.numbered)
+    omega (arith, ints, after, before, total_le c.year_with-year.result.months.now c.year_with-year.ensures.numbered)
 
 pub overflow_cast-place : goal.overflow_cast-place
 overflow_cast-place g c =
     let n : FitsSigned w64 c.number-number.result = search rules in
     let after = simp to_z-of_z at c.year_with-year.ensures.after in
     let before = simp to_z-of_z at c.year_with-year.ensures.before in
-    omega (arith, ints, after, before, total-le c.year_with-year.result.months.now c.year_with-year.ensures.numbered)
+    omega (arith, ints, after, before, total_le c.year_with-year.result.months.now c.year_with-year.ensures.numbered)
 
 pub month_at-month-requires-clause-inside : goal.month_at-month-requires-clause-inside
 month_at-month-requires-clause-inside g c =
     let n : FitsSigned w64 c.number-number.result = search rules in
     let after = simp to_z-of_z at c.year_with-year.ensures.after in
     let before = simp to_z-of_z at c.year_with-year.ensures.before in
-    omega (arith, ints, after, before, total-le c.year_with-year.result.months.now c.year_with-year.ensures.numbered)
+    omega (arith, ints, after, before, total_le c.year_with-year.result.months.now c.year_with-year.ensures.numbered)
 
 pub returns-clause-dated : goal.returns-clause-dated
 returns-clause-dated g c =
@@ -61,6 +61,6 @@ returns-clause-value g c =
       ints,
       after,
       before,
-      total-le c.year_with-year.result.months.now c.year_with-year.ensures.numbered,
+      total_le c.year_with-year.result.months.now c.year_with-year.ensures.numbered,
     )) in
     IfSome_then c.new.result value (λ d e. rw (e.0, e.1, e.2, ← c.number-number.ensures.value) at)

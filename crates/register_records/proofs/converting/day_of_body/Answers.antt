@@ -1,14 +1,14 @@
 use Rattle.std.proofs.Common.{◌≡◌, None, Err, refl, ap, rules}
 use Rattle.register_records.specs.Outcomes.{no_date_text, refused, unknown_calendar}
 use Rattle.date_texts.specs.declared.refusal.Refusal.TheVariants as refusal
-use Rattle.register_records.proofs.OutcomeFacts.{day-outcome, no-calendar}
+use Rattle.register_records.proofs.OutcomeFacts.{day-outcome, no_calendar}
 use Rattle.register_records.proofs.converting.day_of_body.Goals as goal
 
 pub returns-in_default : goal.returns-in_default
 returns-in_default c =
     let named = rw c.as_str.ensures.value at c.calendar_named.ensures in
     let none : c.calendar_named.result ≡ None = search rules in
-    rw c.in-Fields.is (unknown_calendar (no-calendar c.in-Fields.calendar.bytes c.calendar_named.result none named))
+    rw c.in-Fields.is (unknown_calendar (no_calendar c.in-Fields.calendar.bytes c.calendar_named.result none named))
 
 pub returns-in-Err : goal.returns-in-Err
 returns-in-Err c =

@@ -1,5 +1,5 @@
-use Rattle.register_records.proofs.NoLoss.{no-loss}
+use Rattle.register_records.proofs.NoLoss.{no_loss}
 use Rattle.register_records.proofs.laws.no_loss_is_sealed.Goals as goal
 
 pub returns : goal.returns
-returns c = no-loss
+returns c = no_loss

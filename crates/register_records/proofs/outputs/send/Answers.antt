@@ -6,9 +6,9 @@ use Rattle.csv.proofs.WriteFacts.{slice-end}
 use Rattle.register_records.proofs.outputs.send.Goals as goal
 
 -- an offer that took some did not fail
-took-some : (a : Bool) (n : ℕ) (b : Bool) → n ≢ 0 → (a || ((n == 0) && b)) ≡ a
-took-some true n b h = refl
-took-some false n b h = let e : (n == 0) ≡ false = grind (arith, nat_tests) in rw e refl
+took_some : (a : Bool) (n : ℕ) (b : Bool) → n ≢ 0 → (a || ((n == 0) && b)) ≡ a
+took_some true n b h = refl
+took_some false n b h = let e : (n == 0) ≡ false = grind (arith, nat_tests) in rw e refl
 
 pub offers-preserved : goal.offers-preserved
 offers-preserved g c =
@@ -20,6 +20,6 @@ offers-preserved g c =
     let some : c.in-Ok.n ≢ 0 = search rules in (
       omega (arith, inv.0, bound, length-drop sent all),
       rw (take-add sent c.in-Ok.n all) (Appends-trans _ _ _ _ _ inv.1 more),
-      c.in-Ok.ensures.fails ∙ (took-some _ c.in-Ok.n _ some ∙ inv.2),
+      c.in-Ok.ensures.fails ∙ (took_some _ c.in-Ok.n _ some ∙ inv.2),
       c.in-Ok.ensures.mark ∙ inv.3,
     )

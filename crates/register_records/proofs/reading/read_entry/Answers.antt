@@ -2,8 +2,8 @@ use Rattle.std.proofs.Common.{◌≡◌, ◌∙◌, inl, rules, sym, true, false
 use Rattle.csv.specs.Records.{fields_of}
 use Rattle.register_records.specs.ReadingState.{IsNoSeal}
 use Rattle.register_records.specs.declared.setups.Form.TheVariants.{Sealed}
-use Rattle.register_records.proofs.StepFacts.{entry-left, found, found-none, no-seal-left, other-no-seal, plain-no-seal}
-use Rattle.register_records.proofs.StepFacts.{seal-lacks, told-on}
+use Rattle.register_records.proofs.StepFacts.{entry_left, found, found_none, no_seal_left, other_no_seal, plain_no_seal}
+use Rattle.register_records.proofs.StepFacts.{seal_lacks, told_on}
 use Rattle.register_records.proofs.reading.read_entry.Goals as goal
 use Rattle.register_records.proofs.reading.read_entry.Goals.{else-eq-via-else-eq, else-eq-via-then-eq+else-is_seal}
 
@@ -14,29 +14,29 @@ pub returns-in-Sealed-clause-not_sealed : goal.returns-in-Sealed-clause-not_seal
 returns-in-Sealed-clause-not_sealed g c _ =
     let none : c.in_ok-read_record.field-0 ≡ false = search rules in (
       c.in-Sealed.is,
-      no-seal-left _ c.args.form c.args.count c.in-Sealed.is
-          (found-none _ _ _ _ c.in_ok-read_record.ensures.reads none),
+      no_seal_left _ c.args.form c.args.count c.in-Sealed.is
+          (found_none _ _ _ _ c.in_ok-read_record.ensures.reads none),
     )
 
 pub returns-in_err-read_behind_seal-clause-not_sealed : goal.returns-in_err-read_behind_seal-clause-not_sealed
 returns-in_err-read_behind_seal-clause-not_sealed g c =
-    told-on _ c.in_err-read_behind_seal.field-0.0 _ c.from_residual-in_err-read_behind_seal.ensures.1 (λ e.
+    told_on _ c.in_err-read_behind_seal.field-0.0 _ c.from_residual-in_err-read_behind_seal.ensures.1 (λ e.
     let some : c.in_ok-read_record.field-0 ≡ true = search rules in
     let first = found _ _ _ _ c.in_ok-read_record.ensures.reads some in
     let sealed : c.args.form ≡ Sealed = search rules in
     let is = sym c.is_seal.ensures ∙ c.if-is_seal.true in (
       sealed,
-      seal-lacks _ _ c.args.form c.args.count _ sealed first is (c.in_err-read_behind_seal.ensures.not_sealed e),
+      seal_lacks _ _ c.args.form c.args.count _ sealed first is (c.in_err-read_behind_seal.ensures.not_sealed e),
     ))
 
 pub returns-in_err-number-clause-many : goal.returns-in_err-number-clause-many
 returns-in_err-number-clause-many g c =
-    told-on _ c.in_err-number.field-0.0 _ c.from_residual-in_err-number.ensures.1 (λ _.
+    told_on _ c.in_err-number.field-0.0 _ c.from_residual-in_err-number.ensures.1 (λ _.
     let some : c.in_ok-read_record.field-0 ≡ true = search rules in
     let first = found _ _ _ _ c.in_ok-read_record.ensures.reads some in
     let other : IsNoSeal c.args.form (fields_of c.read_record.new.row)
     = elim c.else-eq.branch [
-      | else-eq-via-then-eq+else-is_seal w ↦ other-no-seal _ _ (sym w.is_seal.ensures ∙ w.if-is_seal.false)
-      | else-eq-via-else-eq w ↦ plain-no-seal _ _ (λ e. search (rules, e, w.if-eq.false))
+      | else-eq-via-then-eq+else-is_seal w ↦ other_no_seal _ _ (sym w.is_seal.ensures ∙ w.if-is_seal.false)
+      | else-eq-via-else-eq w ↦ plain_no_seal _ _ (λ e. search (rules, e, w.if-eq.false))
     ] in
-    (c.in_err-number.ensures.many.1, entry-left _ _ c.args.form _ first other))
+    (c.in_err-number.ensures.many.1, entry_left _ _ c.args.form _ first other))

@@ -4,14 +4,14 @@ use Rattle.date_texts.specs.Calendars.{target_name}
 use Rattle.register_records.specs.Columns.{answer_name, day_columns, entry_columns, entry_name, heading, of_day}
 use Rattle.register_records.specs.LineViews.{line_bytes, line_delimiter}
 use Rattle.register_records.specs.declared.table_columns.DayColumn.{DayColumn}
-use Rattle.register_records.proofs.LineFacts.{answer-names, behind, one-item, same-body, same-line, some-columns}
-use Rattle.register_records.proofs.LineFacts.{some-fields, two-fields}
+use Rattle.register_records.proofs.LineFacts.{answer_names, behind, one_item, same_body, same-line, some_columns}
+use Rattle.register_records.proofs.LineFacts.{some_fields, two_fields}
 use Rattle.register_records.proofs.row_lines.make_heading.Goals as goal
 
 pub days-init : goal.days-init
 days-init c = record {
   begun =
-      same-body _ (line_bytes c.args.lines.now) _ _ _ (sym (append-nil (map entry_name (entry_columns c.args.form))))
+      same_body _ (line_bytes c.args.lines.now) _ _ _ (sym (append-nil (map entry_name (entry_columns c.args.form))))
       c.in_ok-begin_heading.ensures.value;
   kept = c.in_ok-begin_heading.ensures.kept;
   capacity = c.in_ok-begin_heading.ensures.capacity;
@@ -25,11 +25,11 @@ days-preserved c =
     let days = map (λ column. answer_name (of_day column)) (take c.days.column-index day_columns) in
     record {
       begun =
-          one-item (λ (column : DayColumn). answer_name (of_day column)) (line_delimiter c.push.new.self)
+          one_item (λ (column : DayColumn). answer_name (of_day column)) (line_delimiter c.push.new.self)
           (line_bytes c.args.lines.now) entries day_columns _ _ _ _ (rw items at c.days-test.true)
           (rw items at (c.as_bytes.ensures.value ∙ c.name.ensures))
           (c.in_ok-push.ensures.value (line_bytes c.args.lines.now) (entries ++ days)
-          (some-fields entries days (some-columns c.args.form entry_name)) inv.begun);
+          (some_fields entries days (some_columns c.args.form entry_name)) inv.begun);
       kept = c.in_ok-push.ensures.kept ∙ inv.kept;
       capacity = omega (arith, c.in_ok-push.ensures.capacity, inv.capacity);
     }
@@ -42,7 +42,7 @@ targets-init c =
     let all = take_all c.days.column-index day_columns (rw c.day_columns-column-items.ensures at c.days-test.false) in
     record {
       begun =
-          same-body _ (line_bytes c.args.lines.now) _ _ _
+          same_body _ (line_bytes c.args.lines.now) _ _ _
           (ap (λ (columns : List DayColumn). entries ++ map (λ column. answer_name (of_day column)) columns) all
           ∙ sym (append-nil (entries ++ days))) inv.begun;
       kept = inv.kept;
@@ -55,10 +55,10 @@ targets-preserved c =
     let entries = map entry_name (entry_columns c.args.form) in
     let days = map (λ column. answer_name (of_day column)) day_columns in
     let names = map target_name (take c.targets.target-index c.args.targets.now) in
-    let some = some-fields (entries ++ days) names (some-fields entries days (some-columns c.args.form entry_name)) in
+    let some = some_fields (entries ++ days) names (some_fields entries days (some_columns c.args.form entry_name)) in
     record {
       begun =
-          one-item target_name (line_delimiter c.push-in-targets.new.self) (line_bytes c.args.lines.now)
+          one_item target_name (line_delimiter c.push-in-targets.new.self) (line_bytes c.args.lines.now)
           (entries ++ days) _ _ _ _ _ c.targets-test.true
           (c.as_bytes-in-targets.ensures.value ∙ c.name-in-targets.ensures)
           (c.in_ok-push-2.ensures.value (line_bytes c.args.lines.now) ((entries ++ days) ++ names) some inv.begun);
@@ -76,12 +76,12 @@ returns-clause-value c =
     let all = take_all c.targets.target-index targets c.targets-test.false in
     let fields = first ++ map target_name (take c.targets.target-index targets) in
     let before = line_bytes c.args.lines.now in
-    let some = some-fields first (map target_name (take c.targets.target-index targets))
-    (some-fields entries days (some-columns c.args.form entry_name)) in
+    let some = some_fields first (map target_name (take c.targets.target-index targets))
+    (some_fields entries days (some_columns c.args.form entry_name)) in
     let last = c.in_ok-push_plain.ensures.value before fields some inv.begun in
     same-line _ _ before (fields ++ codes "refusal" ∷ []) (heading c.args.form targets) _
     (c.in_ok-push_plain.ensures.kept ∙ inv.kept)
     (ap (λ ts. (first ++ map target_name ts) ++ codes "refusal" ∷ []) all
     ∙ behind entries days (map target_name targets) (codes "refusal" ∷ [])
-    ∙ ap (λ (names : List (List ℕ)). entries ++ names) (sym (answer-names targets)))
-    (c.in_ok-end.ensures.value before (fields ++ codes "refusal" ∷ []) (two-fields fields (codes "refusal") some) last)
+    ∙ ap (λ (names : List (List ℕ)). entries ++ names) (sym (answer_names targets)))
+    (c.in_ok-end.ensures.value before (fields ++ codes "refusal" ∷ []) (two_fields fields (codes "refusal") some) last)

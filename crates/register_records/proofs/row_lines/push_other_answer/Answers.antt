@@ -9,7 +9,7 @@ use Rattle.register_records.specs.Answers.{answer_text, cells_of}
 use Rattle.register_records.specs.LineViews.{line_delimiter}
 use Rattle.register_records.specs.Seen.{outcome_seen}
 use Rattle.register_records.specs.Views.{row_targets}
-use Rattle.register_records.proofs.AnswerFacts.{one-cells}
+use Rattle.register_records.proofs.AnswerFacts.{one_cells}
 use Rattle.register_records.proofs.row_lines.push_other_answer.Goals as goal
 
 pub returns-clause-value : goal.returns-clause-value
@@ -25,7 +25,7 @@ returns-clause-value c before fields some begun =
     ∙ ap (λ (o : Result Day Refusal). answer_text (line_delimiter c.args.lines.now) (row_targets row) (outcome_seen o) made)
     c.outcome.ensures in
     let same : cells_of c.set.new.self ≡ cells_of row.answer =
-    ∥∥₁_elim row.is_row (Prim.hlevel props) (λ is. one-cells c.one_cell.ensures _ _ _ _ cells is.cells) in
+    ∥∥₁_elim row.is_row (Prim.hlevel props) (λ is. one_cells c.one_cell.ensures _ _ _ _ cells is.cells) in
     c.push_fields.ensures.value before fields _ some begun
     (c.as_slice.ensures.value ∙ written
     ∙ ap (λ (xs : List (List ℕ)).

@@ -1,7 +1,7 @@
 use Rattle.std.proofs.Common.{◌∙◌, ap, arith, codes, sym}
 use Rattle.std.specs.Str.{bytes_eq}
 use Rattle.csv.specs.Records.{fields_of}
-use Rattle.register_records.proofs.FieldFacts.{missing-field}
+use Rattle.register_records.proofs.FieldFacts.{missing_field}
 use Rattle.register_records.proofs.SealFacts.{seal_by_first}
 use Rattle.register_records.proofs.seals.is_seal.Goals as goal
 
@@ -15,7 +15,7 @@ pub returns-in-None : goal.returns-in-None
 returns-in-None c =
     absurd (omega (
       arith,
-      missing-field (fields_of c.args.row.now) 0 c.in-None.ensures.value,
+      missing_field (fields_of c.args.row.now) 0 c.in-None.ensures.value,
       c.if-len-ne2.false,
       c.len.ensures,
     ))

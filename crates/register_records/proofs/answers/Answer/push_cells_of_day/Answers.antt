@@ -6,7 +6,7 @@ use Rattle.date_texts.specs.declared.calendar.Target.{Target}
 use Rattle.register_records.specs.Answers.{answer_bytes}
 use Rattle.register_records.specs.Lines.{writing}
 use Rattle.register_records.specs.Outcomes.{AreCells}
-use Rattle.register_records.proofs.AnswerFacts.{cells-last, more-text}
+use Rattle.register_records.proofs.AnswerFacts.{cells_last, more_text}
 use Rattle.register_records.proofs.answers.Answer.push_cells_of_day.Goals as goal
 
 pub cells-init : goal.cells-init
@@ -27,13 +27,13 @@ cells-preserved c =
     let targets = c.args.targets.now in
     let (made, are, text, lengths) = inv.made in
     let (cell, is, bytes, more) = c.push_cell.ensures.value in
-    let last = cells-last c.args.day.number (take i targets) made _ cell are is in
+    let last = cells_last c.args.day.number (take i targets) made _ cell are is in
     record {
       made = (
         made ++ cell ∷ [],
         subst (λ (ts : List Target). AreCells ts (Ok c.args.day.number) (made ++ cell ∷ []))
             (sym (take_more targets i _ c.cells-test.true)) last,
-        more-text d made (cell ∷ []) (made ++ cell ∷ []) _ _ _ text
+        more_text d made (cell ∷ []) (made ++ cell ∷ []) _ _ _ text
             (subst (λ e. answer_bytes c.push_cell.new.self ≡ answer_bytes c.cells.self
             ++ fields_text (writing e) (cell ∷ [])) inv.delimiter bytes) refl,
         more ∙ ap (λ (t : List ℕ). t ++ length cell ∷ []) lengths ∙ sym (map-append length made (cell ∷ [])),

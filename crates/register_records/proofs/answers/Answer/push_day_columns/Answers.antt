@@ -3,8 +3,8 @@ use Rattle.csv.specs.Writing.{fields_text}
 use Rattle.register_records.specs.Columns.{answer_field, day_columns, of_day}
 use Rattle.register_records.specs.Seen.{outcome_seen}
 use Rattle.register_records.specs.declared.table_columns.DayColumn.{DayColumn}
-use Rattle.register_records.proofs.AnswerFacts.{more-text}
-use Rattle.register_records.proofs.LineFacts.{one-mapped}
+use Rattle.register_records.proofs.AnswerFacts.{more_text}
+use Rattle.register_records.proofs.LineFacts.{one_mapped}
 use Rattle.register_records.proofs.answers.Answer.push_day_columns.Goals as goal
 
 pub days-init : goal.days-init
@@ -17,10 +17,10 @@ days-preserved c =
     let i = c.days.column-index in
     let field = λ (column : DayColumn). answer_field (outcome_seen c.args.outcome) [] (of_day column) in
     record {
-      written = more-text c.args.self.now.delimiter (map field (take i day_columns)) _
+      written = more_text c.args.self.now.delimiter (map field (take i day_columns)) _
           (map field (take (i + 1) day_columns)) _ _ _ inv.written
           (rw inv.delimiter at c.push_day_column.ensures.value)
-          (one-mapped field day_columns _ i _ c.day_columns-column-items.ensures c.days-test.true);
+          (one_mapped field day_columns _ i _ c.day_columns-column-items.ensures c.days-test.true);
       short = omega (arith, c.push_day_column.ensures.grows, inv.short);
       delimiter = c.push_day_column.ensures.kept ∙ inv.delimiter;
     }

@@ -4,7 +4,7 @@ use Rattle.csv.specs.Writing.{fields_text}
 use Rattle.date_texts.specs.declared.calendar.Target.{Target}
 use Rattle.register_records.specs.Answers.{answer_bytes}
 use Rattle.register_records.specs.Lines.{writing}
-use Rattle.register_records.proofs.AnswerFacts.{more-text, one-empty}
+use Rattle.register_records.proofs.AnswerFacts.{more_text, one_empty}
 use Rattle.register_records.proofs.answers.Answer.push_no_cells.Goals as goal
 
 pub cells-init : goal.cells-init
@@ -24,10 +24,10 @@ cells-preserved c =
     let targets = c.args.targets.now in
     let kept = c.push.ensures.kept in
     record {
-      written = more-text c.args.self.now.delimiter _ ([] ∷ []) _ _ _ _ inv.written
+      written = more_text c.args.self.now.delimiter _ ([] ∷ []) _ _ _ _ inv.written
           (subst (λ e. answer_bytes c.push.new.self ≡ answer_bytes c.cells.self ++ fields_text (writing e) ([] ∷ []))
           inv.delimiter c.push.ensures.value)
-          (sym (one-empty targets i c.cells-test.true));
+          (sym (one_empty targets i c.cells-test.true));
       grown = omega (arith, c.push.ensures.len, inv.grown);
       delimiter = kept.0 ∙ inv.delimiter;
       start = kept.1 ∙ inv.start;

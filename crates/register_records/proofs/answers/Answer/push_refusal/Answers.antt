@@ -1,16 +1,16 @@
 use Rattle.std.proofs.Common.{◌∙◌, ap, arith}
 use Rattle.std.specs.Fmt.{decimal}
-use Rattle.register_records.proofs.AnswerFacts.{refusal-length}
-use Rattle.register_records.proofs.LineFacts.{plain-decimal}
+use Rattle.register_records.proofs.AnswerFacts.{refusal_length}
+use Rattle.register_records.proofs.LineFacts.{plain_decimal}
 use Rattle.register_records.proofs.answers.Answer.push_refusal.Goals as goal
 
 pub push-requires-in-Err-clause-plain : goal.push-requires-in-Err-clause-plain
 push-requires-in-Err-clause-plain c =
     rw (c.as_bytes.ensures.value, c.format.ensures.text)
-    (plain-decimal c.args.self.now.delimiter c.args.self.now.separated c.number.result
+    (plain_decimal c.args.self.now.delimiter c.args.self.now.separated c.number.result
     (omega (arith, c.number.type_inv)))
 
 pub push-requires-in-Err-clause-room : goal.push-requires-in-Err-clause-room
 push-requires-in-Err-clause-room c =
     rw (c.as_bytes.ensures.value ∙ c.format.ensures.text ∙ ap decimal c.number.ensures)
-    (omega (arith, refusal-length c.in-Err.refusal))
+    (omega (arith, refusal_length c.in-Err.refusal))

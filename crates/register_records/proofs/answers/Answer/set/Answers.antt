@@ -3,7 +3,7 @@ use Rattle.register_records.specs.Answers.{answer_bytes, answer_text, cells_of, 
 use Rattle.register_records.specs.Columns.{answer_field, cell_columns, day_columns, of_day, refusal}
 use Rattle.register_records.specs.Outcomes.{AreCells}
 use Rattle.register_records.specs.Seen.{outcome_seen}
-use Rattle.register_records.proofs.AnswerFacts.{cut-answer, text, whole-answer}
+use Rattle.register_records.proofs.AnswerFacts.{cut_answer, text, whole_answer}
 use Rattle.register_records.proofs.answers.Answer.set.Goals as goal
 
 pub returns : goal.returns
@@ -37,10 +37,10 @@ returns c =
     ∙ ap (λ n. cut_cells (map length cells) (drop n (answer_bytes c.push_refusal.new.self))) start
     ∙ ap (λ (bytes : List ℕ). cut_cells (map length cells) (drop (length front) bytes))
     (all ∙ append_assoc front (text d columns) last)
-    ∙ cut-answer c.cells_are_plain.ensures d c.requires.separated o targets cells front last are in
+    ∙ cut_answer c.cells_are_plain.ensures d c.requires.separated o targets cells front last are in
     record {
       cells = subst (λ (xs : List (List ℕ)). AreCells targets o xs) (sym same) are;
-      written = all ∙ ap (λ (t : List ℕ). (t ++ text d columns) ++ last) days ∙ whole-answer d targets o cells
+      written = all ∙ ap (λ (t : List ℕ). (t ++ text d columns) ++ last) days ∙ whole_answer d targets o cells
           ∙ ap (λ (xs : List (List ℕ)). answer_text d targets o xs) (sym same);
       delimiter = c.push_refusal.ensures.kept.0 ∙ three;
     }

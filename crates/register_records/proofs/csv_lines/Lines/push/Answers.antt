@@ -1,8 +1,8 @@
-use Rattle.register_records.proofs.LineFacts.{one-more}
+use Rattle.register_records.proofs.LineFacts.{one_more}
 use Rattle.register_records.specs.LineViews.{line_delimiter}
 use Rattle.register_records.proofs.csv_lines.Lines.push.Goals as goal
 
 pub returns-clause-value : goal.returns-clause-value
 returns-clause-value c before fields some begun =
-    one-more (line_delimiter c.args.self.now) before fields c.args.field.now _ _ _ some begun c.in_ok-push.ensures.items
+    one_more (line_delimiter c.args.self.now) before fields c.args.field.now _ _ _ some begun c.in_ok-push.ensures.items
     c.in_ok-push_field.ensures.value

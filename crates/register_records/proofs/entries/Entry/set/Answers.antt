@@ -1,8 +1,8 @@
-use Rattle.register_records.proofs.BareFacts.{bare-record}
+use Rattle.register_records.proofs.BareFacts.{bare_record}
 use Rattle.register_records.proofs.entries.Entry.set.Goals as goal
 
 pub invariant_of-self-clause-bared : goal.invariant_of-self-clause-bared
 invariant_of-self-clause-bared c b =
     rw c.set.ensures.value
-    (bare-record c.args.form c.args.row.now.ends c.args.row.now.bytes
+    (bare_record c.args.form c.args.row.now.ends c.args.row.now.bytes
     (rw (← c.as_slice.ensures) (c.is_bare-self.ensures b)))

@@ -6,9 +6,9 @@ use Rattle.register_records.specs.ReadingState.{records_left}
 use Rattle.register_records.specs.Retrying.{inner_remaining}
 use Rattle.register_records.specs.ReadingState.{entries_shown}
 use Rattle.register_records.specs.Views.{format_of}
-use Rattle.register_records.proofs.EntrySteps.{at-start, refuses, refuses-none}
-use Rattle.register_records.proofs.GivenFacts.{first-step, may-first}
-use Rattle.register_records.proofs.StepFacts.{found, found-none}
+use Rattle.register_records.proofs.EntrySteps.{at_start, refuses, refuses_none}
+use Rattle.register_records.proofs.GivenFacts.{first_step, may-first}
+use Rattle.register_records.proofs.StepFacts.{found, found_none}
 use Rattle.register_records.proofs.reading.EntryReader.open.Goals as goal
 use Rattle.register_records.proofs.reading.EntryReader.open.Goals.{then-not-found-via-else-not-found+then-not-is_header}
 use Rattle.register_records.proofs.reading.EntryReader.open.Goals.{then-not-found-via-then-not-found}
@@ -26,12 +26,12 @@ returns-then-not-found-clause-bad g c _ =
     let config : reader_config c.from_reader-records.result
     ≡ record default_config { delimiter = c.args.setup.now.delimiter } = search rules in
     let start =
-    at-start (inner_remaining g.R.Read.remaining) c.from_reader-records.result c.args.setup.now.delimiter
+    at_start (inner_remaining g.R.Read.remaining) c.from_reader-records.result c.args.setup.now.delimiter
     (g.R.Read.remaining c.args.reader) config fr.state (rw (← c.new-patient.ensures) fr.source) in
     let read = rw start at c.in_ok-found.ensures.reads in
     elim c.then-not-found.branch [
-      | then-not-found-via-then-not-found w ↦ refuses-none _ (format_of c.args.setup.now)
-          (found-none _ _ _ _ read w.if-not-found.true)
+      | then-not-found-via-then-not-found w ↦ refuses_none _ (format_of c.args.setup.now)
+          (found_none _ _ _ _ read w.if-not-found.true)
       | then-not-found-via-else-not-found+then-not-is_header w ↦
           refuses _ _ (format_of c.args.setup.now) _ (found _ _ _ _ read w.if-not-found.false)
           (λ h. cc (w.is_header.ensures.1 (rw w.form.ensures h), w.if-not-is_header.true))
@@ -43,11 +43,11 @@ invariant_of-result g c =
     let config : reader_config c.from_reader-records.result
     ≡ record default_config { delimiter = c.args.setup.now.delimiter } = search rules in
     let start =
-    at-start (inner_remaining g.R.Read.remaining) c.from_reader-records.result c.args.setup.now.delimiter
+    at_start (inner_remaining g.R.Read.remaining) c.from_reader-records.result c.args.setup.now.delimiter
     (g.R.Read.remaining c.args.reader) config fr.state (rw (← c.new-patient.ensures) fr.source) in
     let read = rw start at c.in_ok-found.ensures.reads in
     let stands =
-    first-step (g.R.Read.remaining c.args.reader) (g.R.Read.remaining c.of-source.result.value)
+    first_step (g.R.Read.remaining c.args.reader) (g.R.Read.remaining c.of-source.result.value)
     (records_left (inner_remaining g.R.Read.remaining) c.read_record.new.records)
     c.args.setup.now.delimiter c.delimiter-3.result c.form.result c.form-2.result
     (entries_shown c.new-2.result.items) (fields_of c.read_record.new.row)

@@ -6,7 +6,7 @@ use Rattle.register_records.specs.Retrying.{inner_remaining}
 use Rattle.register_records.specs.ReadingState.{entries_shown, format_by}
 use Rattle.register_records.specs.Views.{given_of}
 use Rattle.register_records.proofs.GivenFacts.{may-all, may-end, may-ended, may-fail, may-first, may-lack, may-many}
-use Rattle.register_records.proofs.GivenFacts.{may-more, shown-length}
+use Rattle.register_records.proofs.GivenFacts.{may-more, shown_length}
 use Rattle.register_records.proofs.reading.EntryReader.read_next.Goals as goal
 
 pub returns-then-self-2-clause-all : goal.returns-then-self-2-clause-all
@@ -39,7 +39,7 @@ invariant_of-self-else-not-keep g c =
     may-more (g.R.Read.remaining self.source.value) (format_by self.delimiter self.form) self.failed self.done
     (records_left (inner_remaining g.R.Read.remaining) self.records)
     (given_of self) self.stands c.if-self.false c.if-self-2.false c.len-count.result
-    (omega (arith, c.len-count.ensures, shown-length self.given.items))
+    (omega (arith, c.len-count.ensures, shown_length self.given.items))
     (records_left (inner_remaining g.R.Read.remaining) c.read_entry-answer.new.records)
     (entries_shown c.keep.new.given.items) c.read_entry-answer.new.entry gives
     (omega (arith, number.0, number.1)) more in
@@ -58,8 +58,8 @@ invariant_of-self-in-Ok-false-clause-stands g c =
     may-end (g.R.Read.remaining self.source.value) (format_by self.delimiter self.form) self.failed self.done
     (records_left (inner_remaining g.R.Read.remaining) self.records)
     (given_of self) self.stands c.if-self.false c.if-self-2.false c.len-count.result
-    (omega (arith, c.len-count.ensures, shown-length self.given.items))
-    (rw (shown-length self.given.items) self.few) _ ends
+    (omega (arith, c.len-count.ensures, shown_length self.given.items))
+    (rw (shown_length self.given.items) self.few) _ ends
 
 pub invariant_of-self-in-Err-clause-stands : goal.invariant_of-self-in-Err-clause-stands
 invariant_of-self-in-Err-clause-stands g c =
@@ -75,15 +75,15 @@ returns-in-Ok-false-clause-all g c e =
     may-all (g.R.Read.remaining self.source.value) (format_by self.delimiter self.form) self.failed self.done
     (records_left (inner_remaining g.R.Read.remaining) self.records)
     (given_of self) self.stands c.if-self.false c.if-self-2.false c.len-count.result
-    (omega (arith, c.len-count.ensures, shown-length self.given.items))
-    (rw (shown-length self.given.items) self.few) ends
+    (omega (arith, c.len-count.ensures, shown_length self.given.items))
+    (rw (shown_length self.given.items) self.few) ends
 
 pub returns-in-Err-clause-many : goal.returns-in-Err-clause-many
 returns-in-Err-clause-many g c =
     rw c.in-Err.is (λ e.
     let self = c.args.self.now in
     let counted : c.len-count.result ≡ length (given_of self) =
-    omega (arith, c.len-count.ensures, shown-length self.given.items) in
+    omega (arith, c.len-count.ensures, shown_length self.given.items) in
     let many = (rw c.in-Err.is at c.read_entry-answer.ensures.many) e in (
       sym counted ∙ many.0,
       may-many (g.R.Read.remaining self.source.value)
@@ -97,11 +97,11 @@ returns-in-Err-clause-not_sealed g c =
     rw c.in-Err.is (λ e.
     let self = c.args.self.now in
     let counted : c.len-count.result ≡ length (given_of self) =
-    omega (arith, c.len-count.ensures, shown-length self.given.items) in
+    omega (arith, c.len-count.ensures, shown_length self.given.items) in
     let lacks = (rw c.in-Err.is at c.read_entry-answer.ensures.not_sealed) e in (
       lacks.0,
       may-lack (g.R.Read.remaining self.source.value) (format_by self.delimiter self.form) self.failed self.done
           (records_left (inner_remaining g.R.Read.remaining) self.records)
           (given_of self) self.stands c.if-self.false c.if-self-2.false c.len-count.result counted
-          (rw (shown-length self.given.items) self.few) lacks.1,
+          (rw (shown_length self.given.items) self.few) lacks.1,
     ))

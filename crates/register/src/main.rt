@@ -4,7 +4,7 @@
 //! the calendars that the words ask for.
 #![tactic(auto)]
 
-use register_app::{Disk, Sink, Source, Told, answer, lines_to};
+use register_app::{Destination, Disk, Source, Told, answer, lines_to};
 use register_records::PlainOutput;
 use std::fs::OpenOptions;
 use std::process::ExitCode;
@@ -17,7 +17,7 @@ fn words_of<R: Env + AllocGlobal>(rt: &R) -> io::Result<Vec<String>> {
     Ok(words)
 }
 
-/// Tells why the words could not be read: want of memory, status 3, or a word that is no text, status 2.
+/// Tells why the words could not be read: memory ran out, status 3, or a word that is no text, status 2.
 fn unread_words(rt: &impl Eprint, error: &io::Error) -> ExitCode {
     if error.kind() == io::ErrorKind::OutOfMemory {
         let _ = eprintln!(rt; "register: out of memory");
@@ -41,7 +41,7 @@ fn main(rt: HostRuntime) -> ExitCode {
         Err(error) => return unread_words(&rt, &error),
     };
     let input = Source::Input(rt.stdin());
-    let output = PlainOutput::new(Told::new(Sink::Output(rt.stdout())), 1);
+    let output = PlainOutput::new(Told::new(Destination::Output(rt.stdout())), 1);
     let mut errors = PlainOutput::new(Told::new(lines_to(rt.stderr())), 0);
     let answered = answer(
         &rt,

@@ -15,8 +15,8 @@ use Rattle.register_records.specs.declared.setups.Form.TheVariants.{Sealed}
 use Rattle.register_app.specs.Faults.{Fault, usage, bad_ring, unknown_delimiter, bad_stripes, too_many_files}
 use Rattle.register_app.specs.Faults.{file_twice}
 use Rattle.register_app.specs.OptionValues.{AsksForTargets, IsDelimiterWord, IsListFault, IsNumberWord}
-use Rattle.register_app.specs.declared.refusals.Refusal.{Refusal}
-use Rattle.register_app.specs.declared.refusals.Refusal.TheVariants as refusal
+use Rattle.register_app.specs.declared.request_faults.RequestFault.{RequestFault}
+use Rattle.register_app.specs.declared.request_faults.RequestFault.TheVariants as request_fault
 use Rattle.register_app.specs.declared.requests.Job.{Job}
 use Rattle.register_app.specs.declared.requests.Request.{Request}
 use Rattle.register_app.specs.declared.requests.Request.TheVariants as request
@@ -246,9 +246,9 @@ meaning_of request.Help = help
 meaning_of request.Version = version
 meaning_of (request.Convert job) = table (task_of job)
 
--- 3 for want of memory and for files, and 2 for what is wrong with the words
-abbrev pub refusal_status : Refusal → ℕ
-refusal_status refusal.OutOfMemory = 3
-refusal_status (refusal.CannotOpen file) = 3
-refusal_status (refusal.CannotMake file) = 3
-refusal_status _ = 2
+-- 3 where memory ran out and for files, and 2 for what is wrong with the words
+abbrev pub status_of_fault : RequestFault → ℕ
+status_of_fault request_fault.OutOfMemory = 3
+status_of_fault (request_fault.CannotOpen file) = 3
+status_of_fault (request_fault.CannotMake file) = 3
+status_of_fault _ = 2

@@ -7,12 +7,12 @@ ghost use Rattle.register_app.specs.Answers.{AreConverted, AreWrong, AskForPage,
 ghost use Rattle.register_records.specs.Sources.{is_whole_end};
 ghost use Rattle.register_app.specs.Openings.{AreMade, IsFresh, IsNewlyMade};
 ghost use Rattle.register_app.specs.Reports.{lines_from};
-ghost use Rattle.register_app.specs.Requests.{MeanJust, Task, most_files, refusal_status, table, task_of};
+ghost use Rattle.register_app.specs.Requests.{MeanJust, Task, most_files, status_of_fault, table, task_of};
 
 use crate::help::{HELP, PRINT_FAULT};
 use crate::opening::{Opened, open_files};
 use crate::places::Places;
-use crate::refusals::Refusal;
+use crate::request_faults::RequestFault;
 use crate::requests::{Job, Request, VERSION, read_request};
 use crate::telling::tell_ends;
 use arrayvec::ArrayString;
@@ -70,18 +70,18 @@ fn tell_out_of_memory<E: Output>(errors: &mut E)
 }
 
 /// Tells why nothing is done, and gives the exit status. A fault of `errors` is let go, as above.
-fn tell_refusal<E: Output>(alloc: Global, errors: &mut E, refusal: &Refusal<'_>) -> u8
-    ensures status { (result ≡ 3) ⊎ (result ≡ refusal_status refusal.now) }
+fn tell_fault<E: Output>(alloc: Global, errors: &mut E, fault: &RequestFault<'_>) -> u8
+    ensures status { (result ≡ 3) ⊎ (result ≡ status_of_fault fault.now) }
     ensures mark { E.own_mark errors.new ≡ E.own_mark errors.old }
 {
-    let text = match refusal {
-        Refusal::Usage(error) => format!(in alloc; "{error}"),
+    let text = match fault {
+        RequestFault::Usage(error) => format!(in alloc; "{error}"),
         fault => format!(in alloc; "register: {fault}\n"),
     };
     match text {
         Ok(text) => {
             let _ = send(errors, text.as_bytes());
-            refusal.status()
+            fault.status()
         }
         Err(_) => {
             tell_out_of_memory(errors);
@@ -95,15 +95,15 @@ fn refuse<W: Output, E: Output>(
     alloc: Global,
     output: W,
     errors: &mut E,
-    refusal: &Refusal<'_>,
+    fault: &RequestFault<'_>,
 ) -> Answered<W>
-    ensures status { (result.status ≡ 3) ⊎ (result.status ≡ refusal_status refusal.now) }
+    ensures status { (result.status ≡ 3) ⊎ (result.status ≡ status_of_fault fault.now) }
     ensures untouched { result.output ≡ output }
     ensures none { result.outputs.items ≡ [] }
     ensures mark { E.own_mark errors.new ≡ E.own_mark errors.old }
 {
     Answered {
-        status: tell_refusal(alloc, errors, refusal),
+        status: tell_fault(alloc, errors, fault),
         output,
         outputs: Vec::new(alloc),
     }
@@ -164,7 +164,7 @@ fn tell_report<W, E: Output>(errors: &mut E, summary: bool, report: &Report<W>) 
 }
 
 /// Converts the sources, each to the output at its place, and tells how they have ended. There are no more sources
-/// than a run takes, and as many outputs, so that only want of memory keeps a run from its beginning.
+/// than a run takes, and as many outputs, so that only running out of memory keeps a run from its beginning.
 fn convert<
     T: Threads + Wait + Clock + CpuClock + Sync,
     R: Read + Send + Drop,
@@ -214,10 +214,10 @@ fn convert_input<
     ensures errors_mark { E.own_mark errors.new ≡ E.own_mark errors.old }
 {
     let Ok(mut sources) = Vec::with_capacity(alloc, 1) else {
-        return refuse(alloc, output, errors, &Refusal::OutOfMemory);
+        return refuse(alloc, output, errors, &RequestFault::OutOfMemory);
     };
     let Ok(mut outputs) = Vec::with_capacity(alloc, 1) else {
-        return refuse(alloc, output, errors, &Refusal::OutOfMemory);
+        return refuse(alloc, output, errors, &RequestFault::OutOfMemory);
     };
     sources.push_reserved(input);
     outputs.push_reserved(output);
@@ -257,7 +257,7 @@ fn convert_files<
 {
     let Opened { sources, outputs } = match open_files(alloc, places, job.files.as_slice()) {
         Ok(opened) => opened,
-        Err(refusal) => return refuse(alloc, output, errors, &refusal),
+        Err(fault) => return refuse(alloc, output, errors, &fault),
     };
     let Ran { status, outputs } = convert(rt, alloc, sources, outputs, errors, job);
     Answered {
@@ -340,6 +340,6 @@ pub fn answer<
                 convert_files(rt, alloc, output, places, errors, &job)
             }
         }
-        Err(refusal) => refuse(alloc, output, errors, &refusal),
+        Err(fault) => refuse(alloc, output, errors, &fault),
     }
 }

@@ -1,7 +1,7 @@
 //! The files of the system, and the standard streams beside them.
 
 ghost use Rattle.std.specs.Prelude.{◌≡◌, ⊤};
-ghost use Rattle.register_app.specs.Sides.{sink_contents, source_remaining};
+ghost use Rattle.register_app.specs.Sides.{destination_contents, source_remaining};
 
 use crate::places::Places;
 use crate::told::Told;
@@ -21,7 +21,7 @@ pub enum Source<I, F> {
 
 /// What the program writes to: standard output, or a file.
 #[derive(Drop)]
-pub enum Sink<O, F> {
+pub enum Destination<O, F> {
     Output(O),
     File(F),
 }
@@ -37,20 +37,20 @@ impl<I: Read, F: Read> Read for Source<I, F> {
     }
 }
 
-impl<O: Write, F: Write> Write for Sink<O, F> {
-    ghost contents = { sink_contents O.contents F.contents };
+impl<O: Write, F: Write> Write for Destination<O, F> {
+    ghost contents = { destination_contents O.contents F.contents };
 
     fn write(&mut self, buf: &[u8]) -> io::Result<usize> {
         match self {
-            Sink::Output(output) => output.write(buf),
-            Sink::File(file) => file.write(buf),
+            Destination::Output(output) => output.write(buf),
+            Destination::File(file) => file.write(buf),
         }
     }
 
     fn flush(&mut self) -> io::Result<()> {
         match self {
-            Sink::Output(output) => output.flush(),
-            Sink::File(file) => file.flush(),
+            Destination::Output(output) => output.flush(),
+            Destination::File(file) => file.flush(),
         }
     }
 }
@@ -99,7 +99,7 @@ impl<'a, F: Files> Disk<'a, F> {
 
 impl<'a, F: Files, I: Read, O: Write> Places<
     Source<I, F::File>,
-    PlainOutput<Told<Sink<O, F::File>>>,
+    PlainOutput<Told<Destination<O, F::File>>>,
 > for Disk<'a, F>
 where
     F::File: Exclusive,
@@ -119,13 +119,17 @@ where
         Ok(Source::File(file))
     }
 
-    fn make(&self, name: &str, mark: u32) -> io::Result<PlainOutput<Told<Sink<O, F::File>>>> {
+    fn make(
+        &self,
+        name: &str,
+        mark: u32,
+    ) -> io::Result<PlainOutput<Told<Destination<O, F::File>>>> {
         let file = OpenOptions::new()
             .write(true)
             .create(true)
             .open(self.files, name)?;
         keep_and_empty(&file)?;
-        Ok(PlainOutput::new(Told::new(Sink::File(file)), mark))
+        Ok(PlainOutput::new(Told::new(Destination::File(file)), mark))
     }
 
     fn are_one_file(&self, name: &str, other: &str) -> bool {

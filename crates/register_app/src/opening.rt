@@ -3,11 +3,11 @@
 ghost use Rattle.std.specs.Prelude.{◌≡◌, ◌≤◌, ◌++◌, ℕ, List, Some, false, length};
 ghost use Rattle.std.specs.Prelude.{IfErr, IfOk, OnOk, map, slice_get};
 ghost use Rattle.std.specs.String.{string_bytes};
-ghost use Rattle.register_app.specs.Requests.{most_files, refusal_status};
+ghost use Rattle.register_app.specs.Requests.{most_files, status_of_fault};
 ghost use Rattle.register_app.specs.Openings.{AreMade, AreNotSources, AreOpened, AreTwoFiles, IsNewlyMade};
 
 use crate::places::Places;
-use crate::refusals::Refusal;
+use crate::request_faults::RequestFault;
 use register_records::Output;
 use std::alloc::{AllocError, Global};
 
@@ -34,18 +34,18 @@ fn open_sources<'a, R: Drop, W: Output, P: Places<R, W>>(
     alloc: Global,
     places: &P,
     files: &[&'a str],
-) -> Result<Vec<R>, Refusal<'a>>
+) -> Result<Vec<R>, RequestFault<'a>>
     ensures opened { IfOk result (λ sources. AreOpened (P.is_opened places.now) (map (λ file. file.now) files.now)
         sources.items) }
-    ensures status { IfErr result (λ refusal. refusal_status refusal ≡ 3) }
+    ensures status { IfErr result (λ error. status_of_fault error ≡ 3) }
 {
     let mut sources = Vec::new(alloc);
     'files: for &file in files {
         let Ok(source) = places.open(file) else {
-            return Err(Refusal::CannotOpen(file));
+            return Err(RequestFault::CannotOpen(file));
         };
         if sources.push(source).is_err() {
-            return Err(Refusal::OutOfMemory);
+            return Err(RequestFault::OutOfMemory);
         }
     }
     Ok(sources)
@@ -69,16 +69,16 @@ fn keep_sources<'a, R, W: Output, P: Places<R, W>>(
     alloc: Global,
     places: &P,
     files: &[&'a str],
-) -> Result<(), Refusal<'a>>
+) -> Result<(), RequestFault<'a>>
     ensures kept { OnOk result (AreNotSources (P.are_apart places.now) (map (λ file. file.now) files.now)) }
-    ensures status { IfErr result (λ refusal. refusal_status refusal ≡ 3) }
+    ensures status { IfErr result (λ error. status_of_fault error ≡ 3) }
 {
     'files: for &file in files {
         let Ok(name) = output_name(alloc, file) else {
-            return Err(Refusal::OutOfMemory);
+            return Err(RequestFault::OutOfMemory);
         };
         if places.are_one_file(file, name.as_str()) {
-            return Err(Refusal::CannotMake(file));
+            return Err(RequestFault::CannotMake(file));
         }
     }
     Ok(())
@@ -89,29 +89,29 @@ fn make_outputs<'a, R, W: Output + Drop, P: Places<R, W>>(
     alloc: Global,
     places: &P,
     files: &[&'a str],
-) -> Result<Vec<W>, Refusal<'a>>
+) -> Result<Vec<W>, RequestFault<'a>>
     requires few { length files.now ≤ most_files }
     ensures made { IfOk result (λ outputs. AreMade (IsNewlyMade W.contents W.has_failed W.own_mark
         (P.is_made places.now)) (map (λ file. file.now) files.now) outputs.items) }
     ensures apart { IfOk result (λ outputs. AreTwoFiles (P.are_apart places.now) (map (λ file. file.now) files.now)) }
-    ensures status { IfErr result (λ refusal. refusal_status refusal ≡ 3) }
+    ensures status { IfErr result (λ error. status_of_fault error ≡ 3) }
 {
     let mut outputs = Vec::new(alloc);
     let mut names = Vec::new(alloc);
     let mut mark = 0;
     'files: for &file in files {
         let Ok(name) = output_name(alloc, file) else {
-            return Err(Refusal::OutOfMemory);
+            return Err(RequestFault::OutOfMemory);
         };
         mark += 1;
         let Ok(output) = places.make(name.as_str(), mark) else {
-            return Err(Refusal::CannotMake(file));
+            return Err(RequestFault::CannotMake(file));
         };
         if is_taken(places, names.as_slice(), name.as_str()) {
-            return Err(Refusal::CannotMake(file));
+            return Err(RequestFault::CannotMake(file));
         }
         if outputs.push(output).is_err() || names.push(name).is_err() {
-            return Err(Refusal::OutOfMemory);
+            return Err(RequestFault::OutOfMemory);
         }
     }
     Ok(outputs)
@@ -128,7 +128,7 @@ pub fn open_files<'a, R: Drop, W: Output + Drop, P: Places<R, W>>(
     alloc: Global,
     places: &P,
     files: &[&'a str],
-) -> Result<Opened<R, W>, Refusal<'a>>
+) -> Result<Opened<R, W>, RequestFault<'a>>
     requires few { length files.now ≤ most_files }
     ensures opened { IfOk result (λ o. AreOpened (P.is_opened places.now) (map (λ file. file.now) files.now)
         o.sources.items) }
@@ -136,7 +136,7 @@ pub fn open_files<'a, R: Drop, W: Output + Drop, P: Places<R, W>>(
         (P.is_made places.now)) (map (λ file. file.now) files.now) o.outputs.items) }
     ensures kept { IfOk result (λ o. AreNotSources (P.are_apart places.now) (map (λ file. file.now) files.now)) }
     ensures apart { IfOk result (λ o. AreTwoFiles (P.are_apart places.now) (map (λ file. file.now) files.now)) }
-    ensures status { IfErr result (λ refusal. refusal_status refusal ≡ 3) }
+    ensures status { IfErr result (λ error. status_of_fault error ≡ 3) }
 {
     let sources = open_sources(alloc, places, files)?;
     keep_sources(alloc, places, files)?;

@@ -4,7 +4,7 @@ ghost use Rattle.std.specs.Prelude.{◌≡◌, ◌↔◌, ℕ, Some, Ok, Err, If
 ghost use Rattle.register_app.specs.Faults.{IsOfWords, fault_told};
 ghost use Rattle.register_app.specs.OptionValues.{IsDelimiterWord, IsNumberWord, ListMeansJust};
 
-use crate::refusals::Refusal;
+use crate::request_faults::RequestFault;
 use date_texts::laws::one_target;
 use date_texts::{Target, target_named};
 use std::alloc::Global;
@@ -20,9 +20,9 @@ const NO_TARGET: &str = "none";
 /// The names are looked at from left to right: `UnknownTarget` for the first that names no target, and
 /// `TargetTwice` for the first whose target was named before, whichever comes first. `OutOfMemory` where a
 /// growth of the targets is refused.
-pub fn read_targets(alloc: Global, list: &str) -> Result<Vec<Target>, Refusal<'_>>
+pub fn read_targets(alloc: Global, list: &str) -> Result<Vec<Target>, RequestFault<'_>>
     ensures value { IfOk result (λ targets. ListMeansJust list.entry.now (Ok targets.items)) }
-    ensures fault { IfErr result (λ refusal. IfSome (fault_told refusal)
+    ensures fault { IfErr result (λ error. IfSome (fault_told error)
         (λ fault. ListMeansJust list.entry.now (Err fault))) }
     ensures memory { IfErr result IsOfWords }
 {
@@ -33,13 +33,13 @@ pub fn read_targets(alloc: Global, list: &str) -> Result<Vec<Target>, Refusal<'_
     }
     'names: for name in list.split(',') {
         let Some(target) = target_named(name) else {
-            return Err(Refusal::UnknownTarget(name));
+            return Err(RequestFault::UnknownTarget(name));
         };
         if targets.contains(&target) {
-            return Err(Refusal::TargetTwice(target));
+            return Err(RequestFault::TargetTwice(target));
         }
         if targets.push(target).is_err() {
-            return Err(Refusal::OutOfMemory);
+            return Err(RequestFault::OutOfMemory);
         }
     }
     Ok(targets)

@@ -15,7 +15,7 @@ ghost use Rattle.register_app.specs.Requests.{command_line, command_of_values, f
 ghost use Rattle.register_app.specs.Requests.{option_rule, value_in, word_rule, wrong};
 
 use crate::option_values::{delimiter_named, number_named, read_targets};
-use crate::refusals::Refusal;
+use crate::request_faults::RequestFault;
 use clap::error::ErrorKind;
 use clap::{Arg, ArgAction, ArgMatches, Command};
 use date_texts::Target;
@@ -145,7 +145,7 @@ fn files_given<'a>(alloc: Global, matches: &ArgMatches<'a>) -> Result<Vec<&'a st
 ///
 /// # Errors
 ///
-/// What clap refuses, a request for help or for the version, and want of memory.
+/// What clap refuses, a request for help or for the version, and running out of memory.
 fn read_words<'a>(alloc: Global, words: &'a [String]) -> Result<ArgMatches<'a>, clap::Error>
     ensures found { IfOk result (λ m. rows_of (found_of m)
         ≡ matches_of command_line (map string_bytes words.entry.now)) }
@@ -187,7 +187,7 @@ fn options_found<'a>(alloc: Global, matches: &ArgMatches<'a>) -> Result<Options<
 ///
 /// # Errors
 ///
-/// What clap refuses, a request for help or for the version, and want of memory.
+/// What clap refuses, a request for help or for the version, and running out of memory.
 fn read_options<'a>(alloc: Global, words: &'a [String]) -> Result<Options<'a>, clap::Error>
     ensures taken { IfOk result (λ o. fault_of command_line (map string_bytes words.entry.now) ≡ []) }
     ensures to { IfOk result (λ o. option_map (λ v. v.now) o.to
@@ -211,9 +211,9 @@ fn read_options<'a>(alloc: Global, words: &'a [String]) -> Result<Options<'a>, c
 }
 
 /// The targets that the value of `--to` asks for, or all of them where there is none.
-fn chosen_targets<'a>(alloc: Global, list: Option<&'a str>) -> Result<Vec<Target>, Refusal<'a>>
+fn chosen_targets<'a>(alloc: Global, list: Option<&'a str>) -> Result<Vec<Target>, RequestFault<'a>>
     ensures value { IfOk result (λ targets. AreTargetsOf (option_map (λ l. l.now) list.entry) targets.items) }
-    ensures fault { IfErr result (λ refusal. IfSome (fault_told refusal)
+    ensures fault { IfErr result (λ error. IfSome (fault_told error)
         (IsTargetFault (option_map (λ l. l.now) list.entry))) }
     ensures memory { IfErr result IsOfWords }
 {
@@ -223,16 +223,16 @@ fn chosen_targets<'a>(alloc: Global, list: Option<&'a str>) -> Result<Vec<Target
             default_targets();
             match Target::ALL.to_vec(alloc) {
                 Ok(targets) => Ok(targets),
-                Err(_) => Err(Refusal::OutOfMemory),
+                Err(_) => Err(RequestFault::OutOfMemory),
             }
         }
     }
 }
 
 /// The size of a ring that the value of `--ring` names, or the usual one where there is none.
-fn chosen_ring<'a>(word: Option<&'a str>) -> Result<usize, Refusal<'a>>
+fn chosen_ring<'a>(word: Option<&'a str>) -> Result<usize, RequestFault<'a>>
     ensures value { IfOk result (IsRingOf (option_map (λ w. w.now) word.entry)) }
-    ensures fault { IfErr result (λ refusal. IsSomeAnd (fault_told refusal)
+    ensures fault { IfErr result (λ error. IsSomeAnd (fault_told error)
         (IsRingFault (option_map (λ w. w.now) word.entry))) }
 {
     let Some(word) = word else {
@@ -240,14 +240,14 @@ fn chosen_ring<'a>(word: Option<&'a str>) -> Result<usize, Refusal<'a>>
     };
     match number_named(word, MAX_RING) {
         Some(ring) => Ok(ring),
-        None => Err(Refusal::BadRing(word)),
+        None => Err(RequestFault::BadRing(word)),
     }
 }
 
 /// The byte that the value of `--delimiter` names, or a comma where there is none.
-fn chosen_delimiter<'a>(word: Option<&'a str>) -> Result<u8, Refusal<'a>>
+fn chosen_delimiter<'a>(word: Option<&'a str>) -> Result<u8, RequestFault<'a>>
     ensures value { IfOk result (IsDelimiterOf (option_map (λ w. w.now) word.entry)) }
-    ensures fault { IfErr result (λ refusal. IsSomeAnd (fault_told refusal)
+    ensures fault { IfErr result (λ error. IsSomeAnd (fault_told error)
         (IsDelimiterFault (option_map (λ w. w.now) word.entry))) }
 {
     let Some(word) = word else {
@@ -255,14 +255,14 @@ fn chosen_delimiter<'a>(word: Option<&'a str>) -> Result<u8, Refusal<'a>>
     };
     match delimiter_named(word) {
         Some(delimiter) => Ok(delimiter),
-        None => Err(Refusal::UnknownDelimiter(word)),
+        None => Err(RequestFault::UnknownDelimiter(word)),
     }
 }
 
 /// The number of converters that the value of `--stripes` names, or the usual one where there is none.
-fn chosen_stripes<'a>(word: Option<&'a str>) -> Result<usize, Refusal<'a>>
+fn chosen_stripes<'a>(word: Option<&'a str>) -> Result<usize, RequestFault<'a>>
     ensures value { IfOk result (IsStripesOf (option_map (λ w. w.now) word.entry)) }
-    ensures fault { IfErr result (λ refusal. IsSomeAnd (fault_told refusal)
+    ensures fault { IfErr result (λ error. IsSomeAnd (fault_told error)
         (IsStripesFault (option_map (λ w. w.now) word.entry))) }
 {
     let Some(word) = word else {
@@ -270,7 +270,7 @@ fn chosen_stripes<'a>(word: Option<&'a str>) -> Result<usize, Refusal<'a>>
     };
     match number_named(word, MAX_STRIPES) {
         Some(stripes) => Ok(stripes),
-        None => Err(Refusal::BadStripes(word)),
+        None => Err(RequestFault::BadStripes(word)),
     }
 }
 
@@ -299,16 +299,16 @@ fn file_named_twice<'a>(files: &[&'a str]) -> Option<&'a str>
 /// # Errors
 ///
 /// `TooManyFiles` where there are more than 32, and else `FileTwice` for the first that was named before.
-fn check_files<'a>(files: &[&'a str]) -> Result<(), Refusal<'a>>
+fn check_files<'a>(files: &[&'a str]) -> Result<(), RequestFault<'a>>
     ensures fine { OnOk result (AreFilesToConvert (map (λ f. f.now) files.now)) }
-    ensures fault { IfErr result (λ refusal. IsSomeAnd (fault_told refusal)
+    ensures fault { IfErr result (λ error. IsSomeAnd (fault_told error)
         (IsFileFault (map (λ f. f.now) files.now))) }
 {
     if files.len() > MAX_SOURCES {
-        return Err(Refusal::TooManyFiles);
+        return Err(RequestFault::TooManyFiles);
     }
     match file_named_twice(files) {
-        Some(file) => Err(Refusal::FileTwice(file)),
+        Some(file) => Err(RequestFault::FileTwice(file)),
         None => Ok(()),
     }
 }
@@ -320,10 +320,10 @@ fn check_files<'a>(files: &[&'a str]) -> Result<(), Refusal<'a>>
 /// The first that applies: the faults of the list of targets as [`read_targets`] has them, `BadRing`,
 /// `UnknownDelimiter`, `BadStripes`, and the faults of the files as [`check_files`] has them; and `OutOfMemory` where a
 /// growth of memory was refused on the way.
-fn chosen_setup<'a>(alloc: Global, options: &Options<'a>) -> Result<Setup, Refusal<'a>>
+fn chosen_setup<'a>(alloc: Global, options: &Options<'a>) -> Result<Setup, RequestFault<'a>>
     ensures asked { IfOk result (λ setup. (words : List (List ℕ)) → AreOptionsOf words options.now
         → AsksFor words (task_by setup options.now)) }
-    ensures fault { IfErr result (λ refusal. IfSome (fault_told refusal) (λ fault. (words : List (List ℕ))
+    ensures fault { IfErr result (λ error. IfSome (fault_told error) (λ fault. (words : List (List ℕ))
         → AreOptionsOf words options.now → IsFaultFromTargets words fault)) }
     ensures memory { IfErr result IsOfWords }
 {
@@ -347,9 +347,9 @@ fn chosen_setup<'a>(alloc: Global, options: &Options<'a>) -> Result<Setup, Refus
 /// list of targets as [`read_targets`] has them, `BadRing`, `UnknownDelimiter`, `BadStripes`, and the faults
 /// of the files as [`check_files`] has them; and `OutOfMemory` where a growth of memory was refused on the
 /// way.
-pub fn read_request<'a>(alloc: Global, words: &'a [String]) -> Result<Request<'a>, Refusal<'a>>
+pub fn read_request<'a>(alloc: Global, words: &'a [String]) -> Result<Request<'a>, RequestFault<'a>>
     ensures asked { IfOk result (λ request. MeanJust (map string_bytes words.entry.now) (meaning_of request)) }
-    ensures refused { IfErr result (λ refusal. IfSome (fault_told refusal)
+    ensures refused { IfErr result (λ error. IfSome (fault_told error)
         (λ fault. MeanJust (map string_bytes words.entry.now) (wrong fault))) }
     ensures memory { IfErr result IsOfWords }
 {
@@ -359,8 +359,8 @@ pub fn read_request<'a>(alloc: Global, words: &'a [String]) -> Result<Request<'a
         Err(error) => match error.kind() {
             ErrorKind::DisplayHelp => return Ok(Request::Help),
             ErrorKind::DisplayVersion => return Ok(Request::Version),
-            ErrorKind::OutOfMemory => return Err(Refusal::OutOfMemory),
-            _ => return Err(Refusal::Usage(error)),
+            ErrorKind::OutOfMemory => return Err(RequestFault::OutOfMemory),
+            _ => return Err(RequestFault::Usage(error)),
         },
     };
     let setup = chosen_setup(alloc, &options)?;

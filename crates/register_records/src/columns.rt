@@ -18,16 +18,16 @@ pub(crate) struct Columns<'a> {
 }
 
 /// The columns of a record that has as many fields as the form wants.
-pub(crate) fn columns_in(row: &ByteRecord, form: Form) -> Option<Columns<'_>>
-    ensures { MatchOption result (texts_of form (fields_of row.now) ≡ None)
-        (λ c. texts_of form (fields_of row.now) ≡ Some (columns_seen c)) }
+pub(crate) fn columns_in(csv_record: &ByteRecord, form: Form) -> Option<Columns<'_>>
+    ensures { MatchOption result (texts_of form (fields_of csv_record.now) ≡ None)
+        (λ c. texts_of form (fields_of csv_record.now) ≡ Some (columns_seen c)) }
 {
-    if row.len() != form.field_count() {
+    if csv_record.len() != form.field_count() {
         return None;
     }
-    let id = row.get(0)?;
-    let calendar = row.get(1)?;
-    let date = row.get(2)?;
+    let id = csv_record.get(0)?;
+    let calendar = csv_record.get(1)?;
+    let date = csv_record.get(2)?;
     match form {
         Form::Plain => Some(Columns {
             id,
@@ -39,7 +39,7 @@ pub(crate) fn columns_in(row: &ByteRecord, form: Form) -> Option<Columns<'_>>
             id,
             calendar,
             date,
-            note: row.get(3)?,
+            note: csv_record.get(3)?,
         }),
     }
 }

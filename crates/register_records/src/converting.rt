@@ -39,7 +39,7 @@ pub(crate) fn day_of_body(body: &Body) -> Result<Day, Refusal>
 
 /// Makes a list the cells of an outcome: one for each target on a day, and none with a refusal.
 #[inline(never)]
-pub(crate) fn fill(
+pub(crate) fn make_cells(
     cells: &mut ShortList<CellText>,
     targets: &[Target],
     outcome: Result<Day, Refusal>,

@@ -84,14 +84,14 @@ impl Entry {
     }
 
     /// Makes this entry that of a record, where it lies: an entry is large.
-    pub(crate) fn set(&mut self, number: u32, row: &ByteRecord, form: Form)
+    pub(crate) fn set(&mut self, number: u32, csv_record: &ByteRecord, form: Form)
         requires from_one { 1 ≤ number }
         requires limited { number ≤ record_limit }
-        ensures { (self.new.number ≡ number) × (body_seen self.new.body ≡ body_of form (fields_of row.now)) }
+        ensures { (self.new.number ≡ number) × (body_seen self.new.body ≡ body_of form (fields_of csv_record.now)) }
     {
         self.number = number;
-        self.bare = is_bare(row.as_slice());
-        self.body.set(row, form);
+        self.bare = is_bare(csv_record.as_slice());
+        self.body.set(csv_record, form);
     }
 
     /// The number, from 1 to 1,000,000.
@@ -181,11 +181,11 @@ impl Body {
     }
 
     /// Makes this body that of a record.
-    fn set(&mut self, row: &ByteRecord, form: Form)
-        ensures value { body_seen self.new ≡ body_of form (fields_of row.now) }
+    fn set(&mut self, csv_record: &ByteRecord, form: Form)
+        ensures value { body_seen self.new ≡ body_of form (fields_of csv_record.now) }
         ensures held { IsTrue (may_hold self.new) }
     {
-        let Some(columns) = columns_in(row, form) else {
+        let Some(columns) = columns_in(csv_record, form) else {
             *self = Body::Refused(Refusal::FieldCount);
             return;
         };

@@ -84,7 +84,7 @@ impl Sink {
     ///
     /// # Errors
     ///
-    /// Want of memory alone.
+    /// Running out of memory alone.
     pub fn new(
         alloc: Global,
         mark: u32,

@@ -31,8 +31,8 @@ fn without_mark(field: &[u8]) -> &[u8]
 }
 
 /// Whether a record is the header.
-pub(crate) fn is_header(row: &ByteRecord, form: Form) -> bool
-    ensures { IsTrue result ↔ IsHeader form (fields_of row.now) }
+pub(crate) fn is_header(csv_record: &ByteRecord, form: Form) -> bool
+    ensures { IsTrue result ↔ IsHeader form (fields_of csv_record.now) }
 {
     let Some(
         Columns {
@@ -41,7 +41,7 @@ pub(crate) fn is_header(row: &ByteRecord, form: Form) -> bool
             date,
             note,
         },
-    ) = columns_in(row, form)
+    ) = columns_in(csv_record, form)
     else {
         return false;
     };

@@ -81,7 +81,7 @@ pub struct EntryReader<R: Read> {
 }
 
 /// What an error of csv's reader that stops it means.
-fn fault(e: &Error) -> EntryFault
+fn fault_of_error(e: &Error) -> EntryFault
     requires { stops_reader (error_kind e.now) ≡ true }
     ensures { result ≡ fault_of (error_kind e.now) }
 {
@@ -95,18 +95,18 @@ fn fault(e: &Error) -> EntryFault
 /// Reads the next record, and says whether there was one.
 fn read_record<R: Read>(
     records: &mut Reader<Retrying<R>>,
-    row: &mut ByteRecord,
+    csv_record: &mut ByteRecord,
 ) -> Result<bool, EntryFault>
     requires { IsLive records.old }
     ensures reads { IfOk result (λ found. Reads (records_left (inner_remaining R.remaining) records.old)
-        (records_left (inner_remaining R.remaining) records.new) found (fields_of row.new)) }
+        (records_left (inner_remaining R.remaining) records.new) found (fields_of csv_record.new)) }
     ensures live { OnOk result (HasBegun records.new) }
     ensures fault { IfErr result IsOfReading }
     ensures read_fault { IfErr result (λ e. e ≡ EntryFault.ReadFault → has_failed records.new ≡ true) }
 {
-    match records.read_byte_record(row) {
+    match records.read_byte_record(csv_record) {
         Ok(found) => Ok(found),
-        Err(e) => Err(fault(&e)),
+        Err(e) => Err(fault_of_error(&e)),
     }
 }
 
@@ -117,24 +117,24 @@ fn read_record<R: Read>(
 /// `NotSealed` where it does not agree or one follows, and the faults of reading.
 fn read_behind_seal<R: Read>(
     records: &mut Reader<Retrying<R>>,
-    row: &mut ByteRecord,
+    csv_record: &mut ByteRecord,
     count: u32,
 ) -> Result<(), EntryFault>
     requires live { HasBegun records.old }
-    requires seal { is_seal_record (fields_of row.old) ≡ true }
+    requires seal { is_seal_record (fields_of csv_record.old) ≡ true }
     ensures live { OnOk result (HasBegun records.new) }
-    ensures agrees { OnOk result (Agrees (fields_of row.old) count) }
+    ensures agrees { OnOk result (Agrees (fields_of csv_record.old) count) }
     ensures last { OnOk result
         (IfSome (records_left (inner_remaining R.remaining) records.old) (λ rows. rows ≡ [])) }
     ensures not_sealed { IfErr result (λ e. e ≡ EntryFault.NotSealed
         → IfSome (records_left (inner_remaining R.remaining) records.old)
-        (λ rows. rows ≡ [] → ¬ (Agrees (fields_of row.old) count))) }
+        (λ rows. rows ≡ [] → ¬ (Agrees (fields_of csv_record.old) count))) }
     ensures told { IfErr result (λ e. (e ≡ EntryFault.BadHeader → ⊥) × (e ≡ EntryFault.Failed → ⊥)
         × (e ≡ EntryFault.TooManyRecords → ⊥)) }
     ensures read_fault { IfErr result (λ e. e ≡ EntryFault.ReadFault → has_failed records.new ≡ true) }
 {
-    let agrees = agrees(row, count);
-    let more = read_record(records, row)?;
+    let agrees = agrees(csv_record, count);
+    let more = read_record(records, csv_record)?;
     if more || !agrees {
         return Err(EntryFault::NotSealed);
     }
@@ -173,7 +173,7 @@ fn keep(given: &mut Vec<Snapshot<Entry>>, entry: &Entry) -> bool
 #[inline(always)]
 fn read_entry<R: Read>(
     records: &mut Reader<Retrying<R>>,
-    row: &mut ByteRecord,
+    csv_record: &mut ByteRecord,
     form: Form,
     count: u32,
     entry: &mut Entry,
@@ -194,18 +194,18 @@ fn read_entry<R: Read>(
     ensures told { IfErr result (λ e. (e ≡ EntryFault.BadHeader → ⊥) × (e ≡ EntryFault.Failed → ⊥)) }
     ensures read_fault { IfErr result (λ e. e ≡ EntryFault.ReadFault → has_failed records.new ≡ true) }
 {
-    if !read_record(records, row)? {
+    if !read_record(records, csv_record)? {
         return match form {
             Form::Plain => Ok(false),
             Form::Sealed => Err(EntryFault::NotSealed),
         };
     }
-    if form == Form::Sealed && is_seal(row) {
-        read_behind_seal(records, row, count)?;
+    if form == Form::Sealed && is_seal(csv_record) {
+        read_behind_seal(records, csv_record, count)?;
         return Ok(false);
     }
     let number = number_after(count)?;
-    entry.set(number, row, form);
+    entry.set(number, csv_record, form);
     Ok(true)
 }
 

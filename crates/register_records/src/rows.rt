@@ -9,7 +9,7 @@ ghost use Rattle.register_records.specs.Seen.{entry_seen, outcome_seen, row_made
 
 use crate::answers::Answer;
 use crate::cell_texts::CellText;
-use crate::converting::fill;
+use crate::converting::make_cells;
 use crate::entries::Entry;
 use crate::setups::Setup;
 use crate::short_lists::ShortList;
@@ -66,7 +66,7 @@ impl Row {
     {
         one_cell();
         let mut cells = ShortList::new(CellText::copied(""));
-        fill(&mut cells, self.targets.as_slice(), self.outcome);
+        make_cells(&mut cells, self.targets.as_slice(), self.outcome);
         cells
     }
 

@@ -15,13 +15,13 @@ const SEAL: &[u8] = b"END";
 const MAX_DIGITS: usize = 7;
 
 /// Whether a record is a seal: it has two fields, and the first is `END`, spaces and tabs round it aside.
-pub(crate) fn is_seal(row: &ByteRecord) -> bool
-    ensures { result ≡ is_seal_record (fields_of row.now) }
+pub(crate) fn is_seal(csv_record: &ByteRecord) -> bool
+    ensures { result ≡ is_seal_record (fields_of csv_record.now) }
 {
-    if row.len() != 2 {
+    if csv_record.len() != 2 {
         return false;
     }
-    match row.get(0) {
+    match csv_record.get(0) {
         Some(first) => trimmed(first) == SEAL,
         None => false,
     }

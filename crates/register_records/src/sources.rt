@@ -95,7 +95,7 @@ impl SourceEnd {
 }
 
 /// The cause that a fault is, which there is.
-fn told(cause: Option<Cause>) -> Cause
+fn certain_cause(cause: Option<Cause>) -> Cause
     requires { IsSome cause }
     ensures { cause ≡ Some result }
 {
@@ -145,7 +145,7 @@ fn write_row<W: Output>(
     }
     match writer.put(output, row) {
         Ok(()) => Ok(()),
-        Err(fault) => Err(told(fault.cause())),
+        Err(fault) => Err(certain_cause(fault.cause())),
     }
 }
 
@@ -200,7 +200,7 @@ fn convert_next<R: Read + Drop, W: Output>(
     match answer {
         Ok(true) => (),
         Ok(false) => return Ok(None),
-        Err(fault) => return Err(told(fault.cause())),
+        Err(fault) => return Err(certain_cause(fault.cause())),
     }
     match write_row(writer, journal, output, row) {
         Ok(()) => Ok(Some(row.entry().number())),
@@ -318,7 +318,7 @@ pub fn convert_source<R: Read + Drop, W: Output>(
         Ok(entries) => entries,
         Err(fault) => {
             return SourceEnd::Broken {
-                cause: told(fault.cause()),
+                cause: certain_cause(fault.cause()),
             };
         }
     };
@@ -326,7 +326,7 @@ pub fn convert_source<R: Read + Drop, W: Output>(
         Ok(writer) => writer,
         Err(fault) => {
             return SourceEnd::Broken {
-                cause: told(fault.cause()),
+                cause: certain_cause(fault.cause()),
             };
         }
     };

@@ -130,7 +130,7 @@ impl RowWriter {
         self.lines.len()
     }
 
-    /// Writes the lines that wait and flushes them; then none waits. It does so after want of memory too.
+    /// Writes the lines that wait and flushes them; then none waits. It does so where memory ran out, too.
     ///
     /// # Errors
     ///

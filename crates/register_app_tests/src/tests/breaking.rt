@@ -371,7 +371,7 @@ fn a_page_that_cannot_be_printed_is_told(rt: HostRuntime) {
 
 const OUT_OF_MEMORY: &[u8] = b"register: out of memory\n";
 
-/// Whether a line says that a source is broken for want of memory or of a thread.
+/// Whether a line says that a source is broken since memory ran out or a thread did not start.
 fn is_of_memory(line: &[u8]) -> bool {
     line.starts_with(b"source ")
         && (line.ends_with(b": cause 1\n") || line.ends_with(b": cause 2\n"))
@@ -440,7 +440,7 @@ fn words_that_are_refused_memory_are_told(rt: HostRuntime) {
     }
 }
 
-/// Whether a page is printed, with nothing told, or this is told for want of memory, with nothing printed.
+/// Whether a page is printed, with nothing told, or this is told where memory ran out, with nothing printed.
 fn is_printed_or_told(heard: &Heard<Breaking, Breaking>, page: &str) -> bool {
     let printed = heard.output.bytes.as_slice();
     let told = heard.errors.bytes.as_slice();

@@ -1,7 +1,7 @@
 //! Files of the system, and their tables.
 
 use crate::tests::helpers::{Heard, ONE_RECORD, ONE_ROW, hear};
-use register_app::{Disk, Exclusive, Sink, Source};
+use register_app::{Destination, Disk, Exclusive, Source};
 use std::alloc::{AllocError, Global};
 use std::fs::OpenOptions;
 use std::os::unix::fs::symlink;
@@ -32,12 +32,12 @@ fn hear_on_disk<T: Threads + Wait + Clock + CpuClock + Sync + Files>(
     rt: &T,
     alloc: Global,
     words: &[&str],
-) -> Result<Heard<Sink<Vec<u8>, T::File>, Vec<u8>>, AllocError>
+) -> Result<Heard<Destination<Vec<u8>, T::File>, Vec<u8>>, AllocError>
 where
     T::File: Send + Exclusive,
 {
     let input: Source<&'static [u8], T::File> = Source::Input(b"");
-    let output = Sink::Output(Vec::new(alloc));
+    let output = Destination::Output(Vec::new(alloc));
     hear(
         rt,
         alloc,

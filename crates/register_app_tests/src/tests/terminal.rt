@@ -126,7 +126,11 @@ fn is_shown(
 }
 
 /// Whether the line for a target stands elsewhere as it is.
-fn is_as_it_is(rt: &(impl Threads + Wait + Clock + CpuClock + Sync), alloc: Global, target: &str) -> bool {
+fn is_as_it_is(
+    rt: &(impl Threads + Wait + Clock + CpuClock + Sync),
+    alloc: Global,
+    target: &str,
+) -> bool {
     let Ok(line) = format!(in alloc; "register: unknown target: {target}\n") else {
         return false;
     };

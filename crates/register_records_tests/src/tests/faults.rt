@@ -280,7 +280,7 @@ fn lines_that_wait_take_no_memory(rt: HostRuntime) -> Result<(), Fail> {
     Ok(())
 }
 
-/// Whether three records are whole, or end for want of memory and leave a front of their table, in whole lines.
+/// Whether three records are whole, or end where memory runs out and leave a front of their table, in whole lines.
 fn is_front_in_need(alloc: Global, setup: &Setup, sink: &mut Sink) -> bool {
     let end = convert_source(alloc, THREE_RECORDS.as_bytes(), sink, setup);
     let lines = lines_of_front(sink.bytes(), THREE_ROWS);
@@ -291,7 +291,7 @@ fn is_front_in_need(alloc: Global, setup: &Setup, sink: &mut Sink) -> bool {
         }
 }
 
-// It passes whichever allocation is refused: then the cause is want of memory, and nothing else.
+// It passes whichever allocation is refused: then the cause is that memory ran out, and nothing else.
 #[test]
 fn a_source_that_is_refused_memory_leaves_a_front_of_its_table(rt: HostRuntime) {
     let Ok(setup) = plain(&[]) else {

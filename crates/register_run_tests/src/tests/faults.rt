@@ -368,7 +368,7 @@ fn answer_in_need(
     Ok(answer_of(rt, alloc, sources, outputs, setup))
 }
 
-/// Whether a run did not begin for want of memory, and gives back its sources and its outputs, which are empty.
+/// Whether a run did not begin since memory ran out, and gives back its sources and its outputs, which are empty.
 fn are_given_back(fault: &RunFault<Chunks, Sink>) -> bool {
     fault.kind == RunFaultKind::NoMemory
         && fault.sources.len() == COUNTS.len()
@@ -405,7 +405,7 @@ fn breaks_one_at_most(report: &Report<Sink>, tables: &[Vec<u8>]) -> bool {
 }
 
 // It passes whichever allocation is refused: then the run does not begin, and says so, or one source alone is broken,
-// for want of memory, of a thread or of a confirmation.
+// since memory ran out, or a thread or a confirmation was missing.
 #[test]
 fn a_run_that_is_refused_memory_does_not_begin_or_breaks_one_source(rt: HostRuntime) {
     let (Ok(setup), Ok(tables)) = (plain_setup(1, 2), tables_of(rt.alloc(), &COUNTS)) else {

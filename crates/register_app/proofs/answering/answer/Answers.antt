@@ -3,7 +3,7 @@ use Rattle.std.proofs.Common.{◌≡◌, ◌≢◌, rules, arith, inl, inr, map,
 use Rattle.std.proofs.lemmas.List.{length-map}
 use Rattle.std.specs.String.{string_bytes}
 use Rattle.register_app.specs.Requests.{MeanJust, help, table, task_of, version}
-use Rattle.register_app.proofs.WordFacts.{is_refused, never_refused}
+use Rattle.register_app.proofs.WordLemmas.{is_refused, never_refused}
 use Rattle.register_app.proofs.answering.answer.Goals as goal
 
 pub returns-in-Ok-Help-clause-answered : goal.returns-in-Ok-Help-clause-answered
@@ -98,7 +98,7 @@ returns-else-is_empty-clause-refused g c =
 
 pub returns-in-Err-clause-refused : goal.returns-in-Err-clause-refused
 returns-in-Err-clause-refused g c =
-    λ had. is_refused (map string_bytes c.args.words.now) c.in-Err.refusal c.refuse.result.status
+    λ had. is_refused (map string_bytes c.args.words.now) c.in-Err.fault c.refuse.result.status
     c.in-Err.ensures.refused c.refuse.ensures.status had
 
 pub returns-else-is_empty-clause-unwritten : goal.returns-else-is_empty-clause-unwritten

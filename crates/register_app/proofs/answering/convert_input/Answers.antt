@@ -1,7 +1,7 @@
 -- The lists of the run hold standard input and standard output alone.
 use Rattle.std.proofs.Common.{◌≡◌, ◌∙◌, ◌∷◌, ◌++◌, [], ap, length, rules}
 use Rattle.register_run.proofs.HeadlineLemmas.{lengths_of}
-use Rattle.register_app.proofs.ReportFacts.{taken_alone}
+use Rattle.register_app.proofs.ReportLemmas.{taken_alone}
 use Rattle.register_app.proofs.answering.convert_input.Goals as goal
 
 pub returns-clause-converted : goal.returns-clause-converted

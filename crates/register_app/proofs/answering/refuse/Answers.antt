@@ -1,5 +1,5 @@
--- The status is the refusal's.
+-- The status is the fault's.
 use Rattle.register_app.proofs.answering.refuse.Goals as goal
 
 pub returns-clause-status : goal.returns-clause-status
-returns-clause-status g c = c.tell_refusal.ensures.status
+returns-clause-status g c = c.tell_fault.ensures.status

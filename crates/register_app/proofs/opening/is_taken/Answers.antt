@@ -3,7 +3,7 @@ use Rattle.std.specs.Prelude.{option_map}
 use Rattle.std.specs.String.{string_bytes}
 use Rattle.std.proofs.lemmas.List.{length-map}
 use Rattle.std.proofs.lemmas.Option.{slice_get-map, slice_get_read}
-use Rattle.register_app.proofs.ApartFacts.{all_before, none_before, one_before}
+use Rattle.register_app.proofs.ApartLemmas.{all_before, none_before, one_before}
 use Rattle.register_app.proofs.opening.is_taken.Goals as goal
 
 pub names-init : goal.names-init

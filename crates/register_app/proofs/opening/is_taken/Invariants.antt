@@ -1,6 +1,6 @@
 use Rattle.std.proofs.Common.{map}
 use Rattle.std.specs.String.{string_bytes}
-use Rattle.register_app.proofs.ApartFacts.{HoldBefore}
+use Rattle.register_app.proofs.ApartLemmas.{HoldBefore}
 use Rattle.register_app.proofs.opening.is_taken.Given as goal
 
 -- the name was told apart from the names so far

@@ -1,5 +1,5 @@
 use Rattle.std.proofs.Common.{◌++◌, codes, map}
-use Rattle.register_app.proofs.ApartFacts.{HoldBefore}
+use Rattle.register_app.proofs.ApartLemmas.{HoldBefore}
 use Rattle.register_app.proofs.opening.keep_sources.Given as goal
 
 -- the output of each file so far does not go to the file itself

@@ -4,8 +4,8 @@ use Rattle.std.specs.Prelude.{slice_get}
 use Rattle.std.specs.String.{string_bytes}
 use Rattle.std.proofs.lemmas.List.{length-map}
 use Rattle.register_app.specs.Openings.{IsNewlyMade}
-use Rattle.register_app.proofs.ApartFacts.{all_pairs, apart_from_earlier, more_pairs, no_pairs, value_at}
-use Rattle.register_app.proofs.MatchFacts.{made_as, so_far_all, so_far_more, so_far_none}
+use Rattle.register_app.proofs.ApartLemmas.{all_pairs, apart_from_earlier, more_pairs, no_pairs, value_at}
+use Rattle.register_app.proofs.MatchLemmas.{made_as, so_far_all, so_far_more, so_far_none}
 use Rattle.register_app.proofs.opening.make_outputs.Goals as goal
 
 pub files-init : goal.files-init

@@ -1,8 +1,8 @@
 use Rattle.std.proofs.Common.{◌≡◌, ◌+◌, ◌++◌, map, codes}
 use Rattle.register_app.specs.Openings.{IsNewlyMade}
 use Rattle.std.specs.String.{string_bytes}
-use Rattle.register_app.proofs.ApartFacts.{HoldOfPairs}
-use Rattle.register_app.proofs.MatchFacts.{AreMatchedSoFar}
+use Rattle.register_app.proofs.ApartLemmas.{HoldOfPairs}
+use Rattle.register_app.proofs.MatchLemmas.{AreMatchedSoFar}
 use Rattle.register_app.proofs.opening.make_outputs.Given as goal
 
 -- the outputs and their names are those of the files so far, the mark is the last one's, and the names were told apart

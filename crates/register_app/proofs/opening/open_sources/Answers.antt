@@ -1,6 +1,6 @@
 -- Each turn opens the next file.
 use Rattle.std.proofs.Common.{◌≡◌, rules, arith, is_ok, true}
-use Rattle.register_app.proofs.MatchFacts.{so_far_all, so_far_more, so_far_none}
+use Rattle.register_app.proofs.MatchLemmas.{so_far_all, so_far_more, so_far_none}
 use Rattle.register_app.proofs.opening.open_sources.Goals as goal
 
 pub files-init : goal.files-init

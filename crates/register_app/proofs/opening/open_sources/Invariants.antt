@@ -1,5 +1,5 @@
 use Rattle.std.proofs.Common.{map}
-use Rattle.register_app.proofs.MatchFacts.{AreMatchedSoFar}
+use Rattle.register_app.proofs.MatchLemmas.{AreMatchedSoFar}
 use Rattle.register_app.proofs.opening.open_sources.Given as goal
 
 -- the sources are those of the files so far

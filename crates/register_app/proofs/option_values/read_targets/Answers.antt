@@ -4,8 +4,8 @@ use Rattle.std.specs.Prelude.{Contains}
 use Rattle.std.proofs.lemmas.List.{map-append}
 use Rattle.std.proofs.lemmas.Iterator.Consumers.{YieldsList-end, YieldsList-so_far, YieldsList-turn}
 use Rattle.register_app.specs.Faults.{unknown_target, target_twice}
-use Rattle.register_app.proofs.ListFacts.{means_just}
-use Rattle.register_app.proofs.NameFacts.{named_more, names_of_split, never_twice, once_more, stands_at}
+use Rattle.register_app.proofs.ListLemmas.{means_just}
+use Rattle.register_app.proofs.NameLemmas.{named_more, names_of_split, never_twice, once_more, stands_at}
 use Rattle.register_app.proofs.option_values.read_targets.Goals as goal
 
 pub names-init : goal.names-init

@@ -11,18 +11,18 @@ use Rattle.register_app.specs.Requests.{IsStripesFault, IsStripesOf, IsTargetFau
 use Rattle.register_records.specs.declared.setups.Form.{Form}
 use Rattle.register_records.specs.declared.setups.Form.TheVariants.{Sealed}
 use Rattle.register_records.specs.declared.setups.Setup.{Setup}
-use Rattle.register_app.specs.declared.refusals.Refusal.{Refusal}
-use Rattle.register_app.proofs.SetupFacts.{asked_delimiter, asked_once, asked_ring, asked_stripes, no_fault}
-use Rattle.register_app.proofs.OptionFacts.{all_told, have_delimiter, have_ring, have_stripes, have_targets}
-use Rattle.register_app.proofs.WordFacts.{if_some, tells_some}
+use Rattle.register_app.specs.declared.request_faults.RequestFault.{RequestFault}
+use Rattle.register_app.proofs.SetupLemmas.{asked_delimiter, asked_once, asked_ring, asked_stripes, no_fault}
+use Rattle.register_app.proofs.OptionLemmas.{all_told, have_delimiter, have_ring, have_stripes, have_targets}
+use Rattle.register_app.proofs.WordLemmas.{if_some, tells_some}
 use Rattle.register_app.proofs.requests.chosen_setup.Goals as goal
 
 pub returns-in_err-targets-clause-fault : goal.returns-in_err-targets-clause-fault
 returns-in_err-targets-clause-fault c =
     let options = c.args.options.now in
     let told = fault_told c.in_err-targets.field-0.0 in
-    passed_up {T = Setup} {E = Refusal} c.from_residual.result c.in_err-targets.field-0.0
-    (λ (r : Refusal). IfSome (fault_told r) (λ fault. (words : List Text) → AreOptionsOf words options
+    passed_up {T = Setup} {E = RequestFault} c.from_residual.result c.in_err-targets.field-0.0
+    (λ (r : RequestFault). IfSome (fault_told r) (λ fault. (words : List Text) → AreOptionsOf words options
     → IsFaultFromTargets words fault)) c.from_residual.ensures.1
     (all_told told (IsTargetFault (option_map (λ v. v.now) options.to)) options
     c.in_err-targets.ensures.fault
@@ -32,8 +32,8 @@ pub returns-in_err-ring-clause-fault : goal.returns-in_err-ring-clause-fault
 returns-in_err-ring-clause-fault c =
     let options = c.args.options.now in
     let told = fault_told c.in_err-ring.field-0.0 in
-    passed_up {T = Setup} {E = Refusal} c.from_residual-in_err-ring.result c.in_err-ring.field-0.0
-    (λ (r : Refusal). IfSome (fault_told r) (λ fault. (words : List Text) → AreOptionsOf words options
+    passed_up {T = Setup} {E = RequestFault} c.from_residual-in_err-ring.result c.in_err-ring.field-0.0
+    (λ (r : RequestFault). IfSome (fault_told r) (λ fault. (words : List Text) → AreOptionsOf words options
     → IsFaultFromTargets words fault)) c.from_residual-in_err-ring.ensures.1
     (all_told told (IsRingFault (option_map (λ v. v.now) options.ring)) options
     (if_some told (IsRingFault (option_map (λ v. v.now) options.ring)) c.in_err-ring.ensures.fault)
@@ -46,8 +46,8 @@ pub returns-in_err-delimiter-clause-fault : goal.returns-in_err-delimiter-clause
 returns-in_err-delimiter-clause-fault c =
     let options = c.args.options.now in
     let told = fault_told c.in_err-delimiter.field-0.0 in
-    passed_up {T = Setup} {E = Refusal} c.from_residual-in_err-delimiter.result c.in_err-delimiter.field-0.0
-    (λ (r : Refusal). IfSome (fault_told r) (λ fault. (words : List Text) → AreOptionsOf words options
+    passed_up {T = Setup} {E = RequestFault} c.from_residual-in_err-delimiter.result c.in_err-delimiter.field-0.0
+    (λ (r : RequestFault). IfSome (fault_told r) (λ fault. (words : List Text) → AreOptionsOf words options
     → IsFaultFromTargets words fault)) c.from_residual-in_err-delimiter.ensures.1
     (all_told told (IsDelimiterFault (option_map (λ v. v.now) options.delimiter)) options
     (if_some told (IsDelimiterFault (option_map (λ v. v.now) options.delimiter)) c.in_err-delimiter.ensures.fault)
@@ -63,8 +63,8 @@ pub returns-in_err-stripes-clause-fault : goal.returns-in_err-stripes-clause-fau
 returns-in_err-stripes-clause-fault c =
     let options = c.args.options.now in
     let told = fault_told c.in_err-stripes.field-0.0 in
-    passed_up {T = Setup} {E = Refusal} c.from_residual-in_err-stripes.result c.in_err-stripes.field-0.0
-    (λ (r : Refusal). IfSome (fault_told r) (λ fault. (words : List Text) → AreOptionsOf words options
+    passed_up {T = Setup} {E = RequestFault} c.from_residual-in_err-stripes.result c.in_err-stripes.field-0.0
+    (λ (r : RequestFault). IfSome (fault_told r) (λ fault. (words : List Text) → AreOptionsOf words options
     → IsFaultFromTargets words fault)) c.from_residual-in_err-stripes.ensures.1
     (all_told told (IsStripesFault (option_map (λ v. v.now) options.stripes)) options
     (if_some told (IsStripesFault (option_map (λ v. v.now) options.stripes)) c.in_err-stripes.ensures.fault)
@@ -83,8 +83,8 @@ pub returns-in_err-check_files-clause-fault : goal.returns-in_err-check_files-cl
 returns-in_err-check_files-clause-fault c =
     let options = c.args.options.now in
     let told = fault_told c.in_err-check_files.field-0.0 in
-    passed_up {T = Setup} {E = Refusal} c.from_residual-in_err-check_files.result c.in_err-check_files.field-0.0
-    (λ (r : Refusal). IfSome (fault_told r) (λ fault. (words : List Text) → AreOptionsOf words options
+    passed_up {T = Setup} {E = RequestFault} c.from_residual-in_err-check_files.result c.in_err-check_files.field-0.0
+    (λ (r : RequestFault). IfSome (fault_told r) (λ fault. (words : List Text) → AreOptionsOf words options
     → IsFaultFromTargets words fault)) c.from_residual-in_err-check_files.ensures.1
     (all_told told (IsFileFault (map (λ f. f.now) c.as_slice.result.now)) options
     (if_some told (IsFileFault (map (λ f. f.now) c.as_slice.result.now)) c.in_err-check_files.ensures.fault)
@@ -144,32 +144,32 @@ unreachable-requires c =
     (λ e. (c.new.ensures.ring_size.0 e).1) (λ e. (c.new.ensures.delimiter.0 e).2) few
     (λ e. (c.new.ensures.stripes.0 e).3)
 
--- each refusal tells a fault, or is for want of memory
+-- each error tells a fault, or that memory ran out
 pub returns-in_err-targets-clause-memory : goal.returns-in_err-targets-clause-memory
 returns-in_err-targets-clause-memory c =
-    passed_up {T = Setup} {E = Refusal} c.from_residual.result c.in_err-targets.field-0.0 IsOfWords
+    passed_up {T = Setup} {E = RequestFault} c.from_residual.result c.in_err-targets.field-0.0 IsOfWords
     c.from_residual.ensures.1 c.in_err-targets.ensures.memory
 
 pub returns-in_err-ring-clause-memory : goal.returns-in_err-ring-clause-memory
 returns-in_err-ring-clause-memory c =
-    passed_up {T = Setup} {E = Refusal} c.from_residual-in_err-ring.result c.in_err-ring.field-0.0
+    passed_up {T = Setup} {E = RequestFault} c.from_residual-in_err-ring.result c.in_err-ring.field-0.0
     IsOfWords c.from_residual-in_err-ring.ensures.1
     (tells_some c.in_err-ring.field-0.0 _ c.in_err-ring.ensures.fault)
 
 pub returns-in_err-delimiter-clause-memory : goal.returns-in_err-delimiter-clause-memory
 returns-in_err-delimiter-clause-memory c =
-    passed_up {T = Setup} {E = Refusal} c.from_residual-in_err-delimiter.result c.in_err-delimiter.field-0.0
+    passed_up {T = Setup} {E = RequestFault} c.from_residual-in_err-delimiter.result c.in_err-delimiter.field-0.0
     IsOfWords c.from_residual-in_err-delimiter.ensures.1
     (tells_some c.in_err-delimiter.field-0.0 _ c.in_err-delimiter.ensures.fault)
 
 pub returns-in_err-stripes-clause-memory : goal.returns-in_err-stripes-clause-memory
 returns-in_err-stripes-clause-memory c =
-    passed_up {T = Setup} {E = Refusal} c.from_residual-in_err-stripes.result c.in_err-stripes.field-0.0
+    passed_up {T = Setup} {E = RequestFault} c.from_residual-in_err-stripes.result c.in_err-stripes.field-0.0
     IsOfWords c.from_residual-in_err-stripes.ensures.1
     (tells_some c.in_err-stripes.field-0.0 _ c.in_err-stripes.ensures.fault)
 
 pub returns-in_err-check_files-clause-memory : goal.returns-in_err-check_files-clause-memory
 returns-in_err-check_files-clause-memory c =
-    passed_up {T = Setup} {E = Refusal} c.from_residual-in_err-check_files.result c.in_err-check_files.field-0.0
+    passed_up {T = Setup} {E = RequestFault} c.from_residual-in_err-check_files.result c.in_err-check_files.field-0.0
     IsOfWords c.from_residual-in_err-check_files.ensures.1
     (tells_some c.in_err-check_files.field-0.0 _ c.in_err-check_files.ensures.fault)

@@ -2,7 +2,7 @@
 use Rattle.std.proofs.Common.{refl, Ok}
 use Rattle.std.proofs.lemmas.Result.{IfErr-weaker, IfOk-weaker}
 use Rattle.register_app.specs.Faults.{fault_told}
-use Rattle.register_app.proofs.ListFacts.{told_of_list}
+use Rattle.register_app.proofs.ListLemmas.{told_of_list}
 use Rattle.register_app.proofs.requests.chosen_targets.Goals as goal
 
 pub returns-in-Some-clause-value : goal.returns-in-Some-clause-value

@@ -2,7 +2,7 @@
 use Rattle.std.proofs.Common.{◌∙◌, List, map, ℕ, sym, subst, arith}
 use Rattle.std.proofs.lemmas.List.{length-map, take_all}
 use Rattle.register_app.specs.Requests.{IsNamedTwice}
-use Rattle.register_app.proofs.FileFacts.{first_at, still_once}
+use Rattle.register_app.proofs.FileLemmas.{first_at, still_once}
 use Rattle.register_app.proofs.requests.file_named_twice.Goals as goal
 
 pub returns-then-contains-clause-first : goal.returns-then-contains-clause-first

@@ -6,10 +6,10 @@ use Rattle.clap.proofs.TakesLemmas.{passed_up}
 use Rattle.register_app.specs.Faults.{IsOfWords, fault_told, usage}
 use Rattle.register_app.specs.OptionsRead.{AreOptionsOf, task_by}
 use Rattle.register_app.specs.Requests.{IsFaultFromTargets, MeanJust, help, table, version, wrong}
-use Rattle.register_app.specs.declared.refusals.Refusal.{Refusal}
+use Rattle.register_app.specs.declared.request_faults.RequestFault.{RequestFault}
 use Rattle.register_app.specs.declared.requests.Request.{Request}
-use Rattle.register_app.proofs.WordFacts.{asks_help, asks_version, mean_just, misuses, told_just}
-use Rattle.register_app.proofs.OptionFacts.{told_of}
+use Rattle.register_app.proofs.WordLemmas.{asks_help, asks_version, mean_just, misuses, told_just}
+use Rattle.register_app.proofs.OptionLemmas.{told_of}
 use Rattle.register_app.proofs.requests.read_request.Goals as goal
 
 pub returns-in-DisplayHelp-clause-asked : goal.returns-in-DisplayHelp-clause-asked
@@ -56,13 +56,13 @@ returns-in_err-setup-clause-refused c =
     = told_just words told fails c.one_target.ensures
     (told_of told words c.in-Ok.options c.in_err-setup.ensures.fault are)
     (λ fault at. inr (c.in-Ok.ensures.taken, at)) in
-    passed_up {T = Request} {E = Refusal} c.from_residual.result c.in_err-setup.field-0.0
-    (λ (r : Refusal). IfSome (fault_told r) (λ fault. MeanJust words (wrong fault)))
+    passed_up {T = Request} {E = RequestFault} c.from_residual.result c.in_err-setup.field-0.0
+    (λ (r : RequestFault). IfSome (fault_told r) (λ fault. MeanJust words (wrong fault)))
     c.from_residual.ensures.1 is
 
 pub returns-in_err-setup-clause-memory : goal.returns-in_err-setup-clause-memory
 returns-in_err-setup-clause-memory c =
-    passed_up {T = Request} {E = Refusal} c.from_residual.result c.in_err-setup.field-0.0 IsOfWords
+    passed_up {T = Request} {E = RequestFault} c.from_residual.result c.in_err-setup.field-0.0 IsOfWords
     c.from_residual.ensures.1 c.in_err-setup.ensures.memory
 
 pub returns-clause-asked : goal.returns-clause-asked

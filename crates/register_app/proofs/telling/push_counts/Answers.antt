@@ -1,6 +1,6 @@
 -- Each turn adds the count of the next number, if there is one.
 use Rattle.std.proofs.Common.{arith}
-use Rattle.register_app.proofs.ReportFacts.{count_added, count_left_out}
+use Rattle.register_app.proofs.ReportLemmas.{count_added, count_left_out}
 use Rattle.register_app.proofs.telling.push_counts.Goals as goal
 use Rattle.register_app.proofs.telling.push_counts.Goals.{then-count-gt0, else-count-gt0}
 

@@ -1,27 +1,27 @@
 use Rattle.std.proofs.Common.{◌≡◌, ◌<◌, ◌∙◌, ap, arith, length}
 use Rattle.csv.specs.Records.{fields_of}
 use Rattle.register_records.specs.Records.{field_count}
-use Rattle.register_records.proofs.FieldFacts.{field_there, plain_texts, sealed_texts, three_or_four}
+use Rattle.register_records.proofs.FieldLemmas.{field_there, plain_texts, sealed_texts, three_or_four}
 use Rattle.register_records.proofs.columns.columns_in.Goals as goal
 
 pub returns-in_err-id : goal.returns-in_err-id
 returns-in_err-id c =
-    field_there c.args.form (fields_of c.args.row.now) 0 (omega arith)
+    field_there c.args.form (fields_of c.args.csv_record.now) 0 (omega arith)
     (omega (arith, three_or_four c.args.form)) c.in_err-id.ensures.value
 
 pub returns-in_err-calendar : goal.returns-in_err-calendar
 returns-in_err-calendar c =
-    field_there c.args.form (fields_of c.args.row.now) 1 (omega arith)
+    field_there c.args.form (fields_of c.args.csv_record.now) 1 (omega arith)
     (omega (arith, three_or_four c.args.form)) c.in_err-calendar.ensures.value
 
 pub returns-in_err-date : goal.returns-in_err-date
 returns-in_err-date c =
-    field_there c.args.form (fields_of c.args.row.now) 2 (omega arith)
+    field_there c.args.form (fields_of c.args.csv_record.now) 2 (omega arith)
     (omega (arith, three_or_four c.args.form)) c.in_err-date.ensures.value
 
 pub returns-in-Plain : goal.returns-in-Plain
 returns-in-Plain c =
-    let fields = fields_of c.args.row.now in
+    let fields = fields_of c.args.csv_record.now in
     let long : length fields ≡ field_count c.args.form = omega arith in
     rw c.in-Plain.is
     (plain_texts fields _ _ _ (long ∙ ap field_count c.in-Plain.is)
@@ -30,11 +30,11 @@ returns-in-Plain c =
 pub returns-in_err-get-in-Sealed : goal.returns-in_err-get-in-Sealed
 returns-in_err-get-in-Sealed c =
     let there : 3 < field_count c.args.form = rw c.in-Sealed.is (omega arith) in
-    field_there c.args.form (fields_of c.args.row.now) 3 (omega arith) there c.in_err-get-in-Sealed.ensures.value
+    field_there c.args.form (fields_of c.args.csv_record.now) 3 (omega arith) there c.in_err-get-in-Sealed.ensures.value
 
 pub returns-in_ok-get-in-Sealed : goal.returns-in_ok-get-in-Sealed
 returns-in_ok-get-in-Sealed c =
-    let fields = fields_of c.args.row.now in
+    let fields = fields_of c.args.csv_record.now in
     let long : length fields ≡ field_count c.args.form = omega arith in
     rw c.in-Sealed.is
     (sealed_texts fields _ _ _ _ (long ∙ ap field_count c.in-Sealed.is)

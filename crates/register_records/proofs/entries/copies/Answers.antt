@@ -1,6 +1,6 @@
 use Rattle.std.proofs.Common.{sym}
 use Rattle.std.proofs.lemmas.Str.{is_utf8-from_IsUtf8}
-use Rattle.register_records.proofs.FieldFacts.{no_utf8}
+use Rattle.register_records.proofs.FieldLemmas.{no_utf8}
 use Rattle.register_records.proofs.entries.copies.Goals as goal
 
 pub returns-in-Ok-clause-is_text : goal.returns-in-Ok-clause-is_text

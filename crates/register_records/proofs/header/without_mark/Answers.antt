@@ -1,6 +1,6 @@
 use Rattle.std.proofs.Common.{◌∙◌, sym, arith}
 use Rattle.std.proofs.lemmas.Bool.Decides.{nat_tests}
-use Rattle.register_records.proofs.HeaderFacts.{mark_not, mark_there, rest_of}
+use Rattle.register_records.proofs.HeaderLemmas.{mark_not, mark_there, rest_of}
 use Rattle.csv.proofs.ReadFacts.{strip-short}
 use Rattle.register_records.proofs.header.without_mark.Goals as goal
 

@@ -1,7 +1,7 @@
 use Rattle.std.proofs.Common.{◌≡◌, ◌∷◌, [], ◌∙◌, ap, length, length-append, rules, true}
 use Rattle.std.specs.Result.{is_ok}
 use Rattle.register_records.specs.ReadingState.{entries_shown}
-use Rattle.register_records.proofs.GivenFacts.{shown_more}
+use Rattle.register_records.proofs.GivenLemmas.{shown_more}
 use Rattle.register_records.proofs.reading.keep.Goals as goal
 
 pub returns-clause-kept : goal.returns-clause-kept

@@ -1,7 +1,7 @@
 use Rattle.std.proofs.Common.{◌≡◌, [], inl}
 use Rattle.csv.specs.Records.{fields_of}
 use Rattle.register_records.specs.Seals.{Agrees}
-use Rattle.register_records.proofs.StepFacts.{always, found, not_empty}
+use Rattle.register_records.proofs.StepLemmas.{always, found, not_empty}
 use Rattle.register_records.proofs.reading.read_behind_seal.Goals as goal
 use Rattle.register_records.proofs.reading.read_behind_seal.Goals.{then-more-via-else-more+then-not-agrees}
 use Rattle.register_records.proofs.reading.read_behind_seal.Goals.{then-more-via-then-more}
@@ -14,6 +14,6 @@ returns-then-more-clause-not_sealed g c _ =
     elim c.then-more.branch [
       | then-more-via-then-more w ↦ not_empty _ _ _ _ (found _ _ _ _ c.in_ok-more.ensures.reads w.if-more.true)
       | then-more-via-else-more+then-not-agrees w ↦
-          always _ (λ rows. rows ≡ [] → ¬ (Agrees (fields_of c.args.row.now) c.args.count))
+          always _ (λ rows. rows ≡ [] → ¬ (Agrees (fields_of c.args.csv_record.now) c.args.count))
           (λ rows empty a. cc (c.agrees-agrees.ensures.1 a, w.if-not-agrees.true))
     ]

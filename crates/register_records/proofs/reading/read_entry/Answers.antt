@@ -2,8 +2,8 @@ use Rattle.std.proofs.Common.{◌≡◌, ◌∙◌, inl, rules, sym, true, false
 use Rattle.csv.specs.Records.{fields_of}
 use Rattle.register_records.specs.ReadingState.{IsNoSeal}
 use Rattle.register_records.specs.declared.setups.Form.TheVariants.{Sealed}
-use Rattle.register_records.proofs.StepFacts.{entry_left, found, found_none, no_seal_left, other_no_seal, plain_no_seal}
-use Rattle.register_records.proofs.StepFacts.{seal_lacks, told_on}
+use Rattle.register_records.proofs.StepLemmas.{entry_left, found, found_none, no_seal_left, other_no_seal, plain_no_seal}
+use Rattle.register_records.proofs.StepLemmas.{seal_lacks, told_on}
 use Rattle.register_records.proofs.reading.read_entry.Goals as goal
 use Rattle.register_records.proofs.reading.read_entry.Goals.{else-eq-via-else-eq, else-eq-via-then-eq+else-is_seal}
 
@@ -34,7 +34,7 @@ returns-in_err-number-clause-many g c =
     told_on _ c.in_err-number.field-0.0 _ c.from_residual-in_err-number.ensures.1 (λ _.
     let some : c.in_ok-read_record.field-0 ≡ true = search rules in
     let first = found _ _ _ _ c.in_ok-read_record.ensures.reads some in
-    let other : IsNoSeal c.args.form (fields_of c.read_record.new.row)
+    let other : IsNoSeal c.args.form (fields_of c.read_record.new.csv_record)
     = elim c.else-eq.branch [
       | else-eq-via-then-eq+else-is_seal w ↦ other_no_seal _ _ (sym w.is_seal.ensures ∙ w.if-is_seal.false)
       | else-eq-via-else-eq w ↦ plain_no_seal _ _ (λ e. search (rules, e, w.if-eq.false))

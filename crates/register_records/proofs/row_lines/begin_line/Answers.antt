@@ -1,7 +1,7 @@
 use Rattle.std.proofs.Common.{arith}
 use Rattle.register_records.specs.Entries.{body_seen}
 use Rattle.register_records.specs.LineViews.{line_delimiter}
-use Rattle.register_records.proofs.LineFacts.{first_number, plain_column, plain_decimal}
+use Rattle.register_records.proofs.LineLemmas.{first_number, plain_column, plain_decimal}
 use Rattle.register_records.proofs.row_lines.begin_line.Goals as goal
 
 pub start-requires : goal.start-requires

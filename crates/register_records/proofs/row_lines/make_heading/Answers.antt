@@ -4,8 +4,8 @@ use Rattle.date_texts.specs.Calendars.{target_name}
 use Rattle.register_records.specs.Columns.{answer_name, day_columns, entry_columns, entry_name, heading, of_day}
 use Rattle.register_records.specs.LineViews.{line_bytes, line_delimiter}
 use Rattle.register_records.specs.declared.table_columns.DayColumn.{DayColumn}
-use Rattle.register_records.proofs.LineFacts.{answer_names, behind, one_item, same_body, same-line, some_columns}
-use Rattle.register_records.proofs.LineFacts.{some_fields, two_fields}
+use Rattle.register_records.proofs.LineLemmas.{answer_names, behind, one_item, same_body, same-line, some_columns}
+use Rattle.register_records.proofs.LineLemmas.{some_fields, two_fields}
 use Rattle.register_records.proofs.row_lines.make_heading.Goals as goal
 
 pub days-init : goal.days-init

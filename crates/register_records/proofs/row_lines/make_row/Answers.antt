@@ -2,7 +2,7 @@ use Rattle.std.proofs.Common.{◌∙◌, map, refl}
 use Rattle.register_records.specs.Columns.{entry_columns, entry_field, row_fields}
 use Rattle.register_records.specs.LineViews.{line_bytes}
 use Rattle.register_records.specs.Views.{row_seen, row_targets}
-use Rattle.register_records.proofs.LineFacts.{same-line, some_columns, two_of}
+use Rattle.register_records.proofs.LineLemmas.{same-line, some_columns, two_of}
 use Rattle.register_records.proofs.row_lines.make_row.Goals as goal
 
 pub returns-clause-value : goal.returns-clause-value

@@ -9,7 +9,7 @@ use Rattle.register_records.specs.Answers.{answer_text, cells_of}
 use Rattle.register_records.specs.LineViews.{line_delimiter}
 use Rattle.register_records.specs.Seen.{outcome_seen}
 use Rattle.register_records.specs.Views.{row_targets}
-use Rattle.register_records.proofs.AnswerFacts.{one_cells}
+use Rattle.register_records.proofs.AnswerLemmas.{one_cells}
 use Rattle.register_records.proofs.row_lines.push_other_answer.Goals as goal
 
 pub returns-clause-value : goal.returns-clause-value

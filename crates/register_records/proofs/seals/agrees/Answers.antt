@@ -1,6 +1,6 @@
 use Rattle.csv.specs.Records.{fields_of}
 use Rattle.register_records.specs.Seals.{Agrees}
-use Rattle.register_records.proofs.SealFacts.{compared}
+use Rattle.register_records.proofs.SealLemmas.{compared}
 use Rattle.register_records.proofs.seals.agrees.Goals as goal
 
 pub returns-in-Some : goal.returns-in-Some

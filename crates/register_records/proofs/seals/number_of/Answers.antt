@@ -1,5 +1,5 @@
 use Rattle.std.proofs.Common.{◌≡◌, ◌∙◌, arith, get_or, sym, true, false}
-use Rattle.register_records.proofs.SealFacts.{digit_at, digit_fits, digit_small, digits_more, number_more, places_more}
+use Rattle.register_records.proofs.SealLemmas.{digit_at, digit_fits, digit_small, digits_more, number_more, places_more}
 use Rattle.register_records.proofs.seals.number_of.Goals as goal
 
 pub returns-then-not-is_ascii_digit : goal.returns-then-not-is_ascii_digit

@@ -5,7 +5,7 @@ use Rattle.register_records.proofs.sources.convert_source.Goals as goal
 
 pub returns-in-Err-open-clause-part : goal.returns-in-Err-open-clause-part
 returns-in-Err-open-clause-part g c other =
-    let memory = only_memory _ _ (sym c.cause-in-Err-open.ensures ∙ c.told-in-Err-open.ensures) other in
+    let memory = only_memory _ _ (sym c.cause-in-Err-open.ensures ∙ c.certain_cause-in-Err-open.ensures) other in
     rw (c.in-Err-open.ensures.memory memory) (nothing _ _ _ _ (appends-none _))
 
 pub returns-clause-whole : goal.returns-clause-whole

@@ -1,6 +1,6 @@
 use Rattle.std.proofs.Common.{◌≡◌, ◌-◌, ◌≤◌, arith, drop, length, length-drop}
 use Rattle.register_records.specs.TargetNumbers.{number_of}
-use Rattle.register_records.proofs.TargetNumberFacts.{fits}
+use Rattle.register_records.proofs.TargetNumberLemmas.{fits}
 use Rattle.register_records.proofs.target_lists.number.Goals as goal
 
 pub overflow_mul-number : goal.overflow_mul-number

@@ -2,8 +2,8 @@
 use Rattle.std.proofs.Common.{rules, ◌≡◌, ◌++◌, subst, sym, take}
 use Rattle.std.proofs.Math.Logic.{∥∥₁_map}
 use Rattle.std.specs.Io.KnownBytes.{Appends}
-use Rattle.register_app.proofs.ReportFacts.{appends_both}
-use Rattle.register_app.proofs.ToldFacts.{appends_kept}
+use Rattle.register_app.proofs.ReportLemmas.{appends_both}
+use Rattle.register_app.proofs.ToldLemmas.{appends_kept}
 use Rattle.register_app.proofs.told.ToldWrite.write.Goals as goal
 
 pub invariant_of-self : goal.invariant_of-self

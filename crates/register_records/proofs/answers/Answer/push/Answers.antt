@@ -1,5 +1,5 @@
 use Rattle.std.proofs.Common.{arith}
-use Rattle.register_records.proofs.AnswerFacts.{put_field}
+use Rattle.register_records.proofs.AnswerLemmas.{put_field}
 use Rattle.register_records.proofs.answers.Answer.push.Goals as goal
 
 pub returns-clause-value : goal.returns-clause-value

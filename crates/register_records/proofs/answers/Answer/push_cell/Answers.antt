@@ -1,7 +1,7 @@
 use Rattle.std.proofs.Common.{◌≡◌, ◌∙◌, ◌∷◌, ◌++◌, [], ap, append-nil, arith, length, rules, sym, take}
 use Rattle.std.proofs.lemmas.List.{length-take-le, take_more_set}
-use Rattle.register_records.proofs.AnswerFacts.{put_cell}
-use Rattle.register_records.proofs.LineFacts.{plain_bytes}
+use Rattle.register_records.proofs.AnswerLemmas.{put_cell}
+use Rattle.register_records.proofs.LineLemmas.{plain_bytes}
 use Rattle.register_records.proofs.answers.Answer.push_cell.Goals as goal
 
 pub returns-clause-value : goal.returns-clause-value

@@ -2,7 +2,7 @@ use Rattle.std.proofs.Common.{◌∙◌, ◌++◌, [], ℕ, List, ap, refl, sym}
 use Rattle.csv.specs.Writing.{fields_text}
 use Rattle.register_records.specs.Answers.{answer_bytes}
 use Rattle.register_records.specs.Lines.{writing}
-use Rattle.register_records.proofs.AnswerFacts.{day-columns, no_columns}
+use Rattle.register_records.proofs.AnswerLemmas.{day-columns, no_columns}
 use Rattle.register_records.proofs.answers.Answer.push_cells.Goals as goal
 
 pub returns-in-Ok-clause-value : goal.returns-in-Ok-clause-value

@@ -6,7 +6,7 @@ use Rattle.date_texts.specs.declared.calendar.Target.{Target}
 use Rattle.register_records.specs.Answers.{answer_bytes}
 use Rattle.register_records.specs.Lines.{writing}
 use Rattle.register_records.specs.Outcomes.{AreCells}
-use Rattle.register_records.proofs.AnswerFacts.{cells_last, more_text}
+use Rattle.register_records.proofs.AnswerLemmas.{cells_last, more_text}
 use Rattle.register_records.proofs.answers.Answer.push_cells_of_day.Goals as goal
 
 pub cells-init : goal.cells-init

@@ -3,8 +3,8 @@ use Rattle.csv.specs.Writing.{fields_text}
 use Rattle.register_records.specs.Columns.{answer_field, day_columns, of_day}
 use Rattle.register_records.specs.Seen.{outcome_seen}
 use Rattle.register_records.specs.declared.table_columns.DayColumn.{DayColumn}
-use Rattle.register_records.proofs.AnswerFacts.{more_text}
-use Rattle.register_records.proofs.LineFacts.{one_mapped}
+use Rattle.register_records.proofs.AnswerLemmas.{more_text}
+use Rattle.register_records.proofs.LineLemmas.{one_mapped}
 use Rattle.register_records.proofs.answers.Answer.push_day_columns.Goals as goal
 
 pub days-init : goal.days-init

@@ -1,8 +1,8 @@
 use Rattle.std.proofs.Common.{◌≡◌, ◌≤◌, arith, length}
 use Rattle.std.proofs.lemmas.Grind.{common_steps}
 use Rattle.std.specs.Fmt.{signed_decimal}
-use Rattle.register_records.proofs.AnswerFacts.{day_length}
-use Rattle.register_records.proofs.LineFacts.{plain_day}
+use Rattle.register_records.proofs.AnswerLemmas.{day_length}
+use Rattle.register_records.proofs.LineLemmas.{plain_day}
 use Rattle.register_records.proofs.answers.Answer.push_day_number.Goals as goal
 
 pub push-requires-clause-plain : goal.push-requires-clause-plain

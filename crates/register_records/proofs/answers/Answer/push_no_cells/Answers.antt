@@ -4,7 +4,7 @@ use Rattle.csv.specs.Writing.{fields_text}
 use Rattle.date_texts.specs.declared.calendar.Target.{Target}
 use Rattle.register_records.specs.Answers.{answer_bytes}
 use Rattle.register_records.specs.Lines.{writing}
-use Rattle.register_records.proofs.AnswerFacts.{more_text, one_empty}
+use Rattle.register_records.proofs.AnswerLemmas.{more_text, one_empty}
 use Rattle.register_records.proofs.answers.Answer.push_no_cells.Goals as goal
 
 pub cells-init : goal.cells-init

@@ -1,7 +1,7 @@
 use Rattle.std.proofs.Common.{◌∙◌, ap, arith}
 use Rattle.std.specs.Fmt.{decimal}
-use Rattle.register_records.proofs.AnswerFacts.{refusal_length}
-use Rattle.register_records.proofs.LineFacts.{plain_decimal}
+use Rattle.register_records.proofs.AnswerLemmas.{refusal_length}
+use Rattle.register_records.proofs.LineLemmas.{plain_decimal}
 use Rattle.register_records.proofs.answers.Answer.push_refusal.Goals as goal
 
 pub push-requires-in-Err-clause-plain : goal.push-requires-in-Err-clause-plain

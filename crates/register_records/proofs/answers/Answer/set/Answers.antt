@@ -3,7 +3,7 @@ use Rattle.register_records.specs.Answers.{answer_bytes, answer_text, cells_of, 
 use Rattle.register_records.specs.Columns.{answer_field, cell_columns, day_columns, of_day, refusal}
 use Rattle.register_records.specs.Outcomes.{AreCells}
 use Rattle.register_records.specs.Seen.{outcome_seen}
-use Rattle.register_records.proofs.AnswerFacts.{cut_answer, text, whole_answer}
+use Rattle.register_records.proofs.AnswerLemmas.{cut_answer, text, whole_answer}
 use Rattle.register_records.proofs.answers.Answer.set.Goals as goal
 
 pub returns : goal.returns

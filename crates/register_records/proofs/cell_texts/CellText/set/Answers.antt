@@ -1,4 +1,4 @@
-use Rattle.register_records.proofs.CellFacts.{cell_is_text}
+use Rattle.register_records.proofs.CellLemmas.{cell_is_text}
 use Rattle.register_records.proofs.cell_texts.CellText.set.Goals as goal
 
 pub invariant_of-self : goal.invariant_of-self

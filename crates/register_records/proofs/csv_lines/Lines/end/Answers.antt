@@ -1,4 +1,4 @@
-use Rattle.register_records.proofs.LineFacts.{ended}
+use Rattle.register_records.proofs.LineLemmas.{ended}
 use Rattle.register_records.specs.LineViews.{line_delimiter}
 use Rattle.register_records.proofs.csv_lines.Lines.end.Goals as goal
 

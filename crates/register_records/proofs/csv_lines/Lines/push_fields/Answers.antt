@@ -1,5 +1,5 @@
 use Rattle.std.proofs.Common.{◌∙◌, ◌++◌, ℕ, List, ap}
-use Rattle.register_records.proofs.LineFacts.{more_fields}
+use Rattle.register_records.proofs.LineLemmas.{more_fields}
 use Rattle.register_records.specs.LineViews.{line_bytes, line_delimiter}
 use Rattle.register_records.proofs.csv_lines.Lines.push_fields.Goals as goal
 

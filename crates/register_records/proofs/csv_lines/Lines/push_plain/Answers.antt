@@ -1,4 +1,4 @@
-use Rattle.register_records.proofs.LineFacts.{one_more, plain_text}
+use Rattle.register_records.proofs.LineLemmas.{one_more, plain_text}
 use Rattle.register_records.specs.LineViews.{line_delimiter}
 use Rattle.register_records.proofs.csv_lines.Lines.push_plain.Goals as goal
 

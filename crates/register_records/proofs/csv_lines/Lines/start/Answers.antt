@@ -1,5 +1,5 @@
 use Rattle.register_records.specs.LineViews.{line_bytes, line_delimiter}
-use Rattle.register_records.proofs.LineFacts.{only_field}
+use Rattle.register_records.proofs.LineLemmas.{only_field}
 use Rattle.register_records.proofs.csv_lines.Lines.start.Goals as goal
 
 pub returns-clause-value : goal.returns-clause-value

@@ -1,8 +1,8 @@
-use Rattle.register_records.proofs.BareFacts.{bare_record}
+use Rattle.register_records.proofs.BareLemmas.{bare_record}
 use Rattle.register_records.proofs.entries.Entry.set.Goals as goal
 
 pub invariant_of-self-clause-bared : goal.invariant_of-self-clause-bared
 invariant_of-self-clause-bared c b =
     rw c.set.ensures.value
-    (bare_record c.args.form c.args.row.now.ends c.args.row.now.bytes
+    (bare_record c.args.form c.args.csv_record.now.ends c.args.csv_record.now.bytes
     (rw (← c.as_slice.ensures) (c.is_bare-self.ensures b)))

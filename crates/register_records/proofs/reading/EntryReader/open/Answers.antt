@@ -7,8 +7,8 @@ use Rattle.register_records.specs.Retrying.{inner_remaining}
 use Rattle.register_records.specs.ReadingState.{entries_shown}
 use Rattle.register_records.specs.Views.{format_of}
 use Rattle.register_records.proofs.EntrySteps.{at_start, refuses, refuses_none}
-use Rattle.register_records.proofs.GivenFacts.{first_step, may-first}
-use Rattle.register_records.proofs.StepFacts.{found, found_none}
+use Rattle.register_records.proofs.GivenLemmas.{first_step, may-first}
+use Rattle.register_records.proofs.StepLemmas.{found, found_none}
 use Rattle.register_records.proofs.reading.EntryReader.open.Goals as goal
 use Rattle.register_records.proofs.reading.EntryReader.open.Goals.{then-not-found-via-else-not-found+then-not-is_header}
 use Rattle.register_records.proofs.reading.EntryReader.open.Goals.{then-not-found-via-then-not-found}
@@ -50,7 +50,7 @@ invariant_of-result g c =
     first_step (g.R.Read.remaining c.args.reader) (g.R.Read.remaining c.of-source.result.value)
     (records_left (inner_remaining g.R.Read.remaining) c.read_record.new.records)
     c.args.setup.now.delimiter c.delimiter-3.result c.form.result c.form-2.result
-    (entries_shown c.new-2.result.items) (fields_of c.read_record.new.row)
+    (entries_shown c.new-2.result.items) (fields_of c.read_record.new.csv_record)
     (ap g.R.Read.remaining c.of-source.ensures) c.delimiter-3.ensures.value
     (c.form-2.ensures ∙ sym c.form.ensures) (ap entries_shown c.new-2.ensures.items)
     (found _ _ _ _ read c.if-not-found.false) (c.is_header.ensures.0 c.if-not-is_header.false) in

@@ -5,8 +5,8 @@ use Rattle.register_records.specs.ReadingState.{records_left}
 use Rattle.register_records.specs.Retrying.{inner_remaining}
 use Rattle.register_records.specs.ReadingState.{entries_shown, format_by}
 use Rattle.register_records.specs.Views.{given_of}
-use Rattle.register_records.proofs.GivenFacts.{may-all, may-end, may-ended, may-fail, may-first, may-lack, may-many}
-use Rattle.register_records.proofs.GivenFacts.{may-more, shown_length}
+use Rattle.register_records.proofs.GivenLemmas.{may-all, may-end, may-ended, may-fail, may-first, may-lack, may-many}
+use Rattle.register_records.proofs.GivenLemmas.{may-more, shown_length}
 use Rattle.register_records.proofs.reading.EntryReader.read_next.Goals as goal
 
 pub returns-then-self-2-clause-all : goal.returns-then-self-2-clause-all

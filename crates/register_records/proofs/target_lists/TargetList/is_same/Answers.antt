@@ -1,7 +1,7 @@
 use Rattle.std.proofs.Common.{◌≡◌, ◌∙◌, ap, sym, rules}
 use Rattle.std.proofs.lemmas.Bool.Decides.{nat_tests}
 use Rattle.register_records.specs.TargetNumbers.{number_of}
-use Rattle.register_records.proofs.TargetNumberFacts.{one_list}
+use Rattle.register_records.proofs.TargetNumberLemmas.{one_list}
 use Rattle.register_records.proofs.target_lists.TargetList.is_same.Goals as goal
 
 pub returns : goal.returns

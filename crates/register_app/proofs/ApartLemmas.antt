@@ -4,7 +4,7 @@ use Rattle.std.proofs.Common.{codes, inl, inr, Some}
 use Rattle.std.specs.Prelude.{option_map, slice_get}
 use Rattle.std.proofs.lemmas.Bool.{cases_lt}
 use Rattle.std.proofs.lemmas.Option.{slice_get-get_or, slice_get-map, slice_get_cases, slice_get_within}
-use Rattle.register_app.proofs.MatchFacts.{AreMatchedSoFar}
+use Rattle.register_app.proofs.MatchLemmas.{AreMatchedSoFar}
 
 -- this holds of each item before place n
 abbrev pub HoldBefore : {X : Type 0} → (X → Type 0) → List X → ℕ → Type 0

@@ -23,13 +23,13 @@ use Rattle.register_app.specs.Requests.{HaveDelimiter, HaveRing, HaveStripes, Ha
 use Rattle.register_app.specs.Requests.{IsDelimiterOf, IsFaultFromDelimiter, IsFaultFromRing, IsFaultFromStripes}
 use Rattle.register_app.specs.Requests.{IsFaultFromTargets, IsFaultOf, IsFileFault, IsRingFault, IsRingOf}
 use Rattle.register_app.specs.Requests.{IsStripesFault, IsStripesOf, IsTargetFault, IsUsageFault, Mean, MeanJust}
-use Rattle.register_app.specs.Requests.{Meaning, Task, command_line, files_in, refusal_status, value_in, help, version}
+use Rattle.register_app.specs.Requests.{Meaning, Task, command_line, files_in, status_of_fault, value_in, help, version}
 use Rattle.register_app.specs.Requests.{table, wrong}
-use Rattle.register_app.specs.declared.refusals.Refusal.{Refusal}
-use Rattle.register_app.specs.declared.refusals.Refusal.TheVariants as refusal
-use Rattle.register_app.proofs.FileFacts.{fit_no_fault, one_file_fault}
-use Rattle.register_app.proofs.KindFacts.{one_kind}
-use Rattle.register_app.proofs.ListFacts.{asks_no_fault, asks_one, one_fault}
+use Rattle.register_app.specs.declared.request_faults.RequestFault.{RequestFault}
+use Rattle.register_app.specs.declared.request_faults.RequestFault.TheVariants as request_fault
+use Rattle.register_app.proofs.FileLemmas.{fit_no_fault, one_file_fault}
+use Rattle.register_app.proofs.KindLemmas.{one_kind}
+use Rattle.register_app.proofs.ListLemmas.{asks_no_fault, asks_one, one_fault}
 
 -- a word names one delimiter at most
 one_byte : (word : Text) (byte other : ℕ) → IsDelimiterWord word byte → IsDelimiterWord word other → byte ≡ other
@@ -251,7 +251,7 @@ module _ (one : OneTarget) (words : List Text) where
   pub mean_just : (meaning : Meaning) → Mean words meaning → MeanJust words meaning
   mean_just meaning means other = (λ e. subst (Mean words) (sym e) means, λ m. one_meaning meaning other means m)
 
--- an error is a request for help or for the version, want of memory, or a fault of usage
+-- an error is a request for help or for the version, running out of memory, or a fault of usage
 pub asks_help : (words : List Text) (error : Error) → HasKind (fault_of command_line words) error
     → kind_of error ≡ DisplayHelp → AskForHelp words
 asks_help words error (inl memory) is = absurd (cc)
@@ -280,7 +280,7 @@ pub if_some : (told : Option Fault) (fails : Fault → Type 0) → IsSomeAnd tol
 if_some None fails is = tt
 if_some (Some fault) fails is = is
 
-pub tells_some : (told : Refusal) (fails : Fault → Type 0) → IsSomeAnd (fault_told told) fails → IsOfWords told
+pub tells_some : (told : RequestFault) (fails : Fault → Type 0) → IsSomeAnd (fault_told told) fails → IsOfWords told
 tells_some told fails is none = absurd (at (fault_told told) is none)
   where
     at : (o : Option Fault) → IsSomeAnd o fails → o ≡ None → ⊥
@@ -299,24 +299,24 @@ at_fault : (words : List Text) (fault : Fault) (status : ℕ) → MeanJust words
 at_fault words fault status just two = (λ e. (fault, (just (wrong fault)).0 refl), λ is. two)
 
 -- words that are refused are, unless there was no memory or a file was missing
-pub is_refused : (words : List Text) (told : Refusal) (status : ℕ)
+pub is_refused : (words : List Text) (told : RequestFault) (status : ℕ)
     → IfSome (fault_told told) (λ fault. MeanJust words (wrong fault))
-    → (status ≡ 3) ⊎ (status ≡ refusal_status told) → status ≢ 3 → (status ≡ 2) ↔ AreWrong words
+    → (status ≡ 3) ⊎ (status ≡ status_of_fault told) → status ≢ 3 → (status ≡ 2) ↔ AreWrong words
 is_refused words told status just (inl memory) had = absurd (had memory)
-is_refused words refusal.OutOfMemory status just (inr memory) had = absurd (had memory)
-is_refused words (refusal.CannotOpen file) status just (inr files) had = absurd (had files)
-is_refused words (refusal.CannotMake file) status just (inr files) had = absurd (had files)
-is_refused words (refusal.Usage error) status just (inr two) had = at_fault words (usage (kind_of error)) status just
+is_refused words request_fault.OutOfMemory status just (inr memory) had = absurd (had memory)
+is_refused words (request_fault.CannotOpen file) status just (inr files) had = absurd (had files)
+is_refused words (request_fault.CannotMake file) status just (inr files) had = absurd (had files)
+is_refused words (request_fault.Usage error) status just (inr two) had = at_fault words (usage (kind_of error)) status just
     two
-is_refused words (refusal.UnknownTarget name) status just (inr two) had = at_fault words (unknown_target name.now)
+is_refused words (request_fault.UnknownTarget name) status just (inr two) had = at_fault words (unknown_target name.now)
     status just two
-is_refused words (refusal.TargetTwice target) status just (inr two) had = at_fault words (target_twice target) status
+is_refused words (request_fault.TargetTwice target) status just (inr two) had = at_fault words (target_twice target) status
     just two
-is_refused words (refusal.BadRing word) status just (inr two) had = at_fault words (bad_ring word.now) status just two
-is_refused words (refusal.UnknownDelimiter word) status just (inr two) had = at_fault words (unknown_delimiter word.now)
+is_refused words (request_fault.BadRing word) status just (inr two) had = at_fault words (bad_ring word.now) status just two
+is_refused words (request_fault.UnknownDelimiter word) status just (inr two) had = at_fault words (unknown_delimiter word.now)
     status just two
-is_refused words (refusal.BadStripes word) status just (inr two) had = at_fault words (bad_stripes word.now) status just
+is_refused words (request_fault.BadStripes word) status just (inr two) had = at_fault words (bad_stripes word.now) status just
     two
-is_refused words refusal.TooManyFiles status just (inr two) had = at_fault words too_many_files status just two
-is_refused words (refusal.FileTwice file) status just (inr two) had = at_fault words (file_twice file.now) status just
+is_refused words request_fault.TooManyFiles status just (inr two) had = at_fault words too_many_files status just two
+is_refused words (request_fault.FileTwice file) status just (inr two) had = at_fault words (file_twice file.now) status just
     two

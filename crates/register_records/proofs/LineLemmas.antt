@@ -32,7 +32,7 @@ use Rattle.register_records.specs.declared.setups.Form.TheVariants.{Plain, Seale
 use Rattle.register_records.specs.declared.table_columns.EntryColumn.{EntryColumn}
 use Rattle.register_records.specs.declared.table_columns.EntryColumn.TheVariants.{Calendar, Date, Id, Note, Number}
 use Rattle.register_records.specs.BareTexts.{has_special}
-use Rattle.register_records.proofs.BareFacts.{unquoted}
+use Rattle.register_records.proofs.BareLemmas.{unquoted}
 
 -- the bytes of some fields, and of one more
 abbrev pub body : ℕ → List (List ℕ) → List ℕ

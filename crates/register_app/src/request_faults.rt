@@ -8,7 +8,7 @@ use thiserror::Error;
 
 /// Why nothing is done: what is wrong with the words, or what was missing before the run.
 #[derive(Debug, Drop, Error)]
-pub enum Refusal<'a> {
+pub enum RequestFault<'a> {
     /// A growth of memory was refused.
     #[error("out of memory")]
     OutOfMemory,
@@ -44,15 +44,16 @@ pub enum Refusal<'a> {
     CannotMake(&'a str),
 }
 
-impl Refusal<'_> {
-    ghost use Rattle.register_app.specs.Requests.{refusal_status};
+impl RequestFault<'_> {
+    ghost use Rattle.register_app.specs.Requests.{status_of_fault};
 
-    /// The exit status: 3 for want of memory and for files, and 2 for what is wrong with the words.
+    /// The exit status: 3 where memory ran out and for files, and 2 for what is wrong with the words.
     pub fn status(&self) -> u8
-        ensures { result ≡ refusal_status self.now }
+        ensures { result ≡ status_of_fault self.now }
     {
         match self {
-            Refusal::OutOfMemory | Refusal::CannotOpen(_) | Refusal::CannotMake(_) => 3,
+            RequestFault::OutOfMemory | RequestFault::CannotOpen(_) | RequestFault::CannotMake(_) =>
+                3,
             _ => 2,
         }
     }

@@ -9,7 +9,7 @@ use Rattle.std.proofs.lemmas.Slice.Eq.{bytes_eq-Decides}
 use Rattle.clap.specs.Words.{Text}
 use Rattle.register_app.specs.Faults.{Fault, file_twice}
 use Rattle.register_app.specs.Requests.{AreFilesToConvert, IsFileFault, IsFirstTwice, IsNamedTwice}
-use Rattle.register_app.proofs.ListFacts.{Meet, meet}
+use Rattle.register_app.proofs.ListLemmas.{Meet, meet}
 
 -- the first file that was named before is named twice
 pub first_is_twice : (files : List Text) (file : Text) → IsFirstTwice files file → IsNamedTwice files file

@@ -6,7 +6,7 @@ use Rattle.register_records.specs.Seals.{Agrees, is_seal}
 use Rattle.register_records.specs.ReadingState.{HasEntry, IsNoSeal, LacksSeal, Reads, TakesFirst}
 use Rattle.register_records.specs.declared.setups.Form.{Form}
 use Rattle.register_records.specs.declared.setups.Form.TheVariants.{Plain, Sealed}
-use Rattle.register_records.proofs.GivenFacts.{before_none, if_some, no_seal_first, seal_first}
+use Rattle.register_records.proofs.GivenLemmas.{before_none, if_some, no_seal_first, seal_first}
 
 -- of a read that found a record, or none
 pub found : (left after : Option (List Fields)) (b : Bool) (f : Fields) → Reads left after b f → b ≡ true

@@ -22,7 +22,7 @@ use Rattle.register_records.specs.Columns.{answer_field, cell_columns, day_colum
 use Rattle.register_records.specs.Lines.{writing}
 use Rattle.register_records.specs.Outcomes.{AreCells}
 use Rattle.register_records.specs.SetupRules.{is_delimiter}
-use Rattle.register_records.proofs.LineFacts.{more_fields_text, plain_bytes, plain_text, put_after}
+use Rattle.register_records.proofs.LineLemmas.{more_fields_text, plain_bytes, plain_text, put_after}
 
 -- the bytes of fields behind delimiters
 abbrev pub text : ℕ → List (List ℕ) → List ℕ

@@ -15,7 +15,7 @@ use Rattle.register_records.specs.SetupRules.{most_stripes}
 use Rattle.register_records.specs.declared.setups.Setup.{Setup}
 use Rattle.register_records.specs.declared.setups.SetupFault.{SetupFault}
 use Rattle.register_records.specs.declared.setups.SetupFault.TheVariants.{TargetTwice, RingSize, Delimiter, Stripes}
-use Rattle.register_app.proofs.NameFacts.{never_twice}
+use Rattle.register_app.proofs.NameLemmas.{never_twice}
 use Rattle.register_app.specs.Requests.{AreTargetsOf, IsDelimiterOf, IsRingOf, IsStripesOf}
 
 -- no name stands at two places

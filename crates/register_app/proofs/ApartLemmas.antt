@@ -37,7 +37,8 @@ pub value_at : {F A : Type 0} (v : F → A) (files : List F) (n : ℕ) (d : F) �
 value_at v files n d lt = slice_get-map v files n ∙ ap (option_map v) (slice_get-get_or files n d lt)
 
 -- a name that is apart from another one under which it is known
-pub apart_by : {X : Type 0} (Apart : X → X → Type 0) (one name known : X) → name ≡ known → Apart one name → Apart one known
+pub apart_by : {X : Type 0} (Apart : X → X → Type 0) (one name known : X) → name ≡ known → Apart one name
+    → Apart one known
 apart_by Apart one name known same apart = subst (λ n. Apart one n) same apart
 
 -- this holds of any two items before place n, the earlier one first

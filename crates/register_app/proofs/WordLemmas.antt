@@ -306,17 +306,23 @@ is_refused words told status just (inl memory) had = absurd (had memory)
 is_refused words request_fault.OutOfMemory status just (inr memory) had = absurd (had memory)
 is_refused words (request_fault.CannotOpen file) status just (inr files) had = absurd (had files)
 is_refused words (request_fault.CannotMake file) status just (inr files) had = absurd (had files)
-is_refused words (request_fault.Usage error) status just (inr two) had = at_fault words (usage (kind_of error)) status just
+is_refused words (request_fault.Usage error) status just (inr two) had = at_fault words (usage (kind_of error)) status
+    just
     two
 is_refused words (request_fault.UnknownTarget name) status just (inr two) had = at_fault words (unknown_target name.now)
     status just two
-is_refused words (request_fault.TargetTwice target) status just (inr two) had = at_fault words (target_twice target) status
+is_refused words (request_fault.TargetTwice target) status just (inr two) had = at_fault words (target_twice target)
+    status
     just two
-is_refused words (request_fault.BadRing word) status just (inr two) had = at_fault words (bad_ring word.now) status just two
-is_refused words (request_fault.UnknownDelimiter word) status just (inr two) had = at_fault words (unknown_delimiter word.now)
+is_refused words (request_fault.BadRing word) status just (inr two) had = at_fault words (bad_ring word.now) status just
+    two
+is_refused words (request_fault.UnknownDelimiter word) status just (inr two) had = at_fault words
+    (unknown_delimiter word.now)
     status just two
-is_refused words (request_fault.BadStripes word) status just (inr two) had = at_fault words (bad_stripes word.now) status just
+is_refused words (request_fault.BadStripes word) status just (inr two) had = at_fault words (bad_stripes word.now)
+    status just
     two
 is_refused words request_fault.TooManyFiles status just (inr two) had = at_fault words too_many_files status just two
-is_refused words (request_fault.FileTwice file) status just (inr two) had = at_fault words (file_twice file.now) status just
+is_refused words (request_fault.FileTwice file) status just (inr two) had = at_fault words (file_twice file.now) status
+    just
     two

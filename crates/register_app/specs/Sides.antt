@@ -14,7 +14,8 @@ source_remaining of_input of_file (source.Input input) = of_input input
 source_remaining of_input of_file (source.File file) = of_file file
 
 -- the bytes that a destination holds
-abbrev pub destination_contents : {O F : Type 0} → (O → Option (List ℕ)) → (F → Option (List ℕ)) → Destination O F → Option (List ℕ)
+abbrev pub destination_contents : {O F : Type 0} → (O → Option (List ℕ)) → (F → Option (List ℕ)) → Destination O F
+    → Option (List ℕ)
 destination_contents of_output of_file (destination.Output output) = of_output output
 destination_contents of_output of_file (destination.File file) = of_file file
 

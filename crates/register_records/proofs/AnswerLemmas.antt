@@ -1,6 +1,7 @@
 -- The fields of an answer, while they are appended, and the cells that are cut from it.
 use Rattle.std.proofs.Common.{◌≡◌, ◌<◌, ◌≤◌, ◌+◌, ◌++◌, ℕ, List, [], ◌∷◌, true, false, refl, sym, ap, ◌∙◌}
-use Rattle.std.proofs.Common.{add-one, arith, append_assoc, append-nil, drop, drop-cons, get_or, length, length-drop, map}
+use Rattle.std.proofs.Common.{add-one, arith, append_assoc, append-nil, drop, drop-cons, get_or, length, length-drop}
+use Rattle.std.proofs.Common.{map}
 use Rattle.std.proofs.Common.{set, take}
 use Rattle.std.specs.Prelude.{ℤ, pos, negsuc, zero, suc, Ok, Err, Result}
 use Rattle.std.specs.Fmt.{decimal, signed_decimal}
@@ -99,7 +100,8 @@ day-columns n place all [] (x ∷ cells) e a = absurd a
 day-columns n place all (t ∷ ts) [] e a = absurd a
 day-columns n place all (t ∷ ts) (x ∷ cells) e a =
     let lt : place < length all = omega (arith, length-drop place all, ap length e) in
-    let split : drop place all ≡ get_or all place [] ∷ drop (place + 1) all = rw (add-one, drop-cons all place []) refl in
+    let split : drop place all ≡ get_or all place [] ∷ drop (place + 1) all = rw (add-one, drop-cons all place [])
+    refl in
     let first : get_or all place [] ≡ x = cc (split, e) in
     let rest : drop (place + 1) all ≡ cells = cc (split, e) in
     let more = day-columns n (place + 1) all ts cells rest a.1 in

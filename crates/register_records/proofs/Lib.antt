@@ -2,7 +2,8 @@
 --   RecordsLeft, FieldLemmas, HeaderLemmas, SealLemmas, EntrySteps, StepLemmas: `gives`, `number` and `all` of
 --     `EntryReader::next`. GivenLemmas: what it has given.
 --   CellLemmas, OutcomeLemmas: that a row is the row of its entry, for `convert`.
---   AnswerLemmas, LineLemmas, BareLemmas: that a line is the fields of its row, for `put`, `add` and `open` of `RowWriter`.
+--   AnswerLemmas, LineLemmas, BareLemmas: that a line is the fields of its row, for `put`, `add` and `open` of
+--   `RowWriter`.
 --   TargetNumberLemmas: `is_for` of `Row`.
 --   Progress: `whole`, `numbers` and `part` of `convert_source`.
 --   OneTable, ReadBack, NoLoss, OneFate: the laws `one_table`, `cells_read_back`, `no_loss_is_sealed`, `one_fate`.

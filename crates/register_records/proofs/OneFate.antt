@@ -1,5 +1,6 @@
 -- A text has one fate: each test that decides it is decided by the text.
-use Rattle.std.proofs.Common.{inl, inr, ◌⊎◌, ◌≡◌, ◌≤◌, ◌<◌, ◌++◌, ℕ, List, [], ◌∷◌, length, Bool, true, false, refl, sym}
+use Rattle.std.proofs.Common.{inl, inr, ◌⊎◌, ◌≡◌, ◌≤◌, ◌<◌, ◌++◌, ℕ, List, [], ◌∷◌, length, Bool, true, false, refl}
+use Rattle.std.proofs.Common.{sym}
 use Rattle.std.proofs.Common.{ap, ◌∙◌, arith, subst, Option, None, Some, codes, fold, ◌*◌, ◌+◌, ◌-◌}
 use Rattle.std.specs.Prelude.{if◌then◌else◌, IsSomeAnd, IsTrue}
 use Rattle.std.specs.Char.{is_ascii_digit}

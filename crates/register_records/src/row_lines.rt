@@ -65,7 +65,8 @@ pub(crate) fn make_heading(
 /// Begins the line of a row: its number and its texts.
 fn begin_line(lines: &mut Lines, form: Form, row: &Row) -> Result<(), AllocError>
     requires { line_len lines.old + LINE_ROOM ≤ line_capacity lines.old }
-    ensures value { OnOk result (Begins (line_bytes lines.old) (map (entry_field (row_seen row.now).number (row_seen row.now).body)
+    ensures value { OnOk result (Begins (line_bytes lines.old)
+        (map (entry_field (row_seen row.now).number (row_seen row.now).body)
         (entry_columns_of form)) lines.new) }
     ensures kept { line_delimiter lines.new ≡ line_delimiter lines.old }
     ensures room { IsOk result }

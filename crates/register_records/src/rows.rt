@@ -27,7 +27,8 @@ pub struct Row {
     pub(crate) outcome: Result<Day, Refusal>,
     pub(crate) targets: TargetList,
     pub(crate) answer: Answer,
-    pub ghost is_row: { ∥ IsRowOf (items_in targets.items) (entry_seen entry) (row_made entry outcome (cells_of answer)) ∥₁ },
+    pub ghost is_row: { ∥ IsRowOf (items_in targets.items) (entry_seen entry) (row_made entry outcome (cells_of answer))
+        ∥₁ },
     ghost written: { answer_bytes answer
         ≡ answer_text answer.delimiter (items_in targets.items) (outcome_seen outcome) (cells_of answer) },
 }

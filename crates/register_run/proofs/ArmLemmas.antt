@@ -128,7 +128,8 @@ took_one given w i b arm closed row on deals took =
     let made : Contains (rows_carried (taken arm.rows)) (entry_seen row.entry) =
     map_within entry_seen (row_entries (taken arm.rows)) row.entry
     (map_within (λ (r : Row). r.entry) (entries_in (taken arm.rows)) row (entry_within (taken arm.rows) row took')) in
-    let sent' = prefix_within (rows_carried (taken arm.rows)) (carried (all_sent closed)) (entry_seen row.entry) on.first
+    let sent' = prefix_within (rows_carried (taken arm.rows)) (carried (all_sent closed)) (entry_seen row.entry)
+    on.first
     made in
     dealt_within w i given (entry_seen row.entry)
     (subst (λ l. Contains l (entry_seen row.entry)) (deals on.confirmed) sent')

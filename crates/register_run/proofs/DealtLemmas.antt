@@ -1,5 +1,6 @@
 -- Entries that the machine deals to the stripes.
-use Rattle.std.proofs.Common.{◌≡◌, ◌∙◌, ◌+◌, ◌-◌, ◌<◌, ℕ, zero, suc, List, [], ◌∷◌, ◌++◌, append-nil, arith, get_or, set}
+use Rattle.std.proofs.Common.{◌≡◌, ◌∙◌, ◌+◌, ◌-◌, ◌<◌, ℕ, zero, suc, List, [], ◌∷◌, ◌++◌, append-nil, arith, get_or}
+use Rattle.std.proofs.Common.{set}
 use Rattle.std.proofs.Common.{ap, map, sym}
 use Rattle.std.specs.Prelude.{◌==◌, All, Bool, Err, IfErr, Ok, OnOk, Result, cond, false, is_err, true}
 use Rattle.std.specs.List.{AllZip, Contains, filter}
@@ -69,7 +70,8 @@ dealt_same w i (suc at) given (s ∷ rest) new d same all =
     (all.0, dealt_same w (i + 1) at given rest new d same all.1)
 
 -- one more entry was given, and sent where it is dealt
-pub dealt_send : (w : World) (at : ℕ) (given more : List Numbered) (senders : List (Sender Entry)) (new old : Sender Entry)
+pub dealt_send : (w : World) (at : ℕ) (given more : List Numbered) (senders : List (Sender Entry))
+    (new old : Sender Entry)
     (e : Entry) (r : Result (Unit {0}) (Gone Entry)) → old ≡ get_or senders at old → is_err r ≡ false
     → more ≡ given ++ entry_seen e ∷ [] → turn w (e.number - 1) ≡ at
     → OnOk r (sent new ≡ sent old ++ item.Entry e ∷ []) → AreDealt w 0 given senders

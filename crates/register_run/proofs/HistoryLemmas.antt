@@ -2,7 +2,8 @@
 use Rattle.std.proofs.Common.{◌≡◌, ◌∙◌, ◌+◌, ◌-◌, ◌++◌, ◌<◌, ℕ, List, [], ◌∷◌, Some, None, true, false, ap, arith}
 use Rattle.std.proofs.Common.{append_assoc, append-nil, inl, inr, length, map, refl, sym}
 use mathlib.Core.Bool.{beq}
-use Rattle.std.specs.Prelude.{◌==◌, Bool, Err, IfOk, Ok, Option, Result, if◌then◌else◌, is_ok, nat_le, nat_lt, slice_get}
+use Rattle.std.specs.Prelude.{◌==◌, Bool, Err, IfOk, Ok, Option, Result, if◌then◌else◌, is_ok, nat_le, nat_lt}
+use Rattle.std.specs.Prelude.{slice_get}
 use Rattle.std.proofs.Math.Logic.{∥∥₁_map}
 use Rattle.std.proofs.lemmas.Bool.{cases_eq, eq-eqb, leb-true, lt-ltb, ne_eqb}
 use Rattle.std.proofs.lemmas.List.{length_push}

@@ -1,5 +1,6 @@
 -- Items of lanes, as they are seen and taken.
-use Rattle.std.proofs.Common.{◌≡◌, ◌∙◌, ap, sym, subst, refl, zero, suc, List, [], ◌∷◌, ◌++◌, append_assoc, arith, lit<, ◌+◌}
+use Rattle.std.proofs.Common.{◌≡◌, ◌∙◌, ap, sym, subst, refl, zero, suc, List, [], ◌∷◌, ◌++◌, append_assoc, arith, lit<}
+use Rattle.std.proofs.Common.{◌+◌}
 use Rattle.std.proofs.Common.{length, length-append, take, take_at}
 use Rattle.std.specs.List.{Contains}
 use mathlib.Core.List.{IsPrefix}

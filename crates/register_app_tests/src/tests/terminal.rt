@@ -100,8 +100,8 @@ fn is_told(
     bytes_of(&heard.errors) == wanted
 }
 
-/// Whether the line for a target stands on a terminal as it should, where each write takes so many bytes, and a front of
-/// it where there is no room for all.
+/// Whether the line for a target stands on a terminal as it should, where each write takes so many bytes, and a front
+/// of it where there is no room for all.
 fn is_shown(
     rt: &(impl Threads + Wait + Clock + CpuClock + Sync),
     alloc: Global,

@@ -12,5 +12,6 @@ returns-in_err-sources-clause-status g c =
 
 pub returns-in_err-outputs-clause-status : goal.returns-in_err-outputs-clause-status
 returns-in_err-outputs-clause-status g c =
-    passed_up c.from_residual-in_err-outputs.result c.in_err-outputs.field-0.0 (λ (r : RequestFault). status_of_fault r ≡ 3)
+    passed_up c.from_residual-in_err-outputs.result c.in_err-outputs.field-0.0
+    (λ (r : RequestFault). status_of_fault r ≡ 3)
     c.from_residual-in_err-outputs.ensures.1 c.in_err-outputs.ensures.status

@@ -22,7 +22,8 @@ returns-clause-value c before fields some begun =
     ∙ ap (λ d. answer_text d c.targets.result.now (outcome_seen c.outcome.result) made) c.delimiter-2.ensures.value
     ∙ ap (λ (ts : List Target). answer_text (line_delimiter c.args.lines.now) ts (outcome_seen c.outcome.result) made)
     c.targets.ensures.value
-    ∙ ap (λ (o : Result Day Refusal). answer_text (line_delimiter c.args.lines.now) (row_targets row) (outcome_seen o) made)
+    ∙ ap (λ (o : Result Day Refusal). answer_text (line_delimiter c.args.lines.now) (row_targets row) (outcome_seen o)
+    made)
     c.outcome.ensures in
     let same : cells_of c.set.new.self ≡ cells_of row.answer =
     ∥∥₁_elim row.is_row (Prim.hlevel props) (λ is. one_cells c.one_cell.ensures _ _ _ _ cells is.cells) in

@@ -33,7 +33,8 @@ returns-in-Ok-clause-row g c begun come =
     let same_line :
     row_line (record { format = writes_by c.args.writer.now; targets = items_in c.target_list-row.result.items }) row
     ≡ row_line (layout_of setup) row
-    = ap (λ (format : Format). row_line (record { format = format; targets = items_in c.target_list-row.result.items }) row)
+    = ap (λ (format : Format). row_line (record { format = format; targets = items_in c.target_list-row.result.items })
+    row)
     c.requires.ready.2
     ∙ ap (λ (targets : List Target). row_line (record { format = format_of setup; targets = targets }) row)
     c.target_list-row.ensures in

@@ -8,7 +8,8 @@ overflow_mul-number c =
     let targets = c.args.targets.now in
     let k = length targets - c.places.i in
     let few : length (drop k targets) ≤ 13 = omega (arith, length-drop k targets, c.places-test.true, c.requires) in
-    let same : c.places.number ≡ number_of (drop k targets) = c.places.invariant k (omega (arith, c.places-test.true)) in
+    let same : c.places.number ≡ number_of (drop k targets) = c.places.invariant k
+    (omega (arith, c.places-test.true)) in
     omega (arith, same, fits (drop k targets) few)
 
 pub overflow_add-number : goal.overflow_add-number
@@ -16,7 +17,8 @@ overflow_add-number c =
     let targets = c.args.targets.now in
     let k = length targets - c.places.i in
     let few : length (drop k targets) ≤ 13 = omega (arith, length-drop k targets, c.places-test.true, c.requires) in
-    let same : c.places.number ≡ number_of (drop k targets) = c.places.invariant k (omega (arith, c.places-test.true)) in
+    let same : c.places.number ≡ number_of (drop k targets) = c.places.invariant k
+    (omega (arith, c.places-test.true)) in
     omega (arith, same, fits (drop k targets) few, c.place.ensures.few)
 
 pub returns : goal.returns

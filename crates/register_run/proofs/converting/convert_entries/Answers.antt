@@ -9,7 +9,8 @@ use Rattle.register_run.proofs.converting.convert_entries.Goals as goal
 
 pub loop-init : goal.loop-init
 loop-init g c =
-    let all = none_taken (taken c.args.entries) (sent c.args.rows) c.requires.none_taken c.requires.none_sent in record {
+    let all = none_taken (taken c.args.entries) (sent c.args.rows) c.requires.none_taken c.requires.none_sent in
+    record {
       from = refl;
       into = refl;
       rows = first_of_all (taken c.args.entries) (sent c.args.rows) all;
@@ -67,7 +68,8 @@ returns-in-Some-End g c =
     (taken c.pass-in-Some-End.new.self) (waiting c.pass-in-Some-End.new.self) (item.End c.in-Some-End.count)
     c.wait.ensures.taken next c.pass-in-Some-End.ensures.taken c.pass-in-Some-End.ensures.one in
     let same =
-    no_more (taken c.loop.entries) (taken c.pass-in-Some-End.new.self) (item.End c.in-Some-End.count) refl is in record {
+    no_more (taken c.loop.entries) (taken c.pass-in-Some-End.new.self) (item.End c.in-Some-End.count) refl is in
+    record {
       handed = c.pass-in-Some-End.ensures.lane ∙ c.wait.ensures.lane ∙ c.loop.invariant.from;
       closed = λ sure. c.close-closed.ensures.lane sure ∙ ap (λ l. Some l) c.loop.invariant.into;
       rows = λ sure. first_ended (taken c.loop.entries) (taken c.pass-in-Some-End.new.self) (sent c.loop.rows)
@@ -86,13 +88,15 @@ returns-then-gone g c =
     (taken c.pass-in-Some-End.new.self) (waiting c.pass-in-Some-End.new.self) (item.End c.in-Some-End.count)
     c.wait.ensures.taken next c.pass-in-Some-End.ensures.taken c.pass-in-Some-End.ensures.one in
     let same =
-    no_more (taken c.loop.entries) (taken c.pass-in-Some-End.new.self) (item.End c.in-Some-End.count) refl is in record {
+    no_more (taken c.loop.entries) (taken c.pass-in-Some-End.new.self) (item.End c.in-Some-End.count) refl is in
+    record {
       handed = c.pass-in-Some-End.ensures.lane ∙ c.wait.ensures.lane ∙ c.loop.invariant.from;
       closed = λ sure. c.stop-closed-then-gone.ensures.lane sure ∙ ap (λ l. Some l) c.loop.invariant.into;
       rows = λ sure. first_ended (taken c.loop.entries) (taken c.pass-in-Some-End.new.self) (sent c.loop.rows)
           (all_sent c.stop-closed-then-gone.result) item.Stop same refl (c.stop-closed-then-gone.ensures.sent sure)
           c.loop.invariant.rows;
-      all = λ sure ends. stop_is_no_end (taken c.pass-in-Some-End.new.self) (sent c.loop.rows) (all_sent c.stop-closed-then-gone.result)
+      all = λ sure ends. stop_is_no_end (taken c.pass-in-Some-End.new.self) (sent c.loop.rows)
+          (all_sent c.stop-closed-then-gone.result)
           (c.stop-closed-then-gone.ensures.sent sure) ends;
     }
 
@@ -109,6 +113,7 @@ returns-in-Some-Stop g c =
       rows = λ sure. first_ended (taken c.loop.entries) (taken c.pass-in-Some-Stop.new.self) (sent c.loop.rows)
           (all_sent c.stop-closed-in-Some-Stop.result) item.Stop same refl
           (c.stop-closed-in-Some-Stop.ensures.sent sure) c.loop.invariant.rows;
-      all = λ sure ends. stop_is_no_end (taken c.pass-in-Some-Stop.new.self) (sent c.loop.rows) (all_sent c.stop-closed-in-Some-Stop.result)
+      all = λ sure ends. stop_is_no_end (taken c.pass-in-Some-Stop.new.self) (sent c.loop.rows)
+          (all_sent c.stop-closed-in-Some-Stop.result)
           (c.stop-closed-in-Some-Stop.ensures.sent sure) ends;
     }

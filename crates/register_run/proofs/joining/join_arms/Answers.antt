@@ -23,7 +23,9 @@ loop-arm-preserved-in-Ok g c =
     record {
       from = from_tail _ _ _ _ c.in-Some-next.one _ arms closed inv.from;
       passed = λ fine b fewer. more_passed c.args.arms.items _ c.in-Some.arm _ c.args.closed.items _ c.in-Some-next.one
-          _ c.in-Ok.counted arms closed c.in-Ok.ensures.passed b (λ e. and_right c.loop-arm.ended c.in-Ok.counted (fewer e)) (inv.passed fine b (λ e. and_left c.loop-arm.ended c.in-Ok.counted (fewer e)));
+          _ c.in-Ok.counted arms closed c.in-Ok.ensures.passed b
+          (λ e. and_right c.loop-arm.ended c.in-Ok.counted (fewer e))
+          (inv.passed fine b (λ e. and_left c.loop-arm.ended c.in-Ok.counted (fewer e)));
     }
 
 pub loop-arm-preserved : goal.loop-arm-preserved

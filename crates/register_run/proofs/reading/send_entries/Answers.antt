@@ -54,7 +54,8 @@ returns-then-is_err-clause-sends g c =
     sends_gone (g.R.Read.remaining c.args.source) (text_of was) (format_of c.args.setup.now) (reads_by was)
     inv.text inv.by (given_of was) (given_of was) refl inv.numbered was.first _
     (λ w many. dealt_unsent w at (given_of was) items c.send.new.self c.index_mut-sender.result.now
-    c.in-Ok-Some.entry c.send.result c.index_mut-sender.ensures.value (sym c.is_err.ensures.value ∙ c.if-is_err.true) c.send.ensures.gone
+    c.in-Ok-Some.entry c.send.result c.index_mut-sender.ensures.value (sym c.is_err.ensures.value ∙ c.if-is_err.true)
+    c.send.ensures.gone
     (inv.deals w (many ∙ length-set items at c.send.new.self)))
 
 pub loop-preserved : goal.loop-preserved

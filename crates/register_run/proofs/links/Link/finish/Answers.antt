@@ -27,10 +27,12 @@ returns-then-ended-is_ok-clause-passed g c = record {
 }
 
 pub returns-else-ended-is_ok-clause-passed : goal.returns-else-ended-is_ok-clause-passed
-returns-else-ended-is_ok-clause-passed g c = passed_not _ _ c.unconfirmed_or_lower.result _ c.unconfirmed_or_lower.ensures
+returns-else-ended-is_ok-clause-passed g c = passed_not _ _ c.unconfirmed_or_lower.result _
+    c.unconfirmed_or_lower.ensures
 
 pub returns-in-Err-clause-passed : goal.returns-in-Err-clause-passed
-returns-in-Err-clause-passed g c = passed_not _ _ c.unconfirmed_or_lower-in-Err.result _ c.unconfirmed_or_lower-in-Err.ensures
+returns-in-Err-clause-passed g c = passed_not _ _ c.unconfirmed_or_lower-in-Err.result _
+    c.unconfirmed_or_lower-in-Err.ensures
 
 pub returns-then-ended-is_ok-clause-machine : goal.returns-then-ended-is_ok-clause-machine
 returns-then-ended-is_ok-clause-machine g c =

@@ -1,6 +1,6 @@
 //! Lines that go to a terminal, or elsewhere.
 
-ghost use Rattle.std.specs.Prelude.{◌≤◌, ◌+◌, IfSome, length};
+ghost use Rattle.std.specs.Prelude.{◌≤◌, IfSome, length};
 ghost use Rattle.std.specs.Io.{WritesAtMost};
 ghost use Rattle.register_app.specs.Sides.{lines_contents};
 

@@ -4,9 +4,9 @@
 --   TargetNames: `calendar_named`, `target_named`, and the laws `one_calendar` and `one_target`.
 --   TargetPlaces, TargetCount: the law `few_targets`.
 --   CellLemmas: `cell`, `value` of `write_cell`, and the law `one_cell`.
---   CellLengths: the law `cells_are_short`, and with it the room in `cell` and `write_cell`.
---   CellBytes: the law `cells_are_plain`.
---   PairLemmas, WritingLemmas, CellPlaceLemmas: the digits and pieces in `write_date` and `write_cell`.
+--   CellLengthLemmas: the law `cells_are_short`, and with it the room in `cell` and `write_cell`.
+--   CellByteLemmas: the law `cells_are_plain`.
+--   PairLemmas, WritingLemmas, PlaceLemmas: the digits and pieces in `write_date` and `write_cell`.
 --   LawWords: the names of the laws, for lemmas here and above.
 pub mod PairLemmas
 pub mod LawWords
@@ -20,7 +20,7 @@ pub mod CellLemmas
 pub mod TargetPlaces
 pub mod TargetCount
 pub mod TargetNames
-pub mod CellBytes
-pub mod CellLengths
-pub mod CellPlaceLemmas
+pub mod CellByteLemmas
+pub mod CellLengthLemmas
+pub mod PlaceLemmas
 pub mod WritingLemmas

@@ -10,4 +10,5 @@ pub mod LongText
 pub mod RomanText
 pub mod DateText
 pub mod Reading
+pub mod Places
 pub mod Cells

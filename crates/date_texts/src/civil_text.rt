@@ -1,20 +1,20 @@
 //! Civil dates and week dates as text: a year, a month and a day, or a year, a week and a weekday.
 
-ghost use Rattle.std.specs.Prelude.{◌≡◌, ◌↔◌, [], IfSome, Some};
+ghost use Rattle.std.specs.Prelude.{◌≡◌, ◌↔◌, ◌≤◌, IfSome, Some, length};
 ghost use Rattle.day_numbers.specs.Dates.{IsYmd};
 ghost use Rattle.date_texts.specs.declared.date.Date.{Date};
 ghost use Rattle.date_texts.specs.Calendars.{IsCivil};
-ghost use Rattle.date_texts.specs.DateText.{SaysDate, canonical_text};
+ghost use Rattle.date_texts.specs.CivilText.{canonical_civil};
+ghost use Rattle.date_texts.specs.DateText.{SaysDate};
+ghost use Rattle.date_texts.specs.Places.{IsPut};
 ghost use Rattle.date_texts.specs.Reading.{after_week_letter as after_letter_spec, after_mark as after_mark_spec};
 ghost use Rattle.date_texts.specs.Reading.{civil_at as civil_spec, seen_rest};
 
 use crate::calendar::Calendar;
 use crate::date::{CivilDate, Date};
 use crate::grammar::Grammar;
-use crate::numerals::{
-    after_byte, at_end, number_at, push_number, push_two_digits, push_year, year_at,
-};
-use arrayvec::ArrayString;
+use crate::numerals::{after_byte, at_end, number_at, year_at};
+use crate::places::{put_byte, put_short, put_two_digits, put_year};
 use day_numbers::Ymd;
 
 /// The bytes after the letter W, of either case, at the front.
@@ -62,22 +62,26 @@ pub fn civil_date_at(calendar: Calendar, text: &[u8]) -> Option<Date>
     Some(Date::Civil(date))
 }
 
-/// Writes a year, a month and a day, or a year, a week and a weekday, into an empty text.
-pub fn push_civil(text: &mut ArrayString<24>, civil: CivilDate)
-    requires empty { text.old.bytes ≡ [] }
-    ensures { text.new.bytes ≡ canonical_text (Date.Civil civil) }
+/// Writes a year, a month and a day, or a year, a week and a weekday, to the front.
+#[inline(always)]
+pub fn put_civil(places: &mut [u8], grammar: Grammar, date: Ymd) -> usize
+    requires { 16 ≤ length places.old }
+    ensures value { IsPut places.old places.new 0 result (canonical_civil grammar date.year date.month date.day) }
+    ensures few { result ≤ 16 }
 {
-    let date = civil.ymd();
-    push_year(text, date.year());
-    if civil.calendar().grammar() == Grammar::Week {
-        text.push_str("-W");
-        push_two_digits(text, date.month());
-        text.push_str("-");
-        push_number(text, date.day() as u16);
-        return;
+    let after = put_year(places, date.year());
+    let after = put_byte(places, after, b'-');
+    match grammar {
+        Grammar::Week => {
+            let after = put_byte(places, after, b'W');
+            let after = put_two_digits(places, after, date.month());
+            let after = put_byte(places, after, b'-');
+            put_short(places, after, date.day())
+        }
+        Grammar::Civil | Grammar::LongCount | Grammar::Roman => {
+            let after = put_two_digits(places, after, date.month());
+            let after = put_byte(places, after, b'-');
+            put_two_digits(places, after, date.day())
+        }
     }
-    text.push_str("-");
-    push_two_digits(text, date.month());
-    text.push_str("-");
-    push_two_digits(text, date.day());
 }

@@ -6,7 +6,6 @@
 #![tactic(auto)]
 
 mod calendar;
-mod cell_places;
 mod cells;
 mod civil_text;
 mod date;
@@ -16,6 +15,7 @@ pub mod laws;
 mod long_text;
 mod names;
 mod numerals;
+mod places;
 mod read;
 mod refusal;
 mod roman_text;

@@ -1,17 +1,17 @@
 //! Long counts as text: five places, joined by dots.
 
-ghost use Rattle.std.specs.Prelude.{◌≡◌, ◌↔◌, ◌≤◌, ◌+◌, [], ◌∷◌, ◌++◌, IfSome, Some};
+ghost use Rattle.std.specs.Prelude.{◌≡◌, ◌↔◌, ◌≤◌, ◌+◌, ◌∷◌, IfSome, Some, length};
 ghost use Rattle.std.specs.Fmt.{decimal};
-ghost use Rattle.arrayvec.specs.ArrayString.{array_string_len};
 ghost use Rattle.maya_calendars.specs.Places.{ArePlaces};
 ghost use Rattle.date_texts.specs.declared.calendar.Calendar.TheVariants.{Longcount};
 ghost use Rattle.date_texts.specs.declared.date.Date.{Date};
 ghost use Rattle.date_texts.specs.DateText.{SaysDate, canonical_text};
+ghost use Rattle.date_texts.specs.Places.{IsPut};
 ghost use Rattle.date_texts.specs.Reading.{long_at as long_spec, place_at as place_spec, seen_number};
 
 use crate::date::Date;
-use crate::numerals::{after_byte, at_end, number_at, push_number};
-use arrayvec::ArrayString;
+use crate::numerals::{after_byte, at_end, number_at};
+use crate::places::{put_byte, put_number};
 use maya_calendars::LongCount;
 
 /// A place of a long count, and the bytes after the dot behind it.
@@ -48,25 +48,26 @@ pub fn long_date_at(text: &[u8]) -> Option<Date>
     Some(Date::Long(count))
 }
 
-/// Appends a dot and a place of a long count.
-fn push_place(text: &mut ArrayString<24>, place: u16)
-    requires room { array_string_len text.old ≤ 19 }
+/// Writes a dot and a place of a long count.
+#[inline(always)]
+fn put_place(places: &mut [u8], at: usize, place: u16) -> usize
+    requires room { at + 1 + length (decimal place) ≤ length places.old }
     requires small { place ≤ 9_999 }
-    ensures bytes { text.new.bytes ≡ text.old.bytes ++ 46 ∷ decimal place }
-    ensures len { array_string_len text.new ≤ array_string_len text.old + 5 }
+    ensures { IsPut places.old places.new at result (46 ∷ decimal place) }
 {
-    text.push_str(".");
-    push_number(text, place);
+    let after = put_byte(places, at, b'.');
+    put_number(places, after, place)
 }
 
-/// Writes a long count into an empty text.
-pub fn push_long(text: &mut ArrayString<24>, count: LongCount)
-    requires empty { text.old.bytes ≡ [] }
-    ensures { text.new.bytes ≡ canonical_text (Date.Long count) }
+/// Writes a long count to the front.
+#[inline(always)]
+pub fn put_long(places: &mut [u8], count: LongCount) -> usize
+    requires { length (canonical_text (Date.Long count)) ≤ length places.old }
+    ensures { IsPut places.old places.new 0 result (canonical_text (Date.Long count)) }
 {
-    push_number(text, count.baktun());
-    push_place(text, count.katun());
-    push_place(text, count.tun());
-    push_place(text, count.uinal());
-    push_place(text, count.kin());
+    let after = put_number(places, 0, count.baktun());
+    let after = put_place(places, after, count.katun());
+    let after = put_place(places, after, count.tun());
+    let after = put_place(places, after, count.uinal());
+    put_place(places, after, count.kin())
 }

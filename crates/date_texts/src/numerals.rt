@@ -1,15 +1,9 @@
-//! Numbers and years in date texts: read from the front of the bytes, and appended to a text.
+//! Numbers and years in date texts, read from the front of the bytes.
 
-ghost use Rattle.std.specs.Prelude.{◌≡◌, ◌≤◌, ◌<◌, ◌+◌, ◌-◌, ◌*◌, ◌/◌, ◌%◌, ◌^◌, ◌++◌, IfSome};
-ghost use Rattle.std.specs.Fmt.{decimal};
+ghost use Rattle.std.specs.Prelude.{◌≡◌, ◌≤◌, ◌<◌, ◌+◌, ◌-◌, ◌*◌, ◌^◌, IfSome};
 ghost use Rattle.day_numbers.specs.Dates.{IsYear};
-ghost use Rattle.arrayvec.specs.ArrayString.{array_string_len};
-ghost use Rattle.date_texts.specs.Numerals.{padded, canonical_year};
 ghost use Rattle.date_texts.specs.Reading.{digits_at as digits_spec, number_at as number_spec, year_at as year_spec};
 ghost use Rattle.date_texts.specs.Reading.{after_byte as after_spec, all_read, seen_number, seen_rest, seen_year};
-
-use arrayvec::ArrayString;
-use itoa::Buffer;
 
 /// The number that `number` and at most `more` digits at the front spell, and the bytes after them.
 fn digits_at(more: u8, number: u32, bytes: &[u8]) -> (u32, &[u8])
@@ -91,92 +85,4 @@ pub fn at_end<T: Copy>(rest: &[u8], value: T) -> Option<T>
         [] => Some(value),
         _ => None,
     }
-}
-
-/// The two digits of each number under a hundred.
-static PAIRS: [u8; 200] = *b"\
-00010203040506070809101112131415161718192021222324\
-25262728293031323334353637383940414243444546474849\
-50515253545556575859606162636465666768697071727374\
-75767778798081828384858687888990919293949596979899";
-
-/// The two digits of a number.
-#[inline(always)]
-pub fn two_digits(number: u8) -> (u8, u8)
-    requires { number ≤ 99 }
-    ensures { result ≡ (48 + number / 10, 48 + number % 10) }
-{
-    let place = 2 * number as usize;
-    (PAIRS[place], PAIRS[place + 1])
-}
-
-/// Appends a number as two digits.
-pub fn push_two_digits(text: &mut ArrayString<24>, number: u8)
-    requires room { array_string_len text.old ≤ 22 }
-    requires small { number ≤ 99 }
-    ensures bytes { text.new.bytes ≡ text.old.bytes ++ padded 2 number }
-    ensures len { array_string_len text.new ≡ array_string_len text.old + 2 }
-{
-    // The last two of always three digits: a copy of a fixed length is cheap.
-    text.push_str(&Buffer::new().format(100 + number as u16)[1..3]);
-}
-
-/// Appends a number of one digit.
-fn push_digit(text: &mut ArrayString<24>, number: u8)
-    requires room { array_string_len text.old ≤ 23 }
-    requires small { number ≤ 9 }
-    ensures bytes { text.new.bytes ≡ text.old.bytes ++ decimal number }
-    ensures len { array_string_len text.new ≡ array_string_len text.old + 1 }
-{
-    // The last of always two digits.
-    text.push_str(&Buffer::new().format(10 + number as u16)[1..2]);
-}
-
-/// Appends a number in decimal.
-pub fn push_number(text: &mut ArrayString<24>, number: u16)
-    requires room { array_string_len text.old ≤ 20 }
-    requires small { number ≤ 9_999 }
-    ensures bytes { text.new.bytes ≡ text.old.bytes ++ decimal number }
-    ensures len { array_string_len text.new ≤ array_string_len text.old + 4 }
-{
-    // Most numbers have one digit or two.
-    if number < 10 {
-        push_digit(text, number as u8);
-        return;
-    }
-    if number < 100 {
-        push_two_digits(text, number as u8);
-        return;
-    }
-    text.push_str(Buffer::new().format(number));
-}
-
-/// Appends the digits of a year.
-#[inline(always)]
-fn push_year_digits(text: &mut ArrayString<24>, number: u32)
-    requires room { array_string_len text.old ≤ 19 }
-    requires small { number < 100_000 }
-    ensures bytes { text.new.bytes ≡ text.old.bytes ++ padded 4 number }
-    ensures len { array_string_len text.new ≤ array_string_len text.old + 5 }
-{
-    if number >= 10_000 {
-        text.push_str(Buffer::new().format(number));
-        return;
-    }
-    push_two_digits(text, (number / 100) as u8);
-    push_two_digits(text, (number % 100) as u8);
-}
-
-/// Appends a year to an empty text.
-#[inline(always)]
-pub fn push_year(text: &mut ArrayString<24>, year: i32)
-    requires empty { array_string_len text.old ≡ 0 }
-    requires near { IsYear year }
-    ensures bytes { text.new.bytes ≡ text.old.bytes ++ canonical_year year }
-    ensures len { array_string_len text.new ≤ 6 }
-{
-    if year < 0 {
-        text.push_str("-");
-    }
-    push_year_digits(text, year.unsigned_abs());
 }

@@ -1,22 +1,20 @@
 //! Roman dates as text: a year, a month and the Roman name of a day.
 
-ghost use Rattle.std.specs.Prelude.{◌≡◌, ◌↔◌, ◌≤◌, ◌+◌, ◌++◌, [], length, IfSome, Some};
+ghost use Rattle.std.specs.Prelude.{◌≡◌, ◌↔◌, ◌≤◌, ◌+◌, ◌∷◌, length, IfSome, Some};
 ghost use Rattle.std.specs.Fmt.{decimal};
-ghost use Rattle.arrayvec.specs.ArrayString.{array_string_len};
 ghost use Rattle.day_numbers.specs.Dates.{IsYear};
 ghost use Rattle.solar_calendars.specs.Roman.{count_of};
 ghost use Rattle.date_texts.specs.declared.calendar.Calendar.TheVariants.{Roman};
 ghost use Rattle.date_texts.specs.declared.date.Date.{Date};
 ghost use Rattle.date_texts.specs.DateText.{SaysDate, canonical_text};
 ghost use Rattle.date_texts.specs.RomanText.{canonical_name};
+ghost use Rattle.date_texts.specs.Places.{IsPut};
 ghost use Rattle.date_texts.specs.Reading.{count_at as count_spec, counted_at as counted_spec, name_at as name_spec};
 ghost use Rattle.date_texts.specs.Reading.{roman_at as roman_spec};
 
 use crate::date::Date;
-use crate::numerals::{
-    after_byte, at_end, number_at, push_number, push_two_digits, push_year, year_at,
-};
-use arrayvec::ArrayString;
+use crate::numerals::{after_byte, at_end, number_at, year_at};
+use crate::places::{put_byte, put_short, put_text, put_two_digits, put_year};
 use solar_calendars::{RomanDate, RomanName};
 
 /// The count that the bytes spell, of one or two digits.
@@ -79,38 +77,44 @@ pub fn roman_date_at(text: &[u8]) -> Option<Date>
     Some(Date::Roman(date))
 }
 
-/// Appends a letter and a count.
-fn push_count(text: &mut ArrayString<24>, letter: &str, count: u8)
-    requires room { array_string_len text.old ≤ 19 }
-    requires letter { length letter.now ≡ 1 }
-    ensures { text.new.bytes ≡ text.old.bytes ++ (letter.now ++ decimal count) }
+/// Writes a letter and a count.
+#[inline(always)]
+fn put_count(places: &mut [u8], at: usize, letter: u8, count: u8) -> usize
+    requires room { at + 3 ≤ length places.old }
+    requires small { count ≤ 99 }
+    ensures value { IsPut places.old places.new at result (letter ∷ decimal count) }
+    ensures few { result ≤ at + 3 }
 {
-    text.push_str(letter);
-    push_number(text, count as u16);
+    let after = put_byte(places, at, letter);
+    put_short(places, after, count)
 }
 
-/// Appends the name of a day.
-fn push_name(text: &mut ArrayString<24>, name: RomanName)
-    requires room { array_string_len text.old ≤ 19 }
+/// Writes the name of a day.
+#[inline(always)]
+fn put_name(places: &mut [u8], at: usize, name: RomanName) -> usize
+    requires room { at + 3 ≤ length places.old }
     requires small { count_of name ≤ 99 }
-    ensures { text.new.bytes ≡ text.old.bytes ++ canonical_name name }
+    ensures value { IsPut places.old places.new at result (canonical_name name) }
+    ensures few { result ≤ at + 3 }
 {
     match name {
-        RomanName::Kalends(count) => push_count(text, "K", count),
-        RomanName::Nones(count) => push_count(text, "N", count),
-        RomanName::Ides(count) => push_count(text, "I", count),
-        RomanName::SecondSixth => text.push_str("K6B"),
+        RomanName::Kalends(count) => put_count(places, at, b'K', count),
+        RomanName::Nones(count) => put_count(places, at, b'N', count),
+        RomanName::Ides(count) => put_count(places, at, b'I', count),
+        RomanName::SecondSixth => put_text(places, at, "K6B"),
     }
 }
 
-/// Writes a Roman date into an empty text.
-pub fn push_roman(text: &mut ArrayString<24>, date: RomanDate)
-    requires empty { text.old.bytes ≡ [] }
-    ensures { text.new.bytes ≡ canonical_text (Date.Roman date) }
+/// Writes a Roman date to the front.
+#[inline(always)]
+pub fn put_roman(places: &mut [u8], date: RomanDate) -> usize
+    requires { 16 ≤ length places.old }
+    ensures value { IsPut places.old places.new 0 result (canonical_text (Date.Roman date)) }
+    ensures few { result ≤ 16 }
 {
-    push_year(text, date.year());
-    text.push_str("-");
-    push_two_digits(text, date.month());
-    text.push_str("-");
-    push_name(text, date.name());
+    let after = put_year(places, date.year());
+    let after = put_byte(places, after, b'-');
+    let after = put_two_digits(places, after, date.month());
+    let after = put_byte(places, after, b'-');
+    put_name(places, after, date.name())
 }

@@ -1,26 +1,47 @@
 //! The canonical texts of dates.
 
-ghost use Rattle.std.specs.Prelude.{◌≡◌, []};
+ghost use Rattle.std.specs.Prelude.{◌≡◌, ◌≤◌, IsTrue, length};
+ghost use Rattle.std.specs.List.{list_all};
 ghost use Rattle.date_texts.specs.declared.date.Date.{Date};
+ghost use Rattle.date_texts.specs.declared.write.TheConstants.{MAX_TEXT};
+ghost use Rattle.date_texts.specs.Cells.{is_plain};
 ghost use Rattle.date_texts.specs.DateText.{canonical_text};
+ghost use Rattle.date_texts.specs.Places.{IsPut};
 
-use crate::civil_text::push_civil;
+use crate::civil_text::put_civil;
 use crate::date::Date;
-use crate::long_text::push_long;
-use crate::roman_text::push_roman;
+use crate::long_text::put_long;
+use crate::roman_text::put_roman;
 use arrayvec::ArrayString;
 
-/// Writes a date into an empty text, which is lent so that it is not copied on its way out.
-#[inline(always)]
-pub fn push_date(text: &mut ArrayString<24>, date: Date)
-    requires empty { text.old.bytes ≡ [] }
-    ensures { text.new.bytes ≡ canonical_text date }
+/// The most bytes of a date's text: those of a long count of five times four digits.
+const MAX_TEXT: usize = 24;
+
+/// Writes a date to the front.
+fn put_date(places: &mut [u8], date: Date) -> usize
+    requires { MAX_TEXT ≤ length places.old }
+    ensures value { IsPut places.old places.new 0 result (canonical_text date) }
+    ensures few { result ≤ MAX_TEXT }
 {
     match date {
-        Date::Civil(civil) => push_civil(text, civil),
-        Date::Long(count) => push_long(text, count),
-        Date::Roman(date) => push_roman(text, date),
+        Date::Civil(civil) => put_civil(places, civil.calendar().grammar(), civil.ymd()),
+        Date::Long(count) => put_long(places, count),
+        Date::Roman(date) => put_roman(places, date),
     }
+}
+
+/// The text of a few bytes, each of which is plain.
+pub fn text_of(bytes: &[u8]) -> ArrayString<24>
+    requires few { length bytes.now ≤ MAX_TEXT }
+    requires plain { IsTrue (list_all is_plain bytes.now) }
+    ensures { result.bytes ≡ bytes.now }
+{
+    let mut text = ArrayString::new();
+    match str::from_utf8(bytes) {
+        Ok(whole) => text.push_str(whole),
+        Err(_) => unreachable!(),
+    }
+    text
 }
 
 /// The canonical text of a date. Read in the date's calendar, it is the same date again
@@ -42,7 +63,7 @@ pub fn push_date(text: &mut ArrayString<24>, date: Date)
 pub fn write_date(date: &Date) -> ArrayString<24>
     ensures { result.bytes ≡ canonical_text date.now }
 {
-    let mut text = ArrayString::new();
-    push_date(&mut text, *date);
-    text
+    let mut places = [0; MAX_TEXT];
+    let len = put_date(&mut places, *date);
+    text_of(&places[..len])
 }

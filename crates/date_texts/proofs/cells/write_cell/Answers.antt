@@ -1,7 +1,7 @@
 use Rattle.std.proofs.Common.{arith}
 use Rattle.maya_calendars.specs.HaabNames.{haab_of}
 use Rattle.maya_calendars.specs.TzolkinNames.{tzolkin_of}
-use Rattle.date_texts.proofs.CellLengths.{month_length, day_name_length}
+use Rattle.date_texts.proofs.CellLengthLemmas.{month_length, day_name_length}
 use Rattle.date_texts.proofs.CellLemmas.{date_cell_is}
 use Rattle.date_texts.proofs.cells.write_cell.Goals as goal
 

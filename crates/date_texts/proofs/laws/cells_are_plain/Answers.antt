@@ -1,4 +1,4 @@
-use Rattle.date_texts.proofs.CellBytes.{cells_are_plain}
+use Rattle.date_texts.proofs.CellByteLemmas.{cells_are_plain}
 use Rattle.date_texts.proofs.laws.cells_are_plain.Goals as goal
 
 pub returns : goal.returns

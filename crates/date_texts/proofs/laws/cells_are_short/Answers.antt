@@ -1,4 +1,4 @@
-use Rattle.date_texts.proofs.CellLengths.{cells_are_short}
+use Rattle.date_texts.proofs.CellLengthLemmas.{cells_are_short}
 use Rattle.date_texts.proofs.laws.cells_are_short.Goals as goal
 
 pub returns : goal.returns

@@ -1,0 +1,147 @@
+-- The lengths of cells.
+use Rattle.std.proofs.Common.{ℕ, zero, suc, ◌-◌, ◌≤◌, List, [], ◌∷◌, ◌++◌, Bool, true, ◌&&◌, IsTrue, ℤ, refl, ap}
+use Rattle.std.proofs.Common.{arith, length, length-append}
+use Rattle.std.specs.Prelude.{slice_get, unwrap_or, nat_le}
+use Rattle.std.specs.Fmt.{decimal}
+use Rattle.std.proofs.lemmas.Bool.Decides.{nat_tests}
+use Rattle.maya_calendars.specs.HaabNames.{haab_of, month_names, month_name}
+use Rattle.maya_calendars.specs.TzolkinNames.{tzolkin_of, name_texts, name_text}
+use Rattle.maya_calendars.proofs.LawWords.{HaabDaysInRange, TzolkinNumbersInRange}
+use Rattle.date_texts.specs.declared.calendar.Calendar.{Calendar}
+use Rattle.date_texts.specs.declared.calendar.Target.TheVariants.{Date as DateTarget, Haab, Tzolkin}
+use Rattle.date_texts.specs.declared.date.Date.{Date}
+use Rattle.date_texts.specs.declared.date.Date.TheVariants.{Civil, Long, Roman}
+use Rattle.date_texts.specs.declared.grammar.Grammar.{Grammar}
+use Rattle.solar_calendars.specs.declared.roman_date.RomanName.{RomanName}
+use Rattle.date_texts.specs.Calendars.{grammar}
+use Rattle.date_texts.specs.Cells.{IsDateCell, on_date, no_date}
+use Rattle.date_texts.specs.Dates.{IsDateOfCalendar}
+use Rattle.date_texts.specs.Numerals.{IsYearText, plain, minus}
+use Rattle.date_texts.proofs.TextParts.{IsMark, no_letter, capital_letter, small_letter, CivilParts, RomanParts}
+use Rattle.date_texts.specs.LongText.{canonical_long}
+use Rattle.date_texts.specs.RomanText.{IsNameText, of_kalends, of_nones, of_ides, of_second_sixth}
+use Rattle.date_texts.specs.DateText.{canonical_text}
+use Rattle.date_texts.proofs.LawWords.{CellsAreShort}
+use Rattle.date_texts.proofs.DateTextLemmas.{canonical_is}
+use Rattle.date_texts.proofs.ReadingLemmas.{both_true, decimal_numeral}
+use Rattle.date_texts.proofs.WritingLemmas.{one_or_two}
+use Rattle.date_texts.proofs.RomanTextLemmas.{canonical_roman_is, second_sixth_is}
+
+-- ---- date texts
+year_length : (text : List ℕ) (z : ℤ) → IsYearText text z → length text ≤ 6
+year_length text z (plain h) = omega (arith, h.few)
+year_length text z (minus h) = omega (arith, h.few)
+
+mark_length : (grammar : Grammar) (mark : List ℕ) → IsMark grammar mark → length mark ≤ 1
+mark_length _ _ no_letter = omega arith
+mark_length _ _ capital_letter = omega arith
+mark_length _ _ small_letter = omega arith
+
+civil_length : (grammar : Grammar) (text : List ℕ) (z : ℤ) (m d : ℕ) → CivilParts grammar text z m d → length text ≤ 16
+civil_length grammar text z m d h =
+    omega (
+      arith,
+      length-append {A = ℕ},
+      ap length h.joined,
+      year_length h.year_text z h.is_year,
+      mark_length grammar h.mark h.is_mark,
+      h.is_month.few,
+      h.is_day.few,
+    )
+
+name_length : (text : List ℕ) (name : RomanName) → IsNameText text name → length text ≤ 3
+name_length _ _ (of_kalends e h) = omega (arith, h.few)
+name_length _ _ (of_nones e h) = omega (arith, h.few)
+name_length _ _ (of_ides e h) = omega (arith, h.few)
+name_length _ _ (of_second_sixth {text = text} e) = omega (arith, ap length (second_sixth_is text e).joined)
+
+roman_length : (text : List ℕ) (z : ℤ) (m : ℕ) (name : RomanName) → RomanParts text z m name → length text ≤ 16
+roman_length text z m name h =
+    omega (
+      arith,
+      length-append {A = ℕ},
+      ap length h.joined,
+      year_length h.year_text z h.is_year,
+      h.is_month.few,
+      name_length h.name_text name h.is_name,
+    )
+
+-- the decimal digits of a number of four digits
+four_digits : (n : ℕ) → n ≤ 9_999 → length (decimal n) ≤ 4
+four_digits n small = (decimal_numeral 4 n (omega arith) (omega arith) (omega arith)).few
+
+long_length : (p q r s t : ℕ) → p ≤ 9_999 → q ≤ 19 → r ≤ 19 → s ≤ 17 → t ≤ 19 → length (canonical_long p q r s t) ≤ 16
+long_length p q r s t a b c d e =
+    omega (
+      arith,
+      length-append {A = ℕ},
+      four_digits p a,
+      one_or_two q (omega arith),
+      one_or_two r (omega arith),
+      one_or_two s (omega arith),
+      one_or_two t (omega arith),
+    )
+
+-- the text of any date
+pub text_length : (date : Date) → length (canonical_text date) ≤ 24
+text_length (Civil d) =
+    omega (arith, civil_length (grammar d.calendar) _ d.ymd.year d.ymd.month d.ymd.day (canonical_is d))
+text_length (Long n) =
+    omega (
+      arith,
+      length-append {A = ℕ},
+      four_digits n.baktun n.places.0,
+      four_digits n.katun n.places.1,
+      four_digits n.tun n.places.2,
+      four_digits n.uinal n.places.3,
+      four_digits n.kin n.places.4,
+    )
+text_length (Roman d) =
+    omega (
+      arith,
+      roman_length _ d.year d.month d.name (canonical_roman_is d.year d.month d.name d.year_in d.month_in d.count_in),
+    )
+
+date_length : (date : Date) → IsDateOfCalendar date → length (canonical_text date) ≤ 16
+date_length (Civil d) h = civil_length (grammar d.calendar) _ d.ymd.year d.ymd.month d.ymd.day (canonical_is d)
+date_length (Long n) h = long_length n.baktun n.katun n.tun n.uinal n.kin n.places.0 h.0 h.1 h.2 h.3
+date_length (Roman d) h =
+    roman_length _ d.year d.month d.name (canonical_roman_is d.year d.month d.name d.year_in d.month_in d.count_in)
+
+date_cell_length : (c : Calendar) (n : ℤ) (text : List ℕ) → IsDateCell c n text → length text ≤ 16
+date_cell_length c n text (on_date date p h i e) = rw e (date_length date h)
+date_cell_length c n text (no_date none e) = rw e (omega arith)
+
+-- ---- names with numbers
+all_short : List (List ℕ) → Bool
+all_short [] = true
+all_short (x ∷ xs) = nat_le (length x) 8 && all_short xs
+
+short_at : (names : List (List ℕ)) (i : ℕ) → IsTrue (all_short names) → length (unwrap_or (slice_get names i) []) ≤ 8
+unfolding all_short
+short_at [] i h = omega arith
+short_at (x ∷ xs) zero h = first (length x) (both_true (nat_le (length x) 8) (all_short xs) h).0
+  where
+    first : (n : ℕ) → IsTrue (nat_le n 8) → n ≤ 8
+    first n h = grind (arith, nat_tests)
+short_at (x ∷ xs) (suc i) h = short_at xs i (both_true (nat_le (length x) 8) (all_short xs) h).1
+
+pub month_length : (month : ℕ) → length (month_name month) ≤ 8
+unfolding all_short
+month_length month = short_at month_names (month - 1) refl
+
+pub day_name_length : (place : ℕ) → length (name_text place) ≤ 8
+unfolding all_short
+day_name_length place = short_at name_texts (place - 1) refl
+
+numbered_length : (number : ℕ) (name : List ℕ) → number ≤ 99 → length name ≤ 8
+    → length (decimal number ++ 32 ∷ name) ≤ 16
+numbered_length number name small h = omega (arith, length-append {A = ℕ}, one_or_two number small, h)
+
+-- a cell has 16 bytes at most
+pub cells_are_short : HaabDaysInRange → TzolkinNumbersInRange → CellsAreShort
+cells_are_short days numbers (DateTarget c) n text h = date_cell_length c n text h
+cells_are_short days numbers Haab n text h =
+    rw h (numbered_length (haab_of n).0 _ (omega (arith, days n)) (month_length (haab_of n).1))
+cells_are_short days numbers Tzolkin n text h =
+    rw h (numbered_length (tzolkin_of n).0 _ (omega (arith, numbers n)) (day_name_length (tzolkin_of n).1))

@@ -1,0 +1,50 @@
+-- What is written to places, piece by piece.
+use Rattle.std.proofs.Common.{◌≡◌, ℕ, ◌+◌, ◌<◌, ◌%◌, ◌/◌, List, [], ◌∷◌, ◌++◌, length, take, slice_set}
+use Rattle.std.proofs.Common.{sym, ap, ◌∙◌, arith, append_assoc, append-nil, length-append}
+use Rattle.std.specs.Fmt.{decimal}
+use Rattle.std.proofs.Math.Seq.{lt-length-set}
+use Rattle.std.proofs.lemmas.Fmt.{decimal_digit}
+use Rattle.std.proofs.lemmas.List.{take-set, take_more_set}
+use Rattle.itoa.proofs.Decimal.{pair}
+use Rattle.date_texts.specs.Places.{IsPut}
+
+-- one piece behind another
+pub put_then : {a b c : List ℕ} {at i j : ℕ} {x y : List ℕ} → IsPut a b at i x → IsPut b c i j y
+    → IsPut a c at j (x ++ y)
+put_then {a = a} {at = at} {x = x} {y = y} h g = record {
+  follows = omega (arith, h.follows, g.follows, length-append x y);
+  value = g.value ∙ ap (λ (front : List ℕ). front ++ y) h.value ∙ append_assoc (take at a) x y;
+}
+
+-- the same piece, said in another way
+pub put_same : {a b : List ℕ} {at i : ℕ} {x y : List ℕ} → x ≡ y → IsPut a b at i x → IsPut a b at i y
+put_same e h = rw (sym e) h
+
+-- nothing
+pub put_none : (places : List ℕ) (at : ℕ) → IsPut places places at at []
+put_none places at = record { follows = omega arith; value = sym (append-nil (take at places)) }
+
+-- a byte
+pub put_one : (places : List ℕ) (at c : ℕ) → at < length places → IsPut places (slice_set places at c) at (at + 1) (c ∷ [])
+put_one places at c room = record { follows = omega arith; value = take_more_set places at c room }
+
+-- tens and ones
+pub put_pair : (places : List ℕ) (at n : ℕ) → at + 1 < length places
+    → IsPut places (slice_set (slice_set places at (48 + n / 10)) (at + 1) (48 + n % 10)) at (at + 1 + 1) (pair n)
+put_pair places at n room =
+    put_then (put_one places at (48 + n / 10) (omega (arith, room)))
+    (put_one (slice_set places at (48 + n / 10)) (at + 1) (48 + n % 10) (lt-length-set places at (48 + n / 10) room))
+
+-- the ones of a number below ten, written over the zero of its tens
+pub put_ones : (places : List ℕ) (at n : ℕ) → at < length places → n < 10
+    → IsPut places (slice_set (slice_set places at (48 + n / 10)) at (48 + n % 10)) at (at + 1) (decimal n)
+put_ones places at n room small =
+    let ones : 48 + n % 10 ≡ 48 + n = omega arith in
+    record {
+      follows = omega (arith, ap length (decimal_digit n small));
+      value = take_more_set (slice_set places at (48 + n / 10)) at (48 + n % 10)
+          (lt-length-set places at (48 + n / 10) room)
+          ∙ ap (λ (front : List ℕ). front ++ (48 + n % 10) ∷ []) (take-set places at (48 + n / 10))
+          ∙ ap (λ k. take at places ++ k ∷ []) ones
+          ∙ ap (λ (ds : List ℕ). take at places ++ ds) (sym (decimal_digit n small));
+    }

@@ -1,0 +1,21 @@
+use Rattle.std.proofs.Common.{arith, ap, sym, ◌∙◌, ◌++◌, ◌/◌, ◌%◌}
+use Rattle.std.specs.Fmt.{decimal}
+use Rattle.itoa.proofs.Decimal.{decimal_pair, length_pair}
+use Rattle.date_texts.proofs.PlaceLemmas.{put_same, put_then}
+use Rattle.date_texts.proofs.WritingLemmas.{two_digits}
+use Rattle.date_texts.proofs.places.put_number.Goals as goal
+
+pub put_short-after-requires-clause-room : goal.put_short-after-requires-clause-room
+put_short-after-requires-clause-room c = omega (arith, length_pair c.args.number (omega arith) (omega arith))
+
+pub put_two_digits-requires-clause-room : goal.put_two_digits-requires-clause-room
+put_two_digits-requires-clause-room c =
+    omega (arith, length_pair c.args.number (omega arith) (omega arith), c.put_short-after.ensures.value.follows)
+
+pub returns : goal.returns
+returns c =
+    let n = c.args.number in
+    put_same
+    (ap (λ digits. decimal (n / 100) ++ digits) (two_digits (n % 100) (omega arith))
+    ∙ sym (decimal_pair n (omega arith) (omega arith)))
+    (put_then c.put_short-after.ensures.value c.put_two_digits.ensures.value)

@@ -1,0 +1,8 @@
+use Rattle.std.proofs.lemmas.Str.{IsUtf8-from_ascii}
+use Rattle.date_texts.proofs.CellByteLemmas.{plain_ascii}
+use Rattle.date_texts.proofs.write.text_of.Goals as goal
+
+pub unreachable-requires : goal.unreachable-requires
+unreachable-requires c =
+    c.in-Err.ensures.cases.0
+    (IsUtf8-from_ascii c.args.bytes.now (plain_ascii c.args.bytes.now c.requires.plain))

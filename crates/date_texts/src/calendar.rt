@@ -9,6 +9,28 @@ use day_numbers::{ArithmeticCalendar, DateFault, Day, Ymd};
 use lunar_calendars::{Hebrew, Islamic};
 use solar_calendars::{Armenian, Coptic, Egyptian, Ethiopic, French, Gregorian, IsoWeek, Julian};
 
+/// Answers by the type that finds the dates of a calendar, `$by`, which the two calendars without such a type have not.
+macro_rules! by_calendar {
+    ($calendar:expr, $by:ident => $answer:expr, Longcount => $long:expr, Roman => $roman:expr) => {
+        match $calendar {
+            Calendar::Gregorian => { let $by = &Gregorian; $answer }
+            Calendar::Iso => { let $by = &IsoWeek; $answer }
+            Calendar::Julian => { let $by = &Julian; $answer }
+            Calendar::Coptic => { let $by = &Coptic; $answer }
+            Calendar::Ethiopic => { let $by = &Ethiopic; $answer }
+            Calendar::Egyptian => { let $by = &Egyptian; $answer }
+            Calendar::Armenian => { let $by = &Armenian; $answer }
+            Calendar::Islamic => { let $by = &Islamic; $answer }
+            Calendar::Hebrew => { let $by = &Hebrew; $answer }
+            Calendar::French => { let $by = &French; $answer }
+            Calendar::Longcount => $long,
+            Calendar::Roman => $roman,
+        }
+    };
+}
+
+pub(crate) use by_calendar;
+
 /// A calendar whose dates are read and written.
 #[derive(Clone, Copy, PartialEq, Eq, Debug)]
 pub enum Calendar {
@@ -93,19 +115,10 @@ impl Calendar {
         ensures out_of_range { (result ≡ Err DateFault.OutOfRange)
             ↔ (IsDateBy (reckoning self) date × ¬ (IsDayNumber (day_number_by (reckoning self) date))) }
     {
-        match self {
-            Calendar::Gregorian => Gregorian.day_of(date),
-            Calendar::Iso => IsoWeek.day_of(date),
-            Calendar::Julian => Julian.day_of(date),
-            Calendar::Coptic => Coptic.day_of(date),
-            Calendar::Ethiopic => Ethiopic.day_of(date),
-            Calendar::Egyptian => Egyptian.day_of(date),
-            Calendar::Armenian => Armenian.day_of(date),
-            Calendar::Islamic => Islamic.day_of(date),
-            Calendar::Hebrew => Hebrew.day_of(date),
-            Calendar::French => French.day_of(date),
-            Calendar::Longcount | Calendar::Roman => Err(DateFault::NoSuchDate),
-        }
+        by_calendar!(self,
+            by => by.day_of(date),
+            Longcount => Err(DateFault::NoSuchDate),
+            Roman => Err(DateFault::NoSuchDate))
     }
 
     /// The one date of the calendar whose day this is, or `None` exactly before its first day. Its dates are years,
@@ -117,19 +130,7 @@ impl Calendar {
         ensures value { IfSome result (λ date. IsDateBy (reckoning self) date
             × (day_number_by (reckoning self) date ≡ day.number)) }
     {
-        match self {
-            Calendar::Gregorian => Gregorian.date_on(day),
-            Calendar::Iso => IsoWeek.date_on(day),
-            Calendar::Julian => Julian.date_on(day),
-            Calendar::Coptic => Coptic.date_on(day),
-            Calendar::Ethiopic => Ethiopic.date_on(day),
-            Calendar::Egyptian => Egyptian.date_on(day),
-            Calendar::Armenian => Armenian.date_on(day),
-            Calendar::Islamic => Islamic.date_on(day),
-            Calendar::Hebrew => Hebrew.date_on(day),
-            Calendar::French => French.date_on(day),
-            Calendar::Longcount | Calendar::Roman => unreachable!(),
-        }
+        by_calendar!(self, by => by.date_on(day), Longcount => unreachable!(), Roman => unreachable!())
     }
 }
 

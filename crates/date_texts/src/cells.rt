@@ -6,7 +6,7 @@ ghost use Rattle.date_texts.specs.Calendars.{IsCivil, IsDateBy, day_number_by, f
 ghost use Rattle.date_texts.specs.Cells.{IsDateCell, IsCell, numbered_name};
 ghost use Rattle.date_texts.specs.declared.calendar.Calendar.TheVariants.{Longcount, Roman};
 
-use crate::calendar::{Calendar, Target};
+use crate::calendar::{Calendar, Target, by_calendar};
 use crate::civil_text::put_civil;
 use crate::laws::{cells_are_plain, cells_are_short};
 use crate::long_text::put_long;
@@ -76,20 +76,10 @@ fn write_date_cell(places: &mut [u8; MAX_CELL], calendar: Calendar, day: Day) ->
     ensures few { result ≤ MAX_CELL }
     ensures value { IsDateCell calendar day.number (take result places.new) }
 {
-    match calendar {
-        Calendar::Gregorian => write_civil(places, &Gregorian, calendar, day),
-        Calendar::Iso => write_civil(places, &IsoWeek, calendar, day),
-        Calendar::Julian => write_civil(places, &Julian, calendar, day),
-        Calendar::Coptic => write_civil(places, &Coptic, calendar, day),
-        Calendar::Ethiopic => write_civil(places, &Ethiopic, calendar, day),
-        Calendar::Egyptian => write_civil(places, &Egyptian, calendar, day),
-        Calendar::Armenian => write_civil(places, &Armenian, calendar, day),
-        Calendar::Islamic => write_civil(places, &Islamic, calendar, day),
-        Calendar::Hebrew => write_civil(places, &Hebrew, calendar, day),
-        Calendar::French => write_civil(places, &French, calendar, day),
-        Calendar::Longcount => write_long_count(places, day),
-        Calendar::Roman => write_roman(places, day),
-    }
+    by_calendar!(calendar,
+        by => write_civil(places, by, calendar, day),
+        Longcount => write_long_count(places, day),
+        Roman => write_roman(places, day))
 }
 
 /// Writes a number without leading zeros, one space and a name to the front of a cell's room, and says how many bytes

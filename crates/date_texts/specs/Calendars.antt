@@ -63,14 +63,11 @@ abbrev pub all_targets : List Target
 all_targets = map DateTarget all_calendars ++ Haab ∷ Tzolkin ∷ []
 
 -- how the dates of a calendar are written
-abbrev pub grammar_by : Reckoning → Grammar
-grammar_by (by_rules rules) = grammars.Civil
-grammar_by by_weeks = grammars.Week
-grammar_by by_places = grammars.LongCount
-grammar_by by_names = grammars.Roman
-
 abbrev pub grammar : Calendar → Grammar
-grammar calendar = grammar_by (reckoning calendar)
+grammar Iso = grammars.Week
+grammar Longcount = grammars.LongCount
+grammar Roman = grammars.Roman
+grammar calendar = grammars.Civil
 
 -- a date of the calendar is a year, a month and a day, or a year, a week and a weekday
 abbrev pub IsCivil : Calendar → Type 0

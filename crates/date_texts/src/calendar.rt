@@ -1,7 +1,8 @@
 //! The calendars, and what a table can show of a day.
 
-ghost use Rattle.std.specs.Prelude.{◌≡◌, ◌↔◌, IsOk, IsSome, IfOk, IfSome, Err, Some};
-ghost use Rattle.day_numbers.specs.Days.{IsDayNumber, IsSinceFirstDay};
+ghost use Rattle.std.specs.Prelude.{◌≡◌, ◌↔◌, IsSome, IfSome};
+ghost use Rattle.day_numbers.specs.Dates.{IsDayOf};
+ghost use Rattle.day_numbers.specs.Days.{IsSinceFirstDay};
 ghost use Rattle.day_numbers.specs.declared.ymd.Ymd.{Ymd};
 
 use crate::grammar::Grammar;
@@ -108,12 +109,8 @@ impl Calendar {
     /// `NoSuchDate` exactly where the calendar has no such date; `OutOfRange` exactly where it has the
     /// date and the day number is not from -3652424 to 3652059.
     pub(crate) fn day_of(self, date: Ymd) -> Result<Day, DateFault>
-        ensures succeeds { IsOk result
-            ↔ (IsDateBy (reckoning self) date × IsDayNumber (day_number_by (reckoning self) date)) }
-        ensures value { IfOk result (λ day. day.number ≡ day_number_by (reckoning self) date) }
-        ensures no_such_date { (result ≡ Err DateFault.NoSuchDate) ↔ ¬ (IsDateBy (reckoning self) date) }
-        ensures out_of_range { (result ≡ Err DateFault.OutOfRange)
-            ↔ (IsDateBy (reckoning self) date × ¬ (IsDayNumber (day_number_by (reckoning self) date))) }
+        ensures { IsDayOf (IsDateBy (reckoning self) date) (day_number_by (reckoning self) date)
+            DateFault.NoSuchDate DateFault.OutOfRange result }
     {
         by_calendar!(self,
             by => by.day_of(date),

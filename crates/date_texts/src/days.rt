@@ -1,7 +1,8 @@
 //! The days of dates, and the dates on days.
 
-ghost use Rattle.std.specs.Prelude.{◌≡◌, ◌↔◌, IsOk, IsSome, IfOk, IfSome, Err};
-ghost use Rattle.day_numbers.specs.Days.{IsDayNumber, IsSinceFirstDay};
+ghost use Rattle.std.specs.Prelude.{◌≡◌, ◌↔◌, IsSome, IfSome};
+ghost use Rattle.day_numbers.specs.Dates.{IsDayOf};
+ghost use Rattle.day_numbers.specs.Days.{IsSinceFirstDay};
 ghost use Rattle.date_texts.specs.Calendars.{first_day_by, reckoning};
 ghost use Rattle.date_texts.specs.Dates.{calendar_of_date, IsDateOfCalendar, day_number_of_date};
 
@@ -20,11 +21,8 @@ use solar_calendars::{roman_day_of, roman_on};
 /// `NoSuchDate` exactly where the date's calendar has no such date, whatever its day would be;
 /// `OutOfRange` exactly where it has the date and the day number is not from -3652424 to 3652059.
 pub fn day_of_date(date: &Date) -> Result<Day, Refusal>
-    ensures succeeds { IsOk result ↔ (IsDateOfCalendar date.now × IsDayNumber (day_number_of_date date.now)) }
-    ensures value { IfOk result (λ day. day.number ≡ day_number_of_date date.now) }
-    ensures no_such_date { (result ≡ Err Refusal.NoSuchDate) ↔ ¬ (IsDateOfCalendar date.now) }
-    ensures out_of_range { (result ≡ Err Refusal.OutOfRange)
-        ↔ (IsDateOfCalendar date.now × ¬ (IsDayNumber (day_number_of_date date.now))) }
+    ensures { IsDayOf (IsDateOfCalendar date.now) (day_number_of_date date.now)
+        Refusal.NoSuchDate Refusal.OutOfRange result }
 {
     match *date {
         Date::Civil(civil) => Ok(civil.calendar().day_of(civil.ymd())?),

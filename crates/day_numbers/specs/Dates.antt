@@ -1,6 +1,7 @@
 -- What contracts say of a year, month and day, and of a fault.
-use Rattle.std.specs.Prelude.{ℕ, ℤ, pos, neg_ℤ, ◌≤◌}
-use Rattle.day_numbers.specs.Days.{IsBetween}
+use Rattle.std.specs.Prelude.{◌≡◌, ◌↔◌, ℕ, ℤ, pos, neg_ℤ, ◌≤◌, Result, Err, IsOk, IfOk}
+use Rattle.day_numbers.specs.Days.{IsBetween, IsDayNumber}
+use Rattle.day_numbers.specs.declared.day.Day.{Day}
 use Rattle.day_numbers.specs.declared.calendar.DateFault.{DateFault}
 use Rattle.day_numbers.specs.declared.calendar.DateFault.TheVariants.{NoSuchDate, OutOfRange}
 
@@ -16,3 +17,11 @@ IsYmd year month day = IsYear year × (month ≤ 99) × (day ≤ 99)
 abbrev pub fault_number : DateFault → ℕ
 fault_number NoSuchDate = 6
 fault_number OutOfRange = 7
+
+-- the answer to which day a date has, where n is the day number of a date that the calendar has: the day; or one fault
+-- where it has no such date, and another where it has the date and n is out of range
+pub record IsDayOf {F : Type 0} (IsDate : Type 0) (n : ℤ) (unknown outside : F) (answer : Result Day F) : Type 0 where
+  pub succeeds : IsOk answer ↔ (IsDate × IsDayNumber n)
+  pub value : IfOk answer (λ day. day.number ≡ n)
+  pub no_such_date : (answer ≡ Err unknown) ↔ ¬ IsDate
+  pub out_of_range : (answer ≡ Err outside) ↔ (IsDate × ¬ (IsDayNumber n))

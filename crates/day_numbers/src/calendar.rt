@@ -1,7 +1,8 @@
 //! What a calendar is: its dates and its days, matched one to one.
 
-ghost use Rattle.std.specs.Prelude.{◌≡◌, ◌↔◌, ℤ, Option, IsOk, IsSome, IfOk, IfSome, Err, Some};
-ghost use Rattle.day_numbers.specs.Days.{IsDayNumber, IsSinceFirstDay};
+ghost use Rattle.std.specs.Prelude.{◌≡◌, ◌↔◌, ℤ, Option, IsSome, IfSome, Some};
+ghost use Rattle.day_numbers.specs.Dates.{IsDayOf};
+ghost use Rattle.day_numbers.specs.Days.{IsSinceFirstDay};
 ghost use Rattle.day_numbers.specs.declared.ymd.Ymd.{Ymd};
 
 use crate::day::Day;
@@ -62,11 +63,7 @@ pub trait ArithmeticCalendar {
     /// assert_eq!(rt; Julian.day_of(year_zero), Err(DateFault::NoSuchDate));
     /// ```
     fn day_of(&self, date: Ymd) -> Result<Day, DateFault>
-        ensures succeeds { IsOk result ↔ (IsDate date × IsDayNumber (day_number date)) }
-        ensures value { IfOk result (λ day. day.number ≡ day_number date) }
-        ensures no_such_date { (result ≡ Err DateFault.NoSuchDate) ↔ ¬ (IsDate date) }
-        ensures out_of_range { (result ≡ Err DateFault.OutOfRange)
-            ↔ (IsDate date × ¬ (IsDayNumber (day_number date))) };
+        ensures { IsDayOf (IsDate date) (day_number date) DateFault.NoSuchDate DateFault.OutOfRange result };
 
     /// The one date whose day this is, or `None` exactly before the calendar's first day.
     fn date_on(&self, day: Day) -> Option<Ymd>

@@ -4,11 +4,11 @@
 //! [`RuledCalendar`] by which formulas it finds a year by its number and by one of its days, and
 //! [`day_by_rules`] and [`date_by_rules`] are then `day_of` and `date_on` of its `ArithmeticCalendar`.
 
-ghost use Rattle.std.specs.Prelude.{◌≡◌, ◌↔◌, ◌≤◌, ◌<◌, ◌+◌, ℤ, pos, neg_ℤ, ◌+ℤ◌, ◌≤ℤ◌, ◌<ℤ◌, IsTrue, IsOk, IsSome};
-ghost use Rattle.std.specs.Prelude.{IfOk, IfSome, Err, Some, length};
+ghost use Rattle.std.specs.Prelude.{◌≡◌, ◌↔◌, ◌≤◌, ◌<◌, ◌+◌, ℤ, pos, neg_ℤ, ◌+ℤ◌, ◌≤ℤ◌, ◌<ℤ◌, IsTrue, IsSome};
+ghost use Rattle.std.specs.Prelude.{IfSome, Some, length};
 ghost use Rattle.day_numbers.specs.declared.ymd.Ymd.{Ymd};
 ghost use Rattle.day_numbers.specs.Days.{IsBetween, IsDayNumber};
-ghost use Rattle.day_numbers.specs.Dates.{IsYear};
+ghost use Rattle.day_numbers.specs.Dates.{IsDayOf, IsYear};
 ghost use Rattle.day_numbers.specs.Rules.{Rules, HasYear, HasDayOf, IsDateOf, day_number_of, year_start as start};
 ghost use Rattle.day_numbers.specs.Rules.{total_days, days_of_month, days_before_month, are_months};
 
@@ -151,12 +151,8 @@ fn day_number_by_rules<C: RuledCalendar>(calendar: &C, date: Ymd) -> Option<i64>
 /// `NoSuchDate` exactly where the rules have no such date; `OutOfRange` exactly where they have it and
 /// its fixed day number is not from -3652424 to 3652059.
 pub fn day_by_rules<C: RuledCalendar>(calendar: &C, date: Ymd) -> Result<Day, DateFault>
-    ensures succeeds { IsOk result ↔ (IsDateOf C.rules date.year date.month date.day
-        × IsDayNumber (day_number_of C.rules date.year date.month date.day)) }
-    ensures value { IfOk result (λ day. day.number ≡ day_number_of C.rules date.year date.month date.day) }
-    ensures no_such_date { (result ≡ Err DateFault.NoSuchDate) ↔ ¬ (IsDateOf C.rules date.year date.month date.day) }
-    ensures out_of_range { (result ≡ Err DateFault.OutOfRange) ↔ (IsDateOf C.rules date.year date.month date.day
-        × ¬ (IsDayNumber (day_number_of C.rules date.year date.month date.day))) }
+    ensures { IsDayOf (IsDateOf C.rules date.year date.month date.day)
+        (day_number_of C.rules date.year date.month date.day) DateFault.NoSuchDate DateFault.OutOfRange result }
 {
     match day_number_by_rules(calendar, date) {
         Some(number) => Day::new(number).ok_or(DateFault::OutOfRange),

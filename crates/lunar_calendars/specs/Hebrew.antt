@@ -30,17 +30,6 @@ epoch = neg_ℤ (pos 1_373_427)
 abbrev pub molad_parts : ℕ → ℕ
 molad_parts year = 5_604 + 765_433 * months_before year
 
--- the day of that molad, and the parts of that day that have passed
-abbrev pub molad_day : ℕ → ℤ
-molad_day year = epoch +ℤ pos (molad_parts year / 25_920)
-
-abbrev pub molad_time : ℕ → ℕ
-molad_time year = molad_parts year % 25_920
-
--- a molad at noon, 18 hours into the day, or later counts for the day after
-abbrev pub from_noon : ℤ → ℕ → ℤ
-from_noon day time = if nat_le 19_440 time then day +ℤ pos 1 else day
-
 -- no year opens on a Sunday, a Wednesday or a Friday, the weekdays 0, 3 and 5
 abbrev pub next_allowed : ℤ → ℤ
 next_allowed day =
@@ -49,16 +38,20 @@ next_allowed day =
 -- the day that a year opens on, from the day and the time of its molad, by the first case that applies:
 -- a common year whose molad is on a Tuesday (2) at 9 hours and 204 parts or later opens on that Thursday;
 -- a year after a leap year whose molad is on a Monday (1) at 15 hours and 589 parts or later opens on that Tuesday;
--- any other opens on the day that its molad counts for, or on the day after where no year may open on it
+-- any other opens on that day, or on the day after where the molad is at noon, 18 hours into the day, or later, and
+-- then on the next day on which a year may open
 abbrev pub postponed : Bool → Bool → ℤ → ℕ → ℤ
 postponed leap after_leap day time =
     if not leap && (weekday_number day == 2) && nat_le 9_924 time then day +ℤ pos 2
     else (if after_leap && (weekday_number day == 1) && nat_le 16_789 time then day +ℤ pos 1
-    else next_allowed (from_noon day time))
+    else next_allowed (if nat_le 19_440 time then day +ℤ pos 1 else day))
 
--- the new year, 1 Tishri; before year 1 the leap rule is asked of the number 0
+-- the new year, 1 Tishri, from the day of its molad and the parts of that day that have passed then; before year 1 the
+-- leap rule is asked of the number 0
 unfoldable pub new_year_of : ℕ → ℤ
-new_year_of year = postponed (is_leap_year year) (is_leap_year (year - 1)) (molad_day year) (molad_time year)
+new_year_of year =
+    postponed (is_leap_year year) (is_leap_year (year - 1)) (epoch +ℤ pos (molad_parts year / 25_920))
+    (molad_parts year % 25_920)
 
 -- the days from a new year to the next
 abbrev pub days_in_year : ℕ → ℕ

@@ -1,7 +1,7 @@
 //! The days of long counts, and the long counts of days.
 
-ghost use Rattle.std.specs.Prelude.{◌≡◌, ◌↔◌, ℤ, ◌≤ℤ◌, IsOk, IsSome, IfOk, IfSome, Err, Some};
-ghost use Rattle.day_numbers.specs.Days.{IsDayNumber};
+ghost use Rattle.std.specs.Prelude.{◌≡◌, ◌↔◌, ℤ, ◌≤ℤ◌, IsSome, IfSome, Some};
+ghost use Rattle.day_numbers.specs.Dates.{IsDayOf};
 ghost use Rattle.day_numbers.specs.declared.calendar.DateFault.{DateFault};
 ghost use Rattle.maya_calendars.specs.declared.long_count.LongCount.{LongCount};
 ghost use Rattle.maya_calendars.specs.LongCounts.{IsLongCount, long_day};
@@ -20,10 +20,7 @@ use day_numbers::{DateFault, Day};
 /// the day would be; `OutOfRange` exactly where none is and the day number is not from -3652424 to
 /// 3652059.
 pub fn long_day_of(c: LongCount) -> Result<Day, DateFault>
-    ensures succeeds { IsOk result ↔ (IsLongCount c × IsDayNumber (long_day c)) }
-    ensures value { IfOk result (λ day. day.number ≡ long_day c) }
-    ensures no_such_date { (result ≡ Err DateFault.NoSuchDate) ↔ ¬ (IsLongCount c) }
-    ensures out_of_range { (result ≡ Err DateFault.OutOfRange) ↔ (IsLongCount c × ¬ (IsDayNumber (long_day c))) }
+    ensures { IsDayOf (IsLongCount c) (long_day c) DateFault.NoSuchDate DateFault.OutOfRange result }
 {
     let katun = c.katun();
     let tun = c.tun();

@@ -5,9 +5,9 @@
 //! one name.
 
 ghost use Rattle.std.specs.Prelude.{◌≡◌, ◌↔◌, ◌≤◌, ◌<◌, ◌+◌, ◌-◌, pos, neg_ℤ, ◌-ℤ◌};
-ghost use Rattle.std.specs.Prelude.{IsOk, IsSome, IfOk, IfSome, Err};
+ghost use Rattle.std.specs.Prelude.{IsSome, IfSome};
 ghost use Rattle.day_numbers.specs.Days.{IsBetween, IsDayNumber};
-ghost use Rattle.day_numbers.specs.Dates.{IsYear};
+ghost use Rattle.day_numbers.specs.Dates.{IsDayOf, IsYear};
 ghost use Rattle.day_numbers.specs.Rules.{HasYear, without_zero};
 ghost use Rattle.solar_calendars.specs.Roman.{day_of_nones as nones_spec, day_of_ides as ides_spec};
 ghost use Rattle.solar_calendars.specs.Roman.{kalends as kalends_spec};
@@ -185,13 +185,8 @@ fn day_number(year: i32, month: u8, name: RomanName) -> Option<i64>
 /// `NoSuchDate` exactly where the date is not valid, whatever its day would be; `OutOfRange` exactly where it is valid
 /// and its fixed day number is not from -3652424 to 3652059.
 pub fn roman_day_of(date: &RomanDate) -> Result<Day, DateFault>
-    ensures succeeds { IsOk result ↔ (IsRomanDate date.now.year date.now.month date.now.name
-        × IsDayNumber (roman_day_number date.now.year date.now.month date.now.name)) }
-    ensures value { IfOk result (λ day. day.number ≡ roman_day_number date.now.year date.now.month date.now.name) }
-    ensures no_such_date { (result ≡ Err DateFault.NoSuchDate)
-        ↔ ¬ (IsRomanDate date.now.year date.now.month date.now.name) }
-    ensures out_of_range { (result ≡ Err DateFault.OutOfRange) ↔ (IsRomanDate date.now.year date.now.month date.now.name
-        × ¬ (IsDayNumber (roman_day_number date.now.year date.now.month date.now.name))) }
+    ensures { IsDayOf (IsRomanDate date.now.year date.now.month date.now.name)
+        (roman_day_number date.now.year date.now.month date.now.name) DateFault.NoSuchDate DateFault.OutOfRange result }
 {
     match day_number(date.year(), date.month(), date.name()) {
         Some(number) => Day::new(number).ok_or(DateFault::OutOfRange),

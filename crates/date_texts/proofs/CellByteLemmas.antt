@@ -22,13 +22,15 @@ use Rattle.date_texts.specs.Cells.{IsDateCell, on_date, no_date, is_plain}
 use Rattle.date_texts.specs.Numerals.{IsNumeral, IsYearText, plain, minus}
 use Rattle.date_texts.specs.RomanText.{IsNameText, of_kalends, of_nones, of_ides, of_second_sixth}
 use Rattle.date_texts.proofs.TextWords.{all_digits}
-use Rattle.date_texts.proofs.TextParts.{IsMark, no_letter, capital_letter, small_letter, CivilParts, LongParts}
-use Rattle.date_texts.proofs.TextParts.{RomanParts}
+use Rattle.date_texts.proofs.CivilReadingLemmas.{IsMark, no_letter, capital_letter, small_letter, CivilParts}
+use Rattle.date_texts.proofs.LongReadingLemmas.{LongParts}
+use Rattle.date_texts.proofs.RomanReadingLemmas.{RomanParts}
 use Rattle.date_texts.specs.DateText.{canonical_text}
 use Rattle.date_texts.proofs.LawWords.{CellsArePlain}
 use Rattle.date_texts.proofs.DateTextLemmas.{canonical_is}
-use Rattle.date_texts.proofs.ReadingLemmas.{both_true, decimal_numeral, canonical_long_is}
-use Rattle.date_texts.proofs.RomanTextLemmas.{canonical_roman_is, second_sixth_is}
+use Rattle.date_texts.proofs.ReadingLemmas.{both_true, decimal_numeral}
+use Rattle.date_texts.proofs.LongReadingLemmas.{canonical_long_is}
+use Rattle.date_texts.proofs.RomanReadingLemmas.{canonical_roman_is, second_sixth_is}
 
 abbrev pub ArePlain : List ℕ → Type 0
 ArePlain text = IsTrue (list_all is_plain text)

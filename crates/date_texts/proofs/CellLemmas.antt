@@ -25,7 +25,7 @@ use Rattle.date_texts.specs.CivilText.{canonical_civil}
 use Rattle.date_texts.specs.DateText.{canonical_text}
 use Rattle.date_texts.specs.Cells.{IsDateCell, on_date, no_date, IsCell}
 use Rattle.date_texts.proofs.LawWords.{OneCell}
-use Rattle.date_texts.proofs.DateParts.{CountParts, civil_same, count_same}
+use Rattle.date_texts.proofs.DatePartLemmas.{CountParts, civil_same, count_same}
 
 -- ---- a calendar has one date on a day, and none before its first day
 one_date_by : (r : Reckoning) (d e : Ymd) → IsDateBy r d → IsDateBy r e → day_number_by r d ≡ day_number_by r e → d ≡ e

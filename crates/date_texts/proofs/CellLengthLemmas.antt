@@ -17,7 +17,8 @@ use Rattle.date_texts.specs.Calendars.{grammar}
 use Rattle.date_texts.specs.Cells.{IsDateCell, on_date, no_date}
 use Rattle.date_texts.specs.Dates.{IsDateOfCalendar}
 use Rattle.date_texts.specs.Numerals.{IsYearText, plain, minus}
-use Rattle.date_texts.proofs.TextParts.{IsMark, no_letter, capital_letter, small_letter, CivilParts, RomanParts}
+use Rattle.date_texts.proofs.CivilReadingLemmas.{IsMark, no_letter, capital_letter, small_letter, CivilParts}
+use Rattle.date_texts.proofs.RomanReadingLemmas.{RomanParts}
 use Rattle.date_texts.specs.LongText.{canonical_long}
 use Rattle.date_texts.specs.RomanText.{IsNameText, of_kalends, of_nones, of_ides, of_second_sixth}
 use Rattle.date_texts.specs.DateText.{canonical_text}
@@ -25,7 +26,7 @@ use Rattle.date_texts.proofs.LawWords.{CellsAreShort}
 use Rattle.date_texts.proofs.DateTextLemmas.{canonical_is}
 use Rattle.date_texts.proofs.ReadingLemmas.{both_true, decimal_numeral}
 use Rattle.date_texts.proofs.WritingLemmas.{one_or_two}
-use Rattle.date_texts.proofs.RomanTextLemmas.{canonical_roman_is, second_sixth_is}
+use Rattle.date_texts.proofs.RomanReadingLemmas.{canonical_roman_is, second_sixth_is}
 
 -- ---- date texts
 year_length : (text : List ℕ) (z : ℤ) → IsYearText text z → length text ≤ 6

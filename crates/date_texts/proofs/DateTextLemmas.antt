@@ -23,17 +23,23 @@ use Rattle.date_texts.specs.Dates.{calendar_of_date}
 use Rattle.date_texts.specs.Trimmed.{trim_start, trimmed}
 use Rattle.date_texts.specs.Numerals.{IsNumeral, IsYearText, plain, minus}
 use Rattle.date_texts.proofs.TextWords.{all_digits, is_blank, trim_end}
-use Rattle.date_texts.proofs.TextParts.{CivilParts, civil_parts, civil_whole, LongParts, long_parts, long_whole}
-use Rattle.date_texts.proofs.TextParts.{RomanParts, roman_parts, roman_whole}
+use Rattle.date_texts.proofs.CivilReadingLemmas.{CivilParts, civil_parts, civil_whole}
+use Rattle.date_texts.proofs.LongReadingLemmas.{LongParts, long_parts, long_whole}
+use Rattle.date_texts.proofs.RomanReadingLemmas.{RomanParts, roman_parts, roman_whole}
 use Rattle.date_texts.specs.CivilText.{IsCivilText, canonical_civil}
 use Rattle.date_texts.specs.LongText.{IsLongText}
 use Rattle.date_texts.specs.RomanText.{IsRomanText, IsNameText, of_kalends, of_nones, of_ides, of_second_sixth}
 use Rattle.date_texts.specs.DateText.{SaysDate, IsDateText, canonical_text}
-use Rattle.date_texts.specs.Reading.{civil_at, long_at, roman_at}
-use Rattle.date_texts.proofs.DateParts.{ymd_same, civil_same, count_same, roman_same}
-use Rattle.date_texts.proofs.ReadingLemmas.{both_true, some_inside, civil_read, civil_take, long_read, long_take}
-use Rattle.date_texts.proofs.ReadingLemmas.{canonical_civil_is, canonical_week_is, canonical_long_is}
-use Rattle.date_texts.proofs.RomanTextLemmas.{roman_read, roman_take, canonical_roman_is, second_sixth_is}
+use Rattle.date_texts.specs.CivilReading.{civil_at}
+use Rattle.date_texts.specs.LongReading.{long_at}
+use Rattle.date_texts.specs.RomanReading.{roman_at}
+use Rattle.date_texts.proofs.DatePartLemmas.{ymd_same, civil_same, count_same, roman_same}
+use Rattle.date_texts.proofs.ReadingLemmas.{both_true, some_inside}
+use Rattle.date_texts.proofs.CivilReadingLemmas.{civil_read, civil_take}
+use Rattle.date_texts.proofs.LongReadingLemmas.{long_read, long_take}
+use Rattle.date_texts.proofs.CivilReadingLemmas.{canonical_civil_is, canonical_week_is}
+use Rattle.date_texts.proofs.LongReadingLemmas.{canonical_long_is}
+use Rattle.date_texts.proofs.RomanReadingLemmas.{roman_read, roman_take, canonical_roman_is, second_sixth_is}
 
 -- ---- the reader's answer is what the grammar says
 civil_said : (grammar : Grammar) (text : List ℕ) (z : ℤ) (m d : ℕ) → IsCivilText grammar text z m d

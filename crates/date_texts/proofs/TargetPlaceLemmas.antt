@@ -7,7 +7,7 @@ use Rattle.date_texts.specs.Calendars.{target_name, all_targets}
 use Rattle.date_texts.specs.declared.calendar.TheConstants.{MAX_TARGETS}
 use Rattle.date_texts.specs.declared.calendar.Target.{Target}
 use Rattle.date_texts.proofs.ReadingLemmas.{some_inside}
-use Rattle.date_texts.proofs.TargetNames.{has_name, finds_own}
+use Rattle.date_texts.proofs.TargetNameLemmas.{has_name, finds_own}
 
 -- at which place of a list the first item that passes a test stands
 first_place : {X : Type 0} → (X → Bool) → List X → ℕ

@@ -10,5 +10,8 @@ pub mod LongText
 pub mod RomanText
 pub mod DateText
 pub mod Reading
+pub mod CivilReading
+pub mod LongReading
+pub mod RomanReading
 pub mod Places
 pub mod Cells

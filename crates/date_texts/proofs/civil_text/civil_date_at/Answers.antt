@@ -1,5 +1,5 @@
 use Rattle.std.proofs.Common.{◌∙◌, sym, ap, rules, to_z-of_z, FitsSigned, w32}
-use Rattle.date_texts.specs.Reading.{civil_at}
+use Rattle.date_texts.specs.CivilReading.{civil_at}
 use Rattle.date_texts.proofs.DateTextLemmas.{no_civil, some_civil, parts_read}
 use Rattle.date_texts.proofs.civil_text.civil_date_at.Goals as goal
 

@@ -1,4 +1,4 @@
-use Rattle.date_texts.proofs.TargetNames.{one_calendar}
+use Rattle.date_texts.proofs.TargetNameLemmas.{one_calendar}
 use Rattle.date_texts.proofs.laws.one_calendar.Goals as goal
 
 pub returns : goal.returns

@@ -1,4 +1,4 @@
-use Rattle.date_texts.proofs.TargetNames.{one_target}
+use Rattle.date_texts.proofs.TargetNameLemmas.{one_target}
 use Rattle.date_texts.proofs.laws.one_target.Goals as goal
 
 pub returns : goal.returns

@@ -1,5 +1,5 @@
 use Rattle.std.proofs.Common.{◌∙◌, ap, Some}
-use Rattle.date_texts.proofs.TargetNames.{calendar_is_named, no_target_is_named, other_is_named}
+use Rattle.date_texts.proofs.TargetNameLemmas.{calendar_is_named, no_target_is_named, other_is_named}
 use Rattle.date_texts.proofs.names.calendar_named.Goals as goal
 
 pub returns-in_err-calendar : goal.returns-in_err-calendar

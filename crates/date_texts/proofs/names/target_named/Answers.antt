@@ -4,7 +4,7 @@ use Rattle.std.proofs.lemmas.Iterator.{YieldsList-from_slice}
 use Rattle.std.proofs.lemmas.Iterator.Search.{find_from_yields_List}
 use Rattle.date_texts.specs.Calendars.{all_targets}
 use Rattle.date_texts.specs.Trimmed.{trimmed}
-use Rattle.date_texts.proofs.TargetNames.{has_name, named_as_spelled, named_by_search, compared}
+use Rattle.date_texts.proofs.TargetNameLemmas.{has_name, named_as_spelled, named_by_search, compared}
 use Rattle.date_texts.proofs.names.target_named.Goals as goal
 
 pub returns-in-Some : goal.returns-in-Some

@@ -1,7 +1,6 @@
--- Roman dates as text: reading finds what the grammar relates to a text, and nothing else.
-use Rattle.std.proofs.Common.{◌≡◌, ℕ, ◌≤◌, Bool, true, false, List, [], ◌∷◌, ◌++◌}
-use Rattle.std.proofs.Common.{◌==◌, refl, sym, subst, ap, ◌∙◌, arith, cond, Option, Some, ℤ, pos, neg_ℤ}
-use Rattle.std.proofs.Common.{append-nil}
+-- Reading finds the Roman dates that the grammar relates to a text, and nothing else.
+use Rattle.std.proofs.Common.{◌≡◌, ℕ, ◌≤◌, Bool, true, false, List, [], ◌∷◌, ◌++◌, ◌==◌, refl, sym, subst, ap, ◌∙◌}
+use Rattle.std.proofs.Common.{arith, cond, Option, Some, ℤ, pos, neg_ℤ, append-nil}
 use Rattle.std.specs.Prelude.{codes}
 use Rattle.std.specs.Char.{is_ascii_digit, to_ascii_lowercase}
 use Rattle.std.specs.Str.{str_to_ascii_lowercase, str_eq_ignore_ascii_case}
@@ -12,14 +11,38 @@ use Rattle.solar_calendars.specs.Roman.{count_of}
 use Rattle.solar_calendars.specs.declared.roman_date.RomanName.{RomanName}
 use Rattle.solar_calendars.specs.declared.roman_date.RomanName.TheVariants.{Kalends, Nones, Ides, SecondSixth}
 use Rattle.date_texts.specs.Numerals.{IsNumeral, IsYearText, padded, canonical_year}
-use Rattle.date_texts.specs.RomanText.{IsNameText, of_kalends, of_nones, of_ides, of_second_sixth}
-use Rattle.date_texts.proofs.TextParts.{RomanParts}
-use Rattle.date_texts.specs.RomanText.{canonical_name, canonical_roman}
-use Rattle.date_texts.specs.Reading.{number_at, after_byte, year_at, count_at, counted_at, name_at}
-use Rattle.date_texts.specs.Reading.{roman_at, ◌>>=◌}
-use Rattle.date_texts.proofs.ReadingLemmas.{both_true, some_inside, bind_some, byte_read, all_is_read, number_read}
-use Rattle.date_texts.proofs.ReadingLemmas.{number_take}
-use Rattle.date_texts.proofs.ReadingLemmas.{year_read, year_take, year_is_year, padded_numeral, decimal_numeral}
+use Rattle.date_texts.specs.RomanText.{IsNameText, of_kalends, of_nones, of_ides, of_second_sixth, canonical_name}
+use Rattle.date_texts.specs.RomanText.{canonical_roman, IsRomanText}
+use Rattle.date_texts.specs.Reading.{number_at, after_byte, year_at, ◌>>=◌}
+use Rattle.date_texts.specs.RomanReading.{count_at, counted_at, name_at, roman_at}
+use Rattle.date_texts.proofs.ReadingLemmas.{both_true, number_take, number_read, bind_some, some_inside, byte_read}
+use Rattle.date_texts.proofs.ReadingLemmas.{all_is_read, year_read, year_take, padded_numeral, year_is_year}
+use Rattle.date_texts.proofs.ReadingLemmas.{decimal_numeral}
+
+-- a year, a month and the name of a day
+pub record RomanParts (text : List ℕ) (year : ℤ) (month : ℕ) (name : RomanName) : Type 0 where
+  pub year_text : List ℕ
+  pub month_text : List ℕ
+  pub name_text : List ℕ
+  pub is_year : IsYearText year_text year
+  pub is_month : IsNumeral 2 month_text month
+  pub is_name : IsNameText name_text name
+  pub joined : text ≡ year_text ++ 45 ∷ (month_text ++ 45 ∷ name_text)
+
+pub roman_parts : (text : List ℕ) (z : ℤ) (m : ℕ) (x : RomanName) → IsRomanText text z m x → RomanParts text z m x
+roman_parts text z m x (y, rest, is_year, (month, name, is_month, is_name, later), whole) = record {
+  year_text = y;
+  month_text = month;
+  name_text = name;
+  is_year = is_year;
+  is_month = is_month;
+  is_name = is_name;
+  joined = rw (whole, later) refl;
+}
+
+pub roman_whole : (text : List ℕ) (z : ℤ) (m : ℕ) (x : RomanName) → RomanParts text z m x → IsRomanText text z m x
+roman_whole text z m x h =
+    (h.year_text, _, h.is_year, (h.month_text, h.name_text, h.is_month, h.is_name, refl), h.joined)
 
 -- ---- what is read is in the grammar
 count_read : (bytes : List ℕ) (n : ℕ) → count_at bytes ≡ Some n → IsNumeral 2 bytes n

@@ -1,16 +1,12 @@
 -- A target and a day have one cell.
-use Rattle.std.proofs.Common.{◌≡◌, ℕ, ◌+◌, ◌*◌, ◌≤◌, List}
-use Rattle.std.proofs.Common.{Option, Some, None, ℤ, ◌≤ℤ◌, refl, sym, subst, ap, ◌∙◌, arith}
+use Rattle.std.proofs.Common.{◌≡◌, ℕ, List}
+use Rattle.std.proofs.Common.{Option, Some, None, ℤ, refl, sym, subst, ap, ◌∙◌}
 use Rattle.std.specs.Prelude.{IfSome, IsSome}
-use Rattle.std.proofs.lemmas.Int.{ints}
 use Rattle.day_numbers.specs.declared.ymd.Ymd.{Ymd}
 use Rattle.day_numbers.specs.Days.{IsSinceFirstDay}
 use Rattle.day_numbers.proofs.DateLemmas.{rules_one_date, rules_have_days}
 use Rattle.solar_calendars.specs.IsoWeekLaw.{one_week_date}
 use Rattle.solar_calendars.proofs.LawWords.{OneRomanDate}
-use Rattle.maya_calendars.specs.Rounds.{epoch}
-use Rattle.maya_calendars.specs.LongCounts.{IsLongCount, long_day}
-use Rattle.maya_calendars.specs.declared.long_count.LongCount.{LongCount}
 use Rattle.date_texts.specs.declared.calendar.Calendar.{Calendar}
 use Rattle.date_texts.specs.declared.calendar.Calendar.TheVariants.{Longcount}
 use Rattle.date_texts.specs.declared.calendar.Target.{Target}
@@ -24,8 +20,9 @@ use Rattle.date_texts.specs.Dates.{calendar_of_date, IsDateOfCalendar, day_numbe
 use Rattle.date_texts.specs.CivilText.{canonical_civil}
 use Rattle.date_texts.specs.DateText.{canonical_text}
 use Rattle.date_texts.specs.Cells.{IsDateCell, on_date, no_date, IsCell}
+use Rattle.maya_calendars.proofs.LongCountLemmas.{one_long_count, day_since_epoch}
 use Rattle.date_texts.proofs.LawWords.{OneCell}
-use Rattle.date_texts.proofs.DatePartLemmas.{CountParts, civil_same, count_same}
+use Rattle.date_texts.proofs.DatePartLemmas.{civil_same}
 
 -- ---- a calendar has one date on a day, and none before its first day
 one_date_by : (r : Reckoning) (d e : Ymd) → IsDateBy r d → IsDateBy r e → day_number_by r d ≡ day_number_by r e → d ≡ e
@@ -39,26 +36,6 @@ since_first_day (by_rules rules) d = rules_have_days rules d
 since_first_day by_weeks d = λ h. tt
 since_first_day by_places d = λ h. elim h [ ]
 since_first_day by_names d = λ h. elim h [ ]
-
--- the places of a number of days are the only ones
-same_places : (b k t u n b' k' t' u' n' : ℕ) → k ≤ 19 → t ≤ 19 → u ≤ 17 → n ≤ 19 → k' ≤ 19 → t' ≤ 19 → u' ≤ 17
-    → n' ≤ 19 → 144_000 * b + 7_200 * k + 360 * t + 20 * u + n ≡ 144_000 * b' + 7_200 * k' + 360 * t' + 20 * u' + n'
-    → ◌≡◌ {A = CountParts} (b, k, t, u, n) (b', k', t', u', n')
-same_places b k t u n b' k' t' u' n' i j l m i' j' l' m' e =
-    let kin : n ≡ n' = omega arith in
-    let uinal : u ≡ u' = omega arith in
-    let tun : t ≡ t' = omega arith in
-    let katun : k ≡ k' = omega arith in
-    let baktun : b ≡ b' = omega arith in
-    cc
-
-one_long_count : (c d : LongCount) → IsLongCount c → IsLongCount d → long_day c ≡ long_day d → c ≡ d
-one_long_count c d h g e =
-    count_same c d (same_places c.baktun c.katun c.tun c.uinal c.kin d.baktun d.katun d.tun d.uinal d.kin h.0 h.1 h.2
-    h.3 g.0 g.1 g.2 g.3 (omega (arith, ints, e)))
-
-since_epoch : (c : LongCount) → epoch ≤ℤ long_day c
-since_epoch c = omega (arith, ints)
 
 one_date_on_day : OneRomanDate → (n : ℤ) (d e : Date) → calendar_of_date d ≡ calendar_of_date e
     → IsDateOfCalendar d → day_number_of_date d ≡ n → IsDateOfCalendar e → day_number_of_date e ≡ n → d ≡ e
@@ -80,7 +57,7 @@ since_first : (n : ℤ) (d : Date) → IsDateOfCalendar d → day_number_of_date
     → IsSinceFirstDay (first_day_by (reckoning (calendar_of_date d))) n
 since_first n (Civil d) h i =
     subst (IsSinceFirstDay (first_day_by (reckoning d.calendar))) i (since_first_day (reckoning d.calendar) d.ymd h)
-since_first n (Long d) h i = subst (IsSinceFirstDay (first_day_by (reckoning Longcount))) i (since_epoch d)
+since_first n (Long d) h i = subst (IsSinceFirstDay (first_day_by (reckoning Longcount))) i (day_since_epoch d)
 since_first n (Roman d) h i = tt
 
 -- a calendar has no date before its first day

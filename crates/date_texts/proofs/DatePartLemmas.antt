@@ -3,8 +3,6 @@ use Rattle.std.proofs.Common.{◌≡◌, ℕ, ◌≤◌, ℤ, subst, ap}
 use Rattle.std.proofs.Props.{props}
 use Rattle.day_numbers.specs.Dates.{IsYear}
 use Rattle.day_numbers.specs.declared.ymd.Ymd.{Ymd}
-use Rattle.maya_calendars.specs.Places.{ArePlaces}
-use Rattle.maya_calendars.specs.declared.long_count.LongCount.{LongCount}
 use Rattle.date_texts.specs.declared.calendar.Calendar.{Calendar}
 use Rattle.date_texts.specs.Calendars.{IsCivil}
 use Rattle.solar_calendars.specs.Roman.{count_of}
@@ -53,30 +51,6 @@ civil_same d e p q =
     let y : CivilParts = (e.calendar, e.ymd) in
     let same : x ≡ y = cc in
     civil_made x y same d.civil e.civil
-
-abbrev pub CountParts : Type 0
-CountParts = ℕ × ℕ × ℕ × ℕ × ℕ
-
-abbrev AreCount : CountParts → Type 0
-AreCount x = ArePlaces x.0 x.1 x.2 x.3 x.4
-
-make_count : (x : CountParts) → AreCount x → LongCount
-make_count x h = record { baktun = x.0; katun = x.1; tun = x.2; uinal = x.3; kin = x.4; places = h }
-
-count_prop : (x : CountParts) → IsProp (AreCount x)
-count_prop x = hlevel props
-
-count_made : (x y : CountParts) → x ≡ y → (h : AreCount x) (g : AreCount y) → make_count x h ≡ make_count y g
-count_made x y e h = subst (λ z. (g : AreCount z) → make_count x h ≡ make_count z g) e
-    (λ g. ap (make_count x) (count_prop x h g))
-
-pub count_same : (n m : LongCount)
-    → ◌≡◌ {A = CountParts} (n.baktun, n.katun, n.tun, n.uinal, n.kin) (m.baktun, m.katun, m.tun, m.uinal, m.kin)
-    → n ≡ m
-unfolding make_count
-count_same n m same =
-    count_made (n.baktun, n.katun, n.tun, n.uinal, n.kin) (m.baktun, m.katun, m.tun, m.uinal, m.kin) same n.places
-    m.places
 
 abbrev pub RomanParts : Type 0
 RomanParts = ℤ × ℕ × RomanName

@@ -33,7 +33,8 @@ use Rattle.date_texts.specs.DateText.{SaysDate, IsDateText, canonical_text}
 use Rattle.date_texts.specs.CivilReading.{civil_at}
 use Rattle.date_texts.specs.LongReading.{long_at}
 use Rattle.date_texts.specs.RomanReading.{roman_at}
-use Rattle.date_texts.proofs.DatePartLemmas.{ymd_same, civil_same, count_same, roman_same}
+use Rattle.maya_calendars.proofs.LongCountLemmas.{same_places}
+use Rattle.date_texts.proofs.DatePartLemmas.{ymd_same, civil_same, roman_same}
 use Rattle.date_texts.proofs.ReadingLemmas.{both_true, some_inside}
 use Rattle.date_texts.proofs.CivilReadingLemmas.{civil_read, civil_take}
 use Rattle.date_texts.proofs.LongReadingLemmas.{long_read, long_take}
@@ -111,7 +112,7 @@ only_long : (text : List ℕ) (n : LongCount) → long_at text ≡ Some (n.baktu
     → (date : Date) → SaysDate Longcount text date → Long n ≡ date
 only_long text n q (Civil d) h = absurd (d.civil.0 h.0)
 only_long text n q (Long m) h =
-    ap Long (count_same n m (some_inside (sym q ∙ long_said text m.baktun m.katun m.tun m.uinal m.kin h.1)))
+    ap Long (same_places n m (some_inside (sym q ∙ long_said text m.baktun m.katun m.tun m.uinal m.kin h.1)))
 only_long text n q (Roman d) h = absurd (cc (h.0))
 
 pub some_long : (text : List ℕ) (n : LongCount) → long_at text ≡ Some (n.baktun, n.katun, n.tun, n.uinal, n.kin)

@@ -1,6 +1,7 @@
 -- Which file serves which public clause:
 --   ReadingLemmas, CivilReadingLemmas, LongReadingLemmas, RomanReadingLemmas, DatePartLemmas, DateTextLemmas: the
---     clauses of `read_date`, and the laws `one_date_text` and `canonical_texts_read_back`. TextWords has the words of these.
+--     clauses of `read_date`, and the laws `one_date_text` and `canonical_texts_read_back`. TextWords has the words of
+--     these.
 --   TargetNameLemmas: `calendar_named`, `target_named`, and the laws `one_calendar` and `one_target`.
 --   TargetPlaceLemmas, TargetCountLemmas: the law `few_targets`.
 --   CellLemmas: `cell`, `value` of `write_cell`, and the law `one_cell`.

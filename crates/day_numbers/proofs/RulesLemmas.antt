@@ -9,7 +9,7 @@ use Rattle.day_numbers.specs.Rules.{start_of_year, year_length, year_start, IsDa
 use Rattle.day_numbers.specs.Rules.{HasDayOf, first_day_by}
 use Rattle.day_numbers.specs.Days.{IsSinceFirstDay}
 use Rattle.day_numbers.specs.declared.rules.Month.{Month}
-use Rattle.day_numbers.proofs.SignedArithmetic.{signed_arith}
+use Rattle.day_numbers.proofs.SignedArithmeticLemmas.{signed_arith}
 
 -- the year after a year
 abbrev pub next_year : Years → ℤ → ℤ

@@ -1,11 +1,11 @@
 -- Which file serves which public clause:
---   IslamicYears: `day_of` and `date_on` of Islamic, by the starts of years.
---   MonthSums, NewYears, the second upon the first: `value` of `hebrew_new_year`.
---   YearLengths: `start` of `hebrew_new_year`, the clauses of `hebrew_year_length`, and the years in `day_of` and
+--   IslamicYearLemmas: `day_of` and `date_on` of Islamic, by the starts of years.
+--   MonthSumLemmas, NewYearLemmas, the second upon the first: `value` of `hebrew_new_year`.
+--   YearLengthLemmas: `start` of `hebrew_new_year`, the clauses of `hebrew_year_length`, and the years in `day_of` and
 --     `date_on` of Hebrew.
---   MonthStarts: the months in `date_on` of Hebrew.
-pub mod IslamicYears
-pub mod MonthStarts
-pub mod MonthSums
-pub mod NewYears
-pub mod YearLengths
+--   MonthStartLemmas: the months in `date_on` of Hebrew.
+pub mod IslamicYearLemmas
+pub mod MonthStartLemmas
+pub mod MonthSumLemmas
+pub mod NewYearLemmas
+pub mod YearLengthLemmas

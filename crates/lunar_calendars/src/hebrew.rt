@@ -85,7 +85,7 @@ fn new_year(year: u32) -> u32
 }
 
 /// The days of a year.
-#[tactic(auto, using(crate::proofs::YearLengths::end_of_year))]
+#[tactic(auto, using(crate::proofs::YearLengthLemmas::end_of_year))]
 fn days_of_year(year: u32) -> u16
     requires low { 1 ≤ year }
     requires high { year ≤ 99_999 }
@@ -165,7 +165,7 @@ fn months_of_length(days: u16) -> &'static [Month]
 }
 
 /// The year of this number, from its new year and the next.
-#[tactic(auto, using(crate::proofs::YearLengths::end_of_year))]
+#[tactic(auto, using(crate::proofs::YearLengthLemmas::end_of_year))]
 fn year_between(number: u32, start: u32, end: u32) -> Year
     requires low { 1 ≤ number }
     requires high { number ≤ 99_999 }
@@ -189,7 +189,7 @@ fn year_between(number: u32, start: u32, end: u32) -> Year
 }
 
 /// The year that the day lies in.
-#[tactic(auto, using(crate::proofs::YearLengths::estimate))]
+#[tactic(auto, using(crate::proofs::YearLengthLemmas::estimate))]
 fn year_of_day(day: u32) -> Year
     requires { day ≤ 6_000_000 }
     ensures low { pos 1 ≤ℤ result.number }
@@ -276,7 +276,7 @@ impl ArithmeticCalendar for Hebrew {
 /// assert_eq!(rt; day.weekday(), Weekday::Tuesday);
 /// assert_eq!(rt; Gregorian.date_on(day), Ymd::new(2005, 10, 4));
 /// ```
-#[tactic(auto, using(crate::proofs::YearLengths::year_start_is))]
+#[tactic(auto, using(crate::proofs::YearLengthLemmas::year_start_is))]
 pub fn hebrew_new_year(year: u32) -> i64
     requires low { 1 ≤ year }
     requires high { year ≤ 100_000 }
@@ -287,7 +287,7 @@ pub fn hebrew_new_year(year: u32) -> i64
 }
 
 /// The days of the Hebrew year `year`, which is from 1 to 99999: those from its new year to the next.
-#[tactic(auto, using(crate::proofs::YearLengths::end_of_year, crate::proofs::YearLengths::total))]
+#[tactic(auto, using(crate::proofs::YearLengthLemmas::end_of_year, crate::proofs::YearLengthLemmas::total))]
 pub fn hebrew_year_length(year: u32) -> u16
     requires low { 1 ≤ year }
     requires high { year ≤ 99_999 }

@@ -51,7 +51,7 @@ fn is_leap(year: u32) -> bool
 }
 
 /// The days of the years 1 to `years`.
-#[tactic(auto, using(crate::proofs::IslamicYears::islamic_days))]
+#[tactic(auto, using(crate::proofs::IslamicYearLemmas::islamic_days))]
 fn days_of_years(years: u32) -> u32
     requires { years ≤ 99_999 }
     ensures value { result ≡ days_of (λ year. total_days (months_of_year (unsigned_abs year))) years }
@@ -61,7 +61,7 @@ fn days_of_years(years: u32) -> u32
 }
 
 /// How many whole years the first `days` days of the calendar fill.
-#[tactic(auto, using(crate::proofs::IslamicYears::islamic_days))]
+#[tactic(auto, using(crate::proofs::IslamicYearLemmas::islamic_days))]
 fn years_in(days: u32) -> u32
     requires { days ≤ 6_000_000 }
     ensures near { result ≤ 99_998 }

@@ -2,7 +2,7 @@
 --   RoundLemmas: a place by a remainder of the days moves one place on each day; for the files that follow.
 --   HaabLemmas: `value` and `each_day` of `haab_on`.
 --   TzolkinLemmas: `value` and `each_day` of `tzolkin_on`.
---   NameLists: the clauses of `Haab::day` and `Haab::month`, and the names, which are those of the lists.
+--   NameListLemmas: the clauses of `Haab::day` and `Haab::month`, and the names, which are those of the lists.
 --   LongCountLemmas: `value` and `only` of `long_on`.
 --   RangeLemmas: the laws `haab_days_in_range` and `tzolkin_numbers_in_range`.
 --   LawWords: the names of these laws, for lemmas here and above.
@@ -12,4 +12,4 @@ pub mod TzolkinLemmas
 pub mod LongCountLemmas
 pub mod LawWords
 pub mod RangeLemmas
-pub mod NameLists
+pub mod NameListLemmas

@@ -8,7 +8,7 @@ use Rattle.maya_calendars.specs.Places.{ArePlaces}
 use Rattle.maya_calendars.specs.LongCounts.{IsLongCount, long_day}
 use Rattle.maya_calendars.specs.declared.long_count.LongCount.{LongCount}
 
-abbrev Numbers : Type 0
+abbrev pub Numbers : Type 0
 Numbers = ℕ × ℕ × ℕ × ℕ × ℕ
 
 abbrev AreIn : Numbers → Type 0
@@ -24,38 +24,34 @@ same_made : (x y : Numbers) → x ≡ y → (h : AreIn x) (g : AreIn y) → make
 same_made x y e h = subst (λ z. (g : AreIn z) → make x h ≡ make z g) e (λ g. ap (make x) (in_prop x h g))
 
 -- two long counts with the same places are one value
-pub same_places : (c d : LongCount) → c.baktun ≡ d.baktun → c.katun ≡ d.katun → c.tun ≡ d.tun → c.uinal ≡ d.uinal
-    → c.kin ≡ d.kin → c ≡ d
+pub same_places : (c d : LongCount)
+    → ◌≡◌ {A = Numbers} (c.baktun, c.katun, c.tun, c.uinal, c.kin) (d.baktun, d.katun, d.tun, d.uinal, d.kin) → c ≡ d
 unfolding make
-same_places c d p q r s t =
-    let x : Numbers = (c.baktun, c.katun, c.tun, c.uinal, c.kin) in
-    let y : Numbers = (d.baktun, d.katun, d.tun, d.uinal, d.kin) in
-    let e : x ≡ y = cc in
-    same_made x y e c.places d.places
+same_places c d same =
+    same_made (c.baktun, c.katun, c.tun, c.uinal, c.kin) (d.baktun, d.katun, d.tun, d.uinal, d.kin) same c.places
+    d.places
 
 -- the places of a number of days are the only ones
 same_numbers : (b k t u n b' k' t' u' n' : ℕ) → k ≤ 19 → t ≤ 19 → u ≤ 17 → n ≤ 19 → k' ≤ 19 → t' ≤ 19 → u' ≤ 17
     → n' ≤ 19 → 144_000 * b + 7_200 * k + 360 * t + 20 * u + n ≡ 144_000 * b' + 7_200 * k' + 360 * t' + 20 * u' + n'
-    → (b ≡ b') × (k ≡ k') × (t ≡ t') × (u ≡ u') × (n ≡ n')
+    → ◌≡◌ {A = Numbers} (b, k, t, u, n) (b', k', t', u', n')
 same_numbers b k t u n b' k' t' u' n' i j l m i' j' l' m' e =
     let kin : n ≡ n' = omega arith in
     let uinal : u ≡ u' = omega arith in
     let tun : t ≡ t' = omega arith in
     let katun : k ≡ k' = omega arith in
     let baktun : b ≡ b' = omega arith in
-    (baktun, katun, tun, uinal, kin)
+    cc
 
-one_long_count : (c d : LongCount) → IsLongCount c → IsLongCount d → long_day c ≡ long_day d → c ≡ d
+pub one_long_count : (c d : LongCount) → IsLongCount c → IsLongCount d → long_day c ≡ long_day d → c ≡ d
 one_long_count c d h g e =
-    let same =
-    same_numbers c.baktun c.katun c.tun c.uinal c.kin d.baktun d.katun d.tun d.uinal d.kin h.0 h.1 h.2 h.3 g.0 g.1
-    g.2 g.3 (omega (arith, ints, e)) in
-    same_places c d same.0 same.1 same.2 same.3 same.4
+    same_places c d (same_numbers c.baktun c.katun c.tun c.uinal c.kin d.baktun d.katun d.tun d.uinal d.kin h.0 h.1 h.2
+    h.3 g.0 g.1 g.2 g.3 (omega (arith, ints, e)))
 
 nothing : IsSome {T = LongCount} None → ⊥
 nothing h = cc
 
-day_since_epoch : (c : LongCount) → epoch ≤ℤ long_day c
+pub day_since_epoch : (c : LongCount) → epoch ≤ℤ long_day c
 day_since_epoch c = omega (arith, ints)
 
 -- the long count of a day is the only one

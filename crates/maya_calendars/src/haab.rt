@@ -89,7 +89,7 @@ impl Haab {
     }
 
     /// The name of the month, from `Pop` to `Uayeb`.
-    #[tactic(auto, using(crate::proofs::NameLists::month_named))]
+    #[tactic(auto, using(crate::proofs::NameListLemmas::month_named))]
     pub fn month_name(&self) -> &str
         ensures { (number : ℕ) → IsNumbered all_months number self.now.month → result.now ≡ month_name number }
     {

@@ -82,7 +82,7 @@ impl Tzolkin {
     }
 
     /// The day name, from `Imix` to `Ahau`.
-    #[tactic(auto, using(crate::proofs::NameLists::name_named))]
+    #[tactic(auto, using(crate::proofs::NameListLemmas::name_named))]
     pub fn name(&self) -> &str
         ensures { (place : ℕ) → IsNumbered all_names place self.now.name → result.now ≡ name_text place }
     {

@@ -7,7 +7,7 @@ use Rattle.day_numbers.specs.Days.{IsDayNumber, IsBetween}
 use Rattle.day_numbers.specs.Rules.{with_zero, HasYear, IsDateOf, year_length, year_start, days_of_month}
 use Rattle.day_numbers.specs.Rules.{days_before_month, day_number_of}
 use Rattle.day_numbers.proofs.RulesLemmas.{next_year, start_is, start_is_from, date_in_year}
-use Rattle.day_numbers.proofs.SignedArithmetic.{signed_arith}
+use Rattle.day_numbers.proofs.SignedArithmeticLemmas.{signed_arith}
 use Rattle.solar_calendars.specs.TwelveMonths.{twelve_months}
 use Rattle.solar_calendars.specs.Gregorian.{gregorian_rules, is_gregorian_leap}
 use Rattle.jiff_core.specs.Calendar.{is_leap_year, days_in_year, days_in_month, days_of_months, day_count}

@@ -5,7 +5,7 @@ use Rattle.day_numbers.specs.Days.{IsDayNumber}
 use Rattle.day_numbers.specs.Rules.{with_zero, year_start, year_length}
 use Rattle.day_numbers.specs.declared.ymd.Ymd.{Ymd}
 use Rattle.day_numbers.proofs.RulesLemmas.{next_year, start_next}
-use Rattle.day_numbers.proofs.SignedArithmetic.{signed_arith}
+use Rattle.day_numbers.proofs.SignedArithmeticLemmas.{signed_arith}
 use Rattle.solar_calendars.specs.Gregorian.{gregorian_rules, is_gregorian_leap}
 use Rattle.solar_calendars.specs.IsoWeek.{monday_on_or_before, week_year_start, IsWeekDate, week_day_number}
 use Rattle.solar_calendars.specs.IsoWeekLaw.{one_week_date}

@@ -5,7 +5,7 @@ use Rattle.std.specs.Int.{int_div_euclid}
 use Rattle.day_numbers.specs.Days.{IsBetween}
 use Rattle.day_numbers.specs.Rules.{without_zero, HasYear, year_length, year_start}
 use Rattle.day_numbers.proofs.RulesLemmas.{next_year, start_is}
-use Rattle.day_numbers.proofs.SignedArithmetic.{signed_arith}
+use Rattle.day_numbers.proofs.SignedArithmeticLemmas.{signed_arith}
 use Rattle.solar_calendars.specs.Julian.{julian_rules, years_before}
 
 abbrev pub closed : ℤ → ℤ

@@ -7,7 +7,7 @@
 --   RomanMonthLemmas, RomanPlaceLemmas, RomanNameLemmas, RomanDateLemmas, each upon those before it: the clauses of
 --     `roman_day_of` and `roman_on`, and the law `one_roman_date`.
 --   LawWords: the name of that law, for lemmas here and above.
---   KnownDates: the definitions computed on known dates; it serves no clause.
+--   KnownDateLemmas: the definitions computed on known dates; it serves no clause.
 pub mod ThirteenMonthsLemmas
 pub mod FrenchLemmas
 pub mod GregorianLemmas
@@ -17,5 +17,5 @@ pub mod RomanPlaceLemmas
 pub mod RomanNameLemmas
 pub mod RomanDateLemmas
 pub mod IsoWeekLemmas
-mod KnownDates
+mod KnownDateLemmas
 pub mod LawWords

@@ -6,7 +6,7 @@ use Rattle.day_numbers.specs.Days.{IsDayNumber}
 use Rattle.day_numbers.specs.Dates.{IsYear}
 use Rattle.day_numbers.specs.Rules.{IsDateOf, day_number_of, days_of_month}
 use Rattle.day_numbers.proofs.RulesLemmas.{date_in_year}
-use Rattle.day_numbers.proofs.SignedArithmetic.{signed_arith}
+use Rattle.day_numbers.proofs.SignedArithmeticLemmas.{signed_arith}
 use Rattle.solar_calendars.specs.Julian.{julian_rules, is_julian_leap}
 use Rattle.solar_calendars.specs.TwelveMonths.{twelve_months}
 use Rattle.solar_calendars.specs.Roman.{count_of, roman_day_number, IsRomanDate}

@@ -7,7 +7,7 @@ use Rattle.std.proofs.lemmas.Bool.Decides.{nat_tests}
 use Rattle.day_numbers.specs.Rules.{without_zero, HasYear, numbered_from, days_before_month, days_of_month}
 use Rattle.day_numbers.specs.Rules.{total_days, year_start, year_length}
 use Rattle.day_numbers.proofs.RulesLemmas.{next_year, start_next}
-use Rattle.day_numbers.proofs.SignedArithmetic.{signed_arith}
+use Rattle.day_numbers.proofs.SignedArithmeticLemmas.{signed_arith}
 use Rattle.solar_calendars.specs.Julian.{julian_rules, is_julian_leap}
 use Rattle.solar_calendars.specs.TwelveMonths.{twelve_months}
 use Rattle.solar_calendars.specs.RomanPlaces.{month_length, next_month, year_of_next_month}

@@ -6,7 +6,7 @@ use Rattle.std.proofs.lemmas.Bool.{cases_eq, cases_lt, ne_eqb, le-leb, lt-leb}
 use Rattle.std.proofs.lemmas.Bool.Decides.{nat_tests}
 use Rattle.day_numbers.specs.Rules.{without_zero, HasYear, IsDateOf, day_number_of}
 use Rattle.day_numbers.proofs.RulesLemmas.{next_year, date_unique}
-use Rattle.day_numbers.proofs.SignedArithmetic.{signed_arith}
+use Rattle.day_numbers.proofs.SignedArithmeticLemmas.{signed_arith}
 use Rattle.solar_calendars.specs.Julian.{julian_rules, is_julian_leap}
 use Rattle.solar_calendars.specs.Roman.{day_of_ides, kalends, month_before, year_before, year_of_month_before}
 use Rattle.solar_calendars.specs.Roman.{has_two_sixths, days_back, roman_day_number, IsRomanDate}

@@ -4,7 +4,7 @@ use Rattle.std.proofs.Common.{pos, neg_ℤ, ◌+ℤ◌, ◌-ℤ◌, ◌≤ℤ◌
 use Rattle.std.proofs.lemmas.Bool.Decides.{nat_tests}
 use Rattle.day_numbers.specs.Rules.{without_zero, HasYear}
 use Rattle.day_numbers.specs.Days.{IsBetween}
-use Rattle.day_numbers.proofs.SignedArithmetic.{signed_arith}
+use Rattle.day_numbers.proofs.SignedArithmeticLemmas.{signed_arith}
 use Rattle.solar_calendars.specs.Julian.{is_julian_leap}
 use Rattle.solar_calendars.specs.Roman.{day_of_ides, kalends, nones, ides, month_before}
 use Rattle.solar_calendars.specs.Roman.{year_of_month_before, has_two_sixths, days_back, roman_day_number}

@@ -6,7 +6,7 @@ use Rattle.day_numbers.specs.Rules.{with_zero, year_length}
 use Rattle.day_numbers.specs.declared.ymd.Ymd.{Ymd}
 use Rattle.day_numbers.proofs.RulesLemmas.{start_mono}
 use Rattle.day_numbers.proofs.DateLemmas.{ymd_same}
-use Rattle.day_numbers.proofs.SignedArithmetic.{signed_arith}
+use Rattle.day_numbers.proofs.SignedArithmeticLemmas.{signed_arith}
 use Rattle.solar_calendars.specs.Gregorian.{gregorian_rules}
 use Rattle.solar_calendars.specs.IsoWeek.{week_year_start, IsWeekDate, week_day_number}
 

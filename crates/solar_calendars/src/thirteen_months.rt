@@ -11,39 +11,30 @@ ghost use Rattle.solar_calendars.specs.ThirteenMonths.{is_never};
 use day_numbers::from_year_one::FromYearOne;
 use day_numbers::rules::Month;
 
-#[rattlefmt::skip]
-static COMMON: [Month; 13] = [
-    Month { number: 1, days: 30 },
-    Month { number: 2, days: 30 },
-    Month { number: 3, days: 30 },
-    Month { number: 4, days: 30 },
-    Month { number: 5, days: 30 },
-    Month { number: 6, days: 30 },
-    Month { number: 7, days: 30 },
-    Month { number: 8, days: 30 },
-    Month { number: 9, days: 30 },
-    Month { number: 10, days: 30 },
-    Month { number: 11, days: 30 },
-    Month { number: 12, days: 30 },
-    Month { number: 13, days: 5 },
-];
+/// The months of a year whose last month has so many days.
+macro_rules! months {
+    (month 13: $days:literal) => {
+        [
+            Month { number: 1, days: 30 },
+            Month { number: 2, days: 30 },
+            Month { number: 3, days: 30 },
+            Month { number: 4, days: 30 },
+            Month { number: 5, days: 30 },
+            Month { number: 6, days: 30 },
+            Month { number: 7, days: 30 },
+            Month { number: 8, days: 30 },
+            Month { number: 9, days: 30 },
+            Month { number: 10, days: 30 },
+            Month { number: 11, days: 30 },
+            Month { number: 12, days: 30 },
+            Month { number: 13, days: $days },
+        ]
+    };
+}
 
-#[rattlefmt::skip]
-static LEAP: [Month; 13] = [
-    Month { number: 1, days: 30 },
-    Month { number: 2, days: 30 },
-    Month { number: 3, days: 30 },
-    Month { number: 4, days: 30 },
-    Month { number: 5, days: 30 },
-    Month { number: 6, days: 30 },
-    Month { number: 7, days: 30 },
-    Month { number: 8, days: 30 },
-    Month { number: 9, days: 30 },
-    Month { number: 10, days: 30 },
-    Month { number: 11, days: 30 },
-    Month { number: 12, days: 30 },
-    Month { number: 13, days: 6 },
-];
+static COMMON: [Month; 13] = months!(month 13: 5);
+
+static LEAP: [Month; 13] = months!(month 13: 6);
 
 /// Twelve months of 30 days, and a thirteenth of 5 days, or of 6 in a leap year.
 fn thirteen_months(is_leap: bool) -> &'static [Month]

@@ -6,37 +6,29 @@ ghost use Rattle.solar_calendars.specs.TwelveMonths.{twelve_months as twelve_mon
 
 use day_numbers::rules::Month;
 
-#[rattlefmt::skip]
-static COMMON: [Month; 12] = [
-    Month { number: 1, days: 31 },
-    Month { number: 2, days: 28 },
-    Month { number: 3, days: 31 },
-    Month { number: 4, days: 30 },
-    Month { number: 5, days: 31 },
-    Month { number: 6, days: 30 },
-    Month { number: 7, days: 31 },
-    Month { number: 8, days: 31 },
-    Month { number: 9, days: 30 },
-    Month { number: 10, days: 31 },
-    Month { number: 11, days: 30 },
-    Month { number: 12, days: 31 },
-];
+/// The months of a year whose February has so many days.
+macro_rules! months {
+    (month 2: $days:literal) => {
+        [
+            Month { number: 1, days: 31 },
+            Month { number: 2, days: $days },
+            Month { number: 3, days: 31 },
+            Month { number: 4, days: 30 },
+            Month { number: 5, days: 31 },
+            Month { number: 6, days: 30 },
+            Month { number: 7, days: 31 },
+            Month { number: 8, days: 31 },
+            Month { number: 9, days: 30 },
+            Month { number: 10, days: 31 },
+            Month { number: 11, days: 30 },
+            Month { number: 12, days: 31 },
+        ]
+    };
+}
 
-#[rattlefmt::skip]
-static LEAP: [Month; 12] = [
-    Month { number: 1, days: 31 },
-    Month { number: 2, days: 29 },
-    Month { number: 3, days: 31 },
-    Month { number: 4, days: 30 },
-    Month { number: 5, days: 31 },
-    Month { number: 6, days: 30 },
-    Month { number: 7, days: 31 },
-    Month { number: 8, days: 31 },
-    Month { number: 9, days: 30 },
-    Month { number: 10, days: 31 },
-    Month { number: 11, days: 30 },
-    Month { number: 12, days: 31 },
-];
+static COMMON: [Month; 12] = months!(month 2: 28);
+
+static LEAP: [Month; 12] = months!(month 2: 29);
 
 /// January to December, of a common year or of a leap year.
 pub fn twelve_months(is_leap: bool) -> &'static [Month]

@@ -1,6 +1,6 @@
 use Rattle.std.proofs.Common.{arith, rules, to_z-of_z, FitsSigned, w32, w64}
 use Rattle.std.proofs.lemmas.Int.{ints}
-use Rattle.day_numbers.proofs.SignedArithmetic.{signed_arith}
+use Rattle.day_numbers.proofs.SignedArithmeticLemmas.{signed_arith}
 use Rattle.day_numbers.proofs.RulesLemmas.{total_le, date_at_place}
 use Rattle.std.proofs.lemmas.Option.{IfSome_then}
 use Rattle.day_numbers.proofs.rules.some_date_by_rules.Goals as goal

@@ -1,5 +1,5 @@
 use Rattle.std.proofs.Common.{arith}
-use Rattle.lunar_calendars.proofs.YearLengths.{difference_is, days_at_most, length_of_year}
+use Rattle.lunar_calendars.proofs.YearLengthLemmas.{difference_is, days_at_most, length_of_year}
 use Rattle.lunar_calendars.proofs.hebrew.days_of_year.Goals as goal
 
 pub overflow_cast-result : goal.overflow_cast-result

@@ -1,5 +1,5 @@
 use Rattle.lunar_calendars.specs.Hebrew.{is_leap_year}
-use Rattle.lunar_calendars.proofs.YearLengths.{one_of_six}
+use Rattle.lunar_calendars.proofs.YearLengthLemmas.{one_of_six}
 use Rattle.lunar_calendars.proofs.hebrew.hebrew_year_length.Goals as goal
 
 pub returns-clause-one_of_six : goal.returns-clause-one_of_six

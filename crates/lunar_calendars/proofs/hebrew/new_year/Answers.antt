@@ -1,5 +1,5 @@
 use Rattle.std.proofs.Common.{refl}
-use Rattle.lunar_calendars.proofs.NewYears.{new_year_by}
+use Rattle.lunar_calendars.proofs.NewYearLemmas.{new_year_by}
 use Rattle.lunar_calendars.proofs.hebrew.new_year.Goals as goal
 
 pub returns-clause-value : goal.returns-clause-value

@@ -1,6 +1,6 @@
 use Rattle.std.proofs.Common.{arith}
 use Rattle.std.proofs.lemmas.Bool.Decides.{nat_tests}
-use Rattle.lunar_calendars.proofs.NewYears.{put_off_by}
+use Rattle.lunar_calendars.proofs.NewYearLemmas.{put_off_by}
 use Rattle.lunar_calendars.proofs.hebrew.opening_day.Goals as goal
 
 pub returns-then-time-from-clause-opens : goal.returns-then-time-from-clause-opens

@@ -1,10 +1,10 @@
 use Rattle.std.proofs.Common.{ap, arith}
 use Rattle.std.proofs.lemmas.Int.{ints}
-use Rattle.day_numbers.proofs.SignedArithmetic.{signed_arith}
+use Rattle.day_numbers.proofs.SignedArithmeticLemmas.{signed_arith}
 use Rattle.day_numbers.specs.Rules.{total_days}
 use Rattle.lunar_calendars.specs.Hebrew.{is_leap_year}
-use Rattle.lunar_calendars.proofs.YearLengths.{difference_is, days_at_most, length_of_year, year_start_is, total}
-use Rattle.lunar_calendars.proofs.YearLengths.{end_of_year}
+use Rattle.lunar_calendars.proofs.YearLengthLemmas.{difference_is, days_at_most, length_of_year, year_start_is, total}
+use Rattle.lunar_calendars.proofs.YearLengthLemmas.{end_of_year}
 use Rattle.lunar_calendars.proofs.hebrew.year_between.Goals as goal
 
 pub overflow_cast-end : goal.overflow_cast-end

@@ -1,6 +1,6 @@
 use Rattle.std.proofs.Common.{◌+◌, ◌*◌, ◌/◌, refl, arith}
-use Rattle.day_numbers.proofs.SignedArithmetic.{signed_arith}
-use Rattle.lunar_calendars.proofs.YearLengths.{after_year_one, estimate}
+use Rattle.day_numbers.proofs.SignedArithmeticLemmas.{signed_arith}
+use Rattle.lunar_calendars.proofs.YearLengthLemmas.{after_year_one, estimate}
 use Rattle.lunar_calendars.proofs.hebrew.year_of_day.Goals as goal
 
 pub new_year-requires-clause-low : goal.new_year-requires-clause-low

@@ -1,6 +1,6 @@
 use Rattle.std.proofs.Common.{◌∙◌, arith, pos, to_z-of_z, FitsSigned, w64, ◌-ℤ◌, refl}
 use Rattle.jiff.proofs.SpanFacts.{date_add-days, can_add-days}
-use Rattle.day_numbers.proofs.SignedArithmetic.{signed_arith}
+use Rattle.day_numbers.proofs.SignedArithmeticLemmas.{signed_arith}
 use Rattle.solar_calendars.proofs.GregorianLemmas.{first_date, can_reach, reached}
 use Rattle.solar_calendars.proofs.gregorian.jiff_date_on.Goals as goal
 

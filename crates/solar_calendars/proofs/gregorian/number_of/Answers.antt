@@ -1,5 +1,5 @@
 use Rattle.std.proofs.Common.{arith, rules, to_z-of_z, FitsSigned, w16, w64}
-use Rattle.day_numbers.proofs.SignedArithmetic.{signed_arith}
+use Rattle.day_numbers.proofs.SignedArithmeticLemmas.{signed_arith}
 use Rattle.std.proofs.lemmas.Int.{ints}
 use Rattle.solar_calendars.proofs.GregorianLemmas.{jiff_place, jiff_range}
 use Rattle.solar_calendars.proofs.gregorian.number_of.Goals as goal

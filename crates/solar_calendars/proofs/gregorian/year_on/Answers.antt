@@ -1,5 +1,5 @@
 use Rattle.std.proofs.Common.{arith, rules, to_z-of_z, FitsSigned, w16, w32, w64}
-use Rattle.day_numbers.proofs.SignedArithmetic.{signed_arith}
+use Rattle.day_numbers.proofs.SignedArithmeticLemmas.{signed_arith}
 use Rattle.solar_calendars.proofs.GregorianLemmas.{jiff_in_year}
 use Rattle.solar_calendars.proofs.gregorian.year_on.Goals as goal
 

@@ -1,5 +1,5 @@
 use Rattle.std.proofs.Common.{arith, rules, to_z-of_z, FitsSigned, w64, ◌+ℤ◌, pos, refl}
-use Rattle.day_numbers.proofs.SignedArithmetic.{signed_arith}
+use Rattle.day_numbers.proofs.SignedArithmeticLemmas.{signed_arith}
 use Rattle.solar_calendars.proofs.IsoWeekLemmas.{week_year_is}
 use Rattle.solar_calendars.proofs.iso_week.first_of_week_year.Goals as goal
 

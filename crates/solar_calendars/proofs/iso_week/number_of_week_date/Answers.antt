@@ -1,5 +1,5 @@
 use Rattle.std.proofs.Common.{◌+ℤ◌, pos, arith, rules, to_z-of_z, FitsSigned, w32, w64, refl}
-use Rattle.day_numbers.proofs.SignedArithmetic.{signed_arith}
+use Rattle.day_numbers.proofs.SignedArithmeticLemmas.{signed_arith}
 use Rattle.solar_calendars.proofs.iso_week.number_of_week_date.Goals as goal
 
 pub returns-then-number-first_of_week_year-clause-valid : goal.returns-then-number-first_of_week_year-clause-valid

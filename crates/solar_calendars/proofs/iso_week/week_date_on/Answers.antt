@@ -1,7 +1,7 @@
 use Rattle.std.proofs.Common.{arith, rules, to_z-of_z, FitsSigned, w32, w64, ◌+ℤ◌, pos}
 use Rattle.std.proofs.lemmas.Option.{IfSome_then}
 use Rattle.day_numbers.specs.Days.{IsDayNumber}
-use Rattle.day_numbers.proofs.SignedArithmetic.{signed_arith}
+use Rattle.day_numbers.proofs.SignedArithmeticLemmas.{signed_arith}
 use Rattle.solar_calendars.proofs.IsoWeekLemmas.{thursday_in_range, year_short, from_monday, week_date_is}
 use Rattle.solar_calendars.proofs.iso_week.week_date_on.Goals as goal
 

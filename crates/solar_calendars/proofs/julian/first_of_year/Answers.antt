@@ -1,5 +1,5 @@
 use Rattle.std.proofs.Common.{arith, rules, to_z-of_z, FitsSigned, w32, w64}
-use Rattle.day_numbers.proofs.SignedArithmetic.{signed_arith}
+use Rattle.day_numbers.proofs.SignedArithmeticLemmas.{signed_arith}
 use Rattle.solar_calendars.proofs.JulianLemmas.{julian_sum, before_near}
 use Rattle.solar_calendars.proofs.julian.first_of_year.Goals as goal
 

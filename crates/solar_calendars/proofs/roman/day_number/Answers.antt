@@ -1,5 +1,5 @@
 use Rattle.std.proofs.Common.{arith, to_z-of_z, FitsSigned, w32, refl}
-use Rattle.day_numbers.proofs.SignedArithmetic.{signed_arith}
+use Rattle.day_numbers.proofs.SignedArithmeticLemmas.{signed_arith}
 use Rattle.solar_calendars.specs.RomanPlaces.{HasPlace}
 use Rattle.solar_calendars.proofs.RomanPlaceLemmas.{placed, place_near, number}
 use Rattle.solar_calendars.proofs.roman.day_number.Goals as goal

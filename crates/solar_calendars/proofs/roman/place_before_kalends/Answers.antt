@@ -1,5 +1,5 @@
 use Rattle.std.proofs.Common.{arith, rules, to_z-of_z, FitsSigned, w32, w64, refl, ◌≤ℤ◌, pos}
-use Rattle.day_numbers.proofs.SignedArithmetic.{signed_casts}
+use Rattle.day_numbers.proofs.SignedArithmeticLemmas.{signed_casts}
 use Rattle.solar_calendars.proofs.RomanPlaceLemmas.{kalends_far, kalends_near, kalends_place}
 use Rattle.solar_calendars.proofs.roman.place_before_kalends.Goals as goal
 

@@ -1,5 +1,5 @@
 use Rattle.std.proofs.Common.{arith, rules, to_z-of_z, FitsSigned, w32}
-use Rattle.day_numbers.proofs.SignedArithmetic.{signed_arith}
+use Rattle.day_numbers.proofs.SignedArithmeticLemmas.{signed_arith}
 use Rattle.solar_calendars.proofs.RomanDateLemmas.{year_near, names_day, only_roman}
 use Rattle.solar_calendars.proofs.roman.roman_on.Goals as goal
 
@@ -11,26 +11,16 @@ roman_date-requires-clause-near c =
     c.unwrap-date.result.day v.0 v.1 c.args.day.in_range in
     simp to_z-of_z (omega (arith, signed_arith, near, c.year.ensures, c.unwrap-date.result.year_in))
 
-pub returns-clause-valid : goal.returns-clause-valid
-returns-clause-valid c =
+pub returns : goal.returns
+returns c =
     let f : FitsSigned w32 c.year.result = search rules in
     let v = rw c.unwrap-date.ensures at c.date_on.ensures.value in
     let e = rw (c.year.ensures, c.month.ensures, c.day.ensures) at (simp to_z-of_z at c.roman_date.ensures) in
-    (names_day c.roman_date.result c.unwrap-date.result.year c.args.day.number c.unwrap-date.result.month
-    c.unwrap-date.result.day e v.0 v.1).0
-
-pub returns-clause-value : goal.returns-clause-value
-returns-clause-value c =
-    let f : FitsSigned w32 c.year.result = search rules in
-    let v = rw c.unwrap-date.ensures at c.date_on.ensures.value in
-    let e = rw (c.year.ensures, c.month.ensures, c.day.ensures) at (simp to_z-of_z at c.roman_date.ensures) in
-    (names_day c.roman_date.result c.unwrap-date.result.year c.args.day.number c.unwrap-date.result.month
-    c.unwrap-date.result.day e v.0 v.1).1
-
-pub returns-clause-only : goal.returns-clause-only
-returns-clause-only c =
-    let f : FitsSigned w32 c.year.result = search rules in
-    let v = rw c.unwrap-date.ensures at c.date_on.ensures.value in
-    let e = rw (c.year.ensures, c.month.ensures, c.day.ensures) at (simp to_z-of_z at c.roman_date.ensures) in
-    only_roman c.roman_date.result c.unwrap-date.result.year c.args.day.number c.unwrap-date.result.month
-    c.unwrap-date.result.day e v.0 v.1
+    let named = names_day c.roman_date.result c.unwrap-date.result.year c.args.day.number c.unwrap-date.result.month
+    c.unwrap-date.result.day e v.0 v.1 in
+    record {
+      valid = named.0;
+      value = named.1;
+      only = only_roman c.roman_date.result c.unwrap-date.result.year c.args.day.number c.unwrap-date.result.month
+          c.unwrap-date.result.day e v.0 v.1;
+    }

@@ -1,5 +1,5 @@
 use Rattle.std.proofs.Common.{arith, refl}
-use Rattle.lunar_calendars.proofs.MonthStarts.{by_length, placed_by}
+use Rattle.lunar_calendars.proofs.MonthStartLemmas.{by_length, placed_by}
 use Rattle.lunar_calendars.proofs.hebrew.HebrewRuledCalendar.month_at.Goals as goal
 
 pub starts_of-starts-requires : goal.starts_of-starts-requires

@@ -1,4 +1,4 @@
-use Rattle.maya_calendars.proofs.NameLists.{day_below}
+use Rattle.maya_calendars.proofs.NameListLemmas.{day_below}
 use Rattle.maya_calendars.proofs.haab.Haab.day.Goals as goal
 
 pub returns-clause-in_range : goal.returns-clause-in_range

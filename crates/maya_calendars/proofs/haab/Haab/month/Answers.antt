@@ -1,4 +1,4 @@
-use Rattle.maya_calendars.proofs.NameLists.{month_at}
+use Rattle.maya_calendars.proofs.NameListLemmas.{month_at}
 use Rattle.maya_calendars.proofs.haab.Haab.month.Goals as goal
 
 pub returns-clause-value : goal.returns-clause-value

@@ -1,5 +1,5 @@
 use Rattle.std.proofs.Common.{ap, arith, rules, to_z-of_z, FitsSigned, w32, w64}
-use Rattle.day_numbers.proofs.SignedArithmetic.{signed_arith}
+use Rattle.day_numbers.proofs.SignedArithmeticLemmas.{signed_arith}
 use Rattle.day_numbers.specs.Rules.{total_days}
 use Rattle.solar_calendars.proofs.GregorianLemmas.{any_year}
 use Rattle.solar_calendars.proofs.gregorian.GregorianRuledCalendar.year_with.Goals as goal

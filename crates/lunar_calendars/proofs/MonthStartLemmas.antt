@@ -9,7 +9,7 @@ use Rattle.day_numbers.specs.declared.rules.Month.{Month}
 use Rattle.day_numbers.specs.Rules.{HasYear, from_one, total_days, days_of_month, days_before_month, has_number}
 use Rattle.day_numbers.specs.Rules.{are_months}
 use Rattle.lunar_calendars.specs.Hebrew.{IsYearLength, is_leap_year, days_in_year, months_by_length, hebrew_rules}
-use Rattle.lunar_calendars.proofs.YearLengths.{length_of_year}
+use Rattle.lunar_calendars.proofs.YearLengthLemmas.{length_of_year}
 
 -- the months of a year from 1 on are those of a year with so many days
 pub by_length : (y : ℤ) (ms : List Month) → HasYear from_one y → ms ≡ hebrew_rules.months y

@@ -130,6 +130,7 @@ pub fn write_cell(places: &mut [u8; MAX_CELL], target: Target, day: Day) -> u8
 /// assert_eq!(rt; cell(hebrew, day).as_str(), "5706-09-07");
 /// assert_eq!(rt; cell(Target::Haab, day).as_str(), "7 Zac");
 /// ```
+#[inline(always)]
 pub fn cell(target: Target, day: Day) -> ArrayString<24>
     ensures { IsCell target day.number result.bytes }
 {

@@ -18,6 +18,7 @@ use arrayvec::ArrayString;
 const MAX_TEXT: usize = 24;
 
 /// Writes a date to the front.
+#[inline(always)]
 fn put_date(places: &mut [u8], date: Date) -> usize
     requires { MAX_TEXT ≤ length places.old }
     ensures value { IsPut places.old places.new 0 result (canonical_text date) }
@@ -31,6 +32,7 @@ fn put_date(places: &mut [u8], date: Date) -> usize
 }
 
 /// The text of a few bytes, each of which is plain.
+#[inline(always)]
 pub fn text_of(bytes: &[u8]) -> ArrayString<24>
     requires few { length bytes.now ≤ MAX_TEXT }
     requires plain { IsTrue (list_all is_plain bytes.now) }

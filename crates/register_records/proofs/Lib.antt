@@ -6,7 +6,8 @@
 --   `RowWriter`.
 --   TargetNumberLemmas: `is_for` of `Row`.
 --   Progress: `whole`, `numbers` and `part` of `convert_source`.
---   OneTable, ReadBack, NoLoss, OneFate: the laws `one_table`, `cells_read_back`, `no_loss_is_sealed`, `one_fate`.
+--   OneTable, EveryTableLemmas, ReadBack, NoLoss, OneFate: the laws `one_table`, `every_text_has_table`,
+--   `cells_read_back`, `no_loss_is_sealed`, `one_fate`.
 pub mod FieldLemmas
 pub mod SealLemmas
 pub mod HeaderLemmas
@@ -22,6 +23,7 @@ pub mod OutcomeLemmas
 pub mod TargetNumberLemmas
 pub mod Progress
 pub mod OneTable
+pub mod EveryTableLemmas
 pub mod ReadBack
 pub mod NoLoss
 pub mod OneFate

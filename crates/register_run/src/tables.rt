@@ -211,7 +211,7 @@ fn push_note(journal: &mut Vec<Note>, row: &Row)
         ≡ journal.old.items ++ notes_of (row_seen row.now).number (row_seen row.now).outcome }
     ensures len { vec_len journal.new ≤ vec_len journal.old + 1 }
 {
-    if let Some(note) = row.note() {
-        journal.push_reserved(note);
-    }
+    let Ok(()) = row.push_note(journal) else {
+        unreachable!();
+    };
 }

@@ -19,7 +19,8 @@ use Rattle.date_texts.specs.declared.refusal.Refusal.{Refusal}
 use Rattle.date_texts.specs.declared.refusal.Refusal.TheVariants as refused
 use Rattle.date_texts.proofs.LawWords.{CellsArePlain, OneCell}
 use Rattle.register_records.specs.Answers.{answer_text, cut_cells}
-use Rattle.register_records.specs.Columns.{answer_field, cell_columns, day_columns, of_day, refusal}
+use Rattle.register_records.specs.Columns.{cell_columns}
+use Rattle.register_records.specs.TableColumns.{answer_field, day_column, day_order, refusal_column}
 use Rattle.register_records.specs.Lines.{writing}
 use Rattle.register_records.specs.Outcomes.{AreCells}
 use Rattle.register_records.specs.SetupRules.{is_delimiter}
@@ -159,15 +160,15 @@ joined d first f xs last =
     ) (append_assoc (text d first) (text d (map f xs)) (text d (f last ∷ [])))
 
 pub whole_answer : (d : ℕ) (ts : List Target) (o : Result ℤ Refusal) (cells : List (List ℕ))
-    → (text d (map (λ column. answer_field o [] (of_day column)) day_columns)
-    ++ text d (map (answer_field o cells) (cell_columns 0 ts))) ++ text d (answer_field o [] refusal ∷ [])
+    → (text d (map (λ column. answer_field o [] (day_column column)) day_order)
+    ++ text d (map (answer_field o cells) (cell_columns 0 ts))) ++ text d (answer_field o [] refusal_column ∷ [])
     ≡ answer_text d ts o cells
 whole_answer d ts (Ok n) cells =
-    joined d (map (λ column. answer_field (Ok n) [] (of_day column)) day_columns) (answer_field (Ok n) cells)
-    (cell_columns 0 ts) refusal
+    joined d (map (λ column. answer_field (Ok n) [] (day_column column)) day_order) (answer_field (Ok n) cells)
+    (cell_columns 0 ts) refusal_column
 whole_answer d ts (Err r) cells =
-    joined d (map (λ column. answer_field (Err r) [] (of_day column)) day_columns) (answer_field (Err r) cells)
-    (cell_columns 0 ts) refusal
+    joined d (map (λ column. answer_field (Err r) [] (day_column column)) day_order) (answer_field (Err r) cells)
+    (cell_columns 0 ts) refusal_column
 
 -- a row has one list of cells
 pub one_cells : OneCell → (o : Result ℤ Refusal) (ts : List Target) (xs ys : List (List ℕ)) → AreCells ts o xs

@@ -94,18 +94,18 @@ cells_last n (s ∷ ts) [] t cell a h = absurd a
 cells_last n (s ∷ ts) (x ∷ cells) t cell a h = (a.0, cells_last n ts cells t cell a.1 h)
 
 -- what stands in the columns of the cells: on a day the cells, and else nothing
-pub day-columns : (n : ℤ) (place : ℕ) (all : List (List ℕ)) (ts : List Target) (cells : List (List ℕ))
+pub day_cells : (n : ℤ) (place : ℕ) (all : List (List ℕ)) (ts : List Target) (cells : List (List ℕ))
     → drop place all ≡ cells → AreCells ts (Ok n) cells → map (answer_field (Ok n) all) (cell_columns place ts) ≡ cells
-day-columns n place all [] [] e a = refl
-day-columns n place all [] (x ∷ cells) e a = absurd a
-day-columns n place all (t ∷ ts) [] e a = absurd a
-day-columns n place all (t ∷ ts) (x ∷ cells) e a =
+day_cells n place all [] [] e a = refl
+day_cells n place all [] (x ∷ cells) e a = absurd a
+day_cells n place all (t ∷ ts) [] e a = absurd a
+day_cells n place all (t ∷ ts) (x ∷ cells) e a =
     let lt : place < length all = omega (arith, length-drop place all, ap length e) in
     let split : drop place all ≡ get_or all place [] ∷ drop (place + 1) all = rw (add-one, drop-cons all place [])
     refl in
     let first : get_or all place [] ≡ x = cc (split, e) in
     let rest : drop (place + 1) all ≡ cells = cc (split, e) in
-    let more = day-columns n (place + 1) all ts cells rest a.1 in
+    let more = day_cells n (place + 1) all ts cells rest a.1 in
     cc (first, more)
 
 nothing_at : (place : ℕ) → get_or {A = List ℕ} [] place [] ≡ []
@@ -145,7 +145,7 @@ pub cut_answer : CellsArePlain → (d : ℕ) → is_delimiter d ≡ true → (o 
     → cut_cells (map length cells)
     (drop (length front) (front ++ (text d (map (answer_field o cells) (cell_columns 0 ts)) ++ rest))) ≡ cells
 cut_answer law d h (Ok n) ts cells front rest a =
-    rw (drop-append_seam front _, day-columns n 0 cells ts cells refl a) (cut_back law d h n ts cells rest a)
+    rw (drop-append_seam front _, day_cells n 0 cells ts cells refl a) (cut_back law d h n ts cells rest a)
 cut_answer law d h (Err r) ts [] front rest a = refl
 cut_answer law d h (Err r) ts (x ∷ cells) front rest a = cc
 

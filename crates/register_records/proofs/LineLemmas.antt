@@ -146,9 +146,9 @@ plain_bytes d h (c ∷ text) p =
     rw (plain_cell_byte d c h both.0, plain_bytes d h text both.1) refl
 
 -- the name of the weekday of a day
-pub weekday-name : (w : Weekday) (n : ℤ) → slice_get all_weekdays (weekday_number n) ≡ Some w
+pub weekday_shown : (w : Weekday) (n : ℤ) → slice_get all_weekdays (weekday_number n) ≡ Some w
     → weekday_name w ≡ weekday_text n
-weekday-name w n e = rw e refl
+weekday_shown w n e = rw e refl
 
 -- the name of a column
 abbrev name_of : Column → List ℕ
@@ -180,9 +180,9 @@ pub same_body : (d : ℕ) (before : List ℕ) (fields wanted : List (List ℕ)) 
     → bytes ≡ before ++ body d fields → bytes ≡ before ++ body d wanted
 same_body d before fields wanted bytes e h = h ∙ ap (λ (fields : List (List ℕ)). before ++ body d fields) e
 
-pub same-line : (d e : ℕ) (before : List ℕ) (fields wanted : List (List ℕ)) (bytes : List ℕ) → d ≡ e
+pub same_line : (d e : ℕ) (before : List ℕ) (fields wanted : List (List ℕ)) (bytes : List ℕ) → d ≡ e
     → fields ≡ wanted → bytes ≡ before ++ line_text d fields → bytes ≡ before ++ line_text e wanted
-same-line d e before fields wanted bytes p q h = rw (← p, ← q) h
+same_line d e before fields wanted bytes p q h = rw (← p, ← q) h
 
 -- the fields of a heading, from the first to the last
 pub behind : (a b c e : List (List ℕ)) → ((a ++ b) ++ c) ++ e ≡ a ++ (b ++ (c ++ e))

@@ -5,7 +5,7 @@ use Rattle.register_records.specs.Columns.{heading}
 use Rattle.register_records.specs.TableColumns.{day_name, day_order, entry_name, entry_order}
 use Rattle.register_records.specs.LineViews.{line_bytes, line_delimiter}
 use Rattle.register_records.specs.declared.table_columns.DayColumn.{DayColumn}
-use Rattle.register_records.proofs.LineLemmas.{behind, heading_names, one_item, same_body, same-line, some_columns}
+use Rattle.register_records.proofs.LineLemmas.{behind, heading_names, one_item, same_body, same_line, some_columns}
 use Rattle.register_records.proofs.LineLemmas.{some_fields, two_fields}
 use Rattle.register_records.proofs.row_lines.make_heading.Goals as goal
 
@@ -80,7 +80,7 @@ returns-clause-value c =
     let some = some_fields first (map target_name (take c.targets.target-index targets))
     (some_fields entries days (some_columns c.args.form entry_name)) in
     let last = c.in_ok-push_plain.ensures.value before fields some inv.begun in
-    same-line _ _ before (fields ++ codes "refusal" ∷ []) (heading c.args.form targets) _
+    same_line _ _ before (fields ++ codes "refusal" ∷ []) (heading c.args.form targets) _
     (c.in_ok-push_plain.ensures.kept ∙ inv.kept)
     (ap (λ ts. (first ++ map target_name ts) ++ codes "refusal" ∷ []) all
     ∙ behind entries days (map target_name targets) (codes "refusal" ∷ [])

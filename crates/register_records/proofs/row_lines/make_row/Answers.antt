@@ -3,7 +3,7 @@ use Rattle.register_records.specs.Columns.{answer_columns, row_fields}
 use Rattle.register_records.specs.TableColumns.{answer_field, entry_field, entry_order}
 use Rattle.register_records.specs.LineViews.{line_bytes}
 use Rattle.register_records.specs.Views.{row_seen, row_targets}
-use Rattle.register_records.proofs.LineLemmas.{fields_in_parts, same-line, some_columns, two_of}
+use Rattle.register_records.proofs.LineLemmas.{fields_in_parts, same_line, some_columns, two_of}
 use Rattle.register_records.proofs.row_lines.make_row.Goals as goal
 
 pub returns-clause-value : goal.returns-clause-value
@@ -16,6 +16,6 @@ returns-clause-value c =
     let all =
     c.in_ok-push_answer.ensures.value before entry (some_columns c.args.form (entry_field row))
     c.in_ok-begin_line.ensures.value in
-    same-line _ _ before fields (row_fields c.args.form targets row) _
+    same_line _ _ before fields (row_fields c.args.form targets row) _
     (c.in_ok-push_answer.ensures.kept ∙ c.in_ok-begin_line.ensures.kept) (sym (fields_in_parts c.args.form targets row))
     (c.in_ok-end.ensures.value before fields (two_of entry _ _ _) all)

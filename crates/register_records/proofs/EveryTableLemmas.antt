@@ -1,10 +1,11 @@
 -- No accepted text is without a table. What the text, a date and a day decide is not computed here: a case is left only
 -- where both sides of it lead to a table.
-use Rattle.std.proofs.Common.{◌≡◌, ◌+◌, ◌<◌, ℕ, List, [], ◌∷◌, length, Bool, true, false, refl, subst, sym}
-use Rattle.std.specs.Prelude.{ℤ, Result, Ok, Err, Some, nat_lt, if◌then◌else◌}
+use Rattle.std.proofs.Common.{◌≡◌, ◌+◌, ℕ, List, [], ◌∷◌, Bool, true, false, refl, subst, sym}
+use Rattle.std.specs.List.{AllZip}
+use Rattle.std.specs.Prelude.{ℤ, Result, Ok, Err, nat_lt, if◌then◌else◌}
 use Rattle.day_numbers.specs.Days.{IsDayNumber}
 use Rattle.date_texts.specs.Calendars.{calendar_name}
-use Rattle.date_texts.specs.Cells.{IsCell, no_date, numbered_name, on_date}
+use Rattle.date_texts.specs.Cells.{IsCell, no_date, on_date}
 use Rattle.date_texts.specs.DateText.{IsDateText, canonical_text}
 use Rattle.date_texts.specs.Dates.{IsDateOfCalendar, calendar_of_date, day_number_of_date}
 use Rattle.date_texts.specs.Names.{IsNamed}
@@ -14,12 +15,11 @@ use Rattle.date_texts.specs.declared.calendar.Target.TheVariants.{Date as DateTa
 use Rattle.date_texts.specs.declared.date.Date.{Date}
 use Rattle.date_texts.specs.declared.refusal.Refusal.{Refusal}
 use Rattle.date_texts.specs.declared.refusal.Refusal.TheVariants as refusal
-use Rattle.register_records.specs.Entries.{AreNumberedFrom, HasEntries, Numbered, body_of, entries_from, record_limit}
+use Rattle.register_records.specs.Entries.{AreNumberedFrom, Numbered, entries_from, record_limit}
 use Rattle.register_records.specs.Laws.{EveryTextHasTable}
-use Rattle.register_records.specs.Outcomes.{AreCells, AreRowsOf, IsOutcome, IsRowOf, Says, TableRow, accepted}
+use Rattle.register_records.specs.Outcomes.{AreCells, IsOutcome, IsRowOf, Says, TableRow, accepted}
 use Rattle.register_records.specs.Outcomes.{no_date_text, no_such_date, out_of_range, refused, unknown_calendar}
 use Rattle.register_records.specs.Records.{Fields, Texts}
-use Rattle.register_records.specs.Tables.{Layout, journal_of, table_text}
 use Rattle.register_records.specs.declared.setups.Form.{Form}
 
 -- it cannot be that it does not hold
@@ -81,25 +81,25 @@ has_cell (DateTarget calendar) n =
 has_cell Haab n = there (_, refl)
 has_cell Tzolkin n = there (_, refl)
 
-has_cells : (ts : List Target) (outcome : Result ℤ Refusal) → Holds ((cells : List (List ℕ)) × AreCells ts outcome cells)
-has_cells ts (Err r) = there ([], refl)
-has_cells [] (Ok n) = there ([], tt)
-has_cells (t ∷ ts) (Ok n) =
-    and_so (has_cell t n) (λ cell. and_so (has_cells ts (Ok n)) (λ cells. there (cell.0 ∷ cells.0, (cell.1, cells.1))))
+-- where something stands beside each item of a list, a list stands beside it
+all_beside : {A B : Type 0} (R : A → B → Type 0) → ((x : A) → Holds ((y : B) × R x y)) → (xs : List A)
+    → Holds ((ys : List B) × AllZip R xs ys)
+all_beside R has [] = there ([], tt)
+all_beside R has (x ∷ xs) =
+    and_so (has x) (λ y. and_so (all_beside R has xs) (λ ys. there (y.0 ∷ ys.0, (y.1, ys.1))))
 
--- the rows of entries
+has_cells : (ts : List Target) (outcome : Result ℤ Refusal)
+    → Holds ((cells : List (List ℕ)) × AreCells ts outcome cells)
+has_cells ts (Err r) = there ([], refl)
+has_cells ts (Ok n) = all_beside (λ t cell. IsCell t n cell) (λ t. has_cell t n) ts
+
+-- the row of an entry
 has_row : (ts : List Target) (entry : Numbered) → Holds ((row : TableRow) × IsRowOf ts entry row)
 has_row ts entry =
     and_so (has_outcome entry.body) (λ o. and_so (has_cells ts o.0) (λ cells. there (
       record { number = entry.number; body = entry.body; outcome = o.0; cells = cells.0 },
       record { number = refl; body = refl; outcome = o.1; cells = cells.1 },
     )))
-
-has_rows : (ts : List Target) (entries : List Numbered) → Holds ((rows : List TableRow) × AreRowsOf ts entries rows)
-has_rows ts [] = there ([], tt)
-has_rows ts (entry ∷ entries) =
-    and_so (has_row ts entry) (λ row. and_so (has_rows ts entries) (λ rows.
-    there (row.0 ∷ rows.0, (row.1, rows.1))))
 
 -- the entries of records are numbered in order
 numbered_if : (b : Bool) (k : ℕ) (entry : Numbered) (entries : List Numbered) → entry.number ≡ k
@@ -115,7 +115,7 @@ numbered form k (r ∷ rest) = numbered_if (nat_lt k record_limit) (k + 1) _ _ r
 pub every_text_has_table : EveryTextHasTable
 every_text_has_table layout text entries is none =
     let (after, has, all, are) = is in
-    has_rows layout.targets entries (λ rows. none _ _ _ _ (record {
+    all_beside (IsRowOf layout.targets) (has_row layout.targets) entries (λ rows. none _ _ _ _ (record {
       entries = entries;
       rows = rows.0;
       table = record {

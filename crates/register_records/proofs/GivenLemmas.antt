@@ -1,6 +1,6 @@
 -- What a step of a reader of entries does to those that it gave.
 use Rattle.std.proofs.Common.{◌≡◌, suc, ◌<◌, ◌≤◌, ◌+◌, ◌++◌, ℕ, List, [], ◌∷◌, length, Option, Some, None, true}
-use Rattle.std.proofs.Common.{false, refl, sym, ap, ◌∙◌, arith, append_assoc}
+use Rattle.std.proofs.Common.{refl, sym, ap, ◌∙◌, arith, append_assoc}
 use Rattle.std.specs.Prelude.{IfSome, nat_lt, option_map}
 use Rattle.std.proofs.Math.Logic.{∥∥₁_map}
 use Rattle.std.proofs.lemmas.Bool.Decides.{nat_tests}
@@ -151,10 +151,11 @@ module _ (format : Format) (text : List ℕ) where
             ∙ (s.followed [] ∙ rw (entries_none form (length given)) (append-nil given))),
       )
 
-  stands_end : (left left2 : Option (List Fields)) (given : List Numbered) → Stands format text states.Open left given
-      → IfSome left (EndsAt form (length given)) → length given ≤ record_limit
-      → Stands format text states.Ended left2 given
-  stands_end left left2 given s e h =
+  -- the reader gives no more
+  stands_stopped : (state stopped : ReaderState) (left left2 : Option (List Fields)) (given : List Numbered)
+      → ¬ (stopped ≡ states.Open) → (stopped ≡ states.Ended → HasEntries format text given)
+      → Stands format text state left given → Stands format text stopped left2 given
+  stands_stopped state stopped left left2 given shut all s =
       record {
         past = s.past;
         rest = s.rest;
@@ -162,24 +163,21 @@ module _ (format : Format) (text : List ℕ) where
         counted = s.counted;
         no_seal = s.no_seal;
         followed = s.followed;
-        left_is = λ e. absurd (cc);
-        ended = λ _. all_given left given s e h;
+        left_is = λ e. absurd (shut e);
+        ended = all;
       }
+
+  stands_end : (left left2 : Option (List Fields)) (given : List Numbered) → Stands format text states.Open left given
+      → IfSome left (EndsAt form (length given)) → length given ≤ record_limit
+      → Stands format text states.Ended left2 given
+  stands_end left left2 given s e h =
+      stands_stopped states.Open states.Ended left left2 given (λ o. absurd (cc)) (λ _. all_given left given s e h) s
 
   -- a call failed
   stands_failed : (state : ReaderState) (left left2 : Option (List Fields)) (given : List Numbered)
       → Stands format text state left given → Stands format text states.Failed left2 given
   stands_failed state left left2 given s =
-      record {
-        past = s.past;
-        rest = s.rest;
-        accepted = s.accepted;
-        counted = s.counted;
-        no_seal = s.no_seal;
-        followed = s.followed;
-        left_is = λ e. absurd (cc);
-        ended = λ e. absurd (cc);
-      }
+      stands_stopped state states.Failed left left2 given (λ o. absurd (cc)) (λ e. absurd (cc)) s
 
   too_many : (left : Option (List Fields)) (given : List Numbered) → Stands format text states.Open left given
       → IfSome left (HasEntry form)
@@ -275,8 +273,8 @@ module _ (o : Option (List ℕ)) (format : Format) (state : ReaderState) (left :
       pub may_end : (left2 : Option (List Fields)) → IfSome left (EndsAt format.form count)
           → MayStand o format states.Ended left2 given
       may_end left2 e =
-          (may o _ _ (λ t s. stands_end format t left left2 given
-          (going format t state left given goes s) (rw (← counted) e) few) stands)
+          may o _ _ (λ t s. stands_end format t left left2 given
+          (going format t state left given goes s) (rw (← counted) e) few) stands
 
       pub may_lack : IfSome left (LacksSeal format.form count) → ∥ IfSome o (λ text. IsNotSealed format text) ∥₁
       may_lack e =

@@ -2,7 +2,7 @@
 use Rattle.std.proofs.Common.{◌≡◌, ◌<◌, ◌≤◌, ◌+◌, ◌^◌, ◌%◌, ◌++◌, ℕ, List, [], ◌∷◌, true, false, refl, sym, ap, ◌∙◌}
 use Rattle.std.proofs.Common.{arith, append_assoc, append-nil, length, length-append, length-set, map, set, take}
 use Rattle.std.proofs.Common.{get_or}
-use Rattle.std.specs.Prelude.{ℤ, pos, negsuc, suc, Some, Result, codes, slice_get}
+use Rattle.std.specs.Prelude.{ℤ, pos, negsuc, suc, codes}
 use Rattle.std.specs.Fmt.{decimal, signed_decimal}
 use Rattle.std.proofs.lemmas.Int.{ints}
 use Rattle.std.proofs.lemmas.Bool.{and_parts}
@@ -16,19 +16,16 @@ use Rattle.std.proofs.lemmas.List.Folds.{list_any-append}
 use Rattle.std.specs.List.{list_all}
 use Rattle.csv.specs.Writing.{field_text, fields_text, is_blank, needs_byte, needs_quotes, row_body}
 use Rattle.csv.proofs.WriteFacts.{fields-snoc}
-use Rattle.day_numbers.specs.Days.{IsDayNumber, all_weekdays, weekday_name, weekday_number}
-use Rattle.day_numbers.specs.declared.day.Weekday.{Weekday}
+use Rattle.day_numbers.specs.Days.{IsDayNumber}
 use Rattle.register_records.specs.Lines.{line_text, writing}
 use Rattle.register_records.specs.SetupRules.{is_delimiter}
 use Rattle.date_texts.specs.Cells.{is_plain}
 use Rattle.date_texts.specs.Calendars.{target_name}
 use Rattle.date_texts.specs.declared.calendar.Target.{Target}
-use Rattle.register_records.specs.Columns.{Column, answer_columns, cell_columns, heading, row_fields, weekday_text}
+use Rattle.register_records.specs.Columns.{Column, answer_columns, cell_columns, heading, row_fields}
 use Rattle.register_records.specs.TableColumns.{answer_field, day_column, day_name, day_order, entry_field, entry_name}
 use Rattle.register_records.specs.TableColumns.{entry_order, refusal_column}
 use Rattle.register_records.specs.Outcomes.{TableRow}
-use Rattle.register_records.specs.Records.{Texts}
-use Rattle.date_texts.specs.declared.refusal.Refusal.{Refusal}
 use Rattle.register_records.specs.declared.setups.Form.{Form}
 use Rattle.register_records.specs.declared.setups.Form.TheVariants.{Plain, Sealed}
 use Rattle.register_records.specs.declared.table_columns.EntryColumn.{EntryColumn}
@@ -144,11 +141,6 @@ plain_bytes d h [] p = refl
 plain_bytes d h (c ∷ text) p =
     let both = and_parts (is_plain c) (list_all is_plain text) p in
     rw (plain_cell_byte d c h both.0, plain_bytes d h text both.1) refl
-
--- the name of the weekday of a day
-pub weekday_shown : (w : Weekday) (n : ℤ) → slice_get all_weekdays (weekday_number n) ≡ Some w
-    → weekday_name w ≡ weekday_text n
-weekday_shown w n e = rw e refl
 
 -- the name of a column
 abbrev name_of : Column → List ℕ

@@ -1,5 +1,5 @@
 -- A text has one table at most.
-use Rattle.std.proofs.Common.{◌≡◌, ℕ, List, [], ◌∷◌, refl, sym, ap, ◌∙◌}
+use Rattle.std.proofs.Common.{◌≡◌, ℕ, List, refl, sym, ap, ◌∙◌}
 use Rattle.std.specs.Prelude.{ℤ, Result, Ok, Err}
 use Rattle.day_numbers.specs.Days.{IsDayNumber}
 use Rattle.date_texts.specs.Calendars.{calendar_name}
@@ -8,7 +8,7 @@ use Rattle.date_texts.specs.DateText.{IsDateText}
 use Rattle.register_records.specs.Entries.{Format, HasEntries, Numbered, Texts, entries_of}
 use Rattle.register_records.specs.Laws.{OneTable}
 use Rattle.date_texts.specs.Names.{IsNamed}
-use Rattle.register_records.specs.Outcomes.{AreCells, AreRowsOf, IsOutcome, IsRowOf, Says, TableRow}
+use Rattle.register_records.specs.Outcomes.{IsOutcome, IsRowOf, Says, TableRow}
 use Rattle.register_records.specs.Outcomes.{accepted, no_date_text, no_such_date, out_of_range, refused}
 use Rattle.register_records.specs.Outcomes.{unknown_calendar}
 use Rattle.date_texts.specs.declared.calendar.Calendar.{Calendar}
@@ -17,18 +17,19 @@ use Rattle.date_texts.specs.declared.date.Date.{Date}
 use Rattle.date_texts.specs.declared.refusal.Refusal.{Refusal}
 use Rattle.date_texts.specs.declared.refusal.Refusal.TheVariants as refusal
 use Rattle.date_texts.proofs.LawWords.{OneCalendar, OneCell, OneDateText}
+use Rattle.register_records.proofs.AnswerLemmas.{one_beside, one_cells}
 
-module _ (one-calendar : OneCalendar) (one_date_text : OneDateText) (one_cell : OneCell) where
+module _ (one_calendar : OneCalendar) (one_date_text : OneDateText) (one_cell : OneCell) where
   -- a text says one date at most
   one_date : (name text : List ℕ) (c e : Calendar) (d f : Date) → Says name text c d → Says name text e f → d ≡ f
   one_date name text c e d f h k =
-      let same = one-calendar name e c k.named h.named in
+      let same = one_calendar name e c k.named h.named in
       one_date_text c text d f h.dated (rw (← same) k.dated)
 
   -- a text says no date, or it says one
   text_clash : (name text : List ℕ) (c e : Calendar) (d : Date) → IsNamed name (calendar_name c)
       → ((f : Date) → ¬ (IsDateText c text f)) → Says name text e d → ⊥
-  text_clash name text c e d n none s = let same = one-calendar name e c s.named n in none d (rw (← same) s.dated)
+  text_clash name text c e d n none s = let same = one_calendar name e c s.named n in none d (rw (← same) s.dated)
 
   -- after each outcome of a body, the other is the same
   after_refused : (b : Result Texts Refusal) (p : Result ℤ Refusal) (r : Refusal) → IsOutcome b p → b ≡ Err r
@@ -103,23 +104,6 @@ module _ (one-calendar : OneCalendar) (one_date_text : OneDateText) (one_cell : 
   one_outcome b o p (out_of_range {t = t} c d says is out) k = sym ((of_date t b p k refl c d says).1 is out)
   one_outcome b o p (accepted {t = t} c d says is within) k = sym ((of_date t b p k refl c d says).2 is within)
 
-  one_cells_on : (n : ℤ) (targets : List Target) (xs ys : List (List ℕ)) → AreCells targets (Ok n) xs
-      → AreCells targets (Ok n) ys → xs ≡ ys
-  one_cells_on n [] [] [] a b = refl
-  one_cells_on n [] [] (y ∷ ys) a b = absurd b
-  one_cells_on n [] (x ∷ xs) ys a b = absurd a
-  one_cells_on n (t ∷ targets) [] ys a b = absurd a
-  one_cells_on n (t ∷ targets) (x ∷ xs) [] a b = absurd b
-  one_cells_on n (t ∷ targets) (x ∷ xs) (y ∷ ys) a b =
-      let first = one_cell t n x y a.0 b.0 in
-      let rest = one_cells_on n targets xs ys a.1 b.1 in
-      cc
-
-  one_cells : (targets : List Target) (o : Result ℤ Refusal) (xs ys : List (List ℕ)) → AreCells targets o xs
-      → AreCells targets o ys → xs ≡ ys
-  one_cells targets (Ok n) xs ys a b = one_cells_on n targets xs ys a b
-  one_cells targets (Err r) xs ys a b = a ∙ sym b
-
   made_row : (n m : ℕ) (b c : Result Texts Refusal) (o p : Result ℤ Refusal) (xs ys : List (List ℕ)) → n ≡ m → b ≡ c
       → o ≡ p → xs ≡ ys
       → ◌≡◌ {A = TableRow} (record { number = n; body = b; outcome = o; cells = xs })
@@ -131,19 +115,7 @@ module _ (one-calendar : OneCalendar) (one_date_text : OneDateText) (one_cell : 
   one_row targets entry r s a b =
       let same = one_outcome entry.body r.outcome s.outcome a.outcome b.outcome in
       made_row _ _ _ _ _ _ _ _ (a.number ∙ sym b.number) (a.body ∙ sym b.body) same
-      (one_cells targets s.outcome r.cells s.cells (rw same at a.cells) b.cells)
-
-  one_rows : (targets : List Target) (entries : List Numbered) (rows more : List TableRow)
-      → AreRowsOf targets entries rows → AreRowsOf targets entries more → rows ≡ more
-  one_rows targets [] [] [] a b = refl
-  one_rows targets [] [] (y ∷ more) a b = absurd b
-  one_rows targets [] (x ∷ rows) more a b = absurd a
-  one_rows targets (e ∷ entries) [] more a b = absurd a
-  one_rows targets (e ∷ entries) (x ∷ rows) [] a b = absurd b
-  one_rows targets (e ∷ entries) (x ∷ rows) (y ∷ more) a b =
-      let first = one_row targets e x y a.0 b.0 in
-      let rest = one_rows targets entries rows more a.1 b.1 in
-      cc
+      (one_cells one_cell s.outcome targets r.cells s.cells (rw same at a.cells) b.cells)
 
   one_list : (format : Format) (text : List ℕ) (entries others : List Numbered) → HasEntries format text entries
       → HasEntries format text others → entries ≡ others
@@ -155,4 +127,4 @@ module _ (one-calendar : OneCalendar) (one_date_text : OneDateText) (one_cell : 
   pub one_table : OneTable
   one_table layout text entries others rows more h k a b =
       let same = one_list layout.format text entries others h k in
-      (same, one_rows layout.targets others rows more (rw same at a) b)
+      (same, one_beside (IsRowOf layout.targets) (one_row layout.targets) others rows more (rw same at a) b)

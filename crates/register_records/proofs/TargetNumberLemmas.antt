@@ -1,5 +1,5 @@
 -- Targets have one number, and a number has one list of targets.
-use Rattle.std.proofs.Common.{◌≡◌, ◌<◌, ◌≤◌, ◌-◌, ◌^◌, ℕ, List, [], ◌∷◌, refl, sym, ap, ◌∙◌, arith, get_or, length, true}
+use Rattle.std.proofs.Common.{◌≡◌, ◌<◌, ◌≤◌, ◌-◌, ◌^◌, ℕ, List, [], ◌∷◌, refl, sym, ap, ◌∙◌, arith, drop, get_or, length, length-drop, true}
 use Rattle.std.specs.Prelude.{slice_get}
 use Rattle.std.proofs.Math.Nat.{pow-le-pow_right, pow-succ'}
 use Rattle.std.specs.List.{position_or_len}
@@ -52,6 +52,8 @@ small : (ts : List Target) → number_of ts < 16 ^ length ts
 small [] = omega arith
 small (t ∷ ts) = rw (pow-succ' 16 (length ts)) (omega (arith, below t, small ts))
 
--- there is room for one more
-pub fits : (ts : List Target) → length ts ≤ 13 → number_of ts < 16 ^ 13
-fits ts few = omega (arith, small ts, pow-le-pow_right {n = 16} (omega arith) few)
+-- there is room for one before those that stand behind it
+pub fits_behind : (ts : List Target) (k : ℕ) → 1 ≤ k → length ts ≤ 14 → number_of (drop k ts) < 16 ^ 13
+fits_behind ts k some few =
+    let behind : length (drop k ts) ≤ 13 = omega (arith, length-drop k ts, some, few) in
+    omega (arith, small (drop k ts), pow-le-pow_right {n = 16} (omega arith) behind)

@@ -18,6 +18,9 @@ pub record Column : Type 0 where
   pub name : List ℕ
   pub field : TableRow → List ℕ
 
+abbrev pub column : List ℕ → (TableRow → List ℕ) → Column
+column name field = record { name = name; field = field }
+
 -- a value as a text; where there is none, nothing stands
 abbrev pub shown : {A : Type 0} → (A → List ℕ) → Option A → List ℕ
 shown text value = option_map_or text value []
@@ -29,33 +32,31 @@ weekday_text n = shown weekday_name (slice_get all_weekdays (weekday_number n))
 -- the column of notes, which only a sealed form has
 abbrev pub note_columns : Form → List Column
 note_columns Plain = []
-note_columns Sealed =
-    record { name = codes "note"; field = λ row. shown (λ (t : Texts). t.note) (result_ok row.body) } ∷ []
+note_columns Sealed = column (codes "note") (λ row. shown (λ (t : Texts). t.note) (result_ok row.body)) ∷ []
 
 -- the columns of an entry: its number, and its texts, which a record that was refused before has not
 abbrev pub entry_columns : Form → List Column
 entry_columns form =
-    record { name = codes "row"; field = λ row. decimal row.number }
-    ∷ record { name = codes "id"; field = λ row. shown (λ (t : Texts). t.id) (result_ok row.body) }
-    ∷ record { name = codes "calendar"; field = λ row. shown (λ (t : Texts). t.calendar) (result_ok row.body) }
-    ∷ record { name = codes "date"; field = λ row. shown (λ (t : Texts). t.date) (result_ok row.body) }
+    column (codes "row") (λ row. decimal row.number)
+    ∷ column (codes "id") (λ row. shown (λ (t : Texts). t.id) (result_ok row.body))
+    ∷ column (codes "calendar") (λ row. shown (λ (t : Texts). t.calendar) (result_ok row.body))
+    ∷ column (codes "date") (λ row. shown (λ (t : Texts). t.date) (result_ok row.body))
     ∷ note_columns form
 
 -- the columns of cells: each has the name of its target, and the cell at its place, which a refused row has not
 abbrev pub cell_columns : ℕ → List Target → List Column
 cell_columns place [] = []
 cell_columns place (target ∷ targets) =
-    record { name = target_name target; field = λ row. get_or row.cells place [] } ∷ cell_columns (place + 1) targets
+    column (target_name target) (λ row. get_or row.cells place []) ∷ cell_columns (place + 1) targets
 
 -- the columns of an answer: those of a day, which a refused row has not, and that of the refusal
 abbrev pub answer_columns : List Target → List Column
 answer_columns targets =
-    record { name = codes "rd"; field = λ row. shown signed_decimal (result_ok row.outcome) }
-    ∷ record { name = codes "weekday"; field = λ row. shown weekday_text (result_ok row.outcome) }
-    ∷ (cell_columns 0 targets ++ record {
-      name = codes "refusal";
-      field = λ row. shown (λ (r : Refusal). decimal (refusal_number r)) (result_err row.outcome);
-    } ∷ [])
+    column (codes "rd") (λ row. shown signed_decimal (result_ok row.outcome))
+    ∷ column (codes "weekday") (λ row. shown weekday_text (result_ok row.outcome))
+    ∷ (cell_columns 0 targets
+    ++ column (codes "refusal") (λ row. shown (λ (r : Refusal). decimal (refusal_number r)) (result_err row.outcome))
+    ∷ [])
 
 -- the columns of a table, in order
 abbrev pub columns : Form → List Target → List Column
@@ -63,7 +64,7 @@ columns form targets = entry_columns form ++ answer_columns targets
 
 -- the heading, and the fields of a row
 abbrev pub heading : Form → List Target → List (List ℕ)
-heading form targets = map (λ (column : Column). column.name) (columns form targets)
+heading form targets = map (λ (c : Column). c.name) (columns form targets)
 
 abbrev pub row_fields : Form → List Target → TableRow → List (List ℕ)
-row_fields form targets row = map (λ (column : Column). column.field row) (columns form targets)
+row_fields form targets row = map (λ (c : Column). c.field row) (columns form targets)

@@ -121,7 +121,8 @@ impl Answer {
     fn push_day_number(&mut self, outcome: Result<Day, Refusal>)
         requires { self.old.len + DAY_COLUMN_ROOM ≤ ANSWER_ROOM }
         ensures value { answer_bytes self.new ≡ answer_bytes self.old
-            ++ fields_text (writing self.old.delimiter) (answer_field (outcome_seen outcome) [] (day_column DayNumber) ∷ []) }
+            ++ fields_text (writing self.old.delimiter)
+            (answer_field (outcome_seen outcome) [] (day_column DayNumber) ∷ []) }
         ensures grows { self.new.len ≤ self.old.len + DAY_COLUMN_ROOM }
         ensures kept { self.new.delimiter ≡ self.old.delimiter }
     {
@@ -135,7 +136,8 @@ impl Answer {
     fn push_weekday(&mut self, outcome: Result<Day, Refusal>)
         requires { self.old.len + DAY_COLUMN_ROOM ≤ ANSWER_ROOM }
         ensures value { answer_bytes self.new ≡ answer_bytes self.old
-            ++ fields_text (writing self.old.delimiter) (answer_field (outcome_seen outcome) [] (day_column Weekday) ∷ []) }
+            ++ fields_text (writing self.old.delimiter)
+            (answer_field (outcome_seen outcome) [] (day_column Weekday) ∷ []) }
         ensures grows { self.new.len ≤ self.old.len + DAY_COLUMN_ROOM }
         ensures kept { self.new.delimiter ≡ self.old.delimiter }
     {
@@ -149,7 +151,8 @@ impl Answer {
     fn push_day_column(&mut self, column: DayColumn, outcome: Result<Day, Refusal>)
         requires { self.old.len + DAY_COLUMN_ROOM ≤ ANSWER_ROOM }
         ensures value { answer_bytes self.new ≡ answer_bytes self.old
-            ++ fields_text (writing self.old.delimiter) (answer_field (outcome_seen outcome) [] (day_column column) ∷ []) }
+            ++ fields_text (writing self.old.delimiter)
+            (answer_field (outcome_seen outcome) [] (day_column column) ∷ []) }
         ensures grows { self.new.len ≤ self.old.len + DAY_COLUMN_ROOM }
         ensures kept { self.new.delimiter ≡ self.old.delimiter }
     {

@@ -178,7 +178,8 @@ impl RowWriter {
         ensures sent { OnOk result (waiting_in self.new ≡ []) }
         ensures flushed { OnOk result (W.is_flushed output.new ≡ true) }
         ensures by { writes_by self.new ≡ writes_by self.old }
-        ensures goes { OnOk result ((W.has_failed output.new ≡ W.has_failed output.old) × (writer_sunk self.new ≡ false)) }
+        ensures goes { OnOk result
+            ((W.has_failed output.new ≡ W.has_failed output.old) × (writer_sunk self.new ≡ false)) }
         ensures fails { writer_failed self.new ≡ is_err result }
         ensures memory { IfErr result (λ e. e ≡ RowFault.OutOfMemory → (output.new ≡ output.old)
             × (waiting_in self.new ≡ waiting_in self.old) × (writer_sunk self.new ≡ writer_sunk self.old)) }

@@ -11,7 +11,8 @@ abbrev pub invariant-days : goal.invariant-days
 invariant-days l =
     record {
       written : answer_bytes l.self ≡ answer_bytes l.fn.self ++ fields_text (writing l.fn.self.delimiter)
-          (map (λ column. answer_field (outcome_seen l.outcome) [] (day_column column)) (take l.column-index day_order));
+          (map (λ column. answer_field (outcome_seen l.outcome) [] (day_column column))
+          (take l.column-index day_order));
       short : l.self.len ≤ DAY_COLUMN_ROOM * l.column-index;
       delimiter : l.self.delimiter ≡ l.fn.self.delimiter;
     }

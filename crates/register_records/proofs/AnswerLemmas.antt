@@ -5,6 +5,7 @@ use Rattle.std.proofs.Common.{map}
 use Rattle.std.proofs.Common.{set, take}
 use Rattle.std.specs.Prelude.{ℤ, pos, negsuc, zero, suc, Ok, Err, Result}
 use Rattle.std.specs.Fmt.{decimal, signed_decimal}
+use Rattle.std.specs.List.{AllZip}
 use Rattle.std.proofs.lemmas.Fmt.{length-decimal-le, length_signed_le}
 use Rattle.std.proofs.lemmas.Int.{ints}
 use Rattle.std.proofs.lemmas.List.{map-append, take-append-le, take_all}
@@ -19,7 +20,8 @@ use Rattle.date_texts.specs.declared.refusal.Refusal.{Refusal}
 use Rattle.date_texts.specs.declared.refusal.Refusal.TheVariants as refused
 use Rattle.date_texts.proofs.LawWords.{CellsArePlain, OneCell}
 use Rattle.register_records.specs.Answers.{answer_text, cut_cells}
-use Rattle.register_records.specs.Columns.{answer_field, cell_columns, day_columns, of_day, refusal}
+use Rattle.register_records.specs.Columns.{cell_columns}
+use Rattle.register_records.specs.TableColumns.{answer_field, day_column, day_order, refusal_column}
 use Rattle.register_records.specs.Lines.{writing}
 use Rattle.register_records.specs.Outcomes.{AreCells}
 use Rattle.register_records.specs.SetupRules.{is_delimiter}
@@ -84,27 +86,27 @@ refusal_length r =
     let below = refusal_below r in
     length-decimal-le 1 (refusal_number r) (omega arith) (omega (arith, below)) (omega (arith, below))
 
--- one more of the cells of a day
-pub cells_last : (n : ℤ) (ts : List Target) (cells : List (List ℕ)) (t : Target) (cell : List ℕ)
-    → AreCells ts (Ok n) cells → IsCell t n cell → AreCells (ts ++ t ∷ []) (Ok n) (cells ++ cell ∷ [])
-cells_last n [] [] t cell a h = (h, tt)
-cells_last n [] (x ∷ cells) t cell a h = absurd a
-cells_last n (s ∷ ts) [] t cell a h = absurd a
-cells_last n (s ∷ ts) (x ∷ cells) t cell a h = (a.0, cells_last n ts cells t cell a.1 h)
+-- one more that stands beside one more
+pub one_more_beside : {A B : Type 0} (R : A → B → Type 0) (xs : List A) (ys : List B) (x : A) (y : B) → AllZip R xs ys
+    → R x y → AllZip R (xs ++ x ∷ []) (ys ++ y ∷ [])
+one_more_beside R [] [] x y all h = (h, tt)
+one_more_beside R [] (z ∷ ys) x y all h = absurd all
+one_more_beside R (w ∷ xs) [] x y all h = absurd all
+one_more_beside R (w ∷ xs) (z ∷ ys) x y all h = (all.0, one_more_beside R xs ys x y all.1 h)
 
 -- what stands in the columns of the cells: on a day the cells, and else nothing
-pub day-columns : (n : ℤ) (place : ℕ) (all : List (List ℕ)) (ts : List Target) (cells : List (List ℕ))
+pub day_cells : (n : ℤ) (place : ℕ) (all : List (List ℕ)) (ts : List Target) (cells : List (List ℕ))
     → drop place all ≡ cells → AreCells ts (Ok n) cells → map (answer_field (Ok n) all) (cell_columns place ts) ≡ cells
-day-columns n place all [] [] e a = refl
-day-columns n place all [] (x ∷ cells) e a = absurd a
-day-columns n place all (t ∷ ts) [] e a = absurd a
-day-columns n place all (t ∷ ts) (x ∷ cells) e a =
+day_cells n place all [] [] e a = refl
+day_cells n place all [] (x ∷ cells) e a = absurd a
+day_cells n place all (t ∷ ts) [] e a = absurd a
+day_cells n place all (t ∷ ts) (x ∷ cells) e a =
     let lt : place < length all = omega (arith, length-drop place all, ap length e) in
     let split : drop place all ≡ get_or all place [] ∷ drop (place + 1) all = rw (add-one, drop-cons all place [])
     refl in
     let first : get_or all place [] ≡ x = cc (split, e) in
     let rest : drop (place + 1) all ≡ cells = cc (split, e) in
-    let more = day-columns n (place + 1) all ts cells rest a.1 in
+    let more = day_cells n (place + 1) all ts cells rest a.1 in
     cc (first, more)
 
 nothing_at : (place : ℕ) → get_or {A = List ℕ} [] place [] ≡ []
@@ -144,7 +146,7 @@ pub cut_answer : CellsArePlain → (d : ℕ) → is_delimiter d ≡ true → (o 
     → cut_cells (map length cells)
     (drop (length front) (front ++ (text d (map (answer_field o cells) (cell_columns 0 ts)) ++ rest))) ≡ cells
 cut_answer law d h (Ok n) ts cells front rest a =
-    rw (drop-append_seam front _, day-columns n 0 cells ts cells refl a) (cut_back law d h n ts cells rest a)
+    rw (drop-append_seam front _, day_cells n 0 cells ts cells refl a) (cut_back law d h n ts cells rest a)
 cut_answer law d h (Err r) ts [] front rest a = refl
 cut_answer law d h (Err r) ts (x ∷ cells) front rest a = cc
 
@@ -159,29 +161,34 @@ joined d first f xs last =
     ) (append_assoc (text d first) (text d (map f xs)) (text d (f last ∷ [])))
 
 pub whole_answer : (d : ℕ) (ts : List Target) (o : Result ℤ Refusal) (cells : List (List ℕ))
-    → (text d (map (λ column. answer_field o [] (of_day column)) day_columns)
-    ++ text d (map (answer_field o cells) (cell_columns 0 ts))) ++ text d (answer_field o [] refusal ∷ [])
+    → (text d (map (λ column. answer_field o [] (day_column column)) day_order)
+    ++ text d (map (answer_field o cells) (cell_columns 0 ts))) ++ text d (answer_field o [] refusal_column ∷ [])
     ≡ answer_text d ts o cells
 whole_answer d ts (Ok n) cells =
-    joined d (map (λ column. answer_field (Ok n) [] (of_day column)) day_columns) (answer_field (Ok n) cells)
-    (cell_columns 0 ts) refusal
+    joined d (map (λ column. answer_field (Ok n) [] (day_column column)) day_order) (answer_field (Ok n) cells)
+    (cell_columns 0 ts) refusal_column
 whole_answer d ts (Err r) cells =
-    joined d (map (λ column. answer_field (Err r) [] (of_day column)) day_columns) (answer_field (Err r) cells)
-    (cell_columns 0 ts) refusal
+    joined d (map (λ column. answer_field (Err r) [] (day_column column)) day_order) (answer_field (Err r) cells)
+    (cell_columns 0 ts) refusal_column
+
+-- where one thing can stand beside each item of a list, one list can stand beside it
+pub one_beside : {A B : Type 0} (R : A → B → Type 0) → ((x : A) (y z : B) → R x y → R x z → y ≡ z)
+    → (xs : List A) (ys zs : List B) → AllZip R xs ys → AllZip R xs zs → ys ≡ zs
+one_beside R one [] [] [] a b = refl
+one_beside R one [] [] (z ∷ zs) a b = absurd b
+one_beside R one [] (y ∷ ys) zs a b = absurd a
+one_beside R one (x ∷ xs) [] zs a b = absurd a
+one_beside R one (x ∷ xs) (y ∷ ys) [] a b = absurd b
+one_beside R one (x ∷ xs) (y ∷ ys) (z ∷ zs) a b =
+    let first = one x y z a.0 b.0 in
+    let rest = one_beside R one xs ys zs a.1 b.1 in
+    cc
 
 -- a row has one list of cells
 pub one_cells : OneCell → (o : Result ℤ Refusal) (ts : List Target) (xs ys : List (List ℕ)) → AreCells ts o xs
     → AreCells ts o ys → xs ≡ ys
 one_cells law (Err r) ts xs ys a b = a ∙ sym b
-one_cells law (Ok n) [] [] [] a b = refl
-one_cells law (Ok n) [] [] (y ∷ ys) a b = absurd b
-one_cells law (Ok n) [] (x ∷ xs) ys a b = absurd a
-one_cells law (Ok n) (t ∷ ts) [] ys a b = absurd a
-one_cells law (Ok n) (t ∷ ts) (x ∷ xs) [] a b = absurd b
-one_cells law (Ok n) (t ∷ ts) (x ∷ xs) (y ∷ ys) a b =
-    let first = law t n x y a.0 b.0 in
-    let rest = one_cells law (Ok n) ts xs ys a.1 b.1 in
-    cc
+one_cells law (Ok n) ts xs ys a b = one_beside (λ t cell. IsCell t n cell) (λ t x y. law t n x y) ts xs ys a b
 
 -- one more of the empty fields that stand for the cells of a refused row
 pub one_empty : {X : Type 0} (xs : List X) (i : ℕ) → i < length xs

@@ -6,6 +6,7 @@ use Rattle.std.proofs.lemmas.Bool.Decides.{nat_tests}
 use Rattle.std.proofs.lemmas.List.Folds.{list_any-append}
 use Rattle.std.proofs.lemmas.List.{take-append-drop}
 use Rattle.std.specs.List.{list_any}
+use Rattle.std.specs.Result.{result_ok}
 use Rattle.csv.specs.Records.{cut_from}
 use Rattle.csv.specs.Writing.{needs_byte, needs_quotes}
 use Rattle.date_texts.specs.declared.refusal.Refusal.{Refusal}
@@ -15,7 +16,7 @@ use Rattle.register_records.specs.Entries.{are_short, are_utf8, body_of}
 use Rattle.register_records.specs.Lines.{writing}
 use Rattle.register_records.specs.Records.{Fields, Texts}
 use Rattle.register_records.specs.SetupRules.{is_delimiter}
-use Rattle.register_records.specs.Columns.{text_field}
+use Rattle.register_records.specs.Columns.{shown}
 use Rattle.register_records.specs.declared.setups.Form.{Form}
 use Rattle.register_records.specs.declared.setups.Form.TheVariants.{Plain, Sealed}
 
@@ -87,10 +88,10 @@ bare_record form ends bytes h = bare_texts form (cut_from 0 ends bytes) (bare_fi
 
 -- the texts of a body that holds no such byte need no quotes in a table
 pub unquoted : (d : ℕ) → is_delimiter d ≡ true → (body : Result Texts Refusal) → has_special body ≡ false
-    → (needs_quotes (writing d) (text_field (λ t. t.id) body) ≡ false)
-    × (needs_quotes (writing d) (text_field (λ t. t.calendar) body) ≡ false)
-    × (needs_quotes (writing d) (text_field (λ t. t.date) body) ≡ false)
-    × (needs_quotes (writing d) (text_field (λ t. t.note) body) ≡ false)
+    → (needs_quotes (writing d) (shown (λ (t : Texts). t.id) (result_ok body)) ≡ false)
+    × (needs_quotes (writing d) (shown (λ (t : Texts). t.calendar) (result_ok body)) ≡ false)
+    × (needs_quotes (writing d) (shown (λ (t : Texts). t.date) (result_ok body)) ≡ false)
+    × (needs_quotes (writing d) (shown (λ (t : Texts). t.note) (result_ok body)) ≡ false)
 unquoted d h (Ok t) bare =
     let a = or_parts _ _ bare in
     let b = or_parts _ _ a.1 in

@@ -1,17 +1,18 @@
 -- Which file serves which public clause:
---   RecordsLeft, FieldLemmas, HeaderLemmas, SealLemmas, EntrySteps, StepLemmas: `gives`, `number` and `all` of
---     `EntryReader::next`. GivenLemmas: what it has given.
+--   RecordsLeftLemmas, FieldLemmas, HeaderLemmas, SealLemmas, EntryStepLemmas, StepLemmas: `gives`, `number` and `all`
+--     of `EntryReader::next`. GivenLemmas: what it has given.
 --   CellLemmas, OutcomeLemmas: that a row is the row of its entry, for `convert`.
 --   AnswerLemmas, LineLemmas, BareLemmas: that a line is the fields of its row, for `put`, `add` and `open` of
 --   `RowWriter`.
 --   TargetNumberLemmas: `is_for` of `Row`.
---   Progress: `whole`, `numbers` and `part` of `convert_source`.
---   OneTable, ReadBack, NoLoss, OneFate: the laws `one_table`, `cells_read_back`, `no_loss_is_sealed`, `one_fate`.
+--   ProgressLemmas: `whole`, `numbers` and `part` of `convert_source`.
+--   OneTableLemmas, EveryTableLemmas, ReadBackLemmas, NoLossLemmas, OneFateLemmas: the laws `one_table`,
+--   `every_text_has_table`, `cells_read_back`, `no_loss_is_sealed`, `one_fate`.
 pub mod FieldLemmas
 pub mod SealLemmas
 pub mod HeaderLemmas
-pub mod RecordsLeft
-pub mod EntrySteps
+pub mod RecordsLeftLemmas
+pub mod EntryStepLemmas
 pub mod GivenLemmas
 pub mod StepLemmas
 pub mod CellLemmas
@@ -20,8 +21,9 @@ pub mod LineLemmas
 pub mod AnswerLemmas
 pub mod OutcomeLemmas
 pub mod TargetNumberLemmas
-pub mod Progress
-pub mod OneTable
-pub mod ReadBack
-pub mod NoLoss
-pub mod OneFate
+pub mod ProgressLemmas
+pub mod OneTableLemmas
+pub mod EveryTableLemmas
+pub mod ReadBackLemmas
+pub mod NoLossLemmas
+pub mod OneFateLemmas

@@ -2,7 +2,7 @@
 use Rattle.std.proofs.Common.{◌≡◌, ◌<◌, ◌≤◌, ◌+◌, ◌^◌, ◌%◌, ◌++◌, ℕ, List, [], ◌∷◌, true, false, refl, sym, ap, ◌∙◌}
 use Rattle.std.proofs.Common.{arith, append_assoc, append-nil, length, length-append, length-set, map, set, take}
 use Rattle.std.proofs.Common.{get_or}
-use Rattle.std.specs.Prelude.{ℤ, pos, negsuc, suc, Some, Result, codes, slice_get}
+use Rattle.std.specs.Prelude.{ℤ, pos, negsuc, suc, codes}
 use Rattle.std.specs.Fmt.{decimal, signed_decimal}
 use Rattle.std.proofs.lemmas.Int.{ints}
 use Rattle.std.proofs.lemmas.Bool.{and_parts}
@@ -16,17 +16,16 @@ use Rattle.std.proofs.lemmas.List.Folds.{list_any-append}
 use Rattle.std.specs.List.{list_all}
 use Rattle.csv.specs.Writing.{field_text, fields_text, is_blank, needs_byte, needs_quotes, row_body}
 use Rattle.csv.proofs.WriteFacts.{fields-snoc}
-use Rattle.day_numbers.specs.Days.{IsDayNumber, all_weekdays, weekday_name, weekday_number}
-use Rattle.day_numbers.specs.declared.day.Weekday.{Weekday}
+use Rattle.day_numbers.specs.Days.{IsDayNumber}
 use Rattle.register_records.specs.Lines.{line_text, writing}
 use Rattle.register_records.specs.SetupRules.{is_delimiter}
 use Rattle.date_texts.specs.Cells.{is_plain}
 use Rattle.date_texts.specs.Calendars.{target_name}
 use Rattle.date_texts.specs.declared.calendar.Target.{Target}
-use Rattle.register_records.specs.Columns.{answer_columns, answer_name, cell_columns, day_columns, entry_columns}
-use Rattle.register_records.specs.Columns.{entry_field, of_day, refusal, weekday_text}
-use Rattle.register_records.specs.Records.{Texts}
-use Rattle.date_texts.specs.declared.refusal.Refusal.{Refusal}
+use Rattle.register_records.specs.Columns.{Column, answer_columns, cell_columns, heading, row_fields}
+use Rattle.register_records.specs.TableColumns.{answer_field, day_column, day_name, day_order, entry_field, entry_name}
+use Rattle.register_records.specs.TableColumns.{entry_order, refusal_column}
+use Rattle.register_records.specs.Outcomes.{TableRow}
 use Rattle.register_records.specs.declared.setups.Form.{Form}
 use Rattle.register_records.specs.declared.setups.Form.TheVariants.{Plain, Sealed}
 use Rattle.register_records.specs.declared.table_columns.EntryColumn.{EntryColumn}
@@ -143,25 +142,28 @@ plain_bytes d h (c ∷ text) p =
     let both = and_parts (is_plain c) (list_all is_plain text) p in
     rw (plain_cell_byte d c h both.0, plain_bytes d h text both.1) refl
 
--- the name of the weekday of a day
-pub weekday-name : (w : Weekday) (n : ℤ) → slice_get all_weekdays (weekday_number n) ≡ Some w
-    → weekday_name w ≡ weekday_text n
-weekday-name w n e = rw e refl
+-- the name of a column
+abbrev name_of : Column → List ℕ
+name_of column = column.name
+
+-- what stands in the columns of a day
+abbrev day_fields : TableRow → List (List ℕ)
+day_fields row = map (λ column. (day_column column).field row) day_order
 
 -- the columns of an entry: the first has its number, the others its texts
-pub first_number : (form : Form) (e : EntryColumn) → get_or (entry_columns form) 0 e ≡ Number
+pub first_number : (form : Form) (e : EntryColumn) → get_or (entry_order form) 0 e ≡ Number
 first_number Plain e = refl
 first_number Sealed e = refl
 
-pub plain_column : (d : ℕ) → is_delimiter d ≡ true → (n : ℕ) → n < 2 ^ 64 → (texts : Result Texts Refusal)
-    → has_special texts ≡ false → (column : EntryColumn) → needs_quotes (writing d) (entry_field n texts column) ≡ false
-plain_column d h n lt texts bare Number = plain_decimal d h n lt
-plain_column d h n lt texts bare Id = (unquoted d h texts bare).0
-plain_column d h n lt texts bare Calendar = (unquoted d h texts bare).1
-plain_column d h n lt texts bare Date = (unquoted d h texts bare).2
-plain_column d h n lt texts bare Note = (unquoted d h texts bare).3
+pub plain_column : (d : ℕ) → is_delimiter d ≡ true → (row : TableRow) → row.number < 2 ^ 64
+    → has_special row.body ≡ false → (column : EntryColumn) → needs_quotes (writing d) (entry_field row column) ≡ false
+plain_column d h row lt bare Number = plain_decimal d h row.number lt
+plain_column d h row lt bare Id = (unquoted d h row.body bare).0
+plain_column d h row lt bare Calendar = (unquoted d h row.body bare).1
+plain_column d h row lt bare Date = (unquoted d h row.body bare).2
+plain_column d h row lt bare Note = (unquoted d h row.body bare).3
 
-pub some_columns : {X : Type 0} (form : Form) (f : EntryColumn → X) → 1 ≤ length (map f (entry_columns form))
+pub some_columns : {X : Type 0} (form : Form) (f : EntryColumn → X) → 1 ≤ length (map f (entry_order form))
 some_columns Plain f = omega arith
 some_columns Sealed f = omega arith
 
@@ -170,9 +172,9 @@ pub same_body : (d : ℕ) (before : List ℕ) (fields wanted : List (List ℕ)) 
     → bytes ≡ before ++ body d fields → bytes ≡ before ++ body d wanted
 same_body d before fields wanted bytes e h = h ∙ ap (λ (fields : List (List ℕ)). before ++ body d fields) e
 
-pub same-line : (d e : ℕ) (before : List ℕ) (fields wanted : List (List ℕ)) (bytes : List ℕ) → d ≡ e
+pub same_line : (d e : ℕ) (before : List ℕ) (fields wanted : List (List ℕ)) (bytes : List ℕ) → d ≡ e
     → fields ≡ wanted → bytes ≡ before ++ line_text d fields → bytes ≡ before ++ line_text e wanted
-same-line d e before fields wanted bytes p q h = rw (← p, ← q) h
+same_line d e before fields wanted bytes p q h = rw (← p, ← q) h
 
 -- the fields of a heading, from the first to the last
 pub behind : (a b c e : List (List ℕ)) → ((a ++ b) ++ c) ++ e ≡ a ++ (b ++ (c ++ e))
@@ -187,14 +189,36 @@ some_fields fields more some = rw (length-append fields more) (omega arith)
 pub two_of : (fields rest : List (List ℕ)) (a b : List ℕ) → 2 ≤ length (fields ++ (a ∷ b ∷ rest))
 two_of fields rest a b = rw (length-append fields (a ∷ b ∷ rest)) (omega arith)
 
--- the names of the columns of an answer
+-- the names of the columns of a table
 name_columns : (place : ℕ) (ts : List Target)
-    → map answer_name (cell_columns place ts ++ refusal ∷ []) ≡ map target_name ts ++ codes "refusal" ∷ []
+    → map name_of (cell_columns place ts ++ refusal_column ∷ []) ≡ map target_name ts ++ codes "refusal" ∷ []
 name_columns place [] = refl
 name_columns place (t ∷ ts) = ap (λ (names : List (List ℕ)). target_name t ∷ names) (name_columns (place + 1) ts)
 
-pub answer_names : (ts : List Target)
-    → map answer_name (answer_columns ts)
-    ≡ map (λ column. answer_name (of_day column)) day_columns ++ (map target_name ts ++ codes "refusal" ∷ [])
-answer_names ts =
-    ap (λ (names : List (List ℕ)). map (λ column. answer_name (of_day column)) day_columns ++ names) (name_columns 0 ts)
+pub heading_names : (form : Form) (ts : List Target)
+    → heading form ts
+    ≡ map entry_name (entry_order form) ++ (map day_name day_order ++ (map target_name ts ++ codes "refusal" ∷ []))
+heading_names Plain ts =
+    ap (λ (names : List (List ℕ)). map entry_name (entry_order Plain) ++ (map day_name day_order ++ names))
+    (name_columns 0 ts)
+heading_names Sealed ts =
+    ap (λ (names : List (List ℕ)). map entry_name (entry_order Sealed) ++ (map day_name day_order ++ names))
+    (name_columns 0 ts)
+
+-- what stands in the columns of an answer tells nothing of the entry
+cell_fields : (row : TableRow) (place : ℕ) (ts : List Target)
+    → map (λ (column : Column). column.field row) (cell_columns place ts ++ refusal_column ∷ [])
+    ≡ map (answer_field row.outcome row.cells) (cell_columns place ts ++ refusal_column ∷ [])
+cell_fields row place [] = refl
+cell_fields row place (t ∷ ts) =
+    ap (λ (fields : List (List ℕ)). get_or row.cells place [] ∷ fields) (cell_fields row (place + 1) ts)
+
+pub fields_in_parts : (form : Form) (ts : List Target) (row : TableRow)
+    → row_fields form ts row
+    ≡ map (entry_field row) (entry_order form) ++ map (answer_field row.outcome row.cells) (answer_columns ts)
+fields_in_parts Plain ts row =
+    ap (λ (fields : List (List ℕ)). map (entry_field row) (entry_order Plain) ++ (day_fields row ++ fields))
+    (cell_fields row 0 ts)
+fields_in_parts Sealed ts row =
+    ap (λ (fields : List (List ℕ)). map (entry_field row) (entry_order Sealed) ++ (day_fields row ++ fields))
+    (cell_fields row 0 ts)

@@ -40,26 +40,26 @@ module _ (t : Texts) (c : Calendar) (d : Date) where
       × ((r ≡ Err refusal.NoSuchDate) ↔ ¬ (IsDateOfCalendar d))
       × ((r ≡ Err refusal.OutOfRange) ↔ (IsDateOfCalendar d × ¬ (IsDayNumber (day_number_of_date d))))
 
-  other-refusal : (r : Refusal) → ¬ (r ≡ refusal.NoSuchDate) → ¬ (r ≡ refusal.OutOfRange) → SaysDay (Err r) → ⊥
-  other-refusal r n o h =
-      one_of_three (λ both. not-ok r (h.0.1 both)) (λ none. n (same r _ (h.2.1 none))) (λ out. o (same r _ (h.3.1 out)))
+  other_refusal : (r : Refusal) → ¬ (r ≡ refusal.NoSuchDate) → ¬ (r ≡ refusal.OutOfRange) → SaysDay (Err r) → ⊥
+  other_refusal r n o h =
+      one_of_three (λ both. not_ok r (h.0.1 both)) (λ none. n (same r _ (h.2.1 none))) (λ out. o (same r _ (h.3.1 out)))
     where
-      not-ok : (r : Refusal) → IsOk {T = Day} {E = Refusal} (Err r) → ⊥
-      not-ok r e = cc
+      not_ok : (r : Refusal) → IsOk {T = Day} {E = Refusal} (Err r) → ⊥
+      not_ok r e = cc
 
       same : (a b : Refusal) → ◌≡◌ {A = Result Day Refusal} (Err a) (Err b) → a ≡ b
       same a b e = cc
 
-  pub day-outcome : Says t.calendar t.date c d → (r : Result Day Refusal) → SaysDay r
+  pub day_outcome : Says t.calendar t.date c d → (r : Result Day Refusal) → SaysDay r
       → IsOutcome (Ok t) (outcome_seen r)
-  day-outcome s (Ok day) h = rw h.1 (outcome.accepted c d s (h.0.0 refl).0 (h.0.0 refl).1)
-  day-outcome s (Err refusal.NoSuchDate) h = outcome.no_such_date c d s (h.2.0 refl)
-  day-outcome s (Err refusal.OutOfRange) h = outcome.out_of_range c d s (h.3.0 refl).0 (h.3.0 refl).1
-  day-outcome s (Err refusal.FieldCount) h = absurd (other-refusal refusal.FieldCount (λ e. cc) (λ e. cc) h)
-  day-outcome s (Err refusal.FieldTooLong) h = absurd (other-refusal refusal.FieldTooLong (λ e. cc) (λ e. cc) h)
-  day-outcome s (Err refusal.NotUtf8) h = absurd (other-refusal refusal.NotUtf8 (λ e. cc) (λ e. cc) h)
-  day-outcome s (Err refusal.UnknownCalendar) h = absurd (other-refusal refusal.UnknownCalendar (λ e. cc) (λ e. cc) h)
-  day-outcome s (Err refusal.DateText) h = absurd (other-refusal refusal.DateText (λ e. cc) (λ e. cc) h)
+  day_outcome s (Ok day) h = rw h.1 (outcome.accepted c d s (h.0.0 refl).0 (h.0.0 refl).1)
+  day_outcome s (Err refusal.NoSuchDate) h = outcome.no_such_date c d s (h.2.0 refl)
+  day_outcome s (Err refusal.OutOfRange) h = outcome.out_of_range c d s (h.3.0 refl).0 (h.3.0 refl).1
+  day_outcome s (Err refusal.FieldCount) h = absurd (other_refusal refusal.FieldCount (λ e. cc) (λ e. cc) h)
+  day_outcome s (Err refusal.FieldTooLong) h = absurd (other_refusal refusal.FieldTooLong (λ e. cc) (λ e. cc) h)
+  day_outcome s (Err refusal.NotUtf8) h = absurd (other_refusal refusal.NotUtf8 (λ e. cc) (λ e. cc) h)
+  day_outcome s (Err refusal.UnknownCalendar) h = absurd (other_refusal refusal.UnknownCalendar (λ e. cc) (λ e. cc) h)
+  day_outcome s (Err refusal.DateText) h = absurd (other_refusal refusal.DateText (λ e. cc) (λ e. cc) h)
 
 cells_last : (n : ℤ) (ts : List Target) (texts : List (List ℕ)) (t : Target) (text : List ℕ) → AreCells ts (Ok n) texts
     → IsCell t n text → AreCells (ts ++ t ∷ []) (Ok n) (texts ++ text ∷ [])

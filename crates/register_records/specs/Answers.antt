@@ -4,7 +4,8 @@ use Rattle.csv.specs.Writing.{fields_text}
 use Rattle.date_texts.specs.declared.calendar.Target.{Target}
 use Rattle.date_texts.specs.declared.refusal.Refusal.{Refusal}
 use Rattle.register_records.specs.Lines.{writing}
-use Rattle.register_records.specs.Columns.{answer_columns, answer_field}
+use Rattle.register_records.specs.Columns.{answer_columns}
+use Rattle.register_records.specs.TableColumns.{answer_field}
 use Rattle.register_records.specs.declared.answers.Answer.{Answer}
 
 -- cells of these lengths, one after the other, each behind one byte

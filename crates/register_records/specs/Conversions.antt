@@ -6,19 +6,19 @@ use Rattle.register_records.specs.Entries.{Format, Numbered}
 use Rattle.register_records.specs.Outcomes.{TableRow}
 use Rattle.register_records.specs.Sources.{IsTableOf}
 use Rattle.register_records.specs.Tables.{Layout, journal_of}
-use Rattle.register_records.specs.Views.{reads_by, waiting_in, writes_by}
+use Rattle.register_records.specs.Views.{reader_failed, reads_by, waiting_in, writer_failed, writes_by}
 use Rattle.register_records.specs.declared.reading.EntryReader.{EntryReader}
 use Rattle.register_records.specs.declared.sources.Note.{Note}
 use Rattle.register_records.specs.declared.writing.RowWriter.{RowWriter}
 
 -- a writer that has not failed, and that no line waits in
 abbrev pub IsReady : RowWriter → Type 0
-IsReady writer = (writer.failed ≡ false) × (waiting_in writer ≡ [])
+IsReady writer = (writer_failed writer ≡ false) × (waiting_in writer ≡ [])
 
 -- a reader and a writer of this format, between two rows
 abbrev pub AreReady : {R : Type 0} {g : Ghosts R} → Format → EntryReader R g → RowWriter → Type 0
 AreReady format entries writer =
-    (entries.failed ≡ false) × (reads_by entries ≡ format) × (writes_by writer ≡ format) × IsReady writer
+    (reader_failed entries ≡ false) × (reads_by entries ≡ format) × (writes_by writer ≡ format) × IsReady writer
 
 -- the rows of these entries are written, and the refused ones noted
 pub record Progress (layout : Layout) (begun now : Option (List ℕ)) (entries : List Numbered)

@@ -10,6 +10,7 @@ use Rattle.register_records.specs.Seals.{AreClosed, entry_records}
 use Rattle.date_texts.specs.Refusals.{refusal_number}
 use Rattle.date_texts.specs.declared.refusal.Refusal.{Refusal}
 use Rattle.date_texts.specs.declared.refusal.Refusal.TheVariants as refusal
+use Rattle.register_records.specs.declared.entries.TheConstants.{CALENDAR_LIMIT, DATE_LIMIT, ID_LIMIT, NOTE_LIMIT}
 use Rattle.register_records.specs.declared.entries.Body.{Body}
 use Rattle.register_records.specs.declared.entries.Body.TheVariants as body
 use Rattle.register_records.specs.declared.setups.Form.{Form}
@@ -38,7 +39,8 @@ HasNoHeader format text = (after : List Fields) → HasRecords format text after
 -- no text is over its limit in bytes
 abbrev pub are_short : Texts → Bool
 are_short t =
-    nat_le (length t.id) 40 && nat_le (length t.calendar) 16 && nat_le (length t.date) 32 && nat_le (length t.note) 80
+    nat_le (length t.id) ID_LIMIT && nat_le (length t.calendar) CALENDAR_LIMIT && nat_le (length t.date) DATE_LIMIT
+    && nat_le (length t.note) NOTE_LIMIT
 
 abbrev pub are_utf8 : Texts → Bool
 are_utf8 t = is_utf8 t.id && is_utf8 t.calendar && is_utf8 t.date && is_utf8 t.note

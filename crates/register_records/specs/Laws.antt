@@ -1,5 +1,5 @@
 -- Laws of tables.
-use Rattle.std.specs.Prelude.{◌≡◌, ◌≢◌, ◌<◌, ◌++◌, ◌∷◌, ℕ, ℤ, List, [], length, Ok}
+use Rattle.std.specs.Prelude.{◌≡◌, ◌≢◌, ◌<◌, ◌++◌, ◌∷◌, ℕ, ℤ, List, [], length, Ok, Some}
 use Rattle.day_numbers.specs.Days.{IsDayNumber}
 use Rattle.date_texts.specs.Calendars.{calendar_name}
 use Rattle.date_texts.specs.Cells.{IsCell}
@@ -9,8 +9,10 @@ use Rattle.date_texts.specs.declared.calendar.Target.TheVariants.{Date as DateTa
 use Rattle.register_records.specs.Entries.{AreAccepted, Fields, Format, HasEntries, HasNoHeader, HasTooMany}
 use Rattle.register_records.specs.Entries.{IsNotSealed, Numbered, Texts}
 use Rattle.register_records.specs.Outcomes.{AreRowsOf, IsOutcome, TableRow}
+use Rattle.register_records.specs.Sources.{IsWholeTable}
 use Rattle.register_records.specs.Tables.{Layout, journal_of, notes_of, row_line, table_text}
 use Rattle.register_records.specs.declared.setups.Form.TheVariants.{Sealed}
+use Rattle.register_records.specs.declared.sources.Note.{Note}
 
 -- a text has one list of entries at most, and entries have one list of rows at most: so a text has one
 -- table and one journal at most
@@ -19,6 +21,13 @@ OneTable =
     (layout : Layout) (text : List ℕ) (entries others : List Numbered) (rows more : List TableRow)
     → HasEntries layout.format text entries → HasEntries layout.format text others
     → AreRowsOf layout.targets entries rows → AreRowsOf layout.targets others more → (entries ≡ others) × (rows ≡ more)
+
+-- an accepted text has a whole table: that none is its table cannot be
+abbrev pub EveryTextHasTable : Type 0
+EveryTextHasTable =
+    (layout : Layout) (text : List ℕ) (entries : List Numbered) → HasEntries layout.format text entries
+    → ¬ ((count refused : ℕ) (journal : List Note) (bytes : List ℕ)
+    → ¬ (IsWholeTable layout (Some text) count refused journal bytes))
 
 -- a cell of a calendar that is not empty, read as a date of that calendar, gives the cell's day again
 abbrev pub CellsReadBack : Type 0

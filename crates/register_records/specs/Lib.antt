@@ -7,6 +7,7 @@ pub mod CellTexts
 pub mod Seen
 pub mod Lines
 pub mod Columns
+pub mod TableColumns
 pub mod Tables
 pub mod Answers
 pub mod Sources

@@ -1,5 +1,5 @@
 -- What a clause sees of `Lines`. No public contract cites this file.
-use Rattle.std.specs.Prelude.{◌≡◌, ℕ, List, ◌++◌, vec_capacity, vec_len}
+use Rattle.std.specs.Prelude.{◌≡◌, ◌≤◌, ℕ, List, ◌++◌, length, vec_capacity, vec_len}
 use Rattle.csv.specs.Writing.{row_body}
 use Rattle.register_records.specs.Lines.{writing}
 use Rattle.register_records.specs.declared.csv_lines.Lines.{Lines}
@@ -22,3 +22,9 @@ line_delimiter lines = lines.delimiter
 -- the bytes so far are those that stood before, and then these fields with the delimiter between two of them
 abbrev pub Begins : List ℕ → List (List ℕ) → Lines → Type 0
 Begins before fields lines = lines.bytes.items ≡ before ++ row_body (writing lines.delimiter) fields
+
+-- a line of a field or more gained these
+abbrev pub GainsFields : List (List ℕ) → Lines → Lines → Type 0
+GainsFields more old new =
+    (before : List ℕ) (fields : List (List ℕ)) → 1 ≤ length fields → Begins before fields old
+    → Begins before (fields ++ more) new

@@ -19,6 +19,8 @@ use Rattle.register_records.specs.declared.setups.Form.{Form}
 use Rattle.register_records.specs.declared.setups.Form.TheVariants.{Plain, Sealed}
 use Rattle.register_records.specs.declared.reading.EntryFault.{EntryFault}
 use Rattle.register_records.specs.declared.reading.EntryFault.TheVariants as fault
+use Rattle.register_records.specs.declared.reading.ReaderState.{ReaderState}
+use Rattle.register_records.specs.declared.reading.ReaderState.TheVariants as states
 
 -- the entries that snapshots were taken of
 abbrev pub entries_shown : List (Snapshot Entry) → List Numbered
@@ -96,7 +98,7 @@ HasEntry form rows = 0 < length (entry_records form rows)
 
 -- these entries are the first of a text. While no call failed and none answered that no entry is left, those of the
 -- records that are left follow them; once a call answered so, they are all
-pub record Stands (format : Format) (text : List ℕ) (failed done : Bool) (left : Option (List Fields))
+pub record Stands (format : Format) (text : List ℕ) (state : ReaderState) (left : Option (List Fields))
     (given : List Numbered)
     : Type 0 where
   pub past : List Fields
@@ -106,5 +108,5 @@ pub record Stands (format : Format) (text : List ℕ) (failed done : Bool) (left
   pub no_seal : (more : List Fields) → entry_records format.form (past ++ more) ≡ past ++ entry_records format.form more
   pub followed : (more : List Fields)
       → entries_from format.form 0 (past ++ more) ≡ given ++ entries_from format.form (length given) more
-  pub left_is : failed ≡ false → done ≡ false → left ≡ Some rest
-  pub ended : done ≡ true → HasEntries format text given
+  pub left_is : state ≡ states.Open → left ≡ Some rest
+  pub ended : state ≡ states.Ended → HasEntries format text given

@@ -1,5 +1,5 @@
 -- What a clause sees of an `Entry` and of the parts of a `Row`.
-use Rattle.std.specs.Prelude.{ℕ, ℤ, List, Result, Ok, Err}
+use Rattle.std.specs.Prelude.{Bool, true, false, ℕ, ℤ, List, Result, Ok, Err}
 use Rattle.day_numbers.specs.declared.day.Day.{Day}
 use Rattle.date_texts.specs.declared.refusal.Refusal.{Refusal}
 use Rattle.register_records.specs.Entries.{Numbered, body_seen}
@@ -7,10 +7,36 @@ use Rattle.register_records.specs.Records.{Texts}
 use Rattle.register_records.specs.declared.columns.Columns.{Columns}
 use Rattle.register_records.specs.Outcomes.{TableRow}
 use Rattle.register_records.specs.declared.entries.Entry.{Entry}
+use Rattle.register_records.specs.declared.reading.ReaderState.{ReaderState}
+use Rattle.register_records.specs.declared.reading.ReaderState.TheVariants as state
+use Rattle.register_records.specs.declared.writing.WriterState.{WriterState}
+use Rattle.register_records.specs.declared.writing.WriterState.TheVariants as writer
 
 -- the texts in the columns of a record
 abbrev pub columns_seen : Columns → Texts
 columns_seen c = record { id = c.id.now; calendar = c.calendar.now; date = c.date.now; note = c.note.now }
+
+-- a reader of entries has failed, or it has come to the end
+abbrev pub has_failed : ReaderState → Bool
+has_failed state.Open = false
+has_failed state.Ended = false
+has_failed state.Failed = true
+
+abbrev pub has_ended : ReaderState → Bool
+has_ended state.Open = false
+has_ended state.Ended = true
+has_ended state.Failed = false
+
+-- a writer of rows has stopped, or its output has failed
+abbrev pub has_stopped : WriterState → Bool
+has_stopped writer.Open = false
+has_stopped writer.OutOfMemory = true
+has_stopped writer.Sunk = true
+
+abbrev pub has_sunk : WriterState → Bool
+has_sunk writer.Open = false
+has_sunk writer.OutOfMemory = false
+has_sunk writer.Sunk = true
 
 -- the entry as a text has it
 abbrev pub entry_seen : Entry → Numbered

@@ -1,13 +1,15 @@
 -- What a clause sees of the types of this crate.
-use Rattle.std.specs.Prelude.{ℕ, List, Option, map}
+use Rattle.std.specs.Prelude.{Bool, ℕ, List, Option, map}
 use Rattle.std.specs.declared.snapshot.Snapshot.{Snapshot}
 use Rattle.std.specs.declared.io.traits.Read.{Ghosts}
 use Rattle.date_texts.specs.declared.calendar.Target.{Target}
 use Rattle.register_records.specs.Answers.{cells_of}
+use Rattle.register_records.specs.Columns.{answer_columns}
 use Rattle.register_records.specs.Entries.{Format, Numbered}
 use Rattle.register_records.specs.Outcomes.{TableRow}
-use Rattle.register_records.specs.Seen.{entry_seen, row_made}
+use Rattle.register_records.specs.Seen.{entry_seen, has_ended, has_failed, has_stopped, has_sunk, row_made}
 use Rattle.register_records.specs.ShortLists.{items_in}
+use Rattle.register_records.specs.TableColumns.{answer_field}
 use Rattle.register_records.specs.Tables.{Layout, row_line}
 use Rattle.register_records.specs.declared.entries.Entry.{Entry}
 use Rattle.register_records.specs.declared.reading.EntryReader.{EntryReader}
@@ -34,6 +36,13 @@ text_of {g} r = g.remaining r.source.value
 abbrev pub reads_by : {R : Type 0} {g : Ghosts R} → EntryReader R g → Format
 reads_by r = record { delimiter = r.delimiter; form = r.form }
 
+-- a call answered a fault; a call answered that no entry is left
+abbrev pub reader_failed : {R : Type 0} {g : Ghosts R} → EntryReader R g → Bool
+reader_failed r = has_failed r.state
+
+abbrev pub reader_ended : {R : Type 0} {g : Ghosts R} → EntryReader R g → Bool
+reader_ended r = has_ended r.state
+
 -- the entries that it gave so far, in order
 abbrev pub given_of : {R : Type 0} {g : Ghosts R} → EntryReader R g → List Numbered
 given_of r = map (λ (s : Snapshot Entry). entry_seen s.value) r.given.items
@@ -45,9 +54,21 @@ row_targets row = items_in row.targets.items
 abbrev pub row_seen : Row → TableRow
 row_seen row = row_made row.entry row.outcome (cells_of row.answer)
 
+-- the fields of its answer
+abbrev pub answer_fields : Row → List (List ℕ)
+answer_fields row =
+    map (answer_field (row_seen row).outcome (row_seen row).cells) (answer_columns (row_targets row))
+
 -- how a writer writes lines
 abbrev pub writes_by : RowWriter → Format
 writes_by w = record { delimiter = w.lines.delimiter; form = w.form }
+
+-- a call of the writer answered a fault; its output failed
+abbrev pub writer_failed : RowWriter → Bool
+writer_failed w = has_stopped w.state
+
+abbrev pub writer_sunk : RowWriter → Bool
+writer_sunk w = has_sunk w.state
 
 -- the bytes of the lines that wait to be sent
 abbrev pub waiting_in : RowWriter → List ℕ

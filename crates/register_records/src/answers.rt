@@ -7,15 +7,16 @@ ghost use Rattle.csv.specs.Writing.{fields_text, needs_quotes};
 ghost use Rattle.date_texts.specs.Cells.{IsCell};
 ghost use Rattle.date_texts.specs.declared.calendar.TheConstants.{MAX_TARGETS};
 ghost use Rattle.date_texts.specs.declared.cells.TheConstants.{MAX_CELL};
-ghost use Rattle.register_records.specs.Columns.{answer_field, cell_columns, day_columns as day_columns_of, of_day};
-ghost use Rattle.register_records.specs.Columns.{refusal};
+ghost use Rattle.register_records.specs.Columns.{Column, cell_columns};
 ghost use Rattle.register_records.specs.Lines.{writing};
 ghost use Rattle.register_records.specs.Outcomes.{AreCells};
 ghost use Rattle.register_records.specs.Seen.{outcome_seen};
 ghost use Rattle.register_records.specs.SetupRules.{is_delimiter};
+ghost use Rattle.register_records.specs.TableColumns.{answer_field, day_column, day_order, refusal_column};
 ghost use Rattle.register_records.specs.declared.table_columns.DayColumn.{DayColumn};
 ghost use Rattle.register_records.specs.declared.table_columns.DayColumn.TheVariants.{DayNumber, Weekday};
-ghost use Rattle.register_records.specs.declared.answers.TheConstants.{ANSWER_ROOM};
+ghost use Rattle.register_records.specs.declared.answers.TheConstants.{ANSWER_ROOM, CELL_ROOM, CELLS_ROOM};
+ghost use Rattle.register_records.specs.declared.answers.TheConstants.{DAY_COLUMN_ROOM, DAY_ROOM, REFUSAL_ROOM};
 
 use crate::table_columns::{DayColumn, day_columns};
 use date_texts::laws::{cells_are_plain, cells_are_short};
@@ -23,9 +24,23 @@ use date_texts::{MAX_CELL, MAX_TARGETS, Refusal, Target, write_cell};
 use day_numbers::Day;
 use itoa::Buffer;
 
-/// Room for the longest answer: nine bytes for each column of a day, a cell for each target and the digit of a refusal,
-/// each behind a delimiter.
-pub(crate) const ANSWER_ROOM: usize = 260;
+/// Room for a column of a day behind its delimiter: the longest name of a weekday has nine bytes, a day number eight.
+const DAY_COLUMN_ROOM: usize = 10;
+
+/// Room for the columns of a day: its number and its weekday.
+const DAY_ROOM: usize = 2 * DAY_COLUMN_ROOM;
+
+/// Room for a cell behind its delimiter.
+const CELL_ROOM: usize = 1 + MAX_CELL;
+
+/// Room for the cells of all targets.
+const CELLS_ROOM: usize = MAX_TARGETS * CELL_ROOM;
+
+/// Room for the digit of a refusal behind its delimiter.
+const REFUSAL_ROOM: usize = 2;
+
+/// Room for the longest answer.
+pub(crate) const ANSWER_ROOM: usize = DAY_ROOM + CELLS_ROOM + REFUSAL_ROOM;
 
 /// The fields of an answer, each behind a delimiter.
 #[derive(Drop)]
@@ -104,10 +119,11 @@ impl Answer {
 
     /// Appends the day number, which a refused row has not.
     fn push_day_number(&mut self, outcome: Result<Day, Refusal>)
-        requires { self.old.len + 9 ≤ ANSWER_ROOM }
+        requires { self.old.len + DAY_COLUMN_ROOM ≤ ANSWER_ROOM }
         ensures value { answer_bytes self.new ≡ answer_bytes self.old
-            ++ fields_text (writing self.old.delimiter) (answer_field (outcome_seen outcome) [] (of_day DayNumber) ∷ []) }
-        ensures grows { self.new.len ≤ self.old.len + 9 }
+            ++ fields_text (writing self.old.delimiter)
+            (answer_field (outcome_seen outcome) [] (day_column DayNumber) ∷ []) }
+        ensures grows { self.new.len ≤ self.old.len + DAY_COLUMN_ROOM }
         ensures kept { self.new.delimiter ≡ self.old.delimiter }
     {
         match outcome {
@@ -118,10 +134,11 @@ impl Answer {
 
     /// Appends the name of the weekday, which a refused row has not.
     fn push_weekday(&mut self, outcome: Result<Day, Refusal>)
-        requires { self.old.len + 10 ≤ ANSWER_ROOM }
+        requires { self.old.len + DAY_COLUMN_ROOM ≤ ANSWER_ROOM }
         ensures value { answer_bytes self.new ≡ answer_bytes self.old
-            ++ fields_text (writing self.old.delimiter) (answer_field (outcome_seen outcome) [] (of_day Weekday) ∷ []) }
-        ensures grows { self.new.len ≤ self.old.len + 10 }
+            ++ fields_text (writing self.old.delimiter)
+            (answer_field (outcome_seen outcome) [] (day_column Weekday) ∷ []) }
+        ensures grows { self.new.len ≤ self.old.len + DAY_COLUMN_ROOM }
         ensures kept { self.new.delimiter ≡ self.old.delimiter }
     {
         match outcome {
@@ -132,10 +149,11 @@ impl Answer {
 
     /// Appends what stands in a column of a day.
     fn push_day_column(&mut self, column: DayColumn, outcome: Result<Day, Refusal>)
-        requires { self.old.len + 10 ≤ ANSWER_ROOM }
+        requires { self.old.len + DAY_COLUMN_ROOM ≤ ANSWER_ROOM }
         ensures value { answer_bytes self.new ≡ answer_bytes self.old
-            ++ fields_text (writing self.old.delimiter) (answer_field (outcome_seen outcome) [] (of_day column) ∷ []) }
-        ensures grows { self.new.len ≤ self.old.len + 10 }
+            ++ fields_text (writing self.old.delimiter)
+            (answer_field (outcome_seen outcome) [] (day_column column) ∷ []) }
+        ensures grows { self.new.len ≤ self.old.len + DAY_COLUMN_ROOM }
         ensures kept { self.new.delimiter ≡ self.old.delimiter }
     {
         match column {
@@ -148,8 +166,8 @@ impl Answer {
     fn push_day_columns(&mut self, outcome: Result<Day, Refusal>)
         requires { self.old.len ≡ 0 }
         ensures value { answer_bytes self.new ≡ answer_bytes self.old ++ fields_text (writing self.old.delimiter)
-            (map (λ column. answer_field (outcome_seen outcome) [] (of_day column)) day_columns_of) }
-        ensures short { self.new.len ≤ 20 }
+            (map (λ column. answer_field (outcome_seen outcome) [] (day_column column)) day_order) }
+        ensures short { self.new.len ≤ DAY_ROOM }
         ensures kept { self.new.delimiter ≡ self.old.delimiter }
     {
         'days: for column in day_columns() {
@@ -161,12 +179,12 @@ impl Answer {
     /// text is written over by the next field: a copy of a fixed length is cheap.
     #[inline(always)]
     fn push_cell(&mut self, target: Target, day: Day)
-        requires room { self.old.len + 17 ≤ ANSWER_ROOM }
+        requires room { self.old.len + CELL_ROOM ≤ ANSWER_ROOM }
         requires few { self.old.count < MAX_TARGETS }
         ensures value { (cell : List ℕ) × IsCell target day.number cell
             × (answer_bytes self.new ≡ answer_bytes self.old ++ fields_text (writing self.old.delimiter) (cell ∷ []))
             × (cell_lengths self.new ≡ cell_lengths self.old ++ length cell ∷ []) }
-        ensures grows { self.new.len ≤ self.old.len + 17 }
+        ensures grows { self.new.len ≤ self.old.len + CELL_ROOM }
         ensures count { self.new.count ≡ self.old.count + 1 }
         ensures kept { (self.new.delimiter ≡ self.old.delimiter) × (self.new.start ≡ self.old.start) }
     {
@@ -184,12 +202,12 @@ impl Answer {
     /// Appends the cells of a day.
     fn push_cells_of_day(&mut self, targets: &[Target], day: Day)
         requires few { length targets.now ≤ MAX_TARGETS }
-        requires room { self.old.len + 17 * length targets.now ≤ ANSWER_ROOM }
+        requires room { self.old.len + CELL_ROOM * length targets.now ≤ ANSWER_ROOM }
         requires none { self.old.count ≡ 0 }
         ensures value { (cells : List (List ℕ)) × AreCells targets.now (Ok day.number) cells
             × (answer_bytes self.new ≡ answer_bytes self.old ++ fields_text (writing self.old.delimiter) cells)
             × (cell_lengths self.new ≡ map length cells) }
-        ensures grows { self.new.len ≤ self.old.len + 17 * length targets.now }
+        ensures grows { self.new.len ≤ self.old.len + CELL_ROOM * length targets.now }
         ensures kept { (self.new.delimiter ≡ self.old.delimiter) × (self.new.start ≡ self.old.start) }
     {
         'cells: for target in targets {
@@ -214,12 +232,12 @@ impl Answer {
     /// Appends the cells, which a refused row has not.
     fn push_cells(&mut self, targets: &[Target], outcome: Result<Day, Refusal>)
         requires few { length targets.now ≤ MAX_TARGETS }
-        requires start { self.old.len ≤ 20 }
+        requires start { self.old.len ≤ DAY_ROOM }
         ensures value { (cells : List (List ℕ)) × AreCells targets.now (outcome_seen outcome) cells
             × (answer_bytes self.new ≡ answer_bytes self.old ++ fields_text (writing self.old.delimiter)
             (map (answer_field (outcome_seen outcome) cells) (cell_columns 0 targets.now)))
             × (cell_lengths self.new ≡ map length cells) }
-        ensures grows { self.new.len ≤ self.old.len + 238 }
+        ensures grows { self.new.len ≤ self.old.len + CELLS_ROOM }
         ensures start { self.new.start ≡ length (answer_bytes self.old) }
         ensures kept { self.new.delimiter ≡ self.old.delimiter }
     {
@@ -233,9 +251,9 @@ impl Answer {
 
     /// Appends the number of the refusal, which an accepted row has not.
     fn push_refusal(&mut self, outcome: Result<Day, Refusal>)
-        requires { self.old.len + 2 ≤ ANSWER_ROOM }
+        requires { self.old.len + REFUSAL_ROOM ≤ ANSWER_ROOM }
         ensures value { answer_bytes self.new ≡ answer_bytes self.old
-            ++ fields_text (writing self.old.delimiter) (answer_field (outcome_seen outcome) [] refusal ∷ []) }
+            ++ fields_text (writing self.old.delimiter) (answer_field (outcome_seen outcome) [] refusal_column ∷ []) }
         ensures kept { (self.new.delimiter ≡ self.old.delimiter) × (self.new.start ≡ self.old.start)
             × (cell_lengths self.new ≡ cell_lengths self.old) }
     {

@@ -84,7 +84,7 @@ fn push_field(line: &mut Vec<u8>, delimiter: u8, field: &[u8]) -> Result<(), All
 }
 
 impl Lines {
-    ghost use Rattle.register_records.specs.LineViews.{Begins, line_bytes, line_delimiter, line_len, line_capacity};
+    ghost use Rattle.register_records.specs.LineViews.{Begins, GainsFields, line_bytes, line_delimiter, line_len, line_capacity};
 
     /// No line yet, in memory for so many bytes. This delimiter will separate the fields.
     pub fn new(alloc: Global, delimiter: u8, room: usize) -> Result<Lines, AllocError>
@@ -155,8 +155,7 @@ impl Lines {
     /// Appends a field that needs no quotes.
     pub fn push_plain(&mut self, field: &[u8]) -> Result<(), AllocError>
         requires { Spec.needs_quotes (writing (line_delimiter self.old)) field.now ≡ false }
-        ensures value { (before : List ℕ) (fields : List (List ℕ)) → 1 ≤ length fields → Begins before fields self.old
-            → OnOk result (Begins before (fields ++ field.now ∷ []) self.new) }
+        ensures value { OnOk result (GainsFields (field.now ∷ []) self.old self.new) }
         ensures kept { line_delimiter self.new ≡ line_delimiter self.old }
         ensures room { line_len self.old + (1 + length field.now) ≤ line_capacity self.old → IsOk result }
         ensures grows { OnOk result (line_len self.new ≤ line_len self.old + (1 + length field.now)) }
@@ -169,8 +168,7 @@ impl Lines {
 
     /// Appends a field, quoted where it must be.
     pub fn push(&mut self, field: &[u8]) -> Result<(), AllocError>
-        ensures value { (before : List ℕ) (fields : List (List ℕ)) → 1 ≤ length fields → Begins before fields self.old
-            → OnOk result (Begins before (fields ++ field.now ∷ []) self.new) }
+        ensures value { OnOk result (GainsFields (field.now ∷ []) self.old self.new) }
         ensures kept { line_delimiter self.new ≡ line_delimiter self.old }
         ensures room { line_len self.old + (1 + field_room (length field.now)) ≤ line_capacity self.old → IsOk result }
         ensures grows { OnOk result (line_len self.new ≤ line_len self.old + (1 + field_room (length field.now))) }
@@ -184,8 +182,7 @@ impl Lines {
     /// Appends a text, which is looked through for bytes that call for quotes unless it is known to have none.
     pub fn push_text(&mut self, text: &[u8], bare: bool) -> Result<(), AllocError>
         requires { bare ≡ true → Spec.needs_quotes (writing (line_delimiter self.old)) text.now ≡ false }
-        ensures value { (before : List ℕ) (fields : List (List ℕ)) → 1 ≤ length fields → Begins before fields self.old
-            → OnOk result (Begins before (fields ++ text.now ∷ []) self.new) }
+        ensures value { OnOk result (GainsFields (text.now ∷ []) self.old self.new) }
         ensures kept { line_delimiter self.new ≡ line_delimiter self.old }
         ensures room { line_len self.old + (1 + field_room (length text.now)) ≤ line_capacity self.old → IsOk result }
         ensures grows { OnOk result (line_len self.new ≤ line_len self.old + (1 + field_room (length text.now))) }
@@ -200,9 +197,8 @@ impl Lines {
 
     /// Appends more fields, each behind a delimiter as it stands in the text.
     pub fn push_fields(&mut self, text: &[u8]) -> Result<(), AllocError>
-        ensures value { (before : List ℕ) (fields more : List (List ℕ)) → 1 ≤ length fields
-            → Begins before fields self.old → text.now ≡ fields_text (writing (line_delimiter self.old)) more
-            → OnOk result (Begins before (fields ++ more) self.new) }
+        ensures value { (more : List (List ℕ)) → text.now ≡ fields_text (writing (line_delimiter self.old)) more
+            → OnOk result (GainsFields more self.old self.new) }
         ensures kept { line_delimiter self.new ≡ line_delimiter self.old }
         ensures room { line_len self.old + length text.now ≤ line_capacity self.old → IsOk result }
         ensures grows { OnOk result (line_len self.new ≤ line_len self.old + length text.now) }

@@ -1,6 +1,6 @@
 //! Laws of tables.
 
-ghost use Rattle.register_records.specs.Laws.{CellsReadBack, NoLossIsSealed, OneFate, OneTable, TablesGrow};
+ghost use Rattle.register_records.specs.Laws.{CellsReadBack, EveryTextHasTable, NoLossIsSealed, OneFate, OneTable, TablesGrow};
 ghost use Rattle.register_records.specs.Outcomes.{IsRowOf, TableRow};
 ghost use Rattle.register_records.specs.Seen.{entry_seen};
 ghost use Rattle.register_records.specs.Views.{targets_of};
@@ -26,6 +26,11 @@ pub fn every_entry_has_row(entry: Entry, setup: &Setup)
 {
     convert(entry, setup);
 }
+
+/// An accepted text has a table, for every list of targets: that none is its table cannot be.
+pub fn every_text_has_table()
+    ensures { EveryTextHasTable }
+{}
 
 /// A cell of a calendar that is not empty, in a record as a date of that calendar, gives the cell's day
 /// again.

@@ -11,6 +11,7 @@ ghost use Rattle.register_records.specs.ReadingState.{entries_shown, fault_of, f
 ghost use Rattle.register_records.specs.Retrying.{inner_remaining};
 ghost use Rattle.register_records.specs.Seals.{Agrees, is_seal as is_seal_record};
 ghost use Rattle.register_records.specs.Seen.{entry_seen};
+ghost use Rattle.register_records.specs.declared.reading.ReaderState.{ReaderState};
 
 use crate::entries::{Entry, MAX_RECORDS};
 use crate::header::is_header;
@@ -46,6 +47,17 @@ pub enum EntryFault {
     Failed,
 }
 
+/// How far a reader of entries has come.
+#[derive(Clone, Copy)]
+pub(crate) enum ReaderState {
+    /// Entries may be left.
+    Open,
+    /// A call answered that no entry is left.
+    Ended,
+    /// A call answered a fault.
+    Failed,
+}
+
 /// The entries of a text, in order, each read when it is asked for.
 ///
 /// # Examples
@@ -67,13 +79,10 @@ pub struct EntryReader<R: Read> {
     // The reader as it was given, and the entries given: what they hold has no bytes.
     source: Snapshot<R>,
     given: Vec<Snapshot<Entry>>,
-    // A call answered that no entry is left.
-    done: bool,
-    // A call answered a fault.
-    failed: bool,
-    ghost live: { failed ≡ false → HasBegun records },
+    state: ReaderState,
+    ghost live: { state ≢ ReaderState.Failed → HasBegun records },
     ghost few: { length given.items ≤ record_limit },
-    ghost stands: { ∥ IfSome (R.remaining source.value) (λ text. Stands (format_by delimiter form) text failed done
+    ghost stands: { ∥ IfSome (R.remaining source.value) (λ text. Stands (format_by delimiter form) text state
         (records_left (inner_remaining R.remaining) records) (entries_shown given.items)) ∥₁ },
     // Where the reader tells its bytes, the entries given are the first of the text.
     pub ghost first: { ∥ IfSome (R.remaining source.value)
@@ -211,7 +220,7 @@ fn read_entry<R: Read>(
 
 impl<R: Read + Drop> EntryReader<R> {
     ghost use Rattle.register_records.specs.Entries.{HasEntries, HasNoHeader, HasTooMany, IsNotSealed};
-    ghost use Rattle.register_records.specs.Views.{format_of, given_of};
+    ghost use Rattle.register_records.specs.Views.{format_of, given_of, reader_ended, reader_failed};
     ghost use Rattle.register_records.specs.Views.{reads_by, text_of};
     ghost use Rattle.register_records.specs.declared.reading.EntryFault.TheVariants.{Failed, NotSealed, TooManyRecords};
 
@@ -227,7 +236,7 @@ impl<R: Read + Drop> EntryReader<R> {
         // It reads the text that the reader tells, and no entry was given yet.
         ensures text { IfOk result (λ r. (text_of r ≡ R.remaining reader) × (reads_by r ≡ format_of setup.now)) }
         ensures none_given { IfOk result (λ r. given_of r ≡ []) }
-        ensures goes { IfOk result (λ r. (r.failed ≡ false) × (r.done ≡ false)) }
+        ensures goes { IfOk result (λ r. (reader_failed r ≡ false) × (reader_ended r ≡ false)) }
         ensures bad { IfErr result (λ e. e ≡ EntryFault.BadHeader
             → IfSome (R.remaining reader) (λ text. HasNoHeader (format_of setup.now) text)) }
         ensures told { IfErr result (λ e. (e ≢ TooManyRecords) × (e ≢ Failed) × (e ≢ NotSealed)) }
@@ -251,8 +260,7 @@ impl<R: Read + Drop> EntryReader<R> {
             form: setup.form(),
             source,
             given: Vec::new(alloc),
-            done: false,
-            failed: false,
+            state: ReaderState::Open,
         })
     }
 
@@ -269,31 +277,30 @@ impl<R: Read + Drop> EntryReader<R> {
             × ∥ IfSome (text_of self.new) (λ text. HasTooMany (reads_by self.new) text) ∥₁) }
         ensures not_sealed { IfErr result (λ e. e ≡ EntryFault.NotSealed → ((reads_by self.new).form ≡ Form.Sealed)
             × ∥ IfSome (text_of self.new) (λ text. IsNotSealed (reads_by self.new) text) ∥₁) }
-        ensures ends { result ≡ Ok false → (self.new.done ≡ true) × (given_of self.new ≡ given_of self.old) }
-        ensures ended { self.old.failed ≡ false → self.old.done ≡ true → (result ≡ Ok false) × (self.new ≡ self.old) }
-        ensures only_failed { self.old.failed ≡ false → IfErr result (λ e. e ≡ EntryFault.Failed → ⊥) }
+        ensures ends { result ≡ Ok false → (reader_ended self.new ≡ true) × (given_of self.new ≡ given_of self.old) }
+        ensures ended { reader_ended self.old ≡ true → (result ≡ Ok false) × (self.new ≡ self.old) }
+        ensures only_failed { reader_failed self.old ≡ false → IfErr result (λ e. e ≡ EntryFault.Failed → ⊥) }
         ensures no_header { IfErr result (λ e. e ≡ EntryFault.BadHeader → ⊥) }
-        ensures failed { self.old.failed ≡ true → (result ≡ Err EntryFault.Failed) × (self.new ≡ self.old) }
-        ensures fails { self.new.failed ≡ is_err result }
+        ensures failed { reader_failed self.old ≡ true → (result ≡ Err EntryFault.Failed) × (self.new ≡ self.old) }
+        ensures fails { reader_failed self.new ≡ is_err result }
         ensures read_fault { IfErr result (λ e. e ≡ EntryFault.ReadFault → has_failed self.new.records ≡ true) }
     {
-        if self.failed {
-            return Err(EntryFault::Failed);
-        }
-        if self.done {
-            return Ok(false);
+        match self.state {
+            ReaderState::Open => (),
+            ReaderState::Ended => return Ok(false),
+            ReaderState::Failed => return Err(EntryFault::Failed),
         }
         let count = self.given.len() as u32;
         let answer = read_entry(&mut self.records, &mut self.record, self.form, count, entry);
         match answer {
             Ok(true) => {
                 if !keep(&mut self.given, entry) {
-                    self.failed = true;
+                    self.state = ReaderState::Failed;
                     return Err(EntryFault::OutOfMemory);
                 }
             }
-            Ok(false) => self.done = true,
-            Err(_) => self.failed = true,
+            Ok(false) => self.state = ReaderState::Ended,
+            Err(_) => self.state = ReaderState::Failed,
         }
         answer
     }
@@ -323,12 +330,12 @@ impl<R: Read + Drop> EntryReader<R> {
             × ∥ IfSome (text_of self.new) (λ text. IsNotSealed (reads_by self.new) text) ∥₁) }
 
         // None comes only at the end, gives nothing, and comes again.
-        ensures ends { result ≡ Ok None → (self.new.done ≡ true) × (given_of self.new ≡ given_of self.old) }
-        ensures ended { self.old.failed ≡ false → self.old.done ≡ true → (result ≡ Ok None) × (self.new ≡ self.old) }
-        ensures only_failed { self.old.failed ≡ false → IfErr result (λ e. e ≡ EntryFault.Failed → ⊥) }
+        ensures ends { result ≡ Ok None → (reader_ended self.new ≡ true) × (given_of self.new ≡ given_of self.old) }
+        ensures ended { reader_ended self.old ≡ true → (result ≡ Ok None) × (self.new ≡ self.old) }
+        ensures only_failed { reader_failed self.old ≡ false → IfErr result (λ e. e ≡ EntryFault.Failed → ⊥) }
         ensures no_header { IfErr result (λ e. e ≡ EntryFault.BadHeader → ⊥) }
-        ensures failed { self.old.failed ≡ true → (result ≡ Err EntryFault.Failed) × (self.new ≡ self.old) }
-        ensures fails { self.new.failed ≡ is_err result }
+        ensures failed { reader_failed self.old ≡ true → (result ≡ Err EntryFault.Failed) × (self.new ≡ self.old) }
+        ensures fails { reader_failed self.new ≡ is_err result }
         ensures read_fault { IfErr result (λ e. e ≡ EntryFault.ReadFault → has_failed self.new.records ≡ true) }
     {
         let mut entry = Entry::blank();

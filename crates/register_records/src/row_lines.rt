@@ -2,12 +2,12 @@
 
 ghost use Rattle.std.specs.Prelude.{◌≡◌, ◌≤◌, ◌+◌, ◌∷◌, ◌++◌, [], ℕ, List, length, map, IsOk, OnOk, true, false};
 ghost use Rattle.register_records.specs.LineRoom.{entry_room};
-ghost use Rattle.register_records.specs.LineViews.{Begins, line_bytes};
+ghost use Rattle.register_records.specs.LineViews.{Begins, GainsFields, line_bytes};
 ghost use Rattle.register_records.specs.LineViews.{line_capacity, line_delimiter, line_len};
 ghost use Rattle.register_records.specs.Lines.{line_text};
-ghost use Rattle.register_records.specs.Columns.{answer_columns, answer_field, entry_field, entry_name};
-ghost use Rattle.register_records.specs.Columns.{entry_columns as entry_columns_of, heading, row_fields};
-ghost use Rattle.register_records.specs.Views.{row_seen, row_targets};
+ghost use Rattle.register_records.specs.Columns.{heading, row_fields};
+ghost use Rattle.register_records.specs.TableColumns.{entry_field, entry_name, entry_order};
+ghost use Rattle.register_records.specs.Views.{answer_fields, row_seen, row_targets};
 ghost use Rattle.register_records.specs.declared.answers.TheConstants.{ANSWER_ROOM};
 ghost use Rattle.register_records.specs.declared.row_lines.TheConstants.{LINE_ROOM};
 
@@ -27,7 +27,7 @@ pub const LINE_ROOM: usize = 1024;
 
 /// Begins the line of the heading: the columns of the entries.
 fn begin_heading(lines: &mut Lines, form: Form) -> Result<(), AllocError>
-    ensures value { OnOk result (Begins (line_bytes lines.old) (map entry_name (entry_columns_of form)) lines.new) }
+    ensures value { OnOk result (Begins (line_bytes lines.old) (map entry_name (entry_order form)) lines.new) }
     ensures kept { line_delimiter lines.new ≡ line_delimiter lines.old }
     ensures capacity { line_capacity lines.old ≤ line_capacity lines.new }
 {
@@ -66,21 +66,19 @@ pub(crate) fn make_heading(
 fn begin_line(lines: &mut Lines, form: Form, row: &Row) -> Result<(), AllocError>
     requires { line_len lines.old + LINE_ROOM ≤ line_capacity lines.old }
     ensures value { OnOk result (Begins (line_bytes lines.old)
-        (map (entry_field (row_seen row.now).number (row_seen row.now).body)
-        (entry_columns_of form)) lines.new) }
+        (map (entry_field (row_seen row.now)) (entry_order form)) lines.new) }
     ensures kept { line_delimiter lines.new ≡ line_delimiter lines.old }
     ensures room { IsOk result }
     ensures short { line_len lines.new ≤ line_len lines.old + entry_room }
     ensures capacity { line_capacity lines.old ≤ line_capacity lines.new }
 {
     let bare = row.entry().is_bare();
-    let body = row.entry().body();
     let mut buffer = Buffer::new();
     let number = buffer.format(row.entry().number());
     let columns = entry_columns(form);
-    lines.start(columns[0].field(number, body).as_bytes())?;
+    lines.start(columns[0].field(number, row).as_bytes())?;
     'columns: for i in 1..columns.len() {
-        lines.push_text(columns[i].field(number, body).as_bytes(), bare)?;
+        lines.push_text(columns[i].field(number, row).as_bytes(), bare)?;
     }
     Ok(())
 }
@@ -88,9 +86,7 @@ fn begin_line(lines: &mut Lines, form: Form, row: &Row) -> Result<(), AllocError
 /// Appends the fields of a row behind those of its entry: they are copied as they were written for a table with this
 /// delimiter, and written anew for another.
 fn push_answer(lines: &mut Lines, row: &Row) -> Result<(), AllocError>
-    ensures value { (before : List ℕ) (fields : List (List ℕ)) → 1 ≤ length fields → Begins before fields lines.old
-        → OnOk result (Begins before (fields ++ map (answer_field (row_seen row.now).outcome (row_seen row.now).cells)
-        (answer_columns (row_targets row.now))) lines.new) }
+    ensures value { OnOk result (GainsFields (answer_fields row.now) lines.old lines.new) }
     ensures kept { line_delimiter lines.new ≡ line_delimiter lines.old }
     ensures room { line_len lines.old + ANSWER_ROOM ≤ line_capacity lines.old → IsOk result }
     ensures grows { OnOk result (line_len lines.new ≤ line_len lines.old + ANSWER_ROOM) }
@@ -106,9 +102,7 @@ fn push_answer(lines: &mut Lines, row: &Row) -> Result<(), AllocError>
 /// Appends the fields of a row behind those of its entry, written anew.
 #[inline(never)]
 fn push_other_answer(lines: &mut Lines, row: &Row) -> Result<(), AllocError>
-    ensures value { (before : List ℕ) (fields : List (List ℕ)) → 1 ≤ length fields → Begins before fields lines.old
-        → OnOk result (Begins before (fields ++ map (answer_field (row_seen row.now).outcome (row_seen row.now).cells)
-        (answer_columns (row_targets row.now))) lines.new) }
+    ensures value { OnOk result (GainsFields (answer_fields row.now) lines.old lines.new) }
     ensures kept { line_delimiter lines.new ≡ line_delimiter lines.old }
     ensures room { line_len lines.old + ANSWER_ROOM ≤ line_capacity lines.old → IsOk result }
     ensures grows { OnOk result (line_len lines.new ≤ line_len lines.old + ANSWER_ROOM) }

@@ -18,6 +18,7 @@ use crate::target_lists::TargetList;
 use date_texts::laws::one_cell;
 use date_texts::{MAX_TARGETS, Refusal, Target};
 use day_numbers::Day;
+use std::alloc::AllocError;
 
 /// An entry converted: its day, and the cells of that day for the targets that the row was made for;
 /// or the first refusal that applies. A row always is the row of its entry.
@@ -34,7 +35,8 @@ pub struct Row {
 }
 
 impl Row {
-    ghost use Rattle.std.specs.Prelude.{◌↔◌, ◌∷◌, [], true, MatchOption};
+    ghost use Rattle.std.specs.Prelude.{◌↔◌, ◌<◌, ◌+◌, ◌∷◌, ◌++◌, [], true, IsOk, MatchOption, OnErr, OnOk, vec_capacity};
+    ghost use Rattle.std.specs.Prelude.{vec_len};
     ghost use Rattle.register_records.specs.Tables.{notes_of};
     ghost use Rattle.register_records.specs.Views.{row_seen, row_targets, targets_of};
 
@@ -97,5 +99,23 @@ impl Row {
                 refusal,
             }),
         }
+    }
+
+    /// Appends to a journal what it gains by the row.
+    ///
+    /// # Errors
+    ///
+    /// Out of memory, with the journal as it was, which never comes where the journal has room for one more.
+    pub fn push_note(&self, journal: &mut Vec<Note>) -> Result<(), AllocError>
+        ensures items { OnOk result (journal.new.items
+            ≡ journal.old.items ++ notes_of (row_seen self.now).number (row_seen self.now).outcome) }
+        ensures len { vec_len journal.new ≤ vec_len journal.old + 1 }
+        ensures kept { OnErr result (journal.new.items ≡ journal.old.items) }
+        ensures room { vec_len journal.old < vec_capacity journal.old → IsOk result }
+    {
+        if let Some(note) = self.note() {
+            journal.push(note)?;
+        }
+        Ok(())
     }
 }

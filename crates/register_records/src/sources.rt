@@ -20,7 +20,7 @@ use crate::rows::Row;
 use crate::setups::Setup;
 use crate::writing::RowWriter;
 use date_texts::Refusal;
-use std::alloc::{AllocError, Global};
+use std::alloc::Global;
 use std::io::Read;
 
 /// A refused row: its number in the table, from 1, and its refusal.
@@ -105,17 +105,6 @@ fn certain_cause(cause: Option<Cause>) -> Cause
     }
 }
 
-/// Notes a row that was refused.
-fn push_note(journal: &mut Vec<Note>, row: &Row) -> Result<(), AllocError>
-    ensures { OnOk result (journal.new.items
-        ≡ journal.old.items ++ notes_of (row_seen row.now).number (row_seen row.now).outcome) }
-{
-    if let Some(note) = row.note() {
-        journal.push(note)?;
-    }
-    Ok(())
-}
-
 /// Notes a row that was refused, and writes the row.
 ///
 /// # Errors
@@ -140,7 +129,7 @@ fn write_row<W: Output>(
     ensures sink { IfErr result (λ c. c ≡ Cause.SinkFault → W.has_failed output.new ≡ true) }
     ensures mark { W.own_mark output.new ≡ W.own_mark output.old }
 {
-    if push_note(journal, row).is_err() {
+    if row.push_note(journal).is_err() {
         return Err(Cause::NoMemory);
     }
     match writer.put(output, row) {

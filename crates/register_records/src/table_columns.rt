@@ -3,12 +3,12 @@
 
 ghost use Rattle.std.specs.Prelude.{◌≡◌, ◌≤◌, ℕ, length};
 ghost use Rattle.std.specs.Fmt.{decimal};
-ghost use Rattle.register_records.specs.Columns.{entry_columns as entry_columns_of, entry_field as entry_field_of};
-ghost use Rattle.register_records.specs.Columns.{answer_name, day_columns as day_columns_of, entry_name, of_day};
-ghost use Rattle.register_records.specs.Entries.{body_seen};
 ghost use Rattle.register_records.specs.LineRoom.{column_limit};
+ghost use Rattle.register_records.specs.TableColumns.{day_name, day_order, entry_field, entry_name, entry_order};
+ghost use Rattle.register_records.specs.Views.{row_seen};
 
 use crate::entries::Body;
+use crate::rows::Row;
 use crate::setups::Form;
 
 /// A column that a table has of an entry.
@@ -23,7 +23,7 @@ pub(crate) enum EntryColumn {
 
 /// The columns that a table has of an entry, in order; only a sealed form has notes.
 pub(crate) fn entry_columns(form: Form) -> &'static [EntryColumn]
-    ensures value { result.now ≡ entry_columns_of form }
+    ensures value { result.now ≡ entry_order form }
     ensures some { 1 ≤ length result.now }
 {
     match form {
@@ -61,14 +61,15 @@ impl EntryColumn {
         }
     }
 
-    /// What stands in the column of an entry with this number and this body. A body that was refused has no texts.
+    /// What stands in the column of a row whose number is written so. A body that was refused has no texts.
     #[inline(always)]
-    pub fn field<'a>(self, number: &'a str, body: &'a Body) -> &'a str
-        requires { length number.now ≤ column_limit EntryColumn.Number }
-        ensures value { (n : ℕ) → number.now ≡ decimal n → result.now ≡ entry_field_of n (body_seen body.now) self }
+    pub fn field<'a>(self, number: &'a str, row: &'a Row) -> &'a str
+        requires short { length number.now ≤ column_limit EntryColumn.Number }
+        requires number { number.now ≡ decimal (row_seen row.now).number }
+        ensures value { result.now ≡ entry_field (row_seen row.now) self }
         ensures short { length result.now ≤ column_limit self }
     {
-        match (self, body) {
+        match (self, row.entry().body()) {
             (EntryColumn::Number, _) => number,
             (EntryColumn::Id, Body::Fields { id, .. }) => id.as_str(),
             (EntryColumn::Calendar, Body::Fields { calendar, .. }) => calendar.as_str(),
@@ -88,7 +89,7 @@ pub(crate) enum DayColumn {
 
 /// The columns that a table has of a day, in order.
 pub(crate) fn day_columns() -> &'static [DayColumn]
-    ensures { result.now ≡ day_columns_of }
+    ensures { result.now ≡ day_order }
 {
     &DAY
 }
@@ -98,7 +99,7 @@ const DAY: [DayColumn; 2] = [DayColumn::DayNumber, DayColumn::Weekday];
 impl DayColumn {
     /// The name, which heads the column.
     pub fn name(self) -> &'static str
-        ensures { result.now ≡ answer_name (of_day self) }
+        ensures { result.now ≡ day_name self }
     {
         match self {
             DayColumn::DayNumber => "rd",

@@ -6,7 +6,8 @@ ghost use Rattle.register_records.specs.ShortLists.{items_in};
 ghost use Rattle.register_records.specs.TargetNumbers.{number_of, place_of};
 
 use crate::short_lists::ShortList;
-use date_texts::{Calendar, MAX_TARGETS, Target};
+use date_texts::laws::default_targets;
+use date_texts::{MAX_TARGETS, Target};
 
 /// Targets in order, and their number.
 #[derive(Clone, Copy)]
@@ -65,20 +66,11 @@ fn place(target: Target) -> u8
     ensures value { result ≡ place_of target }
     ensures few { result ≤ MAX_TARGETS }
 {
-    match target {
-        Target::Date(Calendar::Gregorian) => 1,
-        Target::Date(Calendar::Iso) => 2,
-        Target::Date(Calendar::Julian) => 3,
-        Target::Date(Calendar::Coptic) => 4,
-        Target::Date(Calendar::Ethiopic) => 5,
-        Target::Date(Calendar::Egyptian) => 6,
-        Target::Date(Calendar::Armenian) => 7,
-        Target::Date(Calendar::Islamic) => 8,
-        Target::Date(Calendar::Hebrew) => 9,
-        Target::Date(Calendar::Longcount) => 10,
-        Target::Date(Calendar::French) => 11,
-        Target::Date(Calendar::Roman) => 12,
-        Target::Haab => 13,
-        Target::Tzolkin => 14,
+    default_targets();
+    'places: for i in 0..MAX_TARGETS {
+        if Target::ALL[i].name() == target.name() {
+            return i as u8 + 1;
+        }
     }
+    unreachable!()
 }

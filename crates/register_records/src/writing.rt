@@ -35,24 +35,31 @@ pub const MOST_WAITING: usize = 16 * 1024;
 /// How many bytes of lines may wait before more memory is taken for them.
 const ROOM: usize = MOST_WAITING + LINE_ROOM;
 
+/// Whether a writer of rows goes on.
+#[derive(Clone, Copy)]
+pub(crate) enum WriterState {
+    /// No call answered a fault.
+    Open,
+    /// There was no memory for a line. Those before it can be sent.
+    OutOfMemory,
+    /// The output failed.
+    Sunk,
+}
+
 /// Writes rows to an output that is lent to each call. Lines may wait until they are sent together.
 #[derive(Drop)]
 pub struct RowWriter {
     // The lines that were not sent yet.
     lines: Lines,
     form: Form,
-    // A call answered a fault.
-    failed: bool,
-    // The output failed.
-    sunk: bool,
-    ghost sinks: { failed ≡ false → sunk ≡ false },
+    state: WriterState,
     ghost roomy: { ROOM ≤ line_capacity lines },
 }
 
 impl RowWriter {
     ghost use Rattle.register_records.specs.Tables.{heading_line};
     ghost use Rattle.register_records.specs.Views.{format_of, layout_of, line_of};
-    ghost use Rattle.register_records.specs.Views.{waiting_in, writes_by};
+    ghost use Rattle.register_records.specs.Views.{waiting_in, writer_failed, writer_sunk, writes_by};
 
     /// Writes the heading and flushes it.
     ///
@@ -67,7 +74,7 @@ impl RowWriter {
         ensures ok { OnOk result (Appends (W.contents output.old) (W.contents output.new)
             (heading_line (layout_of setup.now))) }
         ensures flushed { OnOk result (W.is_flushed output.new ≡ true) }
-        ensures writer { IfOk result (λ w. (writes_by w ≡ format_of setup.now) × (w.failed ≡ false)
+        ensures writer { IfOk result (λ w. (writes_by w ≡ format_of setup.now) × (writer_failed w ≡ false)
             × (waiting_in w ≡ [])) }
         ensures goes { OnOk result (W.has_failed output.new ≡ W.has_failed output.old) }
         ensures memory { IfErr result (λ e. e ≡ RowFault.OutOfMemory → output.new ≡ output.old) }
@@ -88,8 +95,7 @@ impl RowWriter {
         Ok(RowWriter {
             lines,
             form: setup.form(),
-            failed: false,
-            sunk: false,
+            state: WriterState::Open,
         })
     }
 
@@ -104,17 +110,17 @@ impl RowWriter {
         ensures short { OnOk result (length (waiting_in self.new) ≤ length (waiting_in self.old) + LINE_ROOM) }
         ensures kept { OnErr result (waiting_in self.new ≡ waiting_in self.old) }
         ensures by { writes_by self.new ≡ writes_by self.old }
-        ensures sunk { self.new.sunk ≡ self.old.sunk }
-        ensures fails { self.new.failed ≡ is_err result }
-        ensures memory { self.old.failed ≡ false → IfErr result (λ e. e ≡ RowFault.OutOfMemory) }
+        ensures sunk { writer_sunk self.new ≡ writer_sunk self.old }
+        ensures fails { writer_failed self.new ≡ is_err result }
+        ensures memory { writer_failed self.old ≡ false → IfErr result (λ e. e ≡ RowFault.OutOfMemory) }
         ensures roomy { length (waiting_in self.old) ≤ MOST_WAITING → IfErr result (λ e. e ≢ RowFault.OutOfMemory) }
-        ensures failed { self.old.failed ≡ true → (result ≡ Err RowFault.Failed) × (self.new ≡ self.old) }
+        ensures failed { writer_failed self.old ≡ true → (result ≡ Err RowFault.Failed) × (self.new ≡ self.old) }
     {
-        if self.failed {
+        let WriterState::Open = self.state else {
             return Err(RowFault::Failed);
-        }
+        };
         if self.lines.reserve(LINE_ROOM).is_err() {
-            self.failed = true;
+            self.state = WriterState::OutOfMemory;
             return Err(RowFault::OutOfMemory);
         }
         let Ok(()) = make_row(&mut self.lines, self.form, row) else {
@@ -141,20 +147,19 @@ impl RowWriter {
         ensures flushed { OnOk result (W.is_flushed output.new ≡ true) }
         ensures by { writes_by self.new ≡ writes_by self.old }
         ensures goes { OnOk result (W.has_failed output.new ≡ W.has_failed output.old) }
-        ensures fails { self.new.failed ≡ (self.old.failed || is_err result) }
-        ensures sinks { self.new.sunk ≡ is_err result }
+        ensures fails { writer_failed self.new ≡ (writer_failed self.old || is_err result) }
+        ensures sinks { writer_sunk self.new ≡ is_err result }
         ensures fault { IfErr result (λ e. e ≡ RowFault.WriteFault → W.has_failed output.new ≡ true) }
-        ensures told { self.old.sunk ≡ false → IfErr result (λ e. e ≡ RowFault.WriteFault) }
-        ensures failed { self.old.sunk ≡ true
+        ensures told { writer_sunk self.old ≡ false → IfErr result (λ e. e ≡ RowFault.WriteFault) }
+        ensures failed { writer_sunk self.old ≡ true
             → (result ≡ Err RowFault.Failed) × (output.new ≡ output.old) × (self.new ≡ self.old) }
         ensures mark { W.own_mark output.new ≡ W.own_mark output.old }
     {
-        if self.sunk {
+        if let WriterState::Sunk = self.state {
             return Err(RowFault::Failed);
         }
         if send(output, self.lines.as_slice()).is_err() {
-            self.failed = true;
-            self.sunk = true;
+            self.state = WriterState::Sunk;
             return Err(RowFault::WriteFault);
         }
         self.lines.clear();
@@ -173,15 +178,16 @@ impl RowWriter {
         ensures sent { OnOk result (waiting_in self.new ≡ []) }
         ensures flushed { OnOk result (W.is_flushed output.new ≡ true) }
         ensures by { writes_by self.new ≡ writes_by self.old }
-        ensures goes { OnOk result ((W.has_failed output.new ≡ W.has_failed output.old) × (self.new.sunk ≡ false)) }
-        ensures fails { self.new.failed ≡ is_err result }
+        ensures goes { OnOk result
+            ((W.has_failed output.new ≡ W.has_failed output.old) × (writer_sunk self.new ≡ false)) }
+        ensures fails { writer_failed self.new ≡ is_err result }
         ensures memory { IfErr result (λ e. e ≡ RowFault.OutOfMemory → (output.new ≡ output.old)
-            × (waiting_in self.new ≡ waiting_in self.old) × (self.new.sunk ≡ self.old.sunk)) }
+            × (waiting_in self.new ≡ waiting_in self.old) × (writer_sunk self.new ≡ writer_sunk self.old)) }
         ensures roomy { length (waiting_in self.old) ≤ MOST_WAITING → IfErr result (λ e. e ≢ RowFault.OutOfMemory) }
         ensures fault { IfErr result (λ e. e ≡ RowFault.WriteFault
-            → (W.has_failed output.new ≡ true) × (self.new.sunk ≡ true)) }
-        ensures only_failed { self.old.failed ≡ false → IfErr result (λ e. e ≢ RowFault.Failed) }
-        ensures failed { self.old.failed ≡ true
+            → (W.has_failed output.new ≡ true) × (writer_sunk self.new ≡ true)) }
+        ensures only_failed { writer_failed self.old ≡ false → IfErr result (λ e. e ≢ RowFault.Failed) }
+        ensures failed { writer_failed self.old ≡ true
             → (result ≡ Err RowFault.Failed) × (output.new ≡ output.old) × (self.new ≡ self.old) }
         ensures mark { W.own_mark output.new ≡ W.own_mark output.old }
     {
@@ -195,12 +201,11 @@ impl RowWriter {
     ///
     /// `Failed` exactly where an earlier call answered a fault.
     pub fn end(self) -> Result<(), RowFault>
-        ensures { result ≡ (if self.failed then Err RowFault.Failed else Ok tt) }
+        ensures { result ≡ (if writer_failed self then Err RowFault.Failed else Ok tt) }
     {
-        if self.failed {
-            Err(RowFault::Failed)
-        } else {
-            Ok(())
+        match self.state {
+            WriterState::Open => Ok(()),
+            WriterState::OutOfMemory | WriterState::Sunk => Err(RowFault::Failed),
         }
     }
 }

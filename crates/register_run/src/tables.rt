@@ -6,7 +6,7 @@ ghost use Rattle.std.specs.Option.{is_some};
 ghost use Rattle.std.proofs.Props.{props};
 ghost use Rattle.register_records.specs.Entries.{record_limit};
 ghost use Rattle.register_records.specs.Tables.{notes_of};
-ghost use Rattle.register_records.specs.Views.{row_seen};
+ghost use Rattle.register_records.specs.Views.{row_seen, writer_sunk};
 ghost use Rattle.register_records.specs.declared.sources.Cause.TheVariants as cause;
 ghost use Rattle.register_run.specs.Passages.{is_of_reading};
 
@@ -36,7 +36,7 @@ pub(crate) struct Table<W: Output> {
     ghost marked: { W.own_mark output ≡ W.own_mark given.value },
     ghost failed: { sunk ≡ true → W.has_failed output ≡ true },
     ghost good: { sunk ≡ false → W.has_failed output ≡ W.has_failed given.value },
-    ghost afloat: { sunk ≡ false → IfSome writer (λ w. w.sunk ≡ false) } by { Prim.hlevel props },
+    ghost afloat: { sunk ≡ false → IfSome writer (λ w. writer_sunk w ≡ false) } by { Prim.hlevel props },
     ghost untouched: { is_some writer ≡ false → sunk ≡ false → output ≡ given.value },
     ghost faultless: { fault ≡ None → sunk ≡ false },
     ghost sink_told: { fault ≡ Some cause.SinkFault → sunk ≡ true },
@@ -211,7 +211,7 @@ fn push_note(journal: &mut Vec<Note>, row: &Row)
         ≡ journal.old.items ++ notes_of (row_seen row.now).number (row_seen row.now).outcome }
     ensures len { vec_len journal.new ≤ vec_len journal.old + 1 }
 {
-    if let Some(note) = row.note() {
-        journal.push_reserved(note);
-    }
+    let Ok(()) = row.push_note(journal) else {
+        unreachable!();
+    };
 }

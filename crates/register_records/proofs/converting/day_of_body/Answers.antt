@@ -1,7 +1,7 @@
 use Rattle.std.proofs.Common.{◌≡◌, None, Err, refl, ap, rules}
 use Rattle.register_records.specs.Outcomes.{no_date_text, refused, unknown_calendar}
 use Rattle.date_texts.specs.declared.refusal.Refusal.TheVariants as refusal
-use Rattle.register_records.proofs.OutcomeLemmas.{day-outcome, no_calendar}
+use Rattle.register_records.proofs.OutcomeLemmas.{day_outcome, no_calendar}
 use Rattle.register_records.proofs.converting.day_of_body.Goals as goal
 
 pub returns-in_default : goal.returns-in_default
@@ -25,6 +25,6 @@ returns-in-Ok c =
     let named = (rw c.as_str.ensures.value at c.in-Some.ensures) c.in-Some.calendar in
     let dated = (rw c.as_str-in-Fields.ensures.value at c.in-Ok.ensures.value) c.in-Ok.date in
     let day = c.day_of_date.ensures in
-    rw c.in-Fields.is (day-outcome _ c.in-Some.calendar c.in-Ok.date
+    rw c.in-Fields.is (day_outcome _ c.in-Some.calendar c.in-Ok.date
     (record { named = named.0 refl; dated = dated.0 refl }) c.day_of_date.result
     (day.succeeds, day.value, day.no_such_date, day.out_of_range))

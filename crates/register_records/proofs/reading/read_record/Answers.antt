@@ -1,7 +1,7 @@
 use Rattle.std.proofs.Common.{◌∙◌}
 use Rattle.csv.specs.Records.{fields_of}
 use Rattle.register_records.specs.Retrying.{inner_remaining}
-use Rattle.register_records.proofs.EntrySteps.{reads}
+use Rattle.register_records.proofs.EntryStepLemmas.{reads}
 use Rattle.register_records.proofs.reading.read_record.Goals as goal
 
 pub returns-in-Ok-clause-reads : goal.returns-in-Ok-clause-reads

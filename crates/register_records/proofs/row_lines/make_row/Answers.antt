@@ -1,18 +1,21 @@
-use Rattle.std.proofs.Common.{◌∙◌, map, refl}
-use Rattle.register_records.specs.Columns.{entry_columns, entry_field, row_fields}
+use Rattle.std.proofs.Common.{◌∙◌, ◌++◌, map, sym}
+use Rattle.register_records.specs.Columns.{answer_columns, row_fields}
+use Rattle.register_records.specs.TableColumns.{answer_field, entry_field, entry_order}
 use Rattle.register_records.specs.LineViews.{line_bytes}
 use Rattle.register_records.specs.Views.{row_seen, row_targets}
-use Rattle.register_records.proofs.LineLemmas.{same-line, some_columns, two_of}
+use Rattle.register_records.proofs.LineLemmas.{fields_in_parts, same_line, some_columns, two_of}
 use Rattle.register_records.proofs.row_lines.make_row.Goals as goal
 
 pub returns-clause-value : goal.returns-clause-value
 returns-clause-value c =
     let row = row_seen c.args.row.now in
     let before = line_bytes c.args.lines.now in
-    let entry = map (entry_field row.number row.body) (entry_columns c.args.form) in
-    let fields = row_fields c.args.form (row_targets c.args.row.now) row in
+    let entry = map (entry_field row) (entry_order c.args.form) in
+    let targets = row_targets c.args.row.now in
+    let fields = entry ++ map (answer_field row.outcome row.cells) (answer_columns targets) in
     let all =
-    c.in_ok-push_answer.ensures.value before entry (some_columns c.args.form (entry_field row.number row.body))
+    c.in_ok-push_answer.ensures.value before entry (some_columns c.args.form (entry_field row))
     c.in_ok-begin_line.ensures.value in
-    same-line _ _ before fields fields _ (c.in_ok-push_answer.ensures.kept ∙ c.in_ok-begin_line.ensures.kept) refl
+    same_line _ _ before fields (row_fields c.args.form targets row) _
+    (c.in_ok-push_answer.ensures.kept ∙ c.in_ok-begin_line.ensures.kept) (sym (fields_in_parts c.args.form targets row))
     (c.in_ok-end.ensures.value before fields (two_of entry _ _ _) all)

@@ -13,7 +13,7 @@ use Rattle.register_records.proofs.AnswerLemmas.{one_cells}
 use Rattle.register_records.proofs.row_lines.push_other_answer.Goals as goal
 
 pub returns-clause-value : goal.returns-clause-value
-returns-clause-value c before fields some begun =
+returns-clause-value c =
     let row = c.args.row.now in
     let cells = rw (c.targets.ensures.value, c.outcome.ensures) at c.set.ensures.cells in
     let made = cells_of c.set.new.self in
@@ -27,7 +27,7 @@ returns-clause-value c before fields some begun =
     c.outcome.ensures in
     let same : cells_of c.set.new.self ≡ cells_of row.answer =
     ∥∥₁_elim row.is_row (Prim.hlevel props) (λ is. one_cells c.one_cell.ensures _ _ _ _ cells is.cells) in
-    c.push_fields.ensures.value before fields _ some begun
+    c.push_fields.ensures.value _
     (c.as_slice.ensures.value ∙ written
     ∙ ap (λ (xs : List (List ℕ)).
     answer_text (line_delimiter c.args.lines.now) (row_targets row) (outcome_seen row.outcome) xs) same)

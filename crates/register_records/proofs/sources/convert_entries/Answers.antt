@@ -1,6 +1,6 @@
 use Rattle.std.proofs.Common.{◌≡◌, refl, sym, arith, length, rules}
 use Rattle.register_records.specs.Entries.{HasTooMany}
-use Rattle.register_records.proofs.Progress.{finish, first_rows, front, start, told_of}
+use Rattle.register_records.proofs.ProgressLemmas.{finish, first_rows, front, start, told_of}
 use Rattle.register_records.proofs.sources.convert_entries.Goals as goal
 
 pub entries-init : goal.entries-init

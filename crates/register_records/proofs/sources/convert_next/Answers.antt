@@ -8,7 +8,7 @@ use Rattle.register_records.specs.Seen.{entry_seen, row_made}
 use Rattle.register_records.specs.ShortLists.{items_in}
 use Rattle.register_records.specs.Tables.{row_line}
 use Rattle.register_records.specs.Views.{format_of, given_of, layout_of, targets_of, writes_by}
-use Rattle.register_records.proofs.Progress.{step, told_of}
+use Rattle.register_records.proofs.ProgressLemmas.{step, told_of}
 use Rattle.register_records.proofs.sources.convert_next.Goals as goal
 
 pub returns-in-Ok-false-clause-end : goal.returns-in-Ok-false-clause-end

@@ -1,6 +1,6 @@
 use Rattle.std.proofs.Common.{◌∙◌, sym}
 use Rattle.csv.proofs.WriteFacts.{appends-none}
-use Rattle.register_records.proofs.Progress.{nothing, only_memory}
+use Rattle.register_records.proofs.ProgressLemmas.{nothing, only_memory}
 use Rattle.register_records.proofs.sources.convert_source.Goals as goal
 
 pub returns-in-Err-open-clause-part : goal.returns-in-Err-open-clause-part

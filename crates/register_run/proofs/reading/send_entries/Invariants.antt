@@ -1,7 +1,7 @@
 use Rattle.std.proofs.Common.{◌≡◌, length, map, vec_len, false}
 use Rattle.lane_rings.specs.Lane.{sender_lane}
 use Rattle.register_records.specs.Entries.{AreNumberedFrom}
-use Rattle.register_records.specs.Views.{given_of, reads_by, text_of}
+use Rattle.register_records.specs.Views.{given_of, reader_failed, reads_by, text_of}
 use Rattle.register_records.specs.Views.{format_of}
 use Rattle.register_run.specs.Carried.{AreDealt}
 use Rattle.register_run.specs.Machine.{World}
@@ -13,7 +13,7 @@ invariant-loop g l = record {
   lanes : map sender_lane l.senders.items ≡ map sender_lane l.initial.senders.items;
   text : text_of l.entries ≡ g.R.Read.remaining l.fn.source;
   by : reads_by l.entries ≡ format_of l.setup;
-  goes : l.entries.failed ≡ false;
+  goes : reader_failed l.entries ≡ false;
   count : l.count ≡ length (given_of l.entries);
   numbered : AreNumberedFrom 1 (given_of l.entries);
   deals : (w : World) → w.converters ≡ length l.senders.items → AreDealt w 0 (given_of l.entries) l.senders.items;

@@ -2,13 +2,13 @@ use Rattle.std.proofs.Common.{◌∙◌, ◌++◌, [], ℕ, List, ap, refl, sym}
 use Rattle.csv.specs.Writing.{fields_text}
 use Rattle.register_records.specs.Answers.{answer_bytes}
 use Rattle.register_records.specs.Lines.{writing}
-use Rattle.register_records.proofs.AnswerLemmas.{day-columns, no_columns}
+use Rattle.register_records.proofs.AnswerLemmas.{day_cells, no_columns}
 use Rattle.register_records.proofs.answers.Answer.push_cells.Goals as goal
 
 pub returns-in-Ok-clause-value : goal.returns-in-Ok-clause-value
 returns-in-Ok-clause-value c =
     let (made, are, text, lengths) = c.push_cells_of_day.ensures.value in
-    let columns = day-columns c.in-Ok.day.number 0 made c.args.targets.now made refl are in
+    let columns = day_cells c.in-Ok.day.number 0 made c.args.targets.now made refl are in
     rw c.in-Ok.is (
       made,
       are,

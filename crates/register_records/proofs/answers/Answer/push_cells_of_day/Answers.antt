@@ -2,11 +2,12 @@ use Rattle.std.proofs.Common.{◌≡◌, ◌∙◌, ◌∷◌, ◌++◌, [], ℕ
 use Rattle.std.specs.Prelude.{Ok}
 use Rattle.std.proofs.lemmas.List.{map-append, take_all, take_more}
 use Rattle.csv.specs.Writing.{fields_text}
+use Rattle.date_texts.specs.Cells.{IsCell}
 use Rattle.date_texts.specs.declared.calendar.Target.{Target}
 use Rattle.register_records.specs.Answers.{answer_bytes}
 use Rattle.register_records.specs.Lines.{writing}
 use Rattle.register_records.specs.Outcomes.{AreCells}
-use Rattle.register_records.proofs.AnswerLemmas.{cells_last, more_text}
+use Rattle.register_records.proofs.AnswerLemmas.{more_text, one_more_beside}
 use Rattle.register_records.proofs.answers.Answer.push_cells_of_day.Goals as goal
 
 pub cells-init : goal.cells-init
@@ -27,7 +28,7 @@ cells-preserved c =
     let targets = c.args.targets.now in
     let (made, are, text, lengths) = inv.made in
     let (cell, is, bytes, more) = c.push_cell.ensures.value in
-    let last = cells_last c.args.day.number (take i targets) made _ cell are is in
+    let last = one_more_beside (λ t text. IsCell t c.args.day.number text) (take i targets) made _ cell are is in
     record {
       made = (
         made ++ cell ∷ [],

@@ -1,6 +1,6 @@
 use Rattle.std.proofs.Common.{◌∙◌, ◌+◌, [], append-nil, arith, map, refl, sym, take}
 use Rattle.csv.specs.Writing.{fields_text}
-use Rattle.register_records.specs.Columns.{answer_field, day_columns, of_day}
+use Rattle.register_records.specs.TableColumns.{answer_field, day_column, day_order}
 use Rattle.register_records.specs.Seen.{outcome_seen}
 use Rattle.register_records.specs.declared.table_columns.DayColumn.{DayColumn}
 use Rattle.register_records.proofs.AnswerLemmas.{more_text}
@@ -15,12 +15,12 @@ pub days-preserved : goal.days-preserved
 days-preserved c =
     let inv = c.days.invariant in
     let i = c.days.column-index in
-    let field = λ (column : DayColumn). answer_field (outcome_seen c.args.outcome) [] (of_day column) in
+    let field = λ (column : DayColumn). answer_field (outcome_seen c.args.outcome) [] (day_column column) in
     record {
-      written = more_text c.args.self.now.delimiter (map field (take i day_columns)) _
-          (map field (take (i + 1) day_columns)) _ _ _ inv.written
+      written = more_text c.args.self.now.delimiter (map field (take i day_order)) _
+          (map field (take (i + 1) day_order)) _ _ _ inv.written
           (rw inv.delimiter at c.push_day_column.ensures.value)
-          (one_mapped field day_columns _ i _ c.day_columns-column-items.ensures c.days-test.true);
+          (one_mapped field day_order _ i _ c.day_columns-column-items.ensures c.days-test.true);
       short = omega (arith, c.push_day_column.ensures.grows, inv.short);
       delimiter = c.push_day_column.ensures.kept ∙ inv.delimiter;
     }

@@ -1,6 +1,7 @@
 use Rattle.std.proofs.Common.{◌≡◌, ◌∙◌, ◌++◌, ◌∷◌, [], ℕ, List, ap, append_assoc, drop, length, map, subst, sym}
 use Rattle.register_records.specs.Answers.{answer_bytes, answer_text, cells_of, cut_cells}
-use Rattle.register_records.specs.Columns.{answer_field, cell_columns, day_columns, of_day, refusal}
+use Rattle.register_records.specs.Columns.{cell_columns}
+use Rattle.register_records.specs.TableColumns.{answer_field, day_column, day_order, refusal_column}
 use Rattle.register_records.specs.Outcomes.{AreCells}
 use Rattle.register_records.specs.Seen.{outcome_seen}
 use Rattle.register_records.proofs.AnswerLemmas.{cut_answer, text, whole_answer}
@@ -16,7 +17,7 @@ returns c =
     let two = c.push_day_columns.ensures.kept ∙ one in
     let three = c.push_cells.ensures.kept ∙ two in
     let front = answer_bytes c.push_day_columns.new.self in
-    let first = map (λ column. answer_field o [] (of_day column)) day_columns in
+    let first = map (λ column. answer_field o [] (day_column column)) day_order in
     let days : front ≡ text d first =
     c.push_day_columns.ensures.value
     ∙ ap (λ (t : List ℕ). t ++ text c.clear.new.self.delimiter first) c.clear.ensures.none
@@ -24,11 +25,11 @@ returns c =
     let columns = map (answer_field o cells) (cell_columns 0 targets) in
     let middle : answer_bytes c.push_cells.new.self ≡ front ++ text d columns =
     added ∙ ap (λ e. front ++ text e columns) two in
-    let last = text d (answer_field o [] refusal ∷ []) in
+    let last = text d (answer_field o [] refusal_column ∷ []) in
     let all : answer_bytes c.push_refusal.new.self ≡ (front ++ text d columns) ++ last =
     c.push_refusal.ensures.value
-    ∙ ap (λ (t : List ℕ). t ++ text c.push_cells.new.self.delimiter (answer_field o [] refusal ∷ [])) middle
-    ∙ ap (λ e. (front ++ text d columns) ++ text e (answer_field o [] refusal ∷ [])) three in
+    ∙ ap (λ (t : List ℕ). t ++ text c.push_cells.new.self.delimiter (answer_field o [] refusal_column ∷ [])) middle
+    ∙ ap (λ e. (front ++ text d columns) ++ text e (answer_field o [] refusal_column ∷ [])) three in
     let start : c.push_refusal.new.self.start ≡ length front =
     c.push_refusal.ensures.kept.1 ∙ c.push_cells.ensures.start in
     let same : cells_of c.push_refusal.new.self ≡ cells =

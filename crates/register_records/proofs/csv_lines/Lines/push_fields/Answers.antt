@@ -4,6 +4,6 @@ use Rattle.register_records.specs.LineViews.{line_bytes, line_delimiter}
 use Rattle.register_records.proofs.csv_lines.Lines.push_fields.Goals as goal
 
 pub returns-clause-value : goal.returns-clause-value
-returns-clause-value c before fields more some begun is =
+returns-clause-value c more is before fields some begun =
     more_fields (line_delimiter c.args.self.now) before fields more _ _ some begun
     (c.in_ok-extend_from_slice.ensures.items ∙ ap (λ (t : List ℕ). line_bytes c.args.self.now ++ t) is)

@@ -6,8 +6,8 @@ use Rattle.register_records.specs.ReadingState.{records_left}
 use Rattle.register_records.specs.Retrying.{inner_remaining}
 use Rattle.register_records.specs.ReadingState.{entries_shown}
 use Rattle.register_records.specs.Views.{format_of}
-use Rattle.register_records.proofs.EntrySteps.{at_start, refuses, refuses_none}
-use Rattle.register_records.proofs.GivenLemmas.{first_step, may-first}
+use Rattle.register_records.proofs.EntryStepLemmas.{at_start, refuses, refuses_none}
+use Rattle.register_records.proofs.GivenLemmas.{first_step, may_first}
 use Rattle.register_records.proofs.StepLemmas.{found, found_none}
 use Rattle.register_records.proofs.reading.EntryReader.open.Goals as goal
 use Rattle.register_records.proofs.reading.EntryReader.open.Goals.{then-not-found-via-else-not-found+then-not-is_header}
@@ -58,5 +58,5 @@ invariant_of-result g c =
       live = λ _. c.in_ok-found.ensures.live;
       few = rw c.new-2.ensures.items (omega arith);
       stands = stands;
-      first = may-first _ _ _ _ _ _ stands;
+      first = may_first _ _ _ _ _ stands;
     }

@@ -1,41 +1,30 @@
 -- How far the table of a source has come.
-use Rattle.std.proofs.Common.{◌≡◌, ◌≤◌, ◌+◌, ◌++◌, ℕ, List, [], ◌∷◌, length, Option, refl, sym, ap, ◌∙◌, arith}
-use Rattle.std.proofs.Common.{append_assoc, inl, inr, true}
-use Rattle.std.specs.Prelude.{IfSome, OnOk, Result, Ok, Err, Some, ℤ}
-use Rattle.std.specs.Result.{is_ok}
+use Rattle.std.proofs.Common.{◌≡◌, ◌+◌, ◌++◌, ℕ, List, [], ◌∷◌, length, Option, refl, sym, ap, ◌∙◌, arith}
+use Rattle.std.proofs.Common.{append_assoc, inl, inr}
+use Rattle.std.specs.Prelude.{IfSome, Some}
 use Rattle.std.specs.Io.KnownBytes.{Appends}
 use Rattle.std.proofs.KnownBytes.{Appends-trans}
 use Rattle.std.proofs.Math.Logic.{∥∥₁_map}
 use Rattle.std.proofs.lemmas.List.{append-nil, length-append}
-use Rattle.date_texts.specs.declared.calendar.Target.{Target}
-use Rattle.date_texts.specs.declared.refusal.Refusal.{Refusal}
-use Rattle.register_records.specs.Causes.{entry_fault_cause, row_fault_cause}
+use Rattle.register_records.specs.Causes.{row_fault_cause}
 use Rattle.register_records.specs.Conversions.{Progress}
 use Rattle.register_records.specs.Entries.{AreNumberedFrom, Format, HasEntries, HasFirstEntries, Numbered}
 use Rattle.register_records.specs.Laws.{TablesGrow}
-use Rattle.register_records.specs.Outcomes.{AreRowsOf, IsRowOf, TableRow}
+use Rattle.register_records.specs.Outcomes.{IsRowOf, TableRow}
 use Rattle.register_records.specs.Sources.{ArePartOfTable, Gains, IsFrontOfTable, IsWholeTable}
 use Rattle.register_records.specs.Tables.{Layout, heading_line, journal_of, lines_text, notes_of, row_line, table_text}
-use Rattle.register_records.specs.declared.reading.EntryFault.{EntryFault}
-use Rattle.register_records.specs.declared.reading.EntryFault.TheVariants as entry
 use Rattle.register_records.specs.declared.sources.Cause.{Cause}
 use Rattle.register_records.specs.declared.sources.Cause.TheVariants as cause
 use Rattle.register_records.specs.declared.sources.Note.{Note}
 use Rattle.register_records.specs.declared.writing.RowFault.{RowFault}
 use Rattle.register_records.specs.declared.writing.RowFault.TheVariants as row
+use Rattle.register_records.proofs.AnswerLemmas.{one_more_beside}
 
 -- one more at the end
 numbered_last : (j : ℕ) (entries : List Numbered) (x : Numbered)
     → AreNumberedFrom j entries → x.number ≡ j + length entries → AreNumberedFrom j (entries ++ x ∷ [])
 numbered_last j [] x h e = (omega (arith, e), tt)
 numbered_last j (y ∷ entries) x h e = (h.0, numbered_last (j + 1) entries x h.1 (omega (arith, e)))
-
-rows_last : (targets : List Target) (entries : List Numbered) (rows : List TableRow) (x : Numbered) (row : TableRow)
-    → AreRowsOf targets entries rows → IsRowOf targets x row → AreRowsOf targets (entries ++ x ∷ []) (rows ++ row ∷ [])
-rows_last targets [] [] x row a h = (h, tt)
-rows_last targets [] (z ∷ rows) x row a h = absurd a
-rows_last targets (y ∷ entries) [] x row a h = absurd a
-rows_last targets (y ∷ entries) (z ∷ rows) x row a h = (a.0, rows_last targets entries rows x row a.1 h)
 
 lines_last : (layout : Layout) (rows : List TableRow) (row : TableRow)
     → lines_text layout (rows ++ row ∷ []) ≡ lines_text layout rows ++ row_line layout row
@@ -86,7 +75,7 @@ step layout old now now2 entries journal x row p n r a =
       bytes = p.bytes ++ row_line layout row;
       table = record {
         numbered = numbered_last 1 entries x p.table.numbered (omega (arith, n));
-        converted = rows_last layout.targets entries p.rows x row p.table.converted r;
+        converted = one_more_beside (IsRowOf layout.targets) entries p.rows x row p.table.converted r;
         written = ap (λ (t : List ℕ). t ++ row_line layout row) p.table.written ∙ sym (table_last layout p.rows row);
       };
       gained = Appends-trans old now now2 _ _ p.gained a;
@@ -145,25 +134,6 @@ pub nothing : (layout : Layout) (text old now : Option (List ℕ)) → Appends o
     → ∥ Gains old now (ArePartOfTable layout text) ∥₁
 nothing layout text old now a = ∣ ([], inl refl, a) ∣₁
 
--- the one fault of reading that has this cause
-pub only_too_many : (f : EntryFault) (c : Cause) → entry_fault_cause f ≡ Some c → c ≡ cause.TooManyRecords
-    → f ≡ entry.TooManyRecords
-only_too_many entry.OutOfMemory c a k = cc
-only_too_many entry.ReadFault c a k = cc
-only_too_many entry.BadHeader c a k = cc
-only_too_many entry.TooManyRecords c a k = refl
-only_too_many entry.NotSealed c a k = cc
-only_too_many entry.Failed c a k = cc
-
-pub only_not_sealed : (f : EntryFault) (c : Cause) → entry_fault_cause f ≡ Some c → c ≡ cause.NotSealed
-    → f ≡ entry.NotSealed
-only_not_sealed entry.OutOfMemory c a k = cc
-only_not_sealed entry.ReadFault c a k = cc
-only_not_sealed entry.BadHeader c a k = cc
-only_not_sealed entry.TooManyRecords c a k = cc
-only_not_sealed entry.NotSealed c a k = refl
-only_not_sealed entry.Failed c a k = cc
-
 pub told_of : (Is : Format → List ℕ → Type 0) (d e : Format) (text told : Option (List ℕ)) → told ≡ text → e ≡ d
     → ∥ IfSome told (λ t. Is e t) ∥₁
     → ∥ IfSome text (λ t. Is d t) ∥₁
@@ -175,12 +145,3 @@ pub only_memory : (f : RowFault) (c : Cause) → row_fault_cause f ≡ Some c �
 only_memory row.OutOfMemory c a k = refl
 only_memory row.WriteFault c a k = absurd (k cc)
 only_memory row.Failed c a k = cc
-
-pub ok_so : {T E P : Type 0} (r : Result T E) → is_ok r ≡ true → OnOk r P → P
-ok_so (Ok x) e h = h
-ok_so (Err x) e h = cc
-
--- a row adds one note at most
-pub notes_few : (n : ℕ) (o : Result ℤ Refusal) → length (notes_of n o) ≤ 1
-notes_few n (Ok x) = omega arith
-notes_few n (Err x) = omega arith

@@ -215,8 +215,8 @@ without_header format text not no_header h = refl
 without_header format text not too_many h = absurd (not (h.0, h.1.0, h.1.1, h.1.2))
 without_header format text not not_sealed h = absurd (not (h.0, h.1.0, h.1.1, h.1.2))
 
-pub one-fate : OneFate
-one-fate format text = elim (has_records_of format.form (text_records format.delimiter text)) [
+pub one_fate : OneFate
+one_fate format text = elim (has_records_of format.form (text_records format.delimiter text)) [
   | inl h ↦ of_records format text h.0 (h.1, h.2, h.3)
   | inr not ↦ (no_header, λ after h. not (after, h.0, h.1, h.2), without_header format text not)
 ]

@@ -10,7 +10,7 @@ use Rattle.csv.proofs.ReadFacts.{rows-end, rows-more}
 use Rattle.register_records.specs.Headers.{IsHeader}
 use Rattle.register_records.specs.Entries.{Fields, Format, HasNoHeader, text_records}
 use Rattle.register_records.specs.ReadingState.{Reads, TakesFirst, all_after, records_left}
-use Rattle.register_records.proofs.RecordsLeft.{all_more, all_none}
+use Rattle.register_records.proofs.RecordsLeftLemmas.{all_more, all_none}
 
 one_record : (cfg cfg2 : Config) (s s2 : State) (y z : List ℕ) (f : Fields) → cfg2 ≡ cfg → Reached cfg s y (f ∷ []) s2 z
     → all_after cfg s y ≡ f ∷ all_after cfg2 s2 z

@@ -1,5 +1,5 @@
 -- A text has one table at most.
-use Rattle.std.proofs.Common.{◌≡◌, ℕ, List, [], ◌∷◌, refl, sym, ap, ◌∙◌}
+use Rattle.std.proofs.Common.{◌≡◌, ℕ, List, refl, sym, ap, ◌∙◌}
 use Rattle.std.specs.Prelude.{ℤ, Result, Ok, Err}
 use Rattle.day_numbers.specs.Days.{IsDayNumber}
 use Rattle.date_texts.specs.Calendars.{calendar_name}
@@ -8,7 +8,7 @@ use Rattle.date_texts.specs.DateText.{IsDateText}
 use Rattle.register_records.specs.Entries.{Format, HasEntries, Numbered, Texts, entries_of}
 use Rattle.register_records.specs.Laws.{OneTable}
 use Rattle.date_texts.specs.Names.{IsNamed}
-use Rattle.register_records.specs.Outcomes.{AreCells, AreRowsOf, IsOutcome, IsRowOf, Says, TableRow}
+use Rattle.register_records.specs.Outcomes.{IsOutcome, IsRowOf, Says, TableRow}
 use Rattle.register_records.specs.Outcomes.{accepted, no_date_text, no_such_date, out_of_range, refused}
 use Rattle.register_records.specs.Outcomes.{unknown_calendar}
 use Rattle.date_texts.specs.declared.calendar.Calendar.{Calendar}
@@ -17,28 +17,29 @@ use Rattle.date_texts.specs.declared.date.Date.{Date}
 use Rattle.date_texts.specs.declared.refusal.Refusal.{Refusal}
 use Rattle.date_texts.specs.declared.refusal.Refusal.TheVariants as refusal
 use Rattle.date_texts.proofs.LawWords.{OneCalendar, OneCell, OneDateText}
+use Rattle.register_records.proofs.AnswerLemmas.{one_beside, one_cells}
 
-module _ (one-calendar : OneCalendar) (one_date_text : OneDateText) (one_cell : OneCell) where
+module _ (one_calendar : OneCalendar) (one_date_text : OneDateText) (one_cell : OneCell) where
   -- a text says one date at most
-  one-date : (name text : List ℕ) (c e : Calendar) (d f : Date) → Says name text c d → Says name text e f → d ≡ f
-  one-date name text c e d f h k =
-      let same = one-calendar name e c k.named h.named in
+  one_date : (name text : List ℕ) (c e : Calendar) (d f : Date) → Says name text c d → Says name text e f → d ≡ f
+  one_date name text c e d f h k =
+      let same = one_calendar name e c k.named h.named in
       one_date_text c text d f h.dated (rw (← same) k.dated)
 
   -- a text says no date, or it says one
-  text-clash : (name text : List ℕ) (c e : Calendar) (d : Date) → IsNamed name (calendar_name c)
+  text_clash : (name text : List ℕ) (c e : Calendar) (d : Date) → IsNamed name (calendar_name c)
       → ((f : Date) → ¬ (IsDateText c text f)) → Says name text e d → ⊥
-  text-clash name text c e d n none s = let same = one-calendar name e c s.named n in none d (rw (← same) s.dated)
+  text_clash name text c e d n none s = let same = one_calendar name e c s.named n in none d (rw (← same) s.dated)
 
   -- after each outcome of a body, the other is the same
-  after-refused : (b : Result Texts Refusal) (p : Result ℤ Refusal) (r : Refusal) → IsOutcome b p → b ≡ Err r
+  after_refused : (b : Result Texts Refusal) (p : Result ℤ Refusal) (r : Refusal) → IsOutcome b p → b ≡ Err r
       → Err r ≡ p
-  after-refused b p r (refused {r = q}) e = let same : q ≡ r = cc in ap Err (sym same)
-  after-refused b p r (unknown_calendar {t = u} none) e = cc
-  after-refused b p r (no_date_text {t = u} c named none) e = cc
-  after-refused b p r (no_such_date {t = u} c d says none) e = cc
-  after-refused b p r (out_of_range {t = u} c d says is out) e = cc
-  after-refused b p r (accepted {t = u} c d says is within) e = cc
+  after_refused b p r (refused {r = q}) e = let same : q ≡ r = cc in ap Err (sym same)
+  after_refused b p r (unknown_calendar {t = u} none) e = cc
+  after_refused b p r (no_date_text {t = u} c named none) e = cc
+  after_refused b p r (no_such_date {t = u} c d says none) e = cc
+  after_refused b p r (out_of_range {t = u} c d says is out) e = cc
+  after_refused b p r (accepted {t = u} c d says is within) e = cc
 
   module _ (t : Texts) where
     after_unknown : (b : Result Texts Refusal) (p : Result ℤ Refusal) → IsOutcome b p → b ≡ Ok t
@@ -62,11 +63,11 @@ module _ (one-calendar : OneCalendar) (one_date_text : OneDateText) (one_cell : 
         let same : t ≡ u = cc in absurd (none a (rw same at n))
     after_no_text b p (no_date_text {t = u} c named none) e a n absent = refl
     after_no_text b p (no_such_date {t = u} c d says none) e a n absent =
-        let same : u ≡ t = cc in absurd (text-clash _ _ a c d n absent (rw same at says))
+        let same : u ≡ t = cc in absurd (text_clash _ _ a c d n absent (rw same at says))
     after_no_text b p (out_of_range {t = u} c d says is out) e a n absent =
-        let same : u ≡ t = cc in absurd (text-clash _ _ a c d n absent (rw same at says))
+        let same : u ≡ t = cc in absurd (text_clash _ _ a c d n absent (rw same at says))
     after_no_text b p (accepted {t = u} c d says is within) e a n absent =
-        let same : u ≡ t = cc in absurd (text-clash _ _ a c d n absent (rw same at says))
+        let same : u ≡ t = cc in absurd (text_clash _ _ a c d n absent (rw same at says))
 
     -- what a date says of the outcome
     abbrev DateOutcome : Date → Result ℤ Refusal → Type 0
@@ -80,70 +81,41 @@ module _ (one-calendar : OneCalendar) (one_date_text : OneDateText) (one_cell : 
     of_date b p (refused {r = r}) e a f s = cc
     of_date b p (unknown_calendar {t = u} none) e a f s = let same : t ≡ u = cc in absurd (none a (rw same at s).named)
     of_date b p (no_date_text {t = u} c named none) e a f s =
-        let same : t ≡ u = cc in absurd (text-clash _ _ c a f named none (rw same at s))
+        let same : t ≡ u = cc in absurd (text_clash _ _ c a f named none (rw same at s))
     of_date b p (no_such_date {t = u} c d says none) e a f s =
         let same : u ≡ t = cc in
-        let date = one-date _ _ c a d f (rw same at says) s in
+        let date = one_date _ _ c a d f (rw same at says) s in
         (λ x. refl, λ x y. absurd ((rw date at none) x), λ x y. absurd ((rw date at none) x))
     of_date b p (out_of_range {t = u} c d says is out) e a f s =
         let same : u ≡ t = cc in
-        let date = one-date _ _ c a d f (rw same at says) s in
+        let date = one_date _ _ c a d f (rw same at says) s in
         (λ x. absurd (x (rw date at is)), λ x y. refl, λ x y. absurd ((rw date at out) y))
     of_date b p (accepted {t = u} c d says is within) e a f s =
         let same : u ≡ t = cc in
-        let date = one-date _ _ c a d f (rw same at says) s in
+        let date = one_date _ _ c a d f (rw same at says) s in
         (λ x. absurd (x (rw date at is)), λ x y. absurd (y (rw date at within)), λ x y. rw date refl)
 
   -- a body has one outcome at most
-  one-outcome : (b : Result Texts Refusal) (o p : Result ℤ Refusal) → IsOutcome b o → IsOutcome b p → o ≡ p
-  one-outcome b o p (refused {r = r}) k = after-refused b p r k refl
-  one-outcome b o p (unknown_calendar {t = t} none) k = after_unknown t b p k refl none
-  one-outcome b o p (no_date_text {t = t} c named none) k = after_no_text t b p k refl c named none
-  one-outcome b o p (no_such_date {t = t} c d says none) k = sym ((of_date t b p k refl c d says).0 none)
-  one-outcome b o p (out_of_range {t = t} c d says is out) k = sym ((of_date t b p k refl c d says).1 is out)
-  one-outcome b o p (accepted {t = t} c d says is within) k = sym ((of_date t b p k refl c d says).2 is within)
+  one_outcome : (b : Result Texts Refusal) (o p : Result ℤ Refusal) → IsOutcome b o → IsOutcome b p → o ≡ p
+  one_outcome b o p (refused {r = r}) k = after_refused b p r k refl
+  one_outcome b o p (unknown_calendar {t = t} none) k = after_unknown t b p k refl none
+  one_outcome b o p (no_date_text {t = t} c named none) k = after_no_text t b p k refl c named none
+  one_outcome b o p (no_such_date {t = t} c d says none) k = sym ((of_date t b p k refl c d says).0 none)
+  one_outcome b o p (out_of_range {t = t} c d says is out) k = sym ((of_date t b p k refl c d says).1 is out)
+  one_outcome b o p (accepted {t = t} c d says is within) k = sym ((of_date t b p k refl c d says).2 is within)
 
-  one-cells-on : (n : ℤ) (targets : List Target) (xs ys : List (List ℕ)) → AreCells targets (Ok n) xs
-      → AreCells targets (Ok n) ys → xs ≡ ys
-  one-cells-on n [] [] [] a b = refl
-  one-cells-on n [] [] (y ∷ ys) a b = absurd b
-  one-cells-on n [] (x ∷ xs) ys a b = absurd a
-  one-cells-on n (t ∷ targets) [] ys a b = absurd a
-  one-cells-on n (t ∷ targets) (x ∷ xs) [] a b = absurd b
-  one-cells-on n (t ∷ targets) (x ∷ xs) (y ∷ ys) a b =
-      let first = one_cell t n x y a.0 b.0 in
-      let rest = one-cells-on n targets xs ys a.1 b.1 in
-      cc
-
-  one_cells : (targets : List Target) (o : Result ℤ Refusal) (xs ys : List (List ℕ)) → AreCells targets o xs
-      → AreCells targets o ys → xs ≡ ys
-  one_cells targets (Ok n) xs ys a b = one-cells-on n targets xs ys a b
-  one_cells targets (Err r) xs ys a b = a ∙ sym b
-
-  made-row : (n m : ℕ) (b c : Result Texts Refusal) (o p : Result ℤ Refusal) (xs ys : List (List ℕ)) → n ≡ m → b ≡ c
+  made_row : (n m : ℕ) (b c : Result Texts Refusal) (o p : Result ℤ Refusal) (xs ys : List (List ℕ)) → n ≡ m → b ≡ c
       → o ≡ p → xs ≡ ys
       → ◌≡◌ {A = TableRow} (record { number = n; body = b; outcome = o; cells = xs })
       (record { number = m; body = c; outcome = p; cells = ys })
-  made-row n m b c o p xs ys e f g h = rw (e, f, g, h) refl
+  made_row n m b c o p xs ys e f g h = rw (e, f, g, h) refl
 
-  one-row : (targets : List Target) (entry : Numbered) (r s : TableRow) → IsRowOf targets entry r
+  one_row : (targets : List Target) (entry : Numbered) (r s : TableRow) → IsRowOf targets entry r
       → IsRowOf targets entry s → r ≡ s
-  one-row targets entry r s a b =
-      let same = one-outcome entry.body r.outcome s.outcome a.outcome b.outcome in
-      made-row _ _ _ _ _ _ _ _ (a.number ∙ sym b.number) (a.body ∙ sym b.body) same
-      (one_cells targets s.outcome r.cells s.cells (rw same at a.cells) b.cells)
-
-  one-rows : (targets : List Target) (entries : List Numbered) (rows more : List TableRow)
-      → AreRowsOf targets entries rows → AreRowsOf targets entries more → rows ≡ more
-  one-rows targets [] [] [] a b = refl
-  one-rows targets [] [] (y ∷ more) a b = absurd b
-  one-rows targets [] (x ∷ rows) more a b = absurd a
-  one-rows targets (e ∷ entries) [] more a b = absurd a
-  one-rows targets (e ∷ entries) (x ∷ rows) [] a b = absurd b
-  one-rows targets (e ∷ entries) (x ∷ rows) (y ∷ more) a b =
-      let first = one-row targets e x y a.0 b.0 in
-      let rest = one-rows targets entries rows more a.1 b.1 in
-      cc
+  one_row targets entry r s a b =
+      let same = one_outcome entry.body r.outcome s.outcome a.outcome b.outcome in
+      made_row _ _ _ _ _ _ _ _ (a.number ∙ sym b.number) (a.body ∙ sym b.body) same
+      (one_cells one_cell s.outcome targets r.cells s.cells (rw same at a.cells) b.cells)
 
   one_list : (format : Format) (text : List ℕ) (entries others : List Numbered) → HasEntries format text entries
       → HasEntries format text others → entries ≡ others
@@ -152,7 +124,7 @@ module _ (one-calendar : OneCalendar) (one_date_text : OneDateText) (one_cell : 
       let same : records ≡ records2 = cc in
       made ∙ (ap (entries_of format.form) same ∙ sym made2)
 
-  pub one-table : OneTable
-  one-table layout text entries others rows more h k a b =
+  pub one_table : OneTable
+  one_table layout text entries others rows more h k a b =
       let same = one_list layout.format text entries others h k in
-      (same, one-rows layout.targets others rows more (rw same at a) b)
+      (same, one_beside (IsRowOf layout.targets) (one_row layout.targets) others rows more (rw same at a) b)

@@ -9,10 +9,10 @@ use Rattle.date_texts.proofs.LawWords.{CanonicalTextsReadBack}
 use Rattle.register_records.specs.Laws.{CellsReadBack}
 use Rattle.register_records.specs.Outcomes.{IsOutcome, accepted}
 
-pub cells-read-back : CanonicalTextsReadBack → CellsReadBack
-cells-read-back law calendar n texts within named (on_date date of is day text) some =
+pub cells_read_back : CanonicalTextsReadBack → CellsReadBack
+cells_read_back law calendar n texts within named (on_date date of is day text) some =
     let written = subst (λ x. IsDateText (calendar_of_date date) x date) (sym text) (law date) in
     let dated = subst (λ c. IsDateText c texts.date date) of written in
     subst (λ m. IsOutcome (Ok texts) (Ok m)) day
     (accepted calendar date (record { named = named; dated = dated }) is (subst IsDayNumber (sym day) within))
-cells-read-back law calendar n texts within named (no_date none empty) some = absurd (some empty)
+cells_read_back law calendar n texts within named (no_date none empty) some = absurd (some empty)

@@ -13,7 +13,7 @@ use Rattle.lane_rings.specs.declared.sender.Sender.{Sender}
 use Rattle.register_records.specs.declared.entries.Entry.{Entry}
 use Rattle.register_records.specs.declared.rows.Row.{Row}
 use Rattle.register_run.specs.Carried.{AreDealt}
-use Rattle.register_run.specs.Machine.{World}
+use Rattle.register_run.specs.Worlds.{World}
 use Rattle.register_run.specs.Passages.{HasPassed, IsCauseOf, IsGiven, IsOfThreads, Sends}
 
 pub numbered_more : (k : ℕ) (given : List Numbered) (n : Numbered) → AreNumberedFrom k given

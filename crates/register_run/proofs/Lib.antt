@@ -5,8 +5,7 @@
 --     HistoryLemmas: that some schedule of the machine has the histories of these lanes.
 --   TableLemmas, StationLemmas, SettledLemmas: what is known of one source and its output.
 --   HeadlineLemmas: from there to the clauses of `run` and `run_gated`.
---   ActLemmas, InvariantLemmas, StateLemmas, PlaceLemmas, NextActLemmas, NumberLemmas, PartLemmas, TotalLemmas,
---     ScheduleLemmas: the law `every_schedule`. ScheduleExamples computes schedules, for the definitions.
+--   ScheduleLemmas: the law `every_schedule`, from that of the machine in striped_lanes.
 pub mod ArmLemmas
 pub mod CarriedLemmas
 pub mod DealtLemmas
@@ -20,14 +19,5 @@ pub mod PassageLemmas
 pub mod SettledLemmas
 pub mod StationLemmas
 pub mod TableLemmas
-pub mod TotalLemmas
-pub mod PartLemmas
-pub mod InvariantLemmas
-pub mod ActLemmas
-pub mod StateLemmas
-pub mod NumberLemmas
-pub mod PlaceLemmas
-pub mod NextActLemmas
 pub mod ScheduleLemmas
-pub mod ScheduleExamples
 pub mod HistoryLemmas

@@ -14,7 +14,8 @@ use Rattle.lane_rings.specs.Lane.{taken}
 use Rattle.lane_rings.specs.declared.item.Item.{Item}
 use Rattle.register_records.specs.declared.rows.Row.{Row}
 use Rattle.register_run.specs.Arms.{IsRowNext}
-use Rattle.register_run.specs.Machine.{World, turn}
+use Rattle.striped_lanes.specs.Machine.{turn}
+use Rattle.register_run.specs.Worlds.{World}
 use Rattle.register_run.specs.Popped.{AreOpen, HasLooked, HasLookedAt, HasPopped, IsInTurn}
 use Rattle.register_run.specs.Popped.{popped, popped_from}
 use Rattle.register_run.specs.declared.arms.Ahead.{Ahead}

@@ -10,8 +10,7 @@ pub mod Headline
 pub mod Cases
 pub mod Stations
 pub mod Reports
-pub mod Machine
-pub mod Schedules
+pub mod Worlds
 pub mod EveryScheduleLaw
 pub mod Histories
 pub mod Starts

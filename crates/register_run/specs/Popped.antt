@@ -3,7 +3,8 @@ use Rattle.std.specs.Prelude.{◌≡◌, ◌+◌, ℕ, List, Bool, false, true, 
 use Rattle.lane_rings.specs.Items.{entries_in}
 use Rattle.lane_rings.specs.Lane.{taken}
 use Rattle.register_run.specs.Arms.{IsRowNext}
-use Rattle.register_run.specs.Machine.{World, turn}
+use Rattle.striped_lanes.specs.Machine.{turn}
+use Rattle.register_run.specs.Worlds.{World}
 use Rattle.register_run.specs.declared.arms.Ahead.{Ahead}
 use Rattle.register_run.specs.declared.arms.Ahead.TheVariants as ahead
 use Rattle.register_run.specs.declared.arms.Arm.{Arm}

@@ -5,9 +5,10 @@ ghost use Rattle.std.specs.Prelude.{replicate, true, vec_capacity, vec_len};
 ghost use Rattle.lane_rings.specs.Lane.{sender_lane, sent};
 ghost use Rattle.register_records.specs.Views.{format_of};
 ghost use Rattle.register_run.specs.Arms.{arm_setup, feeding_lane};
-ghost use Rattle.register_run.specs.Machine.{World, turn as turn_in};
 ghost use Rattle.register_run.specs.Passages.{IsOfThreads};
 ghost use Rattle.register_run.specs.Popped.{AreOpen, IsInTurn, popped};
+ghost use Rattle.register_run.specs.Worlds.{World};
+ghost use Rattle.striped_lanes.specs.Machine.{turn as turn_in};
 
 use crate::arms::{Ahead, Arm};
 use crate::gates::Gate;

@@ -1,7 +1,7 @@
 use Rattle.std.proofs.Common.{Err, [], length, refl, subst, sym}
 use Rattle.std.proofs.Math.Logic.{∥∥₁_map}
 use Rattle.date_texts.specs.declared.refusal.Refusal.TheVariants as refusal
-use Rattle.register_run.specs.Machine.{World}
+use Rattle.register_run.specs.Worlds.{World}
 use Rattle.register_run.proofs.ArmLemmas.{took_given}
 use Rattle.register_run.specs.Links.{started_on}
 use Rattle.register_run.specs.Passages.{AreOfLanes}

@@ -3,56 +3,56 @@ use Rattle.std.proofs.Common.{◌≡◌, ◌<◌, ◌≤◌, ◌+◌, ◌*◌, �
 use Rattle.std.proofs.Common.{Bool, true, false, inl, inr, refl, sym, ap, subst, arith}
 use Rattle.std.specs.Prelude.{◌⊎◌, ◌≢◌, map, option_to_list, if◌then◌else◌, slice_get}
 use Rattle.std.proofs.lemmas.Bool.{cases_eq, eq-eqb, ne_eqb}
-use Rattle.register_records.specs.Entries.{Numbered}
-use Rattle.register_run.specs.Machine.{World, Stripe, State, put}
-use Rattle.register_run.specs.Schedules.{total}
-use Rattle.register_run.proofs.PartLemmas.{part}
-use Rattle.register_run.proofs.TotalLemmas.{total_put}
+use Rattle.striped_lanes.specs.Machine.{World, Stripe, State, put}
+use Rattle.striped_lanes.specs.Schedules.{total}
+use Rattle.striped_lanes.proofs.PartLemmas.{part}
+use Rattle.striped_lanes.proofs.TotalLemmas.{total_put}
 
 -- a stripe in which just these entries stand: the first of them, which are converted, as their rows
-pub record Holds (w : World) (entries : List Numbered) (t : Stripe) : Type 0 where
-  pub converted : List Numbered
+pub record Holds {E R : Type 0} (w : World E R) (entries : List E) (t : Stripe E R) : Type 0 where
+  pub converted : List E
   pub rows : t.row_lane ≡ map w.row_of converted
   pub all : converted ++ (option_to_list t.hand ++ t.entry_lane) ≡ entries
   pub room : length t.entry_lane ≤ w.ring
   pub row_room : length t.row_lane ≤ w.ring
 
 -- the entries whose rows are popped, those that stand between the ends, and those that are not yet pushed
-pub record Kept (w : World) (s : State) : Type 0 where
-  pub done : List Numbered
-  pub between : List Numbered
-  pub left : List Numbered
+pub record Kept {E R : Type 0} (w : World E R) (s : State E R) : Type 0 where
+  pub done : List E
+  pub between : List E
+  pub left : List E
   pub entries : w.entries ≡ done ++ (between ++ left)
   pub pushed : s.pushed ≡ length done + length between
   pub popped : s.popped ≡ map w.row_of done
   pub stripes : (i : ℕ) → Holds w (part w.converters i (length done) between) (s.stripes i)
 
 -- how many places the entries of a stripe, and all entries, have come forward
-abbrev pub weight : Stripe → ℕ
+abbrev pub weight : {E R : Type 0} → Stripe E R → ℕ
 weight t = length t.entry_lane + 2 * length (option_to_list t.hand) + 3 * length t.row_lane
 
-abbrev pub progress : World → State → ℕ
+abbrev pub progress : {E R : Type 0} → World E R → State E R → ℕ
 progress w s = 4 * length s.popped + total w.converters (λ i. weight (s.stripes i))
 
 -- one entry has come one place forward
-pub record Steps (w : World) (s t : State) : Type 0 where
+pub record Steps {E R : Type 0} (w : World E R) (s t : State E R) : Type 0 where
   pub kept : Kept w t
   pub further : progress w t ≡ progress w s + 1
 
 -- so the state is another
-pub steps_change : (w : World) (s t : State) → Steps w s t → t ≢ s
+pub steps_change : {E R : Type 0} (w : World E R) (s t : State E R) → Steps w s t → t ≢ s
 steps_change w s t h e = let same = ap (progress w) e in omega (arith, h.further, same)
 
 -- an act changes nothing, or takes an entry one place forward
-abbrev pub StaysOrSteps : World → State → State → Type 0
+abbrev pub StaysOrSteps : {E R : Type 0} → World E R → State E R → State E R → Type 0
 StaysOrSteps w s t = (t ≡ s) ⊎ Steps w s t
 
-pub if_room : (w : World) (s t : State) (b : Bool) → (b ≡ true → Steps w s t)
+pub if_room : {E R : Type 0} (w : World E R) (s t : State E R) (b : Bool) → (b ≡ true → Steps w s t)
     → StaysOrSteps w s (if b then t else s)
 if_room w s t true h = inr (h refl)
 if_room w s t false h = inl refl
 
-pub put_holds : (w : World) (entries : ℕ → List Numbered) (old : ℕ → Stripe) (i : ℕ) (t : Stripe)
+pub put_holds : {E R : Type 0} (w : World E R) (entries : ℕ → List E) (old : ℕ → Stripe E R) (i : ℕ)
+    (t : Stripe E R)
     → Holds w (entries i) t → ((j : ℕ) → (j ≡ i → ⊥) → Holds w (entries j) (old j))
     → (j : ℕ) → Holds w (entries j) (put old i t j)
 put_holds w entries old i t own others j =
@@ -61,7 +61,7 @@ put_holds w entries old i t own others j =
       | inr n ↦ rw (ne_eqb j i n) (others j n)
     ]
 
-pub put_further : (w : World) (old : ℕ → Stripe) (i : ℕ) (t : Stripe) → i < w.converters
+pub put_further : {E R : Type 0} (w : World E R) (old : ℕ → Stripe E R) (i : ℕ) (t : Stripe E R) → i < w.converters
     → total w.converters (λ j. weight (put old i t j)) + weight (old i)
     ≡ total w.converters (λ j. weight (old j)) + weight t
 put_further w old i t h = total_put w.converters weight old i t h

@@ -1,33 +1,18 @@
 -- The machine at work: a schedule that pops every row, the most that can stand in a stripe, and checksums of the states
 -- that all short schedules lead to. A plain program of its own, a test of register_run_tests,
 -- comes to the same checksums.
-use Rattle.std.proofs.Common.{◌≡◌, ◌+◌, ◌*◌, ◌++◌, ℕ, zero, suc, List, [], ◌∷◌, Err, refl}
-use Rattle.std.specs.Prelude.{◌==◌, ◌%◌, if◌then◌else◌, fold, map, option_to_list}
-use Rattle.date_texts.specs.declared.refusal.Refusal.TheVariants as refusal
-use Rattle.register_records.specs.Entries.{Numbered}
-use Rattle.register_records.specs.Outcomes.{TableRow}
-use Rattle.register_run.specs.Machine.{World, Stripe, State, Actor, Reader, Converter, Writer, act, start}
-use Rattle.register_run.specs.Schedules.{run, standing}
+use Rattle.std.proofs.Common.{◌≡◌, ◌+◌, ◌*◌, ◌++◌, ℕ, zero, suc, List, [], ◌∷◌, refl}
+use Rattle.std.specs.Prelude.{◌==◌, ◌%◌, if◌then◌else◌, fold, option_to_list}
+use Rattle.striped_lanes.specs.Machine.{World, Stripe, State, Actor, Reader, Converter, Writer, act, start}
+use Rattle.striped_lanes.specs.Schedules.{run, standing}
 
--- entries of which only the numbers count, and their rows
-abbrev entry : ℕ → Numbered
-entry k = record { number = k; body = Err refusal.NotUtf8 }
-
-abbrev row : Numbered → TableRow
-row e = record { number = e.number; body = e.body; outcome = Err refusal.NotUtf8; cells = [] }
-
-abbrev up_to : ℕ → List Numbered
+-- the entries are numbers, and the row of each is its number
+abbrev up_to : ℕ → List ℕ
 up_to zero = []
-up_to (suc n) = up_to n ++ entry (suc n) ∷ []
+up_to (suc n) = up_to n ++ suc n ∷ []
 
-abbrev world : ℕ → ℕ → ℕ → World
-world n c r = record { entries = up_to n; row_of = row; converters = c; ring = r }
-
-abbrev row_numbers : List TableRow → List ℕ
-row_numbers rows = map (λ r. r.number) rows
-
-abbrev entry_numbers : List Numbered → List ℕ
-entry_numbers entries = map (λ e. e.number) entries
+abbrev world : ℕ → ℕ → ℕ → World ℕ ℕ
+world n c r = record { entries = up_to n; row_of = λ entry. entry; converters = c; ring = r }
 
 -- every row is popped, whatever acts that change nothing stand between the others
 abbrev some_rounds : List Actor
@@ -35,7 +20,7 @@ some_rounds =
     Writer ∷ Reader ∷ Reader ∷ Reader ∷ Converter 1 ∷ Converter 1 ∷ Writer ∷ Converter 0 ∷ Reader ∷ Converter 0
     ∷ Converter 0 ∷ Writer ∷ Writer ∷ Converter 0 ∷ Converter 5 ∷ Writer ∷ Writer ∷ []
 
-three_rows : row_numbers (run (world 3 2 1) some_rounds start).popped ≡ 1 ∷ 2 ∷ 3 ∷ []
+three_rows : (run (world 3 2 1) some_rounds start).popped ≡ 1 ∷ 2 ∷ 3 ∷ []
 three_rows = refl
 
 -- with lanes of one item, three entries stand in a stripe: c (2 r + 1) is reached
@@ -46,17 +31,17 @@ full_stripe : standing (world 4 1 1) (run (world 4 1 1) without_writer start) �
 full_stripe = refl
 
 -- a state as one number: how many entries are pushed, the numbers in each place, and a zero after each place
-abbrev places_of : Stripe → List ℕ
+abbrev places_of : Stripe ℕ ℕ → List ℕ
 places_of t =
-    row_numbers t.row_lane ++ 0 ∷ entry_numbers (option_to_list t.hand) ++ 0 ∷ entry_numbers t.entry_lane ++ 0 ∷ []
+    t.row_lane ++ 0 ∷ option_to_list t.hand ++ 0 ∷ t.entry_lane ++ 0 ∷ []
 
-abbrev code_of : State → ℕ
+abbrev code_of : State ℕ ℕ → ℕ
 code_of s =
     fold (λ n digit. n * 10 + digit) s.pushed
-    (row_numbers s.popped ++ 0 ∷ places_of (s.stripes 0) ++ places_of (s.stripes 1))
+    (s.popped ++ 0 ∷ places_of (s.stripes 0) ++ places_of (s.stripes 1))
 
 -- the states that all schedules of so many acts lead to, added up in the order of their actors
-abbrev checksum : World → List Actor → ℕ → State → ℕ → ℕ
+abbrev checksum : World ℕ ℕ → List Actor → ℕ → State ℕ ℕ → ℕ → ℕ
 checksum w actors zero s sum = (sum * 31 + code_of s) % 1000000007
 checksum w actors (suc acts) s sum = fold (λ n actor. checksum w actors acts (act w actor s) n) sum actors
 
@@ -65,10 +50,10 @@ actors_of c =
     if c == 1 then Reader ∷ Converter 0 ∷ Writer ∷ [] else Reader ∷ Converter 0 ∷ Converter 1 ∷ Writer ∷ []
 
 -- of five acts, from the start and from a state in the middle
-abbrev middle : World → State
+abbrev middle : World ℕ ℕ → State ℕ ℕ
 middle w = run w (Reader ∷ Converter 0 ∷ Converter 0 ∷ Reader ∷ []) start
 
-abbrev checksum_of : World → ℕ
+abbrev checksum_of : World ℕ ℕ → ℕ
 checksum_of w = checksum w (actors_of w.converters) 5 (middle w) (checksum w (actors_of w.converters) 5 start 0)
 
 -- with one, two and three entries

@@ -1,8 +1,8 @@
 -- Sums over stripes, and values that change at one number.
 use Rattle.std.proofs.Common.{inl, inr, ◌≡◌, ◌<◌, ◌≤◌, ◌+◌, ◌*◌, ℕ, zero, suc, refl, sym, ap, arith}
 use Rattle.std.proofs.lemmas.Bool.{cases_eq, eq-eqb, ne_eqb}
-use Rattle.register_run.specs.Machine.{put}
-use Rattle.register_run.specs.Schedules.{total}
+use Rattle.striped_lanes.specs.Machine.{put}
+use Rattle.striped_lanes.specs.Schedules.{total}
 
 pub put_other : {X : Type 0} (old : ℕ → X) (i j : ℕ) (x : X) → (j ≡ i → ⊥) → put old i x j ≡ old j
 put_other old i j x other = rw (ne_eqb j i other) refl

@@ -3,15 +3,14 @@ use Rattle.std.proofs.Common.{◌≡◌, ◌<◌, ◌≤◌, ◌+◌, ◌*◌, �
 use Rattle.std.proofs.Common.{sym, ap, ◌∙◌, arith, length-append}
 use Rattle.std.specs.Prelude.{map, option_to_list}
 use Rattle.std.proofs.lemmas.List.{length-map, map-append, take_at}
-use Rattle.register_records.specs.Entries.{Numbered}
-use Rattle.register_run.specs.Machine.{World, State}
-use Rattle.register_run.specs.Schedules.{standing, standing_in}
-use Rattle.register_run.specs.EveryScheduleLaw.{ArePoppedInOrder}
-use Rattle.register_run.proofs.InvariantLemmas.{Kept, weight, progress}
-use Rattle.register_run.proofs.PartLemmas.{part, part_lengths}
-use Rattle.register_run.proofs.TotalLemmas.{total_bound, total_le, total_same, total_times}
+use Rattle.striped_lanes.specs.Machine.{World, State}
+use Rattle.striped_lanes.specs.Schedules.{standing, standing_in}
+use Rattle.striped_lanes.specs.Places.{ArePoppedInOrder}
+use Rattle.striped_lanes.proofs.InvariantLemmas.{Kept, weight, progress}
+use Rattle.striped_lanes.proofs.PartLemmas.{part, part_lengths}
+use Rattle.striped_lanes.proofs.TotalLemmas.{total_bound, total_le, total_same, total_times}
 
-module _ (w : World) (some_converters : 0 < w.converters) (s : State) (v : Kept w s) where
+module _ {E R : Type 0} (w : World E R) (some_converters : 0 < w.converters) (s : State E R) (v : Kept w s) where
   pub popped_count : length s.popped ≡ length v.done
   popped_count = ap length v.popped ∙ length-map v.done w.row_of
 
@@ -46,7 +45,7 @@ module _ (w : World) (some_converters : 0 < w.converters) (s : State) (v : Kept 
       total_same c (λ i. standing_in (s.stripes i)) (λ i. length (part c i d v.between)) (λ i l. stripe_count i)
       ∙ part_lengths c d v.between some_converters
 
-  hand_bound : (o : Option Numbered) → length (option_to_list o) ≤ 1
+  hand_bound : (o : Option E) → length (option_to_list o) ≤ 1
   hand_bound None = omega arith
   hand_bound (Some x) = omega arith
 

@@ -3,9 +3,9 @@ use Rattle.std.proofs.Common.{inl, inr, ◌≡◌, ◌<◌, ◌+◌, ◌++◌, �
 use Rattle.std.specs.Prelude.{◌%◌, ◌==◌, if◌then◌else◌}
 use Rattle.std.proofs.lemmas.Bool.{cases_eq, eq-eqb, ne_eqb}
 use Rattle.std.proofs.lemmas.Nat.{mod_below}
-use Rattle.register_run.specs.Machine.{put}
-use Rattle.register_run.specs.Schedules.{total}
-use Rattle.register_run.proofs.TotalLemmas.{total_put, total_same, total_zero}
+use Rattle.striped_lanes.specs.Machine.{put}
+use Rattle.striped_lanes.specs.Schedules.{total}
+use Rattle.striped_lanes.proofs.TotalLemmas.{total_put, total_same, total_zero}
 
 -- of items that are dealt to c stripes by turns, the first to stripe k % c: those of stripe i
 abbrev pub part : {X : Type 0} → ℕ → ℕ → ℕ → List X → List X

@@ -1,9 +1,10 @@
 -- Lanes that carried what the machine deals have the histories of the machine's lanes.
 use Rattle.std.proofs.Common.{◌≡◌, ◌∙◌, ◌+◌, ◌-◌, ◌<◌, ℕ, List, [], ◌∷◌, true, false, ap, arith, map, refl, sym}
 use mathlib.Core.Bool.{beq}
-use Rattle.std.specs.Prelude.{◌==◌, Bool, Err, IfOk, Ok, Option, Result, if◌then◌else◌, is_ok, length, nat_le, nat_lt}
+use Rattle.std.specs.Prelude.{◌==◌, Bool, Err, IfOk, Ok, Option, Result, if◌then◌else◌, is_ok, length, nat_le, nat_lt, replicate}
 use Rattle.std.proofs.Math.Logic.{∥∥₁_map}
 use Rattle.std.proofs.lemmas.Bool.{leb-true, lt-ltb}
+use Rattle.std.proofs.lemmas.List.{length-map, length-replicate}
 use Rattle.std.proofs.lemmas.Slice.Zip.{AllZip-long}
 use Rattle.lane_rings.specs.declared.sender.Closed.{Closed}
 use Rattle.register_records.specs.Entries.{AreNumberedFrom, Numbered}
@@ -14,16 +15,16 @@ use Rattle.register_records.specs.declared.setups.Setup.{Setup}
 use Rattle.register_records.specs.declared.sources.Cause.{Cause}
 use Rattle.striped_lanes.specs.Histories.{entries_over, rows_over}
 use Rattle.striped_lanes.specs.Machine.{Actor, start, turn}
+use Rattle.striped_lanes.specs.Places.{table_rows}
+use Rattle.striped_lanes.specs.Schedules.{run}
 use Rattle.striped_lanes.proofs.OneByOneLemmas.{all_entries, all_popped, all_rows, one_by_one}
 use Rattle.striped_lanes.proofs.PartLemmas.{part}
-use Rattle.register_run.specs.Arms.{HasPassedOn, HavePassedOn, feeding_lane}
+use Rattle.register_run.specs.Arms.{HasPassedOn, HavePassedOn, arm_setup, feeding_lane}
 use Rattle.register_run.specs.Carried.{WereDealt, dealt}
-use Rattle.register_run.specs.Histories.{AreOfMachine, HaveHistories}
-use Rattle.register_run.specs.Links.{IsOfMachine, started_by}
+use Rattle.register_run.specs.Histories.{HaveHistories, IsOfMachine}
 use Rattle.register_run.specs.Passages.{AreOfLanes, HasSent}
 use Rattle.register_run.specs.Worlds.{World}
 use Rattle.register_run.specs.declared.arms.Arm.{Arm}
-use Rattle.register_run.specs.declared.links.Link.{Link}
 use Rattle.register_run.proofs.ArmLemmas.{and_left}
 
 -- what is dealt by numbers is what is dealt by places
@@ -52,19 +53,21 @@ have_histories w schedule given i (arm ∷ arms) (c ∷ closed) es rs on deals =
     )
 
 -- the lanes of arms that passed all on have the histories of the machine's lanes in a schedule
-pub of_machine : (given : List Numbered) (ring : ℕ) (arms : List Arm) (closed : List (Closed Entry)) → 0 < ring
-    → AreNumberedFrom 1 given → HavePassedOn true arms closed
-    → ((w : World) → w.converters ≡ length closed → WereDealt w 0 given closed) → AreOfMachine given ring arms closed
-of_machine given ring arms closed some numbered on deals w is many size =
+of_machine : (given : List Numbered) (stripes ring : ℕ) (arms : List Arm) (closed : List (Closed Entry)) → 0 < ring
+    → length arms ≡ stripes → AreNumberedFrom 1 given → HavePassedOn true arms closed
+    → ((w : World) → w.converters ≡ length closed → WereDealt w 0 given closed)
+    → (w : World) → w.entries ≡ given → w.converters ≡ stripes → w.ring ≡ ring
+    → (schedule : List Actor) × ((run w schedule start).popped ≡ table_rows w) × HaveHistories w schedule 0 arms closed
+of_machine given stripes ring arms closed some staffed numbered on deals w is many size =
     let room : nat_lt 0 w.ring ≡ true = lt-ltb 0 w.ring (omega (arith, some, size)) in
     let schedule = one_by_one w 0 given in (
       schedule,
-      all_popped w room given [] 0 [] is refl refl,
+      all_popped w room given [] 0 [] is refl refl ∙ ap (map w.row_of) (sym is),
       have_histories w schedule given 0 arms closed
           (λ j. all_entries w room given [] 0 [] is refl refl j ∙ sym (dealt_part w j 0 given numbered))
           (λ j. all_rows w room given [] 0 [] is refl refl j
           ∙ ap (λ (l : List Numbered). map w.row_of l) (sym (dealt_part w j 0 given numbered)))
-          on (deals w (many ∙ sym (AllZip-long (HasPassedOn true) arms closed on))),
+          on (deals w (many ∙ sym staffed ∙ sym (AllZip-long (HasPassedOn true) arms closed on))),
     )
 
 some_room : (setup : Setup) → 0 < setup.ring
@@ -72,20 +75,29 @@ some_room setup =
     let least = leb-true 1 setup.ring (and_left (nat_le 1 setup.ring) (nat_le setup.ring largest_ring) setup.rings) in
     omega (arith, least)
 
--- a link that ended with a count
-pub link_of_machine : {R : Type 0} (text : Option (List ℕ)) (link : Link R) (closed : List (Closed Entry))
+staff : (setup : Setup) (arms : List Arm) → map arm_setup arms ≡ replicate setup.stripes setup
+    → length arms ≡ setup.stripes
+staff setup arms staffed =
+    sym (length-map arms arm_setup) ∙ ap length staffed ∙ length-replicate setup.stripes setup
+
+-- threads that ended with a count
+pub joined_of_machine : (text : Option (List ℕ)) (setup : Setup) (arms : List Arm) (closed : List (Closed Entry))
     (outcome : Result ℕ Cause) (ended told : Bool) → beq ended told ≡ true → told ≡ is_ok outcome
-    → AreOfLanes (map feeding_lane link.arms.items) closed
-    → ∥ HasSent text (format_of (started_by link)) outcome closed ∥₁ → HavePassedOn ended link.arms.items closed
-    → IfOk outcome (λ count. ∥ IsOfMachine text count link ∥₁)
-link_of_machine text link closed (Err cause) ended told same is from sent on = tt
-link_of_machine text link closed (Ok count) true told same is from sent on =
-    ∥∥₁_map sent (λ (given, so, deals). (
-      given,
-      closed,
-      so,
-      from,
-      of_machine given (started_by link).ring link.arms.items closed (some_room (started_by link)) so.numbered on deals,
-    ))
-link_of_machine text link closed (Ok count) false true same is from sent on = cc
-link_of_machine text link closed (Ok count) false false same is from sent on = cc
+    → map arm_setup arms ≡ replicate setup.stripes setup → AreOfLanes (map feeding_lane arms) closed
+    → ∥ HasSent text (format_of setup) outcome closed ∥₁ → HavePassedOn ended arms closed
+    → IfOk outcome (λ count. ∥ IsOfMachine text setup count arms ∥₁)
+joined_of_machine text setup arms closed (Err cause) ended told same is staffed from sent on = tt
+joined_of_machine text setup arms closed (Ok count) true told same is staffed from sent on =
+    ∥∥₁_map sent (λ (given, so, deals). record {
+      given = given;
+      closed = closed;
+      counted = sym so.all.0;
+      numbered = so.numbered;
+      entries = so.all.1;
+      staffed = staffed;
+      lanes = from;
+      schedule = of_machine given setup.stripes setup.ring arms closed (some_room setup) (staff setup arms staffed)
+          so.numbered on deals;
+    })
+joined_of_machine text setup arms closed (Ok count) false true same is staffed from sent on = cc
+joined_of_machine text setup arms closed (Ok count) false false same is staffed from sent on = cc

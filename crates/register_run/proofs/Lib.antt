@@ -1,5 +1,5 @@
 -- Which file serves which public clause:
---   ArmLemmas, FeedLemmas, PassageLemmas, GivenLemmas, FrontLemmas, MoveLemmas: that the rows that were taken from a
+--   ArmLemmas, LinkLemmas, PassageLemmas, GivenLemmas, FrontLemmas, MoveLemmas: that the rows that were taken from a
 --     source's lanes are those of its entries. CarriedLemmas, DealtLemmas, PoppedLemmas: that each lane carries what
 --     the machine deals to its stripe, in order, and that the writer goes by the machine's turns.
 --     HistoryLemmas: that some schedule of the machine has the histories of these lanes.
@@ -10,7 +10,7 @@ pub mod ArmLemmas
 pub mod CarriedLemmas
 pub mod DealtLemmas
 pub mod PoppedLemmas
-pub mod FeedLemmas
+pub mod LinkLemmas
 pub mod FrontLemmas
 pub mod GivenLemmas
 pub mod MoveLemmas

@@ -3,7 +3,6 @@ pub mod Passages
 pub mod Arms
 pub mod Popped
 pub mod Links
-pub mod Feeds
 pub mod TablesWritten
 pub mod Written
 pub mod Headline
@@ -13,4 +12,3 @@ pub mod Reports
 pub mod Worlds
 pub mod EveryScheduleLaw
 pub mod Histories
-pub mod Starts

@@ -8,16 +8,13 @@
 
 mod arms;
 mod converting;
-mod feeds;
 mod gates;
-mod joining;
 pub mod laws;
 mod links;
 mod reading;
 mod reports;
 mod running;
 mod settling;
-mod starting;
 mod stations;
 mod tables;
 mod turns;

@@ -3,12 +3,13 @@
 ghost use Rattle.std.specs.Prelude.{◌≡◌, ◌≢◌, ◌<◌, ◌≤◌, ◌↔◌, [], All, IfErr, IfOk, IsErrAnd, map, true};
 ghost use Rattle.std.specs.Prelude.{vec_capacity, vec_len};
 ghost use Rattle.register_records.specs.Sources.{is_whole_end};
-ghost use Rattle.register_run.specs.Cases.{cases, end_of, ended_case, output_of, setup_of};
-ghost use Rattle.register_run.specs.Reports.{IsReport, setups_of};
+ghost use Rattle.register_run.specs.Cases.{cases, end_of, ended_case, output_of, ran_of};
+ghost use Rattle.register_run.specs.Histories.{AreOfMachine};
+ghost use Rattle.register_run.specs.Reports.{IsReport, arms_of};
 ghost use Rattle.register_run.specs.Stations.{case_of};
 
 use crate::gates::{Gate, Open};
-use crate::reports::{Report, RunFault, RunFaultKind, Verdict};
+use crate::reports::{Ran, Report, RunFault, RunFaultKind, Verdict};
 use crate::settling::Settled;
 use crate::stations::Station;
 use lane_rings::Patience;
@@ -16,7 +17,6 @@ use register_records::{Output, Setup, SourceEnd};
 use std::alloc::{AllocError, Global};
 use std::io::Read;
 use std::num::NonZeroUsize;
-use std::snapshot::Snapshot;
 use std::sync::Wait;
 use std::thread;
 use std::thread::{Scope, Threads};
@@ -130,37 +130,37 @@ fn report<R: Read + Drop, W: Output + Drop>(
     settled: Vec<Settled<R, W>>,
     outputs: Vec<W>,
     ends: Vec<SourceEnd>,
-    setups: Vec<Snapshot<Setup>>,
+    ran: Vec<Ran>,
 ) -> Report<W>
     requires room { (vec_len settled ≤ vec_capacity outputs) × (vec_len settled ≤ vec_capacity ends)
-        × (vec_len settled ≤ vec_capacity setups) }
-    requires none { (outputs.items ≡ []) × (ends.items ≡ []) × (setups.items ≡ []) }
+        × (vec_len settled ≤ vec_capacity ran) }
+    requires none { (outputs.items ≡ []) × (ends.items ≡ []) × (ran.items ≡ []) }
     ensures outputs { result.outputs.items ≡ map output_of settled.items }
     ensures ends { result.ends.items ≡ map end_of settled.items }
-    ensures setups { setups_of result ≡ map setup_of settled.items }
+    ensures ran { result.ran.items ≡ map ran_of settled.items }
     ensures verdict { (result.verdict ≡ Verdict.Complete) ↔ All (λ e. is_whole_end e ≡ true) result.ends.items }
 {
     let mut outputs = outputs;
     let mut ends = ends;
-    let mut setups = setups;
+    let mut ran = ran;
     for one in settled {
         let Settled {
             source: _,
             given: _,
-            setup,
+            ran: one_ran,
             output,
             end,
         } = one;
         outputs.push_reserved(output);
         ends.push_reserved(end);
-        setups.push_reserved(setup);
+        ran.push_reserved(one_ran);
     }
     let verdict = verdict_of(&ends);
     Report {
         outputs,
         ends,
         verdict,
-        setups,
+        ran,
     }
 }
 
@@ -183,11 +183,11 @@ struct Lists<R: Read, W: Output> {
     settled: Vec<Settled<R, W>>,
     outputs: Vec<W>,
     ends: Vec<SourceEnd>,
-    setups: Vec<Snapshot<Setup>>,
+    ran: Vec<Ran>,
     ghost empty: { (stations.items ≡ []) × (settled.items ≡ []) × (outputs.items ≡ []) × (ends.items ≡ [])
-        × (setups.items ≡ []) },
+        × (ran.items ≡ []) },
     ghost room: { (count ≤ vec_capacity stations) × (count ≤ vec_capacity settled) × (count ≤ vec_capacity outputs)
-        × (count ≤ vec_capacity ends) × (count ≤ vec_capacity setups) },
+        × (count ≤ vec_capacity ends) × (count ≤ vec_capacity ran) },
 }
 
 /// Makes the lists, with room for so many sources.
@@ -201,14 +201,14 @@ fn reserve<R: Read + Drop, W: Output + Drop>(
     let settled = Vec::with_capacity(alloc, count)?;
     let outputs = Vec::with_capacity(alloc, count)?;
     let ends = Vec::with_capacity(alloc, count)?;
-    let setups = Vec::with_capacity(alloc, count)?;
+    let ran = Vec::with_capacity(alloc, count)?;
     Ok(Lists {
         count,
         stations,
         settled,
         outputs,
         ends,
-        setups,
+        ran,
     })
 }
 
@@ -242,8 +242,9 @@ fn run_all<
     lists: Lists<R, W>,
 ) -> Report<W>
     requires { (vec_len sources ≡ lists.count) × (vec_len outputs ≡ lists.count) }
-    ensures { IsReport R.remaining W.contents W.has_failed W.is_flushed W.own_mark
+    ensures report { IsReport R.remaining W.contents W.has_failed W.is_flushed W.own_mark
         setup.entry.now sources.items outputs.items result }
+    ensures machine { AreOfMachine R.remaining setup.entry.now sources.items result.ends.items (arms_of result) }
 {
     let Lists {
         count: _,
@@ -251,7 +252,7 @@ fn run_all<
         settled,
         outputs: written,
         ends,
-        setups,
+        ran,
     } = lists;
     let patience = patience_for(rt, sources.len());
     let mut stations = start_all(
@@ -264,7 +265,7 @@ fn run_all<
         &mut stations,
     );
     let settled = settle_all(rt, stations, settled);
-    report(settled, written, ends, setups)
+    report(settled, written, ends, ran)
 }
 
 /// The run, with threads that end before it answers.
@@ -283,8 +284,9 @@ fn run_in_scope<
     lists: Lists<R, W>,
 ) -> Report<W>
     requires { (vec_len sources ≡ lists.count) × (vec_len outputs ≡ lists.count) }
-    ensures { IsReport R.remaining W.contents W.has_failed W.is_flushed W.own_mark
+    ensures report { IsReport R.remaining W.contents W.has_failed W.is_flushed W.own_mark
         setup.now sources.items outputs.items result }
+    ensures machine { AreOfMachine R.remaining setup.now sources.items result.ends.items (arms_of result) }
 {
     thread::scope(
         thread::scope_env(),
@@ -292,7 +294,8 @@ fn run_in_scope<
         move |scope| -> Report<W>
             requires { (vec_len sources ≡ lists.count) × (vec_len outputs ≡ lists.count) }
             ensures { IsReport R.remaining W.contents W.has_failed W.is_flushed W.own_mark
-                setup.entry.now sources.items outputs.items result }
+                setup.entry.now sources.items outputs.items result
+                × AreOfMachine R.remaining setup.entry.now sources.items result.ends.items (arms_of result) }
         { run_all(scope, rt, gate, alloc, setup, sources, outputs, lists) },
     )
 }
@@ -327,6 +330,11 @@ pub fn run_gated<
     ensures report { IfOk result (λ r.
         IsReport R.remaining W.contents W.has_failed W.is_flushed W.own_mark
         setup.now sources.items outputs.items r) }
+
+    // The lanes of a source that is whole carried just what the lanes of the machine of striped lanes carry in some
+    // schedule with the entries of its text, for which `laws::every_schedule` says what holds.
+    ensures machine { IfOk result (λ r.
+        AreOfMachine R.remaining setup.now sources.items r.ends.items (arms_of r)) }
 
     // A run that did not begin.
     ensures unchanged { IfErr result (λ e. (e.sources ≡ sources) × (e.outputs ≡ outputs)) }
@@ -377,6 +385,11 @@ pub fn run<T: Threads + Wait + Clock + CpuClock + Sync, R: Read + Send + Drop, W
     ensures report { IfOk result (λ r.
         IsReport R.remaining W.contents W.has_failed W.is_flushed W.own_mark
         setup.now sources.items outputs.items r) }
+
+    // The lanes of a source that is whole carried just what the lanes of the machine of striped lanes carry in some
+    // schedule with the entries of its text, for which `laws::every_schedule` says what holds.
+    ensures machine { IfOk result (λ r.
+        AreOfMachine R.remaining setup.now sources.items r.ends.items (arms_of r)) }
 
     // A run that did not begin.
     ensures unchanged { IfErr result (λ e. (e.sources ≡ sources) × (e.outputs ≡ outputs)) }

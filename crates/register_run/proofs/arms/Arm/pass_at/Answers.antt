@@ -3,7 +3,7 @@ use Rattle.std.proofs.Math.Seq.{map-set_same}
 use Rattle.register_run.specs.Arms.{ArmTook, IsRowNext, arm_setup, feeding_lane}
 use Rattle.register_run.proofs.ArmLemmas.{any_set}
 use Rattle.register_run.proofs.PoppedLemmas.{popped_at}
-use Rattle.register_run.proofs.joining.pass_at.Goals as goal
+use Rattle.register_run.proofs.arms.Arm.pass_at.Goals as goal
 
 pub returns-clause-lanes : goal.returns-clause-lanes
 returns-clause-lanes c =

@@ -3,7 +3,7 @@ use Rattle.std.specs.Vec.Iter.{into_iter_items}
 use Rattle.register_run.specs.Arms.{feeding_lane}
 use Rattle.register_run.specs.Passages.{AreOfLanes}
 use Rattle.register_run.proofs.ArmLemmas.{and_left, and_right, begin_passed, end_passed, from_tail, more_passed}
-use Rattle.register_run.proofs.joining.join_arms.Goals as goal
+use Rattle.register_run.proofs.arms.Arm.join_all.Goals as goal
 
 pub loop-arm-init : goal.loop-arm-init
 loop-arm-init g c =

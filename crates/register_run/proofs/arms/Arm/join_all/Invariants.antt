@@ -3,7 +3,7 @@ use Rattle.std.specs.Prelude.{Bool}
 use Rattle.std.specs.Vec.Iter.{into_iter_items}
 use Rattle.register_run.specs.Arms.{HavePassedOn, feeding_lane}
 use Rattle.register_run.specs.Passages.{AreOfLanes}
-use Rattle.register_run.proofs.joining.join_arms.Given as goal
+use Rattle.register_run.proofs.arms.Arm.join_all.Given as goal
 
 abbrev pub invariant-loop-arm : goal.invariant-loop-arm
 invariant-loop-arm g l = let arms = into_iter_items l.arm-iterator in let closed = into_iter_items l.rest in record {

@@ -2,7 +2,7 @@ use Rattle.std.proofs.Common.{subst, rules}
 use Rattle.std.specs.Prelude.{IfSome}
 use Rattle.register_run.specs.Arms.{ArmTook}
 use Rattle.register_run.proofs.ArmLemmas.{some_here}
-use Rattle.register_run.proofs.joining.row_at.Goals as goal
+use Rattle.register_run.proofs.arms.Arm.row_at.Goals as goal
 
 pub returns : goal.returns
 returns c =

@@ -1,4 +1,4 @@
--- What a link sees of its arms. No public contract cites this file.
+-- What a link sees of its arms.
 use Rattle.std.specs.Prelude.{◌≡◌, ◌⊎◌, ⊤, List, [], ◌∷◌, ◌++◌, Bool, map, replicate, true}
 use Rattle.std.specs.List.{AllZip, Contains}
 use mathlib.Core.List.{IsPrefix}

@@ -1,4 +1,4 @@
--- What the lanes of a source carry, in order. No public contract cites this file.
+-- What the lanes of a source carry, in order.
 use Rattle.std.specs.Prelude.{◌≡◌, ◌+◌, ◌-◌, ◌==◌, ⊤, ℕ, List, [], ◌∷◌, Some, map}
 use Rattle.std.specs.List.{filter}
 use mathlib.Core.List.{IsPrefix}

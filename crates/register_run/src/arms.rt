@@ -5,13 +5,11 @@ ghost use Rattle.lane_rings.specs.Lane.{lane_capacity, receiver_lane, sender_lan
 
 use crate::converting::{Converting, convert_entries};
 use crate::gates::Gate;
-use lane_rings::{Closed, Item, Patience, Receiver, Sender, Unconfirmed, patient_lane};
+use crate::starting::{Host, Starting};
+use lane_rings::{Closed, Item, Receiver, Sender, Unconfirmed, patient_lane};
 use register_records::{Cause, Entry, Row, Setup};
-use std::alloc::Global;
 use std::snapshot::Snapshot;
-use std::sync::Wait;
-use std::thread::{Promise, PromisedHandle, Scope, Threads};
-use std::time::{Clock, CpuClock};
+use std::thread::{Promise, PromisedHandle, Threads};
 
 /// The lanes that a converter was started with.
 #[derive(Drop)]
@@ -93,24 +91,20 @@ impl Arm {
     /// # Errors
     ///
     /// `NoMemory` where a lane is refused its memory, and `NoThread` where the thread does not start.
-    pub(crate) fn start<'s, 'e, T: Threads + Wait + Clock + CpuClock + Sync, G: Gate + Sync>(
-        scope: &'s Scope<'s, &'e ()>,
-        rt: &'e T,
-        gate: &'e G,
-        alloc: Global,
-        patience: Patience,
-        setup: &'e Setup,
+    pub(crate) fn start<'s, 'e, T: Host, G: Gate + Sync>(
+        by: &Starting<'s, 'e, T, G>,
     ) -> Result<(Sender<Entry>, Arm), StartFault>
         ensures lane { IfOk result (λ r. feeding_lane r.1 ≡ sender_lane r.0) }
         ensures fresh { IfOk result (λ r. sent r.0 ≡ []) }
         ensures untaken { IfOk result (λ r. taken r.1.rows ≡ []) }
-        ensures setup { IfOk result (λ r. arm_setup r.1 ≡ setup.entry.now) }
+        ensures setup { IfOk result (λ r. arm_setup r.1 ≡ by.now.setup.now) }
     {
-        let Ok((sender, entries)) = patient_lane::<Entry>(alloc, setup.ring(), patience) else {
+        let (rt, gate, setup) = (by.rt, by.gate, by.setup);
+        let Ok((sender, entries)) = patient_lane::<Entry>(by.alloc, setup.ring(), by.patience) else {
             return Err(StartFault::NoMemory);
         };
-        let further = patience.a_lane_further();
-        let Ok((row_sender, rows)) = patient_lane::<Row>(alloc, setup.ring(), further) else {
+        let further = by.patience.a_lane_further();
+        let Ok((row_sender, rows)) = patient_lane::<Row>(by.alloc, setup.ring(), further) else {
             return Err(StartFault::NoMemory);
         };
         let feeding = Snapshot::of(&sender);
@@ -118,7 +112,7 @@ impl Arm {
             entries: Snapshot::of(&entries),
             rows: Snapshot::of(&row_sender),
         };
-        let worker = scope.spawn_with(
+        let worker = by.scope.spawn_with(
             lanes,
             move || -> Converting
                 requires { (sent row_sender ≡ []) × (taken entries ≡ []) }

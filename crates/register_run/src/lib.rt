@@ -15,6 +15,7 @@ mod reading;
 mod reports;
 mod running;
 mod settling;
+mod starting;
 mod stations;
 mod tables;
 mod turns;

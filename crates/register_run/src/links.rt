@@ -14,16 +14,14 @@ ghost use Rattle.striped_lanes.specs.Machine.{turn as turn_in};
 
 use crate::arms::{Arm, Found, StartFault};
 use crate::gates::Gate;
-use crate::reading::{Reading, ReaderTask, read_source};
+use crate::reading::{ReaderTask, Reading, read_source};
+use crate::starting::{Host, Starting};
 use crate::turns::turn_behind;
-use lane_rings::{Patience, Sender};
+use lane_rings::Sender;
 use register_records::{Cause, Entry, Row, Setup};
-use std::alloc::Global;
 use std::io::Read;
 use std::snapshot::Snapshot;
-use std::sync::Wait;
-use std::thread::{PromisedHandle, Scope, Threads};
-use std::time::{Clock, CpuClock};
+use std::thread::{PromisedHandle, Threads};
 
 /// A reader and its arms, or why there are none.
 #[derive(Drop)]
@@ -55,26 +53,21 @@ impl<R: Read + Drop> Link<R> {
     ghost use Rattle.register_run.specs.Links.{IsNext, Passed, started_by, started_on};
 
     /// Starts the threads of a source. Where they do not start, the source is dropped and the link has the cause.
-    pub(crate) fn start<'s, 'e, T: Threads + Wait + Clock + CpuClock + Sync, G: Gate + Sync>(
-        scope: &'s Scope<'s, &'e ()>,
-        rt: &'e T,
-        gate: &'e G,
-        alloc: Global,
-        patience: Patience,
-        setup: &'e Setup,
+    pub(crate) fn start<'s, 'e, T: Host, G: Gate + Sync>(
+        by: &Starting<'s, 'e, T, G>,
         source: R,
     ) -> Link<R>
     where
         R: Send + 'e,
         ensures source { started_on result ≡ source }
-        ensures setup { started_by result ≡ setup.entry.now }
+        ensures setup { started_by result ≡ by.now.setup.now }
     {
         let was = Snapshot::of(&source);
-        let by = Snapshot::of(setup);
-        match start_threads(scope, rt, gate, alloc, patience, setup, source) {
+        let setup = Snapshot::of(by.setup);
+        match start_threads(by, source) {
             Ok((reader, arms)) => Link {
                 source: was,
-                setup: by,
+                setup,
                 reader: Ok(reader),
                 arms,
                 turn: 0,
@@ -82,9 +75,9 @@ impl<R: Read + Drop> Link<R> {
             },
             Err(fault) => Link {
                 source: was,
-                setup: by,
+                setup,
                 reader: Err(fault),
-                arms: Vec::new(alloc),
+                arms: Vec::new(by.alloc),
                 turn: 0,
                 stopped: true,
             },
@@ -188,31 +181,27 @@ impl<R: Read + Drop> Link<R> {
 fn start_threads<
     's,
     'e,
-    T: Threads + Wait + Clock + CpuClock + Sync,
+    T: Host,
     R: Read + Send + Drop + 'e,
     G: Gate + Sync,
 >(
-    scope: &'s Scope<'s, &'e ()>,
-    rt: &'e T,
-    gate: &'e G,
-    alloc: Global,
-    patience: Patience,
-    setup: &'e Setup,
+    by: &Starting<'s, 'e, T, G>,
     source: R,
 ) -> Result<(PromisedHandle<Reading, ReaderTask<R>>, Vec<Arm>), StartFault>
-    ensures reads { IfOk result (λ t. IsReaderOf source setup.entry.now t.1.items t.0.promise) }
+    ensures reads { IfOk result (λ t. IsReaderOf source by.now.setup.now t.1.items t.0.promise) }
     ensures unpopped { IfOk result (λ t. popped t.1.items ≡ 0) }
 {
+    let (rt, alloc, setup) = (by.rt, by.alloc, by.setup);
     let Ok(closed) = Vec::with_capacity(alloc, setup.stripes()) else {
         return Err(StartFault::NoMemory);
     };
-    let Fan { arms, senders } = Fan::start(scope, rt, gate, alloc, patience, setup)?;
+    let Fan { arms, senders } = Fan::start(by)?;
     let task = ReaderTask {
         source: Snapshot::of(&source),
         setup: Snapshot::of(setup),
         senders: Snapshot::of(&senders),
     };
-    let reader = scope.spawn_with(
+    let reader = by.scope.spawn_with(
         task,
         move || -> Reading
             requires { (0 < vec_len senders) × (vec_len senders ≤ vec_capacity closed) × (closed.items ≡ [])
@@ -301,38 +290,33 @@ struct Fan {
 
 impl Fan {
     /// Starts the converters of a source.
-    fn start<'s, 'e, T: Threads + Wait + Clock + CpuClock + Sync, G: Gate + Sync>(
-        scope: &'s Scope<'s, &'e ()>,
-        rt: &'e T,
-        gate: &'e G,
-        alloc: Global,
-        patience: Patience,
-        setup: &'e Setup,
+    fn start<'s, 'e, T: Host, G: Gate + Sync>(
+        by: &Starting<'s, 'e, T, G>,
     ) -> Result<Fan, StartFault>
         ensures fed { IfOk result (λ f. map feeding_lane f.arms.items ≡ map sender_lane f.senders.items) }
-        ensures count { IfOk result (λ f. (vec_len f.senders ≡ setup.entry.now.stripes)
-            × (vec_len f.arms ≡ setup.entry.now.stripes)) }
+        ensures count { IfOk result (λ f. (vec_len f.senders ≡ by.now.setup.now.stripes)
+            × (vec_len f.arms ≡ by.now.setup.now.stripes)) }
         ensures fresh { IfOk result (λ f. All (λ s. sent s ≡ []) f.senders.items) }
         ensures setups { IfOk result (λ f. map arm_setup f.arms.items
-            ≡ replicate setup.entry.now.stripes setup.entry.now) }
+            ≡ replicate by.now.setup.now.stripes by.now.setup.now) }
         ensures unpopped { IfOk result (λ f. popped f.arms.items ≡ 0) }
     {
-        let stripes = setup.stripes();
-        let Ok(mut arms) = Vec::with_capacity(alloc, stripes) else {
+        let stripes = by.setup.stripes();
+        let Ok(mut arms) = Vec::with_capacity(by.alloc, stripes) else {
             return Err(StartFault::NoMemory);
         };
-        let Ok(mut senders) = Vec::with_capacity(alloc, stripes) else {
+        let Ok(mut senders) = Vec::with_capacity(by.alloc, stripes) else {
             return Err(StartFault::NoMemory);
         };
         for _ in 0..stripes {
-            match Arm::start(scope, rt, gate, alloc, patience, setup) {
+            match Arm::start(by) {
                 Ok((sender, arm)) => {
                     senders.push_reserved(sender);
                     arms.push_reserved(arm);
                 }
                 Err(cause) => {
                     drop(senders);
-                    Arm::call_off_all(rt, arms);
+                    Arm::call_off_all(by.rt, arms);
                     return Err(cause);
                 }
             }

@@ -11,6 +11,7 @@ ghost use Rattle.register_run.specs.Stations.{case_of};
 use crate::gates::{Gate, Open};
 use crate::reports::{Ran, Report, RunFault, RunFaultKind, Verdict};
 use crate::settling::Settled;
+use crate::starting::{Host, Starting};
 use crate::stations::Station;
 use lane_rings::Patience;
 use register_records::{Output, Setup, SourceEnd};
@@ -19,7 +20,7 @@ use std::io::Read;
 use std::num::NonZeroUsize;
 use std::sync::Wait;
 use std::thread;
-use std::thread::{Scope, Threads};
+use std::thread::Threads;
 use std::time::{Clock, CpuClock};
 
 /// The most sources of a run.
@@ -36,17 +37,12 @@ fn patience_for(rt: &impl Threads, sources: usize) -> Patience {
 fn start_all<
     's,
     'e,
-    T: Threads + Wait + Clock + CpuClock + Sync,
+    T: Host,
     R: Read + Send + Drop + 'e,
     W: Output + Drop,
     G: Gate + Sync,
 >(
-    scope: &'s Scope<'s, &'e ()>,
-    rt: &'e T,
-    gate: &'e G,
-    alloc: Global,
-    patience: Patience,
-    setup: &'e Setup,
+    by: &Starting<'s, 'e, T, G>,
     sources: Vec<R>,
     outputs: Vec<W>,
     stations: Vec<Station<R, W>>,
@@ -55,7 +51,7 @@ fn start_all<
     requires room { vec_len sources ≤ vec_capacity stations }
     requires none { stations.items ≡ [] }
     ensures len { vec_len result ≡ vec_len sources }
-    ensures cases { map case_of result.items ≡ cases setup.entry.now sources.items outputs.items }
+    ensures cases { map case_of result.items ≡ cases by.now.setup.now sources.items outputs.items }
 {
     let mut stations = stations;
     let mut rest = outputs.into_iter();
@@ -63,9 +59,7 @@ fn start_all<
         let Some(output) = rest.next() else {
             unreachable!()
         };
-        stations.push_reserved(Station::start(
-            scope, rt, gate, alloc, patience, setup, source, output,
-        ));
+        stations.push_reserved(Station::start(by, source, output));
     }
     stations
 }
@@ -227,24 +221,20 @@ fn refused<R, W>(kind: RunFaultKind, sources: Vec<R>, outputs: Vec<W>) -> RunFau
 fn run_all<
     's,
     'e,
-    T: Threads + Wait + Clock + CpuClock + Sync,
+    T: Host,
     R: Read + Send + Drop + 'e,
     W: Output + Drop,
     G: Gate + Sync,
 >(
-    scope: &'s Scope<'s, &'e ()>,
-    rt: &'e T,
-    gate: &'e G,
-    alloc: Global,
-    setup: &'e Setup,
+    by: &Starting<'s, 'e, T, G>,
     sources: Vec<R>,
     outputs: Vec<W>,
     lists: Lists<R, W>,
 ) -> Report<W>
     requires { (vec_len sources ≡ lists.count) × (vec_len outputs ≡ lists.count) }
     ensures report { IsReport R.remaining W.contents W.has_failed W.is_flushed W.own_mark
-        setup.entry.now sources.items outputs.items result }
-    ensures machine { AreOfMachine R.remaining setup.entry.now sources.items result.ends.items (arms_of result) }
+        by.now.setup.now sources.items outputs.items result }
+    ensures machine { AreOfMachine R.remaining by.now.setup.now sources.items result.ends.items (arms_of result) }
 {
     let Lists {
         count: _,
@@ -254,27 +244,16 @@ fn run_all<
         ends,
         ran,
     } = lists;
-    let patience = patience_for(rt, sources.len());
-    let mut stations = start_all(
-        scope, rt, gate, alloc, patience, setup, sources, outputs, stations,
-    );
+    let mut stations = start_all(by, sources, outputs, stations);
     // This thread is two lanes further than the readers.
-    drive(
-        rt,
-        patience.a_lane_further().a_lane_further(),
-        &mut stations,
-    );
-    let settled = settle_all(rt, stations, settled);
+    let patience = by.patience.a_lane_further().a_lane_further();
+    drive(by.rt, patience, &mut stations);
+    let settled = settle_all(by.rt, stations, settled);
     report(settled, written, ends, ran)
 }
 
 /// The run, with threads that end before it answers.
-fn run_in_scope<
-    T: Threads + Wait + Clock + CpuClock + Sync,
-    R: Read + Send + Drop,
-    W: Output + Drop,
-    G: Gate + Sync,
->(
+fn run_in_scope<T: Host, R: Read + Send + Drop, W: Output + Drop, G: Gate + Sync>(
     rt: &T,
     gate: &G,
     alloc: Global,
@@ -288,6 +267,7 @@ fn run_in_scope<
         setup.now sources.items outputs.items result }
     ensures machine { AreOfMachine R.remaining setup.now sources.items result.ends.items (arms_of result) }
 {
+    let patience = patience_for(rt, sources.len());
     thread::scope(
         thread::scope_env(),
         rt,
@@ -296,7 +276,17 @@ fn run_in_scope<
             ensures { IsReport R.remaining W.contents W.has_failed W.is_flushed W.own_mark
                 setup.entry.now sources.items outputs.items result
                 × AreOfMachine R.remaining setup.entry.now sources.items result.ends.items (arms_of result) }
-        { run_all(scope, rt, gate, alloc, setup, sources, outputs, lists) },
+        {
+            let by = Starting {
+                scope,
+                rt,
+                gate,
+                alloc,
+                patience,
+                setup,
+            };
+            run_all(&by, sources, outputs, lists)
+        },
     )
 }
 

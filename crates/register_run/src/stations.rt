@@ -9,14 +9,11 @@ use crate::arms::Found;
 use crate::gates::Gate;
 use crate::links::Link;
 use crate::settling::Settled;
+use crate::starting::{Host, Starting};
 use crate::tables::Table;
-use lane_rings::Patience;
-use register_records::{Output, Setup};
-use std::alloc::Global;
+use register_records::Output;
 use std::io::Read;
-use std::sync::Wait;
-use std::thread::{Scope, Threads};
-use std::time::{Clock, CpuClock};
+use std::thread::Threads;
 
 /// How many items are taken at most before a source's lines are written and the next source has its turn.
 const MOST_AT_ONCE: u32 = 1024;
@@ -37,23 +34,18 @@ impl<R: Read + Drop, W: Output + Drop> Station<R, W> {
     ghost use Rattle.register_run.specs.Stations.{case_of};
 
     /// Starts the threads of a source.
-    pub(crate) fn start<'s, 'e, T: Threads + Wait + Clock + CpuClock + Sync, G: Gate + Sync>(
-        scope: &'s Scope<'s, &'e ()>,
-        rt: &'e T,
-        gate: &'e G,
-        alloc: Global,
-        patience: Patience,
-        setup: &'e Setup,
+    pub(crate) fn start<'s, 'e, T: Host, G: Gate + Sync>(
+        by: &Starting<'s, 'e, T, G>,
         source: R,
         output: W,
     ) -> Station<R, W>
     where
         R: Send + 'e,
-        ensures { case_of result ≡ case source output setup.entry.now }
+        ensures { case_of result ≡ case source output by.now.setup.now }
     {
-        let table = Table::new(alloc, output, setup);
+        let table = Table::new(by.alloc, output, by.setup);
         Station {
-            link: Link::start(scope, rt, gate, alloc, patience, setup, source),
+            link: Link::start(by, source),
             table,
             open: true,
         }

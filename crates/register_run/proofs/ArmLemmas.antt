@@ -15,7 +15,7 @@ use Rattle.register_records.specs.declared.rows.Row.{Row}
 use Rattle.register_run.specs.declared.arms.Arm.{Arm}
 use Rattle.register_run.specs.Arms.{AnyTook, ArmTook, HasPassedOn, HavePassedOn, feeding_lane}
 use Rattle.register_run.specs.Carried.{HasEnded, WereDealt, carried, dealt, row_entries, rows_carried}
-use Rattle.register_run.specs.Machine.{World}
+use Rattle.register_run.specs.Worlds.{World}
 use Rattle.register_run.specs.Passages.{AreOfLanes, IsOfGiven}
 use Rattle.register_run.proofs.CarriedLemmas.{entry_within, map_within, prefix_within}
 use Rattle.register_run.proofs.DealtLemmas.{dealt_within}

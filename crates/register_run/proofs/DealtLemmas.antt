@@ -18,7 +18,8 @@ use Rattle.register_records.specs.Entries.{Numbered}
 use Rattle.register_records.specs.Seen.{entry_seen}
 use Rattle.register_records.specs.declared.entries.Entry.{Entry}
 use Rattle.register_run.specs.Carried.{AreDealt, HasEnded, WereDealt, carried, dealt}
-use Rattle.register_run.specs.Machine.{World, turn}
+use Rattle.striped_lanes.specs.Machine.{turn}
+use Rattle.register_run.specs.Worlds.{World}
 use Rattle.register_run.proofs.CarriedLemmas.{one_more}
 
 module _ (w : World) (given more : List Numbered) (e : Numbered) (is : more ≡ given ++ e ∷ []) where

@@ -13,7 +13,7 @@ use Rattle.lane_rings.specs.declared.sender.Sender.{Sender}
 use Rattle.register_records.specs.declared.entries.Entry.{Entry}
 use Rattle.register_records.specs.declared.rows.Row.{Row}
 use Rattle.register_run.specs.Carried.{AreDealt}
-use Rattle.register_run.specs.Machine.{World}
+use Rattle.register_run.specs.Worlds.{World}
 use Rattle.register_run.specs.Passages.{HasPassed, IsCauseOf, IsGiven, IsOfThreads, Sends}
 
 pub numbered_more : (k : ℕ) (given : List Numbered) (n : Numbered) → AreNumberedFrom k given
@@ -22,29 +22,15 @@ numbered_more k [] n h e = (omega arith, tt)
 numbered_more k (first ∷ rest) n h e = (h.0, numbered_more (k + 1) rest n h.1 (omega arith))
 
 -- the cause tells the fault
-header_told : (f : EntryFault) (c : Cause) → IsCauseOf f c → c ≡ cause.BadHeader → f ≡ fault.BadHeader
-header_told fault.OutOfMemory c is e = cc
-header_told fault.ReadFault c is e = cc
-header_told fault.BadHeader c is e = refl
-header_told fault.TooManyRecords c is e = cc
-header_told fault.NotSealed c is e = cc
-header_told fault.Failed c is e = cc
-
-many_told : (f : EntryFault) (c : Cause) → IsCauseOf f c → c ≡ cause.TooManyRecords → f ≡ fault.TooManyRecords
-many_told fault.OutOfMemory c is e = cc
-many_told fault.ReadFault c is e = cc
-many_told fault.BadHeader c is e = cc
-many_told fault.TooManyRecords c is e = refl
-many_told fault.NotSealed c is e = cc
-many_told fault.Failed c is e = cc
-
-unsealed_told : (f : EntryFault) (c : Cause) → IsCauseOf f c → c ≡ cause.NotSealed → f ≡ fault.NotSealed
-unsealed_told fault.OutOfMemory c is e = cc
-unsealed_told fault.ReadFault c is e = cc
-unsealed_told fault.BadHeader c is e = cc
-unsealed_told fault.TooManyRecords c is e = cc
-unsealed_told fault.NotSealed c is e = refl
-unsealed_told fault.Failed c is e = cc
+fault_told : (f : EntryFault) (c : Cause) → IsCauseOf f c
+    → (c ≡ cause.BadHeader → f ≡ fault.BadHeader) × (c ≡ cause.TooManyRecords → f ≡ fault.TooManyRecords)
+    × (c ≡ cause.NotSealed → f ≡ fault.NotSealed)
+fault_told fault.OutOfMemory c is = (λ e. cc, λ e. cc, λ e. cc)
+fault_told fault.ReadFault c is = (λ e. cc, λ e. cc, λ e. cc)
+fault_told fault.BadHeader c is = (λ e. refl, λ e. cc, λ e. cc)
+fault_told fault.TooManyRecords c is = (λ e. cc, λ e. refl, λ e. cc)
+fault_told fault.NotSealed c is = (λ e. cc, λ e. cc, λ e. refl)
+fault_told fault.Failed c is = (λ e. cc, λ e. cc, λ e. cc)
 
 module _ (text : Option (List ℕ)) (format : Format) where
   -- the text was not opened
@@ -56,9 +42,9 @@ module _ (text : Option (List ℕ)) (format : Format) where
     numbered = tt;
     first = inl refl;
     all = tt;
-    bad_header = λ e. (refl, bad (header_told f c is e));
-    too_many = λ e. absurd (many (many_told f c is e));
-    not_sealed = λ e. absurd (unsealed (unsealed_told f c is e));
+    bad_header = λ e. (refl, bad ((fault_told f c is).0 e));
+    too_many = λ e. absurd (many ((fault_told f c is).1 e));
+    not_sealed = λ e. absurd (unsealed ((fault_told f c is).2 e));
   }
 
   stopped_so : (f : EntryFault) (c : Cause) (given : List Numbered) → IsCauseOf f c → (f ≡ fault.BadHeader → ⊥)
@@ -71,9 +57,9 @@ module _ (text : Option (List ℕ)) (format : Format) where
     numbered = numbered;
     first = inr first;
     all = tt;
-    bad_header = λ e. absurd (bad (header_told f c is e));
-    too_many = λ e. many (many_told f c is e);
-    not_sealed = λ e. unsealed (unsealed_told f c is e);
+    bad_header = λ e. absurd (bad ((fault_told f c is).0 e));
+    too_many = λ e. many ((fault_told f c is).1 e);
+    not_sealed = λ e. unsealed ((fault_told f c is).2 e);
   }
 
   -- the reading stopped after these entries

@@ -9,15 +9,18 @@ use Rattle.register_records.specs.declared.setups.Setup.{Setup}
 use Rattle.register_records.specs.declared.sources.Cause.TheVariants as cause
 use Rattle.register_records.specs.declared.sources.SourceEnd.{SourceEnd}
 use Rattle.register_records.specs.declared.sources.SourceEnd.TheVariants as end
-use Rattle.register_records.specs.Sources.{is_whole_end}
+use Rattle.register_records.specs.Sources.{IfWhole, is_whole_end}
 use Rattle.register_records.specs.Views.{layout_of}
+use Rattle.register_run.specs.declared.arms.Arm.{Arm}
+use Rattle.register_run.specs.declared.reports.Ran.{Ran}
 use Rattle.register_run.specs.declared.reports.Report.{Report}
 use Rattle.register_run.specs.declared.reports.Verdict.TheVariants.{Complete}
 use Rattle.register_run.specs.declared.settling.Settled.{Settled}
 use Rattle.register_run.specs.declared.stations.Station.{Station}
-use Rattle.register_run.specs.Cases.{Case, case, cases, end_of, ended_case, output_of, setup_of}
+use Rattle.register_run.specs.Cases.{Case, case, cases, end_of, ended_case, output_of, ran_of}
 use Rattle.register_run.specs.Headline.{AtEachPlace, IsSettled}
-use Rattle.register_run.specs.Reports.{IsReport, setups_of}
+use Rattle.register_run.specs.Histories.{AreOfMachine, IsOfMachine}
+use Rattle.register_run.specs.Reports.{IsReport, arms_of}
 use Rattle.register_run.specs.Stations.{case_of}
 
 module _ {R W : Type 0} {o : outputs.Ghosts W} where
@@ -68,68 +71,79 @@ lengths_of Holds (r ∷ rs) (g ∷ gs) (w ∷ ws) [] h = absurd h
 lengths_of Holds (r ∷ rs) (g ∷ gs) (w ∷ ws) (e ∷ es) h =
     let more = lengths_of Holds rs gs ws es h.1 in (ap suc more.0, ap suc more.1)
 
-module _ {R W : Type 0} {r : reads.Ghosts R} {o : outputs.Ghosts W} where
-  known_here : (one : Settled R W r o) (setup : Setup) (source : R) (before : W)
-      → ended_case one ≡ case source before setup → Known r o setup source before one.output one.end
-  known_here one setup source before is =
-      subst (λ (k : Case R W). Known r o k.setup k.source k.output one.output one.end) is (one.untouched, one.settled)
+abbrev arms_in : Ran → List Arm
+arms_in ran = ran.arms.value.items
 
-  pub places : (setup : Setup) (all : List (Settled R W r o)) (sources : List R) (given : List W)
-      → length sources ≡ length given → map ended_case all ≡ cases setup sources given
-      → AtEachPlace (Known r o setup) sources given (map output_of all) (map end_of all)
-  places setup [] [] [] len is = tt
-  places setup [] [] (y ∷ ys) len is = absurd (omega arith)
-  places setup [] (x ∷ xs) [] len is = absurd (omega arith)
-  places setup [] (x ∷ xs) (y ∷ ys) len is = absurd (cc)
-  places setup (one ∷ rest) [] given len is = absurd (cc)
-  places setup (one ∷ rest) (x ∷ xs) [] len is = absurd (cc)
-  places setup (one ∷ rest) (x ∷ xs) (y ∷ ys) len is =
-      let first : ended_case one ≡ case x y setup = cc in let more : map ended_case rest ≡ cases setup xs ys = cc in (
-        known_here one setup x y first,
-        places setup rest xs ys (omega arith) more,
-      )
+module _ {R W : Type 0} {r : reads.Ghosts R} {o : outputs.Ghosts W} (setup : Setup) where
+  -- what holds of no source, and of one more where it holds of the others, holds of all
+  at_each : (P : List (Settled R W r o) → List R → List W → Type 0) → P [] [] []
+      → ((one : Settled R W r o) (source : R) (before : W) (all : List (Settled R W r o)) (sources : List R)
+      (given : List W) → ended_case one ≡ case source before setup → P all sources given
+      → P (one ∷ all) (source ∷ sources) (before ∷ given))
+      → (all : List (Settled R W r o)) (sources : List R) (given : List W) → length sources ≡ length given
+      → map ended_case all ≡ cases setup sources given → P all sources given
+  at_each P none more [] [] [] len is = none
+  at_each P none more [] [] (y ∷ ys) len is = absurd (omega arith)
+  at_each P none more [] (x ∷ xs) [] len is = absurd (omega arith)
+  at_each P none more [] (x ∷ xs) (y ∷ ys) len is = absurd (cc)
+  at_each P none more (one ∷ rest) [] given len is = absurd (cc)
+  at_each P none more (one ∷ rest) (x ∷ xs) [] len is = absurd (cc)
+  at_each P none more (one ∷ rest) (x ∷ xs) (y ∷ ys) len is =
+      let first : ended_case one ≡ case x y setup = cc in let others : map ended_case rest ≡ cases setup xs ys = cc in
+      more one x y rest xs ys first (at_each P none more rest xs ys (omega arith) others)
 
-  pub marks_kept : (setup : Setup) (all : List (Settled R W r o)) (sources : List R) (given : List W)
-      → length sources ≡ length given → map ended_case all ≡ cases setup sources given
-      → map o.own_mark (map output_of all) ≡ map o.own_mark given
-  marks_kept setup [] [] [] len is = refl
-  marks_kept setup [] [] (y ∷ ys) len is = absurd (omega arith)
-  marks_kept setup [] (x ∷ xs) [] len is = absurd (omega arith)
-  marks_kept setup [] (x ∷ xs) (y ∷ ys) len is = absurd (cc)
-  marks_kept setup (one ∷ rest) [] given len is = absurd (cc)
-  marks_kept setup (one ∷ rest) (x ∷ xs) [] len is = absurd (cc)
-  marks_kept setup (one ∷ rest) (x ∷ xs) (y ∷ ys) len is =
-      let first : ended_case one ≡ case x y setup = cc in let more : map ended_case rest ≡ cases setup xs ys = cc in
-      let here : o.own_mark one.output ≡ o.own_mark y = one.marked ∙ ap (λ (k : Case R W). o.own_mark k.output) first in
-      ap (λ m. m ∷ map o.own_mark (map output_of rest)) here
-      ∙ ap (λ ms. o.own_mark y ∷ ms) (marks_kept setup rest xs ys (omega arith) more)
+  module _ (all : List (Settled R W r o)) (sources : List R) (given : List W) (len : length sources ≡ length given)
+      (is : map ended_case all ≡ cases setup sources given) where
+    places : AtEachPlace (Known r o setup) sources given (map output_of all) (map end_of all)
+    places =
+        at_each (λ all sources given. AtEachPlace (Known r o setup) sources given (map output_of all) (map end_of all))
+        tt
+        (λ one x y rest xs ys first others. (
+          subst (λ (k : Case R W). Known r o k.setup k.source k.output one.output one.end) first
+              (one.untouched, one.settled),
+          others,
+        )) all sources given len is
 
-  pub setups_kept : (setup : Setup) (all : List (Settled R W r o)) (sources : List R) (given : List W)
-      → length sources ≡ length given → map ended_case all ≡ cases setup sources given
-      → map setup_of all ≡ map (λ source. setup) sources
-  setups_kept setup [] [] [] len is = refl
-  setups_kept setup [] [] (y ∷ ys) len is = absurd (omega arith)
-  setups_kept setup [] (x ∷ xs) [] len is = absurd (omega arith)
-  setups_kept setup [] (x ∷ xs) (y ∷ ys) len is = absurd (cc)
-  setups_kept setup (one ∷ rest) [] given len is = absurd (cc)
-  setups_kept setup (one ∷ rest) (x ∷ xs) [] len is = absurd (cc)
-  setups_kept setup (one ∷ rest) (x ∷ xs) (y ∷ ys) len is =
-      let first : ended_case one ≡ case x y setup = cc in let more : map ended_case rest ≡ cases setup xs ys = cc in
-      ap (λ s. s ∷ map setup_of rest) (ap (λ (k : Case R W). k.setup) first)
-      ∙ ap (λ ss. setup ∷ ss) (setups_kept setup rest xs ys (omega arith) more)
+    marks_kept : map o.own_mark (map output_of all) ≡ map o.own_mark given
+    marks_kept =
+        at_each (λ all sources given. map o.own_mark (map output_of all) ≡ map o.own_mark given) refl
+        (λ one x y rest xs ys first others.
+        ap (λ m. m ∷ map o.own_mark (map output_of rest))
+        (one.marked ∙ ap (λ (k : Case R W). o.own_mark k.output) first)
+        ∙ ap (λ ms. o.own_mark y ∷ ms) others) all sources given len is
 
-module _ {R W : Type 0} {r : reads.Ghosts R} {o : outputs.Ghosts W} where
-  pub report_of : (setup : Setup) (all : List (Settled R W r o)) (sources : List R) (given : List W) (report : Report W)
-      → length sources ≡ length given
-      → map ended_case all ≡ cases setup sources given → report.outputs.items ≡ map output_of all
-      → report.ends.items ≡ map end_of all → setups_of report ≡ map setup_of all
-      → ((report.verdict ≡ Complete) ↔ All (λ e. is_whole_end e ≡ true) report.ends.items)
-      → IsReport r.remaining o.contents o.has_failed o.is_flushed o.own_mark setup sources given report
-  report_of setup all sources given report len is wrote ends by verdict = record {
-    places = subst (λ es. AtEachPlace (Known r o setup) sources given report.outputs.items es) (sym ends)
-        (subst (λ ws. AtEachPlace (Known r o setup) sources given ws (map end_of all)) (sym wrote)
-        (places setup all sources given len is));
-    marks = ap (map o.own_mark) wrote ∙ marks_kept setup all sources given len is;
-    by_setup = by ∙ setups_kept setup all sources given len is;
-    verdict = verdict;
-  }
+    setups_kept : map (λ ran. ran.setup.value) (map ran_of all) ≡ map (λ source. setup) sources
+    setups_kept =
+        at_each (λ all sources given. map (λ ran. ran.setup.value) (map ran_of all) ≡ map (λ source. setup) sources)
+        refl
+        (λ one x y rest xs ys first others.
+        ap (λ s. s ∷ map (λ ran. ran.setup.value) (map ran_of rest)) (ap (λ (k : Case R W). k.setup) first)
+        ∙ ap (λ ss. setup ∷ ss) others) all sources given len is
+
+    pub of_machine : AreOfMachine r.remaining setup sources (map end_of all) (map arms_in (map ran_of all))
+    of_machine =
+        at_each (λ all sources given.
+        AreOfMachine r.remaining setup sources (map end_of all) (map arms_in (map ran_of all))) tt
+        (λ one x y rest xs ys first others. (
+          subst (λ (k : Case R W). ∥ IfWhole one.end (λ count refused journal.
+              IsOfMachine (r.remaining k.source) k.setup count (arms_in one.ran)) ∥₁) first one.machine,
+          others,
+        )) all sources given len is
+
+    module _ (report : Report W) (ends : report.ends.items ≡ map end_of all) (by : report.ran.items ≡ map ran_of all)
+        where
+      pub report_of : report.outputs.items ≡ map output_of all
+          → ((report.verdict ≡ Complete) ↔ All (λ e. is_whole_end e ≡ true) report.ends.items)
+          → IsReport r.remaining o.contents o.has_failed o.is_flushed o.own_mark setup sources given report
+      report_of wrote verdict = record {
+        places = subst (λ es. AtEachPlace (Known r o setup) sources given report.outputs.items es) (sym ends)
+            (subst (λ ws. AtEachPlace (Known r o setup) sources given ws (map end_of all)) (sym wrote) places);
+        marks = ap (map o.own_mark) wrote ∙ marks_kept;
+        by_setup = ap (map (λ ran. ran.setup.value)) by ∙ setups_kept;
+        verdict = verdict;
+      }
+
+      pub report_of_machine : AreOfMachine r.remaining setup sources report.ends.items (arms_of report)
+      report_of_machine =
+          subst (λ es. AreOfMachine r.remaining setup sources es (arms_of report)) (sym ends)
+          (subst (λ rs. AreOfMachine r.remaining setup sources (map end_of all) (map arms_in rs)) (sym by) of_machine)

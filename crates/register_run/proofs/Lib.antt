@@ -1,17 +1,17 @@
 -- Which file serves which public clause:
---   ArmLemmas, FeedLemmas, PassageLemmas, GivenLemmas, FrontLemmas, MoveLemmas: that the rows that were taken from a
---     source's lanes are those of its entries. CarriedLemmas, DealtLemmas, PoppedLemmas: that each lane carries what
---     the machine deals to its stripe, in order, and that the writer goes by the machine's turns.
+--   ArmLemmas, LinkLemmas, PassageLemmas, GivenLemmas, FrontLemmas, MoveLemmas: that the rows that were taken from a
+--     source's lanes are those of its entries. CarriedLemmas, ConvertingLemmas, DealtLemmas, PoppedLemmas: that each
+--     lane carries what the machine deals to its stripe, in order, and that the writer goes by the machine's turns.
 --     HistoryLemmas: that some schedule of the machine has the histories of these lanes.
 --   TableLemmas, StationLemmas, SettledLemmas: what is known of one source and its output.
 --   HeadlineLemmas: from there to the clauses of `run` and `run_gated`.
---   ActLemmas, InvariantLemmas, StateLemmas, PlaceLemmas, NextActLemmas, NumberLemmas, PartLemmas, TotalLemmas,
---     ScheduleLemmas: the law `every_schedule`. ScheduleExamples computes schedules, for the definitions.
+--   ScheduleLemmas: the law `every_schedule`, from that of the machine in striped_lanes.
 pub mod ArmLemmas
 pub mod CarriedLemmas
+pub mod ConvertingLemmas
 pub mod DealtLemmas
 pub mod PoppedLemmas
-pub mod FeedLemmas
+pub mod LinkLemmas
 pub mod FrontLemmas
 pub mod GivenLemmas
 pub mod MoveLemmas
@@ -20,14 +20,5 @@ pub mod PassageLemmas
 pub mod SettledLemmas
 pub mod StationLemmas
 pub mod TableLemmas
-pub mod TotalLemmas
-pub mod PartLemmas
-pub mod InvariantLemmas
-pub mod ActLemmas
-pub mod StateLemmas
-pub mod NumberLemmas
-pub mod PlaceLemmas
-pub mod NextActLemmas
 pub mod ScheduleLemmas
-pub mod ScheduleExamples
 pub mod HistoryLemmas

@@ -14,10 +14,11 @@ use Rattle.lane_rings.specs.Lane.{taken}
 use Rattle.lane_rings.specs.declared.item.Item.{Item}
 use Rattle.register_records.specs.declared.rows.Row.{Row}
 use Rattle.register_run.specs.Arms.{IsRowNext}
-use Rattle.register_run.specs.Machine.{World, turn}
+use Rattle.striped_lanes.specs.Machine.{turn}
+use Rattle.register_run.specs.Worlds.{World}
 use Rattle.register_run.specs.Popped.{AreOpen, HasLooked, HasLookedAt, HasPopped, IsInTurn}
 use Rattle.register_run.specs.Popped.{popped, popped_from}
-use Rattle.register_run.specs.declared.arms.Ahead.{Ahead}
+use Rattle.register_run.specs.declared.arms.Found.{Found}
 use Rattle.register_run.specs.declared.arms.Arm.{Arm}
 
 abbrev IsOpen : Arm → Type 0
@@ -47,7 +48,7 @@ module _ (arms : List Arm) (at : ℕ) (new old : Arm) (within : at < length arms
       omega (arith, sums, here, gains)
 
   -- the arm was looked at
-  pub looked_at : (found : Ahead) → HasLooked old new found → HasLookedAt at arms (set arms at new) found
+  pub looked_at : (found : Found) → HasLooked old new found → HasLookedAt at arms (set arms at new) found
   looked_at found looked = record {
     row = λ e d. subst IsRowNext (sym (get_or-set_same arms at new d within)) (looked.row e);
     ended = λ e all. absurd (let a = new_open all in let b = looked.ended e in cc);
@@ -61,7 +62,7 @@ module _ (arms : List Arm) (at : ℕ) (new old : Arm) (within : at < length arms
   popped_at same one all = (were_open (sym same ∙ new_open all) all, popped_more 1 one)
 
 -- a look at an arm leaves the turn as it was
-pub in_turn_looked : (old new : List Arm) (at turned : ℕ) (found : Ahead) → HasLookedAt turned old new found
+pub in_turn_looked : (old new : List Arm) (at turned : ℕ) (found : Found) → HasLookedAt turned old new found
     → length new ≡ length old → IsInTurn old at → IsInTurn new at
 in_turn_looked old new at turned found looked long turns all w many =
     let (were, none) = looked.same all in turns were w (many ∙ long) ∙ ap (turn w) (sym none)

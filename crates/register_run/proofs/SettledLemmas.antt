@@ -15,6 +15,7 @@ use Rattle.register_records.specs.declared.rows.Row.{Row}
 use Rattle.register_records.specs.declared.setups.Form.TheVariants.{Sealed}
 use Rattle.register_records.specs.declared.sources.Cause.{Cause}
 use Rattle.register_records.specs.declared.sources.Cause.TheVariants as cause
+use Rattle.register_records.specs.declared.sources.Note.{Note}
 use Rattle.register_records.specs.declared.sources.SourceEnd.{SourceEnd}
 use Rattle.register_records.specs.declared.sources.SourceEnd.TheVariants as end
 use Rattle.register_records.specs.declared.writing.RowWriter.{RowWriter}
@@ -258,3 +259,13 @@ module _ {W : Type 0} (o : outputs.Ghosts W) (text : Option (List ℕ)) (table :
         flushed = bytes.1;
         good = table.good dry;
       }))
+
+-- what holds of the answer of the threads holds of the count of a source that is whole
+pub whole_counts : (P : ℕ → Type 0) (passed : Result ℕ Cause) (fault : Option Cause) (headed : Bool) (rows : ℕ)
+    (journal : List Note) (e : SourceEnd)
+    → IfWhole e (λ count refused notes. (passed ≡ Ok count) × (fault ≡ None) × (headed ≡ true)
+    × (count ≡ rows) × (refused ≡ length notes) × (notes ≡ journal))
+    → IfOk passed (λ count. ∥ P count ∥₁) → ∥ IfWhole e (λ count refused notes. P count) ∥₁
+whole_counts P passed fault headed rows journal (end.Whole count refused notes) is h =
+    subst (λ r. IfOk r (λ n. ∥ P n ∥₁)) is.0 h
+whole_counts P passed fault headed rows journal (end.Broken c) is h = ∣ tt ∣₁

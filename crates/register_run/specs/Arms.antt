@@ -1,5 +1,5 @@
--- What a link sees of its arms. No public contract cites this file.
-use Rattle.std.specs.Prelude.{◌≡◌, ◌⊎◌, ⊤, List, [], ◌∷◌, ◌++◌, Bool, true}
+-- What a link sees of its arms.
+use Rattle.std.specs.Prelude.{◌≡◌, ◌⊎◌, ⊤, List, [], ◌∷◌, ◌++◌, Bool, map, replicate, true}
 use Rattle.std.specs.List.{AllZip, Contains}
 use mathlib.Core.List.{IsPrefix}
 use Rattle.lane_rings.specs.declared.item.Item.{Item}
@@ -9,8 +9,13 @@ use Rattle.lane_rings.specs.Lane.{HasConfirmation, Lane, all_sent, sender_lane, 
 use Rattle.register_records.specs.declared.entries.Entry.{Entry}
 use Rattle.register_records.specs.declared.rows.Row.{Row}
 use Rattle.register_records.specs.declared.setups.Setup.{Setup}
+use Rattle.register_records.specs.declared.sources.Cause.{Cause}
+use Rattle.register_records.specs.declared.sources.Cause.TheVariants as cause
 use Rattle.register_run.specs.Carried.{carried, rows_carried}
 use Rattle.register_run.specs.declared.arms.Arm.{Arm}
+use Rattle.register_run.specs.declared.arms.StartFault.{StartFault}
+use Rattle.register_run.specs.declared.arms.StartFault.TheVariants as fault
+use Rattle.register_run.specs.declared.reading.ReaderTask.{ReaderTask}
 
 -- the lane that feeds the converter
 abbrev pub feeding_lane : Arm → Lane
@@ -19,6 +24,19 @@ feeding_lane arm = sender_lane arm.feeding.value
 -- the setup that the converter was started by
 abbrev pub arm_setup : Arm → Setup
 arm_setup arm = arm.setup.value
+
+-- running out of memory is cause 1, and a thread that does not start is cause 2
+abbrev pub start_fault_cause : StartFault → Cause
+start_fault_cause fault.NoMemory = cause.NoMemory
+start_fault_cause fault.NoThread = cause.NoThread
+
+-- a reader with this task reads this source by this setup, and its senders feed these arms, of which there are as many
+-- as the setup has stripes, each started by it
+abbrev pub IsReaderOf : {R : Type 0} → R → Setup → List Arm → ReaderTask R → Type 0
+IsReaderOf source setup arms task =
+    (task.source.value ≡ source) × (task.setup.value ≡ setup)
+    × (map feeding_lane arms ≡ map sender_lane task.senders.value.items)
+    × (map arm_setup arms ≡ replicate setup.stripes setup)
 
 -- the row was taken from this arm, or was seen to be next
 unfoldable pub ArmTook : Arm → Row → Type 0

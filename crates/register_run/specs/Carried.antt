@@ -1,4 +1,4 @@
--- What the lanes of a source carry, in order. No public contract cites this file.
+-- What the lanes of a source carry, in order.
 use Rattle.std.specs.Prelude.{◌≡◌, ◌+◌, ◌-◌, ◌==◌, ⊤, ℕ, List, [], ◌∷◌, Some, map}
 use Rattle.std.specs.List.{filter}
 use mathlib.Core.List.{IsPrefix}
@@ -12,7 +12,8 @@ use Rattle.register_records.specs.Entries.{Numbered}
 use Rattle.register_records.specs.Seen.{entry_seen}
 use Rattle.register_records.specs.declared.entries.Entry.{Entry}
 use Rattle.register_records.specs.declared.rows.Row.{Row}
-use Rattle.register_run.specs.Machine.{World, turn}
+use Rattle.striped_lanes.specs.Machine.{turn}
+use Rattle.register_run.specs.Worlds.{World}
 
 -- the entries of the rows among the items, in order
 abbrev pub row_entries : List (Item Row) → List Entry

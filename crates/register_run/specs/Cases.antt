@@ -4,6 +4,7 @@ use Rattle.std.specs.declared.io.traits.Read as reads
 use Rattle.register_records.specs.declared.outputs.Output as outputs
 use Rattle.register_records.specs.declared.setups.Setup.{Setup}
 use Rattle.register_records.specs.declared.sources.SourceEnd.{SourceEnd}
+use Rattle.register_run.specs.declared.reports.Ran.{Ran}
 use Rattle.register_run.specs.declared.settling.Settled.{Settled}
 
 pub record Case (R W : Type 0) : Type 0 where
@@ -23,11 +24,11 @@ cases setup (source ∷ sources) (output ∷ outputs) = case source output setup
 module _ {R W : Type 0} {r : reads.Ghosts R} {o : outputs.Ghosts W} where
   -- what a source that has ended was made of
   abbrev pub ended_case : Settled R W r o → Case R W
-  ended_case s = case s.source.value s.given.value s.setup.value
+  ended_case s = case s.source.value s.given.value s.ran.setup.value
 
-  -- the setup that its threads were started by, its output and its end
-  abbrev pub setup_of : Settled R W r o → Setup
-  setup_of s = s.setup.value
+  -- how its threads ran, its output and its end
+  abbrev pub ran_of : Settled R W r o → Ran
+  ran_of s = s.ran
 
   abbrev pub output_of : Settled R W r o → W
   output_of s = s.output

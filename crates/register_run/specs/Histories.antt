@@ -1,30 +1,22 @@
--- What goes over the lanes of the machine, and that the lanes of a source carried just that. No public contract cites
--- this file.
-use Rattle.std.specs.Prelude.{◌≡◌, ◌+◌, ⊤, ℕ, List, [], ◌∷◌, ◌++◌, drop, length, map}
+-- That the lanes of a source carried what goes over the lanes of the machine of striped lanes.
+use Rattle.std.specs.Prelude.{◌≡◌, ◌+◌, ⊤, ℕ, List, [], ◌∷◌, IfSome, Option, length, map, replicate}
 use Rattle.lane_rings.specs.declared.sender.Closed.{Closed}
 use Rattle.lane_rings.specs.Lane.{HasConfirmation, all_sent, taken}
-use Rattle.register_records.specs.Entries.{Numbered}
-use Rattle.register_records.specs.Outcomes.{TableRow}
+use Rattle.register_records.specs.Entries.{AreNumberedFrom, HasEntries, Numbered}
+use Rattle.register_records.specs.Sources.{IfWhole}
+use Rattle.register_records.specs.Views.{format_of}
 use Rattle.register_records.specs.declared.entries.Entry.{Entry}
+use Rattle.register_records.specs.declared.setups.Setup.{Setup}
+use Rattle.register_records.specs.declared.sources.SourceEnd.{SourceEnd}
+use Rattle.register_run.specs.Arms.{arm_setup, feeding_lane}
 use Rattle.register_run.specs.Carried.{carried, rows_carried}
-use Rattle.register_run.specs.Machine.{Actor, State, World, act, start}
-use Rattle.register_run.specs.Schedules.{run}
+use Rattle.register_run.specs.Passages.{AreOfLanes}
+use Rattle.register_run.specs.Worlds.{World}
+use Rattle.striped_lanes.specs.Histories.{entries_over, rows_over}
+use Rattle.striped_lanes.specs.Machine.{Actor, start}
+use Rattle.striped_lanes.specs.Places.{table_rows}
+use Rattle.striped_lanes.specs.Schedules.{run}
 use Rattle.register_run.specs.declared.arms.Arm.{Arm}
-
--- what was added at the end of a lane
-abbrev pub added : {X : Type 0} → List X → List X → List X
-added old new = drop (length old) new
-
--- the entries that go over the entry lane of stripe i in a schedule, and the rows that go over its row lane, in order
-abbrev pub entries_over : World → ℕ → List Actor → State → List Numbered
-entries_over w i [] s = []
-entries_over w i (actor ∷ schedule) s =
-    added (s.stripes i).entry_lane ((act w actor s).stripes i).entry_lane ++ entries_over w i schedule (act w actor s)
-
-abbrev pub rows_over : World → ℕ → List Actor → State → List TableRow
-rows_over w i [] s = []
-rows_over w i (actor ∷ schedule) s =
-    added (s.stripes i).row_lane ((act w actor s).stripes i).row_lane ++ rows_over w i schedule (act w actor s)
 
 -- these arms, the first of which is stripe i, have the histories of the machine's lanes in a schedule: their lanes of
 -- entries, of which this is left, carried its entries, and the rows that were taken from them are of the entries of its
@@ -38,10 +30,25 @@ HaveHistories w schedule i (arm ∷ arms) (c ∷ closed) =
     × (map w.row_of (rows_carried (taken arm.rows)) ≡ rows_over w i schedule start)
     × HaveHistories w schedule (i + 1) arms closed
 
--- in each world of these entries with a stripe for each arm and lanes of this ring, there is a schedule that pops all
--- rows, with these very histories of lanes
-abbrev pub AreOfMachine : List Numbered → ℕ → List Arm → List (Closed Entry) → Type 0
-AreOfMachine given ring arms closed =
-    (w : World) → w.entries ≡ given → w.converters ≡ length arms → w.ring ≡ ring
-    → (schedule : List Actor) × ((run w schedule start).popped ≡ map w.row_of given)
-    × HaveHistories w schedule 0 arms closed
+-- in some schedule of the machine the lanes of these arms carried just what they did: its entries are the so many of
+-- the text, there are as many stripes as the setup has, with lanes of its ring, and all rows are popped
+pub record IsOfMachine (text : Option (List ℕ)) (setup : Setup) (count : ℕ) (arms : List Arm) : Type 0 where
+  pub given : List Numbered
+  pub closed : List (Closed Entry)
+  pub counted : length given ≡ count
+  pub numbered : AreNumberedFrom 1 given
+  pub entries : IfSome text (λ t. HasEntries (format_of setup) t given)
+  pub staffed : map arm_setup arms ≡ replicate setup.stripes setup
+  pub lanes : AreOfLanes (map feeding_lane arms) closed
+  pub schedule : (w : World) → w.entries ≡ given → w.converters ≡ setup.stripes → w.ring ≡ setup.ring
+      → (schedule : List Actor) × ((run w schedule start).popped ≡ table_rows w)
+      × HaveHistories w schedule 0 arms closed
+
+-- there are arms for each source, and where it is whole, they are of the machine
+abbrev pub AreOfMachine : {R : Type 0} → (R → Option (List ℕ)) → Setup → List R → List SourceEnd → List (List Arm)
+    → Type 0
+AreOfMachine remaining setup [] [] [] = ⊤
+AreOfMachine remaining setup (source ∷ sources) (end ∷ ends) (arms ∷ rest) =
+    ∥ IfWhole end (λ count refused journal. IsOfMachine (remaining source) setup count arms) ∥₁
+    × AreOfMachine remaining setup sources ends rest
+AreOfMachine remaining setup sources ends all = ⊥

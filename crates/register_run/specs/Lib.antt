@@ -3,15 +3,12 @@ pub mod Passages
 pub mod Arms
 pub mod Popped
 pub mod Links
-pub mod Feeds
 pub mod TablesWritten
 pub mod Written
 pub mod Headline
 pub mod Cases
 pub mod Stations
 pub mod Reports
-pub mod Machine
-pub mod Schedules
+pub mod Worlds
 pub mod EveryScheduleLaw
 pub mod Histories
-pub mod Starts

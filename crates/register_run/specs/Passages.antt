@@ -16,7 +16,7 @@ use Rattle.register_records.specs.declared.setups.Form.TheVariants.{Sealed}
 use Rattle.register_records.specs.declared.sources.Cause.{Cause}
 use Rattle.register_records.specs.declared.sources.Cause.TheVariants as cause
 use Rattle.register_run.specs.Carried.{AreDealt, AreOfAllTaken, AreOfTaken, HasEnd, WereDealt}
-use Rattle.register_run.specs.Machine.{World}
+use Rattle.register_run.specs.Worlds.{World}
 use Rattle.register_run.specs.declared.reading.Reading.{Reading}
 use Rattle.register_run.specs.declared.converting.Converting.{Converting}
 

@@ -3,9 +3,10 @@ use Rattle.std.specs.Prelude.{◌≡◌, ◌+◌, ℕ, List, Bool, false, true, 
 use Rattle.lane_rings.specs.Items.{entries_in}
 use Rattle.lane_rings.specs.Lane.{taken}
 use Rattle.register_run.specs.Arms.{IsRowNext}
-use Rattle.register_run.specs.Machine.{World, turn}
-use Rattle.register_run.specs.declared.arms.Ahead.{Ahead}
-use Rattle.register_run.specs.declared.arms.Ahead.TheVariants as ahead
+use Rattle.striped_lanes.specs.Machine.{turn}
+use Rattle.register_run.specs.Worlds.{World}
+use Rattle.register_run.specs.declared.arms.Found.{Found}
+use Rattle.register_run.specs.declared.arms.Found.TheVariants as look
 use Rattle.register_run.specs.declared.arms.Arm.{Arm}
 
 -- how many rows were popped from an arm, and from all of these
@@ -28,21 +29,22 @@ abbrev pub IsRowNextAt : List Arm → ℕ → Type 0
 IsRowNextAt arms at = (arm : Arm) → IsRowNext (get_or arms at arm)
 
 -- what was found is the end of a lane
-abbrev pub is_end : Ahead → Bool
-is_end ahead.Nothing = false
-is_end ahead.Row = false
-is_end ahead.End = true
-is_end ahead.Stop = true
+abbrev pub is_end : Found → Bool
+is_end look.Nothing = false
+is_end look.Row = false
+is_end look.Other = false
+is_end look.End = true
+is_end look.Stop = true
 
 -- what a look at an arm does: it pops no row, unless the lane has ended
-pub record HasLooked (old new : Arm) (found : Ahead) : Type 0 where
-  pub row : found ≡ ahead.Row → IsRowNext new
+pub record HasLooked (old new : Arm) (found : Found) : Type 0 where
+  pub row : found ≡ look.Row → IsRowNext new
   pub ended : is_end found ≡ true → new.«open» ≡ false
   pub same : new.«open» ≡ true → (old.«open» ≡ true) × (popped_from new ≡ popped_from old)
 
 -- the same of the arm with this number among these
-pub record HasLookedAt (at : ℕ) (old new : List Arm) (found : Ahead) : Type 0 where
-  pub row : found ≡ ahead.Row → IsRowNextAt new at
+pub record HasLookedAt (at : ℕ) (old new : List Arm) (found : Found) : Type 0 where
+  pub row : found ≡ look.Row → IsRowNextAt new at
   pub ended : is_end found ≡ true → AreOpen new → ⊥
   pub same : AreOpen new → AreOpen old × (popped new ≡ popped old)
 

@@ -5,6 +5,7 @@ use Rattle.register_records.specs.Views.{layout_of}
 use Rattle.register_records.specs.declared.setups.Setup.{Setup}
 use Rattle.register_records.specs.declared.sources.Cause.TheVariants as cause
 use Rattle.register_records.specs.declared.sources.SourceEnd.TheVariants as ended
+use Rattle.register_run.specs.declared.arms.Arm.{Arm}
 use Rattle.register_run.specs.declared.reports.Report.{Report}
 use Rattle.register_run.specs.declared.reports.RunFaultKind.{RunFaultKind}
 use Rattle.register_run.specs.declared.reports.RunFaultKind.TheVariants.{NoMemory, OutputCount, TooManySources}
@@ -17,9 +18,12 @@ run_fault_number TooManySources = 1
 run_fault_number OutputCount = 2
 run_fault_number NoMemory = 3
 
--- the setup that the threads of each source were started by
+-- the setup that the threads of each source were started by, and its arms, as they were joined
 abbrev pub setups_of : {W : Type 0} → Report W → List Setup
-setups_of report = map (λ s. s.value) report.setups.items
+setups_of report = map (λ r. r.setup.value) report.ran.items
+
+abbrev pub arms_of : {W : Type 0} → Report W → List (List Arm)
+arms_of report = map (λ r. r.arms.value.items) report.ran.items
 
 -- each source was run by this setup and has ended as it should, and with no header it has its output as it was; and
 -- the report says how

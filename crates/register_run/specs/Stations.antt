@@ -2,10 +2,10 @@
 use Rattle.register_records.specs.declared.outputs.Output as outputs
 use Rattle.register_run.specs.declared.stations.Station.{Station}
 use Rattle.register_run.specs.Cases.{Case, case}
-use Rattle.register_run.specs.Feeds.{fed_from}
+use Rattle.register_run.specs.Links.{started_on}
 use Rattle.register_run.specs.TablesWritten.{made_by, made_for}
 
 module _ {R W : Type 0} {o : outputs.Ghosts W} where
   -- the source and the output as they were handed in, and the setup
   abbrev pub case_of : Station R W o → Case R W
-  case_of s = case (fed_from s.feed) (made_for s.table) (made_by s.table)
+  case_of s = case (started_on s.link) (made_for s.table) (made_by s.table)

@@ -1,18 +1,15 @@
-//! A converter with its two lanes, as the writer has it.
+//! A converter with its two lanes, as the writer has it, and what a link does with all of them.
 
-ghost use Rattle.std.specs.Prelude.{◌≡◌, ◌+◌, [], IfOk, IfSome};
+ghost use Rattle.std.specs.Prelude.{◌≡◌, ◌<◌, ◌+◌, [], IfOk, IfSome, map, vec_len};
 ghost use Rattle.lane_rings.specs.Lane.{lane_capacity, receiver_lane, sender_lane, sent, taken};
 
 use crate::converting::{Converting, convert_entries};
 use crate::gates::Gate;
-use crate::starting::StartFault;
-use lane_rings::{Closed, Item, Patience, Receiver, Sender, Unconfirmed, patient_lane};
-use register_records::{Entry, Row, Setup};
-use std::alloc::Global;
+use crate::starting::{Host, Starting};
+use lane_rings::{Closed, Item, Receiver, Sender, Unconfirmed, patient_lane};
+use register_records::{Cause, Entry, Row, Setup};
 use std::snapshot::Snapshot;
-use std::sync::Wait;
-use std::thread::{Promise, PromisedHandle, Scope, Threads};
-use std::time::{Clock, CpuClock};
+use std::thread::{Promise, PromisedHandle, Threads};
 
 /// The lanes that a converter was started with.
 #[derive(Drop)]
@@ -27,17 +24,42 @@ impl Promise<Converting> for ConverterLanes {
     ghost kept_by = { λ p r. IsConverting (receiver_lane p.entries.value) (sender_lane p.rows.value) r };
 }
 
-/// What a look at an arm found.
+/// What a look into the lanes of a source found.
 #[derive(Clone, Copy)]
-pub(crate) enum Ahead {
+pub(crate) enum Found {
     /// Nothing is there now.
     Nothing,
     /// A row is next.
     Row,
-    /// The lane ended with an end.
+    /// A lane ended and others did not.
+    Other,
+    /// The last lane ended, and each with an end. Of one arm: its lane did.
     End,
-    /// The lane ended with a stop.
+    /// The last lane ended, and not each with an end. Of one arm: its lane ended with a stop.
     Stop,
+}
+
+/// Why the threads of a source did not start.
+#[derive(Clone, Copy)]
+pub(crate) enum StartFault {
+    /// A list or a lane was refused its memory.
+    NoMemory,
+    /// A thread did not start.
+    NoThread,
+}
+
+impl StartFault {
+    ghost use Rattle.register_run.specs.Arms.{start_fault_cause};
+
+    /// The cause that the fault is.
+    pub(crate) fn cause(self) -> Cause
+        ensures { result ≡ start_fault_cause self }
+    {
+        match self {
+            StartFault::NoMemory => Cause::NoMemory,
+            StartFault::NoThread => Cause::NoThread,
+        }
+    }
 }
 
 /// A converter, the lane that it feeds and the one that feeds it.
@@ -69,24 +91,20 @@ impl Arm {
     /// # Errors
     ///
     /// `NoMemory` where a lane is refused its memory, and `NoThread` where the thread does not start.
-    pub(crate) fn start<'s, 'e, T: Threads + Wait + Clock + CpuClock + Sync, G: Gate + Sync>(
-        scope: &'s Scope<'s, &'e ()>,
-        rt: &'e T,
-        gate: &'e G,
-        alloc: Global,
-        patience: Patience,
-        setup: &'e Setup,
+    pub(crate) fn start<'s, 'e, T: Host, G: Gate + Sync>(
+        by: &Starting<'s, 'e, T, G>,
     ) -> Result<(Sender<Entry>, Arm), StartFault>
         ensures lane { IfOk result (λ r. feeding_lane r.1 ≡ sender_lane r.0) }
         ensures fresh { IfOk result (λ r. sent r.0 ≡ []) }
         ensures untaken { IfOk result (λ r. taken r.1.rows ≡ []) }
-        ensures setup { IfOk result (λ r. arm_setup r.1 ≡ setup.entry.now) }
+        ensures setup { IfOk result (λ r. arm_setup r.1 ≡ by.now.setup.now) }
     {
-        let Ok((sender, entries)) = patient_lane::<Entry>(alloc, setup.ring(), patience) else {
+        let (rt, gate, setup) = (by.rt, by.gate, by.setup);
+        let Ok((sender, entries)) = patient_lane::<Entry>(by.alloc, setup.ring(), by.patience) else {
             return Err(StartFault::NoMemory);
         };
-        let further = patience.a_lane_further();
-        let Ok((row_sender, rows)) = patient_lane::<Row>(alloc, setup.ring(), further) else {
+        let further = by.patience.a_lane_further();
+        let Ok((row_sender, rows)) = patient_lane::<Row>(by.alloc, setup.ring(), further) else {
             return Err(StartFault::NoMemory);
         };
         let feeding = Snapshot::of(&sender);
@@ -94,7 +112,7 @@ impl Arm {
             entries: Snapshot::of(&entries),
             rows: Snapshot::of(&row_sender),
         };
-        let worker = scope.spawn_with(
+        let worker = by.scope.spawn_with(
             lanes,
             move || -> Converting
                 requires { (sent row_sender ≡ []) × (taken entries ≡ []) }
@@ -124,42 +142,42 @@ impl Arm {
 
     /// Looks for the next item. A row is left where it is until it is passed; an end and a stop are taken. A converter
     /// that is gone counts as one that stopped.
-    pub(crate) fn look(&mut self) -> Ahead
+    pub(crate) fn look(&mut self) -> Found
         ensures lane { feeding_lane self.new ≡ feeding_lane self.old }
         ensures setup { arm_setup self.new ≡ arm_setup self.old }
         ensures kept { (row : Row) → ArmTook self.old row → ArmTook self.new row }
         ensures looked { HasLooked self.old self.new result }
     {
         match self.rows.look() {
-            Ok(true) => self.ahead(),
-            Ok(false) => Ahead::Nothing,
+            Ok(true) => self.found(),
+            Ok(false) => Found::Nothing,
             Err(_) => {
                 self.open = false;
-                Ahead::Stop
+                Found::Stop
             }
         }
     }
 
     /// What is next, after a look. An end and a stop are taken.
     #[tactic(auto, using(crate::proofs::PassageLemmas::same_seen), unfolding(crate::specs::Arms::ArmTook))]
-    fn ahead(&mut self) -> Ahead
+    fn found(&mut self) -> Found
         ensures lane { feeding_lane self.new ≡ feeding_lane self.old }
         ensures setup { arm_setup self.new ≡ arm_setup self.old }
         ensures kept { (row : Row) → ArmTook self.old row → ArmTook self.new row }
         ensures looked { HasLooked self.old self.new result }
     {
         match self.rows.next() {
-            None => Ahead::Nothing,
-            Some(Item::Entry(_)) => Ahead::Row,
+            None => Found::Nothing,
+            Some(Item::Entry(_)) => Found::Row,
             Some(Item::End(_)) => {
                 self.rows.pass();
                 self.open = false;
-                Ahead::End
+                Found::End
             }
             Some(Item::Stop) => {
                 self.rows.pass();
                 self.open = false;
-                Ahead::Stop
+                Found::Stop
             }
         }
     }
@@ -231,5 +249,88 @@ impl Arm {
             open: _,
         } = self;
         drop(worker.join(rt));
+    }
+}
+
+// What a link does with all its arms.
+impl Arm {
+    ghost use Rattle.register_run.specs.Arms.{AnyTook, HavePassedOn, arm_setup, feeding_lane};
+    ghost use Rattle.register_run.specs.Passages.{AreOfLanes};
+    ghost use Rattle.register_run.specs.Popped.{HasLookedAt, HasPopped, IsRowNextAt};
+
+    /// Joins the threads of all arms and confirms all lanes. `closed` is what is left of the senders that fed them. The
+    /// answer is whether each lane ended with the number of the rows that were taken from it.
+    ///
+    /// # Errors
+    ///
+    /// `Unconfirmed` where one of the lanes is not confirmed. All threads are joined all the same.
+    pub(crate) fn join_all(
+        rt: &impl Threads,
+        arms: Vec<Arm>,
+        closed: Vec<Closed<Entry>>,
+    ) -> Result<bool, Unconfirmed>
+        requires { AreOfLanes (map feeding_lane arms.items) closed.items }
+        ensures { IfOk result (λ ended. HavePassedOn ended arms.items closed.items) }
+    {
+        let mut confirmed = true;
+        let mut ended = true;
+        let mut rest = closed.into_iter();
+        for arm in arms {
+            let Some(one) = rest.next() else {
+                unreachable!()
+            };
+            match arm.finish(rt, one) {
+                Ok(counted) => ended &= counted,
+                Err(_) => confirmed = false,
+            }
+        }
+        if confirmed {
+            Ok(ended)
+        } else {
+            Err(Unconfirmed)
+        }
+    }
+
+    /// Looks at one arm.
+    pub(crate) fn look_at(arms: &mut Vec<Arm>, at: usize) -> Found
+        requires { at < vec_len arms.old }
+        ensures lanes { map feeding_lane arms.new.items ≡ map feeding_lane arms.old.items }
+        ensures setups { map arm_setup arms.new.items ≡ map arm_setup arms.old.items }
+        ensures len { vec_len arms.new ≡ vec_len arms.old }
+        ensures kept { (row : Row) → AnyTook arms.old.items row → AnyTook arms.new.items row }
+        ensures looked { HasLookedAt at arms.old.items arms.new.items result }
+    {
+        let arm = &mut arms[at];
+        arm.look()
+    }
+
+    /// The row that a look at one arm found.
+    pub(crate) fn row_at(arms: &Vec<Arm>, at: usize) -> Option<&Row>
+        requires { at < vec_len arms.now }
+        ensures { IfSome result (λ row. AnyTook arms.now.items row.now) }
+    {
+        let arm = &arms[at];
+        arm.row()
+    }
+
+    /// Takes the row that a look at one arm found.
+    pub(crate) fn pass_at(arms: &mut Vec<Arm>, at: usize)
+        requires within { at < vec_len arms.old }
+        requires row { IsRowNextAt arms.old.items at }
+        ensures lanes { map feeding_lane arms.new.items ≡ map feeding_lane arms.old.items }
+        ensures setups { map arm_setup arms.new.items ≡ map arm_setup arms.old.items }
+        ensures len { vec_len arms.new ≡ vec_len arms.old }
+        ensures kept { (row : Row) → AnyTook arms.old.items row → AnyTook arms.new.items row }
+        ensures popped { HasPopped arms.old.items arms.new.items }
+    {
+        let arm = &mut arms[at];
+        arm.pass();
+    }
+
+    /// Joins the threads of arms that were never fed.
+    pub(crate) fn call_off_all(rt: &impl Threads, arms: Vec<Arm>) {
+        for arm in arms {
+            arm.call_off(rt);
+        }
     }
 }

@@ -1,14 +1,9 @@
 //! The law of striped lanes over every schedule.
 
 ghost use Rattle.std.specs.Prelude.{◌+◌, ◌*◌, ◌≤◌, length};
-ghost use Rattle.register_run.specs.EveryScheduleLaw.{
-  AfterEverySchedule,
-  ArePoppedInOrder,
-  AtMostChange,
-  EachStandsOnce,
-  GoesOn,
-};
-ghost use Rattle.register_run.specs.Schedules.{standing};
+ghost use Rattle.striped_lanes.specs.Places.{ArePoppedInOrder};
+ghost use Rattle.striped_lanes.specs.Schedules.{AtMostChange, standing};
+ghost use Rattle.register_run.specs.EveryScheduleLaw.{AfterEverySchedule, EachStandsOnce, GoesOn};
 
 /// Whatever the schedule of the reader, the converters and the writer of a text is, in the machine of striped lanes:
 /// the rows that the writer has popped are the first rows of the table, in order; each entry that the reader has

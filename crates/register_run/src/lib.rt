@@ -8,9 +8,7 @@
 
 mod arms;
 mod converting;
-mod feeds;
 mod gates;
-mod joining;
 pub mod laws;
 mod links;
 mod reading;

@@ -1,145 +1,104 @@
-//! The threads of a source, and the ends of its last lanes.
+//! The threads of a source, as the writer has them.
 
-ghost use Rattle.std.specs.Prelude.{◌≡◌, ◌≢◌, ◌<◌, ◌≤◌, ◌+◌, [], ℕ, Some, slice_get, All, IfOk, IfSome, length, map};
-ghost use Rattle.std.specs.Prelude.{replicate, true, vec_capacity, vec_len};
+ghost use Rattle.std.specs.Prelude.{◌≡◌, ◌≢◌, ◌<◌, ◌≤◌, ◌+◌, [], ℕ, Some, slice_get, All, IfOk, IfSome, length};
+ghost use Rattle.std.specs.Prelude.{map, replicate, true, vec_capacity, vec_len};
+ghost use Rattle.std.proofs.Props.{props};
 ghost use Rattle.lane_rings.specs.Lane.{sender_lane, sent};
 ghost use Rattle.register_records.specs.Views.{format_of};
-ghost use Rattle.register_run.specs.Arms.{arm_setup, feeding_lane};
-ghost use Rattle.register_run.specs.Machine.{World, turn as turn_in};
-ghost use Rattle.register_run.specs.Passages.{IsOfThreads};
+ghost use Rattle.register_run.specs.Arms.{AnyTook, IsReaderOf, arm_setup, feeding_lane};
+ghost use Rattle.register_run.specs.Histories.{IsOfMachine};
+ghost use Rattle.register_run.specs.Passages.{HasPassed, IsOfThreads, IsReading};
 ghost use Rattle.register_run.specs.Popped.{AreOpen, IsInTurn, popped};
+ghost use Rattle.register_run.specs.Worlds.{World};
+ghost use Rattle.striped_lanes.specs.Machine.{turn as turn_in};
 
-use crate::arms::{Ahead, Arm};
+use crate::arms::{Arm, Found, StartFault};
 use crate::gates::Gate;
-use crate::joining::{call_off, join_arms, look_at, pass_at, row_at};
-use crate::reading::{Reading, read_source};
-use crate::starting::StartFault;
+use crate::reading::{ReaderTask, Reading, read_source};
+use crate::starting::{Host, Starting};
 use crate::turns::turn_behind;
-use lane_rings::{Patience, Sender};
+use lane_rings::Sender;
 use register_records::{Cause, Entry, Row, Setup};
-use std::alloc::Global;
 use std::io::Read;
 use std::snapshot::Snapshot;
-use std::sync::Wait;
-use std::thread::{Promise, PromisedHandle, Scope, Threads};
-use std::time::{Clock, CpuClock};
+use std::thread::{PromisedHandle, Threads};
 
-/// What a look into the lanes of a source found.
-#[derive(Clone, Copy)]
-pub(crate) enum Found {
-    /// Nothing is there now.
-    Nothing,
-    /// A row is next.
-    Row,
-    /// A lane ended and others did not.
-    Other,
-    /// The last lane ended, and each with an end.
-    End,
-    /// The last lane ended, and not each with an end.
-    Stop,
-}
-
-/// What a reader was started with.
-#[derive(Drop)]
-pub(crate) struct ReaderTask<R> {
-    pub(crate) source: Snapshot<R>,
-    pub(crate) setup: Snapshot<Setup>,
-    pub(crate) senders: Snapshot<Vec<Sender<Entry>>>,
-}
-
-impl<R: Read> Promise<Reading> for ReaderTask<R> {
-    ghost use Rattle.register_run.specs.Passages.{IsReading};
-
-    ghost kept_by = { λ p r. IsReading (R.remaining p.source.value) (format_of p.setup.value)
-        (map sender_lane p.senders.value.items) r };
-}
-
-/// A reader and its arms.
+/// A reader and its arms, or why there are none.
 #[derive(Drop)]
 pub(crate) struct Link<R: Read> {
-    reader: PromisedHandle<Reading, ReaderTask<R>>,
+    source: Snapshot<R>,
+    setup: Snapshot<Setup>,
+    // Where the threads did not start, there is no arm.
+    reader: Result<PromisedHandle<Reading, ReaderTask<R>>, StartFault>,
     arms: Vec<Arm>,
     // The arm that is next.
     turn: usize,
     // A lane ended with a stop.
     stopped: bool,
-    ghost fed: { map feeding_lane arms.items ≡ map sender_lane reader.promise.senders.value.items },
-    ghost in_turn: { turn < vec_len arms },
+    ghost reads: { IfOk reader (λ r. IsReaderOf source.value setup.value arms.items r.promise) }
+        by { Prim.hlevel props },
     ghost by_turns: { IsInTurn arms.items turn },
-    // There are as many arms as the setup has stripes, and each was started by it.
-    ghost staffed: { map arm_setup arms.items
-        ≡ replicate reader.promise.setup.value.stripes reader.promise.setup.value },
+}
+
+/// What the threads of a source leave: its arms as they were joined, and the number of its entries, or why it is not
+/// known that all of them have passed.
+#[derive(Drop)]
+pub(crate) struct Passage<R> {
+    pub(crate) source: Snapshot<R>,
+    pub(crate) arms: Snapshot<Vec<Arm>>,
+    pub(crate) outcome: Result<u32, Cause>,
 }
 
 impl<R: Read + Drop> Link<R> {
-    ghost use Rattle.register_run.specs.Links.{IsNext, IsOfMachine, Passed, started_on, started_by};
-    ghost use Rattle.register_run.specs.Passages.{HasPassed, IsReading};
+    ghost use Rattle.register_run.specs.Links.{IsNext, Passed, started_by, started_on};
 
-    /// Starts the threads of a source, the converters before the reader. What was not started is dropped.
-    ///
-    /// # Errors
-    ///
-    /// `NoMemory` where a list or a lane is refused its memory, and `NoThread` where a thread does not start.
-    pub(crate) fn start<'s, 'e, T: Threads + Wait + Clock + CpuClock + Sync, G: Gate + Sync>(
-        scope: &'s Scope<'s, &'e ()>,
-        rt: &'e T,
-        gate: &'e G,
-        alloc: Global,
-        patience: Patience,
-        setup: &'e Setup,
+    /// Starts the threads of a source. Where they do not start, the source is dropped and the link has the cause.
+    pub(crate) fn start<'s, 'e, T: Host, G: Gate + Sync>(
+        by: &Starting<'s, 'e, T, G>,
         source: R,
-    ) -> Result<Link<R>, StartFault>
+    ) -> Link<R>
     where
         R: Send + 'e,
-        ensures source { IfOk result (λ link. started_on link ≡ source) }
-        ensures setup { IfOk result (λ link. started_by link ≡ setup.entry.now) }
+        ensures source { started_on result ≡ source }
+        ensures setup { started_by result ≡ by.now.setup.now }
     {
-        let Ok(closed) = Vec::with_capacity(alloc, setup.stripes()) else {
-            return Err(StartFault::NoMemory);
-        };
-        let Fan { arms, senders } = Fan::start(scope, rt, gate, alloc, patience, setup)?;
-        let task = ReaderTask {
-            source: Snapshot::of(&source),
-            setup: Snapshot::of(setup),
-            senders: Snapshot::of(&senders),
-        };
-        let reader = scope.spawn_with(
-            task,
-            move || -> Reading
-                requires { (0 < vec_len senders) × (vec_len senders ≤ vec_capacity closed) × (closed.items ≡ [])
-                    × All (λ s. sent s ≡ []) senders.items }
-                ensures { IsReading (R.remaining source) (format_of setup.entry.now)
-                    (map sender_lane senders.items) result }
-            { read_source(rt, alloc, source, setup, senders, closed) },
-        );
-        match reader {
-            Ok(reader) => Ok(Link {
-                reader,
+        let was = Snapshot::of(&source);
+        let setup = Snapshot::of(by.setup);
+        match start_threads(by, source) {
+            Ok((reader, arms)) => Link {
+                source: was,
+                setup,
+                reader: Ok(reader),
                 arms,
                 turn: 0,
                 stopped: false,
-            }),
-            Err(refused) => {
-                // With the closure go the senders, which lets the converters end.
-                drop(refused);
-                call_off(rt, arms);
-                Err(StartFault::NoThread)
-            }
+            },
+            Err(fault) => Link {
+                source: was,
+                setup,
+                reader: Err(fault),
+                arms: Vec::new(by.alloc),
+                turn: 0,
+                stopped: true,
+            },
         }
     }
 
-    /// Looks into the lane that has the turn. Lanes that have ended have no turn.
+    /// Looks into the lane that has the turn. Lanes that have ended have no turn, and a source with no threads has
+    /// stopped.
     pub(crate) fn look(&mut self) -> Found
         ensures source { started_on self.new ≡ started_on self.old }
         ensures setup { started_by self.new ≡ started_by self.old }
         ensures kept { (row : Row) → Passed self.old row → Passed self.new row }
         ensures row { result ≡ Found.Row → IsNext self.new }
     {
-        match look_at(&mut self.arms, self.turn) {
-            Ahead::Nothing => Found::Nothing,
-            Ahead::Row => Found::Row,
-            Ahead::End => self.end_of_lane(false),
-            Ahead::Stop => self.end_of_lane(true),
+        if self.turn >= self.arms.len() {
+            return Found::Stop;
+        }
+        match Arm::look_at(&mut self.arms, self.turn) {
+            Found::End => self.end_of_lane(false),
+            Found::Stop => self.end_of_lane(true),
+            found => found,
         }
     }
 
@@ -147,10 +106,10 @@ impl<R: Read + Drop> Link<R> {
     pub(crate) fn row(&self) -> Option<&Row>
         ensures { IfSome result (λ row. Passed self.now row.now) }
     {
-        if self.stopped {
+        if self.stopped || self.turn >= self.arms.len() {
             return None;
         }
-        row_at(&self.arms, self.turn)
+        Arm::row_at(&self.arms, self.turn)
     }
 
     /// Takes the row that a look found, and gives the turn on.
@@ -160,14 +119,15 @@ impl<R: Read + Drop> Link<R> {
         ensures setup { started_by self.new ≡ started_by self.old }
         ensures kept { (row : Row) → Passed self.old row → Passed self.new row }
     {
-        pass_at(&mut self.arms, self.turn);
+        Arm::pass_at(&mut self.arms, self.turn);
         self.turn = next_open(&self.arms, self.turn);
     }
 
     /// A lane has ended, by a stop or by an end. With the last one the source has. The turn goes to the next arm whose
     /// lane has not ended, if there is one.
     fn end_of_lane(&mut self, by_stop: bool) -> Found
-        requires { AreOpen self.old.arms.items → ⊥ }
+        requires ended { AreOpen self.old.arms.items → ⊥ }
+        requires within { self.old.turn < vec_len self.old.arms }
         ensures row { result ≢ Found.Row }
         ensures source { started_on self.new ≡ started_on self.old }
         ensures setup { started_by self.new ≡ started_by self.old }
@@ -184,32 +144,109 @@ impl<R: Read + Drop> Link<R> {
         }
     }
 
-    /// Joins the threads and confirms all lanes. The answer is the number of entries of the source.
-    ///
-    /// # Errors
-    ///
-    /// The lowest of the causes that were met: those of reading, and `Unconfirmed` where a lane is not confirmed, or
-    /// where the lanes ended otherwise than the reader did.
-    pub(crate) fn finish(self, rt: &impl Threads) -> Result<u32, Cause>
-        ensures passed { HasPassed (R.remaining (started_on self)) (format_of (started_by self)) result (Passed self) }
-        ensures machine { IfOk result (λ count. ∥ IsOfMachine (R.remaining (started_on self)) count self ∥₁) }
+    /// Joins the threads and confirms all lanes.
+    pub(crate) fn finish(self, rt: &impl Threads) -> Passage<R>
+        ensures source { result.source.value ≡ started_on self }
+        ensures passed { HasPassed (R.remaining (started_on self)) (format_of (started_by self)) result.outcome
+            (Passed self) }
+        ensures machine { IfOk result.outcome (λ count.
+            ∥ IsOfMachine (R.remaining (started_on self)) (started_by self) count result.arms.value.items ∥₁) }
     {
         let Link {
+            source,
+            setup: _,
             reader,
             arms,
             turn: _,
             stopped: _,
         } = self;
-        let Reading { closed, outcome } = reader.join(rt);
-        match join_arms(rt, arms, closed) {
-            Ok(ended) => {
-                if ended == outcome.is_ok() {
-                    return outcome;
-                }
-                Err(unconfirmed_or_lower(outcome))
-            }
-            Err(_) => Err(unconfirmed_or_lower(outcome)),
+        let joined = Snapshot::of(&arms);
+        let outcome = match reader {
+            Ok(reader) => join_threads(rt, reader, arms),
+            Err(fault) => Err(fault.cause()),
+        };
+        Passage {
+            source,
+            arms: joined,
+            outcome,
         }
+    }
+}
+
+/// Starts the converters of a source and then its reader. What was not started is dropped.
+///
+/// # Errors
+///
+/// `NoMemory` where a list or a lane is refused its memory, and `NoThread` where a thread does not start.
+fn start_threads<
+    's,
+    'e,
+    T: Host,
+    R: Read + Send + Drop + 'e,
+    G: Gate + Sync,
+>(
+    by: &Starting<'s, 'e, T, G>,
+    source: R,
+) -> Result<(PromisedHandle<Reading, ReaderTask<R>>, Vec<Arm>), StartFault>
+    ensures reads { IfOk result (λ t. IsReaderOf source by.now.setup.now t.1.items t.0.promise) }
+    ensures unpopped { IfOk result (λ t. popped t.1.items ≡ 0) }
+{
+    let (rt, alloc, setup) = (by.rt, by.alloc, by.setup);
+    let Ok(closed) = Vec::with_capacity(alloc, setup.stripes()) else {
+        return Err(StartFault::NoMemory);
+    };
+    let Fan { arms, senders } = Fan::start(by)?;
+    let task = ReaderTask {
+        source: Snapshot::of(&source),
+        setup: Snapshot::of(setup),
+        senders: Snapshot::of(&senders),
+    };
+    let reader = by.scope.spawn_with(
+        task,
+        move || -> Reading
+            requires { (0 < vec_len senders) × (vec_len senders ≤ vec_capacity closed) × (closed.items ≡ [])
+                × All (λ s. sent s ≡ []) senders.items }
+            ensures { IsReading (R.remaining source) (format_of setup.entry.now)
+                (map sender_lane senders.items) result }
+        { read_source(rt, alloc, source, setup, senders, closed) },
+    );
+    match reader {
+        Ok(reader) => Ok((reader, arms)),
+        Err(refused) => {
+            // With the closure go the senders, which lets the converters end.
+            drop(refused);
+            Arm::call_off_all(rt, arms);
+            Err(StartFault::NoThread)
+        }
+    }
+}
+
+/// Joins the threads of a source and confirms all lanes. The answer is the number of entries of the source.
+///
+/// # Errors
+///
+/// The lowest of the causes that were met: those of reading, and `Unconfirmed` where a lane is not confirmed, or where
+/// the lanes ended otherwise than the reader did.
+fn join_threads<R: Read + Drop>(
+    rt: &impl Threads,
+    reader: PromisedHandle<Reading, ReaderTask<R>>,
+    arms: Vec<Arm>,
+) -> Result<u32, Cause>
+    requires { IsReaderOf reader.promise.source.value reader.promise.setup.value arms.items reader.promise }
+    ensures passed { HasPassed (R.remaining reader.promise.source.value) (format_of reader.promise.setup.value) result
+        (AnyTook arms.items) }
+    ensures machine { IfOk result (λ count. ∥ IsOfMachine (R.remaining reader.promise.source.value)
+        reader.promise.setup.value count arms.items ∥₁) }
+{
+    let Reading { closed, outcome } = reader.join(rt);
+    match Arm::join_all(rt, arms, closed) {
+        Ok(ended) => {
+            if ended == outcome.is_ok() {
+                return outcome;
+            }
+            Err(unconfirmed_or_lower(outcome))
+        }
+        Err(_) => Err(unconfirmed_or_lower(outcome)),
     }
 }
 
@@ -253,38 +290,33 @@ struct Fan {
 
 impl Fan {
     /// Starts the converters of a source.
-    fn start<'s, 'e, T: Threads + Wait + Clock + CpuClock + Sync, G: Gate + Sync>(
-        scope: &'s Scope<'s, &'e ()>,
-        rt: &'e T,
-        gate: &'e G,
-        alloc: Global,
-        patience: Patience,
-        setup: &'e Setup,
+    fn start<'s, 'e, T: Host, G: Gate + Sync>(
+        by: &Starting<'s, 'e, T, G>,
     ) -> Result<Fan, StartFault>
         ensures fed { IfOk result (λ f. map feeding_lane f.arms.items ≡ map sender_lane f.senders.items) }
-        ensures count { IfOk result (λ f. (vec_len f.senders ≡ setup.entry.now.stripes)
-            × (vec_len f.arms ≡ setup.entry.now.stripes)) }
+        ensures count { IfOk result (λ f. (vec_len f.senders ≡ by.now.setup.now.stripes)
+            × (vec_len f.arms ≡ by.now.setup.now.stripes)) }
         ensures fresh { IfOk result (λ f. All (λ s. sent s ≡ []) f.senders.items) }
         ensures setups { IfOk result (λ f. map arm_setup f.arms.items
-            ≡ replicate setup.entry.now.stripes setup.entry.now) }
+            ≡ replicate by.now.setup.now.stripes by.now.setup.now) }
         ensures unpopped { IfOk result (λ f. popped f.arms.items ≡ 0) }
     {
-        let stripes = setup.stripes();
-        let Ok(mut arms) = Vec::with_capacity(alloc, stripes) else {
+        let stripes = by.setup.stripes();
+        let Ok(mut arms) = Vec::with_capacity(by.alloc, stripes) else {
             return Err(StartFault::NoMemory);
         };
-        let Ok(mut senders) = Vec::with_capacity(alloc, stripes) else {
+        let Ok(mut senders) = Vec::with_capacity(by.alloc, stripes) else {
             return Err(StartFault::NoMemory);
         };
         for _ in 0..stripes {
-            match Arm::start(scope, rt, gate, alloc, patience, setup) {
+            match Arm::start(by) {
                 Ok((sender, arm)) => {
                     senders.push_reserved(sender);
                     arms.push_reserved(arm);
                 }
                 Err(cause) => {
                     drop(senders);
-                    call_off(rt, arms);
+                    Arm::call_off_all(by.rt, arms);
                     return Err(cause);
                 }
             }

@@ -12,7 +12,9 @@ use lane_rings::{Closed, Sender};
 use register_records::{Cause, Entry, EntryFault, EntryReader, Setup};
 use std::alloc::Global;
 use std::io::Read;
+use std::snapshot::Snapshot;
 use std::sync::Wait;
+use std::thread::Promise;
 use std::time::{Clock, CpuClock};
 
 /// What a reader hands back: what is left of its ends of the lanes, and the number of entries that it sent, or why it
@@ -21,6 +23,19 @@ use std::time::{Clock, CpuClock};
 pub(crate) struct Reading {
     pub(crate) closed: Vec<Closed<Entry>>,
     pub(crate) outcome: Result<u32, Cause>,
+}
+
+/// What a reader was started with.
+#[derive(Drop)]
+pub(crate) struct ReaderTask<R> {
+    pub(crate) source: Snapshot<R>,
+    pub(crate) setup: Snapshot<Setup>,
+    pub(crate) senders: Snapshot<Vec<Sender<Entry>>>,
+}
+
+impl<R: Read> Promise<Reading> for ReaderTask<R> {
+    ghost kept_by = { λ p r. IsReading (R.remaining p.source.value) (format_of p.setup.value)
+        (map sender_lane p.senders.value.items) r };
 }
 
 /// Sends the entries of a source to the converters by turns, and ends their lanes.

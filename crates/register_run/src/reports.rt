@@ -2,6 +2,7 @@
 
 ghost use Rattle.std.specs.Prelude.{◌≡◌};
 
+use crate::arms::Arm;
 use register_records::{Setup, SourceEnd};
 use std::snapshot::Snapshot;
 
@@ -20,8 +21,15 @@ pub struct Report<W> {
     pub outputs: Vec<W>,
     pub ends: Vec<SourceEnd>,
     pub verdict: Verdict,
-    // The setup that the threads of each source were started by: only clauses read it.
-    pub(crate) setups: Vec<Snapshot<Setup>>,
+    // How the threads of each source ran: only clauses read it.
+    pub(crate) ran: Vec<Ran>,
+}
+
+/// The setup that the threads of a source were started by, and its arms as they were joined. It takes no memory.
+#[derive(Drop)]
+pub(crate) struct Ran {
+    pub(crate) setup: Snapshot<Setup>,
+    pub(crate) arms: Snapshot<Vec<Arm>>,
 }
 
 /// Why a run did not begin: the first of these that applies.

@@ -3,23 +3,24 @@
 ghost use Rattle.std.specs.Prelude.{◌≡◌, ◌≢◌, ◌<◌, ◌≤◌, ◌↔◌, [], All, IfErr, IfOk, IsErrAnd, map, true};
 ghost use Rattle.std.specs.Prelude.{vec_capacity, vec_len};
 ghost use Rattle.register_records.specs.Sources.{is_whole_end};
-ghost use Rattle.register_run.specs.Cases.{cases, end_of, ended_case, output_of, setup_of};
-ghost use Rattle.register_run.specs.Reports.{IsReport, setups_of};
+ghost use Rattle.register_run.specs.Cases.{cases, end_of, ended_case, output_of, ran_of};
+ghost use Rattle.register_run.specs.Histories.{AreOfMachine};
+ghost use Rattle.register_run.specs.Reports.{IsReport, arms_of};
 ghost use Rattle.register_run.specs.Stations.{case_of};
 
 use crate::gates::{Gate, Open};
-use crate::reports::{Report, RunFault, RunFaultKind, Verdict};
+use crate::reports::{Ran, Report, RunFault, RunFaultKind, Verdict};
 use crate::settling::Settled;
+use crate::starting::{Host, Starting};
 use crate::stations::Station;
 use lane_rings::Patience;
 use register_records::{Output, Setup, SourceEnd};
 use std::alloc::{AllocError, Global};
 use std::io::Read;
 use std::num::NonZeroUsize;
-use std::snapshot::Snapshot;
 use std::sync::Wait;
 use std::thread;
-use std::thread::{Scope, Threads};
+use std::thread::Threads;
 use std::time::{Clock, CpuClock};
 
 /// The most sources of a run.
@@ -36,17 +37,12 @@ fn patience_for(rt: &impl Threads, sources: usize) -> Patience {
 fn start_all<
     's,
     'e,
-    T: Threads + Wait + Clock + CpuClock + Sync,
+    T: Host,
     R: Read + Send + Drop + 'e,
     W: Output + Drop,
     G: Gate + Sync,
 >(
-    scope: &'s Scope<'s, &'e ()>,
-    rt: &'e T,
-    gate: &'e G,
-    alloc: Global,
-    patience: Patience,
-    setup: &'e Setup,
+    by: &Starting<'s, 'e, T, G>,
     sources: Vec<R>,
     outputs: Vec<W>,
     stations: Vec<Station<R, W>>,
@@ -55,7 +51,7 @@ fn start_all<
     requires room { vec_len sources ≤ vec_capacity stations }
     requires none { stations.items ≡ [] }
     ensures len { vec_len result ≡ vec_len sources }
-    ensures cases { map case_of result.items ≡ cases setup.entry.now sources.items outputs.items }
+    ensures cases { map case_of result.items ≡ cases by.now.setup.now sources.items outputs.items }
 {
     let mut stations = stations;
     let mut rest = outputs.into_iter();
@@ -63,9 +59,7 @@ fn start_all<
         let Some(output) = rest.next() else {
             unreachable!()
         };
-        stations.push_reserved(Station::start(
-            scope, rt, gate, alloc, patience, setup, source, output,
-        ));
+        stations.push_reserved(Station::start(by, source, output));
     }
     stations
 }
@@ -130,37 +124,37 @@ fn report<R: Read + Drop, W: Output + Drop>(
     settled: Vec<Settled<R, W>>,
     outputs: Vec<W>,
     ends: Vec<SourceEnd>,
-    setups: Vec<Snapshot<Setup>>,
+    ran: Vec<Ran>,
 ) -> Report<W>
     requires room { (vec_len settled ≤ vec_capacity outputs) × (vec_len settled ≤ vec_capacity ends)
-        × (vec_len settled ≤ vec_capacity setups) }
-    requires none { (outputs.items ≡ []) × (ends.items ≡ []) × (setups.items ≡ []) }
+        × (vec_len settled ≤ vec_capacity ran) }
+    requires none { (outputs.items ≡ []) × (ends.items ≡ []) × (ran.items ≡ []) }
     ensures outputs { result.outputs.items ≡ map output_of settled.items }
     ensures ends { result.ends.items ≡ map end_of settled.items }
-    ensures setups { setups_of result ≡ map setup_of settled.items }
+    ensures ran { result.ran.items ≡ map ran_of settled.items }
     ensures verdict { (result.verdict ≡ Verdict.Complete) ↔ All (λ e. is_whole_end e ≡ true) result.ends.items }
 {
     let mut outputs = outputs;
     let mut ends = ends;
-    let mut setups = setups;
+    let mut ran = ran;
     for one in settled {
         let Settled {
             source: _,
             given: _,
-            setup,
+            ran: one_ran,
             output,
             end,
         } = one;
         outputs.push_reserved(output);
         ends.push_reserved(end);
-        setups.push_reserved(setup);
+        ran.push_reserved(one_ran);
     }
     let verdict = verdict_of(&ends);
     Report {
         outputs,
         ends,
         verdict,
-        setups,
+        ran,
     }
 }
 
@@ -183,11 +177,11 @@ struct Lists<R: Read, W: Output> {
     settled: Vec<Settled<R, W>>,
     outputs: Vec<W>,
     ends: Vec<SourceEnd>,
-    setups: Vec<Snapshot<Setup>>,
+    ran: Vec<Ran>,
     ghost empty: { (stations.items ≡ []) × (settled.items ≡ []) × (outputs.items ≡ []) × (ends.items ≡ [])
-        × (setups.items ≡ []) },
+        × (ran.items ≡ []) },
     ghost room: { (count ≤ vec_capacity stations) × (count ≤ vec_capacity settled) × (count ≤ vec_capacity outputs)
-        × (count ≤ vec_capacity ends) × (count ≤ vec_capacity setups) },
+        × (count ≤ vec_capacity ends) × (count ≤ vec_capacity ran) },
 }
 
 /// Makes the lists, with room for so many sources.
@@ -201,14 +195,14 @@ fn reserve<R: Read + Drop, W: Output + Drop>(
     let settled = Vec::with_capacity(alloc, count)?;
     let outputs = Vec::with_capacity(alloc, count)?;
     let ends = Vec::with_capacity(alloc, count)?;
-    let setups = Vec::with_capacity(alloc, count)?;
+    let ran = Vec::with_capacity(alloc, count)?;
     Ok(Lists {
         count,
         stations,
         settled,
         outputs,
         ends,
-        setups,
+        ran,
     })
 }
 
@@ -227,23 +221,20 @@ fn refused<R, W>(kind: RunFaultKind, sources: Vec<R>, outputs: Vec<W>) -> RunFau
 fn run_all<
     's,
     'e,
-    T: Threads + Wait + Clock + CpuClock + Sync,
+    T: Host,
     R: Read + Send + Drop + 'e,
     W: Output + Drop,
     G: Gate + Sync,
 >(
-    scope: &'s Scope<'s, &'e ()>,
-    rt: &'e T,
-    gate: &'e G,
-    alloc: Global,
-    setup: &'e Setup,
+    by: &Starting<'s, 'e, T, G>,
     sources: Vec<R>,
     outputs: Vec<W>,
     lists: Lists<R, W>,
 ) -> Report<W>
     requires { (vec_len sources ≡ lists.count) × (vec_len outputs ≡ lists.count) }
-    ensures { IsReport R.remaining W.contents W.has_failed W.is_flushed W.own_mark
-        setup.entry.now sources.items outputs.items result }
+    ensures report { IsReport R.remaining W.contents W.has_failed W.is_flushed W.own_mark
+        by.now.setup.now sources.items outputs.items result }
+    ensures machine { AreOfMachine R.remaining by.now.setup.now sources.items result.ends.items (arms_of result) }
 {
     let Lists {
         count: _,
@@ -251,29 +242,18 @@ fn run_all<
         settled,
         outputs: written,
         ends,
-        setups,
+        ran,
     } = lists;
-    let patience = patience_for(rt, sources.len());
-    let mut stations = start_all(
-        scope, rt, gate, alloc, patience, setup, sources, outputs, stations,
-    );
+    let mut stations = start_all(by, sources, outputs, stations);
     // This thread is two lanes further than the readers.
-    drive(
-        rt,
-        patience.a_lane_further().a_lane_further(),
-        &mut stations,
-    );
-    let settled = settle_all(rt, stations, settled);
-    report(settled, written, ends, setups)
+    let patience = by.patience.a_lane_further().a_lane_further();
+    drive(by.rt, patience, &mut stations);
+    let settled = settle_all(by.rt, stations, settled);
+    report(settled, written, ends, ran)
 }
 
 /// The run, with threads that end before it answers.
-fn run_in_scope<
-    T: Threads + Wait + Clock + CpuClock + Sync,
-    R: Read + Send + Drop,
-    W: Output + Drop,
-    G: Gate + Sync,
->(
+fn run_in_scope<T: Host, R: Read + Send + Drop, W: Output + Drop, G: Gate + Sync>(
     rt: &T,
     gate: &G,
     alloc: Global,
@@ -283,17 +263,30 @@ fn run_in_scope<
     lists: Lists<R, W>,
 ) -> Report<W>
     requires { (vec_len sources ≡ lists.count) × (vec_len outputs ≡ lists.count) }
-    ensures { IsReport R.remaining W.contents W.has_failed W.is_flushed W.own_mark
+    ensures report { IsReport R.remaining W.contents W.has_failed W.is_flushed W.own_mark
         setup.now sources.items outputs.items result }
+    ensures machine { AreOfMachine R.remaining setup.now sources.items result.ends.items (arms_of result) }
 {
+    let patience = patience_for(rt, sources.len());
     thread::scope(
         thread::scope_env(),
         rt,
         move |scope| -> Report<W>
             requires { (vec_len sources ≡ lists.count) × (vec_len outputs ≡ lists.count) }
             ensures { IsReport R.remaining W.contents W.has_failed W.is_flushed W.own_mark
-                setup.entry.now sources.items outputs.items result }
-        { run_all(scope, rt, gate, alloc, setup, sources, outputs, lists) },
+                setup.entry.now sources.items outputs.items result
+                × AreOfMachine R.remaining setup.entry.now sources.items result.ends.items (arms_of result) }
+        {
+            let by = Starting {
+                scope,
+                rt,
+                gate,
+                alloc,
+                patience,
+                setup,
+            };
+            run_all(&by, sources, outputs, lists)
+        },
     )
 }
 
@@ -327,6 +320,11 @@ pub fn run_gated<
     ensures report { IfOk result (λ r.
         IsReport R.remaining W.contents W.has_failed W.is_flushed W.own_mark
         setup.now sources.items outputs.items r) }
+
+    // The lanes of a source that is whole carried just what the lanes of the machine of striped lanes carry in some
+    // schedule with the entries of its text, for which `laws::every_schedule` says what holds.
+    ensures machine { IfOk result (λ r.
+        AreOfMachine R.remaining setup.now sources.items r.ends.items (arms_of r)) }
 
     // A run that did not begin.
     ensures unchanged { IfErr result (λ e. (e.sources ≡ sources) × (e.outputs ≡ outputs)) }
@@ -377,6 +375,11 @@ pub fn run<T: Threads + Wait + Clock + CpuClock + Sync, R: Read + Send + Drop, W
     ensures report { IfOk result (λ r.
         IsReport R.remaining W.contents W.has_failed W.is_flushed W.own_mark
         setup.now sources.items outputs.items r) }
+
+    // The lanes of a source that is whole carried just what the lanes of the machine of striped lanes carry in some
+    // schedule with the entries of its text, for which `laws::every_schedule` says what holds.
+    ensures machine { IfOk result (λ r.
+        AreOfMachine R.remaining setup.now sources.items r.ends.items (arms_of r)) }
 
     // A run that did not begin.
     ensures unchanged { IfErr result (λ e. (e.sources ≡ sources) × (e.outputs ≡ outputs)) }

@@ -7,8 +7,10 @@ ghost use Rattle.register_records.specs.declared.sources.Cause.TheVariants as ca
 ghost use Rattle.register_records.specs.declared.sources.SourceEnd.TheVariants as ended;
 ghost use Rattle.register_run.specs.Passages.{IsNotSunk, is_of_reading};
 ghost use Rattle.register_run.specs.Headline.{IsSettled};
+ghost use Rattle.register_run.specs.Histories.{IsOfMachine};
 
-use register_records::{Cause, Note, Output, Setup, SourceEnd};
+use crate::reports::Ran;
+use register_records::{Cause, Note, Output, SourceEnd};
 use std::io::Read;
 use std::snapshot::Snapshot;
 
@@ -17,13 +19,15 @@ use std::snapshot::Snapshot;
 pub(crate) struct Settled<R: Read, W: Output> {
     pub(crate) source: Snapshot<R>,
     pub(crate) given: Snapshot<W>,
-    pub(crate) setup: Snapshot<Setup>,
+    pub(crate) ran: Ran,
     pub(crate) output: W,
     pub(crate) end: SourceEnd,
     pub ghost marked: { W.own_mark output ≡ W.own_mark given.value },
     pub ghost untouched: { end ≡ ended.Broken cause.BadHeader → output ≡ given.value },
-    pub ghost settled: { ∥ IsSettled W.contents W.has_failed W.is_flushed (layout_of setup.value)
+    pub ghost settled: { ∥ IsSettled W.contents W.has_failed W.is_flushed (layout_of ran.setup.value)
         (R.remaining source.value) given.value output end ∥₁ },
+    pub ghost machine: { ∥ IfWhole end (λ count refused journal.
+        IsOfMachine (R.remaining source.value) ran.setup.value count ran.arms.value.items) ∥₁ },
 }
 
 /// The lower of two causes, which is the one that is told.

@@ -1,27 +1,24 @@
-//! Why the threads of a source do not start.
+//! What the threads of a run are started with.
 
-ghost use Rattle.std.specs.Prelude.{◌≡◌};
-ghost use Rattle.register_run.specs.Starts.{start_fault_cause};
+use lane_rings::Patience;
+use register_records::Setup;
+use std::alloc::Global;
+use std::sync::Wait;
+use std::thread::{Scope, Threads};
+use std::time::{Clock, CpuClock};
 
-use register_records::Cause;
+/// The runtime of a run: it starts threads, waits and tells the time, in each of them.
+pub(crate) trait Host: Threads + Wait + Clock + CpuClock + Sync {}
 
-/// Why the threads of a source did not start.
-#[derive(Clone, Copy)]
-pub(crate) enum StartFault {
-    /// A list or a lane was refused its memory.
-    NoMemory,
-    /// A thread did not start.
-    NoThread,
-}
+impl<T: Threads + Wait + Clock + CpuClock + Sync> Host for T {}
 
-impl StartFault {
-    /// The cause that the fault is.
-    pub(crate) fn cause(self) -> Cause
-        ensures { result ≡ start_fault_cause self }
-    {
-        match self {
-            StartFault::NoMemory => Cause::NoMemory,
-            StartFault::NoThread => Cause::NoThread,
-        }
-    }
+/// What all threads of a run are started with. `patience` is that of a reader.
+#[derive(Drop)]
+pub(crate) struct Starting<'s, 'e, T, G> {
+    pub(crate) scope: &'s Scope<'s, &'e ()>,
+    pub(crate) rt: &'e T,
+    pub(crate) gate: &'e G,
+    pub(crate) alloc: Global,
+    pub(crate) patience: Patience,
+    pub(crate) setup: &'e Setup,
 }

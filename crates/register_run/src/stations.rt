@@ -1,22 +1,19 @@
 //! A source's place at the thread that writes.
 
 ghost use Rattle.std.specs.Prelude.{◌≡◌};
-ghost use Rattle.register_run.specs.Feeds.{IsFound, fed_by};
+ghost use Rattle.register_run.specs.Links.{IsNext, started_by};
 ghost use Rattle.register_run.specs.TablesWritten.{made_by};
 ghost use Rattle.register_run.specs.Written.{Wrote};
 
-use crate::feeds::Feed;
+use crate::arms::Found;
 use crate::gates::Gate;
-use crate::links::Found;
+use crate::links::Link;
 use crate::settling::Settled;
+use crate::starting::{Host, Starting};
 use crate::tables::Table;
-use lane_rings::Patience;
-use register_records::{Output, Setup};
-use std::alloc::Global;
+use register_records::Output;
 use std::io::Read;
-use std::sync::Wait;
-use std::thread::{Scope, Threads};
-use std::time::{Clock, CpuClock};
+use std::thread::Threads;
 
 /// How many items are taken at most before a source's lines are written and the next source has its turn.
 const MOST_AT_ONCE: u32 = 1024;
@@ -24,12 +21,12 @@ const MOST_AT_ONCE: u32 = 1024;
 /// The threads of a source, and its table.
 #[derive(Drop)]
 pub(crate) struct Station<R: Read, W: Output> {
-    feed: Feed<R>,
+    link: Link<R>,
     table: Table<W>,
     // Whether items may still come.
     open: bool,
-    ghost by_one_setup: { fed_by feed ≡ made_by table },
-    ghost wrote: { ∥ Wrote feed table ∥₁ },
+    ghost by_one_setup: { started_by link ≡ made_by table },
+    ghost wrote: { ∥ Wrote link table ∥₁ },
 }
 
 impl<R: Read + Drop, W: Output + Drop> Station<R, W> {
@@ -37,23 +34,18 @@ impl<R: Read + Drop, W: Output + Drop> Station<R, W> {
     ghost use Rattle.register_run.specs.Stations.{case_of};
 
     /// Starts the threads of a source.
-    pub(crate) fn start<'s, 'e, T: Threads + Wait + Clock + CpuClock + Sync, G: Gate + Sync>(
-        scope: &'s Scope<'s, &'e ()>,
-        rt: &'e T,
-        gate: &'e G,
-        alloc: Global,
-        patience: Patience,
-        setup: &'e Setup,
+    pub(crate) fn start<'s, 'e, T: Host, G: Gate + Sync>(
+        by: &Starting<'s, 'e, T, G>,
         source: R,
         output: W,
     ) -> Station<R, W>
     where
         R: Send + 'e,
-        ensures { case_of result ≡ case source output setup.entry.now }
+        ensures { case_of result ≡ case source output by.now.setup.now }
     {
-        let table = Table::new(alloc, output, setup);
+        let table = Table::new(by.alloc, output, by.setup);
         Station {
-            feed: Feed::start(scope, rt, gate, alloc, patience, setup, source),
+            link: Link::start(by, source),
             table,
             open: true,
         }
@@ -89,7 +81,7 @@ impl<R: Read + Drop, W: Output + Drop> Station<R, W> {
         if !self.open {
             return false;
         }
-        match self.feed.look() {
+        match self.link.look() {
             Found::Nothing => return false,
             Found::Row => self.take_row(),
             Found::Other => {}
@@ -104,19 +96,19 @@ impl<R: Read + Drop, W: Output + Drop> Station<R, W> {
 
     /// Adds the row that a look found to the table from where it lies in its lane, and then takes it.
     fn take_row(&mut self)
-        requires { IsFound self.old.feed }
+        requires { IsNext self.old.link }
         ensures { case_of self.new ≡ case_of self.old }
     {
         self.add_row();
-        self.feed.pass();
+        self.link.pass();
     }
 
     /// Adds the row that a look found to the table, unless it came after a stop.
     fn add_row(&mut self)
         ensures case { case_of self.new ≡ case_of self.old }
-        ensures feed { self.new.feed ≡ self.old.feed }
+        ensures link { self.new.link ≡ self.old.link }
     {
-        if let Some(row) = self.feed.row() {
+        if let Some(row) = self.link.row() {
             self.table.add(row);
         }
     }
@@ -133,11 +125,10 @@ impl<R: Read + Drop, W: Output + Drop> Station<R, W> {
         ensures { ended_case result ≡ case_of self }
     {
         let Station {
-            feed,
+            link,
             table,
             open: _,
         } = self;
-        let (source, passed) = feed.finish(rt);
-        table.conclude(source, passed)
+        table.conclude(link.finish(rt))
     }
 }

@@ -10,6 +10,8 @@ ghost use Rattle.register_records.specs.Views.{row_seen, writer_sunk};
 ghost use Rattle.register_records.specs.declared.sources.Cause.TheVariants as cause;
 ghost use Rattle.register_run.specs.Passages.{is_of_reading};
 
+use crate::links::Passage;
+use crate::reports::Ran;
 use crate::settling::{Settled, end_of_source};
 use register_records::laws::tables_grow;
 use register_records::{Cause, MOST_WAITING, Note, Output, Row, RowFault, RowWriter, Setup};
@@ -49,6 +51,8 @@ impl<W: Output + Drop> Table<W> {
     ghost use Rattle.std.specs.Prelude.{List};
     ghost use Rattle.register_records.specs.Views.{row_targets, targets_of};
     ghost use Rattle.register_records.specs.declared.rows.Row.{Row};
+    ghost use Rattle.std.specs.Prelude.{IfOk};
+    ghost use Rattle.register_run.specs.Histories.{IsOfMachine};
     ghost use Rattle.register_run.specs.Passages.{IsNotSunk};
     ghost use Rattle.register_run.specs.TablesWritten.{AllSent, Holds, made_by, made_for};
     ghost use Rattle.register_run.specs.Written.{Concludes};
@@ -167,18 +171,21 @@ impl<W: Output + Drop> Table<W> {
         }
     }
 
-    /// What is left of the source, once its lines are written. `passed` is what its threads answered.
-    pub(crate) fn conclude<R: Read + Drop>(
-        self,
-        source: Snapshot<R>,
-        passed: Result<u32, Cause>,
-    ) -> Settled<R, W>
-        requires not_sunk { IsNotSunk passed }
-        requires passed { ∥ Concludes (R.remaining source.value) self passed ∥₁ }
-        ensures source { result.source.value ≡ source.value }
+    /// What is left of the source, once its lines are written.
+    pub(crate) fn conclude<R: Read + Drop>(self, passage: Passage<R>) -> Settled<R, W>
+        requires not_sunk { IsNotSunk passage.outcome }
+        requires passed { ∥ Concludes (R.remaining passage.source.value) self passage.outcome ∥₁ }
+        requires machine { IfOk passage.outcome (λ count. ∥ IsOfMachine (R.remaining passage.source.value)
+            (made_by self) count passage.arms.value.items ∥₁) }
+        ensures source { result.source.value ≡ passage.source.value }
         ensures output { result.given.value ≡ made_for self }
-        ensures setup { result.setup.value ≡ made_by self }
+        ensures setup { result.ran.setup.value ≡ made_by self }
     {
+        let Passage {
+            source,
+            arms,
+            outcome,
+        } = passage;
         let mut table = self;
         table.send();
         let Table {
@@ -193,11 +200,11 @@ impl<W: Output + Drop> Table<W> {
             fault,
         } = table;
         let setup = Snapshot::of(&setup);
-        let end = end_of_source(passed, fault, writer.is_some(), rows, journal);
+        let end = end_of_source(outcome, fault, writer.is_some(), rows, journal);
         Settled {
             source,
             given,
-            setup,
+            ran: Ran { setup, arms },
             output,
             end,
         }

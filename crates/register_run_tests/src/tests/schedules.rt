@@ -1,6 +1,6 @@
 //! A plain program of its own for the machine of striped lanes. It runs every schedule of a few acts and looks at the
 //! state after it: the law holds there, and each wrong machine breaks it where its name says. The states are those of
-//! the definition, which comes to the same checksums in proofs/ScheduleExamples.antt.
+//! the definition, which comes to the same checksums in proofs/ScheduleExamples.antt of striped_lanes.
 
 use register_run::laws::every_schedule;
 

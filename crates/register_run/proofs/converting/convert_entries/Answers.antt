@@ -2,8 +2,8 @@ use Rattle.std.proofs.Common.{◌∙◌, ap, refl, sym, Some}
 use Rattle.lane_rings.specs.Items.{entries_in}
 use Rattle.lane_rings.specs.declared.item.Item.TheVariants as item
 use Rattle.lane_rings.specs.Lane.{all_sent, sent, taken, waiting}
-use Rattle.register_run.proofs.CarriedLemmas.{all_ended, first_ended, first_of_all, no_more, none_taken, row_left}
-use Rattle.register_run.proofs.CarriedLemmas.{row_sent, stop_is_no_end}
+use Rattle.register_run.proofs.CarriedLemmas.{all_ended, first_ended, first_of_all, none_taken, row_left, row_sent}
+use Rattle.register_run.proofs.ConvertingLemmas.{mark_taken, stops}
 use Rattle.register_run.proofs.PassageLemmas.{took_next}
 use Rattle.register_run.proofs.converting.convert_entries.Goals as goal
 
@@ -51,69 +51,43 @@ loop-preserved g c =
 
 pub returns-then-is_err : goal.returns-then-is_err
 returns-then-is_err g c =
-    let same = ap (λ l. entries_in l) c.wait.ensures.taken in record {
-      handed = c.wait.ensures.lane ∙ c.loop.invariant.from;
-      closed = λ sure. c.stop-closed.ensures.lane sure ∙ ap (λ l. Some l) c.loop.invariant.into;
-      rows = λ sure. first_ended (taken c.loop.entries) (taken c.wait.new.self) (sent c.loop.rows)
-          (all_sent c.stop-closed.result) item.Stop same refl (c.stop-closed.ensures.sent sure) c.loop.invariant.rows;
-      all = λ sure ends. stop_is_no_end (taken c.wait.new.self) (sent c.loop.rows) (all_sent c.stop-closed.result)
-          (c.stop-closed.ensures.sent sure) ends;
-    }
+    stops _ _ (taken c.loop.entries) c.wait.new.self c.loop.rows c.stop-closed.result
+    (c.wait.ensures.lane ∙ c.loop.invariant.from) c.loop.invariant.into c.stop-closed.ensures.lane
+    c.stop-closed.ensures.sent (ap (λ l. entries_in l) c.wait.ensures.taken) c.loop.invariant.rows
 
 pub returns-in-Some-End : goal.returns-in-Some-End
 returns-in-Some-End g c =
-    let next = rw c.in-Some-End.field-0-is at c.in-Some-End.ensures.next in
-    let is =
-    took_next (taken c.loop.entries) (taken c.wait.new.self) (waiting c.wait.new.self)
-    (taken c.pass-in-Some-End.new.self) (waiting c.pass-in-Some-End.new.self) (item.End c.in-Some-End.count)
-    c.wait.ensures.taken next c.pass-in-Some-End.ensures.taken c.pass-in-Some-End.ensures.one in
+    let rows = c.loop.rows in let closed = c.close-closed in let new = c.pass-in-Some-End.new.self in
+    let count = c.in-Some-End.count in
     let same =
-    no_more (taken c.loop.entries) (taken c.pass-in-Some-End.new.self) (item.End c.in-Some-End.count) refl is in
-    record {
+    mark_taken (taken c.loop.entries) (taken c.wait.new.self) (waiting c.wait.new.self) (taken new) (waiting new)
+    (item.End count) refl c.wait.ensures.taken (rw c.in-Some-End.field-0-is at c.in-Some-End.ensures.next)
+    c.pass-in-Some-End.ensures.taken c.pass-in-Some-End.ensures.one in record {
       handed = c.pass-in-Some-End.ensures.lane ∙ c.wait.ensures.lane ∙ c.loop.invariant.from;
-      closed = λ sure. c.close-closed.ensures.lane sure ∙ ap (λ l. Some l) c.loop.invariant.into;
-      rows = λ sure. first_ended (taken c.loop.entries) (taken c.pass-in-Some-End.new.self) (sent c.loop.rows)
-          (all_sent c.close-closed.result) (item.End c.in-Some-End.count) same refl (c.close-closed.ensures.sent sure)
-          c.loop.invariant.rows;
-      all = λ sure ends. all_ended (taken c.loop.entries) (taken c.pass-in-Some-End.new.self) (sent c.loop.rows)
-          (all_sent c.close-closed.result) (item.End c.in-Some-End.count) same refl (c.close-closed.ensures.sent sure)
-          (c.loop.invariant.all c.if-gone.false);
+      closed = λ sure. closed.ensures.lane sure ∙ ap (λ l. Some l) c.loop.invariant.into;
+      rows = λ sure. first_ended (taken c.loop.entries) (taken new) (sent rows) (all_sent closed.result) (item.End count)
+          same refl (closed.ensures.sent sure) c.loop.invariant.rows;
+      all = λ sure ends. all_ended (taken c.loop.entries) (taken new) (sent rows) (all_sent closed.result) (item.End count)
+          same refl (closed.ensures.sent sure) (c.loop.invariant.all c.if-gone.false);
     }
 
 pub returns-then-gone : goal.returns-then-gone
 returns-then-gone g c =
-    let next = rw c.in-Some-End.field-0-is at c.in-Some-End.ensures.next in
-    let is =
-    took_next (taken c.loop.entries) (taken c.wait.new.self) (waiting c.wait.new.self)
-    (taken c.pass-in-Some-End.new.self) (waiting c.pass-in-Some-End.new.self) (item.End c.in-Some-End.count)
-    c.wait.ensures.taken next c.pass-in-Some-End.ensures.taken c.pass-in-Some-End.ensures.one in
-    let same =
-    no_more (taken c.loop.entries) (taken c.pass-in-Some-End.new.self) (item.End c.in-Some-End.count) refl is in
-    record {
-      handed = c.pass-in-Some-End.ensures.lane ∙ c.wait.ensures.lane ∙ c.loop.invariant.from;
-      closed = λ sure. c.stop-closed-then-gone.ensures.lane sure ∙ ap (λ l. Some l) c.loop.invariant.into;
-      rows = λ sure. first_ended (taken c.loop.entries) (taken c.pass-in-Some-End.new.self) (sent c.loop.rows)
-          (all_sent c.stop-closed-then-gone.result) item.Stop same refl (c.stop-closed-then-gone.ensures.sent sure)
-          c.loop.invariant.rows;
-      all = λ sure ends. stop_is_no_end (taken c.pass-in-Some-End.new.self) (sent c.loop.rows)
-          (all_sent c.stop-closed-then-gone.result)
-          (c.stop-closed-then-gone.ensures.sent sure) ends;
-    }
+    let new = c.pass-in-Some-End.new.self in
+    stops _ _ (taken c.loop.entries) new c.loop.rows c.stop-closed-then-gone.result
+    (c.pass-in-Some-End.ensures.lane ∙ c.wait.ensures.lane ∙ c.loop.invariant.from) c.loop.invariant.into
+    c.stop-closed-then-gone.ensures.lane c.stop-closed-then-gone.ensures.sent
+    (mark_taken (taken c.loop.entries) (taken c.wait.new.self) (waiting c.wait.new.self) (taken new) (waiting new)
+    (item.End c.in-Some-End.count) refl c.wait.ensures.taken
+    (rw c.in-Some-End.field-0-is at c.in-Some-End.ensures.next)
+    c.pass-in-Some-End.ensures.taken c.pass-in-Some-End.ensures.one) c.loop.invariant.rows
 
 pub returns-in-Some-Stop : goal.returns-in-Some-Stop
 returns-in-Some-Stop g c =
-    let next = rw c.in-Some-Stop.field-0-is at c.in-Some-Stop.ensures.next in
-    let is =
-    took_next (taken c.loop.entries) (taken c.wait.new.self) (waiting c.wait.new.self)
-    (taken c.pass-in-Some-Stop.new.self) (waiting c.pass-in-Some-Stop.new.self) item.Stop
-    c.wait.ensures.taken next c.pass-in-Some-Stop.ensures.taken c.pass-in-Some-Stop.ensures.one in
-    let same = no_more (taken c.loop.entries) (taken c.pass-in-Some-Stop.new.self) item.Stop refl is in record {
-      handed = c.pass-in-Some-Stop.ensures.lane ∙ c.wait.ensures.lane ∙ c.loop.invariant.from;
-      closed = λ sure. c.stop-closed-in-Some-Stop.ensures.lane sure ∙ ap (λ l. Some l) c.loop.invariant.into;
-      rows = λ sure. first_ended (taken c.loop.entries) (taken c.pass-in-Some-Stop.new.self) (sent c.loop.rows)
-          (all_sent c.stop-closed-in-Some-Stop.result) item.Stop same refl
-          (c.stop-closed-in-Some-Stop.ensures.sent sure) c.loop.invariant.rows;
-      all = λ sure ends. stop_is_no_end (taken c.pass-in-Some-Stop.new.self) (sent c.loop.rows)
-          (all_sent c.stop-closed-in-Some-Stop.result)
-          (c.stop-closed-in-Some-Stop.ensures.sent sure) ends;
-    }
+    let new = c.pass-in-Some-Stop.new.self in
+    stops _ _ (taken c.loop.entries) new c.loop.rows c.stop-closed-in-Some-Stop.result
+    (c.pass-in-Some-Stop.ensures.lane ∙ c.wait.ensures.lane ∙ c.loop.invariant.from) c.loop.invariant.into
+    c.stop-closed-in-Some-Stop.ensures.lane c.stop-closed-in-Some-Stop.ensures.sent
+    (mark_taken (taken c.loop.entries) (taken c.wait.new.self) (waiting c.wait.new.self) (taken new) (waiting new)
+    item.Stop refl c.wait.ensures.taken (rw c.in-Some-Stop.field-0-is at c.in-Some-Stop.ensures.next)
+    c.pass-in-Some-Stop.ensures.taken c.pass-in-Some-Stop.ensures.one) c.loop.invariant.rows

@@ -9,7 +9,7 @@ use Rattle.register_records.specs.Views.{format_of, given_of, reads_by, text_of}
 use Rattle.register_run.specs.Carried.{AreDealt}
 use Rattle.register_run.proofs.DealtLemmas.{dealt_none, dealt_send, dealt_unsent}
 use Rattle.register_run.proofs.GivenLemmas.{given_none, numbered_more, sends_all, sends_gone, sends_stopped}
-use Rattle.register_run.specs.Machine.{turn}
+use Rattle.striped_lanes.specs.Machine.{turn}
 use Rattle.register_run.proofs.reading.send_entries.Goals as goal
 
 pub returns-in-Err-clause-sends : goal.returns-in-Err-clause-sends

@@ -4,7 +4,7 @@ use Rattle.register_records.specs.Entries.{AreNumberedFrom}
 use Rattle.register_records.specs.Views.{given_of, reader_failed, reads_by, text_of}
 use Rattle.register_records.specs.Views.{format_of}
 use Rattle.register_run.specs.Carried.{AreDealt}
-use Rattle.register_run.specs.Machine.{World}
+use Rattle.register_run.specs.Worlds.{World}
 use Rattle.register_run.proofs.reading.send_entries.Given as goal
 
 abbrev pub invariant-loop : goal.invariant-loop

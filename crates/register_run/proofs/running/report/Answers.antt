@@ -1,6 +1,6 @@
 use Rattle.std.proofs.Common.{◌∙◌, refl, rules, sym}
-use Rattle.register_run.specs.Cases.{end_of, output_of, setup_of}
-use Rattle.register_run.proofs.MoveLemmas.{all_made, made_more, seen_more}
+use Rattle.register_run.specs.Cases.{end_of, output_of, ran_of}
+use Rattle.register_run.proofs.MoveLemmas.{all_made, seen_more}
 use Rattle.register_run.proofs.running.report.Goals as goal
 
 pub loop-one-preserved : goal.loop-one-preserved
@@ -14,10 +14,9 @@ loop-one-preserved g c = record {
   ends =
       seen_more end_of _ c.loop-one.ends.items c.push_reserved-in-loop-one.new.self.items _ _ _ c.in-Some.one
       c.push_reserved-in-loop-one.ensures.items refl c.in-Some.ensures.steps.0 c.loop-one.invariant.ends;
-  setups =
-      made_more (λ s. s.value) setup_of _ c.loop-one.setups.items c.push_reserved-in-loop-one-2.new.self.items _ _ _
-      c.in-Some.one
-      c.push_reserved-in-loop-one-2.ensures.items refl c.in-Some.ensures.steps.0 c.loop-one.invariant.setups;
+  ran =
+      seen_more ran_of _ c.loop-one.ran.items c.push_reserved-in-loop-one-2.new.self.items _ _ _ c.in-Some.one
+      c.push_reserved-in-loop-one-2.ensures.items refl c.in-Some.ensures.steps.0 c.loop-one.invariant.ran;
 }
 
 pub returns-clause-outputs : goal.returns-clause-outputs
@@ -30,7 +29,7 @@ returns-clause-ends g c =
     all_made end_of _ _ _ (sym c.loop-one.one-iterator.rest.ok.0 ∙ c.in-None.ensures.steps.0)
     c.loop-one.invariant.ends
 
-pub returns-clause-setups : goal.returns-clause-setups
-returns-clause-setups g c =
-    all_made setup_of _ _ _ (sym c.loop-one.one-iterator.rest.ok.0 ∙ c.in-None.ensures.steps.0)
-    c.loop-one.invariant.setups
+pub returns-clause-ran : goal.returns-clause-ran
+returns-clause-ran g c =
+    all_made ran_of _ _ _ (sym c.loop-one.one-iterator.rest.ok.0 ∙ c.in-None.ensures.steps.0)
+    c.loop-one.invariant.ran

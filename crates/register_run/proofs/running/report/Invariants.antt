@@ -1,15 +1,14 @@
 use Rattle.std.proofs.Common.{◌≡◌, ◌+◌, ◌≤◌, ◌++◌, map, vec_len, vec_capacity}
 use Rattle.std.specs.Vec.Iter.{into_iter_items, into_iter_len}
-use Rattle.register_run.specs.Cases.{end_of, output_of, setup_of}
+use Rattle.register_run.specs.Cases.{end_of, output_of, ran_of}
 use Rattle.register_run.proofs.running.report.Given as goal
 
 abbrev pub invariant-loop-one : goal.invariant-loop-one
 invariant-loop-one g l = record {
   room : vec_len l.outputs + into_iter_len l.one-iterator ≤ vec_capacity l.outputs;
   space : vec_len l.ends + into_iter_len l.one-iterator ≤ vec_capacity l.ends;
-  more : vec_len l.setups + into_iter_len l.one-iterator ≤ vec_capacity l.setups;
+  more : vec_len l.ran + into_iter_len l.one-iterator ≤ vec_capacity l.ran;
   outputs : l.outputs.items ++ map output_of (into_iter_items l.one-iterator) ≡ map output_of l.fn.settled.items;
   ends : l.ends.items ++ map end_of (into_iter_items l.one-iterator) ≡ map end_of l.fn.settled.items;
-  setups : map (λ s. s.value) l.setups.items ++ map setup_of (into_iter_items l.one-iterator)
-      ≡ map setup_of l.fn.settled.items;
+  ran : l.ran.items ++ map ran_of (into_iter_items l.one-iterator) ≡ map ran_of l.fn.settled.items;
 }

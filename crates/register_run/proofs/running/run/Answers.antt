@@ -3,6 +3,9 @@ use Rattle.register_run.proofs.running.run.Goals as goal
 pub returns-clause-report : goal.returns-clause-report
 returns-clause-report g c = c.run_gated.ensures.report
 
+pub returns-clause-machine : goal.returns-clause-machine
+returns-clause-machine g c = c.run_gated.ensures.machine
+
 pub returns-clause-unchanged : goal.returns-clause-unchanged
 returns-clause-unchanged g c = c.run_gated.ensures.unchanged
 

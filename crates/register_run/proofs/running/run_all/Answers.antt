@@ -1,14 +1,17 @@
 use Rattle.std.proofs.Common.{◌≡◌, ◌∙◌, arith, length}
-use Rattle.register_run.proofs.HeadlineLemmas.{report_of}
+use Rattle.register_run.proofs.HeadlineLemmas.{report_of, report_of_machine}
 use Rattle.register_run.proofs.running.run_all.Goals as goal
 
 pub returns : goal.returns
 returns g c =
-    let same : length c.args.sources.items ≡ length c.args.outputs.items =
+    let setup = c.args.by.now.setup.now in let settled = c.settle_all-settled.result.items in
+    let sources = c.args.sources.items in let outputs = c.args.outputs.items in
+    let same : length sources ≡ length outputs =
     (let a = c.args.sources.ok.0 in let b = c.args.outputs.ok.0 in let p = c.requires.0 in let q = c.requires.1 in
     omega arith) in
-    report_of c.args.setup.now c.settle_all-settled.result.items c.args.sources.items c.args.outputs.items
-    c.report.result same
-    (c.settle_all-settled.ensures.cases ∙ c.drive.ensures.cases
-    ∙ c.start_all-stations.ensures.cases) c.report.ensures.outputs c.report.ensures.ends c.report.ensures.setups
-    c.report.ensures.verdict
+    let is = c.settle_all-settled.ensures.cases ∙ c.drive.ensures.cases ∙ c.start_all-stations.ensures.cases in
+    let told = c.report.ensures in record {
+      report = report_of setup settled sources outputs same is c.report.result told.ends told.ran told.outputs
+          told.verdict;
+      machine = report_of_machine setup settled sources outputs same is c.report.result told.ends told.ran;
+    }

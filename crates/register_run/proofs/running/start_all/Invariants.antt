@@ -9,6 +9,6 @@ invariant-loop-source g l = record {
   room : vec_len l.stations + into_iter_len l.source-iterator ≤ vec_capacity l.stations;
   len : vec_len l.stations + into_iter_len l.source-iterator ≡ vec_len l.fn.sources;
   same : into_iter_len l.source-iterator ≡ into_iter_len l.rest;
-  cases : map case_of l.stations.items ++ cases l.setup (into_iter_items l.source-iterator) (into_iter_items l.rest)
-      ≡ cases l.setup l.fn.sources.items l.fn.outputs.items;
+  cases : map case_of l.stations.items ++ cases l.by.setup.now (into_iter_items l.source-iterator) (into_iter_items l.rest)
+      ≡ cases l.by.setup.now l.fn.sources.items l.fn.outputs.items;
 }

@@ -7,7 +7,7 @@ use Rattle.register_run.proofs.arms.Arm.look.Goals as goal
 pub returns-in-Ok-true-clause-kept : goal.returns-in-Ok-true-clause-kept
 unfolding ArmTook
 returns-in-Ok-true-clause-kept c =
-    λ row h. c.ahead.ensures.kept row
+    λ row h. c.found.ensures.kept row
     (seen_kept (taken c.args.self.now.rows) (taken c.look.new.self) (waiting c.args.self.now.rows)
     (waiting c.look.new.self) c.look.ensures.taken c.look.ensures.waiting (item.Entry row) h)
 

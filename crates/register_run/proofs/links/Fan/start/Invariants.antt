@@ -10,7 +10,7 @@ invariant-loop g l = record {
   arms : (vec_len l.arms ≡ l.counter) × (l.stripes ≤ vec_capacity l.arms);
   senders : (vec_len l.senders ≡ l.counter) × (l.stripes ≤ vec_capacity l.senders);
   fed : map feeding_lane l.arms.items ≡ map sender_lane l.senders.items;
-  setups : map arm_setup l.arms.items ≡ replicate l.counter l.setup;
+  setups : map arm_setup l.arms.items ≡ replicate l.counter l.by.setup.now;
   fresh : All (λ s. sent s ≡ []) l.senders.items;
   unpopped : popped l.arms.items ≡ 0;
 }

@@ -1,43 +1,24 @@
-use Rattle.std.proofs.Common.{Err, [], length, refl, subst, sym}
-use Rattle.std.proofs.Math.Logic.{∥∥₁_map}
-use Rattle.date_texts.specs.declared.refusal.Refusal.TheVariants as refusal
-use Rattle.register_run.specs.Machine.{World}
-use Rattle.register_run.proofs.ArmLemmas.{took_given}
-use Rattle.register_run.specs.Links.{started_on}
-use Rattle.register_run.specs.Passages.{AreOfLanes}
-use Rattle.register_run.proofs.GivenLemmas.{passed_not}
-use Rattle.register_run.proofs.HistoryLemmas.{link_of_machine}
+use Rattle.std.proofs.Common.{◌∙◌, ap, sym, subst}
+use Rattle.std.specs.Prelude.{Err}
+use Rattle.register_records.specs.Views.{format_of}
+use Rattle.register_run.specs.Links.{Passed, started_by, started_on}
+use Rattle.register_run.specs.Passages.{HasPassed}
+use Rattle.register_run.proofs.LinkLemmas.{not_started, of_link}
 use Rattle.register_run.proofs.links.Link.finish.Goals as goal
+use Rattle.register_run.proofs.links.Link.finish.Goals.{in-Ok, in-Err}
 
-pub returns-then-ended-is_ok-clause-passed : goal.returns-then-ended-is_ok-clause-passed
-returns-then-ended-is_ok-clause-passed g c = record {
-  not_sunk = c.join-closed.ensures.not_sunk;
-  rows = λ told. ∥∥₁_map c.join-closed.ensures.entries (λ (given, is, deals).
-      let w : World = record {
-        entries = [];
-        row_of = λ e. record { number = e.number; body = e.body; outcome = Err refusal.NotUtf8; cells = [] };
-        converters = length c.join-closed.result.closed.items;
-        ring = 1;
-      } in (
-        given,
-        is,
-        λ row took. took_given given w 0 c.in-Ok.ended c.args.self.arms.items c.join-closed.result.closed.items row
-            c.in-Ok.ensures (deals w refl) took,
-      ));
-}
-
-pub returns-else-ended-is_ok-clause-passed : goal.returns-else-ended-is_ok-clause-passed
-returns-else-ended-is_ok-clause-passed g c = passed_not _ _ c.unconfirmed_or_lower.result _
-    c.unconfirmed_or_lower.ensures
-
-pub returns-in-Err-clause-passed : goal.returns-in-Err-clause-passed
-returns-in-Err-clause-passed g c = passed_not _ _ c.unconfirmed_or_lower-in-Err.result _
-    c.unconfirmed_or_lower-in-Err.ensures
-
-pub returns-then-ended-is_ok-clause-machine : goal.returns-then-ended-is_ok-clause-machine
-returns-then-ended-is_ok-clause-machine g c =
-    let closed = c.join-closed.result.closed.items in
-    link_of_machine (g.R.Read.remaining (started_on c.args.self)) c.args.self closed c.join-closed.result.outcome
-    c.in-Ok.ended c.is_ok.result c.if-ended-is_ok.true c.is_ok.ensures.value
-    (subst (λ l. AreOfLanes l closed) (sym c.args.self.fed) c.join-closed.ensures.from)
-    c.join-closed.ensures.entries c.in-Ok.ensures
+pub returns-clause-passed : goal.returns-clause-passed
+returns-clause-passed g c =
+    let s = c.args.self in let text = g.R.Read.remaining (started_on s) in
+    elim c.match-reader.branch [
+      | in-Ok w ↦
+          let outcome = w.join_threads-outcome.result in
+          subst (λ o. HasPassed text (format_of (started_by s)) o (Passed s)) (sym w.outcome-is)
+          (of_link s.source.value s.setup.value s.arms.items w.in-Ok.reader.promise (rw w.in-Ok.is at s.reads)
+          (λ source setup. HasPassed (g.R.Read.remaining source) (format_of setup) outcome (Passed s))
+          w.join_threads-outcome.ensures.passed)
+      | in-Err w ↦
+          subst (λ o. HasPassed text (format_of (started_by s)) o (Passed s))
+          (sym (w.outcome-is ∙ ap Err w.cause.ensures))
+          (not_started text (format_of (started_by s)) (Passed s) w.in-Err.fault)
+    ]

@@ -8,6 +8,6 @@ invariant_of-self-clause-by_turns g c =
     let long : length new.items ≡ length old.items =
     (let a = c.pass_at.ensures.len in let b = new.ok.0 in let d = old.ok.0 in omega arith) in
     let within : c.args.self.now.turn < length old.items =
-    (let a = c.args.self.now.in_turn in let d = old.ok.0 in omega arith) in
+    (let a = c.requires.0 in let d = old.ok.0 in omega arith) in
     in_turn_popped old.items new.items c.args.self.now.turn c.next_open-self.result c.pass_at.ensures.popped long within
     c.args.self.now.by_turns (rw c.deref.ensures.value at c.next_open-self.ensures.machine)

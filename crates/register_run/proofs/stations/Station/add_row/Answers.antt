@@ -6,6 +6,6 @@ pub invariant_of-self : goal.invariant_of-self
 invariant_of-self g c = let s = c.args.self.now in record {
   by_one_setup = s.by_one_setup ∙ sym c.add.ensures.setup;
   wrote =
-      wrote_row s.feed s.feed s.table c.add.new.self c.in-Some.row.now
+      wrote_row s.link s.link s.table c.add.new.self c.in-Some.row.now
       (λ r took. took) c.in-Some.ensures c.add.ensures.rows s.wrote;
 }

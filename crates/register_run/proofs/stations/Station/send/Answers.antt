@@ -5,5 +5,5 @@ use Rattle.register_run.proofs.stations.Station.send.Goals as goal
 pub invariant_of-self : goal.invariant_of-self
 invariant_of-self g c = let s = c.args.self.now in record {
   by_one_setup = s.by_one_setup ∙ sym c.send.ensures.setup;
-  wrote = wrote_same s.feed s.feed s.table c.send.new.self (λ row took. took) c.send.ensures.rows s.wrote;
+  wrote = wrote_same s.link s.link s.table c.send.new.self (λ row took. took) c.send.ensures.rows s.wrote;
 }

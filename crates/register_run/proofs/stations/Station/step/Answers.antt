@@ -5,29 +5,29 @@ use Rattle.register_run.proofs.stations.Station.step.Goals as goal
 pub invariant_of-self : goal.invariant_of-self
 invariant_of-self g c = let s = c.args.self.now in record {
   by_one_setup = c.look.ensures.setup ∙ s.by_one_setup;
-  wrote = wrote_same s.feed c.look.new.self s.table s.table c.look.ensures.kept (λ rows h. h) s.wrote;
+  wrote = wrote_same s.link c.look.new.self s.table s.table c.look.ensures.kept (λ rows h. h) s.wrote;
 }
 
 pub invariant_of-self-in-Row : goal.invariant_of-self-in-Row
 invariant_of-self-in-Row g c = let s = c.args.self.now in record {
   by_one_setup = c.look.ensures.setup ∙ s.by_one_setup;
-  wrote = wrote_same s.feed c.look.new.self s.table s.table c.look.ensures.kept (λ rows h. h) s.wrote;
+  wrote = wrote_same s.link c.look.new.self s.table s.table c.look.ensures.kept (λ rows h. h) s.wrote;
 }
 
 pub invariant_of-self-in-Other : goal.invariant_of-self-in-Other
 invariant_of-self-in-Other g c = let s = c.args.self.now in record {
   by_one_setup = c.look.ensures.setup ∙ s.by_one_setup;
-  wrote = wrote_same s.feed c.look.new.self s.table s.table c.look.ensures.kept (λ rows h. h) s.wrote;
+  wrote = wrote_same s.link c.look.new.self s.table s.table c.look.ensures.kept (λ rows h. h) s.wrote;
 }
 
 pub invariant_of-self-in-End : goal.invariant_of-self-in-End
 invariant_of-self-in-End g c = let s = c.args.self.now in record {
   by_one_setup = c.look.ensures.setup ∙ s.by_one_setup ∙ sym c.head.ensures.setup;
-  wrote = wrote_same s.feed c.look.new.self s.table c.head.new.self c.look.ensures.kept c.head.ensures.rows s.wrote;
+  wrote = wrote_same s.link c.look.new.self s.table c.head.new.self c.look.ensures.kept c.head.ensures.rows s.wrote;
 }
 
 pub invariant_of-self-in-Stop : goal.invariant_of-self-in-Stop
 invariant_of-self-in-Stop g c = let s = c.args.self.now in record {
   by_one_setup = c.look.ensures.setup ∙ s.by_one_setup;
-  wrote = wrote_same s.feed c.look.new.self s.table s.table c.look.ensures.kept (λ rows h. h) s.wrote;
+  wrote = wrote_same s.link c.look.new.self s.table s.table c.look.ensures.kept (λ rows h. h) s.wrote;
 }

@@ -1,0 +1,81 @@
+-- What every act keeps, and how far the entries have come.
+use Rattle.std.proofs.Common.{◌≡◌, ◌<◌, ◌≤◌, ◌+◌, ◌*◌, ◌++◌, ℕ, List, [], ◌∷◌, length, Some}
+use Rattle.std.proofs.Common.{Bool, true, false, inl, inr, refl, sym, ap, subst, arith}
+use Rattle.std.specs.Prelude.{◌⊎◌, ◌≢◌, map, option_to_list, if◌then◌else◌, slice_get}
+use Rattle.std.proofs.lemmas.Bool.{cases_eq, eq-eqb, ne_eqb}
+use Rattle.striped_lanes.specs.Machine.{World, Stripe, State, put}
+use Rattle.striped_lanes.specs.Schedules.{total}
+use Rattle.striped_lanes.proofs.PartLemmas.{part}
+use Rattle.striped_lanes.proofs.TotalLemmas.{total_put}
+
+-- a stripe in which just these entries stand: the first of them, which are converted, as their rows
+pub record Holds {E R : Type 0} (w : World E R) (entries : List E) (t : Stripe E R) : Type 0 where
+  pub converted : List E
+  pub rows : t.row_lane ≡ map w.row_of converted
+  pub all : converted ++ (option_to_list t.hand ++ t.entry_lane) ≡ entries
+  pub room : length t.entry_lane ≤ w.ring
+  pub row_room : length t.row_lane ≤ w.ring
+
+-- the entries whose rows are popped, those that stand between the ends, and those that are not yet pushed
+pub record Kept {E R : Type 0} (w : World E R) (s : State E R) : Type 0 where
+  pub done : List E
+  pub between : List E
+  pub left : List E
+  pub entries : w.entries ≡ done ++ (between ++ left)
+  pub pushed : s.pushed ≡ length done + length between
+  pub popped : s.popped ≡ map w.row_of done
+  pub stripes : (i : ℕ) → Holds w (part w.converters i (length done) between) (s.stripes i)
+
+-- how many places the entries of a stripe, and all entries, have come forward
+abbrev pub weight : {E R : Type 0} → Stripe E R → ℕ
+weight t = length t.entry_lane + 2 * length (option_to_list t.hand) + 3 * length t.row_lane
+
+abbrev pub progress : {E R : Type 0} → World E R → State E R → ℕ
+progress w s = 4 * length s.popped + total w.converters (λ i. weight (s.stripes i))
+
+-- one entry has come one place forward
+pub record Steps {E R : Type 0} (w : World E R) (s t : State E R) : Type 0 where
+  pub kept : Kept w t
+  pub further : progress w t ≡ progress w s + 1
+
+-- so the state is another
+pub steps_change : {E R : Type 0} (w : World E R) (s t : State E R) → Steps w s t → t ≢ s
+steps_change w s t h e = let same = ap (progress w) e in omega (arith, h.further, same)
+
+-- an act changes nothing, or takes an entry one place forward
+abbrev pub StaysOrSteps : {E R : Type 0} → World E R → State E R → State E R → Type 0
+StaysOrSteps w s t = (t ≡ s) ⊎ Steps w s t
+
+pub if_room : {E R : Type 0} (w : World E R) (s t : State E R) (b : Bool) → (b ≡ true → Steps w s t)
+    → StaysOrSteps w s (if b then t else s)
+if_room w s t true h = inr (h refl)
+if_room w s t false h = inl refl
+
+pub put_holds : {E R : Type 0} (w : World E R) (entries : ℕ → List E) (old : ℕ → Stripe E R) (i : ℕ)
+    (t : Stripe E R)
+    → Holds w (entries i) t → ((j : ℕ) → (j ≡ i → ⊥) → Holds w (entries j) (old j))
+    → (j : ℕ) → Holds w (entries j) (put old i t j)
+put_holds w entries old i t own others j =
+    elim (cases_eq j i) [
+      | inl e ↦ rw (eq-eqb j i e) (subst (λ (k : ℕ). Holds w (entries k) t) (sym e) own)
+      | inr n ↦ rw (ne_eqb j i n) (others j n)
+    ]
+
+pub put_further : {E R : Type 0} (w : World E R) (old : ℕ → Stripe E R) (i : ℕ) (t : Stripe E R) → i < w.converters
+    → total w.converters (λ j. weight (put old i t j)) + weight (old i)
+    ≡ total w.converters (λ j. weight (old j)) + weight t
+put_further w old i t h = total_put w.converters weight old i t h
+
+-- the first of the rest of a list
+pub slice_get_rest : {X : Type 0} (xs ys : List X) → slice_get (xs ++ ys) (length xs) ≡ slice_get ys 0
+slice_get_rest [] ys = refl
+slice_get_rest (x ∷ xs) ys = slice_get_rest xs ys
+
+pub first_is : {X : Type 0} (xs : List X) (x : X) → slice_get xs 0 ≡ Some x → (more : List X) × (xs ≡ x ∷ more)
+first_is [] x e = cc
+first_is (y ∷ xs) x e = let same : y ≡ x = cc in (xs, rw same refl)
+
+pub map_first : {X Y : Type 0} (f : X → Y) (xs : List X) (y : Y) (ys : List Y) → y ∷ ys ≡ map f xs
+    → (x : X) × (more : List X) × (xs ≡ x ∷ more) × (y ≡ f x) × (ys ≡ map f more)
+map_first f [] y ys e = cc
+map_first f (x ∷ xs) y ys e = let a : y ≡ f x = cc in let b : ys ≡ map f xs = cc in (x, xs, refl, a, b)

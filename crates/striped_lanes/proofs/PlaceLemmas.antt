@@ -1,0 +1,156 @@
+-- Each entry that is pushed stands in one place.
+use Rattle.std.proofs.Common.{◌≡◌, ◌≢◌, ◌<◌, ◌≤◌, ◌+◌, ◌++◌, ℕ, zero, suc, List, length, inl, inr}
+use Rattle.std.proofs.Common.{refl, sym, ap, ◌∙◌, arith, append_assoc, length-append}
+use Rattle.std.specs.Prelude.{◌⊎◌, map, option_to_list}
+use Rattle.std.proofs.lemmas.Bool.{cases_eq}
+use Rattle.striped_lanes.specs.Machine.{World, State}
+use Rattle.striped_lanes.specs.Places.{Place, EntryLane, InConverter, RowLane, Popped, EachStandsOnce, Numbers}
+use Rattle.striped_lanes.specs.Places.{AreNumberedFrom, KeepNumbers, StandsOnlyAt, stripe_of, times_at}
+use Rattle.striped_lanes.proofs.InvariantLemmas.{Kept}
+use Rattle.striped_lanes.proofs.NumberLemmas.{keep_front, keep_part, keep_rest, numbered_front}
+use Rattle.striped_lanes.proofs.NumberLemmas.{numbered_rest, row_numbers, times, times_append, times_in, times_once}
+use Rattle.striped_lanes.proofs.NumberLemmas.{times_other_part, times_own_part}
+use Rattle.striped_lanes.proofs.PartLemmas.{part}
+
+-- entry k stands once in stripe i or among those popped, and in no other stripe
+pub record StandsIn {E R : Type 0} (numbers : Numbers E R) (s : State E R) (k i : ℕ) : Type 0 where
+  pub own :
+      times_at numbers s k (EntryLane i) + times_at numbers s k (InConverter i) + times_at numbers s k (RowLane i)
+      + times_at numbers s k Popped
+      ≡ 1
+  pub others : (j : ℕ) → (j ≡ i → ⊥)
+      → times_at numbers s k (EntryLane j) + times_at numbers s k (InConverter j) + times_at numbers s k (RowLane j) ≡ 0
+
+module _ {E R : Type 0} (numbers : Numbers E R) (s : State E R) (k i : ℕ) (h : StandsIn numbers s k i) where
+  -- a kind of place of which none has entry k in stripe i, and so none in any stripe
+  none_of_kind : (kind : ℕ → Place) → times_at numbers s k (kind i) ≡ 0
+      → ((j : ℕ) → (j ≡ i → ⊥) → times_at numbers s k (kind j) ≡ 0) → (j : ℕ) → times_at numbers s k (kind j) ≡ 0
+  none_of_kind kind here there j =
+      elim (cases_eq j i) [ inl e ↦ ap (λ (m : ℕ). times_at numbers s k (kind m)) e ∙ here | inr n ↦ there j n ]
+
+  -- the same, but for the place where it stands
+  none_but : (kind : ℕ → Place) → ((j : ℕ) → (j ≡ i → ⊥) → times_at numbers s k (kind j) ≡ 0)
+      → (j : ℕ) → kind j ≢ kind i → times_at numbers s k (kind j) ≡ 0
+  none_but kind there j n =
+      elim (cases_eq j i) [ inl e ↦ absurd (n (ap kind e)) | inr m ↦ there j m ]
+
+  in_no_other_entry_lane : (j : ℕ) → (j ≡ i → ⊥) → times_at numbers s k (EntryLane j) ≡ 0
+  in_no_other_entry_lane j n = omega (arith, h.others j n)
+
+  in_no_other_converter : (j : ℕ) → (j ≡ i → ⊥) → times_at numbers s k (InConverter j) ≡ 0
+  in_no_other_converter j n = omega (arith, h.others j n)
+
+  in_no_other_row_lane : (j : ℕ) → (j ≡ i → ⊥) → times_at numbers s k (RowLane j) ≡ 0
+  in_no_other_row_lane j n = omega (arith, h.others j n)
+
+  pub only_in_entry_lane : 0 < times_at numbers s k (EntryLane i) → StandsOnlyAt numbers s k (EntryLane i)
+  only_in_entry_lane some = record { once = omega (arith, h.own); nowhere_else = elsewhere }
+    where
+      elsewhere : (other : Place) → other ≢ EntryLane i → times_at numbers s k other ≡ 0
+      elsewhere (EntryLane j) n = none_but EntryLane in_no_other_entry_lane j n
+      elsewhere (InConverter j) n = none_of_kind InConverter (omega (arith, h.own)) in_no_other_converter j
+      elsewhere (RowLane j) n = none_of_kind RowLane (omega (arith, h.own)) in_no_other_row_lane j
+      elsewhere Popped n = omega (arith, h.own)
+
+  pub only_in_converter : 0 < times_at numbers s k (InConverter i) → StandsOnlyAt numbers s k (InConverter i)
+  only_in_converter some = record { once = omega (arith, h.own); nowhere_else = elsewhere }
+    where
+      elsewhere : (other : Place) → other ≢ InConverter i → times_at numbers s k other ≡ 0
+      elsewhere (EntryLane j) n = none_of_kind EntryLane (omega (arith, h.own)) in_no_other_entry_lane j
+      elsewhere (InConverter j) n = none_but InConverter in_no_other_converter j n
+      elsewhere (RowLane j) n = none_of_kind RowLane (omega (arith, h.own)) in_no_other_row_lane j
+      elsewhere Popped n = omega (arith, h.own)
+
+  pub only_in_row_lane : 0 < times_at numbers s k (RowLane i) → StandsOnlyAt numbers s k (RowLane i)
+  only_in_row_lane some = record { once = omega (arith, h.own); nowhere_else = elsewhere }
+    where
+      elsewhere : (other : Place) → other ≢ RowLane i → times_at numbers s k other ≡ 0
+      elsewhere (EntryLane j) n = none_of_kind EntryLane (omega (arith, h.own)) in_no_other_entry_lane j
+      elsewhere (InConverter j) n = none_of_kind InConverter (omega (arith, h.own)) in_no_other_converter j
+      elsewhere (RowLane j) n = none_but RowLane in_no_other_row_lane j n
+      elsewhere Popped n = omega (arith, h.own)
+
+  only_popped : 0 < times_at numbers s k Popped → StandsOnlyAt numbers s k Popped
+  only_popped some = record { once = omega (arith, h.own); nowhere_else = elsewhere }
+    where
+      elsewhere : (other : Place) → other ≢ Popped → times_at numbers s k other ≡ 0
+      elsewhere (EntryLane j) n = none_of_kind EntryLane (omega (arith, h.own)) in_no_other_entry_lane j
+      elsewhere (InConverter j) n = none_of_kind InConverter (omega (arith, h.own)) in_no_other_converter j
+      elsewhere (RowLane j) n = none_of_kind RowLane (omega (arith, h.own)) in_no_other_row_lane j
+      elsewhere Popped n = absurd (n refl)
+
+one_of_four : (a b c d : ℕ) → a + b + c + d ≡ 1 → (0 < a) ⊎ ((0 < b) ⊎ ((0 < c) ⊎ (0 < d)))
+one_of_four (suc a) b c d h = inl (omega arith)
+one_of_four zero (suc b) c d h = inr (inl (omega arith))
+one_of_four zero zero (suc c) d h = inr (inr (inl (omega arith)))
+one_of_four zero zero zero d h = inr (inr (inr (omega arith)))
+
+module _ {E R : Type 0} (numbers : Numbers E R) (w : World E R) (s : State E R) (v : Kept w s)
+    (numbered : AreNumberedFrom numbers 1 w.entries) (same_numbers : KeepNumbers numbers w w.entries) where
+  all_same_numbers : KeepNumbers numbers w (v.done ++ (v.between ++ v.left))
+  all_same_numbers = rw v.entries at same_numbers
+
+  -- the numbers of the rows are those of their entries
+  popped_times : (k : ℕ) → times_at numbers s k Popped ≡ times numbers k v.done
+  popped_times k =
+      ap (λ (rows : List R). times_in k (map numbers.of_row rows)) v.popped
+      ∙ ap (times_in k) (row_numbers numbers w v.done (keep_front numbers w v.done (v.between ++ v.left) all_same_numbers))
+
+  pub row_lane_times : (k i : ℕ) → times_at numbers s k (RowLane i) ≡ times numbers k (v.stripes i).converted
+  row_lane_times k i =
+      let h = v.stripes i in
+      let behind = option_to_list (s.stripes i).hand ++ (s.stripes i).entry_lane in
+      let between_same : KeepNumbers numbers w v.between =
+      keep_front numbers w v.between v.left (keep_rest numbers w v.done (v.between ++ v.left) all_same_numbers) in
+      let part_same : KeepNumbers numbers w (h.converted ++ behind) =
+      rw h.all (keep_part numbers w w.converters i (length v.done) v.between between_same) in
+      ap (λ (rows : List R). times_in k (map numbers.of_row rows)) h.rows
+      ∙ ap (times_in k) (row_numbers numbers w h.converted (keep_front numbers w h.converted behind part_same))
+
+  -- what stands in a stripe is the stripe's part of what is between the ends
+  stripe_times : (k i : ℕ)
+      → times_at numbers s k (EntryLane i) + times_at numbers s k (InConverter i) + times_at numbers s k (RowLane i)
+      ≡ times numbers k (part w.converters i (length v.done) v.between)
+  stripe_times k i =
+      let h = v.stripes i in
+      let hand = option_to_list (s.stripes i).hand in
+      let lane = (s.stripes i).entry_lane in
+      let rows = row_lane_times k i in
+      let all : times numbers k (h.converted ++ (hand ++ lane))
+      ≡ times numbers k (part w.converters i (length v.done) v.between) =
+      ap (times numbers k) h.all in
+      omega (arith, rows, all, times_append numbers k h.converted (hand ++ lane), times_append numbers k hand lane)
+
+  pub stands_in : (k : ℕ) → 1 ≤ k → k ≤ s.pushed → StandsIn numbers s k (stripe_of w k)
+  stands_in k some pushed =
+      let i = stripe_of w k in
+      let pushed_entries = v.done ++ v.between in
+      let from_one : AreNumberedFrom numbers 1 (v.done ++ (v.between ++ v.left)) = rw v.entries at numbered in
+      let here : AreNumberedFrom numbers (length v.done + 1) (v.between ++ v.left) =
+      let e : length v.done + 1 ≡ 1 + length v.done = omega arith in
+      rw e (numbered_rest numbers 1 v.done (v.between ++ v.left) from_one) in
+      let between_numbered = numbered_front numbers (length v.done + 1) v.between v.left here in
+      let front_numbered : AreNumberedFrom numbers 1 pushed_entries =
+      numbered_front numbers 1 pushed_entries v.left (rw append_assoc from_one) in
+      let in_front : k < 1 + length pushed_entries =
+      omega (arith, pushed, v.pushed, length-append v.done v.between) in
+      let one = times_once numbers k 1 pushed_entries front_numbered some in_front in
+      let own = times_own_part numbers w.converters i k (length v.done) v.between between_numbered some refl in
+      record {
+        own = omega (arith, popped_times k, stripe_times k i, own, one, times_append numbers k v.done v.between);
+        others = λ j n.
+            stripe_times k j
+            ∙ times_other_part numbers w.converters j k (length v.done) v.between between_numbered some (λ e. n (sym e));
+      }
+
+  pub each_stands_once : EachStandsOnce numbers w s
+  each_stands_once k some pushed =
+      let i = stripe_of w k in
+      let h = stands_in k some pushed in
+      let times = times_at numbers s k in
+      elim (one_of_four (times (EntryLane i)) (times (InConverter i)) (times (RowLane i)) (times Popped) h.own) [
+        | inl a ↦ (EntryLane i, (0, omega arith, refl), only_in_entry_lane numbers s k i h a)
+        | inr (inl b) ↦ (InConverter i, (1, omega arith, refl), only_in_converter numbers s k i h b)
+        | inr (inr (inl c)) ↦ (RowLane i, (2, omega arith, refl), only_in_row_lane numbers s k i h c)
+        | inr (inr (inr d)) ↦ (Popped, (3, omega arith, refl), only_popped numbers s k i h d)
+      ]

@@ -1,0 +1,63 @@
+-- What the invariant says of the rows that are popped, and of how many entries stand between the ends.
+use Rattle.std.proofs.Common.{◌≡◌, ◌<◌, ◌≤◌, ◌+◌, ◌*◌, ◌++◌, ℕ, length, take, Option, Some, None}
+use Rattle.std.proofs.Common.{sym, ap, ◌∙◌, arith, length-append}
+use Rattle.std.specs.Prelude.{map, option_to_list}
+use Rattle.std.proofs.lemmas.List.{length-map, map-append, take_at}
+use Rattle.striped_lanes.specs.Machine.{World, State}
+use Rattle.striped_lanes.specs.Schedules.{standing, standing_in}
+use Rattle.striped_lanes.specs.Places.{ArePoppedInOrder}
+use Rattle.striped_lanes.proofs.InvariantLemmas.{Kept, weight, progress}
+use Rattle.striped_lanes.proofs.PartLemmas.{part, part_lengths}
+use Rattle.striped_lanes.proofs.TotalLemmas.{total_bound, total_le, total_same, total_times}
+
+module _ {E R : Type 0} (w : World E R) (some_converters : 0 < w.converters) (s : State E R) (v : Kept w s) where
+  pub popped_count : length s.popped ≡ length v.done
+  popped_count = ap length v.popped ∙ length-map v.done w.row_of
+
+  pub all_count : length w.entries ≡ length v.done + (length v.between + length v.left)
+  all_count =
+      ap length v.entries
+      ∙ (length-append v.done (v.between ++ v.left)
+      ∙ ap (λ (n : ℕ). length v.done + n) (length-append v.between v.left))
+
+  -- the rows that are popped
+  pub popped_in_order : ArePoppedInOrder w s
+  popped_in_order =
+      let rows : map w.row_of w.entries ≡ map w.row_of v.done ++ map w.row_of (v.between ++ v.left) =
+      ap (map w.row_of) v.entries ∙ map-append w.row_of v.done (v.between ++ v.left) in
+      let count : length (map w.row_of v.done) ≡ length s.popped = sym (ap length v.popped) in
+      v.popped ∙ sym (ap (take (length s.popped)) rows ∙ take_at (map w.row_of v.done) _ (length s.popped) count)
+
+  -- how many entries stand between the ends
+  pub stripe_count : (i : ℕ) → standing_in (s.stripes i) ≡ length (part w.converters i (length v.done) v.between)
+  stripe_count i =
+      let k = v.stripes i in
+      let t = s.stripes i in
+      let rows : length t.row_lane ≡ length k.converted = ap length k.rows ∙ length-map k.converted w.row_of in
+      let hand = option_to_list t.hand in
+      let behind = length-append hand t.entry_lane in
+      omega (arith, rows, ap length k.all, length-append k.converted (hand ++ t.entry_lane), behind)
+
+  all_standing : standing w s ≡ length v.between
+  all_standing =
+      let c = w.converters in
+      let d = length v.done in
+      total_same c (λ i. standing_in (s.stripes i)) (λ i. length (part c i d v.between)) (λ i l. stripe_count i)
+      ∙ part_lengths c d v.between some_converters
+
+  hand_bound : (o : Option E) → length (option_to_list o) ≤ 1
+  hand_bound None = omega arith
+  hand_bound (Some x) = omega arith
+
+  pub few_standing : standing w s ≤ w.converters * (2 * w.ring + 1)
+  few_standing =
+      total_bound w.converters (2 * w.ring + 1) (λ i. standing_in (s.stripes i)) (λ i.
+      omega (arith, (v.stripes i).room, (v.stripes i).row_room, hand_bound (s.stripes i).hand))
+
+  -- how far the entries can come
+  pub progress_bound : progress w s ≤ 4 * length w.entries
+  progress_bound =
+      let most =
+      total_le w.converters (λ i. weight (s.stripes i)) (λ i. 3 * standing_in (s.stripes i)) (λ i. omega arith) in
+      let thrice = total_times w.converters 3 (λ i. standing_in (s.stripes i)) in
+      omega (arith, most, thrice, all_standing, popped_count, all_count)

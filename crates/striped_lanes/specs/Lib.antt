@@ -1,0 +1,4 @@
+pub mod Machine
+pub mod Schedules
+pub mod Places
+pub mod Histories

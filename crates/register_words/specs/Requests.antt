@@ -10,7 +10,6 @@ use Rattle.register_records.specs.SetupRules.{largest_ring, most_stripes}
 use Rattle.register_records.specs.Tables.{Layout}
 use Rattle.register_records.specs.Views.{layout_of}
 use Rattle.register_records.specs.declared.setups.Form.TheVariants.{Plain, Sealed}
-use Rattle.register_records.specs.declared.setups.Setup.{Setup}
 use Rattle.register_words.specs.CommandLine.{AreTaken, Values, command_line, values_in}
 use Rattle.register_words.specs.Faults.{Fault, usage, bad_ring, unknown_delimiter, bad_stripes, too_many_files}
 use Rattle.register_words.specs.Faults.{file_twice}
@@ -201,7 +200,3 @@ values_by options = record {
   summary = options.summary;
   files = map (λ f. f.now) options.files.items;
 }
-
--- the task of a setup, with the summary and the files of the options
-abbrev pub task_by : Setup → Options → Task
-task_by setup options = task_of (record { setup = setup; summary = options.summary; files = options.files })

@@ -11,7 +11,7 @@ ghost use Rattle.register_words.specs.Faults.{IsOfWords, fault_told};
 ghost use Rattle.register_words.specs.Requests.{AreFilesToConvert, AreTargetsOf, Ask, FailFirst, IsFileFault, IsFirstTwice};
 ghost use Rattle.register_words.specs.Requests.{IsNamedTwice, IsNumberFault, IsNumberOf, IsTargetFault, MeanJust};
 ghost use Rattle.register_words.specs.Requests.{delimiter_option, meaning_of, ring_option, stripes_option, value_checks};
-ghost use Rattle.register_words.specs.Requests.{task_by, values_by, wrong};
+ghost use Rattle.register_words.specs.Requests.{task_of, values_by, wrong};
 
 use crate::option_values::{delimiter_named, number_named, read_targets};
 use crate::request_faults::RequestFault;
@@ -282,16 +282,16 @@ fn check_files<'a>(files: &[&'a str]) -> Result<(), RequestFault<'a>>
     }
 }
 
-/// The setup that the options ask for, with files that fit.
+/// The conversion that the options ask for.
 ///
 /// # Errors
 ///
 /// The first that applies: the faults of the list of targets as [`read_targets`] has them, `BadRing`,
 /// `UnknownDelimiter`, `BadStripes`, and the faults of the files as [`check_files`] has them; and `OutOfMemory` where a
 /// growth of memory was refused on the way.
-fn chosen_setup<'a>(alloc: Global, options: &Options<'a>) -> Result<Setup, RequestFault<'a>>
-    ensures asked { IfOk result (λ setup. Ask (values_by options.now) (task_by setup options.now)) }
-    ensures fault { IfErr result (λ error. IfSome (fault_told error) (FailFirst (value_checks (values_by options.now)))) }
+fn chosen_job<'a>(alloc: Global, options: Options<'a>) -> Result<Job<'a>, RequestFault<'a>>
+    ensures asked { IfOk result (λ job. Ask (values_by options.entry) (task_of job)) }
+    ensures fault { IfErr result (λ error. IfSome (fault_told error) (FailFirst (value_checks (values_by options.entry)))) }
     ensures memory { IfErr result IsOfWords }
 {
     let targets = chosen_targets(alloc, options.to)?;
@@ -301,7 +301,11 @@ fn chosen_setup<'a>(alloc: Global, options: &Options<'a>) -> Result<Setup, Reque
     check_files(options.files.as_slice())?;
     let form = chosen_form(options.sealed);
     match Setup::new(targets.as_slice(), ring, delimiter, stripes, form) {
-        Ok(setup) => Ok(setup),
+        Ok(setup) => Ok(Job {
+            setup,
+            summary: options.summary,
+            files: options.files,
+        }),
         Err(_) => unreachable!(),
     }
 }
@@ -330,10 +334,6 @@ pub fn read_request<'a>(alloc: Global, words: &'a [String]) -> Result<Request<'a
             _ => return Err(RequestFault::Usage(error)),
         },
     };
-    let setup = chosen_setup(alloc, &options)?;
-    Ok(Request::Convert(Job {
-        setup,
-        summary: options.summary,
-        files: options.files,
-    }))
+    let job = chosen_job(alloc, options)?;
+    Ok(Request::Convert(job))
 }

@@ -5,7 +5,7 @@ use Rattle.std.specs.String.{string_bytes}
 use Rattle.clap.proofs.TakesLemmas.{passed_up}
 use Rattle.register_words.specs.CommandLine.{Values}
 use Rattle.register_words.specs.Faults.{IsOfWords, fault_told, usage}
-use Rattle.register_words.specs.Requests.{task_by, values_by}
+use Rattle.register_words.specs.Requests.{task_of, values_by}
 use Rattle.register_words.specs.Requests.{Ask, FailFirst, MeanJust, help, table, value_checks, version, wrong}
 use Rattle.register_words.specs.declared.request_faults.RequestFault.{RequestFault}
 use Rattle.register_words.specs.declared.requests.Request.{Request}
@@ -36,26 +36,26 @@ returns-in_default c =
       memory = λ e. absurd (cc);
     }
 
-pub returns-in_err-setup-clause-refused : goal.returns-in_err-setup-clause-refused
-returns-in_err-setup-clause-refused c =
+pub returns-in_err-job-clause-refused : goal.returns-in_err-job-clause-refused
+returns-in_err-job-clause-refused c =
     let words = map string_bytes c.args.words.now in
-    let told = fault_told c.in_err-setup.field-0.0 in
+    let told = fault_told c.in_err-job.field-0.0 in
     let is : IfSome told (λ fault. MeanJust words (wrong fault))
     = told_just words told (FailFirst (value_checks (values_by c.in-Ok.options))) c.one_target.ensures
-    c.in_err-setup.ensures.fault
+    c.in_err-job.ensures.fault
     (λ fault at. inr (c.in-Ok.ensures.taken,
     subst (λ (v : Values). FailFirst (value_checks v) fault) c.in-Ok.ensures.values at)) in
-    passed_up {T = Request} {E = RequestFault} c.from_residual.result c.in_err-setup.field-0.0
+    passed_up {T = Request} {E = RequestFault} c.from_residual.result c.in_err-job.field-0.0
     (λ (r : RequestFault). IfSome (fault_told r) (λ fault. MeanJust words (wrong fault)))
     c.from_residual.ensures.1 is
 
-pub returns-in_err-setup-clause-memory : goal.returns-in_err-setup-clause-memory
-returns-in_err-setup-clause-memory c =
-    passed_up {T = Request} {E = RequestFault} c.from_residual.result c.in_err-setup.field-0.0 IsOfWords
-    c.from_residual.ensures.1 c.in_err-setup.ensures.memory
+pub returns-in_err-job-clause-memory : goal.returns-in_err-job-clause-memory
+returns-in_err-job-clause-memory c =
+    passed_up {T = Request} {E = RequestFault} c.from_residual.result c.in_err-job.field-0.0 IsOfWords
+    c.from_residual.ensures.1 c.in_err-job.ensures.memory
 
 pub returns-clause-asked : goal.returns-clause-asked
 returns-clause-asked c =
-    let task = task_by c.in_ok-setup.setup c.in-Ok.options in
+    let task = task_of c.in_ok-job.job in
     mean_just c.one_target.ensures (map string_bytes c.args.words.now) (table task)
-    (c.in-Ok.ensures.taken, subst (λ (v : Values). Ask v task) c.in-Ok.ensures.values c.in_ok-setup.ensures.asked)
+    (c.in-Ok.ensures.taken, subst (λ (v : Values). Ask v task) c.in-Ok.ensures.values c.in_ok-job.ensures.asked)

@@ -122,22 +122,6 @@ meet (b ∷ bs) name after (f ∷ fs) other back e =
     ))
     grow same (inr (inr behind)) = inr (inr (behind.0, ap₂ (λ (x : List ℕ) (xs : List (List ℕ)). x ∷ xs) same behind.1))
 
--- a fault of a list is an unknown name, or a target named twice
-abbrev ListFault : List ℕ → Fault → Type 0
-ListFault list fault =
-    ((name : List ℕ) × (fault ≡ unknown_target name) × IsFirstUnknown list name)
-    ⊎ ((target : Target) × (fault ≡ target_twice target) × IsFirstTwice list target)
-
-list_fault : (list : List ℕ) (fault : Fault) → IsListFault list fault → ListFault list fault
-list_fault list (usage kind) is = absurd is
-list_fault list (unknown_target name) is = inl (name, refl, is)
-list_fault list (target_twice target) is = inr (target, refl, is)
-list_fault list (bad_ring word) is = absurd is
-list_fault list (unknown_delimiter word) is = absurd is
-list_fault list (bad_stripes word) is = absurd is
-list_fault list too_many_files is = absurd is
-list_fault list (file_twice file) is = absurd is
-
 module _ (one : OneTarget) (list : List ℕ) where
   no_unknown : (targets : List Target) (name : List ℕ) → AsksForTargets list targets → IsFirstUnknown list name → ⊥
   no_unknown targets name (inl none) fault = fault.1.names_some none.0
@@ -154,7 +138,7 @@ module _ (one : OneTarget) (list : List ℕ) where
 
   -- a list that asks for targets has no fault
   pub asks_no_fault : (targets : List Target) (fault : Fault) → AsksForTargets list targets → IsListFault list fault → ⊥
-  asks_no_fault targets fault asks is = elim (list_fault list fault is) [
+  asks_no_fault targets fault asks is = elim is [
     | inl unknown ↦ no_unknown targets unknown.0 asks unknown.2
     | inr twice ↦ no_twice targets twice.0 asks twice.2
   ]
@@ -167,7 +151,7 @@ module _ (one : OneTarget) (list : List ℕ) where
   asks_one targets others (inr some) (inl none) = absurd (some.0 none.0)
   asks_one targets others (inr some) (inr same) = same_targets one (names_in list) targets others some.1 same.1
 
-  two_unknown : (name other : List ℕ) → IsListFault list (unknown_target name) → IsListFault list (unknown_target other)
+  two_unknown : (name other : List ℕ) → IsFirstUnknown list name → IsFirstUnknown list other
       → name ≡ other
   two_unknown name other x y = decide (meet x.1.before name x.1.after y.1.before other y.1.after
       (sym x.1.cut ∙ y.1.cut))
@@ -179,8 +163,7 @@ module _ (one : OneTarget) (list : List ℕ) where
       decide (inr (inr last)) = absurd (past_unknown y.1.before other last.0 x.0
           (subst (λ names. AreNamesOf names x.0) last.1 x.1.named) y.2)
 
-  unknown_and_twice : (name : List ℕ) (target : Target) → IsListFault list (unknown_target name)
-      → IsListFault list (target_twice target) → ⊥
+  unknown_and_twice : (name : List ℕ) (target : Target) → IsFirstUnknown list name → IsFirstTwice list target → ⊥
   unknown_and_twice name target x y = decide (meet x.1.before name x.1.after y.2.before y.1 y.2.after
       (sym x.1.cut ∙ y.2.cut))
     where
@@ -192,7 +175,7 @@ module _ (one : OneTarget) (list : List ℕ) where
           x.1.once (past_twice one y.2.before y.1 last.0 y.0 x.0 target
           (subst (λ names. AreNamesOf names x.0) last.1 x.1.named) y.2.named y.3 y.4)
 
-  two_twice : (target other : Target) → IsListFault list (target_twice target) → IsListFault list (target_twice other)
+  two_twice : (target other : Target) → IsFirstTwice list target → IsFirstTwice list other
       → target ≡ other
   two_twice target other x y = decide (meet x.2.before x.1 x.2.after y.2.before y.1 y.2.after (sym x.2.cut ∙ y.2.cut))
     where
@@ -207,13 +190,10 @@ module _ (one : OneTarget) (list : List ℕ) where
 
   -- it has one fault
   pub one_fault : (fault other : Fault) → IsListFault list fault → IsListFault list other → fault ≡ other
-  one_fault fault other x y = decide (list_fault list fault x) (list_fault list other y)
-    where
-      decide : ListFault list fault → ListFault list other → fault ≡ other
-      decide (inl a) (inl b) = a.1 ∙ ap unknown_target (two_unknown a.0 b.0 a.2 b.2) ∙ sym b.1
-      decide (inl a) (inr b) = absurd (unknown_and_twice a.0 b.0 a.2 b.2)
-      decide (inr a) (inl b) = absurd (unknown_and_twice b.0 a.0 b.2 a.2)
-      decide (inr a) (inr b) = a.1 ∙ ap target_twice (two_twice a.0 b.0 a.2 b.2) ∙ sym b.1
+  one_fault fault other (inl a) (inl b) = a.1 ∙ ap unknown_target (two_unknown a.0 b.0 a.2 b.2) ∙ sym b.1
+  one_fault fault other (inl a) (inr b) = absurd (unknown_and_twice a.0 b.0 a.2 b.2)
+  one_fault fault other (inr a) (inl b) = absurd (unknown_and_twice b.0 a.0 b.2 a.2)
+  one_fault fault other (inr a) (inr b) = a.1 ∙ ap target_twice (two_twice a.0 b.0 a.2 b.2) ∙ sym b.1
 
   one_meaning : (meaning other : Result (List Target) Fault) → ListMeans list meaning → ListMeans list other
       → other ≡ meaning

@@ -164,8 +164,7 @@ module _ (one : OneTarget) (words : List Text) where
 
   table_no_fault : (task : Task) (fault : Fault) → Mean words (table task) → ¬ IsFaultOf words fault
   table_no_fault task fault asks =
-      no_fault (usage_check words ∷ value_checks (values_in words)) all_sound
-      (
+      no_fault (usage_check words ∷ value_checks (values_in words)) all_sound (
         asks.0,
         (
           (task.layout.targets, asks.1.targets),

@@ -52,9 +52,9 @@ IsFirstTwice list target =
 
 -- what is wrong with a list
 abbrev pub IsListFault : List ℕ → Fault → Type 0
-IsListFault list (unknown_target name) = IsFirstUnknown list name
-IsListFault list (target_twice target) = IsFirstTwice list target
-IsListFault list _ = ⊥
+IsListFault list fault =
+    ((name : List ℕ) × (fault ≡ unknown_target name) × IsFirstUnknown list name)
+    ⊎ ((target : Target) × (fault ≡ target_twice target) × IsFirstTwice list target)
 
 -- what a list means: the targets that it asks for, or what is wrong with it
 abbrev pub ListMeans : List ℕ → Result (List Target) Fault → Type 0

@@ -1,5 +1,5 @@
 -- The names of the list are its pieces in order, and each one read so far named a target of its own.
-use Rattle.std.proofs.Common.{rules, ◌≡◌, sym, inr, is_ok, true, Ok, Err}
+use Rattle.std.proofs.Common.{rules, ◌≡◌, sym, refl, inl, inr, is_ok, true, Ok, Err}
 use Rattle.std.specs.Prelude.{Contains}
 use Rattle.std.proofs.lemmas.List.{map-append}
 use Rattle.std.proofs.lemmas.Iterator.Consumers.{YieldsList-end, YieldsList-so_far, YieldsList-turn}
@@ -22,7 +22,15 @@ returns-in_default-clause-fault c =
     (λ e. let unlike = rw e at c.if-eq.ensures in cc) turn
     (YieldsList-so_far names c.names.yielded _ c.names.yielded_by) c.names.invariant.2 c.names.invariant.3 in
     means_just c.one_target.ensures c.args.list.now (Err (unknown_target c.in-Some.name.now))
-    (c.names.targets.items, stands, λ target is. let some = (c.target_named.ensures target).1 is in cc)
+    (inl (
+      c.in-Some.name.now,
+      refl,
+      (
+        c.names.targets.items,
+        stands,
+        λ target is. let some = (c.target_named.ensures target).1 is in cc,
+      ),
+    ))
 
 pub returns-then-contains-clause-fault : goal.returns-then-contains-clause-fault
 returns-then-contains-clause-fault c =
@@ -36,7 +44,17 @@ returns-then-contains-clause-fault c =
     (YieldsList-so_far names c.names.yielded _ c.names.yielded_by) c.names.invariant.2 c.names.invariant.3 in
     let among : Contains c.names.targets.items c.in-Some-target_named.target = search rules in
     means_just c.one_target.ensures c.args.list.now (Err (target_twice c.in-Some-target_named.target))
-    (c.names.targets.items, c.in-Some.name.now, stands, (c.target_named.ensures _).0 c.in-Some-target_named.is, among)
+    (inr (
+      c.in-Some-target_named.target,
+      refl,
+      (
+        c.names.targets.items,
+        c.in-Some.name.now,
+        stands,
+        (c.target_named.ensures _).0 c.in-Some-target_named.is,
+        among,
+      ),
+    ))
 
 pub names-preserved : goal.names-preserved
 names-preserved c =

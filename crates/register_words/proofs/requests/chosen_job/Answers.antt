@@ -44,8 +44,10 @@ returns-in_err-delimiter-clause-fault c =
     let error = c.in_err-delimiter.field-0.0 in
     let is : TellsFirst values error
     = found_first (fault_told error) (IsNumberFault delimiter_option values.delimiter) (value_checks values) (if_some (fault_told error) (IsNumberFault delimiter_option values.delimiter) c.in_err-delimiter.ensures.fault)
-    (λ fault is. inr ((c.in_ok-targets.targets.items, c.in_ok-targets.ensures.value),
-    inr ((c.in_ok-ring.ring, c.in_ok-ring.ensures.value), inl is))) in
+    (λ fault is. inr (
+      (c.in_ok-targets.targets.items, c.in_ok-targets.ensures.value),
+      inr ((c.in_ok-ring.ring, c.in_ok-ring.ensures.value), inl is),
+    )) in
     passed_up {T = Job} {E = RequestFault} c.from_residual-in_err-delimiter.result error (TellsFirst values) c.from_residual-in_err-delimiter.ensures.1 is
 
 pub returns-in_err-stripes-clause-fault : goal.returns-in_err-stripes-clause-fault
@@ -54,9 +56,13 @@ returns-in_err-stripes-clause-fault c =
     let error = c.in_err-stripes.field-0.0 in
     let is : TellsFirst values error
     = found_first (fault_told error) (IsNumberFault stripes_option values.stripes) (value_checks values) (if_some (fault_told error) (IsNumberFault stripes_option values.stripes) c.in_err-stripes.ensures.fault)
-    (λ fault is. inr ((c.in_ok-targets.targets.items, c.in_ok-targets.ensures.value),
-    inr ((c.in_ok-ring.ring, c.in_ok-ring.ensures.value),
-    inr ((c.in_ok-delimiter.delimiter, c.in_ok-delimiter.ensures.value), inl is)))) in
+    (λ fault is. inr (
+      (c.in_ok-targets.targets.items, c.in_ok-targets.ensures.value),
+      inr (
+        (c.in_ok-ring.ring, c.in_ok-ring.ensures.value),
+        inr ((c.in_ok-delimiter.delimiter, c.in_ok-delimiter.ensures.value), inl is),
+      ),
+    )) in
     passed_up {T = Job} {E = RequestFault} c.from_residual-in_err-stripes.result error (TellsFirst values) c.from_residual-in_err-stripes.ensures.1 is
 
 pub returns-in_err-check_files-clause-fault : goal.returns-in_err-check_files-clause-fault
@@ -65,12 +71,21 @@ returns-in_err-check_files-clause-fault c =
     let error = c.in_err-check_files.field-0.0 in
     let is : TellsFirst values error
     = found_first (fault_told error) (IsFileFault (map (λ f. f.now) c.as_slice.result.now)) (value_checks values) (if_some (fault_told error) (IsFileFault (map (λ f. f.now) c.as_slice.result.now)) c.in_err-check_files.ensures.fault)
-    (λ fault is. inr ((c.in_ok-targets.targets.items, c.in_ok-targets.ensures.value),
-    inr ((c.in_ok-ring.ring, c.in_ok-ring.ensures.value),
-    inr ((c.in_ok-delimiter.delimiter, c.in_ok-delimiter.ensures.value),
-    inr ((c.in_ok-stripes.stripes, c.in_ok-stripes.ensures.value), inl (
-      subst (λ (files : List Text). IsFileFault files fault) (ap (map (λ f. f.now)) c.as_slice.ensures.value) is
-    )))))) in
+    (λ fault is. inr (
+      (c.in_ok-targets.targets.items, c.in_ok-targets.ensures.value),
+      inr (
+        (c.in_ok-ring.ring, c.in_ok-ring.ensures.value),
+        inr (
+          (c.in_ok-delimiter.delimiter, c.in_ok-delimiter.ensures.value),
+          inr (
+            (c.in_ok-stripes.stripes, c.in_ok-stripes.ensures.value),
+            inl (
+                subst (λ (files : List Text). IsFileFault files fault) (ap (map (λ f. f.now)) c.as_slice.ensures.value) is
+                ),
+          ),
+        ),
+      ),
+    )) in
     passed_up {T = Job} {E = RequestFault} c.from_residual-in_err-check_files.result error (TellsFirst values) c.from_residual-in_err-check_files.ensures.1 is
 
 pub returns-clause-asked : goal.returns-clause-asked

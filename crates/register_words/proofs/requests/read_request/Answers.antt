@@ -43,8 +43,10 @@ returns-in_err-job-clause-refused c =
     let is : IfSome told (λ fault. MeanJust words (wrong fault))
     = told_just words told (FailFirst (value_checks (values_by c.in-Ok.options))) c.one_target.ensures
     c.in_err-job.ensures.fault
-    (λ fault at. inr (c.in-Ok.ensures.taken,
-    subst (λ (v : Values). FailFirst (value_checks v) fault) c.in-Ok.ensures.values at)) in
+    (λ fault at. inr (
+      c.in-Ok.ensures.taken,
+      subst (λ (v : Values). FailFirst (value_checks v) fault) c.in-Ok.ensures.values at,
+    )) in
     passed_up {T = Request} {E = RequestFault} c.from_residual.result c.in_err-job.field-0.0
     (λ (r : RequestFault). IfSome (fault_told r) (λ fault. MeanJust words (wrong fault)))
     c.from_residual.ensures.1 is

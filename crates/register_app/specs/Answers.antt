@@ -1,17 +1,18 @@
 -- How the program answers: what its outputs have gained, and when its words are refused.
-use Rattle.std.specs.Prelude.{◌≡◌, ◌≢◌, ◌⊎◌, ◌↔◌, ℕ, List, [], ◌∷◌, ◌++◌, codes, Option, Bool, true, false}
+use Rattle.std.specs.Prelude.{◌≡◌, ◌≢◌, ◌⊎◌, ◌↔◌, ℕ, List, [], ◌∷◌, ◌++◌, codes, IfSome, Option, Bool, true, false}
 use Rattle.std.specs.Io.KnownBytes.{Appends}
 use Rattle.register_run.specs.Reports.{IsReport}
 use Rattle.register_run.specs.declared.reports.Report.{Report}
 use Rattle.register_records.specs.Views.{layout_of}
 use Rattle.register_records.specs.declared.setups.Setup.{Setup}
 use Rattle.register_run.specs.declared.reports.Verdict.TheVariants.{Complete}
-use Rattle.register_app.specs.Faults.{Fault}
+use Rattle.register_words.specs.Faults.{fault_told, line_told, status_of_fault}
 use Rattle.register_app.specs.Openings.{AreMade, AreNotSources, AreOpened, AreTwoFiles}
 use Rattle.register_app.specs.Reports.{lines_from}
-use Rattle.register_app.specs.Requests.{IsFaultOf, MeanJust, Task, help, version}
-use Rattle.register_app.specs.declared.help.TheConstants.{HELP, PRINT_FAULT}
-use Rattle.register_app.specs.declared.requests.TheConstants.{VERSION}
+use Rattle.register_words.specs.Requests.{IsFaultOf, MeanJust, Task, help, version}
+use Rattle.register_words.specs.declared.help.TheConstants.{HELP, PRINT_FAULT}
+use Rattle.register_words.specs.declared.request_faults.RequestFault.{RequestFault}
+use Rattle.register_words.specs.declared.requests.TheConstants.{VERSION}
 
 -- the line that tells the version
 abbrev pub version_line : List ℕ
@@ -67,6 +68,10 @@ pub record AreConverted {R W E : Type 0} (remaining : R → Option (List ℕ)) (
   pub converted : IsConverted remaining contents has_failed is_flushed own_mark told unheard task status sources given
       written before after
 
--- something is wrong with the words
-abbrev pub AreWrong : List (List ℕ) → Type 0
-AreWrong words = (fault : Fault) × IsFaultOf words fault
+-- an error was told with this status: something that is wrong with the words, or that memory ran out or a file was
+-- missing; of words that are no arguments as they are taken, clap tells more than the definitions say
+pub record IsTold (words : List (List ℕ)) (status : ℕ) (before after : Option (List ℕ)) : Type 0 where
+  pub error : RequestFault
+  pub status_told : status_of_fault error ≡ status
+  pub fault : IfSome (fault_told error) (IsFaultOf words)
+  pub line : IfSome (line_told error) (Appends before after)

@@ -1,23 +1,25 @@
 //! What the program answers.
 
 ghost use Rattle.std.specs.Prelude.{◌≡◌, ◌≢◌, ◌≤◌, ◌⊎◌, ◌↔◌, ℕ, List, [], ◌∷◌, All, true, false, map, length, vec_len};
+ghost use Rattle.std.specs.Prelude.{IfSome, codes};
 ghost use Rattle.std.specs.Io.KnownBytes.{Appends};
 ghost use Rattle.std.specs.String.{string_bytes};
-ghost use Rattle.register_app.specs.Answers.{AreConverted, AreWrong, AskForPage, IsConverted, IsPrinted, version_line};
+ghost use Rattle.register_app.specs.Answers.{AreConverted, AskForPage, IsConverted, IsPrinted, IsTold, version_line};
 ghost use Rattle.register_records.specs.Sources.{is_whole_end};
 ghost use Rattle.register_app.specs.Openings.{AreMade, IsFresh, IsNewlyMade};
 ghost use Rattle.register_app.specs.Reports.{lines_from};
-ghost use Rattle.register_app.specs.Requests.{MeanJust, Task, most_files, status_of_fault, table, task_of};
+ghost use Rattle.register_words.specs.Faults.{fault_told, own_line, status_of_fault};
+ghost use Rattle.register_words.specs.Requests.{AreWrong, IsFaultOf, MeanJust, Task, most_files, table, task_of};
 
-use crate::help::{HELP, PRINT_FAULT};
 use crate::opening::{Opened, open_files};
 use crate::places::Places;
-use crate::request_faults::RequestFault;
-use crate::requests::{Job, Request, VERSION, read_request};
 use crate::telling::tell_ends;
 use arrayvec::ArrayString;
 use register_records::{Output, send};
-use register_run::{Report, Verdict, run};
+use register_run::{MAX_SOURCES, Report, Verdict, run};
+use register_words::{
+    HELP, Job, MAX_FILES, PRINT_FAULT, Request, RequestFault, VERSION, read_request,
+};
 use std::alloc::Global;
 use std::io::Read;
 use std::sync::Wait;
@@ -44,6 +46,9 @@ pub struct Answered<W> {
     pub outputs: Vec<W>,
 }
 
+// A run takes as many sources as the words may name.
+const _: () = prove!(MAX_FILES <= MAX_SOURCES);
+
 /// How a run has ended: the status, and the outputs in the order of the sources.
 #[derive(Drop)]
 struct Ran<W> {
@@ -64,6 +69,8 @@ fn version_line_text() -> ArrayString<32>
 
 /// Tells that there was no memory. A fault of `errors` is let go: there is nowhere else to tell it.
 fn tell_out_of_memory<E: Output>(errors: &mut E)
+    ensures told { E.has_failed errors.new ≡ false
+        → Appends (E.contents errors.old) (E.contents errors.new) (own_line (codes "out of memory")) }
     ensures mark { E.own_mark errors.new ≡ E.own_mark errors.old }
 {
     let _ = send(errors, b"register: out of memory\n");
@@ -72,13 +79,11 @@ fn tell_out_of_memory<E: Output>(errors: &mut E)
 /// Tells why nothing is done, and gives the exit status. A fault of `errors` is let go, as above.
 fn tell_fault<E: Output>(alloc: Global, errors: &mut E, fault: &RequestFault<'_>) -> u8
     ensures status { (result ≡ 3) ⊎ (result ≡ status_of_fault fault.now) }
+    ensures told { (words : List (List ℕ)) → IfSome (fault_told fault.now) (IsFaultOf words)
+        → E.has_failed errors.new ≡ false → IsTold words result (E.contents errors.old) (E.contents errors.new) }
     ensures mark { E.own_mark errors.new ≡ E.own_mark errors.old }
 {
-    let text = match fault {
-        RequestFault::Usage(error) => format!(in alloc; "{error}"),
-        fault => format!(in alloc; "register: {fault}\n"),
-    };
-    match text {
+    match fault.text(alloc) {
         Ok(text) => {
             let _ = send(errors, text.as_bytes());
             fault.status()
@@ -98,6 +103,9 @@ fn refuse<W: Output, E: Output>(
     fault: &RequestFault<'_>,
 ) -> Answered<W>
     ensures status { (result.status ≡ 3) ⊎ (result.status ≡ status_of_fault fault.now) }
+    ensures told { (words : List (List ℕ)) → IfSome (fault_told fault.now) (IsFaultOf words)
+        → E.has_failed errors.new ≡ false
+        → IsTold words result.status (E.contents errors.old) (E.contents errors.new) }
     ensures untouched { result.output ≡ output }
     ensures none { result.outputs.items ≡ [] }
     ensures mark { E.own_mark errors.new ≡ E.own_mark errors.old }
@@ -175,6 +183,8 @@ fn convert<
         E.contents E.has_failed
         (task_of job.now) result.status sources.items outputs.items result.outputs.items errors.old errors.new }
     ensures untouched { result.status ≡ 3 → result.outputs.items ≡ outputs.items }
+    ensures told { result.status ≡ 3 → E.has_failed errors.new ≡ false → (words : List (List ℕ))
+        → IsTold words result.status (E.contents errors.old) (E.contents errors.new) }
     ensures len { vec_len result.outputs ≡ vec_len outputs }
     ensures statuses { (result.status ≡ 0) ⊎ (result.status ≡ 1) ⊎ (result.status ≡ 3) }
     ensures mark { E.own_mark errors.new ≡ E.own_mark errors.old }
@@ -208,6 +218,8 @@ fn convert_input<
         E.contents E.has_failed
         (task_of job.now) result.status (input ∷ []) (output ∷ []) (result.output ∷ []) errors.old errors.new }
     ensures untouched { result.status ≡ 3 → result.output ≡ output }
+    ensures told { result.status ≡ 3 → E.has_failed errors.new ≡ false → (words : List (List ℕ))
+        → IsTold words result.status (E.contents errors.old) (E.contents errors.new) }
     ensures none { result.outputs.items ≡ [] }
     ensures statuses { (result.status ≡ 0) ⊎ (result.status ≡ 1) ⊎ (result.status ≡ 3) }
     ensures mark { W.own_mark result.output ≡ W.own_mark output }
@@ -252,6 +264,8 @@ fn convert_files<
     ensures unwritten { result.status ≡ 3 → (result.outputs.items ≡ [])
         ⊎ AreMade (IsNewlyMade W.contents W.has_failed W.own_mark (P.is_made places.now)) (task_of job.now).files
         result.outputs.items }
+    ensures told { result.status ≡ 3 → E.has_failed errors.new ≡ false → (words : List (List ℕ))
+        → IsTold words result.status (E.contents errors.old) (E.contents errors.new) }
     ensures statuses { (result.status ≡ 0) ⊎ (result.status ≡ 1) ⊎ (result.status ≡ 3) }
     ensures errors_mark { E.own_mark errors.new ≡ E.own_mark errors.old }
 {
@@ -318,6 +332,9 @@ pub fn answer<
 
     // Unless the status is 3, words are refused exactly where something is wrong with them.
     ensures refused { result.status ≢ 3 → (result.status ≡ 2) ↔ AreWrong (map string_bytes words.now) }
+    // And then standard error has gained what is told, unless it failed.
+    ensures told { 2 ≤ result.status → E.has_failed errors.new ≡ false
+        → IsTold (map string_bytes words.now) result.status (E.contents errors.old) (E.contents errors.new) }
     ensures untouched { 2 ≤ result.status → result.output ≡ output }
     ensures none { result.status ≡ 2 → result.outputs.items ≡ [] }
 

@@ -4,21 +4,14 @@
 
 mod answering;
 mod disk;
-mod help;
 mod opening;
-mod option_values;
 mod places;
-mod request_faults;
-mod requests;
 mod telling;
 mod terminal;
 mod told;
 
 pub use answering::{Answered, answer};
 pub use disk::{Destination, Disk, Exclusive, Source};
-pub use help::HELP;
 pub use places::Places;
-pub use request_faults::RequestFault;
-pub use requests::{Job, Request, read_request};
 pub use terminal::{Lines, lines_to};
 pub use told::Told;

@@ -3,16 +3,14 @@
 ghost use Rattle.std.specs.Prelude.{◌≡◌, ◌≤◌, ◌++◌, ℕ, List, Some, false, length};
 ghost use Rattle.std.specs.Prelude.{IfErr, IfOk, OnOk, map, slice_get};
 ghost use Rattle.std.specs.String.{string_bytes};
-ghost use Rattle.register_app.specs.Requests.{most_files, status_of_fault};
+ghost use Rattle.register_words.specs.Faults.{status_of_fault};
+ghost use Rattle.register_words.specs.Requests.{most_files};
 ghost use Rattle.register_app.specs.Openings.{AreMade, AreNotSources, AreOpened, AreTwoFiles, IsNewlyMade};
 
 use crate::places::Places;
-use crate::request_faults::RequestFault;
 use register_records::Output;
+use register_words::{RequestFault, SUFFIX};
 use std::alloc::{AllocError, Global};
-
-/// What the name of an output has behind the name of its source.
-pub const SUFFIX: &str = ".out.csv";
 
 /// The sources of a command line with the output of each, in its order.
 pub struct Opened<R, W> {

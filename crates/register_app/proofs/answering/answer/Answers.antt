@@ -1,9 +1,11 @@
 -- Words that ask for something have no fault beside it, and words that are refused have one.
-use Rattle.std.proofs.Common.{◌≡◌, ◌≢◌, rules, arith, inl, inr, map, ap, length, refl, List, [], ◌∷◌}
+use Rattle.std.specs.Prelude.{◌≤◌, ◌⊎◌}
+use Rattle.std.proofs.Common.{◌≡◌, ◌≢◌, ℕ, rules, arith, inl, inr, map, ap, length, refl, List, [], ◌∷◌}
 use Rattle.std.proofs.lemmas.List.{length-map}
 use Rattle.std.specs.String.{string_bytes}
-use Rattle.register_app.specs.Requests.{MeanJust, help, table, task_of, version}
-use Rattle.register_app.proofs.WordLemmas.{is_refused, never_refused}
+use Rattle.register_words.specs.Requests.{MeanJust, help, table, task_of, version}
+use Rattle.register_words.specs.Faults.{fault_told}
+use Rattle.register_app.proofs.RefusedLemmas.{is_refused, is_wrong, never_refused}
 use Rattle.register_app.proofs.answering.answer.Goals as goal
 
 pub returns-in-Ok-Help-clause-answered : goal.returns-in-Ok-Help-clause-answered
@@ -33,7 +35,12 @@ convert_files-requires-clause-few g c =
     let job = c.in-Ok-Convert.job in
     let just : MeanJust words (table (task_of job)) = search (rules, c.in-Ok-Convert.ensures.asked) in
     let asks = (just (table (task_of job))).0 refl in
-    omega (arith, asks.files_fit.0, ap length asks.files_asked, length-map job.files.items (λ f. f.now))
+    omega (arith, asks.1.files_fit.0, ap length asks.1.files, length-map job.files.items (λ f. f.now))
+
+at_most_three : (status : ℕ) → 2 ≤ status → (status ≡ 0) ⊎ (status ≡ 1) ⊎ (status ≡ 3) → status ≡ 3
+at_most_three status high (inl zero) = absurd (omega (arith, high, zero))
+at_most_three status high (inr (inl one)) = absurd (omega (arith, high, one))
+at_most_three status high (inr (inr three)) = three
 
 none_of : {A : Type 0} (xs : List A) → length xs ≡ 0 → xs ≡ []
 none_of [] e = refl
@@ -98,8 +105,34 @@ returns-else-is_empty-clause-refused g c =
 
 pub returns-in-Err-clause-refused : goal.returns-in-Err-clause-refused
 returns-in-Err-clause-refused g c =
-    λ had. is_refused (map string_bytes c.args.words.now) c.in-Err.fault c.refuse.result.status
+    λ had. is_refused (map string_bytes c.args.words.now) (fault_told c.in-Err.fault) c.refuse.result.status
     c.in-Err.ensures.refused c.refuse.ensures.status had
+
+-- what is told: of a page nothing, of a run that memory ran out or a file was missing, and else what is wrong
+pub returns-in-Ok-Help-clause-told : goal.returns-in-Ok-Help-clause-told
+returns-in-Ok-Help-clause-told g c = λ high.
+    elim c.print_page.ensures.statuses
+    [ inl zero ↦ absurd (omega (arith, high, zero)) | inr one ↦ absurd (omega (arith, high, one)) ]
+
+pub returns-in-Ok-Version-clause-told : goal.returns-in-Ok-Version-clause-told
+returns-in-Ok-Version-clause-told g c = λ high.
+    elim c.print_page-in-Ok-Version.ensures.statuses
+    [ inl zero ↦ absurd (omega (arith, high, zero)) | inr one ↦ absurd (omega (arith, high, one)) ]
+
+pub returns-then-is_empty-clause-told : goal.returns-then-is_empty-clause-told
+returns-then-is_empty-clause-told g c = λ high good.
+    c.convert_input.ensures.told (at_most_three c.convert_input.result.status high c.convert_input.ensures.statuses) good
+    (map string_bytes c.args.words.now)
+
+pub returns-else-is_empty-clause-told : goal.returns-else-is_empty-clause-told
+returns-else-is_empty-clause-told g c = λ high good.
+    c.convert_files.ensures.told (at_most_three c.convert_files.result.status high c.convert_files.ensures.statuses) good
+    (map string_bytes c.args.words.now)
+
+pub returns-in-Err-clause-told : goal.returns-in-Err-clause-told
+returns-in-Err-clause-told g c = λ high good.
+    let words = map string_bytes c.args.words.now in
+    c.refuse.ensures.told words (is_wrong words (fault_told c.in-Err.fault) c.in-Err.ensures.refused) good
 
 pub returns-else-is_empty-clause-unwritten : goal.returns-else-is_empty-clause-unwritten
 returns-else-is_empty-clause-unwritten g c = λ three.

@@ -1,8 +1,8 @@
 -- What keeps a source or an output from being opened keeps all from it.
 use Rattle.std.proofs.Common.{◌≡◌}
 use Rattle.clap.proofs.TakesLemmas.{passed_up}
-use Rattle.register_app.specs.Requests.{status_of_fault}
-use Rattle.register_app.specs.declared.request_faults.RequestFault.{RequestFault}
+use Rattle.register_words.specs.Faults.{status_of_fault}
+use Rattle.register_words.specs.declared.request_faults.RequestFault.{RequestFault}
 use Rattle.register_app.proofs.opening.open_files.Goals as goal
 
 pub returns-in_err-sources-clause-status : goal.returns-in_err-sources-clause-status

@@ -1,6 +1,6 @@
 -- The suffix stands behind the name of the file.
 use Rattle.std.proofs.Common.{◌∙◌, ◌++◌, ap}
-use Rattle.register_app.specs.declared.opening.TheConstants.{SUFFIX}
+use Rattle.register_words.specs.declared.request_faults.TheConstants.{SUFFIX}
 use Rattle.register_app.proofs.opening.output_name.Goals as goal
 
 pub returns : goal.returns

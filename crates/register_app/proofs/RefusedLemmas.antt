@@ -1,0 +1,28 @@
+-- When words are refused, and what is told then.
+use Rattle.std.proofs.Common.{◌≡◌, ◌≢◌, ◌⊎◌, inl, inr, List, Option, Some, None, ℕ, refl}
+use Rattle.std.specs.Prelude.{◌↔◌, IfSome}
+use Rattle.std.specs.Option.{option_map_or}
+use Rattle.clap.specs.Words.{Text}
+use Rattle.register_words.specs.Faults.{Fault}
+use Rattle.register_words.specs.Requests.{AreWrong, IsFaultOf, MeanJust, Meaning, wrong}
+
+-- words that ask for something are not refused
+pub never_refused : (words : List Text) (meaning : Meaning) (status : ℕ) → MeanJust words meaning
+    → ((fault : Fault) → wrong fault ≢ meaning) → status ≢ 2
+    → (status ≡ 2) ↔ AreWrong words
+never_refused words meaning status just differs
+    other = (λ e. absurd (other e), λ is. absurd (differs is.0 ((just (wrong is.0)).1 is.1)))
+
+-- words that are wrong are, unless there was no memory or a file was missing
+pub is_refused : (words : List Text) (told : Option Fault) (status : ℕ)
+    → IfSome told (λ fault. MeanJust words (wrong fault))
+    → (status ≡ 3) ⊎ (status ≡ option_map_or (λ fault. 2) told 3) → status ≢ 3 → (status ≡ 2) ↔ AreWrong words
+is_refused words told status just (inl three) had = absurd (had three)
+is_refused words None status just (inr three) had = absurd (had three)
+is_refused words (Some fault) status just (inr two) had = (λ e. (fault, (just (wrong fault)).0 refl), λ is. two)
+
+-- and then they have the fault that is told
+pub is_wrong : (words : List Text) (told : Option Fault) → IfSome told (λ fault. MeanJust words (wrong fault))
+    → IfSome told (IsFaultOf words)
+is_wrong words None just = tt
+is_wrong words (Some fault) just = (just (wrong fault)).0 refl

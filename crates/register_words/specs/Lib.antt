@@ -1,0 +1,4 @@
+pub mod Faults
+pub mod OptionValues
+pub mod CommandLine
+pub mod Requests

@@ -1,0 +1,202 @@
+-- What the words after the program's name ask for.
+use Rattle.std.specs.Prelude.{◌≡◌, ◌≢◌, ◌≤◌, ◌<◌, ◌↔◌, ◌⊎◌, ◌++◌, ℕ, Bool, List, [], ◌∷◌, length, map}
+use Rattle.std.specs.Prelude.{Contains, if◌then◌else◌, Option, Some, None, option_map}
+use Rattle.clap.specs.Words.{IsAmong, Text, fault_of}
+use Rattle.clap.specs.declared.error.kind.ErrorKind.{ErrorKind}
+use Rattle.clap.specs.declared.error.kind.ErrorKind.TheVariants.{DisplayHelp, DisplayVersion}
+use Rattle.date_texts.specs.Calendars.{all_targets}
+use Rattle.date_texts.specs.declared.calendar.Target.{Target}
+use Rattle.register_records.specs.SetupRules.{largest_ring, most_stripes}
+use Rattle.register_records.specs.Tables.{Layout}
+use Rattle.register_records.specs.Views.{layout_of}
+use Rattle.register_records.specs.declared.setups.Form.TheVariants.{Plain, Sealed}
+use Rattle.register_words.specs.CommandLine.{AreTaken, Values, command_line, values_in}
+use Rattle.register_words.specs.Faults.{Fault, usage, bad_ring, unknown_delimiter, bad_stripes, too_many_files}
+use Rattle.register_words.specs.Faults.{file_twice}
+use Rattle.register_words.specs.OptionValues.{AsksForTargets, IsDelimiterWord, IsListFault, IsNumberWord}
+use Rattle.register_words.specs.declared.requests.Job.{Job}
+use Rattle.register_words.specs.declared.requests.Options.{Options}
+use Rattle.register_words.specs.declared.requests.Request.{Request}
+use Rattle.register_words.specs.declared.requests.Request.TheVariants as request
+
+-- what words can ask of a run: how its registers are written and its tables laid out, the size of its rings, the
+-- converters of a source, whether a summary is wanted, and the files
+pub record Task : Type 0 where
+  pub layout : Layout
+  pub ring : ℕ
+  pub stripes : ℕ
+  pub summary : Bool
+  pub files : List Text
+
+-- these are the targets that the option asks for; without it, all targets in the default order
+abbrev pub AreTargetsOf : Option Text → List Target → Type 0
+AreTargetsOf None targets = targets ≡ all_targets
+AreTargetsOf (Some list) targets = AsksForTargets list targets
+
+-- an option that asks for a number: which number a word names, the number without it, and the fault of a word that
+-- names none
+pub record NumberOption : Type 1 where
+  pub names : Text → ℕ → Type 0
+  pub usual : ℕ
+  pub fault : Text → Fault
+
+-- the size of a ring, from 1 to 4096; the byte of a delimiter, a comma (44) without a word; and the number of
+-- converters, from 1 to 4
+abbrev pub ring_option : NumberOption
+ring_option = record { names = IsNumberWord largest_ring; usual = 16; fault = bad_ring }
+
+abbrev pub delimiter_option : NumberOption
+delimiter_option = record { names = IsDelimiterWord; usual = 44; fault = unknown_delimiter }
+
+abbrev pub stripes_option : NumberOption
+stripes_option = record { names = IsNumberWord most_stripes; usual = 1; fault = bad_stripes }
+
+-- this is the number that the option asks for
+abbrev pub IsNumberOf : NumberOption → Option Text → ℕ → Type 0
+IsNumberOf option None n = n ≡ option.usual
+IsNumberOf option (Some word) n = option.names word n
+
+-- the file stands at a place of the list, and at an earlier place too
+pub record IsNamedTwice (files : List Text) (file : Text) : Type 0 where
+  pub before : List Text
+  pub after : List Text
+  pub cut : files ≡ before ++ file ∷ after
+  pub named : Contains before file
+
+-- the first file from the left that was named before
+pub record IsFirstTwice (files : List Text) (file : Text) : Type 0 where
+  pub before : List Text
+  pub after : List Text
+  pub cut : files ≡ before ++ file ∷ after
+  pub named : Contains before file
+  pub first : (other : Text) → ¬ IsNamedTwice before other
+
+-- the most files of a command line
+abbrev pub most_files : ℕ
+most_files = 32
+
+-- at most 32 files, each named once
+abbrev pub AreFilesToConvert : List Text → Type 0
+AreFilesToConvert files = (length files ≤ most_files) × ((file : Text) → ¬ IsNamedTwice files file)
+
+-- the values ask for this task
+pub record Ask (values : Values) (task : Task) : Type 0 where
+  pub targets : AreTargetsOf values.to task.layout.targets
+  pub ring : IsNumberOf ring_option values.ring task.ring
+  pub delimiter : IsNumberOf delimiter_option values.delimiter task.layout.format.delimiter
+  pub stripes : IsNumberOf stripes_option values.stripes task.stripes
+  pub form : task.layout.format.form ≡ (if values.sealed then Sealed else Plain)
+  pub summary : task.summary ≡ values.summary
+  pub files : task.files ≡ values.files
+  pub files_fit : AreFilesToConvert values.files
+
+-- a check: what is wrong where it fails, and that it passes
+pub record Check : Type 1 where
+  pub fails : Fault → Type 0
+  pub passes : Type 0
+
+-- the first of these checks that fails finds this fault
+abbrev pub FailFirst : List Check → Fault → Type 0
+FailFirst [] fault = ⊥
+FailFirst (check ∷ later) fault = check.fails fault ⊎ (check.passes × FailFirst later fault)
+
+-- what is wrong with words that are no arguments as they are taken
+abbrev pub IsUsageFault : List Text → Fault → Type 0
+IsUsageFault words fault =
+    (kind : ErrorKind) × (fault ≡ usage kind) × IsAmong kind (fault_of command_line words) × (kind ≢ DisplayHelp)
+    × (kind ≢ DisplayVersion)
+
+-- what is wrong with the value of `--to`; without it, nothing is
+abbrev pub IsTargetFault : Option Text → Fault → Type 0
+IsTargetFault None fault = ⊥
+IsTargetFault (Some list) fault = IsListFault list fault
+
+-- what is wrong with the word of an option that asks for a number: it names none
+abbrev pub IsNumberFault : NumberOption → Option Text → Fault → Type 0
+IsNumberFault option value fault =
+    (word : Text) × (fault ≡ option.fault word) × (value ≡ Some word) × ((n : ℕ) → ¬ option.names word n)
+
+-- what is wrong with the files: there are too many, or else one is named twice
+abbrev pub IsFileFault : List Text → Fault → Type 0
+IsFileFault files fault =
+    ((fault ≡ too_many_files) × (most_files < length files))
+    ⊎ ((file : Text) × (fault ≡ file_twice file) × (length files ≤ most_files) × IsFirstTwice files file)
+
+-- the checks of the words, of the targets, of a number, and of the files
+abbrev pub usage_check : List Text → Check
+usage_check words = record { fails = IsUsageFault words; passes = AreTaken words }
+
+abbrev pub target_check : Option Text → Check
+target_check value = record { fails = IsTargetFault value; passes = (targets : List Target) × AreTargetsOf value targets }
+
+abbrev pub number_check : NumberOption → Option Text → Check
+number_check option value = record {
+  fails = IsNumberFault option value;
+  passes = (n : ℕ) × IsNumberOf option value n;
+}
+
+abbrev pub file_check : List Text → Check
+file_check files = record { fails = IsFileFault files; passes = AreFilesToConvert files }
+
+-- the checks of values, in order
+abbrev pub value_checks : Values → List Check
+value_checks values =
+    target_check values.to
+    ∷ number_check ring_option values.ring
+    ∷ number_check delimiter_option values.delimiter
+    ∷ number_check stripes_option values.stripes
+    ∷ file_check values.files
+    ∷ []
+
+-- what is wrong with the words
+abbrev pub IsFaultOf : List Text → Fault → Type 0
+IsFaultOf words = FailFirst (usage_check words ∷ value_checks (values_in words))
+
+-- something is wrong with the words
+abbrev pub AreWrong : List Text → Type 0
+AreWrong words = (fault : Fault) × IsFaultOf words fault
+
+-- what words can mean: they ask for help, for the version, or for a task, or something is wrong with them
+pub data Meaning : Type 0 where
+  help : Meaning
+  version : Meaning
+  table : Task → Meaning
+  wrong : Fault → Meaning
+
+abbrev pub Mean : List Text → Meaning → Type 0
+Mean words help = IsAmong DisplayHelp (fault_of command_line words)
+Mean words version = IsAmong DisplayVersion (fault_of command_line words)
+Mean words (table task) = AreTaken words × Ask (values_in words) task
+Mean words (wrong fault) = IsFaultOf words fault
+
+-- the words mean this, and nothing else
+abbrev pub MeanJust : List Text → Meaning → Type 0
+MeanJust words meaning = (other : Meaning) → (other ≡ meaning) ↔ Mean words other
+
+-- what a job asks of a run
+abbrev pub task_of : Job → Task
+task_of job = record {
+  layout = layout_of job.setup;
+  ring = job.setup.ring;
+  stripes = job.setup.stripes;
+  summary = job.summary;
+  files = map (λ file. file.now) job.files.items;
+}
+
+-- what an answered request stands for
+abbrev pub meaning_of : Request → Meaning
+meaning_of request.Help = help
+meaning_of request.Version = version
+meaning_of (request.Convert job) = table (task_of job)
+
+-- the values that the options hold
+abbrev pub values_by : Options → Values
+values_by options = record {
+  to = option_map (λ v. v.now) options.to;
+  ring = option_map (λ v. v.now) options.ring;
+  delimiter = option_map (λ v. v.now) options.delimiter;
+  stripes = option_map (λ v. v.now) options.stripes;
+  sealed = options.sealed;
+  summary = options.summary;
+  files = map (λ f. f.now) options.files.items;
+}

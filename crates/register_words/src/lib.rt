@@ -1,0 +1,11 @@
+//! What the words after the program's name ask for, and what is wrong with them.
+#![tactic(auto)]
+
+mod help;
+mod option_values;
+mod request_faults;
+mod requests;
+
+pub use help::{HELP, PRINT_FAULT};
+pub use request_faults::{RequestFault, SUFFIX};
+pub use requests::{Job, MAX_FILES, Request, VERSION, read_request};

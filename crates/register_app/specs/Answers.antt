@@ -1,9 +1,11 @@
 -- How the program answers: what its outputs have gained, and when its words are refused.
 use Rattle.std.specs.Prelude.{◌≡◌, ◌≢◌, ◌⊎◌, ◌↔◌, ℕ, List, [], ◌∷◌, ◌++◌, codes, IfSome, Option, Bool, true, false}
 use Rattle.std.specs.Io.KnownBytes.{Appends}
+use Rattle.std.specs.declared.io.traits.Read as reads
 use Rattle.register_run.specs.Reports.{IsReport}
 use Rattle.register_run.specs.declared.reports.Report.{Report}
 use Rattle.register_records.specs.Views.{layout_of}
+use Rattle.register_records.specs.declared.outputs.Output as outputs
 use Rattle.register_records.specs.declared.setups.Setup.{Setup}
 use Rattle.register_run.specs.declared.reports.Verdict.TheVariants.{Complete}
 use Rattle.register_words.specs.Faults.{fault_told, line_told, status_of_fault}
@@ -24,13 +26,12 @@ AskForPage words page = (MeanJust words help × (page ≡ HELP.now)) ⊎ (MeanJu
 
 -- a page was printed: with status 0 the output has gained it and handed it on, and nothing was told; else the output
 -- has failed, and one line was told, unless that failed too
-pub record IsPrinted {W E : Type 0} (contents : W → Option (List ℕ)) (has_failed is_flushed : W → Bool)
-    (told : E → Option (List ℕ)) (unheard : E → Bool)
+pub record IsPrinted {W E : Type 0} (o : outputs.Ghosts W) (e : outputs.Ghosts E)
     (page : List ℕ) (status : ℕ) (given written : W) (before after : E) : Type 0 where
-  pub printed : status ≡ 0 → Appends (contents given) (contents written) page × (is_flushed written ≡ true)
+  pub printed : status ≡ 0 → Appends (o.contents given) (o.contents written) page × (o.is_flushed written ≡ true)
       × (after ≡ before)
-  pub failed : status ≢ 0 → (has_failed written ≡ true)
-      × (unheard after ≡ false → Appends (told before) (told after) PRINT_FAULT.now)
+  pub failed : status ≢ 0 → (o.has_failed written ≡ true)
+      × (e.has_failed after ≡ false → Appends (e.contents before) (e.contents after) PRINT_FAULT.now)
 
 -- the setup is the task's: its layout, the size of its rings, and the converters of a source
 abbrev pub IsSetupOf : Task → Setup → Type 0
@@ -39,24 +40,20 @@ IsSetupOf task setup = (layout_of setup ≡ task.layout) × (setup.ring ≡ task
 -- tables were made: the threads of each source were started by the setup that the task asks for, each source has ended
 -- as it should, the status is 0 exactly where all are whole, and standard error has gained the lines on them, unless it
 -- failed, and nothing where there are none
-pub record IsConverted {R W E : Type 0} (remaining : R → Option (List ℕ)) (contents : W → Option (List ℕ))
-    (has_failed is_flushed : W → Bool)
-    (own_mark : W → ℕ) (told : E → Option (List ℕ)) (unheard : E → Bool)
+pub record IsConverted {R W E : Type 0} (r : reads.Ghosts R) (o : outputs.Ghosts W) (e : outputs.Ghosts E)
     (task : Task) (status : ℕ) (sources : List R) (given written : List W) (before after : E) : Type 0 where
   pub setup : Setup
   pub asked : IsSetupOf task setup
   pub report : Report W
-  pub settled : IsReport remaining contents has_failed is_flushed own_mark setup sources given report
+  pub settled : IsReport r o setup sources given report
   pub outputs : written ≡ report.outputs.items
   pub complete : (status ≡ 0) ↔ (report.verdict ≡ Complete)
-  pub lines : unheard after ≡ false → Appends (told before) (told after) (lines_from task.summary 1 report.ends.items)
+  pub lines : e.has_failed after ≡ false → Appends (e.contents before) (e.contents after) (lines_from task.summary 1 report.ends.items)
   pub quiet : status ≡ 0 → task.summary ≡ false → after ≡ before
 
 -- sources were opened by the names of a task and outputs made by them, none of which goes to one of the files or to the
 -- file of another output, as far as names were told apart; and then the sources were converted
-pub record AreConverted {R W E : Type 0} (remaining : R → Option (List ℕ)) (contents : W → Option (List ℕ))
-    (has_failed is_flushed : W → Bool)
-    (own_mark : W → ℕ) (told : E → Option (List ℕ)) (unheard : E → Bool) (IsOpened : List ℕ → R → Type 0)
+pub record AreConverted {R W E : Type 0} (r : reads.Ghosts R) (o : outputs.Ghosts W) (e : outputs.Ghosts E) (IsOpened : List ℕ → R → Type 0)
     (IsMade : List ℕ → ℕ → W → Type 0) (AreApart : List ℕ → List ℕ → Type 0)
     (task : Task) (status : ℕ) (written : List W) (before after : E) : Type 0 where
   pub sources : List R
@@ -65,7 +62,7 @@ pub record AreConverted {R W E : Type 0} (remaining : R → Option (List ℕ)) (
   pub made : AreMade IsMade task.files given
   pub kept : AreNotSources AreApart task.files
   pub apart : AreTwoFiles AreApart task.files
-  pub converted : IsConverted remaining contents has_failed is_flushed own_mark told unheard task status sources given
+  pub converted : IsConverted r o e task status sources given
       written before after
 
 -- an error was told with this status: something that is wrong with the words, or that memory ran out or a file was

@@ -1,5 +1,6 @@
 -- What the files of a command line are opened as.
-use Rattle.std.specs.Prelude.{◌≡◌, ◌<◌, ◌+◌, ◌++◌, ℕ, List, [], Option, Bool, false, codes, length, Some, slice_get}
+use Rattle.std.specs.Prelude.{◌≡◌, ◌<◌, ◌+◌, ◌++◌, ℕ, List, [], false, codes, length, Some, slice_get}
+use Rattle.register_records.specs.declared.outputs.Output as outputs
 
 -- the lists are of one length, and this holds of what stands at each place of both, the place being counted from 0
 pub record AreMatched {A B : Type 0} (Match : ℕ → A → B → Type 0) (left : List A) (right : List B) : Type 0 where
@@ -11,14 +12,12 @@ abbrev pub AreOpened : {R : Type 0} → (List ℕ → R → Type 0) → List (Li
 AreOpened IsOpened files sources = AreMatched (λ i file source. IsOpened file source) files sources
 
 -- the output tells its bytes, holds none of them yet, and has not failed
-abbrev pub IsFresh : {W : Type 0} → (W → Option (List ℕ)) → (W → Bool) → W → Type 0
-IsFresh contents has_failed output = (contents output ≡ Some []) × (has_failed output ≡ false)
+abbrev pub IsFresh : {W : Type 0} → outputs.Ghosts W → W → Type 0
+IsFresh o output = (o.contents output ≡ Some []) × (o.has_failed output ≡ false)
 
 -- the output was made by this name, has this mark, and is fresh
-abbrev pub IsNewlyMade : {W : Type 0} → (W → Option (List ℕ)) → (W → Bool) → (W → ℕ) → (List ℕ → ℕ → W → Type 0)
-    → List ℕ → ℕ → W → Type 0
-IsNewlyMade contents has_failed own_mark IsMade name mark output =
-    IsMade name mark output × (own_mark output ≡ mark) × IsFresh contents has_failed output
+abbrev pub IsNewlyMade : {W : Type 0} → outputs.Ghosts W → (List ℕ → ℕ → W → Type 0) → List ℕ → ℕ → W → Type 0
+IsNewlyMade o IsMade name mark output = IsMade name mark output × (o.own_mark output ≡ mark) × IsFresh o output
 
 -- each output goes to the file named like its source's with .out.csv behind it, and is marked by its place, from 1
 abbrev pub AreMade : {W : Type 0} → (List ℕ → ℕ → W → Type 0) → List (List ℕ) → List W → Type 0

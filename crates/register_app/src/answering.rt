@@ -124,7 +124,7 @@ fn print_page<W: Output, E: Output>(
     output: W,
     errors: &mut E,
 ) -> Answered<W>
-    ensures printed { IsPrinted W.contents W.has_failed W.is_flushed E.contents E.has_failed page.now result.status
+    ensures printed { IsPrinted W.Output E.Output page.now result.status
         output result.output errors.old errors.new }
     ensures statuses { (result.status ≡ 0) ⊎ (result.status ≡ 1) }
     ensures none { result.outputs.items ≡ [] }
@@ -179,8 +179,7 @@ fn convert<
     W: Output + Drop,
     E: Output,
 >(rt: &T, alloc: Global, sources: Vec<R>, outputs: Vec<W>, errors: &mut E, job: &Job<'_>) -> Ran<W>
-    ensures converted { result.status ≢ 3 → IsConverted R.remaining W.contents W.has_failed W.is_flushed W.own_mark
-        E.contents E.has_failed
+    ensures converted { result.status ≢ 3 → IsConverted R.Read W.Output E.Output
         (task_of job.now) result.status sources.items outputs.items result.outputs.items errors.old errors.new }
     ensures untouched { result.status ≡ 3 → result.outputs.items ≡ outputs.items }
     ensures told { result.status ≡ 3 → E.has_failed errors.new ≡ false → (words : List (List ℕ))
@@ -214,8 +213,7 @@ fn convert_input<
     W: Output + Drop,
     E: Output,
 >(rt: &T, alloc: Global, input: R, output: W, errors: &mut E, job: &Job<'_>) -> Answered<W>
-    ensures converted { result.status ≢ 3 → IsConverted R.remaining W.contents W.has_failed W.is_flushed W.own_mark
-        E.contents E.has_failed
+    ensures converted { result.status ≢ 3 → IsConverted R.Read W.Output E.Output
         (task_of job.now) result.status (input ∷ []) (output ∷ []) (result.output ∷ []) errors.old errors.new }
     ensures untouched { result.status ≡ 3 → result.output ≡ output }
     ensures told { result.status ≡ 3 → E.has_failed errors.new ≡ false → (words : List (List ℕ))
@@ -256,13 +254,12 @@ fn convert_files<
     E: Output,
 >(rt: &T, alloc: Global, output: W, places: &P, errors: &mut E, job: &Job<'_>) -> Answered<W>
     requires few { length job.now.files.items ≤ most_files }
-    ensures converted { result.status ≢ 3 → AreConverted R.remaining W.contents W.has_failed W.is_flushed W.own_mark
-        E.contents E.has_failed
-        (P.is_opened places.now) (IsNewlyMade W.contents W.has_failed W.own_mark (P.is_made places.now))
+    ensures converted { result.status ≢ 3 → AreConverted R.Read W.Output E.Output
+        (P.is_opened places.now) (IsNewlyMade W.Output (P.is_made places.now))
         (P.are_apart places.now) (task_of job.now) result.status result.outputs.items errors.old errors.new }
     ensures untouched { result.output ≡ output }
     ensures unwritten { result.status ≡ 3 → (result.outputs.items ≡ [])
-        ⊎ AreMade (IsNewlyMade W.contents W.has_failed W.own_mark (P.is_made places.now)) (task_of job.now).files
+        ⊎ AreMade (IsNewlyMade W.Output (P.is_made places.now)) (task_of job.now).files
         result.outputs.items }
     ensures told { result.status ≡ 3 → E.has_failed errors.new ≡ false → (words : List (List ℕ))
         → IsTold words result.status (E.contents errors.old) (E.contents errors.new) }
@@ -311,23 +308,23 @@ pub fn answer<
     errors: &mut E,
 ) -> Answered<W>
     // What is written to tells its bytes, so that no clause on them is empty; it holds none yet, and has not failed.
-    requires fresh { IsFresh W.contents W.has_failed output }
-    requires fresh_errors { IsFresh E.contents E.has_failed errors.old }
+    requires fresh { IsFresh W.Output output }
+    requires fresh_errors { IsFresh E.Output errors.old }
 
     // The words ask for a page, which was printed; or for the table of standard input; or for those of files.
     ensures answered { result.status ≤ 1
         → ((page : List ℕ) × AskForPage (map string_bytes words.now) page
-        × IsPrinted W.contents W.has_failed W.is_flushed E.contents E.has_failed page result.status output result.output
+        × IsPrinted W.Output E.Output page result.status output result.output
         errors.old errors.new
         × (result.outputs.items ≡ []))
         ⊎ ((task : Task) × MeanJust (map string_bytes words.now) (table task) × (task.files ≡ [])
         × (result.outputs.items ≡ [])
-        × IsConverted R.remaining W.contents W.has_failed W.is_flushed W.own_mark E.contents E.has_failed
+        × IsConverted R.Read W.Output E.Output
         task result.status (input ∷ []) (output ∷ []) (result.output ∷ []) errors.old errors.new)
         ⊎ ((task : Task) × MeanJust (map string_bytes words.now) (table task) × (task.files ≢ [])
         × (result.output ≡ output)
-        × AreConverted R.remaining W.contents W.has_failed W.is_flushed W.own_mark E.contents E.has_failed
-        (P.is_opened places.now) (IsNewlyMade W.contents W.has_failed W.own_mark (P.is_made places.now))
+        × AreConverted R.Read W.Output E.Output
+        (P.is_opened places.now) (IsNewlyMade W.Output (P.is_made places.now))
         (P.are_apart places.now) task result.status result.outputs.items errors.old errors.new) }
 
     // Unless the status is 3, words are refused exactly where something is wrong with them.
@@ -341,7 +338,7 @@ pub fn answer<
     // With status 3 the outputs are none, or as they were made.
     ensures unwritten { result.status ≡ 3 → (result.outputs.items ≡ [])
         ⊎ ((task : Task) × MeanJust (map string_bytes words.now) (table task)
-        × AreMade (IsNewlyMade W.contents W.has_failed W.own_mark (P.is_made places.now)) task.files
+        × AreMade (IsNewlyMade W.Output (P.is_made places.now)) task.files
         result.outputs.items) }
     ensures statuses { result.status ≤ 3 }
     ensures mark { W.own_mark result.output ≡ W.own_mark output }

@@ -89,7 +89,7 @@ fn make_outputs<'a, R, W: Output + Drop, P: Places<R, W>>(
     files: &[&'a str],
 ) -> Result<Vec<W>, RequestFault<'a>>
     requires few { length files.now ≤ most_files }
-    ensures made { IfOk result (λ outputs. AreMade (IsNewlyMade W.contents W.has_failed W.own_mark
+    ensures made { IfOk result (λ outputs. AreMade (IsNewlyMade W.Output
         (P.is_made places.now)) (map (λ file. file.now) files.now) outputs.items) }
     ensures apart { IfOk result (λ outputs. AreTwoFiles (P.are_apart places.now) (map (λ file. file.now) files.now)) }
     ensures status { IfErr result (λ error. status_of_fault error ≡ 3) }
@@ -130,7 +130,7 @@ pub fn open_files<'a, R: Drop, W: Output + Drop, P: Places<R, W>>(
     requires few { length files.now ≤ most_files }
     ensures opened { IfOk result (λ o. AreOpened (P.is_opened places.now) (map (λ file. file.now) files.now)
         o.sources.items) }
-    ensures made { IfOk result (λ o. AreMade (IsNewlyMade W.contents W.has_failed W.own_mark
+    ensures made { IfOk result (λ o. AreMade (IsNewlyMade W.Output
         (P.is_made places.now)) (map (λ file. file.now) files.now) o.outputs.items) }
     ensures kept { IfOk result (λ o. AreNotSources (P.are_apart places.now) (map (λ file. file.now) files.now)) }
     ensures apart { IfOk result (λ o. AreTwoFiles (P.are_apart places.now) (map (λ file. file.now) files.now)) }

@@ -24,7 +24,7 @@ pub trait Places<R, W: Output> {
     /// Makes the file of this name, or empties it, and gives the output that goes there: with this mark, no bytes and
     /// no fault yet.
     fn make(&self, name: &str, mark: u32) -> io::Result<W>
-        ensures { IfOk result (IsNewlyMade W.contents W.has_failed W.own_mark (is_made self.now) name.now mark) };
+        ensures { IfOk result (IsNewlyMade W.Output (is_made self.now) name.now mark) };
 
     /// Whether two names are those of one file, as far as can be known.
     fn are_one_file(&self, name: &str, other: &str) -> bool

@@ -11,7 +11,7 @@ use Rattle.date_texts.specs.Calendars.{all_targets}
 use Rattle.date_texts.specs.declared.calendar.Target.{Target}
 use Rattle.date_texts.specs.declared.calendar.Target.TheVariants.{Haab}
 use Rattle.date_texts.proofs.ReadingLemmas.{some_inside}
-use Rattle.date_texts.proofs.TargetNames.{finds_own}
+use Rattle.date_texts.proofs.TargetNameLemmas.{finds_own}
 use Rattle.register_records.specs.TargetNumbers.{have_one_name, number_of, place_of}
 
 -- the place of a target is its own

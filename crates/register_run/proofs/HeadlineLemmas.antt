@@ -55,7 +55,7 @@ module _ {R W : Type 0} {o : outputs.Ghosts W} where
 abbrev pub Known : {R W : Type 0} → reads.Ghosts R → outputs.Ghosts W → Setup → R → W → W → SourceEnd → Type 0
 Known r o setup source before after e =
     (e ≡ end.Broken cause.BadHeader → after ≡ before)
-    × ∥ IsSettled o.contents o.has_failed o.is_flushed (layout_of setup) (r.remaining source) before after e ∥₁
+    × ∥ IsSettled o (layout_of setup) (r.remaining source) before after e ∥₁
 
 -- so many outputs are handed back as were handed in, and so many ends as sources
 pub lengths_of : {R W : Type 0} (Holds : R → W → W → SourceEnd → Type 0) (sources : List R) (given written : List W)
@@ -134,7 +134,7 @@ module _ {R W : Type 0} {r : reads.Ghosts R} {o : outputs.Ghosts W} (setup : Set
         where
       pub report_of : report.outputs.items ≡ map output_of all
           → ((report.verdict ≡ Complete) ↔ All (λ e. is_whole_end e ≡ true) report.ends.items)
-          → IsReport r.remaining o.contents o.has_failed o.is_flushed o.own_mark setup sources given report
+          → IsReport r o setup sources given report
       report_of wrote verdict = record {
         places = subst (λ es. AtEachPlace (Known r o setup) sources given report.outputs.items es) (sym ends)
             (subst (λ ws. AtEachPlace (Known r o setup) sources given ws (map end_of all)) (sym wrote) places);

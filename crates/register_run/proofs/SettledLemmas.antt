@@ -157,7 +157,7 @@ module _ {W : Type 0} (o : outputs.Ghosts W) (text : Option (List ℕ)) (table :
 
   reading_so : (c : Cause) → is_of_reading c ≡ true
       → (passed ≡ Err c) × (table.fault ≡ None) × (headed ≡ true → table.rows ≢ 0)
-      → ∥ IsSettled o.contents o.has_failed o.is_flushed (layout_of table.setup) text table.given.value table.output
+      → ∥ IsSettled o (layout_of table.setup) text table.given.value table.output
       (end.Broken c) ∥₁
   reading_so c reading fact =
       let dry = table.faultless fact.1 in
@@ -184,7 +184,7 @@ module _ {W : Type 0} (o : outputs.Ghosts W) (text : Option (List ℕ)) (table :
       }))
 
   threads_so : (c : Cause) → is_of_reading c ≡ false → (c ≡ cause.SinkFault → table.fault ≡ Some cause.SinkFault)
-      → ∥ IsSettled o.contents o.has_failed o.is_flushed (layout_of table.setup) text table.given.value table.output
+      → ∥ IsSettled o (layout_of table.setup) text table.given.value table.output
       (end.Broken c) ∥₁
   threads_so c other sink = ∥∥₁_map (rows_are (layout_of table.setup).targets rows holds.targets) (λ are. record {
     part = λ e. absurd (cc);
@@ -199,7 +199,7 @@ module _ {W : Type 0} (o : outputs.Ghosts W) (text : Option (List ℕ)) (table :
   broken_so : (b : Bool) (c : Cause) → is_of_reading c ≡ b
       → (is_of_reading c ≡ true → (passed ≡ Err c) × (table.fault ≡ None) × (headed ≡ true → table.rows ≢ 0))
       → (c ≡ cause.SinkFault → table.fault ≡ Some cause.SinkFault)
-      → ∥ IsSettled o.contents o.has_failed o.is_flushed (layout_of table.setup) text table.given.value table.output
+      → ∥ IsSettled o (layout_of table.setup) text table.given.value table.output
       (end.Broken c) ∥₁
   broken_so true c b reading sink = reading_so c b (reading b)
   broken_so false c b reading sink = threads_so c b sink
@@ -228,7 +228,7 @@ module _ {W : Type 0} (o : outputs.Ghosts W) (text : Option (List ℕ)) (table :
       → IfBroken e (λ c. is_of_reading c ≡ true
       → (passed ≡ Err c) × (table.fault ≡ None) × (headed ≡ true → table.rows ≢ 0))
       → IfBroken e (λ c. c ≡ cause.SinkFault → table.fault ≡ Some cause.SinkFault)
-      → ∥ IsSettled o.contents o.has_failed o.is_flushed
+      → ∥ IsSettled o
       (layout_of table.setup) text table.given.value table.output e ∥₁
   settled (end.Broken c) whole reading sink = broken_so (is_of_reading c) c refl reading sink
   settled (end.Whole count refused journal) whole reading sink =

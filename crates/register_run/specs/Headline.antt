@@ -3,6 +3,7 @@ use Rattle.std.specs.Prelude.{◌≡◌, ℕ, List, [], ◌∷◌, Option, None,
 use Rattle.register_records.specs.Entries.{HasNoHeader, HasTooMany, IsNotSealed}
 use Rattle.register_records.specs.Sources.{ArePartOfTable, Gains, IsWholeTable}
 use Rattle.register_records.specs.Tables.{Layout}
+use Rattle.register_records.specs.declared.outputs.Output as outputs
 use Rattle.register_records.specs.declared.setups.Form.TheVariants.{Sealed}
 use Rattle.register_records.specs.declared.sources.Cause.{Cause}
 use Rattle.register_records.specs.declared.sources.Cause.TheVariants as cause
@@ -20,25 +21,24 @@ AtEachPlace Holds (r ∷ rs) (g ∷ gs) (w ∷ ws) (e ∷ es) = Holds r g w e ×
 AtEachPlace Holds sources given written ends = ⊥
 
 -- of the output of a source with this text, where it tells its bytes: as it was handed in, and as it is handed back
-module _ {W : Type 0} (contents : W → Option (List ℕ)) (has_failed is_flushed : W → Bool) (layout : Layout)
-    (text : Option (List ℕ)) (given written : W) where
+module _ {W : Type 0} (o : outputs.Ghosts W) (layout : Layout) (text : Option (List ℕ)) (given written : W) where
   -- the source is whole: the output has gained the table of the text, and nothing else; all that it took was handed on,
   -- and it has failed no more than before
   pub record IsWhole (rows refused : ℕ) (journal : List Note) : Type 0 where
-    pub table : Gains (contents given) (contents written) (IsWholeTable layout text rows refused journal)
-    pub flushed : is_flushed written ≡ true
-    pub good : has_failed written ≡ has_failed given
+    pub table : Gains (o.contents given) (o.contents written) (IsWholeTable layout text rows refused journal)
+    pub flushed : o.is_flushed written ≡ true
+    pub good : o.has_failed written ≡ o.has_failed given
 
   -- the source is broken for this cause; in a table of no known text the rows are in the order of their numbers, from
   -- 1, and each is the row of the entry that it carries
   pub record IsBroken (c : Cause) : Type 0 where
-    pub part : is_of_reading c ≡ true → Gains (contents given) (contents written) (ArePartOfTable layout text)
-    pub kept : is_of_reading c ≡ true → has_failed written ≡ has_failed given
+    pub part : is_of_reading c ≡ true → Gains (o.contents given) (o.contents written) (ArePartOfTable layout text)
+    pub kept : is_of_reading c ≡ true → o.has_failed written ≡ o.has_failed given
     pub bad_header : c ≡ cause.BadHeader → IfSome text (HasNoHeader layout.format)
     pub too_many : c ≡ cause.TooManyRecords → IfSome text (HasTooMany layout.format)
     pub not_sealed : c ≡ cause.NotSealed → (layout.format.form ≡ Sealed) × IfSome text (IsNotSealed layout.format)
-    pub in_order : has_failed written ≡ false → Gains (contents given) (contents written) (ArePartOfTable layout None)
-    pub sink : c ≡ cause.SinkFault → has_failed written ≡ true
+    pub in_order : o.has_failed written ≡ false → Gains (o.contents given) (o.contents written) (ArePartOfTable layout None)
+    pub sink : c ≡ cause.SinkFault → o.has_failed written ≡ true
 
   -- the source has ended so
   abbrev pub IsSettled : SourceEnd → Type 0

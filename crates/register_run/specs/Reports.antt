@@ -1,7 +1,9 @@
 -- What a run answers of its lists.
 use Rattle.std.specs.Prelude.{◌≡◌, ◌↔◌, ℕ, List, All, Bool, Option, map, true}
+use Rattle.std.specs.declared.io.traits.Read as reads
 use Rattle.register_records.specs.Sources.{is_whole_end}
 use Rattle.register_records.specs.Views.{layout_of}
+use Rattle.register_records.specs.declared.outputs.Output as outputs
 use Rattle.register_records.specs.declared.setups.Setup.{Setup}
 use Rattle.register_records.specs.declared.sources.Cause.TheVariants as cause
 use Rattle.register_records.specs.declared.sources.SourceEnd.TheVariants as ended
@@ -27,12 +29,11 @@ arms_of report = map (λ r. r.arms.value.items) report.ran.items
 
 -- each source was run by this setup and has ended as it should, and with no header it has its output as it was; and
 -- the report says how
-pub record IsReport {R W : Type 0} (remaining : R → Option (List ℕ)) (contents : W → Option (List ℕ))
-    (has_failed is_flushed : W → Bool) (own_mark : W → ℕ)
-    (setup : Setup) (sources : List R) (given : List W) (report : Report W) : Type 0 where
+pub record IsReport {R W : Type 0} (r : reads.Ghosts R) (o : outputs.Ghosts W) (setup : Setup)
+    (sources : List R) (given : List W) (report : Report W) : Type 0 where
   pub places : AtEachPlace (λ source before after end. (end ≡ ended.Broken cause.BadHeader → after ≡ before)
-      × ∥ IsSettled contents has_failed is_flushed (layout_of setup) (remaining source) before after end ∥₁)
+      × ∥ IsSettled o (layout_of setup) (r.remaining source) before after end ∥₁)
       sources given report.outputs.items report.ends.items
-  pub marks : map own_mark report.outputs.items ≡ map own_mark given
+  pub marks : map o.own_mark report.outputs.items ≡ map o.own_mark given
   pub by_setup : setups_of report ≡ map (λ source. setup) sources
   pub verdict : (report.verdict ≡ Complete) ↔ All (λ end. is_whole_end end ≡ true) report.ends.items

@@ -232,7 +232,7 @@ fn run_all<
     lists: Lists<R, W>,
 ) -> Report<W>
     requires { (vec_len sources ≡ lists.count) × (vec_len outputs ≡ lists.count) }
-    ensures report { IsReport R.remaining W.contents W.has_failed W.is_flushed W.own_mark
+    ensures report { IsReport R.Read W.Output
         by.now.setup.now sources.items outputs.items result }
     ensures machine { AreOfMachine R.remaining by.now.setup.now sources.items result.ends.items (arms_of result) }
 {
@@ -263,7 +263,7 @@ fn run_in_scope<T: Host, R: Read + Send + Drop, W: Output + Drop, G: Gate + Sync
     lists: Lists<R, W>,
 ) -> Report<W>
     requires { (vec_len sources ≡ lists.count) × (vec_len outputs ≡ lists.count) }
-    ensures report { IsReport R.remaining W.contents W.has_failed W.is_flushed W.own_mark
+    ensures report { IsReport R.Read W.Output
         setup.now sources.items outputs.items result }
     ensures machine { AreOfMachine R.remaining setup.now sources.items result.ends.items (arms_of result) }
 {
@@ -273,7 +273,7 @@ fn run_in_scope<T: Host, R: Read + Send + Drop, W: Output + Drop, G: Gate + Sync
         rt,
         move |scope| -> Report<W>
             requires { (vec_len sources ≡ lists.count) × (vec_len outputs ≡ lists.count) }
-            ensures { IsReport R.remaining W.contents W.has_failed W.is_flushed W.own_mark
+            ensures { IsReport R.Read W.Output
                 setup.entry.now sources.items outputs.items result
                 × AreOfMachine R.remaining setup.entry.now sources.items result.ends.items (arms_of result) }
         {
@@ -318,7 +318,7 @@ pub fn run_gated<
 ) -> Result<Report<W>, RunFault<R, W>>
     // The headline, as `run` says it.
     ensures report { IfOk result (λ r.
-        IsReport R.remaining W.contents W.has_failed W.is_flushed W.own_mark
+        IsReport R.Read W.Output
         setup.now sources.items outputs.items r) }
 
     // The lanes of a source that is whole carried just what the lanes of the machine of striped lanes carry in some
@@ -373,7 +373,7 @@ pub fn run<T: Threads + Wait + Clock + CpuClock + Sync, R: Read + Send + Drop, W
     // of the source's text, and nothing else. The run is complete exactly where every source is whole, and every other
     // source is told with its cause. A field of `IsReport`, `IsWhole` and `IsBroken` says each part of this.
     ensures report { IfOk result (λ r.
-        IsReport R.remaining W.contents W.has_failed W.is_flushed W.own_mark
+        IsReport R.Read W.Output
         setup.now sources.items outputs.items r) }
 
     // The lanes of a source that is whole carried just what the lanes of the machine of striped lanes carry in some

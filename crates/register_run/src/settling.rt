@@ -24,7 +24,7 @@ pub(crate) struct Settled<R: Read, W: Output> {
     pub(crate) end: SourceEnd,
     pub ghost marked: { W.own_mark output ≡ W.own_mark given.value },
     pub ghost untouched: { end ≡ ended.Broken cause.BadHeader → output ≡ given.value },
-    pub ghost settled: { ∥ IsSettled W.contents W.has_failed W.is_flushed (layout_of ran.setup.value)
+    pub ghost settled: { ∥ IsSettled W.Output (layout_of ran.setup.value)
         (R.remaining source.value) given.value output end ∥₁ },
     pub ghost machine: { ∥ IfWhole end (λ count refused journal.
         IsOfMachine (R.remaining source.value) ran.setup.value count ran.arms.value.items) ∥₁ },

@@ -8,7 +8,7 @@ use Rattle.register_app.proofs.opening.make_outputs.Given as goal
 -- the outputs and their names are those of the files so far, the mark is the last one's, and the names were told apart
 abbrev pub invariant-files : goal.invariant-files
 invariant-files g l = (l.mark ≡ l.file-index)
-    × AreMatchedSoFar (λ i file output. IsNewlyMade g.W.Output.contents g.W.Output.has_failed g.W.Output.own_mark
+    × AreMatchedSoFar (λ i file output. IsNewlyMade g.W.Output
     (g.P.Places.is_made l.places) (file ++ codes ".out.csv") (i + 1) output)
     (map (λ f. f.now) l.files) l.outputs.items l.file-index
     × AreMatchedSoFar (λ i file name. string_bytes name ≡ file ++ codes ".out.csv") (map (λ f. f.now) l.files)

@@ -24,7 +24,7 @@ invariant_of-result g c =
           c.is_some.result c.is_some.ensures c.end_of_source-end.result ends.reading bad) in
           table.untouched h.0 h.1;
       settled = ∥∥₁_elim c.requires.passed ∥∥₁_prop (λ (rows, holds, has).
-          subst (λ s. ∥ IsSettled g.W.Output.contents g.W.Output.has_failed g.W.Output.is_flushed
+          subst (λ s. ∥ IsSettled g.W.Output
           (layout_of s) text table.given.value table.output c.end_of_source-end.result ∥₁) (sym c.of-setup.ensures)
           (settled g.W.Output text table rows c.args.passage.outcome (c.send.ensures.rows rows holds) c.send.ensures.sent
           (subst (λ s. HasPassed text (format_of s) c.args.passage.outcome (λ row. Contains rows row))

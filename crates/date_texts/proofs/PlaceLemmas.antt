@@ -25,7 +25,8 @@ pub put_none : (places : List ℕ) (at : ℕ) → IsPut places places at at []
 put_none places at = record { follows = omega arith; value = sym (append-nil (take at places)) }
 
 -- a byte
-pub put_one : (places : List ℕ) (at c : ℕ) → at < length places → IsPut places (slice_set places at c) at (at + 1) (c ∷ [])
+pub put_one : (places : List ℕ) (at c : ℕ) → at < length places
+    → IsPut places (slice_set places at c) at (at + 1) (c ∷ [])
 put_one places at c room = record { follows = omega arith; value = take_more_set places at c room }
 
 -- tens and ones

@@ -9,8 +9,8 @@ use Rattle.day_numbers.proofs.RulesLemmas.{years_zero, years_suc}
 use Rattle.day_numbers.proofs.SignedArithmeticLemmas.{signed_arith}
 use Rattle.lunar_calendars.specs.Hebrew.{IsYearLength, is_leap_year, epoch, new_year_of, days_in_year, months_by_length}
 use Rattle.lunar_calendars.specs.Hebrew.{months_of_year, year_lengths, hebrew_rules}
-use Rattle.lunar_calendars.proofs.NewYearLemmas.{opening, put_off, parts_after, new_year_after, new_year_is, first_new_year}
-use Rattle.lunar_calendars.proofs.NewYearLemmas.{new_year_bounds}
+use Rattle.lunar_calendars.proofs.NewYearLemmas.{opening, put_off, parts_after, new_year_after, new_year_is}
+use Rattle.lunar_calendars.proofs.NewYearLemmas.{first_new_year, new_year_bounds}
 
 -- n lies from low to high above m
 pub record IsFrom (low high m n : ℕ) : Type 0 where

@@ -10,8 +10,8 @@ use Rattle.date_texts.proofs.cells.write_long_count.Goals as goal
 pub put_long-requires : goal.put_long-requires
 put_long-requires c =
     let found = c.in-Some.ensures.value in
-    let short = c.cells_are_short.ensures (DateTarget Longcount) c.args.day.number (canonical_text (Long c.in-Some.count))
-    (on_date (Long c.in-Some.count) refl found.0 found.1 refl) in
+    let short = c.cells_are_short.ensures (DateTarget Longcount) c.args.day.number
+    (canonical_text (Long c.in-Some.count)) (on_date (Long c.in-Some.count) refl found.0 found.1 refl) in
     omega (arith, short, c.told-places)
 
 pub returns-in-Some-clause-value : goal.returns-in-Some-clause-value

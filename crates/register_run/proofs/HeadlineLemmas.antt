@@ -131,19 +131,19 @@ module _ {R W : Type 0} {r : reads.Ghosts R} {o : outputs.Ghosts W} (setup : Set
         )) all sources given len is
 
     module _ (report : Report W) (ends : report.ends.items ≡ map end_of all) (by : report.ran.items ≡ map ran_of all)
-        where
-      pub report_of : report.outputs.items ≡ map output_of all
-          → ((report.verdict ≡ Complete) ↔ All (λ e. is_whole_end e ≡ true) report.ends.items)
-          → IsReport r o setup sources given report
-      report_of wrote verdict = record {
-        places = subst (λ es. AtEachPlace (Known r o setup) sources given report.outputs.items es) (sym ends)
-            (subst (λ ws. AtEachPlace (Known r o setup) sources given ws (map end_of all)) (sym wrote) places);
-        marks = ap (map o.own_mark) wrote ∙ marks_kept;
-        by_setup = ap (map (λ ran. ran.setup.value)) by ∙ setups_kept;
-        verdict = verdict;
-      }
+      where
+        pub report_of : report.outputs.items ≡ map output_of all
+            → ((report.verdict ≡ Complete) ↔ All (λ e. is_whole_end e ≡ true) report.ends.items)
+            → IsReport r o setup sources given report
+        report_of wrote verdict = record {
+          places = subst (λ es. AtEachPlace (Known r o setup) sources given report.outputs.items es) (sym ends)
+              (subst (λ ws. AtEachPlace (Known r o setup) sources given ws (map end_of all)) (sym wrote) places);
+          marks = ap (map o.own_mark) wrote ∙ marks_kept;
+          by_setup = ap (map (λ ran. ran.setup.value)) by ∙ setups_kept;
+          verdict = verdict;
+        }
 
-      pub report_of_machine : AreOfMachine r.remaining setup sources report.ends.items (arms_of report)
-      report_of_machine =
-          subst (λ es. AreOfMachine r.remaining setup sources es (arms_of report)) (sym ends)
-          (subst (λ rs. AreOfMachine r.remaining setup sources (map end_of all) (map arms_in rs)) (sym by) of_machine)
+        pub report_of_machine : AreOfMachine r.remaining setup sources report.ends.items (arms_of report)
+        report_of_machine =
+            subst (λ es. AreOfMachine r.remaining setup sources es (arms_of report)) (sym ends)
+            (subst (λ rs. AreOfMachine r.remaining setup sources (map end_of all) (map arms_in rs)) (sym by) of_machine)

@@ -100,7 +100,8 @@ impl Arm {
         ensures setup { IfOk result (λ r. arm_setup r.1 ≡ by.now.setup.now) }
     {
         let (rt, gate, setup) = (by.rt, by.gate, by.setup);
-        let Ok((sender, entries)) = patient_lane::<Entry>(by.alloc, setup.ring(), by.patience) else {
+        let Ok((sender, entries)) = patient_lane::<Entry>(by.alloc, setup.ring(), by.patience)
+        else {
             return Err(StartFault::NoMemory);
         };
         let further = by.patience.a_lane_further();

@@ -35,8 +35,7 @@ pub(crate) struct Link<R: Read> {
     turn: usize,
     // A lane ended with a stop.
     stopped: bool,
-    ghost reads: { IfOk reader (λ r. IsReaderOf source.value setup.value arms.items r.promise) }
-        by { Prim.hlevel props },
+    ghost reads: { IfOk reader (λ r. IsReaderOf source.value setup.value arms.items r.promise) } by { Prim.hlevel props },
     ghost by_turns: { IsInTurn arms.items turn },
 }
 
@@ -178,13 +177,7 @@ impl<R: Read + Drop> Link<R> {
 /// # Errors
 ///
 /// `NoMemory` where a list or a lane is refused its memory, and `NoThread` where a thread does not start.
-fn start_threads<
-    's,
-    'e,
-    T: Host,
-    R: Read + Send + Drop + 'e,
-    G: Gate + Sync,
->(
+fn start_threads<'s, 'e, T: Host, R: Read + Send + Drop + 'e, G: Gate + Sync>(
     by: &Starting<'s, 'e, T, G>,
     source: R,
 ) -> Result<(PromisedHandle<Reading, ReaderTask<R>>, Vec<Arm>), StartFault>

@@ -34,14 +34,7 @@ fn patience_for(rt: &impl Threads, sources: usize) -> Patience {
 }
 
 /// Starts the threads of each source.
-fn start_all<
-    's,
-    'e,
-    T: Host,
-    R: Read + Send + Drop + 'e,
-    W: Output + Drop,
-    G: Gate + Sync,
->(
+fn start_all<'s, 'e, T: Host, R: Read + Send + Drop + 'e, W: Output + Drop, G: Gate + Sync>(
     by: &Starting<'s, 'e, T, G>,
     sources: Vec<R>,
     outputs: Vec<W>,
@@ -218,14 +211,7 @@ fn refused<R, W>(kind: RunFaultKind, sources: Vec<R>, outputs: Vec<W>) -> RunFau
 }
 
 /// The run, inside the scope of its threads.
-fn run_all<
-    's,
-    'e,
-    T: Host,
-    R: Read + Send + Drop + 'e,
-    W: Output + Drop,
-    G: Gate + Sync,
->(
+fn run_all<'s, 'e, T: Host, R: Read + Send + Drop + 'e, W: Output + Drop, G: Gate + Sync>(
     by: &Starting<'s, 'e, T, G>,
     sources: Vec<R>,
     outputs: Vec<W>,

@@ -7,8 +7,7 @@ use Rattle.date_texts.proofs.LawWords.{OneTarget}
 use Rattle.date_texts.specs.Names.{IsNamed}
 use Rattle.date_texts.specs.declared.calendar.Target.{Target}
 use Rattle.register_records.specs.SetupRules.{NamesTwice}
-use Rattle.register_words.specs.Faults.{Fault, usage, unknown_target, target_twice, bad_ring, unknown_delimiter}
-use Rattle.register_words.specs.Faults.{bad_stripes, too_many_files, file_twice}
+use Rattle.register_words.specs.Faults.{Fault, unknown_target, target_twice}
 use Rattle.register_words.specs.OptionValues.{AreNamesOf, AsksForTargets, IsFirstTwice, IsFirstUnknown, IsListFault}
 use Rattle.register_words.specs.OptionValues.{ListMeans, ListMeansJust, names_in}
 

@@ -1,7 +1,7 @@
 -- Words mean one thing at most.
 use Rattle.std.proofs.Common.{◌≡◌, ◌∙◌, ℕ, Bool, List, [], ◌∷◌, length, sym, ap, ap₂, refl, subst, arith}
 use Rattle.std.proofs.Common.{inl, inr, Option, Some, None}
-use Rattle.std.specs.Prelude.{◌≢◌, ◌↔◌, ◌⊎◌, ⊤, IfSome, IsSomeAnd}
+use Rattle.std.specs.Prelude.{◌≢◌, ⊤, IfSome, IsSomeAnd}
 use Rattle.clap.specs.Values.{kind_of}
 use Rattle.clap.specs.Words.{HasKind, IsAmong, Text, fault_of}
 use Rattle.clap.specs.declared.error.Error.{Error}
@@ -16,8 +16,8 @@ use Rattle.register_words.specs.OptionValues.{IsDelimiterWord, IsNumberWord}
 use Rattle.register_records.specs.Entries.{Format}
 use Rattle.register_records.specs.Tables.{Layout}
 use Rattle.register_records.specs.declared.setups.Form.{Form}
-use Rattle.register_words.specs.Requests.{AreTargetsOf, Ask, Check, FailFirst, IsFaultOf, IsNumberFault, IsNumberOf}
-use Rattle.register_words.specs.Requests.{IsTargetFault, IsUsageFault, Mean, MeanJust, Meaning, NumberOption, Task}
+use Rattle.register_words.specs.Requests.{AreTargetsOf, Check, FailFirst, IsFaultOf, IsNumberOf}
+use Rattle.register_words.specs.Requests.{IsTargetFault, Mean, MeanJust, Meaning, NumberOption, Task}
 use Rattle.register_words.specs.Requests.{delimiter_option, file_check, number_check, ring_option}
 use Rattle.register_words.specs.Requests.{stripes_option, target_check, usage_check, value_checks, help, version, table}
 use Rattle.register_words.specs.Requests.{wrong}

@@ -1,7 +1,6 @@
 -- The law, from what every act keeps.
 use Rattle.std.proofs.Common.{◌≡◌, ◌<◌, ◌≤◌, ◌+◌, ◌*◌, ℕ, List, [], ◌∷◌, length, inl, inr}
 use Rattle.std.proofs.Common.{refl, sym, subst, ap, arith}
-use Rattle.std.specs.Prelude.{map}
 use Rattle.striped_lanes.specs.Machine.{World, State, Actor, act, start}
 use Rattle.striped_lanes.specs.Schedules.{AtMostChange, HasChanges, at_end, change, idle, run, standing}
 use Rattle.striped_lanes.specs.Places.{AreNumberedFrom, ArePoppedInOrder, EachStandsOnce, GoesOn, KeepNumbers, Numbers}

@@ -1,5 +1,5 @@
 -- What the options mean, and that it fits a setup.
-use Rattle.std.proofs.Common.{◌≡◌, ◌∙◌, ap, sym, subst, map, inl, inr, refl, List}
+use Rattle.std.proofs.Common.{◌∙◌, ap, sym, subst, map, inl, inr, refl, List}
 use Rattle.std.specs.Prelude.{IfSome}
 use Rattle.clap.proofs.TakesLemmas.{passed_up}
 use Rattle.clap.specs.Words.{Text}

@@ -4,8 +4,8 @@ ghost use Rattle.std.specs.Prelude.{⊤};
 
 use crate::tests::helpers::{Heard, NoPlaces, ONE_RECORD, ONE_ROW, hear};
 use register_app::{Places, Told};
-use register_words::HELP;
 use register_records::PlainOutput;
+use register_words::HELP;
 use std::alloc::{AllocError, Global};
 use std::io;
 use std::io::{ErrorKind, Write};

@@ -25,7 +25,10 @@ use Rattle.register_records.specs.Seen.{entry_seen}
 use Rattle.register_records.specs.Sources.{ArePartOfTable, Gains, IfBroken, IfWhole, IsTableOf}
 use Rattle.register_records.specs.Tables.{Layout, table_text}
 use Rattle.register_records.specs.Views.{format_of, layout_of, row_seen, row_targets, waiting_in}
+use Rattle.register_run.specs.declared.settling.Course.{Course}
+use Rattle.register_run.specs.declared.settling.Course.TheVariants as course
 use Rattle.register_run.specs.declared.tables.Table.{Table}
+use Rattle.register_run.specs.Courses.{fault_of, is_sunk}
 use Rattle.register_run.specs.Headline.{IsSettled}
 use Rattle.register_run.specs.Passages.{HasPassed, IsGiven, IsOfGiven, is_of_reading, tells_of_text}
 use Rattle.register_run.specs.TablesWritten.{AllSent, Holds, Stands, entries_seen, rows_seen, waiting_of}
@@ -52,6 +55,11 @@ appends_waited : (given output : Option (List ℕ)) (pending table : List ℕ) �
 appends_waited None output pending table e h = tt
 appends_waited (Some xs) None pending table e h = h
 appends_waited (Some xs) (Some ys) pending table e h = sym (append-nil ys) ∙ ap (λ p. ys ++ p) (sym e) ∙ h
+
+faultless : (c : Course) → fault_of c ≡ None → is_sunk c ≡ false
+faultless course.Open e = refl
+faultless (course.Halted c) e = refl
+faultless (course.Sunk c) e = cc
 
 not_true : (b : Bool) → (b ≡ true → ⊥) → b ≡ false
 not_true true h = absurd (h refl)
@@ -83,18 +91,19 @@ module _ {W : Type 0} (o : outputs.Ghosts W) (text : Option (List ℕ)) (table :
       (table_text (layout_of table.setup) (rows_seen rows))
   table_is are = record { numbered = holds.numbered; converted = are; written = refl }
 
-  unwritten : table.sunk ≡ false → is_some table.writer ≡ false → (table.output ≡ table.given.value) × (rows ≡ [])
+  unwritten : is_sunk table.course ≡ false → is_some table.writer ≡ false
+      → (table.output ≡ table.given.value) × (rows ≡ [])
   unwritten dry none =
       nothing_so o (layout_of table.setup) table.given.value table.output table.writer rows none (holds.stands dry)
 
-  written : table.sunk ≡ false → is_some table.writer ≡ true
+  written : is_sunk table.course ≡ false → is_some table.writer ≡ true
       → Appends (o.contents table.given.value) (o.contents table.output)
       (table_text (layout_of table.setup) (rows_seen rows)) × (o.is_flushed table.output ≡ true)
   written dry some =
       table_so o (layout_of table.setup) table.given.value table.output table.writer rows some (sent dry)
       (holds.stands dry)
 
-  in_order_so : (b : Bool) → is_some table.writer ≡ b → table.sunk ≡ false
+  in_order_so : (b : Bool) → is_some table.writer ≡ b → is_sunk table.course ≡ false
       → AreRowsOf (layout_of table.setup).targets (entries_seen rows) (rows_seen rows)
       → Gains (o.contents table.given.value) (o.contents table.output) (ArePartOfTable (layout_of table.setup) None)
   in_order_so false b dry are = (
@@ -112,8 +121,8 @@ module _ {W : Type 0} (o : outputs.Ghosts W) (text : Option (List ℕ)) (table :
     (written dry b).0,
   )
 
-  not_failed : o.has_failed table.output ≡ false → table.sunk ≡ false
-  not_failed good = not_true table.sunk (λ s. let f = table.failed s in absurd (cc))
+  not_failed : o.has_failed table.output ≡ false → is_sunk table.course ≡ false
+  not_failed good = not_true (is_sunk table.course) (λ s. let f = table.failed s in absurd (cc))
 
   module _ (given : List Numbered) (is : IsGiven text (format_of table.setup) passed given)
       (all : (row : Row) → Contains rows row → IsOfGiven given row) where
@@ -131,7 +140,7 @@ module _ {W : Type 0} (o : outputs.Ghosts W) (text : Option (List ℕ)) (table :
       | inr f ↦ first_of_first (format_of table.setup) text given (entries_seen rows) taken_front.0 taken_front.1 f
     ]
 
-    part_so : (b : Bool) → is_some table.writer ≡ b → table.sunk ≡ false → (headed ≡ true → table.rows ≢ 0)
+    part_so : (b : Bool) → is_some table.writer ≡ b → is_sunk table.course ≡ false → (headed ≡ true → table.rows ≢ 0)
         → AreRowsOf (layout_of table.setup).targets (entries_seen rows) (rows_seen rows)
         → Gains (o.contents table.given.value) (o.contents table.output) (ArePartOfTable (layout_of table.setup) text)
     part_so false b dry some are = (
@@ -156,11 +165,11 @@ module _ {W : Type 0} (o : outputs.Ghosts W) (text : Option (List ℕ)) (table :
     )
 
   reading_so : (c : Cause) → is_of_reading c ≡ true
-      → (passed ≡ Err c) × (table.fault ≡ None) × (headed ≡ true → table.rows ≢ 0)
+      → (passed ≡ Err c) × (fault_of table.course ≡ None) × (headed ≡ true → table.rows ≢ 0)
       → ∥ IsSettled o (layout_of table.setup) text table.given.value table.output
       (end.Broken c) ∥₁
   reading_so c reading fact =
-      let dry = table.faultless fact.1 in
+      let dry = faultless table.course fact.1 in
       let told : tells_of_text passed ≡ true = ap tells_of_text fact.0 ∙ reading in
       ∥∥₁_elim (has.rows told) ∥∥₁_prop
       (λ (given, is, all). ∥∥₁_map (rows_are (layout_of table.setup).targets rows holds.targets) (λ are.
@@ -183,7 +192,8 @@ module _ {W : Type 0} (o : outputs.Ghosts W) (text : Option (List ℕ)) (table :
         kept = λ e. table.good dry;
       }))
 
-  threads_so : (c : Cause) → is_of_reading c ≡ false → (c ≡ cause.SinkFault → table.fault ≡ Some cause.SinkFault)
+  threads_so : (c : Cause) → is_of_reading c ≡ false
+      → (c ≡ cause.SinkFault → fault_of table.course ≡ Some cause.SinkFault)
       → ∥ IsSettled o (layout_of table.setup) text table.given.value table.output
       (end.Broken c) ∥₁
   threads_so c other sink = ∥∥₁_map (rows_are (layout_of table.setup).targets rows holds.targets) (λ are. record {
@@ -197,8 +207,8 @@ module _ {W : Type 0} (o : outputs.Ghosts W) (text : Option (List ℕ)) (table :
   })
 
   broken_so : (b : Bool) (c : Cause) → is_of_reading c ≡ b
-      → (is_of_reading c ≡ true → (passed ≡ Err c) × (table.fault ≡ None) × (headed ≡ true → table.rows ≢ 0))
-      → (c ≡ cause.SinkFault → table.fault ≡ Some cause.SinkFault)
+      → (is_of_reading c ≡ true → (passed ≡ Err c) × (fault_of table.course ≡ None) × (headed ≡ true → table.rows ≢ 0))
+      → (c ≡ cause.SinkFault → fault_of table.course ≡ Some cause.SinkFault)
       → ∥ IsSettled o (layout_of table.setup) text table.given.value table.output
       (end.Broken c) ∥₁
   broken_so true c b reading sink = reading_so c b (reading b)
@@ -207,8 +217,8 @@ module _ {W : Type 0} (o : outputs.Ghosts W) (text : Option (List ℕ)) (table :
   -- a source with another header has no table
   pub headless : (e : SourceEnd)
       → IfBroken e (λ c. is_of_reading c ≡ true
-      → (passed ≡ Err c) × (table.fault ≡ None) × (headed ≡ true → table.rows ≢ 0))
-      → e ≡ end.Broken cause.BadHeader → (is_some table.writer ≡ false) × (table.sunk ≡ false)
+      → (passed ≡ Err c) × (fault_of table.course ≡ None) × (headed ≡ true → table.rows ≢ 0))
+      → e ≡ end.Broken cause.BadHeader → (is_some table.writer ≡ false) × (is_sunk table.course ≡ false)
   headless (end.Whole count refused journal) reading is = absurd (cc)
   headless (end.Broken c) reading is =
       let same : c ≡ cause.BadHeader = cc in
@@ -219,20 +229,20 @@ module _ {W : Type 0} (o : outputs.Ghosts W) (text : Option (List ℕ)) (table :
             subst (λ p. IfErr p (λ d. d ≡ cause.BadHeader
             → (given ≡ []) × IfSome text (λ t. HasNoHeader (format_of table.setup) t))) fact.0 so.bad_header in
             fact.2 (is_headed ∙ some) (none_given given so all (bad same).0))),
-        table.faultless fact.1,
+        faultless table.course fact.1,
       )
 
   pub settled : (e : SourceEnd)
-      → IfWhole e (λ count refused notes. (passed ≡ Ok count) × (table.fault ≡ None) × (headed ≡ true)
+      → IfWhole e (λ count refused notes. (passed ≡ Ok count) × (fault_of table.course ≡ None) × (headed ≡ true)
       × (count ≡ table.rows) × (refused ≡ length notes) × (notes ≡ table.journal.items))
       → IfBroken e (λ c. is_of_reading c ≡ true
-      → (passed ≡ Err c) × (table.fault ≡ None) × (headed ≡ true → table.rows ≢ 0))
-      → IfBroken e (λ c. c ≡ cause.SinkFault → table.fault ≡ Some cause.SinkFault)
+      → (passed ≡ Err c) × (fault_of table.course ≡ None) × (headed ≡ true → table.rows ≢ 0))
+      → IfBroken e (λ c. c ≡ cause.SinkFault → fault_of table.course ≡ Some cause.SinkFault)
       → ∥ IsSettled o
       (layout_of table.setup) text table.given.value table.output e ∥₁
   settled (end.Broken c) whole reading sink = broken_so (is_of_reading c) c refl reading sink
   settled (end.Whole count refused journal) whole reading sink =
-      let dry = table.faultless whole.1 in
+      let dry = faultless table.course whole.1 in
       let told : tells_of_text passed ≡ true = ap tells_of_text whole.0 in
       ∥∥₁_elim (has.rows told) ∥∥₁_prop
       (λ (given, is, all). ∥∥₁_map (rows_are (layout_of table.setup).targets rows holds.targets) (λ are.

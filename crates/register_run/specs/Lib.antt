@@ -3,6 +3,7 @@ pub mod Passages
 pub mod Arms
 pub mod Popped
 pub mod Links
+pub mod Courses
 pub mod TablesWritten
 pub mod Written
 pub mod Headline

@@ -11,6 +11,7 @@ use Rattle.register_records.specs.Outcomes.{TableRow}
 use Rattle.register_records.specs.Seen.{entry_seen}
 use Rattle.register_records.specs.Tables.{Layout, journal_of, table_text}
 use Rattle.register_records.specs.Views.{layout_of, row_seen, row_targets, targets_of, waiting_in, writes_by}
+use Rattle.register_run.specs.Courses.{is_sunk}
 use Rattle.register_run.specs.declared.tables.Table.{Table}
 
 -- rows as a table has them, and their entries as a text has them
@@ -43,12 +44,13 @@ module _ {W : Type 0} {o : outputs.Ghosts W} where
 
   -- no line waits, unless the output failed
   abbrev pub AllSent : Table W o → Type 0
-  AllSent table = table.sunk ≡ false → waiting_of table.writer ≡ []
+  AllSent table = is_sunk table.course ≡ false → waiting_of table.writer ≡ []
 
   -- these rows were added, in the order of their numbers, from 1: their lines were written or wait, unless the output
   -- failed, and the journal is theirs
   pub record Holds (table : Table W o) (rows : List Row) : Type 0 where
-    pub stands : table.sunk ≡ false → Stands o (layout_of table.setup) table.given.value table.output table.writer rows
+    pub stands : is_sunk table.course ≡ false
+        → Stands o (layout_of table.setup) table.given.value table.output table.writer rows
     pub numbered : AreNumberedFrom 1 (entries_seen rows)
     pub counted : length rows ≡ table.rows
     pub targets : (row : Row) → Contains rows row → row_targets row ≡ targets_of table.setup

@@ -6,6 +6,7 @@ ghost use Rattle.register_records.specs.Views.{layout_of};
 ghost use Rattle.register_records.specs.declared.sources.Cause.TheVariants as cause;
 ghost use Rattle.register_records.specs.declared.sources.SourceEnd.TheVariants as ended;
 ghost use Rattle.register_run.specs.Passages.{IsNotSunk, is_of_reading};
+ghost use Rattle.register_run.specs.Courses.{fault_of};
 ghost use Rattle.register_run.specs.Headline.{IsSettled};
 ghost use Rattle.register_run.specs.Histories.{IsOfMachine};
 
@@ -30,6 +31,29 @@ pub(crate) struct Settled<R: Read, W: Output> {
         IsOfMachine (R.remaining source.value) ran.setup.value count ran.arms.value.items) ∥₁ },
 }
 
+/// How far the table of a source goes on.
+#[derive(Clone, Copy)]
+pub(crate) enum Course {
+    /// Rows are added.
+    Open,
+    /// No more is added, for this cause. The output has not failed.
+    Halted(Cause),
+    /// The output has failed. This cause is told, the first that was met.
+    Sunk(Cause),
+}
+
+impl Course {
+    /// Why no more is added.
+    fn fault(self) -> Option<Cause>
+        ensures { result ≡ fault_of self }
+    {
+        match self {
+            Course::Open => None,
+            Course::Halted(cause) | Course::Sunk(cause) => Some(cause),
+        }
+    }
+}
+
 /// The lower of two causes, which is the one that is told.
 pub(crate) fn lower(one: Cause, other: Cause) -> Cause
     ensures one_of { (result ≡ one) ⊎ (result ≡ other) }
@@ -42,25 +66,27 @@ pub(crate) fn lower(one: Cause, other: Cause) -> Cause
     }
 }
 
-/// How a source ended: by what its threads answered, by why no more was written, and by what was written: whether the
+/// How a source ended: by what its threads answered, by how far its table went on, and by what was written: whether the
 /// heading was, how many rows, and their journal.
 pub(crate) fn end_of_source(
     passed: Result<u32, Cause>,
-    fault: Option<Cause>,
+    course: Course,
     headed: bool,
     rows: u32,
     journal: Vec<Note>,
 ) -> SourceEnd
     requires few { vec_len journal ≤ rows }
     requires not_sunk { IsNotSunk passed }
-    requires not_reading { IfSome fault (λ c. is_of_reading c ≡ false) }
-    ensures whole { IfWhole result (λ count refused notes. (passed ≡ Ok count) × (fault ≡ None) × (headed ≡ true)
+    requires not_reading { IfSome (fault_of course) (λ c. is_of_reading c ≡ false) }
+    ensures whole { IfWhole result (λ count refused notes. (passed ≡ Ok count) × (fault_of course ≡ None)
+        × (headed ≡ true)
         × (count ≡ rows)
         × (refused ≡ length notes) × (notes ≡ journal.items)) }
     ensures reading { IfBroken result (λ c. is_of_reading c ≡ true
-        → (passed ≡ Err c) × (fault ≡ None) × (headed ≡ true → rows ≢ 0)) }
-    ensures sink { IfBroken result (λ c. c ≡ cause.SinkFault → fault ≡ Some cause.SinkFault) }
+        → (passed ≡ Err c) × (fault_of course ≡ None) × (headed ≡ true → rows ≢ 0)) }
+    ensures sink { IfBroken result (λ c. c ≡ cause.SinkFault → fault_of course ≡ Some cause.SinkFault) }
 {
+    let fault = course.fault();
     match passed {
         Ok(count) => match fault {
             None => {

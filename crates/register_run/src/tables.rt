@@ -8,11 +8,12 @@ ghost use Rattle.register_records.specs.Entries.{record_limit};
 ghost use Rattle.register_records.specs.Tables.{notes_of};
 ghost use Rattle.register_records.specs.Views.{row_seen, writer_sunk};
 ghost use Rattle.register_records.specs.declared.sources.Cause.TheVariants as cause;
+ghost use Rattle.register_run.specs.Courses.{fault_of, is_sunk};
 ghost use Rattle.register_run.specs.Passages.{is_of_reading};
 
 use crate::links::Passage;
 use crate::reports::Ran;
-use crate::settling::{Settled, end_of_source};
+use crate::settling::{Course, Settled, end_of_source};
 use register_records::laws::tables_grow;
 use register_records::{Cause, MOST_WAITING, Note, Output, Row, RowFault, RowWriter, Setup};
 use std::alloc::Global;
@@ -31,18 +32,14 @@ pub(crate) struct Table<W: Output> {
     writer: Option<RowWriter>,
     journal: Vec<Note>,
     rows: u32,
-    // The output failed.
-    sunk: bool,
-    // Why no more is written.
-    fault: Option<Cause>,
+    course: Course,
     ghost marked: { W.own_mark output ≡ W.own_mark given.value },
-    ghost failed: { sunk ≡ true → W.has_failed output ≡ true },
-    ghost good: { sunk ≡ false → W.has_failed output ≡ W.has_failed given.value },
-    ghost afloat: { sunk ≡ false → IfSome writer (λ w. writer_sunk w ≡ false) } by { Prim.hlevel props },
-    ghost untouched: { is_some writer ≡ false → sunk ≡ false → output ≡ given.value },
-    ghost faultless: { fault ≡ None → sunk ≡ false },
-    ghost sink_told: { fault ≡ Some cause.SinkFault → sunk ≡ true },
-    ghost not_reading: { IfSome fault (λ c. is_of_reading c ≡ false) } by { Prim.hlevel props },
+    ghost failed: { is_sunk course ≡ true → W.has_failed output ≡ true },
+    ghost good: { is_sunk course ≡ false → W.has_failed output ≡ W.has_failed given.value },
+    ghost afloat: { is_sunk course ≡ false → IfSome writer (λ w. writer_sunk w ≡ false) } by { Prim.hlevel props },
+    ghost untouched: { is_some writer ≡ false → is_sunk course ≡ false → output ≡ given.value },
+    ghost sink_told: { fault_of course ≡ Some cause.SinkFault → is_sunk course ≡ true },
+    ghost not_reading: { IfSome (fault_of course) (λ c. is_of_reading c ≡ false) } by { Prim.hlevel props },
     ghost limited: { rows ≤ record_limit },
     ghost few_notes: { vec_len journal ≤ rows },
 }
@@ -71,8 +68,7 @@ impl<W: Output + Drop> Table<W> {
             writer: None,
             journal: Vec::new(alloc),
             rows: 0,
-            sunk: false,
-            fault: None,
+            course: Course::Open,
         }
     }
 
@@ -93,11 +89,11 @@ impl<W: Output + Drop> Table<W> {
             → Holds self.new rows ⊎ Holds self.new (rows ++ row.now ∷ []) }
     {
         self.head();
-        if self.fault.is_some() {
+        let Course::Open = self.course else {
             return;
-        }
+        };
         if row.entry().number() != self.rows + 1 || !row.is_for(&self.setup) {
-            self.fault = Some(Cause::Unconfirmed);
+            self.course = Course::Halted(Cause::Unconfirmed);
             return;
         }
         self.append(row);
@@ -109,21 +105,22 @@ impl<W: Output + Drop> Table<W> {
         ensures setup { made_by self.new ≡ made_by self.old }
         ensures rows { (rows : List Row) → Holds self.old rows → Holds self.new rows }
     {
-        if self.fault.is_some() || self.writer.is_some() {
+        let Course::Open = self.course else {
+            return;
+        };
+        if self.writer.is_some() {
             return;
         }
         match RowWriter::open(self.alloc, &mut self.output, &self.setup) {
             Ok(writer) => self.writer = Some(writer),
-            Err(RowFault::WriteFault) => {
-                self.sunk = true;
-                self.fault = Some(Cause::SinkFault);
-            }
-            Err(_) => self.fault = Some(Cause::NoMemory),
+            Err(RowFault::WriteFault) => self.course = Course::Sunk(Cause::SinkFault),
+            Err(_) => self.course = Course::Halted(Cause::NoMemory),
         }
     }
 
     /// Appends the line of the next row to those that wait, and its note to the journal.
     fn append(&mut self, row: &Row)
+        requires afloat { is_sunk self.old.course ≡ false }
         requires number { row.now.entry.number ≡ self.old.rows + 1 }
         requires targets { row_targets row.now ≡ targets_of (made_by self.old) }
         ensures output { made_for self.new ≡ made_for self.old }
@@ -136,11 +133,11 @@ impl<W: Output + Drop> Table<W> {
             return;
         };
         let Ok(()) = self.journal.reserve(1) else {
-            self.fault = Some(Cause::NoMemory);
+            self.course = Course::Halted(Cause::NoMemory);
             return;
         };
         let Ok(()) = writer.add(row) else {
-            self.fault = Some(Cause::NoMemory);
+            self.course = Course::Halted(Cause::NoMemory);
             return;
         };
         push_note(&mut self.journal, row);
@@ -154,7 +151,7 @@ impl<W: Output + Drop> Table<W> {
         ensures rows { (rows : List Row) → Holds self.old rows → Holds self.new rows }
         ensures sent { AllSent self.new }
     {
-        if self.sunk {
+        if let Course::Sunk(_) = self.course {
             return;
         }
         let Some(writer) = &mut self.writer else {
@@ -164,10 +161,10 @@ impl<W: Output + Drop> Table<W> {
             return;
         }
         if writer.send(&mut self.output).is_err() {
-            self.sunk = true;
-            if self.fault.is_none() {
-                self.fault = Some(Cause::SinkFault);
-            }
+            self.course = match self.course {
+                Course::Open => Course::Sunk(Cause::SinkFault),
+                Course::Halted(cause) | Course::Sunk(cause) => Course::Sunk(cause),
+            };
         }
     }
 
@@ -196,11 +193,10 @@ impl<W: Output + Drop> Table<W> {
             writer,
             journal,
             rows,
-            sunk: _,
-            fault,
+            course,
         } = table;
         let setup = Snapshot::of(&setup);
-        let end = end_of_source(outcome, fault, writer.is_some(), rows, journal);
+        let end = end_of_source(outcome, course, writer.is_some(), rows, journal);
         Settled {
             source,
             given,

@@ -4,6 +4,7 @@ use Rattle.std.proofs.Props.{props}
 use Rattle.std.proofs.Math.Logic.{∥∥₁_elim, ∥∥₁_prop}
 use Rattle.register_records.specs.Sources.{IfWhole}
 use Rattle.register_records.specs.Views.{format_of, layout_of}
+use Rattle.register_run.specs.Courses.{fault_of}
 use Rattle.register_run.specs.Headline.{IsSettled}
 use Rattle.register_run.specs.Histories.{IsOfMachine}
 use Rattle.register_run.specs.Passages.{HasPassed}
@@ -35,6 +36,6 @@ invariant_of-result g c =
           IsOfMachine text s count c.args.passage.arms.value.items) ∥₁)
           (sym (c.of-setup.ensures ∙ c.send.ensures.setup))
           (whole_counts (λ count. IsOfMachine text c.args.self.setup count c.args.passage.arms.value.items)
-          c.args.passage.outcome table.fault c.is_some.result table.rows table.journal.items c.end_of_source-end.result
+          c.args.passage.outcome (fault_of table.course) c.is_some.result table.rows table.journal.items c.end_of_source-end.result
           ends.whole c.requires.machine);
     }

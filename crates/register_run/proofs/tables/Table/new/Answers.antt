@@ -9,7 +9,6 @@ invariant_of-result g c = record {
   good = λ e. ap g.W.Output.has_failed (sym c.of.ensures);
   afloat = λ e. tt;
   untouched = λ e d. sym c.of.ensures;
-  faultless = λ e. refl;
   sink_told = λ e. cc;
   not_reading = tt;
   limited = omega arith;

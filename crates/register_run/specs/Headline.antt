@@ -1,5 +1,5 @@
 -- What a run promises of each source.
-use Rattle.std.specs.Prelude.{◌≡◌, ℕ, List, [], ◌∷◌, Option, None, IfSome, ⊤, Bool, true, false}
+use Rattle.std.specs.Prelude.{◌≡◌, ℕ, List, [], ◌∷◌, Option, None, IfSome, ⊤, true, false}
 use Rattle.register_records.specs.Entries.{HasNoHeader, HasTooMany, IsNotSealed}
 use Rattle.register_records.specs.Sources.{ArePartOfTable, Gains, IsWholeTable}
 use Rattle.register_records.specs.Tables.{Layout}

@@ -1,5 +1,5 @@
 -- What a run answers of its lists.
-use Rattle.std.specs.Prelude.{◌≡◌, ◌↔◌, ℕ, List, All, Bool, Option, map, true}
+use Rattle.std.specs.Prelude.{◌≡◌, ◌↔◌, ℕ, List, All, map, true}
 use Rattle.std.specs.declared.io.traits.Read as reads
 use Rattle.register_records.specs.Sources.{is_whole_end}
 use Rattle.register_records.specs.Views.{layout_of}

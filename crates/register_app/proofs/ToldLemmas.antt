@@ -1,5 +1,5 @@
 -- The log of a writer grows as the writer in it does.
-use Rattle.std.proofs.Common.{◌≡◌, ◌∙◌, ℕ, List, ◌++◌, Option, None, Some, ap, sym}
+use Rattle.std.proofs.Common.{◌∙◌, ℕ, List, Option, None, Some}
 use Rattle.std.specs.Io.KnownBytes.{Appends, Keeps}
 
 -- what is kept has gained no more

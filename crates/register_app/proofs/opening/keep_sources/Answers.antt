@@ -1,4 +1,4 @@
-use Rattle.std.proofs.Common.{◌≡◌, ◌++◌, ◌∙◌, arith, codes, map}
+use Rattle.std.proofs.Common.{◌++◌, ◌∙◌, arith, codes, map}
 use Rattle.std.proofs.lemmas.List.{length-map}
 use Rattle.register_app.proofs.ApartLemmas.{all_before, apart_by, none_before, one_before, value_at}
 use Rattle.register_app.proofs.opening.keep_sources.Goals as goal

@@ -104,8 +104,8 @@ impl Arm {
         else {
             return Err(StartFault::NoMemory);
         };
-        let further = by.patience.a_lane_further();
-        let Ok((row_sender, rows)) = patient_lane::<Row>(by.alloc, setup.ring(), further) else {
+        let Ok((row_sender, rows)) = patient_lane::<Row>(by.alloc, setup.ring(), by.patience)
+        else {
             return Err(StartFault::NoMemory);
         };
         let feeding = Snapshot::of(&sender);

@@ -2,7 +2,7 @@
 
 ghost use Rattle.std.specs.Prelude.{⊤};
 
-use crate::tests::helpers::{Heard, MANY_FILES, ONE_RECORD, ONE_ROW, hear};
+use crate::tests::helpers::{Heard, MANY_FILES, ONE_RECORD, ONE_ROW, hear_in_memory};
 use register_app::{Places, Told};
 use register_records::PlainOutput;
 use std::alloc::{AllocError, Global};
@@ -180,15 +180,7 @@ fn hear_files(
     words: &[&str],
 ) -> Result<Heard<Vec<u8>, Vec<u8>>, AllocError> {
     let input: &'static [u8] = b"";
-    hear(
-        rt,
-        alloc,
-        words,
-        input,
-        Vec::new(alloc),
-        &Shelf { alloc },
-        Vec::new(alloc),
-    )
+    hear_in_memory(rt, alloc, words, input, &Shelf { alloc })
 }
 
 /// Whether the outputs are these tables.

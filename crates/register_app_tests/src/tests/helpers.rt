@@ -158,6 +158,22 @@ impl<R, W: Output> Places<R, W> for NoPlaces {
     }
 }
 
+/// Runs the program's answer to these words over outputs in memory.
+pub fn hear_in_memory<
+    T: Threads + Wait + Clock + CpuClock + Sync,
+    R: Read + Send + Drop,
+    P: Places<R, PlainOutput<Told<Vec<u8>>>>,
+>(
+    rt: &T,
+    alloc: Global,
+    words: &[&str],
+    input: R,
+    places: &P,
+) -> Result<Heard<Vec<u8>, Vec<u8>>, AllocError> {
+    let (output, errors) = (Vec::new(alloc), Vec::new(alloc));
+    hear(rt, alloc, words, input, output, places, errors)
+}
+
 /// Runs the program's answer to these words over a text, without files.
 pub fn hear_text(
     rt: &(impl Threads + Wait + Clock + CpuClock + Sync),
@@ -165,15 +181,7 @@ pub fn hear_text(
     words: &[&str],
     text: &'static [u8],
 ) -> Result<Heard<Vec<u8>, Vec<u8>>, AllocError> {
-    hear(
-        rt,
-        alloc,
-        words,
-        text,
-        Vec::new(alloc),
-        &NoPlaces,
-        Vec::new(alloc),
-    )
+    hear_in_memory(rt, alloc, words, text, &NoPlaces)
 }
 
 /// Words with a text for standard input, without files, and what they give: the status, the table and standard error.

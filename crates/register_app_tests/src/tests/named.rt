@@ -2,7 +2,7 @@
 
 ghost use Rattle.std.specs.Prelude.{◌≡◌, ◌++◌, ◌⊎◌, ⊤, codes};
 
-use crate::tests::helpers::{Heard, ONE_RECORD, ONE_ROW, hear};
+use crate::tests::helpers::{Heard, ONE_RECORD, ONE_ROW, hear_in_memory};
 use register_app::{Places, Told};
 use register_records::PlainOutput;
 use std::alloc::{AllocError, Global};
@@ -77,15 +77,7 @@ fn hear_two(
         text: b"",
     };
     let input: &'static [u8] = b"";
-    hear(
-        rt,
-        alloc,
-        words,
-        input,
-        Vec::new(alloc),
-        &TwoFiles { alloc, one, other },
-        Vec::new(alloc),
-    )
+    hear_in_memory(rt, alloc, words, input, &TwoFiles { alloc, one, other })
 }
 
 /// Whether each file gets the table of its own text.

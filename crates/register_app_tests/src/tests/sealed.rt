@@ -1,6 +1,11 @@
 //! Sealed registers from standard input.
 
-use crate::tests::helpers::{TextCase, assert_answers};
+use crate::tests::helpers::{NoPlaces, TextCase, assert_answers, hear_in_memory};
+use std::alloc::Global;
+use std::io::Read;
+use std::sync::Wait;
+use std::thread::Threads;
+use std::time::{Clock, CpuClock};
 
 /// The table of two entries: 5 October 1582 in the Julian calendar is day 577736, and the second entry has three
 /// fields.
@@ -20,71 +25,51 @@ const SEALED: TextCase = TextCase {
     errors: b"",
 };
 
-const CASES: [TextCase; 12] = [
-    TextCase {
-        input: b"\
-            id,calendar,date,note\n\
-            a,julian,1582-10-05,parish book\n\
-            b,julian,1582-10-06\n\
-            END,2\n",
-        output: TABLE,
-        ..SEALED
-    },
+/// The two entries, before their seal.
+const ENTRIES: &[u8] = b"\
+    id,calendar,date,note\n\
+    a,julian,1582-10-05,parish book\n\
+    b,julian,1582-10-06\n";
+
+/// What follows the entries, and whether that seals them.
+const ENDS: [(&[u8], bool); 6] = [
+    (b"END,2\n", true),
     // Blanks round the fields of the seal, and a zero before its number.
-    TextCase {
-        input: b"\
-            id,calendar,date,note\n\
-            a,julian,1582-10-05,parish book\n\
-            b,julian,1582-10-06\n\
-            \x20END , 02\n",
-        output: TABLE,
-        ..SEALED
-    },
+    (b" END , 02\n", true),
     // No seal, one with another number, one without a number, and one that is not the last record.
-    TextCase {
-        input: b"\
-            id,calendar,date,note\n\
-            a,julian,1582-10-05,parish book\n\
-            b,julian,1582-10-06\n",
-        status: 1,
-        output: TABLE,
-        errors: b"source 1: cause 8\n",
-        ..SEALED
-    },
-    TextCase {
-        input: b"\
-            id,calendar,date,note\n\
-            a,julian,1582-10-05,parish book\n\
-            b,julian,1582-10-06\n\
-            END,3\n",
-        status: 1,
-        output: TABLE,
-        errors: b"source 1: cause 8\n",
-        ..SEALED
-    },
-    TextCase {
-        input: b"\
-            id,calendar,date,note\n\
-            a,julian,1582-10-05,parish book\n\
-            b,julian,1582-10-06\n\
-            END,x\n",
-        status: 1,
-        output: TABLE,
-        errors: b"source 1: cause 8\n",
-        ..SEALED
-    },
-    TextCase {
-        input: b"\
-            id,calendar,date,note\n\
-            a,julian,1582-10-05,parish book\n\
-            b,julian,1582-10-06\n\
-            END,2\n\
-            c,julian,1582-10-07,\n",
-        status: 1,
-        output: TABLE,
-        errors: b"source 1: cause 8\n",
-        ..SEALED
-    },
+    (b"", false),
+    (b"END,3\n", false),
+    (b"END,x\n", false),
+    (b"END,2\nc,julian,1582-10-07,\n", false),
+];
+
+/// Whether the entries get their table where this follows them, and are told to be whole or not sealed.
+fn is_ended_by(
+    rt: &(impl Threads + Wait + Clock + CpuClock + Sync),
+    alloc: Global,
+    end: &'static [u8],
+    is_whole: bool,
+) -> bool {
+    let text = ENTRIES.chain(end);
+    let Ok(heard) = hear_in_memory(rt, alloc, SEALED.words, text, &NoPlaces) else {
+        return false;
+    };
+    let (status, errors): (u8, &[u8]) = if is_whole {
+        (0, b"")
+    } else {
+        (1, b"source 1: cause 8\n")
+    };
+    heard.is_answer(status, TABLE, errors)
+}
+
+#[test]
+fn a_seal_ends_its_register(rt: HostRuntime) {
+    for (end, is_whole) in ENDS {
+        assert!(rt; is_ended_by(&rt, rt.alloc(), end, is_whole));
+    }
+}
+
+const CASES: [TextCase; 7] = [
     // No entries.
     TextCase {
         input: b"\

@@ -2,7 +2,7 @@
 
 ghost use Rattle.std.specs.Prelude.{⊤};
 
-use crate::tests::helpers::{Heard, NoPlaces, hear};
+use crate::tests::helpers::{Heard, NoPlaces, hear, hear_in_memory};
 use register_app::{Places, Told};
 use register_records::PlainOutput;
 use register_words::HELP;
@@ -138,15 +138,7 @@ fn status_of<'a>(
         alloc,
         counts: files,
     };
-    let heard = hear(
-        rt,
-        alloc,
-        words,
-        input,
-        Vec::new(alloc),
-        &files,
-        Vec::new(alloc),
-    )?;
+    let heard = hear_in_memory(rt, alloc, words, input, &files)?;
     Ok(heard.status)
 }
 

@@ -1,10 +1,10 @@
 -- What the options mean, and that it fits a setup.
-use Rattle.std.proofs.Common.{◌∙◌, ap, sym, subst, map, inl, inr, refl, List}
-use Rattle.std.specs.Prelude.{IfSome}
+use Rattle.std.proofs.Common.{◌≡◌, ◌∙◌, ap, sym, subst, map, inl, inr, refl, List, Result}
+use Rattle.std.specs.Prelude.{IfErr, IfSome, IsErrAnd, IsSomeAnd}
 use Rattle.clap.proofs.TakesLemmas.{passed_up}
 use Rattle.clap.specs.Words.{Text}
 use Rattle.register_words.specs.CommandLine.{Values}
-use Rattle.register_words.specs.Faults.{IsOfWords, fault_told}
+use Rattle.register_words.specs.Faults.{Fault, IsOfWords, fault_told}
 use Rattle.register_words.specs.Requests.{values_by}
 use Rattle.register_words.specs.Requests.{AreFilesToConvert, AreTargetsOf, FailFirst, IsFileFault, IsNumberFault}
 use Rattle.register_words.specs.Requests.{IsNumberOf, IsTargetFault}
@@ -20,73 +20,68 @@ use Rattle.register_words.proofs.requests.chosen_job.Goals as goal
 abbrev TellsFirst : Values → RequestFault → Type 0
 TellsFirst values error = IfSome (fault_told error) (FailFirst (value_checks values))
 
+-- where a check tells a fault, which is that of the first check that fails, the error that is passed up tells it
+passes_fault : (result : Result Job RequestFault) (error : RequestFault) (values : Values) (fails : Fault → Type 0)
+    → IsErrAnd result (λ up. up ≡ error) → IfSome (fault_told error) fails
+    → ((fault : Fault) → fails fault → FailFirst (value_checks values) fault) → IfErr result (TellsFirst values)
+passes_fault result error values fails up told first =
+    passed_up result error (TellsFirst values) up (found_first (fault_told error) fails (value_checks values) told first)
+
+-- and so it is where a check always tells one
+passes_found : (result : Result Job RequestFault) (error : RequestFault) (values : Values) (fails : Fault → Type 0)
+    → IsErrAnd result (λ up. up ≡ error) → IsSomeAnd (fault_told error) fails
+    → ((fault : Fault) → fails fault → FailFirst (value_checks values) fault) → IfErr result (TellsFirst values)
+passes_found result error values fails up told =
+    passes_fault result error values fails up (if_some (fault_told error) fails told)
+
 pub returns-in_err-targets-clause-fault : goal.returns-in_err-targets-clause-fault
 returns-in_err-targets-clause-fault c =
-    let values = values_by c.args.options in
-    let error = c.in_err-targets.field-0.0 in
-    let is : TellsFirst values error
-    = found_first (fault_told error) (IsTargetFault values.to) (value_checks values) c.in_err-targets.ensures.fault
-    (λ fault is. inl is) in
-    passed_up {T = Job} {E = RequestFault} c.from_residual.result error (TellsFirst values) c.from_residual.ensures.1 is
+    passes_fault c.from_residual.result c.in_err-targets.field-0.0 (values_by c.args.options) _
+    c.from_residual.ensures.1 c.in_err-targets.ensures.fault (λ fault is. inl is)
 
 pub returns-in_err-ring-clause-fault : goal.returns-in_err-ring-clause-fault
 returns-in_err-ring-clause-fault c =
-    let values = values_by c.args.options in
-    let error = c.in_err-ring.field-0.0 in
-    let is : TellsFirst values error
-    = found_first (fault_told error) (IsNumberFault ring_option values.ring) (value_checks values) (if_some (fault_told error) (IsNumberFault ring_option values.ring) c.in_err-ring.ensures.fault)
-    (λ fault is. inr ((c.in_ok-targets.targets.items, c.in_ok-targets.ensures.value), inl is)) in
-    passed_up {T = Job} {E = RequestFault} c.from_residual-in_err-ring.result error (TellsFirst values) c.from_residual-in_err-ring.ensures.1 is
+    passes_found c.from_residual-in_err-ring.result c.in_err-ring.field-0.0 (values_by c.args.options) _
+    c.from_residual-in_err-ring.ensures.1 c.in_err-ring.ensures.fault
+    (λ fault is. inr ((c.in_ok-targets.targets.items, c.in_ok-targets.ensures.value), inl is))
 
 pub returns-in_err-delimiter-clause-fault : goal.returns-in_err-delimiter-clause-fault
 returns-in_err-delimiter-clause-fault c =
-    let values = values_by c.args.options in
-    let error = c.in_err-delimiter.field-0.0 in
-    let is : TellsFirst values error
-    = found_first (fault_told error) (IsNumberFault delimiter_option values.delimiter) (value_checks values) (if_some (fault_told error) (IsNumberFault delimiter_option values.delimiter) c.in_err-delimiter.ensures.fault)
+    passes_found c.from_residual-in_err-delimiter.result c.in_err-delimiter.field-0.0 (values_by c.args.options) _
+    c.from_residual-in_err-delimiter.ensures.1 c.in_err-delimiter.ensures.fault
     (λ fault is. inr (
       (c.in_ok-targets.targets.items, c.in_ok-targets.ensures.value),
       inr ((c.in_ok-ring.ring, c.in_ok-ring.ensures.value), inl is),
-    )) in
-    passed_up {T = Job} {E = RequestFault} c.from_residual-in_err-delimiter.result error (TellsFirst values) c.from_residual-in_err-delimiter.ensures.1 is
+    ))
 
 pub returns-in_err-stripes-clause-fault : goal.returns-in_err-stripes-clause-fault
 returns-in_err-stripes-clause-fault c =
-    let values = values_by c.args.options in
-    let error = c.in_err-stripes.field-0.0 in
-    let is : TellsFirst values error
-    = found_first (fault_told error) (IsNumberFault stripes_option values.stripes) (value_checks values) (if_some (fault_told error) (IsNumberFault stripes_option values.stripes) c.in_err-stripes.ensures.fault)
+    passes_found c.from_residual-in_err-stripes.result c.in_err-stripes.field-0.0 (values_by c.args.options) _
+    c.from_residual-in_err-stripes.ensures.1 c.in_err-stripes.ensures.fault
     (λ fault is. inr (
       (c.in_ok-targets.targets.items, c.in_ok-targets.ensures.value),
       inr (
         (c.in_ok-ring.ring, c.in_ok-ring.ensures.value),
         inr ((c.in_ok-delimiter.delimiter, c.in_ok-delimiter.ensures.value), inl is),
       ),
-    )) in
-    passed_up {T = Job} {E = RequestFault} c.from_residual-in_err-stripes.result error (TellsFirst values) c.from_residual-in_err-stripes.ensures.1 is
+    ))
 
 pub returns-in_err-check_files-clause-fault : goal.returns-in_err-check_files-clause-fault
 returns-in_err-check_files-clause-fault c =
-    let values = values_by c.args.options in
-    let error = c.in_err-check_files.field-0.0 in
-    let is : TellsFirst values error
-    = found_first (fault_told error) (IsFileFault (map (λ f. f.now) c.as_slice.result.now)) (value_checks values) (if_some (fault_told error) (IsFileFault (map (λ f. f.now) c.as_slice.result.now)) c.in_err-check_files.ensures.fault)
+    let told = subst (λ (files : List Text). IsSomeAnd (fault_told c.in_err-check_files.field-0.0) (IsFileFault files))
+        (ap (map (λ f. f.now)) c.as_slice.ensures.value) c.in_err-check_files.ensures.fault in
+    passes_found c.from_residual-in_err-check_files.result c.in_err-check_files.field-0.0 (values_by c.args.options) _
+    c.from_residual-in_err-check_files.ensures.1 told
     (λ fault is. inr (
       (c.in_ok-targets.targets.items, c.in_ok-targets.ensures.value),
       inr (
         (c.in_ok-ring.ring, c.in_ok-ring.ensures.value),
         inr (
           (c.in_ok-delimiter.delimiter, c.in_ok-delimiter.ensures.value),
-          inr (
-            (c.in_ok-stripes.stripes, c.in_ok-stripes.ensures.value),
-            inl (
-                subst (λ (files : List Text). IsFileFault files fault) (ap (map (λ f. f.now)) c.as_slice.ensures.value) is
-                ),
-          ),
+          inr ((c.in_ok-stripes.stripes, c.in_ok-stripes.ensures.value), inl is),
         ),
       ),
-    )) in
-    passed_up {T = Job} {E = RequestFault} c.from_residual-in_err-check_files.result error (TellsFirst values) c.from_residual-in_err-check_files.ensures.1 is
+    ))
 
 pub returns-clause-asked : goal.returns-clause-asked
 returns-clause-asked c =
@@ -117,6 +112,10 @@ unreachable-requires c =
     (λ e. (c.new.ensures.stripes.0 e).3)
 
 -- each error tells a fault, or that memory ran out
+of_words : (result : Result Job RequestFault) (error : RequestFault) (fails : Fault → Type 0)
+    → IsErrAnd result (λ up. up ≡ error) → IsSomeAnd (fault_told error) fails → IfErr result IsOfWords
+of_words result error fails up told = passed_up result error IsOfWords up (tells_some error fails told)
+
 pub returns-in_err-targets-clause-memory : goal.returns-in_err-targets-clause-memory
 returns-in_err-targets-clause-memory c =
     passed_up {T = Job} {E = RequestFault} c.from_residual.result c.in_err-targets.field-0.0 IsOfWords
@@ -124,24 +123,20 @@ returns-in_err-targets-clause-memory c =
 
 pub returns-in_err-ring-clause-memory : goal.returns-in_err-ring-clause-memory
 returns-in_err-ring-clause-memory c =
-    passed_up {T = Job} {E = RequestFault} c.from_residual-in_err-ring.result c.in_err-ring.field-0.0
-    IsOfWords c.from_residual-in_err-ring.ensures.1
-    (tells_some c.in_err-ring.field-0.0 _ c.in_err-ring.ensures.fault)
+    of_words c.from_residual-in_err-ring.result _ _ c.from_residual-in_err-ring.ensures.1
+    c.in_err-ring.ensures.fault
 
 pub returns-in_err-delimiter-clause-memory : goal.returns-in_err-delimiter-clause-memory
 returns-in_err-delimiter-clause-memory c =
-    passed_up {T = Job} {E = RequestFault} c.from_residual-in_err-delimiter.result c.in_err-delimiter.field-0.0
-    IsOfWords c.from_residual-in_err-delimiter.ensures.1
-    (tells_some c.in_err-delimiter.field-0.0 _ c.in_err-delimiter.ensures.fault)
+    of_words c.from_residual-in_err-delimiter.result _ _ c.from_residual-in_err-delimiter.ensures.1
+    c.in_err-delimiter.ensures.fault
 
 pub returns-in_err-stripes-clause-memory : goal.returns-in_err-stripes-clause-memory
 returns-in_err-stripes-clause-memory c =
-    passed_up {T = Job} {E = RequestFault} c.from_residual-in_err-stripes.result c.in_err-stripes.field-0.0
-    IsOfWords c.from_residual-in_err-stripes.ensures.1
-    (tells_some c.in_err-stripes.field-0.0 _ c.in_err-stripes.ensures.fault)
+    of_words c.from_residual-in_err-stripes.result _ _ c.from_residual-in_err-stripes.ensures.1
+    c.in_err-stripes.ensures.fault
 
 pub returns-in_err-check_files-clause-memory : goal.returns-in_err-check_files-clause-memory
 returns-in_err-check_files-clause-memory c =
-    passed_up {T = Job} {E = RequestFault} c.from_residual-in_err-check_files.result c.in_err-check_files.field-0.0
-    IsOfWords c.from_residual-in_err-check_files.ensures.1
-    (tells_some c.in_err-check_files.field-0.0 _ c.in_err-check_files.ensures.fault)
+    of_words c.from_residual-in_err-check_files.result _ _ c.from_residual-in_err-check_files.ensures.1
+    c.in_err-check_files.ensures.fault

@@ -4,7 +4,8 @@
 //! the calendars that the words ask for.
 #![tactic(auto)]
 
-use register_app::{Destination, Disk, Source, Told, answer, lines_to};
+use register_app::answer;
+use register_places::{Destination, Disk, Source, Told, lines_to};
 use register_records::PlainOutput;
 use std::fs::OpenOptions;
 use std::process::ExitCode;

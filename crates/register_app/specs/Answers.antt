@@ -9,7 +9,7 @@ use Rattle.register_records.specs.declared.outputs.Output as outputs
 use Rattle.register_records.specs.declared.setups.Setup.{Setup}
 use Rattle.register_run.specs.declared.reports.Verdict.TheVariants.{Complete}
 use Rattle.register_words.specs.Faults.{fault_told, line_told, status_of_fault}
-use Rattle.register_app.specs.Openings.{AreMade, AreNotSources, AreOpened, AreTwoFiles}
+use Rattle.register_places.specs.Openings.{AreMade, AreNotSources, AreOpened, AreTwoFiles}
 use Rattle.register_app.specs.Reports.{lines_from}
 use Rattle.register_words.specs.Requests.{IsFaultOf, MeanJust, Task, help, version}
 use Rattle.register_words.specs.declared.help.TheConstants.{HELP, PRINT_FAULT}

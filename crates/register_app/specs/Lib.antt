@@ -1,5 +1,2 @@
-pub mod Openings
 pub mod Reports
 pub mod Answers
-pub mod Sides
-pub mod Told

@@ -6,15 +6,14 @@ ghost use Rattle.std.specs.Io.KnownBytes.{Appends};
 ghost use Rattle.std.specs.String.{string_bytes};
 ghost use Rattle.register_app.specs.Answers.{AreConverted, AskForPage, IsConverted, IsPrinted, IsTold, version_line};
 ghost use Rattle.register_records.specs.Sources.{is_whole_end};
-ghost use Rattle.register_app.specs.Openings.{AreMade, IsFresh, IsNewlyMade};
+ghost use Rattle.register_places.specs.Openings.{AreMade, IsFresh, IsNewlyMade};
 ghost use Rattle.register_app.specs.Reports.{lines_from};
 ghost use Rattle.register_words.specs.Faults.{fault_told, own_line, status_of_fault};
 ghost use Rattle.register_words.specs.Requests.{AreWrong, IsFaultOf, MeanJust, Task, most_files, table, task_of};
 
-use crate::opening::{Opened, open_files};
-use crate::places::Places;
 use crate::telling::tell_ends;
 use arrayvec::ArrayString;
+use register_places::{Opened, Places, open_files};
 use register_records::{Output, send};
 use register_run::{MAX_SOURCES, Report, Verdict, run};
 use register_words::{

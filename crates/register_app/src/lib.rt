@@ -3,15 +3,6 @@
 #![tactic(auto)]
 
 mod answering;
-mod disk;
-mod opening;
-mod places;
 mod telling;
-mod terminal;
-mod told;
 
 pub use answering::{Answered, answer};
-pub use disk::{Destination, Disk, Exclusive, Source};
-pub use places::Places;
-pub use terminal::{Lines, lines_to};
-pub use told::Told;

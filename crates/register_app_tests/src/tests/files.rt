@@ -3,7 +3,7 @@
 ghost use Rattle.std.specs.Prelude.{⊤};
 
 use crate::tests::helpers::{Heard, MANY_FILES, ONE_RECORD, ONE_ROW, hear_in_memory};
-use register_app::{Places, Told};
+use register_places::{Places, Told};
 use register_records::PlainOutput;
 use std::alloc::{AllocError, Global};
 use std::io;

@@ -1,9 +1,10 @@
 //! What the tests share: the words of a command line, and the program's answer to them over memory.
 
 ghost use Rattle.std.specs.Prelude.{◌≡◌, [], ⊤, false};
-ghost use Rattle.register_app.specs.Told.{told_bytes};
+ghost use Rattle.register_places.specs.Told.{told_bytes};
 
-use register_app::{Answered, Places, Told, answer};
+use register_app::{Answered, answer};
+use register_places::{Places, Told};
 use register_records::{Output, PlainOutput};
 use std::alloc::{AllocError, Global};
 use std::io;

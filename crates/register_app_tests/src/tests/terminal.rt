@@ -1,7 +1,7 @@
 //! Lines that go to a terminal, and the same lines elsewhere.
 
 use crate::tests::helpers::{NoPlaces, ONE_RECORD, hear};
-use register_app::Lines;
+use register_places::Lines;
 use std::alloc::Global;
 use std::io;
 use std::io::{ErrorKind, Write};

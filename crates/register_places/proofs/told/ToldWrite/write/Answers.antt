@@ -1,0 +1,26 @@
+-- The log gains what the write took, and with a fault nothing.
+use Rattle.std.proofs.Common.{rules, ◌≡◌, ◌++◌, subst, sym, take}
+use Rattle.std.proofs.Math.Logic.{∥∥₁_map}
+use Rattle.std.specs.Io.KnownBytes.{Appends}
+use Rattle.register_places.proofs.ReportLemmas.{appends_both}
+use Rattle.register_places.proofs.ToldLemmas.{appends_kept}
+use Rattle.register_places.proofs.told.ToldWrite.write.Goals as goal
+
+pub invariant_of-self : goal.invariant_of-self
+invariant_of-self g c =
+    let was = g.W.Write.contents c.args.self.now.was.value in
+    let old = g.W.Write.contents c.args.self.now.inner in
+    let new = g.W.Write.contents c.write-taken.new.self in
+    let gained = take c.in-Ok.n c.args.buf.now in
+    let grown : c.add.new.self.bytes ≡ c.args.self.now.log.bytes ++ gained = search rules in
+    record {
+      told = ∥∥₁_map c.args.self.now.told (λ told. subst (λ bytes. Appends was new bytes) (sym grown)
+          (appends_both was old new c.args.self.now.log.bytes gained told c.in-Ok.ensures.bytes));
+    }
+
+pub invariant_of-self-in_default : goal.invariant_of-self-in_default
+invariant_of-self-in_default g c = record {
+  told = ∥∥₁_map c.args.self.now.told (λ told. appends_kept (g.W.Write.contents c.args.self.now.was.value)
+      (g.W.Write.contents c.args.self.now.inner) (g.W.Write.contents c.write-taken.new.self)
+      c.args.self.now.log.bytes told c.in_default.ensures.bytes);
+}

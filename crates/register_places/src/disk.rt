@@ -1,0 +1,144 @@
+//! The files of the system, and the standard streams beside them.
+
+ghost use Rattle.std.specs.Prelude.{◌≡◌, ⊤};
+ghost use Rattle.register_places.specs.Sides.{destination_contents, source_remaining};
+
+use crate::places::Places;
+use crate::told::Told;
+use register_records::PlainOutput;
+use std::fs::{File, OpenFile, OpenOptions, TryLockError};
+use std::io;
+use std::io::{ErrorKind, Read, Write};
+use std::os::unix::fs::MetadataExt;
+use std::rt::Files;
+
+/// What the program reads: standard input, or a file.
+#[derive(Drop)]
+pub enum Source<I, F> {
+    Input(I),
+    File(F),
+}
+
+/// What the program writes to: standard output, or a file.
+#[derive(Drop)]
+pub enum Destination<O, F> {
+    Output(O),
+    File(F),
+}
+
+impl<I: Read, F: Read> Read for Source<I, F> {
+    ghost remaining = { source_remaining I.remaining F.remaining };
+
+    fn read(&mut self, buf: &mut [u8]) -> io::Result<usize> {
+        match self {
+            Source::Input(input) => input.read(buf),
+            Source::File(file) => file.read(buf),
+        }
+    }
+}
+
+impl<O: Write, F: Write> Write for Destination<O, F> {
+    ghost contents = { destination_contents O.contents F.contents };
+
+    fn write(&mut self, buf: &[u8]) -> io::Result<usize> {
+        match self {
+            Destination::Output(output) => output.write(buf),
+            Destination::File(file) => file.write(buf),
+        }
+    }
+
+    fn flush(&mut self) -> io::Result<()> {
+        match self {
+            Destination::Output(output) => output.flush(),
+            Destination::File(file) => file.flush(),
+        }
+    }
+}
+
+/// A file that one opening of it can keep from others.
+pub trait Exclusive {
+    /// Keeps the file for this opening of it alone, until it is closed.
+    ///
+    /// # Errors
+    ///
+    /// `WouldBlock` where another opening keeps it. Where the file system has no locks, there is no error.
+    fn keep(&self) -> io::Result<()>;
+}
+
+impl Exclusive for File {
+    fn keep(&self) -> io::Result<()> {
+        match self.try_lock() {
+            Err(TryLockError::WouldBlock) => Err(io::Error::from(ErrorKind::WouldBlock)),
+            Ok(()) | Err(TryLockError::Error(_)) => Ok(()),
+        }
+    }
+}
+
+/// Keeps the file of a table for this run alone, and then empties it where it has bytes. One that was emptied is not
+/// closed before the disk has it, which can take longer than the run.
+fn keep_and_empty<F: OpenFile + Exclusive>(file: &F) -> io::Result<()> {
+    file.keep()?;
+    if file.metadata()?.len() > 0 {
+        file.set_len(0)?;
+    }
+    Ok(())
+}
+
+/// The files of the system.
+#[derive(Clone, Copy)]
+pub struct Disk<'a, F> {
+    files: &'a F,
+}
+
+impl<'a, F: Files> Disk<'a, F> {
+    /// The files that `files` reaches.
+    pub fn new(files: &'a F) -> Disk<'a, F> {
+        Disk { files }
+    }
+}
+
+impl<'a, F: Files, I: Read, O: Write> Places<
+    Source<I, F::File>,
+    PlainOutput<Told<Destination<O, F::File>>>,
+> for Disk<'a, F>
+where
+    F::File: Exclusive,
+{
+    ghost is_opened = { λ _ _ _. ⊤ };
+
+    ghost is_made = { λ _ _ mark output. output.mark ≡ mark };
+
+    ghost are_apart = { λ _ _ _. ⊤ };
+
+    // A folder can be opened but not read, so it is refused here.
+    fn open(&self, name: &str) -> io::Result<Source<I, F::File>> {
+        let file = OpenOptions::new().read(true).open(self.files, name)?;
+        if file.metadata()?.is_dir() {
+            return Err(io::Error::from(ErrorKind::IsADirectory));
+        }
+        Ok(Source::File(file))
+    }
+
+    fn make(
+        &self,
+        name: &str,
+        mark: u32,
+    ) -> io::Result<PlainOutput<Told<Destination<O, F::File>>>> {
+        let file = OpenOptions::new()
+            .write(true)
+            .create(true)
+            .open(self.files, name)?;
+        keep_and_empty(&file)?;
+        Ok(PlainOutput::new(Told::new(Destination::File(file)), mark))
+    }
+
+    fn are_one_file(&self, name: &str, other: &str) -> bool {
+        let Ok(one) = self.files.metadata(name) else {
+            return false;
+        };
+        let Ok(two) = self.files.metadata(other) else {
+            return false;
+        };
+        one.ino() != 0 && one.ino() == two.ino() && one.dev() == two.dev()
+    }
+}

@@ -1,0 +1,143 @@
+//! Opens the files of a command line.
+
+ghost use Rattle.std.specs.Prelude.{◌≡◌, ◌≤◌, ◌++◌, ℕ, List, Some, false, length};
+ghost use Rattle.std.specs.Prelude.{IfErr, IfOk, OnOk, map, slice_get};
+ghost use Rattle.std.specs.String.{string_bytes};
+ghost use Rattle.register_words.specs.Faults.{status_of_fault};
+ghost use Rattle.register_words.specs.Requests.{most_files};
+ghost use Rattle.register_places.specs.Openings.{AreMade, AreNotSources, AreOpened, AreTwoFiles, IsNewlyMade};
+
+use crate::places::Places;
+use register_records::Output;
+use register_words::{RequestFault, SUFFIX};
+use std::alloc::{AllocError, Global};
+
+/// The sources of a command line with the output of each, in its order.
+pub struct Opened<R, W> {
+    pub sources: Vec<R>,
+    pub outputs: Vec<W>,
+}
+
+/// The name of a file's output.
+fn output_name(alloc: Global, file: &str) -> Result<String, AllocError>
+    ensures { IfOk result (λ name. string_bytes name ≡ file.now ++ SUFFIX.now) }
+{
+    let mut name = String::from_str(alloc, file)?;
+    name.push_str(SUFFIX)?;
+    Ok(name)
+}
+
+/// Opens each file.
+fn open_sources<'a, R: Drop, W: Output, P: Places<R, W>>(
+    alloc: Global,
+    places: &P,
+    files: &[&'a str],
+) -> Result<Vec<R>, RequestFault<'a>>
+    ensures opened { IfOk result (λ sources. AreOpened (P.is_opened places.now) (map (λ file. file.now) files.now)
+        sources.items) }
+    ensures status { IfErr result (λ error. status_of_fault error ≡ 3) }
+{
+    let mut sources = Vec::new(alloc);
+    'files: for &file in files {
+        let Ok(source) = places.open(file) else {
+            return Err(RequestFault::CannotOpen(file));
+        };
+        if sources.push(source).is_err() {
+            return Err(RequestFault::OutOfMemory);
+        }
+    }
+    Ok(sources)
+}
+
+/// Whether an output's name is that of a file that another output goes to.
+fn is_taken<R, W: Output, P: Places<R, W>>(places: &P, names: &[String], name: &str) -> bool
+    ensures { result ≡ false → (k : ℕ) (other : List ℕ) → slice_get (map string_bytes names.now) k ≡ Some other
+        → P.are_apart places.now other name.now }
+{
+    'names: for other in names {
+        if places.are_one_file(other.as_str(), name) {
+            return true;
+        }
+    }
+    false
+}
+
+/// Refuses the first file whose output would go to the file itself and empty it, as where it is a link to it.
+fn keep_sources<'a, R, W: Output, P: Places<R, W>>(
+    alloc: Global,
+    places: &P,
+    files: &[&'a str],
+) -> Result<(), RequestFault<'a>>
+    ensures kept { OnOk result (AreNotSources (P.are_apart places.now) (map (λ file. file.now) files.now)) }
+    ensures status { IfErr result (λ error. status_of_fault error ≡ 3) }
+{
+    'files: for &file in files {
+        let Ok(name) = output_name(alloc, file) else {
+            return Err(RequestFault::OutOfMemory);
+        };
+        if places.are_one_file(file, name.as_str()) {
+            return Err(RequestFault::CannotMake(file));
+        }
+    }
+    Ok(())
+}
+
+/// Makes the output of each file.
+fn make_outputs<'a, R, W: Output + Drop, P: Places<R, W>>(
+    alloc: Global,
+    places: &P,
+    files: &[&'a str],
+) -> Result<Vec<W>, RequestFault<'a>>
+    requires few { length files.now ≤ most_files }
+    ensures made { IfOk result (λ outputs. AreMade (IsNewlyMade W.Output
+        (P.is_made places.now)) (map (λ file. file.now) files.now) outputs.items) }
+    ensures apart { IfOk result (λ outputs. AreTwoFiles (P.are_apart places.now) (map (λ file. file.now) files.now)) }
+    ensures status { IfErr result (λ error. status_of_fault error ≡ 3) }
+{
+    let mut outputs = Vec::new(alloc);
+    let mut names = Vec::new(alloc);
+    let mut mark = 0;
+    'files: for &file in files {
+        let Ok(name) = output_name(alloc, file) else {
+            return Err(RequestFault::OutOfMemory);
+        };
+        mark += 1;
+        let Ok(output) = places.make(name.as_str(), mark) else {
+            return Err(RequestFault::CannotMake(file));
+        };
+        if is_taken(places, names.as_slice(), name.as_str()) {
+            return Err(RequestFault::CannotMake(file));
+        }
+        if outputs.push(output).is_err() || names.push(name).is_err() {
+            return Err(RequestFault::OutOfMemory);
+        }
+    }
+    Ok(outputs)
+}
+
+/// Opens all files, and then makes the output of each. The mark of an output is its place, from 1.
+///
+/// # Errors
+///
+/// `CannotOpen` for the first file that cannot be opened, before any output is made; `CannotMake` for the first whose
+/// output would go to the file itself, before any output is made too, or else for the first whose output cannot be made
+/// or goes to the file of an earlier one; `OutOfMemory` where a growth of memory was refused.
+pub fn open_files<'a, R: Drop, W: Output + Drop, P: Places<R, W>>(
+    alloc: Global,
+    places: &P,
+    files: &[&'a str],
+) -> Result<Opened<R, W>, RequestFault<'a>>
+    requires few { length files.now ≤ most_files }
+    ensures opened { IfOk result (λ o. AreOpened (P.is_opened places.now) (map (λ file. file.now) files.now)
+        o.sources.items) }
+    ensures made { IfOk result (λ o. AreMade (IsNewlyMade W.Output
+        (P.is_made places.now)) (map (λ file. file.now) files.now) o.outputs.items) }
+    ensures kept { IfOk result (λ o. AreNotSources (P.are_apart places.now) (map (λ file. file.now) files.now)) }
+    ensures apart { IfOk result (λ o. AreTwoFiles (P.are_apart places.now) (map (λ file. file.now) files.now)) }
+    ensures status { IfErr result (λ error. status_of_fault error ≡ 3) }
+{
+    let sources = open_sources(alloc, places, files)?;
+    keep_sources(alloc, places, files)?;
+    let outputs = make_outputs(alloc, places, files)?;
+    Ok(Opened { sources, outputs })
+}

@@ -8,11 +8,12 @@ use Rattle.day_numbers.specs.Rules.{without_zero, HasYear, IsDateOf, day_number_
 use Rattle.day_numbers.proofs.RulesLemmas.{next_year, date_unique}
 use Rattle.day_numbers.proofs.SignedArithmeticLemmas.{signed_arith}
 use Rattle.solar_calendars.specs.Julian.{julian_rules, is_julian_leap}
-use Rattle.solar_calendars.specs.Roman.{day_of_ides, kalends, month_before, year_before, year_of_month_before}
+use Rattle.solar_calendars.specs.Roman.{day_of_ides, month_before, year_before, year_of_month_before}
 use Rattle.solar_calendars.specs.Roman.{has_two_sixths, days_back, roman_day_number, IsRomanDate}
 use Rattle.solar_calendars.specs.declared.roman_date.RomanName.{RomanName}
 use Rattle.solar_calendars.specs.declared.roman_date.RomanName.TheVariants.{Kalends, Nones, Ides, SecondSixth}
-use Rattle.solar_calendars.specs.RomanPlaces.{month_length, next_month, year_of_next_month, IsPlaced, HasPlace, place}
+use Rattle.solar_calendars.specs.RomanPlaces.{kalends, month_length, next_month, year_of_next_month, IsPlaced, HasPlace}
+use Rattle.solar_calendars.specs.RomanPlaces.{place}
 use Rattle.solar_calendars.specs.RomanPlaces.{prior_length, prior_ides, name_within, name_after, RomanParts, parts_on}
 use Rattle.solar_calendars.proofs.RomanMonthLemmas.{follows, ides_small, months_small}
 use Rattle.solar_calendars.proofs.RomanPlaceLemmas.{placed, number, small_prior, sixths_length}

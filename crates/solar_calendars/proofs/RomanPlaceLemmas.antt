@@ -6,12 +6,12 @@ use Rattle.day_numbers.specs.Rules.{without_zero, HasYear}
 use Rattle.day_numbers.specs.Days.{IsBetween}
 use Rattle.day_numbers.proofs.SignedArithmeticLemmas.{signed_arith}
 use Rattle.solar_calendars.specs.Julian.{is_julian_leap}
-use Rattle.solar_calendars.specs.Roman.{day_of_ides, kalends, nones, ides, month_before}
+use Rattle.solar_calendars.specs.Roman.{day_of_ides, month_before}
 use Rattle.solar_calendars.specs.Roman.{year_of_month_before, has_two_sixths, days_back, roman_day_number}
 use Rattle.solar_calendars.specs.Roman.{IsRomanDate}
 use Rattle.solar_calendars.specs.declared.roman_date.RomanName.{RomanName}
 use Rattle.solar_calendars.specs.declared.roman_date.RomanName.TheVariants.{Kalends, Nones, Ides, SecondSixth}
-use Rattle.solar_calendars.specs.RomanPlaces.{HasPlace, place, prior_length, prior_ides}
+use Rattle.solar_calendars.specs.RomanPlaces.{kalends, nones, ides, HasPlace, place, prior_length, prior_ides}
 use Rattle.solar_calendars.proofs.RomanMonthLemmas.{follows, ides_small, months_small}
 
 -- the arithmetic of a principal day, the one before it and a day that is counted back

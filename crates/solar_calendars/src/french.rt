@@ -1,14 +1,12 @@
 //! The French Revolutionary calendar: thirteen months, and leap years by its arithmetic rule.
 
 ghost use Rattle.std.specs.Prelude.{◌+◌, ◌*◌};
-ghost use Rattle.day_numbers.specs.Rules.{IsDateOf, day_number_of, first_day_of};
-ghost use Rattle.day_numbers.proofs.DateLemmas.{rules_one_date, rules_have_days};
+ghost use Rattle.day_numbers.proofs.DateLemmas.{rules_one_to_one};
 ghost use Rattle.solar_calendars.specs.French.{french_rules, is_french_leap};
 
-use crate::thirteen_months::{LeapRule, ThirteenMonthCalendar, ThirteenMonths};
-use day_numbers::from_year_one::YearsFromOne;
-use day_numbers::rules::{date_by_rules, day_by_rules};
-use day_numbers::{ArithmeticCalendar, DateFault, Day, Ymd};
+use crate::thirteen_months::{LeapRule, ThirteenMonths};
+use day_numbers::by_rules::CalendarByRules;
+use day_numbers::from_year_one::FromYearOne;
 
 /// The French Revolutionary calendar by its arithmetic leap rule (Reingold and Dershowitz,
 /// *Calendrical Calculations*, "The French Revolutionary Calendar").
@@ -49,8 +47,8 @@ impl LeapRule for FrenchLeapYears {
     }
 }
 
-impl ThirteenMonthCalendar for French {
-    type Leap = FrenchLeapYears;
+impl FromYearOne for French {
+    type Years = ThirteenMonths<FrenchLeapYears>;
 
     ghost epoch_day = { french_rules.epoch };
 
@@ -59,22 +57,6 @@ impl ThirteenMonthCalendar for French {
     }
 }
 
-impl ArithmeticCalendar for French {
-    ghost IsDate = { λ d. IsDateOf french_rules d.year d.month d.day };
-
-    ghost day_number = { λ d. day_number_of french_rules d.year d.month d.day };
-
-    ghost first_day = { first_day_of french_rules };
-
-    ghost one_date = { rules_one_date french_rules };
-
-    ghost dates_have_days = { rules_have_days french_rules };
-
-    fn day_of(&self, date: Ymd) -> Result<Day, DateFault> {
-        day_by_rules(&YearsFromOne(&ThirteenMonths(self)), date)
-    }
-
-    fn date_on(&self, day: Day) -> Option<Ymd> {
-        date_by_rules(&YearsFromOne(&ThirteenMonths(self)), day)
-    }
+impl CalendarByRules for French {
+    ghost one_to_one = { rules_one_to_one french_rules };
 }

@@ -54,24 +54,14 @@ IsStep leap a c past d t u w =
 year_step : (leap a c : Bool) (past d t u : ℕ) → t < 25_920 → u < 25_920 → past ≤ 1
     → 25_920 * past + u ≡ t + (if leap then 23_269 else 9_516) → (w : ℕ) → w < 7 → IsStep leap a c past d t u w
 unfolding IsStep
-year_step false a c zero d t u h k m e =
-    weekday_cases (IsStep false a c 0 d t u)
+year_step false a c past d t u h k m e =
+    weekday_cases (IsStep false a c past d t u)
     (grind (arith, nat_tests)) (grind (arith, nat_tests)) (grind (arith, nat_tests)) (grind (arith, nat_tests))
     (grind (arith, nat_tests)) (grind (arith, nat_tests)) (grind (arith, nat_tests))
-year_step false a c (suc zero) d t u h k m e =
-    weekday_cases (IsStep false a c 1 d t u)
+year_step true a c past d t u h k m e =
+    weekday_cases (IsStep true a c past d t u)
     (grind (arith, nat_tests)) (grind (arith, nat_tests)) (grind (arith, nat_tests)) (grind (arith, nat_tests))
     (grind (arith, nat_tests)) (grind (arith, nat_tests)) (grind (arith, nat_tests))
-year_step false a c (suc (suc n)) d t u h k m e = absurd (omega arith)
-year_step true a c zero d t u h k m e =
-    weekday_cases (IsStep true a c 0 d t u)
-    (grind (arith, nat_tests)) (grind (arith, nat_tests)) (grind (arith, nat_tests)) (grind (arith, nat_tests))
-    (grind (arith, nat_tests)) (grind (arith, nat_tests)) (grind (arith, nat_tests))
-year_step true a c (suc zero) d t u h k m e =
-    weekday_cases (IsStep true a c 1 d t u)
-    (grind (arith, nat_tests)) (grind (arith, nat_tests)) (grind (arith, nat_tests)) (grind (arith, nat_tests))
-    (grind (arith, nat_tests)) (grind (arith, nat_tests)) (grind (arith, nat_tests))
-year_step true a c (suc (suc n)) d t u h k m e = absurd (omega arith)
 
 from_same : (low high m n i j : ℕ) → m ≡ i → n ≡ j → IsFrom low high m n → IsFrom low high i j
 from_same low high m n i j p q s = rw (← p, ← q) s

@@ -29,6 +29,7 @@ impl<C: CalendarByRules> ArithmeticCalendar for C {
         day_by_rules(self, date)
     }
 
+    #[inline(always)]
     fn date_on(&self, day: Day) -> Option<Ymd> {
         date_by_rules(self, day)
     }

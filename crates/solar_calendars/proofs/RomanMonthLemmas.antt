@@ -67,11 +67,13 @@ january y h =
 pub ides_small : (m : ℕ) → (13 ≤ day_of_ides m) × (day_of_ides m ≤ 15)
 ides_small m = grind (arith, nat_tests)
 
+-- a month of a year that the calendar has
+abbrev pub IsMonth : ℤ → ℕ → Type 0
+IsMonth y m = HasYear without_zero y × (1 ≤ m) × (m ≤ 12)
+
 -- the month before a month: the way back to the month, and how far the Kalends lie apart
 pub record Follows (y : ℤ) (m : ℕ) (py : ℤ) (pm : ℕ) : Type 0 where
-  pub has : HasYear without_zero py
-  pub first : 1 ≤ pm
-  pub last : pm ≤ 12
+  pub is_month : IsMonth py pm
   pub year_on : year_of_next_month py pm ≡ y
   pub month_on : next_month pm ≡ m
   pub starts : kalends y m ≡ kalends py pm +ℤ pos (month_length py pm)
@@ -82,18 +84,14 @@ pub follows : (y : ℤ) (m : ℕ) → HasYear without_zero y → 1 ≤ m → m �
 follows y m h a b =
     elim (cases_eq m 1) [
       | inl e ↦ rw e (record {
-        has = (before_is y h).0;
-        first = omega arith;
-        last = omega arith;
+        is_month = ((before_is y h).0, omega arith, omega arith);
         year_on = (before_is y h).1;
         month_on = refl;
         starts = january y h;
         leaps = refl;
       })
       | inr n ↦ rw (ne_eqb m 1 n) (record {
-        has = h;
-        first = omega arith;
-        last = omega arith;
+        is_month = (h, omega arith, omega arith);
         year_on = rw (ne_eqb (m - 1) 12 (λ q. omega arith)) refl;
         month_on = rw (ne_eqb (m - 1) 12 (λ q. omega arith)) (omega arith);
         starts = omega (arith, signed_arith, months_follow (is_julian_leap y) m (omega arith) b);

@@ -31,7 +31,7 @@ ides_are y m h a b =
       signed_arith,
       f.starts,
       ides_small (month_before m),
-      months_small (is_julian_leap (year_of_month_before y m)) (month_before m) f.first f.last,
+      months_small (is_julian_leap (year_of_month_before y m)) (month_before m) f.is_month.1 f.is_month.2,
     )
 
 -- the month before is longer than its Ides are far
@@ -40,7 +40,7 @@ pub small_prior : (y : ℤ) (m : ℕ) → HasYear without_zero y → 1 ≤ m →
     × (prior_length y m ≤ 31)
 small_prior y m h a b =
     let f = follows y m h a b in
-    let n = months_small (is_julian_leap (year_of_month_before y m)) (month_before m) f.first f.last in
+    let n = months_small (is_julian_leap (year_of_month_before y m)) (month_before m) f.is_month.1 f.is_month.2 in
     let i = ides_small (month_before m) in
     (omega (arith, n, i), omega (arith, n, i), i.0, n.1)
 

@@ -1,24 +1,11 @@
-//! The French Revolutionary calendar: thirteen months, and leap years by its arithmetic rule.
+//! The leap years of the French Revolutionary calendar.
 
 ghost use Rattle.std.specs.Prelude.{◌+◌, ◌*◌};
-ghost use Rattle.day_numbers.proofs.DateLemmas.{rules_one_to_one};
-ghost use Rattle.solar_calendars.specs.French.{french_rules, is_french_leap};
+ghost use Rattle.solar_calendars.specs.French.{is_french_leap};
 
-use crate::thirteen_months::{LeapRule, ThirteenMonths};
-use day_numbers::by_rules::CalendarByRules;
-use day_numbers::from_year_one::FromYearOne;
+use crate::thirteen_months::LeapRule;
 
-/// The French Revolutionary calendar by its arithmetic leap rule (Reingold and Dershowitz,
-/// *Calendrical Calculations*, "The French Revolutionary Calendar").
-///
-/// Its epoch, 1 Vendémiaire of year 1, is R.D. 654415, 22 September 1792 of the Gregorian calendar. Years
-/// count from 1; there is none before. A year has twelve months of 30 days and a thirteenth of 5 days,
-/// or of 6 in a leap year, where the year is divisible by 4 and not by 4000, and its remainder by 400
-/// is none of 100, 200 and 300.
-#[derive(Clone, Copy, Debug)]
-pub struct French;
-
-/// The leap rule of [`French`].
+/// The leap rule of [`French`](crate::French).
 pub struct FrenchLeapYears;
 
 impl LeapRule for FrenchLeapYears {
@@ -45,18 +32,4 @@ impl LeapRule for FrenchLeapYears {
             most - 1
         }
     }
-}
-
-impl FromYearOne for French {
-    type Years = ThirteenMonths<FrenchLeapYears>;
-
-    ghost epoch_day = { french_rules.epoch };
-
-    fn epoch(&self) -> i64 {
-        654_415
-    }
-}
-
-impl CalendarByRules for French {
-    ghost one_to_one = { rules_one_to_one french_rules };
 }

@@ -17,10 +17,9 @@ mod roman_date;
 mod thirteen_months;
 mod twelve_months;
 
-pub use french::French;
 pub use gregorian::Gregorian;
 pub use iso_week::IsoWeek;
 pub use julian::Julian;
 pub use roman::{roman_day_of, roman_on};
 pub use roman_date::{RomanDate, RomanName};
-pub use thirteen_months::{Armenian, Coptic, Egyptian, Ethiopic};
+pub use thirteen_months::{Armenian, Coptic, Egyptian, Ethiopic, French};

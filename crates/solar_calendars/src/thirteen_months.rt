@@ -5,9 +5,11 @@
 ghost use Rattle.std.specs.Prelude.{◌≡◌, ◌≤◌, ◌<◌, ◌+◌, Bool, false, ℤ, pos, IsTrue, length};
 ghost use Rattle.day_numbers.specs.Rules.{days_of_years as days_of, total_days, are_months};
 ghost use Rattle.day_numbers.proofs.DateLemmas.{rules_one_to_one};
+ghost use Rattle.solar_calendars.specs.French.{french_rules};
 ghost use Rattle.solar_calendars.specs.ThirteenMonths.{thirteen_months as thirteen_months_of, is_third_of_four};
 ghost use Rattle.solar_calendars.specs.ThirteenMonths.{coptic_rules, ethiopic_rules, egyptian_rules, armenian_rules};
 
+use crate::french::FrenchLeapYears;
 use day_numbers::by_rules::CalendarByRules;
 use day_numbers::from_year_one::{FromYearOne, YearRule};
 use day_numbers::months;
@@ -199,4 +201,28 @@ impl FromYearOne for Armenian {
 
 impl CalendarByRules for Armenian {
     ghost one_to_one = { rules_one_to_one armenian_rules };
+}
+
+/// The French Revolutionary calendar by its arithmetic leap rule (Reingold and Dershowitz,
+/// *Calendrical Calculations*, "The French Revolutionary Calendar").
+///
+/// Its epoch, 1 Vendémiaire of year 1, is R.D. 654415, 22 September 1792 of the Gregorian calendar. Years
+/// count from 1; there is none before. A year has twelve months of 30 days and a thirteenth of 5 days,
+/// or of 6 in a leap year, where the year is divisible by 4 and not by 4000, and its remainder by 400
+/// is none of 100, 200 and 300.
+#[derive(Clone, Copy, Debug)]
+pub struct French;
+
+impl FromYearOne for French {
+    type Years = ThirteenMonths<FrenchLeapYears>;
+
+    ghost epoch_day = { french_rules.epoch };
+
+    fn epoch(&self) -> i64 {
+        654_415
+    }
+}
+
+impl CalendarByRules for French {
+    ghost one_to_one = { rules_one_to_one french_rules };
 }

@@ -8,11 +8,10 @@ use Rattle.std.specs.Fmt.{decimal}
 use Rattle.std.specs.List.{list_all}
 use Rattle.std.proofs.lemmas.Bool.Decides.{nat_tests}
 use Rattle.std.proofs.lemmas.List.Folds.{list_all-append}
-use Rattle.maya_calendars.specs.HaabNames.{haab_of, month_names, month_name}
-use Rattle.maya_calendars.specs.TzolkinNames.{tzolkin_of, name_texts, name_text}
+use Rattle.maya_calendars.specs.HaabNames.{month_names, month_name}
+use Rattle.maya_calendars.specs.TzolkinNames.{name_texts, name_text}
 use Rattle.maya_calendars.proofs.LawWords.{HaabDaysInRange, TzolkinNumbersInRange}
 use Rattle.date_texts.specs.declared.calendar.Calendar.{Calendar}
-use Rattle.date_texts.specs.declared.calendar.Target.TheVariants.{Date as DateTarget, Haab, Tzolkin}
 use Rattle.date_texts.specs.declared.date.Date.{Date}
 use Rattle.date_texts.specs.declared.date.Date.TheVariants.{Civil, Long, Roman}
 use Rattle.date_texts.specs.declared.grammar.Grammar.{Grammar}
@@ -27,6 +26,7 @@ use Rattle.date_texts.proofs.LongReadingLemmas.{LongParts}
 use Rattle.date_texts.proofs.RomanReadingLemmas.{RomanParts}
 use Rattle.date_texts.specs.DateText.{canonical_text}
 use Rattle.date_texts.proofs.LawWords.{CellsArePlain}
+use Rattle.date_texts.proofs.CellLemmas.{each_cell}
 use Rattle.date_texts.proofs.DateTextLemmas.{canonical_is}
 use Rattle.date_texts.proofs.ReadingLemmas.{both_true, decimal_numeral}
 use Rattle.date_texts.proofs.LongReadingLemmas.{canonical_long_is}
@@ -149,8 +149,7 @@ numbered_plain number name small h =
 
 -- the bytes of a cell are digits and letters of ASCII, spaces, dashes and dots
 pub cells_are_plain : HaabDaysInRange → TzolkinNumbersInRange → CellsArePlain
-cells_are_plain days numbers (DateTarget c) n text h = date_cell_plain c n text h
-cells_are_plain days numbers Haab n text h =
-    rw h (numbered_plain (haab_of n).0 _ (omega (arith, days n)) (month_plain (haab_of n).1))
-cells_are_plain days numbers Tzolkin n text h =
-    rw h (numbered_plain (tzolkin_of n).0 _ (omega (arith, numbers n)) (name_plain (tzolkin_of n).1))
+cells_are_plain days numbers =
+    each_cell ArePlain days numbers date_cell_plain
+    (λ number month small. numbered_plain number (month_name month) small (month_plain month))
+    (λ number place small. numbered_plain number (name_text place) small (name_plain place))

@@ -1,6 +1,5 @@
 -- A target and a day have one cell.
-use Rattle.std.proofs.Common.{◌≡◌, ℕ, List}
-use Rattle.std.proofs.Common.{Option, Some, None, ℤ, refl, sym, subst, ap, ◌∙◌}
+use Rattle.std.proofs.Common.{◌≡◌, ◌≤◌, ℕ, List, Option, Some, None, ℤ, refl, sym, subst, ap, ◌∙◌, arith}
 use Rattle.std.specs.Prelude.{IfSome, IsSome}
 use Rattle.day_numbers.specs.declared.ymd.Ymd.{Ymd}
 use Rattle.day_numbers.specs.Days.{IsSinceFirstDay}
@@ -19,7 +18,10 @@ use Rattle.date_texts.specs.Calendars.{day_number_by, first_day_by}
 use Rattle.date_texts.specs.Dates.{calendar_of_date, IsDateOfCalendar, day_number_of_date}
 use Rattle.date_texts.specs.CivilText.{canonical_civil}
 use Rattle.date_texts.specs.DateText.{canonical_text}
-use Rattle.date_texts.specs.Cells.{IsDateCell, on_date, no_date, IsCell}
+use Rattle.date_texts.specs.Cells.{IsDateCell, on_date, no_date, IsCell, numbered_name}
+use Rattle.maya_calendars.specs.HaabNames.{haab_of, month_name}
+use Rattle.maya_calendars.specs.TzolkinNames.{tzolkin_of, name_text}
+use Rattle.maya_calendars.proofs.LawWords.{HaabDaysInRange, TzolkinNumbersInRange}
 use Rattle.maya_calendars.proofs.LongCountLemmas.{one_long_count, day_since_epoch}
 use Rattle.date_texts.proofs.LawWords.{OneCell}
 use Rattle.date_texts.proofs.DatePartLemmas.{civil_same}
@@ -90,3 +92,15 @@ date_cell_is t c n x e h = rw e h
 pub civil_cell_is : (c : Calendar) (n : ℤ) (d : Ymd) (x : List ℕ) → IsCivil c → IsDateBy (reckoning c) d
     → day_number_by (reckoning c) d ≡ n → x ≡ canonical_civil (grammar c) d.year d.month d.day → IsDateCell c n x
 civil_cell_is c n d x civil h i e = on_date (Civil (record { calendar = c; ymd = d; civil = civil })) refl h i e
+
+-- what holds of each date's cell, and of each small number with the name of a month or of a day, holds of each cell
+pub each_cell : (P : List ℕ → Type 0) → HaabDaysInRange → TzolkinNumbersInRange
+    → ((c : Calendar) (n : ℤ) (text : List ℕ) → IsDateCell c n text → P text)
+    → ((number month : ℕ) → number ≤ 99 → P (numbered_name number (month_name month)))
+    → ((number place : ℕ) → number ≤ 99 → P (numbered_name number (name_text place)))
+    → (target : Target) (n : ℤ) (text : List ℕ) → IsCell target n text → P text
+each_cell P days numbers dates haabs tzolkins (DateTarget c) n text h = dates c n text h
+each_cell P days numbers dates haabs tzolkins Haab n text h =
+    subst P (sym h) (haabs (haab_of n).0 (haab_of n).1 (omega (arith, days n)))
+each_cell P days numbers dates haabs tzolkins Tzolkin n text h =
+    subst P (sym h) (tzolkins (tzolkin_of n).0 (tzolkin_of n).1 (omega (arith, numbers n)))

@@ -4,11 +4,10 @@ use Rattle.std.proofs.Common.{arith, length, length-append}
 use Rattle.std.specs.Prelude.{slice_get, unwrap_or, nat_le}
 use Rattle.std.specs.Fmt.{decimal}
 use Rattle.std.proofs.lemmas.Bool.Decides.{nat_tests}
-use Rattle.maya_calendars.specs.HaabNames.{haab_of, month_names, month_name}
-use Rattle.maya_calendars.specs.TzolkinNames.{tzolkin_of, name_texts, name_text}
+use Rattle.maya_calendars.specs.HaabNames.{month_names, month_name}
+use Rattle.maya_calendars.specs.TzolkinNames.{name_texts, name_text}
 use Rattle.maya_calendars.proofs.LawWords.{HaabDaysInRange, TzolkinNumbersInRange}
 use Rattle.date_texts.specs.declared.calendar.Calendar.{Calendar}
-use Rattle.date_texts.specs.declared.calendar.Target.TheVariants.{Date as DateTarget, Haab, Tzolkin}
 use Rattle.date_texts.specs.declared.date.Date.{Date}
 use Rattle.date_texts.specs.declared.date.Date.TheVariants.{Civil, Long, Roman}
 use Rattle.date_texts.specs.declared.grammar.Grammar.{Grammar}
@@ -23,6 +22,7 @@ use Rattle.date_texts.specs.LongText.{canonical_long}
 use Rattle.date_texts.specs.RomanText.{IsNameText, of_kalends, of_nones, of_ides, of_second_sixth}
 use Rattle.date_texts.specs.DateText.{canonical_text}
 use Rattle.date_texts.proofs.LawWords.{CellsAreShort}
+use Rattle.date_texts.proofs.CellLemmas.{each_cell}
 use Rattle.date_texts.proofs.DateTextLemmas.{canonical_is}
 use Rattle.date_texts.proofs.ReadingLemmas.{both_true, decimal_numeral}
 use Rattle.date_texts.proofs.WritingLemmas.{one_or_two}
@@ -141,8 +141,7 @@ numbered_length number name small h = omega (arith, length-append {A = ℕ}, one
 
 -- a cell has 16 bytes at most
 pub cells_are_short : HaabDaysInRange → TzolkinNumbersInRange → CellsAreShort
-cells_are_short days numbers (DateTarget c) n text h = date_cell_length c n text h
-cells_are_short days numbers Haab n text h =
-    rw h (numbered_length (haab_of n).0 _ (omega (arith, days n)) (month_length (haab_of n).1))
-cells_are_short days numbers Tzolkin n text h =
-    rw h (numbered_length (tzolkin_of n).0 _ (omega (arith, numbers n)) (day_name_length (tzolkin_of n).1))
+cells_are_short days numbers =
+    each_cell (λ text. length text ≤ 16) days numbers date_cell_length
+    (λ number month small. numbered_length number (month_name month) small (month_length month))
+    (λ number place small. numbered_length number (name_text place) small (day_name_length place))

@@ -6,9 +6,7 @@ use Rattle.std.specs.List.{list_all}
 use Rattle.std.specs.Str.{bytes_eq, str_to_ascii_lowercase}
 use Rattle.std.proofs.lemmas.Slice.Eq.{bytes_eq-Decides}
 use Rattle.date_texts.specs.declared.calendar.Calendar.{Calendar}
-use Rattle.date_texts.specs.declared.calendar.Calendar.TheVariants.{Gregorian, Iso, Julian, Coptic, Ethiopic}
-use Rattle.date_texts.specs.declared.calendar.Calendar.TheVariants.{Egyptian, Armenian, Islamic, Hebrew, Longcount}
-use Rattle.date_texts.specs.declared.calendar.Calendar.TheVariants.{French, Roman}
+use Rattle.date_texts.specs.declared.calendar.Calendar.TheVariants.{Gregorian}
 use Rattle.date_texts.specs.declared.calendar.Target.{Target}
 use Rattle.date_texts.specs.declared.calendar.Target.TheVariants.{Date, Haab, Tzolkin}
 use Rattle.date_texts.specs.Calendars.{calendar_name, target_name, all_targets}
@@ -26,17 +24,7 @@ target_by_name name = find (has_name name) all_targets
 
 pub finds_own : (t : Target) → target_by_name (target_name t) ≡ Some t
 finds_own (Date Gregorian) = refl
-finds_own (Date Iso) = refl
-finds_own (Date Julian) = refl
-finds_own (Date Coptic) = refl
-finds_own (Date Ethiopic) = refl
-finds_own (Date Egyptian) = refl
-finds_own (Date Armenian) = refl
-finds_own (Date Islamic) = refl
-finds_own (Date Hebrew) = refl
-finds_own (Date Longcount) = refl
-finds_own (Date French) = refl
-finds_own (Date Roman) = refl
+finds_own (Date c) = refl
 finds_own Haab = refl
 finds_own Tzolkin = refl
 

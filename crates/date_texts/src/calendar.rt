@@ -131,6 +131,13 @@ impl Calendar {
     }
 }
 
+/// The dates of these calendars, and targets that are no calendars.
+macro_rules! targets {
+    ($($calendar:ident),+; $($other:ident),+) => {
+        [$(Target::Date(Calendar::$calendar),)+ $(Target::$other),+]
+    };
+}
+
 /// How many targets there are, and so the most that a list can name of which none stands at two places.
 pub const MAX_TARGETS: usize = 14;
 
@@ -147,21 +154,9 @@ impl Target {
 
     /// Every target once, in the order in which a table has them by default: the calendars, the haab and
     /// the tzolkin.
-    pub const ALL: [Target; MAX_TARGETS] = [
-        Target::Date(Calendar::Gregorian),
-        Target::Date(Calendar::Iso),
-        Target::Date(Calendar::Julian),
-        Target::Date(Calendar::Coptic),
-        Target::Date(Calendar::Ethiopic),
-        Target::Date(Calendar::Egyptian),
-        Target::Date(Calendar::Armenian),
-        Target::Date(Calendar::Islamic),
-        Target::Date(Calendar::Hebrew),
-        Target::Date(Calendar::Longcount),
-        Target::Date(Calendar::French),
-        Target::Date(Calendar::Roman),
-        Target::Haab,
-        Target::Tzolkin,
+    pub const ALL: [Target; MAX_TARGETS] = targets![
+        Gregorian, Iso, Julian, Coptic, Ethiopic, Egyptian, Armenian, Islamic, Hebrew, Longcount, French, Roman;
+        Haab, Tzolkin
     ];
 
     /// The name in small letters, which heads the target's column.

@@ -277,26 +277,20 @@ fn days_have_cells_in_each_target(rt: HostRuntime) {
     }
 }
 
-/// A target, a day number and the cell of the day in the target's column: the first day of each calendar that has one,
-/// and the day before it, whose cell is empty; and known days of the calendars that have no first day, among them the
-/// ends of the range.
-static CELLS_OF_ONE_TARGET: &str = "\
+/// A target, a day number and the cell of the day in the target's column: the first day of each calendar that has one.
+static FIRST_CELLS: &str = "\
 coptic,103605,0001-01-01
-coptic,103604,
 ethiopic,2796,0001-01-01
-ethiopic,2795,
 egyptian,-272787,0001-01-01
-egyptian,-272788,
 armenian,201443,0001-01-01
-armenian,201442,
 islamic,227015,0001-01-01
-islamic,227014,
 hebrew,-1373427,0001-07-01
-hebrew,-1373428,
 longcount,-1137142,0.0.0.0.0
-longcount,-1137143,
 french,654415,0001-01-01
-french,654414,
+";
+
+/// The same of known days of the calendars that have no first day, among them the ends of the range.
+static CELLS_OF_ONE_TARGET: &str = "\
 gregorian,577736,1582-10-15
 julian,577736,1582-10-05
 roman,577736,1582-10-N3
@@ -317,16 +311,38 @@ julian,-3652424,-10000-03-19
 roman,-3652424,-10000-04-K14
 ";
 
+/// The target, the day and the cell on a line.
+fn cell_on(line: &str) -> Option<(Target, Day, &str)> {
+    let mut parts = line.split(',');
+    let target = target_named(parts.next()?)?;
+    let day = day_numbered(parts.next()?)?;
+    Some((target, day, parts.next()?))
+}
+
 /// Whether the day and the target on a line have the cell there.
 fn has_one_cell(line: &str) -> bool {
-    let mut parts = line.split(',');
-    let (Some(name), Some(number), Some(text)) = (parts.next(), parts.next(), parts.next()) else {
+    match cell_on(line) {
+        Some((target, day, text)) => has_cell(target, day, text),
+        None => false,
+    }
+}
+
+/// Whether they do, and the day before has an empty cell.
+fn has_first_cell(line: &str) -> bool {
+    let Some((target, day, text)) = cell_on(line) else {
         return false;
     };
-    let (Some(target), Some(day)) = (target_named(name), day_numbered(number)) else {
-        return false;
-    };
-    has_cell(target, day, text)
+    match Day::new(day.number() - 1) {
+        Some(before) => has_cell(target, day, text) && has_cell(target, before, ""),
+        None => false,
+    }
+}
+
+#[test]
+fn calendars_begin_with_a_cell(rt: HostRuntime) {
+    for line in FIRST_CELLS.lines() {
+        assert!(rt; has_first_cell(line), "at {line}");
+    }
 }
 
 #[test]

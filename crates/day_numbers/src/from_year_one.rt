@@ -8,34 +8,26 @@ ghost use Rattle.day_numbers.specs.declared.rules.Month.{Month};
 
 use crate::rules::{Month, RuledCalendar, Year};
 
-/// A calendar whose years begin with year 1, with the formulas by which its dates and days are found.
-pub trait FromYearOne {
-    /// The fixed day number of the first day of year 1.
-    ghost epoch_day: { ℤ };
-
+/// The years of a calendar from year 1 on, whichever day year 1 begins on, with the formulas by which they are found.
+pub trait YearRule {
     /// The months of each year, in the order in which they run.
     ghost months_of: { ℤ → List Month };
 
-    /// The fixed day number of the first day of year 1.
-    fn epoch(&self) -> i64
-        ensures value { result ≡ epoch_day }
-        ensures near { IsBetween (neg_ℤ (pos 2_000_000)) (pos 2_000_000) result };
-
     /// The days of the years 1 to `years`, which is at most 99999.
-    fn days_of_years(&self, years: u32) -> u32
+    fn days_of_years(years: u32) -> u32
         requires { years ≤ 99_999 }
         ensures value { result ≡ days_of (λ y. total_days (months_of y)) years }
         ensures near { result ≤ 50_000_000 };
 
     /// How many whole years the first `days` days from the epoch on fill; `days` is at most 6000000.
-    fn years_in(&self, days: u32) -> u32
+    fn years_in(days: u32) -> u32
         requires { days ≤ 6_000_000 }
         ensures near { result ≤ 99_998 }
         ensures after { days_of (λ y. total_days (months_of y)) result ≤ days }
         ensures before { days < days_of (λ y. total_days (months_of y)) (result + 1) };
 
     /// The months of a year from 1 to 99999, in the order in which they run.
-    fn months(&self, year: u32) -> &'static [Month]
+    fn months(year: u32) -> &'static [Month]
         requires low { 1 ≤ year }
         requires high { year ≤ 99_999 }
         ensures value { result.now ≡ months_of (pos year) }
@@ -44,7 +36,7 @@ pub trait FromYearOne {
 
     /// The number of the month that a place in the year lies in, counted from 0, and its day of that month; the year is
     /// from 1 to 99999.
-    fn month_at(&self, year: u32, place: u16) -> (u8, u8)
+    fn month_at(year: u32, place: u16) -> (u8, u8)
         requires low { 1 ≤ year }
         requires high { year ≤ 99_999 }
         requires inside { place < total_days (months_of (pos year)) }
@@ -54,36 +46,46 @@ pub trait FromYearOne {
         ensures small { (result.0 ≤ 99) × (result.1 ≤ 99) };
 }
 
-/// Such a calendar as one that is given by rules.
-#[derive(Drop)]
-pub struct YearsFromOne<'a, C>(pub &'a C);
+/// A calendar whose years begin with year 1, by its epoch and its years.
+pub trait FromYearOne {
+    /// Its years.
+    type Years: YearRule;
 
-impl<'a, C: FromYearOne> RuledCalendar for YearsFromOne<'a, C> {
-    ghost rules = { record { epoch = C.epoch_day; years = from_one; months = C.months_of } };
+    /// The fixed day number of the first day of year 1.
+    ghost epoch_day: { ℤ };
+
+    /// The fixed day number of the first day of year 1.
+    fn epoch(&self) -> i64
+        ensures value { result ≡ epoch_day }
+        ensures near { IsBetween (neg_ℤ (pos 2_000_000)) (pos 2_000_000) result };
+}
+
+impl<C: FromYearOne> RuledCalendar for C {
+    ghost rules = { record { epoch = C.epoch_day; years = from_one; months = C.Years.months_of } };
 
     fn has_year(&self, year: i32) -> bool {
         year >= 1
     }
 
     fn has_day(&self, day: i64) -> bool {
-        day >= self.0.epoch()
+        day >= self.epoch()
     }
 
     fn year(&self, number: i32) -> Year {
-        let days_before = self.0.days_of_years((number - 1) as u32);
+        let days_before = C::Years::days_of_years((number - 1) as u32);
         Year {
             number,
-            start: self.0.epoch() + days_before as i64,
-            months: self.0.months(number as u32),
+            start: self.epoch() + days_before as i64,
+            months: C::Years::months(number as u32),
         }
     }
 
     fn year_with(&self, day: i64) -> Year {
-        let years_before = self.0.years_in((day - self.0.epoch()) as u32);
+        let years_before = C::Years::years_in((day - self.epoch()) as u32);
         self.year(years_before as i32 + 1)
     }
 
     fn month_at(&self, year: Year, place: u16) -> (u8, u8) {
-        self.0.month_at(year.number as u32, place)
+        C::Years::month_at(year.number as u32, place)
     }
 }

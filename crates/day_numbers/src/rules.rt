@@ -23,6 +23,14 @@ pub struct Month {
     pub days: u8,
 }
 
+/// The months of these numbers and days, in the order in which they run.
+#[macro_export]
+macro_rules! months {
+    ($($number:literal: $days:literal),+ $(,)?) => {
+        [$($crate::rules::Month { number: $number, days: $days }),+]
+    };
+}
+
 /// A year of a calendar: its number, the fixed day number of its first day, and its months in the order in
 /// which they run.
 #[derive(Clone, Copy, Debug)]

@@ -180,16 +180,20 @@ placed ms place index start h numbers at e =
       small = number.small;
     }
 
--- the month of a place in a year from 1 on, where the test finds which of two it is
-pub placed_by : (y : ℤ) (ms : List Month) (starts : List ℕ) (place index : ℕ) → HasYear from_one y
+-- the index of the month of a place, where a test finds which of two it is
+abbrev pub index_of : List ℕ → ℕ → ℕ
+index_of starts place = place / 30 + bool_byte (leb (slice_index starts (place / 30 + 1)) place)
+
+-- that month, in a year from 1 on
+pub placed_by : (y : ℤ) (ms : List Month) (starts : List ℕ) (place : ℕ) → HasYear from_one y
     → ms ≡ hebrew_rules.months y → IsTrue (are_months ms) → place < total_days ms
     → ((i : ℕ) → i ≤ length ms → slice_index starts i ≡ total_days (take i ms))
-    → index ≡ place / 30 + bool_byte (leb (slice_index starts (place / 30 + 1)) place)
-    → IsPlacedIn ms place (slice_index starts index) (month_of ms index).number
-placed_by y ms starts place index has e numbers inside starts_are i =
+    → IsPlacedIn ms place (slice_index starts (index_of starts place)) (month_of ms (index_of starts place)).number
+placed_by y ms starts place has e numbers inside starts_are =
+    let index = index_of starts place in
     let by = by_length y ms has e in
     let evens : AreEven ms = rw by.3 (even by.0 by.1) in
     let few : length ms ≤ 13 = rw by.3 (twelve by.0 by.1) in
     let at =
-    holds ms place index (slice_index starts (place / 30 + 1)) evens few inside (starts_are (place / 30 + 1)) i in
+    holds ms place index (slice_index starts (place / 30 + 1)) evens few inside (starts_are (place / 30 + 1)) refl in
     placed ms place index (slice_index starts index) evens numbers at (starts_are index (omega (arith, at.inside)))

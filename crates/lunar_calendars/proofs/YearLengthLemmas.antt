@@ -54,24 +54,22 @@ IsStep leap a c past d t u w =
 year_step : (leap a c : Bool) (past d t u : ℕ) → t < 25_920 → u < 25_920 → past ≤ 1
     → 25_920 * past + u ≡ t + (if leap then 23_269 else 9_516) → (w : ℕ) → w < 7 → IsStep leap a c past d t u w
 unfolding IsStep
-year_step false a c zero d t u h k m e =
-    weekday_cases (IsStep false a c 0 d t u)
+year_step false a c past d t u h k m e =
+    weekday_cases (IsStep false a c past d t u)
     (grind (arith, nat_tests)) (grind (arith, nat_tests)) (grind (arith, nat_tests)) (grind (arith, nat_tests))
     (grind (arith, nat_tests)) (grind (arith, nat_tests)) (grind (arith, nat_tests))
-year_step false a c (suc zero) d t u h k m e =
-    weekday_cases (IsStep false a c 1 d t u)
+year_step true a c past d t u h k m e =
+    weekday_cases (IsStep true a c past d t u)
     (grind (arith, nat_tests)) (grind (arith, nat_tests)) (grind (arith, nat_tests)) (grind (arith, nat_tests))
     (grind (arith, nat_tests)) (grind (arith, nat_tests)) (grind (arith, nat_tests))
-year_step false a c (suc (suc n)) d t u h k m e = absurd (omega arith)
-year_step true a c zero d t u h k m e =
-    weekday_cases (IsStep true a c 0 d t u)
-    (grind (arith, nat_tests)) (grind (arith, nat_tests)) (grind (arith, nat_tests)) (grind (arith, nat_tests))
-    (grind (arith, nat_tests)) (grind (arith, nat_tests)) (grind (arith, nat_tests))
-year_step true a c (suc zero) d t u h k m e =
-    weekday_cases (IsStep true a c 1 d t u)
-    (grind (arith, nat_tests)) (grind (arith, nat_tests)) (grind (arith, nat_tests)) (grind (arith, nat_tests))
-    (grind (arith, nat_tests)) (grind (arith, nat_tests)) (grind (arith, nat_tests))
-year_step true a c (suc (suc n)) d t u h k m e = absurd (omega arith)
+
+-- the months of a year have so many days and parts, of whole weeks and a few days
+year_parts : (leap : Bool)
+    → (765_433 * (if leap then 13 else 12) ≡ 25_920 * (if leap then 383 else 354) + (if leap then 23_269 else 9_516))
+    × ((if leap then 383 else 354) ≡ 7 * (if leap then 54 else 50) + (if leap then 5 else 4))
+    × ((if leap then 23_269 else 9_516) ≤ 25_920)
+year_parts true = (refl, refl, omega arith)
+year_parts false = (refl, refl, omega arith)
 
 from_same : (low high m n i j : ℕ) → m ≡ i → n ≡ j → IsFrom low high m n → IsFrom low high i j
 from_same low high m n i j p q s = rw (← p, ← q) s
@@ -81,18 +79,14 @@ year_from : (leap a c : Bool) (d t d' t' : ℕ) → t < 25_920
     → t' ≡ (t + (if leap then 23_269 else 9_516)) % 25_920
     → IsFrom (if leap then 383 else 353) (if leap then 385 else 355) (opening leap a d t) (opening c leap d' t')
 unfolding IsStep
-year_from false a c d t d' t' h e f =
+year_from leap a c d t d' t' h e f =
+    let year = year_parts leap in
+    let past = (t + (if leap then 23_269 else 9_516)) / 25_920 in
     let step =
-    year_step false a c ((t + 9_516) / 25_920) d t t' h (omega (arith, f)) (omega arith) (omega (arith, f))
+    year_step leap a c past d t t' h (omega (arith, f)) (omega (arith, year)) (omega (arith, f))
     ((d + 1) % 7) (omega arith) in
-    let weekday : ((d + 1) % 7 + 4 + (t + 9_516) / 25_920) % 7 ≡ (d' + 1) % 7 = omega (arith, e) in
-    from_same _ _ _ _ _ _ (opening_is false a d t) (opening_is c false d' t') (rw (weekday, ← e) at step)
-year_from true a c d t d' t' h e f =
-    let step =
-    year_step true a c ((t + 23_269) / 25_920) d t t' h (omega (arith, f)) (omega arith) (omega (arith, f))
-    ((d + 1) % 7) (omega arith) in
-    let weekday : ((d + 1) % 7 + 5 + (t + 23_269) / 25_920) % 7 ≡ (d' + 1) % 7 = omega (arith, e) in
-    from_same _ _ _ _ _ _ (opening_is true a d t) (opening_is c true d' t') (rw (weekday, ← e) at step)
+    let weekday : ((d + 1) % 7 + (if leap then 5 else 4) + past) % 7 ≡ (d' + 1) % 7 = omega (arith, e, year) in
+    from_same _ _ _ _ _ _ (opening_is leap a d t) (opening_is c leap d' t') (rw (weekday, ← e) at step)
 
 -- the parts from a molad to the next year's
 parts_step : (n : ℕ) (leap : Bool) → is_leap_year (suc n) ≡ leap
@@ -102,16 +96,12 @@ parts_step n leap e = grind (arith, nat_tests, e)
 step_by : (n : ℕ) (leap : Bool) → is_leap_year (suc n) ≡ leap
     → IsFrom (if leap then 383 else 353) (if leap then 385 else 355) (new_year_after n) (new_year_after (suc n))
 unfolding new_year_after
-step_by n false e =
-    let more = parts_step n false e in
-    rw e (year_from false (is_leap_year n) (is_leap_year (suc (suc n))) (parts_after n / 25_920)
-    (parts_after n % 25_920) (parts_after (suc n) / 25_920) (parts_after (suc n) % 25_920) (omega arith)
-    (omega (arith, more)) (omega (arith, more)))
-step_by n true e =
-    let more = parts_step n true e in
-    rw e (year_from true (is_leap_year n) (is_leap_year (suc (suc n))) (parts_after n / 25_920) (parts_after n % 25_920)
-    (parts_after (suc n) / 25_920) (parts_after (suc n) % 25_920) (omega arith) (omega (arith, more))
-    (omega (arith, more)))
+step_by n leap e =
+    let more = parts_step n leap e in
+    let year = year_parts leap in
+    rw e (year_from leap (is_leap_year n) (is_leap_year (suc (suc n))) (parts_after n / 25_920) (parts_after n % 25_920)
+    (parts_after (suc n) / 25_920) (parts_after (suc n) % 25_920) (omega arith) (omega (arith, more, year))
+    (omega (arith, more, year)))
 
 year_grows : (n : ℕ) → IsFrom (if is_leap_year (suc n) then 383 else 353) (if is_leap_year (suc n) then 385 else 355)
     (new_year_after n) (new_year_after (suc n))

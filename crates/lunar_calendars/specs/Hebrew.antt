@@ -2,12 +2,12 @@
 -- the evening before and has 24 hours of 1080 parts, 25920 parts. A mean month has 29 days, 12 hours and 793 parts,
 -- 765433 parts. A molad is a mean new moon. A year opens on the day of the molad of its month Tishri, or up to two days
 -- later where one of four postponements holds. Months are numbered from Nisan = 1, so that Tishri is month 7.
-use Rattle.std.specs.Prelude.{ℕ, Bool, not, ◌&&◌, ◌||◌, List, [], ◌∷◌, map, sum, ◌≤◌, ◌+◌, ◌-◌, ◌*◌, ◌/◌, ◌%◌, ◌==◌}
-use Rattle.std.specs.Prelude.{nat_lt, nat_le, if◌then◌else◌, ℤ, neg_ℤ, pos, ◌+ℤ◌, ◌-ℤ◌, unsigned_abs}
+use Rattle.std.specs.Prelude.{ℕ, Bool, not, ◌&&◌, ◌||◌, List, [], ◌∷◌, ◌++◌, map, sum, ◌≤◌, ◌+◌, ◌-◌, ◌*◌, ◌/◌, ◌%◌}
+use Rattle.std.specs.Prelude.{◌==◌, nat_lt, nat_le, if◌then◌else◌, ℤ, neg_ℤ, pos, ◌+ℤ◌, ◌-ℤ◌, unsigned_abs}
 use Rattle.std.specs.List.{range_with_len}
 use Rattle.day_numbers.specs.declared.rules.Month.{Month}
 use Rattle.day_numbers.specs.Days.{weekday_number}
-use Rattle.day_numbers.specs.Rules.{Rules, from_one}
+use Rattle.day_numbers.specs.Rules.{Rules, from_one, numbered_from}
 
 -- the years 3, 6, 8, 11, 14, 17 and 19 of each 19
 abbrev pub is_leap_year : ℕ → Bool
@@ -65,21 +65,14 @@ year_lengths = 353 ∷ 354 ∷ 355 ∷ 383 ∷ 384 ∷ 385 ∷ []
 abbrev pub IsYearLength : Bool → ℕ → Type 0
 IsYearLength leap days = ((if leap then 383 else 353) ≤ days) × (days ≤ (if leap then 385 else 355))
 
--- a month of this number with so many days
-abbrev pub month : ℕ → ℕ → Month
-month number days = record { number = number; days = days }
-
--- Nisan to Elul
-abbrev pub nisan_to_elul : List Month
-nisan_to_elul = month 1 30 ∷ month 2 29 ∷ month 3 30 ∷ month 4 29 ∷ month 5 30 ∷ month 6 29 ∷ []
-
--- the months of a year, leap or not, with so many days, from Tishri on: Heshvan (8) is longer in a long year, Kislev
--- (9) is shorter in a short one, and a leap year has a first Adar (12) of 30 days before the second (13)
+-- the months of a year, leap or not, with so many days: from Tishri (7) to Adar (12, or 12 and 13), and from Nisan (1)
+-- to Elul. Heshvan (8) is longer in a long year, Kislev (9) is shorter in a short one, and a leap year has a first Adar
+-- of 30 days before the second
 abbrev pub months_by_length : Bool → ℕ → List Month
 months_by_length leap days =
-    month 7 30 ∷ month 8 (if (days == 355) || (days == 385) then 30 else 29)
-    ∷ month 9 (if (days == 353) || (days == 383) then 29 else 30) ∷ month 10 29 ∷ month 11 30
-    ∷ (if leap then month 12 30 ∷ month 13 29 ∷ nisan_to_elul else month 12 29 ∷ nisan_to_elul)
+    numbered_from 7 (30 ∷ (if (days == 355) || (days == 385) then 30 else 29)
+    ∷ (if (days == 353) || (days == 383) then 29 else 30) ∷ 29 ∷ 30 ∷ (if leap then 30 ∷ 29 ∷ [] else 29 ∷ []))
+    ++ numbered_from 1 (30 ∷ 29 ∷ 30 ∷ 29 ∷ 30 ∷ 29 ∷ [])
 
 abbrev pub months_of_year : ℕ → List Month
 months_of_year year = months_by_length (is_leap_year year) (days_in_year year)

@@ -2,13 +2,14 @@
 
 ghost use Rattle.std.specs.Prelude.{◌≡◌, ◌≤◌, ◌<◌, ◌+◌, pos, ◌+ℤ◌, ◌-ℤ◌, ◌≤ℤ◌, ◌<ℤ◌, IsTrue, length};
 ghost use Rattle.std.specs.Prelude.{ℕ, Bool, Contains, not, ◌&&◌, ◌||◌, ◌==◌, if◌then◌else◌, slice_index, take};
-ghost use Rattle.day_numbers.specs.Rules.{total_days, are_months, year_start, IsDateOf, day_number_of, first_day_of};
-ghost use Rattle.day_numbers.proofs.DateLemmas.{rules_one_date, rules_have_days};
+ghost use Rattle.day_numbers.specs.Rules.{total_days, are_months, year_start};
+ghost use Rattle.day_numbers.proofs.DateLemmas.{rules_one_to_one};
 ghost use Rattle.lunar_calendars.specs.Hebrew.{is_leap_year, epoch, postponed, new_year_of, days_in_year, year_lengths};
 ghost use Rattle.lunar_calendars.specs.Hebrew.{IsYearLength, months_by_length, hebrew_rules};
 
-use day_numbers::rules::{Month, RuledCalendar, Year, date_by_rules, day_by_rules};
-use day_numbers::{ArithmeticCalendar, DateFault, Day, Ymd};
+use day_numbers::by_rules::CalendarByRules;
+use day_numbers::months;
+use day_numbers::rules::{Month, RuledCalendar, Year};
 
 /// The Hebrew calendar, its months numbered from Nisan = 1.
 ///
@@ -97,34 +98,25 @@ fn days_of_year(year: u32) -> u16
 
 /// The months of a year with so many days in Heshvan (8), in Kislev (9) and in the months of Adar. In a common year a
 /// month 13 of no days follows them, which is none of the year's months.
-macro_rules! months {
+macro_rules! hebrew_months {
     (heshvan: $heshvan:literal, kislev: $kislev:literal, $($adar:literal: $days:literal),+ $(; no $none:literal)?) => {
-        [
-            Month { number: 7, days: 30 },
-            Month { number: 8, days: $heshvan },
-            Month { number: 9, days: $kislev },
-            Month { number: 10, days: 29 },
-            Month { number: 11, days: 30 },
-            $(Month { number: $adar, days: $days },)+
-            Month { number: 1, days: 30 },
-            Month { number: 2, days: 29 },
-            Month { number: 3, days: 30 },
-            Month { number: 4, days: 29 },
-            Month { number: 5, days: 30 },
-            Month { number: 6, days: 29 },
-            $(Month { number: $none, days: 0 },)?
+        months![
+            7: 30, 8: $heshvan, 9: $kislev, 10: 29, 11: 30,
+            $($adar: $days,)+
+            1: 30, 2: 29, 3: 30, 4: 29, 5: 30, 6: 29,
+            $($none: 0)?
         ]
     };
 }
 
 /// The months of a short, a regular and a long year, which are the first 12, and the 13 months of such leap years.
 static YEARS: [[Month; 13]; 6] = [
-    months!(heshvan: 29, kislev: 29, 12: 29; no 13),
-    months!(heshvan: 29, kislev: 30, 12: 29; no 13),
-    months!(heshvan: 30, kislev: 30, 12: 29; no 13),
-    months!(heshvan: 29, kislev: 29, 12: 30, 13: 29),
-    months!(heshvan: 29, kislev: 30, 12: 30, 13: 29),
-    months!(heshvan: 30, kislev: 30, 12: 30, 13: 29),
+    hebrew_months!(heshvan: 29, kislev: 29, 12: 29; no 13),
+    hebrew_months!(heshvan: 29, kislev: 30, 12: 29; no 13),
+    hebrew_months!(heshvan: 30, kislev: 30, 12: 29; no 13),
+    hebrew_months!(heshvan: 29, kislev: 29, 12: 30, 13: 29),
+    hebrew_months!(heshvan: 29, kislev: 30, 12: 30, 13: 29),
+    hebrew_months!(heshvan: 30, kislev: 30, 12: 30, 13: 29),
 ];
 
 /// The place in the year at which each of these months begins, and at the end the length of the year.
@@ -240,24 +232,8 @@ impl RuledCalendar for Hebrew {
     }
 }
 
-impl ArithmeticCalendar for Hebrew {
-    ghost IsDate = { λ d. IsDateOf hebrew_rules d.year d.month d.day };
-
-    ghost day_number = { λ d. day_number_of hebrew_rules d.year d.month d.day };
-
-    ghost first_day = { first_day_of hebrew_rules };
-
-    ghost one_date = { rules_one_date hebrew_rules };
-
-    ghost dates_have_days = { rules_have_days hebrew_rules };
-
-    fn day_of(&self, date: Ymd) -> Result<Day, DateFault> {
-        day_by_rules(self, date)
-    }
-
-    fn date_on(&self, day: Day) -> Option<Ymd> {
-        date_by_rules(self, day)
-    }
+impl CalendarByRules for Hebrew {
+    ghost one_to_one = { rules_one_to_one hebrew_rules };
 }
 
 /// The fixed day number of the Hebrew new year, 1 Tishri of `year`, which is from 1 to 100000.

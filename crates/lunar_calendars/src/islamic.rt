@@ -1,13 +1,14 @@
 //! The Islamic calendar: twelve months a year, and its leap years in rounds of 30.
 
 ghost use Rattle.std.specs.Prelude.{◌≡◌, ◌≤◌, ◌<◌, ◌+◌, unsigned_abs};
-ghost use Rattle.day_numbers.specs.Rules.{days_of_years as days_of, total_days, IsDateOf, day_number_of, first_day_of};
-ghost use Rattle.day_numbers.proofs.DateLemmas.{rules_one_date, rules_have_days};
+ghost use Rattle.day_numbers.specs.Rules.{days_of_years as days_of, total_days};
+ghost use Rattle.day_numbers.proofs.DateLemmas.{rules_one_to_one};
 ghost use Rattle.lunar_calendars.specs.Islamic.{is_leap_year, months_of_year, islamic_rules};
 
-use day_numbers::from_year_one::{FromYearOne, YearsFromOne};
-use day_numbers::rules::{Month, date_by_rules, day_by_rules};
-use day_numbers::{ArithmeticCalendar, DateFault, Day, Ymd};
+use day_numbers::by_rules::CalendarByRules;
+use day_numbers::from_year_one::{FromYearOne, YearRule};
+use day_numbers::months;
+use day_numbers::rules::Month;
 
 /// The arithmetic Islamic calendar, in which month 1 is Muharram and month 12 is Dhu al-Hijja.
 ///
@@ -19,29 +20,11 @@ use day_numbers::{ArithmeticCalendar, DateFault, Day, Ymd};
 #[derive(Clone, Copy, PartialEq, Eq, Debug)]
 pub struct Islamic;
 
-/// The months of a year whose last month has so many days.
-macro_rules! months {
-    (month 12: $days:literal) => {
-        [
-            Month { number: 1, days: 30 },
-            Month { number: 2, days: 29 },
-            Month { number: 3, days: 30 },
-            Month { number: 4, days: 29 },
-            Month { number: 5, days: 30 },
-            Month { number: 6, days: 29 },
-            Month { number: 7, days: 30 },
-            Month { number: 8, days: 29 },
-            Month { number: 9, days: 30 },
-            Month { number: 10, days: 29 },
-            Month { number: 11, days: 30 },
-            Month { number: 12, days: $days },
-        ]
-    };
-}
+static COMMON_YEAR: [Month; 12] =
+    months![1: 30, 2: 29, 3: 30, 4: 29, 5: 30, 6: 29, 7: 30, 8: 29, 9: 30, 10: 29, 11: 30, 12: 29];
 
-static COMMON_YEAR: [Month; 12] = months!(month 12: 29);
-
-static LEAP_YEAR: [Month; 12] = months!(month 12: 30);
+static LEAP_YEAR: [Month; 12] =
+    months![1: 30, 2: 29, 3: 30, 4: 29, 5: 30, 6: 29, 7: 30, 8: 29, 9: 30, 10: 29, 11: 30, 12: 30];
 
 fn is_leap(year: u32) -> bool
     requires { year ≤ 99_999 }
@@ -71,24 +54,18 @@ fn years_in(days: u32) -> u32
     (30 * days + 15) / 10_631
 }
 
-impl FromYearOne for Islamic {
-    ghost epoch_day = { islamic_rules.epoch };
-
+impl YearRule for Islamic {
     ghost months_of = { islamic_rules.months };
 
-    fn epoch(&self) -> i64 {
-        227_015
-    }
-
-    fn days_of_years(&self, years: u32) -> u32 {
+    fn days_of_years(years: u32) -> u32 {
         days_of_years(years)
     }
 
-    fn years_in(&self, days: u32) -> u32 {
+    fn years_in(days: u32) -> u32 {
         years_in(days)
     }
 
-    fn months(&self, year: u32) -> &'static [Month] {
+    fn months(year: u32) -> &'static [Month] {
         if is_leap(year) {
             &LEAP_YEAR
         } else {
@@ -96,7 +73,7 @@ impl FromYearOne for Islamic {
         }
     }
 
-    fn month_at(&self, _year: u32, place: u16) -> (u8, u8) {
+    fn month_at(_year: u32, place: u16) -> (u8, u8) {
         // By turns of 30 and 29 days, the months before the month of index i have (59 * i + 1) / 2.
         let index = (11 * place + 5) / 325;
         let before = (59 * index + 1) / 2;
@@ -104,22 +81,16 @@ impl FromYearOne for Islamic {
     }
 }
 
-impl ArithmeticCalendar for Islamic {
-    ghost IsDate = { λ d. IsDateOf islamic_rules d.year d.month d.day };
+impl FromYearOne for Islamic {
+    type Years = Islamic;
 
-    ghost day_number = { λ d. day_number_of islamic_rules d.year d.month d.day };
+    ghost epoch_day = { islamic_rules.epoch };
 
-    ghost first_day = { first_day_of islamic_rules };
-
-    ghost one_date = { rules_one_date islamic_rules };
-
-    ghost dates_have_days = { rules_have_days islamic_rules };
-
-    fn day_of(&self, date: Ymd) -> Result<Day, DateFault> {
-        day_by_rules(&YearsFromOne(self), date)
+    fn epoch(&self) -> i64 {
+        227_015
     }
+}
 
-    fn date_on(&self, day: Day) -> Option<Ymd> {
-        date_by_rules(&YearsFromOne(self), day)
-    }
+impl CalendarByRules for Islamic {
+    ghost one_to_one = { rules_one_to_one islamic_rules };
 }

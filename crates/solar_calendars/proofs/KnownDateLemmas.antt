@@ -10,67 +10,37 @@ use Rattle.solar_calendars.specs.declared.roman_date.RomanName.TheVariants.{Kale
 use Rattle.solar_calendars.specs.French.{french_rules}
 
 -- 29 February of year 0, and the day of the Ethiopic epoch
-gregorian_leap_day : day_number_of gregorian_rules (pos 0) 2 29 ≡ neg_ℤ (pos 306)
+gregorian_days : (day_number_of gregorian_rules (pos 0) 2 29 ≡ neg_ℤ (pos 306))
+    × (day_number_of gregorian_rules (pos 8) 8 27 ≡ pos 2_796)
 unfolding start_of_year days_of_years days_of_years_before
-gregorian_leap_day = refl
+gregorian_days = (refl, refl)
 
-gregorian_early_day : day_number_of gregorian_rules (pos 8) 8 27 ≡ pos 2_796
+-- 29 February of year -1, the year before year 1, and the Ides of March of year -44
+julian_days : (day_number_of julian_rules (neg_ℤ (pos 1)) 2 29 ≡ neg_ℤ (pos 308))
+    × (day_number_of julian_rules (neg_ℤ (pos 44)) 3 15 ≡ neg_ℤ (pos 15_999))
 unfolding start_of_year days_of_years days_of_years_before
-gregorian_early_day = refl
-
--- 29 February of year -1, the year before year 1
-julian_leap_day : day_number_of julian_rules (neg_ℤ (pos 1)) 2 29 ≡ neg_ℤ (pos 308)
-unfolding start_of_year days_of_years days_of_years_before
-julian_leap_day = refl
-
--- the Ides of March of year -44
-ides_of_march : day_number_of julian_rules (neg_ℤ (pos 44)) 3 15 ≡ neg_ℤ (pos 15_999)
-unfolding start_of_year days_of_years days_of_years_before
-ides_of_march = refl
-
-julian_no_year_zero : ¬ (IsDateOf julian_rules (pos 0) 1 1)
-julian_no_year_zero h = h.0
+julian_days = (refl, refl)
 
 -- the last day of week 52 of year 0, a Sunday, and the Monday after it
-week_before_year_one : week_day_number (pos 0) 52 7 ≡ pos 0
+week_days : (week_day_number (pos 0) 52 7 ≡ pos 0) × (week_day_number (pos 1) 1 1 ≡ pos 1)
 unfolding start_of_year days_of_years days_of_years_before week_year_start
-week_before_year_one = refl
+week_days = (refl, refl)
 
-week_of_year_one : week_day_number (pos 1) 1 1 ≡ pos 1
-unfolding start_of_year days_of_years days_of_years_before week_year_start
-week_of_year_one = refl
-
-coptic_leap_day : day_number_of coptic_rules (pos 3) 13 6 ≡ pos 104_700
-unfolding start_of_year days_of_years
-coptic_leap_day = refl
-
-coptic_common_year : ¬ (IsDateOf coptic_rules (pos 4) 13 6)
-coptic_common_year h = omega (arith, h.2)
-
-ethiopic_leap_day : day_number_of ethiopic_rules (pos 3) 13 6 ≡ pos 3_891
-unfolding start_of_year days_of_years
-ethiopic_leap_day = refl
-
-egyptian_last_day : day_number_of egyptian_rules (pos 1) 13 5 ≡ neg_ℤ (pos 272_423)
-unfolding start_of_year days_of_years
-egyptian_last_day = refl
-
-armenian_last_day : day_number_of armenian_rules (pos 1) 13 5 ≡ pos 201_807
-unfolding start_of_year days_of_years
-armenian_last_day = refl
-
-french_leap_day : day_number_of french_rules (pos 4) 13 6 ≡ pos 655_875
-unfolding start_of_year days_of_years
-french_leap_day = refl
-
-french_common_4000 : ¬ (IsDateOf french_rules (pos 4_000) 13 6)
-french_common_4000 h = omega (arith, h.2)
-
--- Roman dates of the year -1, which is a leap year
-second_sixth : roman_day_number (neg_ℤ (pos 1)) 3 SecondSixth ≡ neg_ℤ (pos 312)
+-- the second sixth and the first before the Kalends of March of year -1, which is a leap year
+roman_days : (roman_day_number (neg_ℤ (pos 1)) 3 SecondSixth ≡ neg_ℤ (pos 312))
+    × (roman_day_number (neg_ℤ (pos 1)) 3 (Kalends 6) ≡ neg_ℤ (pos 313))
 unfolding start_of_year days_of_years days_of_years_before
-second_sixth = refl
+roman_days = (refl, refl)
 
-sixth : roman_day_number (neg_ℤ (pos 1)) 3 (Kalends 6) ≡ neg_ℤ (pos 313)
-unfolding start_of_year days_of_years days_of_years_before
-sixth = refl
+-- the last days of years of thirteen months, leap where they have a sixth day
+thirteen_month_days : (day_number_of coptic_rules (pos 3) 13 6 ≡ pos 104_700)
+    × (day_number_of ethiopic_rules (pos 3) 13 6 ≡ pos 3_891)
+    × (day_number_of egyptian_rules (pos 1) 13 5 ≡ neg_ℤ (pos 272_423))
+    × (day_number_of armenian_rules (pos 1) 13 5 ≡ pos 201_807) × (day_number_of french_rules (pos 4) 13 6 ≡ pos 655_875)
+unfolding start_of_year days_of_years
+thirteen_month_days = (refl, refl, refl, refl, refl)
+
+-- there is no year 0, and these years are common
+no_dates : ¬ (IsDateOf julian_rules (pos 0) 1 1) × ¬ (IsDateOf coptic_rules (pos 4) 13 6)
+    × ¬ (IsDateOf french_rules (pos 4_000) 13 6)
+no_dates = (λ h. h.0, λ h. omega (arith, h.2), λ h. omega (arith, h.2))

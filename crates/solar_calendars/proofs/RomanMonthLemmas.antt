@@ -10,8 +10,8 @@ use Rattle.day_numbers.proofs.RulesLemmas.{next_year, start_next}
 use Rattle.day_numbers.proofs.SignedArithmeticLemmas.{signed_arith}
 use Rattle.solar_calendars.specs.Julian.{julian_rules, is_julian_leap}
 use Rattle.solar_calendars.specs.TwelveMonths.{twelve_months}
-use Rattle.solar_calendars.specs.RomanPlaces.{month_length, next_month, year_of_next_month}
-use Rattle.solar_calendars.specs.Roman.{day_of_ides, kalends, year_before, month_before, year_of_month_before}
+use Rattle.solar_calendars.specs.RomanPlaces.{kalends, month_length, next_month, year_of_next_month}
+use Rattle.solar_calendars.specs.Roman.{day_of_ides, year_before, month_before, year_of_month_before}
 use Rattle.solar_calendars.specs.Roman.{has_two_sixths}
 
 first_before : (ds : List ℕ) (k : ℕ) → days_before_month (numbered_from k ds) k ≡ 0
@@ -67,13 +67,13 @@ january y h =
 pub ides_small : (m : ℕ) → (13 ≤ day_of_ides m) × (day_of_ides m ≤ 15)
 ides_small m = grind (arith, nat_tests)
 
--- the month before a month: there and back, and how far the Kalends lie apart
+-- a month of a year that the calendar has
+abbrev pub IsMonth : ℤ → ℕ → Type 0
+IsMonth y m = HasYear without_zero y × (1 ≤ m) × (m ≤ 12)
+
+-- the month before a month: the way back to the month, and how far the Kalends lie apart
 pub record Follows (y : ℤ) (m : ℕ) (py : ℤ) (pm : ℕ) : Type 0 where
-  pub has : HasYear without_zero py
-  pub first : 1 ≤ pm
-  pub last : pm ≤ 12
-  pub year_back : year_of_month_before y m ≡ py
-  pub month_back : month_before m ≡ pm
+  pub is_month : IsMonth py pm
   pub year_on : year_of_next_month py pm ≡ y
   pub month_on : next_month pm ≡ m
   pub starts : kalends y m ≡ kalends py pm +ℤ pos (month_length py pm)
@@ -84,22 +84,14 @@ pub follows : (y : ℤ) (m : ℕ) → HasYear without_zero y → 1 ≤ m → m �
 follows y m h a b =
     elim (cases_eq m 1) [
       | inl e ↦ rw e (record {
-        has = (before_is y h).0;
-        first = omega arith;
-        last = omega arith;
-        year_back = refl;
-        month_back = refl;
+        is_month = ((before_is y h).0, omega arith, omega arith);
         year_on = (before_is y h).1;
         month_on = refl;
         starts = january y h;
         leaps = refl;
       })
       | inr n ↦ rw (ne_eqb m 1 n) (record {
-        has = h;
-        first = omega arith;
-        last = omega arith;
-        year_back = rw (ne_eqb m 1 n) refl;
-        month_back = rw (ne_eqb m 1 n) refl;
+        is_month = (h, omega arith, omega arith);
         year_on = rw (ne_eqb (m - 1) 12 (λ q. omega arith)) refl;
         month_on = rw (ne_eqb (m - 1) 12 (λ q. omega arith)) (omega arith);
         starts = omega (arith, signed_arith, months_follow (is_julian_leap y) m (omega arith) b);

@@ -8,13 +8,14 @@ use Rattle.day_numbers.specs.Rules.{without_zero, HasYear, IsDateOf, day_number_
 use Rattle.day_numbers.proofs.RulesLemmas.{next_year, date_unique}
 use Rattle.day_numbers.proofs.SignedArithmeticLemmas.{signed_arith}
 use Rattle.solar_calendars.specs.Julian.{julian_rules, is_julian_leap}
-use Rattle.solar_calendars.specs.Roman.{day_of_ides, kalends, month_before, year_before, year_of_month_before}
+use Rattle.solar_calendars.specs.Roman.{day_of_ides, month_before, year_before, year_of_month_before}
 use Rattle.solar_calendars.specs.Roman.{has_two_sixths, days_back, roman_day_number, IsRomanDate}
 use Rattle.solar_calendars.specs.declared.roman_date.RomanName.{RomanName}
 use Rattle.solar_calendars.specs.declared.roman_date.RomanName.TheVariants.{Kalends, Nones, Ides, SecondSixth}
-use Rattle.solar_calendars.specs.RomanPlaces.{month_length, next_month, year_of_next_month, IsPlaced, HasPlace, place}
+use Rattle.solar_calendars.specs.RomanPlaces.{kalends, month_length, next_month, year_of_next_month, IsPlaced, HasPlace}
+use Rattle.solar_calendars.specs.RomanPlaces.{place}
 use Rattle.solar_calendars.specs.RomanPlaces.{prior_length, prior_ides, name_within, name_after, RomanParts, parts_on}
-use Rattle.solar_calendars.proofs.RomanMonthLemmas.{follows, ides_small, months_small}
+use Rattle.solar_calendars.proofs.RomanMonthLemmas.{IsMonth, follows, ides_small, months_small}
 use Rattle.solar_calendars.proofs.RomanPlaceLemmas.{placed, number, small_prior, sixths_length}
 
 -- a day's name to the Ides has the day's place, and no other name has it
@@ -166,7 +167,7 @@ last_month y m name d h a b p more less at =
       year = year_of_month_before y m;
       month = month_before m;
       day = d;
-      is_date = (f.has, omega arith, less);
+      is_date = (f.is_month.0, omega arith, less);
       number = omega (arith, signed_arith, n, at, f.starts);
       same = after_ides (year_of_month_before y m) y (month_before m) m d (has_two_sixths y m) name more f.year_on
           f.month_on f.leaps x;
@@ -221,9 +222,7 @@ year_after (negsuc zero) h = (tt, refl)
 year_after (negsuc (suc n)) h = (tt, refl)
 
 record Next (y : ℤ) (m : ℕ) (ny : ℤ) (nm : ℕ) : Type 0 where
-  has : HasYear without_zero ny
-  first : 1 ≤ nm
-  last : nm ≤ 12
+  is_month : IsMonth ny nm
   year_back : year_of_month_before ny nm ≡ y
   month_back : month_before nm ≡ m
 
@@ -231,17 +230,12 @@ next : (y : ℤ) (m : ℕ) → HasYear without_zero y → 1 ≤ m → m ≤ 12 �
 next y m h a b =
     elim (cases_eq m 12) [
       | inl e ↦ rw e (record {
-        has = (year_after y h).0;
-        first = omega arith;
-        last = omega arith;
-        year_back =
-            (year_after y h).1;
+        is_month = ((year_after y h).0, omega arith, omega arith);
+        year_back = (year_after y h).1;
         month_back = refl;
       })
       | inr n ↦ rw (ne_eqb m 12 n) (record {
-        has = h;
-        first = omega arith;
-        last = omega arith;
+        is_month = (h, omega arith, omega arith);
         year_back = rw (ne_eqb (m + 1) 1 (λ q. omega arith)) refl;
         month_back = rw (ne_eqb (m + 1) 1 (λ q. omega arith)) (omega arith);
       })
@@ -262,7 +256,7 @@ named_is y m d h a b one long =
           let ny = year_of_next_month y m in
           let nm = next_month m in
           let x = next y m h a b in
-          let f = follows ny nm x.has x.first x.last in
+          let f = follows ny nm x.is_month.0 x.is_month.1 x.is_month.2 in
           let length : prior_length ny nm ≡ month_length y m = rw (x.year_back, x.month_back) refl in
           let two : has_two_sixths ny nm ≡ ((m == 2) && is_julian_leap y) = rw (x.year_back, x.month_back) at f.leaps in
           let starts : kalends ny nm ≡ kalends y m +ℤ pos (month_length y m) = rw (x.year_back, x.month_back)
@@ -271,7 +265,7 @@ named_is y m d h a b one long =
           let name = name_after (has_two_sixths ny nm) (prior_length ny nm) d in
           let w = after_placed (has_two_sixths ny nm) (day_of_ides nm) (prior_length ny nm) (prior_ides nm) d
           (sixths_length ny nm) (omega (arith, before)) (omega (arith, length)) in
-          let v = (placed ny nm name x.has x.first x.last).1 w.0 in
+          let v = (placed ny nm name x.is_month.0 x.is_month.1 x.is_month.2).1 w.0 in
           let n = number ny nm name w.0 in
           let e = after_ides y ny m nm d (has_two_sixths ny nm) name more refl refl two
           (ap (λ (z : ℕ). name_after (has_two_sixths ny nm) z d) (sym length)) in

@@ -6,12 +6,12 @@ use Rattle.day_numbers.specs.Rules.{without_zero, HasYear}
 use Rattle.day_numbers.specs.Days.{IsBetween}
 use Rattle.day_numbers.proofs.SignedArithmeticLemmas.{signed_arith}
 use Rattle.solar_calendars.specs.Julian.{is_julian_leap}
-use Rattle.solar_calendars.specs.Roman.{day_of_ides, kalends, nones, ides, month_before}
+use Rattle.solar_calendars.specs.Roman.{day_of_ides, month_before}
 use Rattle.solar_calendars.specs.Roman.{year_of_month_before, has_two_sixths, days_back, roman_day_number}
 use Rattle.solar_calendars.specs.Roman.{IsRomanDate}
 use Rattle.solar_calendars.specs.declared.roman_date.RomanName.{RomanName}
 use Rattle.solar_calendars.specs.declared.roman_date.RomanName.TheVariants.{Kalends, Nones, Ides, SecondSixth}
-use Rattle.solar_calendars.specs.RomanPlaces.{HasPlace, place, prior_length, prior_ides}
+use Rattle.solar_calendars.specs.RomanPlaces.{kalends, nones, ides, HasPlace, place, prior_length, prior_ides}
 use Rattle.solar_calendars.proofs.RomanMonthLemmas.{follows, ides_small, months_small}
 
 -- the arithmetic of a principal day, the one before it and a day that is counted back
@@ -31,7 +31,7 @@ ides_are y m h a b =
       signed_arith,
       f.starts,
       ides_small (month_before m),
-      months_small (is_julian_leap (year_of_month_before y m)) (month_before m) f.first f.last,
+      months_small (is_julian_leap (year_of_month_before y m)) (month_before m) f.is_month.1 f.is_month.2,
     )
 
 -- the month before is longer than its Ides are far
@@ -40,7 +40,7 @@ pub small_prior : (y : ℤ) (m : ℕ) → HasYear without_zero y → 1 ≤ m →
     × (prior_length y m ≤ 31)
 small_prior y m h a b =
     let f = follows y m h a b in
-    let n = months_small (is_julian_leap (year_of_month_before y m)) (month_before m) f.first f.last in
+    let n = months_small (is_julian_leap (year_of_month_before y m)) (month_before m) f.is_month.1 f.is_month.2 in
     let i = ides_small (month_before m) in
     (omega (arith, n, i), omega (arith, n, i), i.0, n.1)
 

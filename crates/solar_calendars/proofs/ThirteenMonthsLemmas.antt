@@ -1,9 +1,9 @@
 -- The days of years of thirteen months in closed form.
-use Rattle.std.proofs.Common.{◌≡◌, ℕ, zero, suc, ◌+◌, ◌*◌, ◌/◌, Bool, cond, arith, ℤ, pos}
+use Rattle.std.proofs.Common.{◌≡◌, ℕ, zero, suc, ◌+◌, ◌*◌, ◌/◌, Bool, false, cond, arith, ℤ, pos}
 use Rattle.std.proofs.lemmas.Bool.Decides.{nat_tests}
 use Rattle.day_numbers.specs.Rules.{days_of_years, total_days}
 use Rattle.day_numbers.proofs.RulesLemmas.{years_zero, years_suc}
-use Rattle.solar_calendars.specs.ThirteenMonths.{thirteen_months, is_third_of_four, is_never}
+use Rattle.solar_calendars.specs.ThirteenMonths.{thirteen_months, is_third_of_four}
 
 -- the days of a year, by whether it is a leap year
 abbrev pub length_by : (ℤ → Bool) → ℤ → ℕ
@@ -27,6 +27,6 @@ third_of_four_sum (suc n) =
       third_of_four_sum n,
     )
 
-pub never_sum : (n : ℕ) → days_of_years (λ y. total_days (thirteen_months (is_never y))) n ≡ 365 * n
+pub never_sum : (n : ℕ) → days_of_years (λ y. total_days (thirteen_months false)) n ≡ 365 * n
 never_sum zero = years_zero _
-never_sum (suc n) = omega (arith, years_suc (length_by is_never) n, never_sum n)
+never_sum (suc n) = omega (arith, years_suc (length_by (λ y. false)) n, never_sum n)

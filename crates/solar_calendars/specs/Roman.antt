@@ -16,16 +16,6 @@ day_of_ides month = if (month == 3) || (month == 5) || (month == 7) || (month ==
 abbrev pub day_of_nones : ℕ → ℕ
 day_of_nones month = day_of_ides month - 8
 
--- the day numbers of the principal days of a month
-abbrev pub kalends : ℤ → ℕ → ℤ
-kalends year month = day_number_of julian_rules year month 1
-
-abbrev pub nones : ℤ → ℕ → ℤ
-nones year month = day_number_of julian_rules year month (day_of_nones month)
-
-abbrev pub ides : ℤ → ℕ → ℤ
-ides year month = day_number_of julian_rules year month (day_of_ides month)
-
 -- the year before a year: -1 lies before 1
 abbrev pub year_before : ℤ → ℤ
 year_before (pos (suc (suc n))) = pos (suc n)
@@ -39,17 +29,17 @@ month_before month = if month == 1 then 12 else month - 1
 abbrev pub year_of_month_before : ℤ → ℕ → ℤ
 year_of_month_before year month = if month == 1 then year_before year else year
 
--- the principal day that a name counts back from
+-- the day number of the principal day that a name counts back from; the Kalends are day 1 of the month
 abbrev pub principal_day : ℤ → ℕ → RomanName → ℤ
-principal_day year month (Nones count) = nones year month
-principal_day year month (Ides count) = ides year month
-principal_day year month name = kalends year month
+principal_day year month (Nones count) = day_number_of julian_rules year month (day_of_nones month)
+principal_day year month (Ides count) = day_number_of julian_rules year month (day_of_ides month)
+principal_day year month name = day_number_of julian_rules year month 1
 
--- the principal day that precedes it; the Ides of the month before precede the Kalends
+-- that of the principal day before it: Kalends, Nones and Ides follow each other, and then the Kalends of the next month
 abbrev pub preceding_day : ℤ → ℕ → RomanName → ℤ
-preceding_day year month (Nones count) = kalends year month
-preceding_day year month (Ides count) = nones year month
-preceding_day year month name = ides (year_of_month_before year month) (month_before month)
+preceding_day year month (Nones count) = principal_day year month (Kalends 1)
+preceding_day year month (Ides count) = principal_day year month (Nones 1)
+preceding_day year month name = principal_day (year_of_month_before year month) (month_before month) (Ides 1)
 
 -- before the Kalends of March of a leap year two days are the sixth
 abbrev pub has_two_sixths : ℤ → ℕ → Bool

@@ -4,10 +4,21 @@ use Rattle.day_numbers.specs.Rules.{without_zero, days_of_month}
 use Rattle.day_numbers.proofs.RulesLemmas.{next_year}
 use Rattle.solar_calendars.specs.Julian.{is_julian_leap}
 use Rattle.solar_calendars.specs.TwelveMonths.{twelve_months}
-use Rattle.solar_calendars.specs.Roman.{day_of_ides, month_before, year_of_month_before, has_two_sixths, days_back}
+use Rattle.solar_calendars.specs.Roman.{day_of_ides, principal_day, month_before, year_of_month_before, has_two_sixths}
+use Rattle.solar_calendars.specs.Roman.{days_back}
 use Rattle.solar_calendars.specs.declared.roman_date.RomanName.{RomanName}
 use Rattle.solar_calendars.specs.declared.roman_date.RomanName.TheVariants.{Kalends, Nones, Ides, SecondSixth}
 use Rattle.solar_calendars.specs.declared.roman_date.RomanDate.{RomanDate}
+
+-- the day numbers of the principal days of a month
+abbrev pub kalends : ℤ → ℕ → ℤ
+kalends year month = principal_day year month (Kalends 1)
+
+abbrev pub nones : ℤ → ℕ → ℤ
+nones year month = principal_day year month (Nones 1)
+
+abbrev pub ides : ℤ → ℕ → ℤ
+ides year month = principal_day year month (Ides 1)
 
 abbrev pub month_length : ℤ → ℕ → ℕ
 month_length year month = days_of_month (twelve_months (is_julian_leap year)) month

@@ -28,14 +28,10 @@ coptic_rules = thirteen_month_rules (pos 103_605) is_third_of_four
 abbrev pub ethiopic_rules : Rules
 ethiopic_rules = thirteen_month_rules (pos 2_796) is_third_of_four
 
--- no year
-abbrev pub is_never : ℤ → Bool
-is_never y = false
-
--- from 26 February 747 before our era, Julian
+-- from 26 February 747 before our era, Julian, with no leap years
 abbrev pub egyptian_rules : Rules
-egyptian_rules = thirteen_month_rules (neg_ℤ (pos 272_787)) is_never
+egyptian_rules = thirteen_month_rules (neg_ℤ (pos 272_787)) (λ y. false)
 
--- from 11 July 552, Julian
+-- from 11 July 552, Julian, with none either
 abbrev pub armenian_rules : Rules
-armenian_rules = thirteen_month_rules (pos 201_443) is_never
+armenian_rules = thirteen_month_rules (pos 201_443) (λ y. false)

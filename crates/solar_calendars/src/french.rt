@@ -1,26 +1,11 @@
-//! The French Revolutionary calendar: thirteen months, and leap years by its arithmetic rule.
+//! The leap years of the French Revolutionary calendar.
 
 ghost use Rattle.std.specs.Prelude.{◌+◌, ◌*◌};
-ghost use Rattle.day_numbers.specs.Rules.{IsDateOf, day_number_of, first_day_of};
-ghost use Rattle.day_numbers.proofs.DateLemmas.{rules_one_date, rules_have_days};
-ghost use Rattle.solar_calendars.specs.French.{french_rules, is_french_leap};
+ghost use Rattle.solar_calendars.specs.French.{is_french_leap};
 
-use crate::thirteen_months::{LeapRule, ThirteenMonthCalendar, ThirteenMonths};
-use day_numbers::from_year_one::YearsFromOne;
-use day_numbers::rules::{date_by_rules, day_by_rules};
-use day_numbers::{ArithmeticCalendar, DateFault, Day, Ymd};
+use crate::thirteen_months::LeapRule;
 
-/// The French Revolutionary calendar by its arithmetic leap rule (Reingold and Dershowitz,
-/// *Calendrical Calculations*, "The French Revolutionary Calendar").
-///
-/// Its epoch, 1 Vendémiaire of year 1, is R.D. 654415, 22 September 1792 of the Gregorian calendar. Years
-/// count from 1; there is none before. A year has twelve months of 30 days and a thirteenth of 5 days,
-/// or of 6 in a leap year, where the year is divisible by 4 and not by 4000, and its remainder by 400
-/// is none of 100, 200 and 300.
-#[derive(Clone, Copy, Debug)]
-pub struct French;
-
-/// The leap rule of [`French`].
+/// The leap rule of [`French`](crate::French).
 pub struct FrenchLeapYears;
 
 impl LeapRule for FrenchLeapYears {
@@ -46,35 +31,5 @@ impl LeapRule for FrenchLeapYears {
         } else {
             most - 1
         }
-    }
-}
-
-impl ThirteenMonthCalendar for French {
-    type Leap = FrenchLeapYears;
-
-    ghost epoch_day = { french_rules.epoch };
-
-    fn epoch(&self) -> i64 {
-        654_415
-    }
-}
-
-impl ArithmeticCalendar for French {
-    ghost IsDate = { λ d. IsDateOf french_rules d.year d.month d.day };
-
-    ghost day_number = { λ d. day_number_of french_rules d.year d.month d.day };
-
-    ghost first_day = { first_day_of french_rules };
-
-    ghost one_date = { rules_one_date french_rules };
-
-    ghost dates_have_days = { rules_have_days french_rules };
-
-    fn day_of(&self, date: Ymd) -> Result<Day, DateFault> {
-        day_by_rules(&YearsFromOne(&ThirteenMonths(self)), date)
-    }
-
-    fn date_on(&self, day: Day) -> Option<Ymd> {
-        date_by_rules(&YearsFromOne(&ThirteenMonths(self)), day)
     }
 }

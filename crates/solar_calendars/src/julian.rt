@@ -3,14 +3,13 @@
 ghost use Rattle.std.specs.Prelude.{◌≡◌, pos, neg_ℤ, ◌+ℤ◌, ◌≤ℤ◌, ◌<ℤ◌};
 ghost use Rattle.day_numbers.specs.Days.{IsBetween, IsDayNumber};
 ghost use Rattle.day_numbers.specs.Dates.{IsYear};
-ghost use Rattle.day_numbers.specs.Rules.{HasYear, without_zero, year_start as start, year_length, IsDateOf};
-ghost use Rattle.day_numbers.specs.Rules.{day_number_of, first_day_of};
-ghost use Rattle.day_numbers.proofs.DateLemmas.{rules_one_date, rules_have_days};
+ghost use Rattle.day_numbers.specs.Rules.{HasYear, without_zero, year_start as start, year_length};
+ghost use Rattle.day_numbers.proofs.DateLemmas.{rules_one_to_one};
 ghost use Rattle.solar_calendars.specs.Julian.{julian_rules, is_julian_leap, years_before as count_before};
 
 use crate::twelve_months::{month_at, twelve_months};
-use day_numbers::rules::{RuledCalendar, Year, date_by_rules, day_by_rules};
-use day_numbers::{ArithmeticCalendar, DateFault, Day, Ymd};
+use day_numbers::by_rules::CalendarByRules;
+use day_numbers::rules::{RuledCalendar, Year};
 
 /// The Julian calendar (Reingold and Dershowitz, *Calendrical Calculations*, "The Julian Calendar").
 ///
@@ -107,23 +106,6 @@ impl RuledCalendar for Julian {
     }
 }
 
-impl ArithmeticCalendar for Julian {
-    ghost IsDate = { λ d. IsDateOf julian_rules d.year d.month d.day };
-
-    ghost day_number = { λ d. day_number_of julian_rules d.year d.month d.day };
-
-    ghost first_day = { first_day_of julian_rules };
-
-    ghost one_date = { rules_one_date julian_rules };
-
-    ghost dates_have_days = { rules_have_days julian_rules };
-
-    fn day_of(&self, date: Ymd) -> Result<Day, DateFault> {
-        day_by_rules(self, date)
-    }
-
-    #[inline(always)]
-    fn date_on(&self, day: Day) -> Option<Ymd> {
-        date_by_rules(self, day)
-    }
+impl CalendarByRules for Julian {
+    ghost one_to_one = { rules_one_to_one julian_rules };
 }

@@ -7,10 +7,6 @@
 //! [`roman_on`] do for it what the trait does for the others.
 #![tactic(auto)]
 
-mod armenian;
-mod coptic;
-mod egyptian;
-mod ethiopic;
 mod french;
 mod gregorian;
 mod iso_week;
@@ -21,13 +17,9 @@ mod roman_date;
 mod thirteen_months;
 mod twelve_months;
 
-pub use armenian::Armenian;
-pub use coptic::Coptic;
-pub use egyptian::Egyptian;
-pub use ethiopic::Ethiopic;
-pub use french::French;
 pub use gregorian::Gregorian;
 pub use iso_week::IsoWeek;
 pub use julian::Julian;
 pub use roman::{roman_day_of, roman_on};
 pub use roman_date::{RomanDate, RomanName};
+pub use thirteen_months::{Armenian, Coptic, Egyptian, Ethiopic, French};

@@ -1,40 +1,26 @@
 //! Calendars of twelve months of 30 days and a short thirteenth month, whose years begin with year 1.
 //!
-//! Such a calendar is its epoch and its leap rule: a [`ThirteenMonthCalendar`].
+//! Such a calendar is its epoch and its leap rule: its years are [`ThirteenMonths`].
 
-ghost use Rattle.std.specs.Prelude.{◌≡◌, ◌≤◌, ◌<◌, ◌+◌, Bool, ℤ, pos, neg_ℤ, IsTrue, length};
-ghost use Rattle.day_numbers.specs.Days.{IsBetween};
+ghost use Rattle.std.specs.Prelude.{◌≡◌, ◌≤◌, ◌<◌, ◌+◌, Bool, false, ℤ, pos, IsTrue, length};
 ghost use Rattle.day_numbers.specs.Rules.{days_of_years as days_of, total_days, are_months};
+ghost use Rattle.day_numbers.proofs.DateLemmas.{rules_one_to_one};
+ghost use Rattle.solar_calendars.specs.French.{french_rules};
 ghost use Rattle.solar_calendars.specs.ThirteenMonths.{thirteen_months as thirteen_months_of, is_third_of_four};
-ghost use Rattle.solar_calendars.specs.ThirteenMonths.{is_never};
+ghost use Rattle.solar_calendars.specs.ThirteenMonths.{coptic_rules, ethiopic_rules, egyptian_rules, armenian_rules};
 
-use day_numbers::from_year_one::FromYearOne;
+use crate::french::FrenchLeapYears;
+use day_numbers::by_rules::CalendarByRules;
+use day_numbers::from_year_one::{FromYearOne, YearRule};
+use day_numbers::months;
 use day_numbers::rules::Month;
+use std::marker::PhantomData;
 
-/// The months of a year whose last month has so many days.
-macro_rules! months {
-    (month 13: $days:literal) => {
-        [
-            Month { number: 1, days: 30 },
-            Month { number: 2, days: 30 },
-            Month { number: 3, days: 30 },
-            Month { number: 4, days: 30 },
-            Month { number: 5, days: 30 },
-            Month { number: 6, days: 30 },
-            Month { number: 7, days: 30 },
-            Month { number: 8, days: 30 },
-            Month { number: 9, days: 30 },
-            Month { number: 10, days: 30 },
-            Month { number: 11, days: 30 },
-            Month { number: 12, days: 30 },
-            Month { number: 13, days: $days },
-        ]
-    };
-}
+static COMMON: [Month; 13] =
+    months![1: 30, 2: 30, 3: 30, 4: 30, 5: 30, 6: 30, 7: 30, 8: 30, 9: 30, 10: 30, 11: 30, 12: 30, 13: 5];
 
-static COMMON: [Month; 13] = months!(month 13: 5);
-
-static LEAP: [Month; 13] = months!(month 13: 6);
+static LEAP: [Month; 13] =
+    months![1: 30, 2: 30, 3: 30, 4: 30, 5: 30, 6: 30, 7: 30, 8: 30, 9: 30, 10: 30, 11: 30, 12: 30, 13: 6];
 
 /// Twelve months of 30 days, and a thirteenth of 5 days, or of 6 in a leap year.
 fn thirteen_months(is_leap: bool) -> &'static [Month]
@@ -91,7 +77,7 @@ impl LeapRule for ThirdOfFour {
 pub struct NoLeapYear;
 
 impl LeapRule for NoLeapYear {
-    ghost is_leap_year = { is_never };
+    ghost is_leap_year = { λ y. false };
 
     fn is_leap(_year: u32) -> bool {
         false
@@ -106,46 +92,137 @@ impl LeapRule for NoLeapYear {
     }
 }
 
-/// A calendar of thirteen months by its epoch and its leap rule.
-pub trait ThirteenMonthCalendar {
-    /// The leap rule.
-    type Leap: LeapRule;
+/// The years of such a calendar, by its leap rule.
+pub struct ThirteenMonths<L>(PhantomData<L>);
 
-    /// The fixed day number of the first day of year 1.
-    ghost epoch_day: { ℤ };
+impl<L: LeapRule> YearRule for ThirteenMonths<L> {
+    ghost months_of = { λ y. thirteen_months_of (L.is_leap_year y) };
 
-    /// The fixed day number of the first day of year 1.
-    fn epoch(&self) -> i64
-        ensures value { result ≡ epoch_day }
-        ensures near { IsBetween (neg_ℤ (pos 2_000_000)) (pos 2_000_000) result };
-}
-
-/// The years and months of such a calendar.
-#[derive(Drop)]
-pub struct ThirteenMonths<'a, C>(pub &'a C);
-
-impl<'a, C: ThirteenMonthCalendar> FromYearOne for ThirteenMonths<'a, C> {
-    ghost epoch_day = { C.epoch_day };
-
-    ghost months_of = { λ y. thirteen_months_of (C.Leap.is_leap_year y) };
-
-    fn epoch(&self) -> i64 {
-        self.0.epoch()
+    fn days_of_years(years: u32) -> u32 {
+        L::days_of_years(years)
     }
 
-    fn days_of_years(&self, years: u32) -> u32 {
-        C::Leap::days_of_years(years)
+    fn years_in(days: u32) -> u32 {
+        L::years_in(days)
     }
 
-    fn years_in(&self, days: u32) -> u32 {
-        C::Leap::years_in(days)
+    fn months(year: u32) -> &'static [Month] {
+        thirteen_months(L::is_leap(year))
     }
 
-    fn months(&self, year: u32) -> &'static [Month] {
-        thirteen_months(C::Leap::is_leap(year))
-    }
-
-    fn month_at(&self, _year: u32, place: u16) -> (u8, u8) {
+    fn month_at(_year: u32, place: u16) -> (u8, u8) {
         ((place / 30) as u8 + 1, (place % 30) as u8 + 1)
     }
+}
+
+/// The Coptic calendar (Reingold and Dershowitz, *Calendrical Calculations*, "The Coptic and Ethiopic
+/// Calendars").
+///
+/// Its epoch, 1 Thoout of year 1, is R.D. 103605, 29 August 284 of the Julian calendar. Years count
+/// from 1; there is none before. A year has twelve months of 30 days and a thirteenth of 5 days, or of
+/// 6 in a leap year, where the year's remainder by 4 is 3.
+#[derive(Clone, Copy, Debug)]
+pub struct Coptic;
+
+impl FromYearOne for Coptic {
+    type Years = ThirteenMonths<ThirdOfFour>;
+
+    ghost epoch_day = { coptic_rules.epoch };
+
+    fn epoch(&self) -> i64 {
+        103_605
+    }
+}
+
+impl CalendarByRules for Coptic {
+    ghost one_to_one = { rules_one_to_one coptic_rules };
+}
+
+/// The Ethiopic calendar (Reingold and Dershowitz, *Calendrical Calculations*, "The Coptic and Ethiopic
+/// Calendars").
+///
+/// Its epoch, 1 Maskaram of year 1, is R.D. 2796, 29 August 8 of the Julian calendar. Its months and
+/// leap years are those of [`Coptic`]: a year, from 1 on, is a leap year where its remainder by 4 is 3.
+#[derive(Clone, Copy, Debug)]
+pub struct Ethiopic;
+
+impl FromYearOne for Ethiopic {
+    type Years = ThirteenMonths<ThirdOfFour>;
+
+    ghost epoch_day = { ethiopic_rules.epoch };
+
+    fn epoch(&self) -> i64 {
+        2_796
+    }
+}
+
+impl CalendarByRules for Ethiopic {
+    ghost one_to_one = { rules_one_to_one ethiopic_rules };
+}
+
+/// The Egyptian calendar (Reingold and Dershowitz, *Calendrical Calculations*, "Calendar Basics").
+///
+/// Its epoch, 1 Thoth of year 1 of Nabonassar, is R.D. -272787, 26 February 747 before our era in the
+/// Julian calendar. Years count from 1; there is none before. Every year has twelve months of 30 days
+/// and a thirteenth of 5 days.
+#[derive(Clone, Copy, Debug)]
+pub struct Egyptian;
+
+impl FromYearOne for Egyptian {
+    type Years = ThirteenMonths<NoLeapYear>;
+
+    ghost epoch_day = { egyptian_rules.epoch };
+
+    fn epoch(&self) -> i64 {
+        -272_787
+    }
+}
+
+impl CalendarByRules for Egyptian {
+    ghost one_to_one = { rules_one_to_one egyptian_rules };
+}
+
+/// The Armenian calendar (Reingold and Dershowitz, *Calendrical Calculations*, "Calendar Basics").
+///
+/// Its epoch, the first day of year 1, is R.D. 201443, 11 July 552 of the Julian calendar. Its years and
+/// months are those of [`Egyptian`]: from 1 on, with 365 days each.
+#[derive(Clone, Copy, Debug)]
+pub struct Armenian;
+
+impl FromYearOne for Armenian {
+    type Years = ThirteenMonths<NoLeapYear>;
+
+    ghost epoch_day = { armenian_rules.epoch };
+
+    fn epoch(&self) -> i64 {
+        201_443
+    }
+}
+
+impl CalendarByRules for Armenian {
+    ghost one_to_one = { rules_one_to_one armenian_rules };
+}
+
+/// The French Revolutionary calendar by its arithmetic leap rule (Reingold and Dershowitz,
+/// *Calendrical Calculations*, "The French Revolutionary Calendar").
+///
+/// Its epoch, 1 Vendémiaire of year 1, is R.D. 654415, 22 September 1792 of the Gregorian calendar. Years
+/// count from 1; there is none before. A year has twelve months of 30 days and a thirteenth of 5 days,
+/// or of 6 in a leap year, where the year is divisible by 4 and not by 4000, and its remainder by 400
+/// is none of 100, 200 and 300.
+#[derive(Clone, Copy, Debug)]
+pub struct French;
+
+impl FromYearOne for French {
+    type Years = ThirteenMonths<FrenchLeapYears>;
+
+    ghost epoch_day = { french_rules.epoch };
+
+    fn epoch(&self) -> i64 {
+        654_415
+    }
+}
+
+impl CalendarByRules for French {
+    ghost one_to_one = { rules_one_to_one french_rules };
 }

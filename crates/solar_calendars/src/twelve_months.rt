@@ -4,31 +4,14 @@ ghost use Rattle.std.specs.Prelude.{◌≡◌, ◌≤◌, ◌<◌, ◌+◌, IsTr
 ghost use Rattle.day_numbers.specs.Rules.{total_days, days_of_month, days_before_month, are_months};
 ghost use Rattle.solar_calendars.specs.TwelveMonths.{twelve_months as twelve_months_of};
 
+use day_numbers::months;
 use day_numbers::rules::Month;
 
-/// The months of a year whose February has so many days.
-macro_rules! months {
-    (month 2: $days:literal) => {
-        [
-            Month { number: 1, days: 31 },
-            Month { number: 2, days: $days },
-            Month { number: 3, days: 31 },
-            Month { number: 4, days: 30 },
-            Month { number: 5, days: 31 },
-            Month { number: 6, days: 30 },
-            Month { number: 7, days: 31 },
-            Month { number: 8, days: 31 },
-            Month { number: 9, days: 30 },
-            Month { number: 10, days: 31 },
-            Month { number: 11, days: 30 },
-            Month { number: 12, days: 31 },
-        ]
-    };
-}
+static COMMON: [Month; 12] =
+    months![1: 31, 2: 28, 3: 31, 4: 30, 5: 31, 6: 30, 7: 31, 8: 31, 9: 30, 10: 31, 11: 30, 12: 31];
 
-static COMMON: [Month; 12] = months!(month 2: 28);
-
-static LEAP: [Month; 12] = months!(month 2: 29);
+static LEAP: [Month; 12] =
+    months![1: 31, 2: 29, 3: 31, 4: 30, 5: 31, 6: 30, 7: 31, 8: 31, 9: 30, 10: 31, 11: 30, 12: 31];
 
 /// January to December, of a common year or of a leap year.
 pub fn twelve_months(is_leap: bool) -> &'static [Month]

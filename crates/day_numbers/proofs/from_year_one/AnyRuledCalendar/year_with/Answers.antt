@@ -2,7 +2,7 @@ use Rattle.std.proofs.Common.{arith, pos, suc, ◌≡◌, to_z, of_z, w32, ◌+�
 use Rattle.std.proofs.lemmas.Int.{ints}
 use Rattle.day_numbers.specs.Rules.{total_days}
 use Rattle.day_numbers.proofs.RulesLemmas.{sum_in_year}
-use Rattle.day_numbers.proofs.from_year_one.YearsFromOneRuledCalendar.year_with.Goals as goal
+use Rattle.day_numbers.proofs.from_year_one.AnyRuledCalendar.year_with.Goals as goal
 
 pub returns-clause-has : goal.returns-clause-has
 returns-clause-has g c =
@@ -16,7 +16,7 @@ returns-clause-after g c =
     ≡ pos (suc c.years_in-years_before.result) = omega (arith, ints) in
     rw (c.year.ensures.start, year)
     ((sum_in_year g.C.FromYearOne.epoch_day
-    (λ y. total_days (g.C.FromYearOne.months_of y)) c.args.day c.epoch.result c.years_in-years_before.result _
+    (λ y. total_days (g.C.Years.YearRule.months_of y)) c.args.day c.epoch.result c.years_in-years_before.result _
     c.years_in-years_before.ensures.after c.years_in-years_before.ensures.before c.epoch.ensures.value
     (omega (arith, ints))).0)
 
@@ -26,6 +26,6 @@ returns-clause-before g c =
     ≡ pos (suc c.years_in-years_before.result) = omega (arith, ints) in
     rw (c.year.ensures.start, c.year.ensures.months, year)
     ((sum_in_year g.C.FromYearOne.epoch_day
-    (λ y. total_days (g.C.FromYearOne.months_of y)) c.args.day c.epoch.result c.years_in-years_before.result _
+    (λ y. total_days (g.C.Years.YearRule.months_of y)) c.args.day c.epoch.result c.years_in-years_before.result _
     c.years_in-years_before.ensures.after c.years_in-years_before.ensures.before c.epoch.ensures.value
     (omega (arith, ints))).1)

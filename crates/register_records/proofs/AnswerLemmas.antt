@@ -1,30 +1,40 @@
--- The fields of an answer, while they are appended, and the cells that are cut from it.
+-- The fields of an answer, while they are appended, and the cells among them.
 use Rattle.std.proofs.Common.{◌≡◌, ◌<◌, ◌≤◌, ◌+◌, ◌++◌, ℕ, List, [], ◌∷◌, true, false, refl, sym, ap, ◌∙◌}
 use Rattle.std.proofs.Common.{add-one, arith, append_assoc, append-nil, drop, drop-cons, get_or, length, length-drop}
-use Rattle.std.proofs.Common.{map}
+use Rattle.std.proofs.Common.{map, subst}
 use Rattle.std.proofs.Common.{set, take}
-use Rattle.std.specs.Prelude.{ℤ, pos, negsuc, zero, suc, Ok, Err, Result}
+use Rattle.std.specs.Prelude.{◌==◌, ℤ, pos, negsuc, zero, suc, Bool, cond, Ok, Err, Result}
 use Rattle.std.specs.Fmt.{decimal, signed_decimal}
-use Rattle.std.specs.List.{AllZip}
+use Rattle.std.specs.List.{AllZip, flat_map, onto_first, slice_split}
+use Rattle.std.proofs.lemmas.Bool.{or_parts}
+use Rattle.std.proofs.lemmas.Bool.Decides.{nat_tests}
 use Rattle.std.proofs.lemmas.Fmt.{length-decimal-le, length_signed_le}
 use Rattle.std.proofs.lemmas.Int.{ints}
-use Rattle.std.proofs.lemmas.List.{map-append, take-append-le, take_all}
-use Rattle.std.proofs.Math.Seq.{drop-append_seam, take-append_seam}
+use Rattle.std.proofs.lemmas.List.{at_drop_more, map-append, take_all, take_at}
+use Rattle.std.proofs.lemmas.List.Splits.{length-slice_split}
 use borrow.Rule.Slice.PartMut.{put_mid}
-use Rattle.csv.specs.Writing.{fields_text, needs_quotes}
+use Rattle.csv.specs.Writing.{fields_text, needs_byte, needs_quotes}
 use Rattle.day_numbers.specs.Days.{IsDayNumber}
+use Rattle.day_numbers.specs.declared.day.Day.{Day}
 use Rattle.date_texts.specs.Cells.{IsCell}
 use Rattle.date_texts.specs.Refusals.{refusal_number}
 use Rattle.date_texts.specs.declared.calendar.Target.{Target}
 use Rattle.date_texts.specs.declared.refusal.Refusal.{Refusal}
 use Rattle.date_texts.specs.declared.refusal.Refusal.TheVariants as refused
 use Rattle.date_texts.proofs.LawWords.{CellsArePlain, OneCell}
-use Rattle.register_records.specs.Answers.{answer_text, cut_cells}
-use Rattle.register_records.specs.Columns.{cell_columns}
-use Rattle.register_records.specs.TableColumns.{answer_field, day_column, day_order, refusal_column}
-use Rattle.register_records.specs.Lines.{writing}
+use Rattle.register_records.specs.Answers.{cells_of, fields_of}
+use Rattle.register_records.specs.Columns.{Column, cell_columns}
+use Rattle.register_records.specs.TableColumns.{AreFields, IsCellField, answer_field, answer_order, answer_texts, answered}
+use Rattle.register_records.specs.LineRoom.{answer_room, answers_room}
+use Rattle.register_records.specs.Lines.{fields_behind, writing}
 use Rattle.register_records.specs.Outcomes.{AreCells}
+use Rattle.register_records.specs.Seen.{outcome_seen}
 use Rattle.register_records.specs.SetupRules.{is_delimiter}
+use Rattle.register_records.specs.declared.answers.Answer.{Answer}
+use Rattle.register_records.specs.declared.answers.TheConstants.{ANSWER_ROOM}
+use Rattle.register_records.specs.declared.table_columns.TableColumn.{TableColumn}
+use Rattle.register_records.specs.declared.table_columns.TableColumn.TheVariants.{DayNumber, Weekday}
+use Rattle.register_records.specs.declared.table_columns.TableColumn.TheVariants.{Refusal as RefusalColumn}
 use Rattle.register_records.proofs.LineLemmas.{more_fields_text, plain_bytes, plain_text, put_after}
 
 -- the bytes of fields behind delimiters
@@ -32,40 +42,85 @@ abbrev pub text : ℕ → List (List ℕ) → List ℕ
 text d fields = fields_text (writing d) fields
 
 -- of one that needs no quotes
-pub one_field : (d : ℕ) (field : List ℕ) → needs_quotes (writing d) field ≡ false
-    → text d (field ∷ []) ≡ d ∷ field
+one_field : (d : ℕ) (field : List ℕ) → needs_quotes (writing d) field ≡ false → text d (field ∷ []) ≡ d ∷ field
 unfolding fields_text
 one_field d field h = rw (plain_text d field h) (ap (λ (t : List ℕ). d ∷ t) (append-nil field))
 
--- of some, and of more
-pub more_text : (d : ℕ) (xs ys zs : List (List ℕ)) (old mid new : List ℕ) → mid ≡ old ++ text d xs
-    → new ≡ mid ++ text d ys → zs ≡ xs ++ ys → new ≡ old ++ text d zs
-more_text d xs ys zs old mid new m n z =
-    rw (n, m, z, more_fields_text d xs ys) (append_assoc old (text d xs) (text d ys))
+-- a delimiter cuts
+abbrev cuts : ℕ → ℕ → Bool
+cuts d b = b == d
+
+plain_byte_stays : (d b : ℕ) → needs_byte (writing d) b ≡ false → cuts d b ≡ false
+plain_byte_stays d b h = grind (arith, nat_tests)
+
+same_byte_cuts : (d : ℕ) → cuts d d ≡ true
+same_byte_cuts d = grind (arith, nat_tests)
+
+-- a field that needs no quotes is not cut
+plain_is_whole : (d : ℕ) (field : List ℕ) → needs_quotes (writing d) field ≡ false
+    → slice_split (cuts d) field ≡ field ∷ []
+plain_is_whole d [] h = refl
+plain_is_whole d (b ∷ field) h =
+    let both = or_parts (needs_byte (writing d) b) (needs_quotes (writing d) field) h in
+    rw (plain_byte_stays d b both.0, plain_is_whole d field both.1) refl
+
+-- one more part at the end
+part_behind : (b : ℕ) (parts : List (List ℕ)) (field : List ℕ) → 1 ≤ length parts
+    → onto_first b (parts ++ field ∷ []) ≡ onto_first b parts ++ field ∷ []
+part_behind b [] field some = absurd (omega arith)
+part_behind b (part ∷ parts) field some = refl
+
+part_after_first : (parts : List (List ℕ)) (field : List ℕ) → 1 ≤ length parts
+    → drop 1 (parts ++ field ∷ []) ≡ drop 1 parts ++ field ∷ []
+part_after_first [] field some = absurd (omega arith)
+part_after_first (part ∷ parts) field some = refl
+
+some_parts : (d : ℕ) (bytes : List ℕ) → 1 ≤ length (slice_split (cuts d) bytes)
+some_parts d bytes = omega (arith, length-slice_split (cuts d) bytes)
+
+one_more_part : (d : ℕ) (bytes field : List ℕ) → needs_quotes (writing d) field ≡ false
+    → slice_split (cuts d) (bytes ++ d ∷ field) ≡ slice_split (cuts d) bytes ++ field ∷ []
+one_more_part d [] field h = rw (same_byte_cuts d, plain_is_whole d field h) refl
+one_more_part d (b ∷ bytes) field h =
+    rw (one_more_part d bytes field h) (
+      elim (cuts d b) as (λ v. cond v ([] ∷ (slice_split (cuts d) bytes ++ field ∷ []))
+          (onto_first b (slice_split (cuts d) bytes ++ field ∷ []))
+          ≡ cond v ([] ∷ slice_split (cuts d) bytes) (onto_first b (slice_split (cuts d) bytes)) ++ field ∷ [])
+          [ true ↦ refl | false ↦ part_behind b (slice_split (cuts d) bytes) field (some_parts d bytes) ]
+    )
+
+-- the fields of some bytes, and of one more behind them
+pub record Grown (d : ℕ) (field old new : List ℕ) : Type 0 where
+  pub fields : fields_behind d new ≡ fields_behind d old ++ field ∷ []
+  pub plain : new ≡ text d (fields_behind d new)
+
+pub grown : (d : ℕ) (field old new : List ℕ) → needs_quotes (writing d) field ≡ false
+    → old ≡ text d (fields_behind d old) → new ≡ old ++ d ∷ field → Grown d field old new
+grown d field old new h before is =
+    let fields : fields_behind d new ≡ fields_behind d old ++ field ∷ [] =
+    ap (fields_behind d) is ∙ ap (drop 1) (one_more_part d old field h)
+    ∙ part_after_first (slice_split (cuts d) old) field (some_parts d old) in
+    let bytes : new ≡ text d (fields_behind d old) ++ text d (field ∷ []) =
+    is ∙ ap (λ (t : List ℕ). t ++ d ∷ field) before
+    ∙ ap (λ (t : List ℕ). text d (fields_behind d old) ++ t) (sym (one_field d field h)) in
+    record {
+      fields = fields;
+      plain = bytes ∙ sym (more_fields_text d (fields_behind d old) (field ∷ [])) ∙ ap (text d) (sym fields);
+    }
 
 -- a field that is put behind a delimiter
-pub put_field : (places field : List ℕ) (at d k : ℕ) → at < length places → needs_quotes (writing d) field ≡ false
-    → take (at + 1 + length field) (put_mid (at + 1) k (set places at d) field) ≡ take at places ++ text d (field ∷ [])
-put_field places field at d k lt plain =
+pub put_field : (places field : List ℕ) (at d k : ℕ) → at < length places
+    → take (at + 1 + length field) (put_mid (at + 1) k (set places at d) field) ≡ take at places ++ d ∷ field
+put_field places field at d k lt =
     put_after places field at d k (length field) lt (omega arith)
     ∙ ap (λ (t : List ℕ). take at places ++ d ∷ t) (take_all (length field) field (omega arith))
-    ∙ ap (λ (t : List ℕ). take at places ++ t) (sym (one_field d field plain))
 
--- a cell that is put behind a delimiter, in the room of one
-pub put_cell : (places room rest sub : List ℕ) (at d k n : ℕ) → at < length places → n ≤ length room
-    → sub ≡ room ++ rest → needs_quotes (writing d) (take n room) ≡ false
-    → take (at + (1 + n)) (put_mid (at + 1) k (set places at d) sub) ≡ take at places ++ text d (take n room ∷ [])
-put_cell places room rest sub at d k n lt few is plain =
+-- one that is put behind a delimiter in the room of a cell
+pub put_cell : (places room : List ℕ) (at d k n : ℕ) → at < length places → n ≤ length room
+    → take (at + (1 + n)) (put_mid (at + 1) k (set places at d) room) ≡ take at places ++ d ∷ take n room
+put_cell places room at d k n lt few =
     let same : at + (1 + n) ≡ at + 1 + n = omega arith in
-    let cut : take n sub ≡ take n room = ap (take n) is ∙ take-append-le n room rest few in
-    let long : n ≤ length sub = rw is (omega (arith, length_append_le room rest)) in
-    rw same (put_after places sub at d k n lt long)
-    ∙ ap (λ (t : List ℕ). take at places ++ d ∷ t) cut
-    ∙ ap (λ (t : List ℕ). take at places ++ t) (sym (one_field d (take n room) plain))
-  where
-    length_append_le : (room rest : List ℕ) → length room ≤ length (room ++ rest)
-    length_append_le [] rest = omega arith
-    length_append_le (x ∷ room) rest = omega (arith, length_append_le room rest)
+    rw same (put_after places room at d k n lt few)
 
 -- a day number has eight bytes at most, and a refusal's one
 pub day_length : (z : ℤ) → IsDayNumber z → length (signed_decimal z) ≤ 8
@@ -94,9 +149,16 @@ one_more_beside R [] (z ∷ ys) x y all h = absurd all
 one_more_beside R (w ∷ xs) [] x y all h = absurd all
 one_more_beside R (w ∷ xs) (z ∷ ys) x y all h = (all.0, one_more_beside R xs ys x y all.1 h)
 
+-- the field of a target needs no quotes
+pub plain_field : CellsArePlain → (d : ℕ) → is_delimiter d ≡ true → (o : Result ℤ Refusal) (t : Target) (field : List ℕ)
+    → IsCellField o t field → needs_quotes (writing d) field ≡ false
+plain_field law d h (Ok n) t field is = plain_bytes d h field (law t n field is)
+plain_field law d h (Err r) t field is = rw is refl
+
 -- what stands in the columns of the cells: on a day the cells, and else nothing
-pub day_cells : (n : ℤ) (place : ℕ) (all : List (List ℕ)) (ts : List Target) (cells : List (List ℕ))
-    → drop place all ≡ cells → AreCells ts (Ok n) cells → map (answer_field (Ok n) all) (cell_columns place ts) ≡ cells
+day_cells : (n : ℤ) (place : ℕ) (all : List (List ℕ)) (ts : List Target) (cells : List (List ℕ))
+    → drop place all ≡ cells → AreCells ts (Ok n) cells
+    → map (λ (c : Column). c.field (answered (Ok n) all)) (cell_columns place ts) ≡ cells
 day_cells n place all [] [] e a = refl
 day_cells n place all [] (x ∷ cells) e a = absurd a
 day_cells n place all (t ∷ ts) [] e a = absurd a
@@ -113,63 +175,68 @@ nothing_at : (place : ℕ) → get_or {A = List ℕ} [] place [] ≡ []
 nothing_at zero = refl
 nothing_at (suc place) = refl
 
-pub no_columns : (r : Refusal) (place : ℕ) (ts : List Target)
-    → map (answer_field (Err r) []) (cell_columns place ts) ≡ map {A = Target} {B = List ℕ} (λ t. []) ts
-no_columns r place [] = refl
-no_columns r place (t ∷ ts) =
-    let more = no_columns r (place + 1) ts in
+no_cells : (r : Refusal) (place : ℕ) (ts : List Target) (fields : List (List ℕ)) → AllZip (IsCellField (Err r)) ts fields
+    → map (λ (c : Column). c.field (answered (Err r) [])) (cell_columns place ts) ≡ fields
+no_cells r place [] [] a = refl
+no_cells r place [] (x ∷ fields) a = absurd a
+no_cells r place (t ∷ ts) [] a = absurd a
+no_cells r place (t ∷ ts) (x ∷ fields) a =
+    let more = no_cells r (place + 1) ts fields a.1 in
     let none = nothing_at place in
-    cc (more, none)
+    let nothing : x ≡ [] = a.0 in
+    cc (more, nothing)
 
--- the cells are what is cut from their fields by their lengths
-cut_back : CellsArePlain → (d : ℕ) → is_delimiter d ≡ true → (n : ℤ) (ts : List Target) (cells : List (List ℕ))
-    (rest : List ℕ) → AreCells ts (Ok n) cells → cut_cells (map length cells) (text d cells ++ rest) ≡ cells
-unfolding fields_text
-cut_back law d h n [] [] rest a = refl
-cut_back law d h n [] (x ∷ cells) rest a = absurd a
-cut_back law d h n (t ∷ ts) [] rest a = absurd a
-cut_back law d h n (t ∷ ts) (x ∷ cells) rest a =
-    let plain = plain_text d x (plain_bytes d h x (law t n x a.0)) in
-    let whole : text d (x ∷ cells) ++ rest ≡ d ∷ (x ++ (text d cells ++ rest)) =
-    ap (λ (y : List ℕ). (d ∷ (y ++ text d cells)) ++ rest) plain
-    ∙ ap (λ (y : List ℕ). d ∷ y) (append_assoc x (text d cells) rest) in
-    let behind : drop (1 + length x) (d ∷ (x ++ (text d cells ++ rest))) ≡ text d cells ++ rest =
-    rw (one_more_drop (length x)) (drop-append_seam x (text d cells ++ rest)) in
-    rw (whole, take-append_seam x (text d cells ++ rest), behind, cut_back law d h n ts cells rest a.1) refl
-  where
-    one_more_drop : (k : ℕ) → 1 + k ≡ suc k
-    one_more_drop k = omega arith
+-- there is room for the columns that are left
+pub room_left : (columns : List TableColumn) (i : ℕ) (e : TableColumn) (old new : ℕ) → i < length columns
+    → new ≤ old + answer_room (get_or columns i e) → old + answers_room (drop i columns) ≤ ANSWER_ROOM
+    → new + answers_room (drop (i + 1) columns) ≤ ANSWER_ROOM
+room_left columns i e old new lt grows room =
+    let split : answers_room (drop i columns) ≡ answer_room (get_or columns i e) + answers_room (drop (i + 1) columns) =
+    at_drop_more answers_room columns i e lt in
+    omega arith
 
--- they are cut from the answer
-pub cut_answer : CellsArePlain → (d : ℕ) → is_delimiter d ≡ true → (o : Result ℤ Refusal) (ts : List Target)
-    (cells : List (List ℕ)) (front rest : List ℕ) → AreCells ts o cells
-    → cut_cells (map length cells)
-    (drop (length front) (front ++ (text d (map (answer_field o cells) (cell_columns 0 ts)) ++ rest))) ≡ cells
-cut_answer law d h (Ok n) ts cells front rest a =
-    rw (drop-append_seam front _, day_cells n 0 cells ts cells refl a) (cut_back law d h n ts cells rest a)
-cut_answer law d h (Err r) ts [] front rest a = refl
-cut_answer law d h (Err r) ts (x ∷ cells) front rest a = cc
+-- as many stand beside a list as it has items
+as_many : {A B : Type 0} (R : A → B → Type 0) (xs : List A) (ys : List B) → AllZip R xs ys → length ys ≡ length xs
+as_many R [] [] all = refl
+as_many R [] (y ∷ ys) all = absurd all
+as_many R (x ∷ xs) [] all = absurd all
+as_many R (x ∷ xs) (y ∷ ys) all = ap suc (as_many R xs ys all.1)
 
--- the fields of an answer, from the first to the last
-joined : {X : Type 0} (d : ℕ) (first : List (List ℕ)) (f : X → List ℕ) (xs : List X) (last : X)
-    → (text d first ++ text d (map f xs)) ++ text d (f last ∷ []) ≡ text d (first ++ map f (xs ++ last ∷ []))
-joined d first f xs last =
-    rw (
-      map-append f xs (last ∷ []),
-      more_fields_text d first (map f xs ++ f last ∷ []),
-      more_fields_text d (map f xs) (f last ∷ []),
-    ) (append_assoc (text d first) (text d (map f xs)) (text d (f last ∷ [])))
+-- the fields of all columns of an answer: the cells stand among them
+pub record AreWhole (ts : List Target) (o : Result Day Refusal) (made fields : List (List ℕ)) : Type 0 where
+  pub cells : AreCells ts (outcome_seen o) made
+  pub written : fields ≡ answer_texts ts (outcome_seen o) made
 
-pub whole_answer : (d : ℕ) (ts : List Target) (o : Result ℤ Refusal) (cells : List (List ℕ))
-    → (text d (map (λ column. answer_field o [] (day_column column)) day_order)
-    ++ text d (map (answer_field o cells) (cell_columns 0 ts))) ++ text d (answer_field o [] refusal_column ∷ [])
-    ≡ answer_text d ts o cells
-whole_answer d ts (Ok n) cells =
-    joined d (map (λ column. answer_field (Ok n) [] (day_column column)) day_order) (answer_field (Ok n) cells)
-    (cell_columns 0 ts) refusal_column
-whole_answer d ts (Err r) cells =
-    joined d (map (λ column. answer_field (Err r) [] (day_column column)) day_order) (answer_field (Err r) cells)
-    (cell_columns 0 ts) refusal_column
+all_columns : (ts : List Target) (o : Result ℤ Refusal) (cells fields : List (List ℕ))
+    → map (λ (c : Column). c.field (answered o cells)) (cell_columns 0 ts) ≡ fields
+    → answer_field o DayNumber ∷ answer_field o Weekday ∷ (fields ++ answer_field o RefusalColumn ∷ [])
+    ≡ answer_texts ts o cells
+all_columns ts o cells fields e =
+    ap (λ (t : List (List ℕ)). answer_field o DayNumber ∷ answer_field o Weekday ∷ t)
+    (ap (λ (t : List (List ℕ)). t ++ answer_field o RefusalColumn ∷ []) (sym e)
+    ∙ sym (map-append (λ (c : Column). c.field (answered o cells)) (cell_columns 0 ts) _))
+
+pub whole_answer : (ts : List Target) (o : Result Day Refusal) (parts : List (List (List ℕ))) (answer : Answer)
+    → AllZip (AreFields ts (outcome_seen o)) answer_order parts → fields_of answer ≡ flat_map (λ part. part) parts
+    → AreWhole ts o (cells_of ts o answer) (fields_of answer)
+whole_answer ts o [] answer all is = absurd all
+whole_answer ts o (a ∷ []) answer all is = absurd all.1
+whole_answer ts o (a ∷ b ∷ []) answer all is = absurd all.1.1
+whole_answer ts o (a ∷ b ∷ c ∷ []) answer all is = absurd all.1.1.1
+whole_answer ts (Ok day) (a ∷ b ∷ c ∷ d ∷ []) answer all is =
+    let whole = rw (all.0, all.1.0, all.1.1.1.0) at is in
+    let same : cells_of ts (Ok day) answer ≡ c =
+    ap (λ (fields : List (List ℕ)). take (length ts) (drop 2 fields)) whole
+    ∙ take_at c _ (length ts) (as_many (IsCellField (Ok day.number)) ts c all.1.1.0) in
+    record {
+      cells = subst (λ (cells : List (List ℕ)). AreCells ts (Ok day.number) cells) (sym same) all.1.1.0;
+      written = whole ∙ all_columns ts (Ok day.number) c c (day_cells day.number 0 c ts c refl all.1.1.0)
+          ∙ ap (answer_texts ts (Ok day.number)) (sym same);
+    }
+whole_answer ts (Err r) (a ∷ b ∷ c ∷ d ∷ []) answer all is =
+    let whole = rw (all.0, all.1.0, all.1.1.1.0) at is in
+    record { cells = refl; written = whole ∙ all_columns ts (Err r) [] c (no_cells r 0 ts c all.1.1.0) }
+whole_answer ts o (a ∷ b ∷ c ∷ d ∷ e ∷ rest) answer all is = absurd all.1.1.1.1
 
 -- where one thing can stand beside each item of a list, one list can stand beside it
 pub one_beside : {A B : Type 0} (R : A → B → Type 0) → ((x : A) (y z : B) → R x y → R x z → y ≡ z)
@@ -189,12 +256,3 @@ pub one_cells : OneCell → (o : Result ℤ Refusal) (ts : List Target) (xs ys :
     → AreCells ts o ys → xs ≡ ys
 one_cells law (Err r) ts xs ys a b = a ∙ sym b
 one_cells law (Ok n) ts xs ys a b = one_beside (λ t cell. IsCell t n cell) (λ t x y. law t n x y) ts xs ys a b
-
--- one more of the empty fields that stand for the cells of a refused row
-pub one_empty : {X : Type 0} (xs : List X) (i : ℕ) → i < length xs
-    → map {A = X} {B = List ℕ} (λ x. []) (take i xs) ++ [] ∷ [] ≡ map {A = X} {B = List ℕ} (λ x. []) (take (i + 1) xs)
-one_empty [] i lt = absurd (omega arith)
-one_empty (x ∷ xs) zero lt = refl
-one_empty (x ∷ xs) (suc i) lt =
-    let e : suc i + 1 ≡ suc (i + 1) = omega arith in
-    rw e (ap (λ (fields : List (List ℕ)). [] ∷ fields) (one_empty xs i (omega arith)))

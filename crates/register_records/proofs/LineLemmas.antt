@@ -8,12 +8,13 @@ use Rattle.std.proofs.lemmas.Int.{ints}
 use Rattle.std.proofs.lemmas.Bool.{and_parts}
 use Rattle.std.proofs.lemmas.Bool.Decides.{nat_tests}
 use Rattle.std.proofs.lemmas.Fmt.{decimal_by_steps}
-use Rattle.std.proofs.lemmas.List.{map-append, take_more, take_more_set, take-append-le}
+use Rattle.std.proofs.lemmas.List.{flat_map_more, map-append, take_more, take_more_set, take-append-le}
 use Rattle.std.proofs.lemmas.List.{length-take-le}
 use Rattle.std.proofs.Math.Seq.{take-append-add}
 use borrow.Rule.Slice.PartMut.{put_mid}
 use Rattle.std.proofs.lemmas.List.Folds.{list_any-append}
-use Rattle.std.specs.List.{list_all}
+use Rattle.std.specs.List.{flat_map, list_all}
+use Rattle.std.specs.Result.{result_ok}
 use Rattle.csv.specs.Writing.{field_text, fields_text, is_blank, needs_byte, needs_quotes, row_body}
 use Rattle.csv.proofs.WriteFacts.{fields-snoc}
 use Rattle.day_numbers.specs.Days.{IsDayNumber}
@@ -22,14 +23,15 @@ use Rattle.register_records.specs.SetupRules.{is_delimiter}
 use Rattle.date_texts.specs.Cells.{is_plain}
 use Rattle.date_texts.specs.Calendars.{target_name}
 use Rattle.date_texts.specs.declared.calendar.Target.{Target}
-use Rattle.register_records.specs.Columns.{Column, answer_columns, cell_columns, heading, row_fields}
-use Rattle.register_records.specs.TableColumns.{answer_field, day_column, day_name, day_order, entry_field, entry_name}
-use Rattle.register_records.specs.TableColumns.{entry_order, refusal_column}
+use Rattle.register_records.specs.Columns.{Column, cell_columns, heading, row_fields, shown, weekday_text}
+use Rattle.register_records.specs.TableColumns.{answer_order, answer_texts, answered, column_name, column_names}
+use Rattle.register_records.specs.TableColumns.{entry_field, entry_order}
 use Rattle.register_records.specs.Outcomes.{TableRow}
 use Rattle.register_records.specs.declared.setups.Form.{Form}
 use Rattle.register_records.specs.declared.setups.Form.TheVariants.{Plain, Sealed}
-use Rattle.register_records.specs.declared.table_columns.EntryColumn.{EntryColumn}
-use Rattle.register_records.specs.declared.table_columns.EntryColumn.TheVariants.{Calendar, Date, Id, Note, Number}
+use Rattle.register_records.specs.declared.table_columns.TableColumn.{TableColumn}
+use Rattle.register_records.specs.declared.table_columns.TableColumn.TheVariants.{Calendar, Cells, Date, DayNumber, Id}
+use Rattle.register_records.specs.declared.table_columns.TableColumn.TheVariants.{Note, Number, Refusal, Weekday}
 use Rattle.register_records.specs.BareTexts.{has_special}
 use Rattle.register_records.proofs.BareLemmas.{unquoted}
 
@@ -73,11 +75,15 @@ one_item f d before first xs i e field new lt is n =
     n ∙ ap (λ (fields : List (List ℕ)). before ++ body d fields)
     (rw (take_more xs i e lt, map-append f (take i xs) (get_or xs i e ∷ []), is) (append_assoc first _ _))
 
-pub one_mapped : {X : Type 0} (f : X → List ℕ) (xs ys : List X) (i : ℕ) (e : X) → ys ≡ xs → i < length ys
-    → map f (take (i + 1) xs) ≡ map f (take i xs) ++ f (get_or ys i e) ∷ []
-one_mapped f xs ys i e same lt =
-    let inside : i < length xs = rw same at lt in
-    rw (same, take_more xs i e inside, map-append f (take i xs) (get_or xs i e ∷ [])) refl
+-- those of one more column
+pub one_column : (f : TableColumn → List (List ℕ)) (d : ℕ) (before : List ℕ) (first : List (List ℕ))
+    (columns : List TableColumn) (i : ℕ) (e : TableColumn) (new : List ℕ) → i < length columns
+    → new ≡ before ++ body d ((first ++ flat_map f (take i columns)) ++ f (get_or columns i e))
+    → new ≡ before ++ body d (first ++ flat_map f (take (i + 1) columns))
+one_column f d before first columns i e new lt is =
+    is ∙ ap (λ (fields : List (List ℕ)). before ++ body d fields)
+    (flat_map_more f first (take i columns) (get_or columns i e)
+    ∙ ap (λ (taken : List TableColumn). first ++ flat_map f taken) (sym (take_more columns i e lt)))
 
 -- more fields
 pub more_fields_text : (d : ℕ) (fields more : List (List ℕ))
@@ -142,28 +148,24 @@ plain_bytes d h (c ∷ text) p =
     let both = and_parts (is_plain c) (list_all is_plain text) p in
     rw (plain_cell_byte d c h both.0, plain_bytes d h text both.1) refl
 
--- the name of a column
-abbrev name_of : Column → List ℕ
-name_of column = column.name
-
--- what stands in the columns of a day
-abbrev day_fields : TableRow → List (List ℕ)
-day_fields row = map (λ column. (day_column column).field row) day_order
-
 -- the columns of an entry: the first has its number, the others its texts
-pub first_number : (form : Form) (e : EntryColumn) → get_or (entry_order form) 0 e ≡ Number
+pub first_number : (form : Form) (e : TableColumn) → get_or (entry_order form) 0 e ≡ Number
 first_number Plain e = refl
 first_number Sealed e = refl
 
 pub plain_column : (d : ℕ) → is_delimiter d ≡ true → (row : TableRow) → row.number < 2 ^ 64
-    → has_special row.body ≡ false → (column : EntryColumn) → needs_quotes (writing d) (entry_field row column) ≡ false
+    → has_special row.body ≡ false → (column : TableColumn) → needs_quotes (writing d) (entry_field row column) ≡ false
 plain_column d h row lt bare Number = plain_decimal d h row.number lt
 plain_column d h row lt bare Id = (unquoted d h row.body bare).0
 plain_column d h row lt bare Calendar = (unquoted d h row.body bare).1
 plain_column d h row lt bare Date = (unquoted d h row.body bare).2
 plain_column d h row lt bare Note = (unquoted d h row.body bare).3
+plain_column d h row lt bare DayNumber = refl
+plain_column d h row lt bare Weekday = refl
+plain_column d h row lt bare Cells = refl
+plain_column d h row lt bare Refusal = refl
 
-pub some_columns : {X : Type 0} (form : Form) (f : EntryColumn → X) → 1 ≤ length (map f (entry_order form))
+pub some_columns : {X : Type 0} (form : Form) (f : TableColumn → X) → 1 ≤ length (map f (entry_order form))
 some_columns Plain f = omega arith
 some_columns Sealed f = omega arith
 
@@ -176,13 +178,6 @@ pub same_line : (d e : ℕ) (before : List ℕ) (fields wanted : List (List ℕ)
     → fields ≡ wanted → bytes ≡ before ++ line_text d fields → bytes ≡ before ++ line_text e wanted
 same_line d e before fields wanted bytes p q h = rw (← p, ← q) h
 
--- the fields of a heading, from the first to the last
-pub behind : (a b c e : List (List ℕ)) → ((a ++ b) ++ c) ++ e ≡ a ++ (b ++ (c ++ e))
-behind a b c e = simp append_assoc refl
-
-pub two_fields : (fields : List (List ℕ)) (last : List ℕ) → 1 ≤ length fields → 2 ≤ length (fields ++ last ∷ [])
-two_fields fields last some = rw (length-append fields (last ∷ [])) (omega arith)
-
 pub some_fields : (fields more : List (List ℕ)) → 1 ≤ length fields → 1 ≤ length (fields ++ more)
 some_fields fields more some = rw (length-append fields more) (omega arith)
 
@@ -191,34 +186,45 @@ two_of fields rest a b = rw (length-append fields (a ∷ b ∷ rest)) (omega ari
 
 -- the names of the columns of a table
 name_columns : (place : ℕ) (ts : List Target)
-    → map name_of (cell_columns place ts ++ refusal_column ∷ []) ≡ map target_name ts ++ codes "refusal" ∷ []
+    → map (λ (c : Column). c.name) (cell_columns place ts) ≡ map target_name ts
 name_columns place [] = refl
 name_columns place (t ∷ ts) = ap (λ (names : List (List ℕ)). target_name t ∷ names) (name_columns (place + 1) ts)
 
+last_name : (ts : List Target) (last : Column)
+    → map (λ (c : Column). c.name) (cell_columns 0 ts ++ last ∷ []) ≡ map target_name ts ++ last.name ∷ []
+last_name ts last =
+    map-append (λ (c : Column). c.name) (cell_columns 0 ts) (last ∷ [])
+    ∙ ap (λ (names : List (List ℕ)). names ++ last.name ∷ []) (name_columns 0 ts)
+
 pub heading_names : (form : Form) (ts : List Target)
-    → heading form ts
-    ≡ map entry_name (entry_order form) ++ (map day_name day_order ++ (map target_name ts ++ codes "refusal" ∷ []))
+    → heading form ts ≡ map column_name (entry_order form) ++ flat_map (column_names ts) answer_order
 heading_names Plain ts =
-    ap (λ (names : List (List ℕ)). map entry_name (entry_order Plain) ++ (map day_name day_order ++ names))
-    (name_columns 0 ts)
+    ap (λ (names : List (List ℕ)). map column_name (entry_order Plain)
+    ++ (column_name DayNumber ∷ column_name Weekday ∷ names)) (last_name ts _)
 heading_names Sealed ts =
-    ap (λ (names : List (List ℕ)). map entry_name (entry_order Sealed) ++ (map day_name day_order ++ names))
-    (name_columns 0 ts)
+    ap (λ (names : List (List ℕ)). map column_name (entry_order Sealed)
+    ++ (column_name DayNumber ∷ column_name Weekday ∷ names)) (last_name ts _)
+
+pub two_names : (form : Form) (ts : List Target) → 2 ≤ length (heading form ts)
+two_names Plain ts = omega arith
+two_names Sealed ts = omega arith
 
 -- what stands in the columns of an answer tells nothing of the entry
-cell_fields : (row : TableRow) (place : ℕ) (ts : List Target)
-    → map (λ (column : Column). column.field row) (cell_columns place ts ++ refusal_column ∷ [])
-    ≡ map (answer_field row.outcome row.cells) (cell_columns place ts ++ refusal_column ∷ [])
-cell_fields row place [] = refl
-cell_fields row place (t ∷ ts) =
-    ap (λ (fields : List (List ℕ)). get_or row.cells place [] ∷ fields) (cell_fields row (place + 1) ts)
+cell_fields : (row : TableRow) (place : ℕ) (ts : List Target) (last : Column) (field : List ℕ) → last.field row ≡ field
+    → last.field (answered row.outcome row.cells) ≡ field
+    → map (λ (column : Column). column.field row) (cell_columns place ts ++ last ∷ [])
+    ≡ map (λ (column : Column). column.field (answered row.outcome row.cells)) (cell_columns place ts ++ last ∷ [])
+cell_fields row place [] last field a b = ap (λ (f : List ℕ). f ∷ []) (a ∙ sym b)
+cell_fields row place (t ∷ ts) last field a b =
+    ap (λ (fields : List (List ℕ)). get_or row.cells place [] ∷ fields) (cell_fields row (place + 1) ts last field a b)
 
 pub fields_in_parts : (form : Form) (ts : List Target) (row : TableRow)
-    → row_fields form ts row
-    ≡ map (entry_field row) (entry_order form) ++ map (answer_field row.outcome row.cells) (answer_columns ts)
+    → row_fields form ts row ≡ map (entry_field row) (entry_order form) ++ answer_texts ts row.outcome row.cells
 fields_in_parts Plain ts row =
-    ap (λ (fields : List (List ℕ)). map (entry_field row) (entry_order Plain) ++ (day_fields row ++ fields))
-    (cell_fields row 0 ts)
+    ap (λ (fields : List (List ℕ)). map (entry_field row) (entry_order Plain)
+    ++ (shown signed_decimal (result_ok row.outcome) ∷ shown weekday_text (result_ok row.outcome) ∷ fields))
+    (cell_fields row 0 ts _ _ refl refl)
 fields_in_parts Sealed ts row =
-    ap (λ (fields : List (List ℕ)). map (entry_field row) (entry_order Sealed) ++ (day_fields row ++ fields))
-    (cell_fields row 0 ts)
+    ap (λ (fields : List (List ℕ)). map (entry_field row) (entry_order Sealed)
+    ++ (shown signed_decimal (result_ok row.outcome) ∷ shown weekday_text (result_ok row.outcome) ∷ fields))
+    (cell_fields row 0 ts _ _ refl refl)

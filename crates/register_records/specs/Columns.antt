@@ -34,33 +34,26 @@ abbrev pub note_columns : Form → List Column
 note_columns Plain = []
 note_columns Sealed = column (codes "note") (λ row. shown (λ (t : Texts). t.note) (result_ok row.body)) ∷ []
 
--- the columns of an entry: its number, and its texts, which a record that was refused before has not
-abbrev pub entry_columns : Form → List Column
-entry_columns form =
-    column (codes "row") (λ row. decimal row.number)
-    ∷ column (codes "id") (λ row. shown (λ (t : Texts). t.id) (result_ok row.body))
-    ∷ column (codes "calendar") (λ row. shown (λ (t : Texts). t.calendar) (result_ok row.body))
-    ∷ column (codes "date") (λ row. shown (λ (t : Texts). t.date) (result_ok row.body))
-    ∷ note_columns form
-
 -- the columns of cells: each has the name of its target, and the cell at its place, which a refused row has not
 abbrev pub cell_columns : ℕ → List Target → List Column
 cell_columns place [] = []
 cell_columns place (target ∷ targets) =
     column (target_name target) (λ row. get_or row.cells place []) ∷ cell_columns (place + 1) targets
 
--- the columns of an answer: those of a day, which a refused row has not, and that of the refusal
-abbrev pub answer_columns : List Target → List Column
-answer_columns targets =
-    column (codes "rd") (λ row. shown signed_decimal (result_ok row.outcome))
+-- the columns of a table, in order: the number of an entry and its texts, which a record that was refused before has
+-- not; and its answer: the day, which a refused row has not, and the refusal
+abbrev pub columns : Form → List Target → List Column
+columns form targets =
+    column (codes "row") (λ row. decimal row.number)
+    ∷ column (codes "id") (λ row. shown (λ (t : Texts). t.id) (result_ok row.body))
+    ∷ column (codes "calendar") (λ row. shown (λ (t : Texts). t.calendar) (result_ok row.body))
+    ∷ column (codes "date") (λ row. shown (λ (t : Texts). t.date) (result_ok row.body))
+    ∷ (note_columns form
+    ++ column (codes "rd") (λ row. shown signed_decimal (result_ok row.outcome))
     ∷ column (codes "weekday") (λ row. shown weekday_text (result_ok row.outcome))
     ∷ (cell_columns 0 targets
     ++ column (codes "refusal") (λ row. shown (λ (r : Refusal). decimal (refusal_number r)) (result_err row.outcome))
-    ∷ [])
-
--- the columns of a table, in order
-abbrev pub columns : Form → List Target → List Column
-columns form targets = entry_columns form ++ answer_columns targets
+    ∷ []))
 
 -- the heading, and the fields of a row
 abbrev pub heading : Form → List Target → List (List ℕ)

@@ -1,56 +1,82 @@
 -- The columns of a table as the code goes through them. No public contract cites this file.
-use Rattle.std.specs.Prelude.{ℕ, ℤ, List, [], ◌∷◌, get_or, Result, Err}
+use Rattle.std.specs.Prelude.{◌≡◌, ℕ, ℤ, List, [], ◌∷◌, drop, get_or, map, take, Result, Ok, Err}
+use Rattle.std.specs.List.{AllZip}
+use Rattle.date_texts.specs.Calendars.{target_name}
+use Rattle.date_texts.specs.Cells.{IsCell}
+use Rattle.date_texts.specs.declared.calendar.Target.{Target}
 use Rattle.date_texts.specs.declared.refusal.Refusal.{Refusal}
 use Rattle.date_texts.specs.declared.refusal.Refusal.TheVariants.{FieldCount}
-use Rattle.register_records.specs.Columns.{Column, answer_columns, entry_columns}
+use Rattle.register_records.specs.Columns.{Column, column, columns}
 use Rattle.register_records.specs.Outcomes.{TableRow}
 use Rattle.register_records.specs.declared.setups.Form.{Form}
 use Rattle.register_records.specs.declared.setups.Form.TheVariants.{Plain, Sealed}
-use Rattle.register_records.specs.declared.table_columns.DayColumn.{DayColumn}
-use Rattle.register_records.specs.declared.table_columns.DayColumn.TheVariants.{DayNumber, Weekday}
-use Rattle.register_records.specs.declared.table_columns.EntryColumn.{EntryColumn}
-use Rattle.register_records.specs.declared.table_columns.EntryColumn.TheVariants.{Calendar, Date, Id, Note, Number}
+use Rattle.register_records.specs.declared.table_columns.TableColumn.{TableColumn}
+use Rattle.register_records.specs.declared.table_columns.TableColumn.TheVariants.{Calendar, Cells, Date, DayNumber, Id}
+use Rattle.register_records.specs.declared.table_columns.TableColumn.TheVariants.{Note, Number, Weekday}
+use Rattle.register_records.specs.declared.table_columns.TableColumn.TheVariants.{Refusal as RefusalColumn}
 
--- the column at a place
-abbrev pub column_at : ℕ → List Column → Column
-column_at place columns = get_or columns place (record { name = []; field = λ row. [] })
+-- those of the code, in order: `Cells` is one column for each target
+abbrev pub column_order : List TableColumn
+column_order = Number ∷ Id ∷ Calendar ∷ Date ∷ Note ∷ DayNumber ∷ Weekday ∷ Cells ∷ RefusalColumn ∷ []
 
--- a column of an entry: it stands at this place among those of a sealed form
-abbrev pub entry_column : EntryColumn → Column
-entry_column Number = column_at 0 (entry_columns Sealed)
-entry_column Id = column_at 1 (entry_columns Sealed)
-entry_column Calendar = column_at 2 (entry_columns Sealed)
-entry_column Date = column_at 3 (entry_columns Sealed)
-entry_column Note = column_at 4 (entry_columns Sealed)
+-- those of an entry, and those of an answer
+abbrev pub entry_order : Form → List TableColumn
+entry_order Plain = take 4 column_order
+entry_order Sealed = take 5 column_order
 
-abbrev pub entry_name : EntryColumn → List ℕ
-entry_name column = (entry_column column).name
+abbrev pub answer_order : List TableColumn
+answer_order = drop 5 column_order
 
-abbrev pub entry_field : TableRow → EntryColumn → List ℕ
-entry_field row column = (entry_column column).field row
+-- where a column stands in a sealed table of no targets, in which the cells have no place
+abbrev pub column_place : TableColumn → ℕ
+column_place Number = 0
+column_place Id = 1
+column_place Calendar = 2
+column_place Date = 3
+column_place Note = 4
+column_place DayNumber = 5
+column_place Weekday = 6
+column_place RefusalColumn = 7
+column_place Cells = 8
 
--- those of a form, in order
-abbrev pub entry_order : Form → List EntryColumn
-entry_order Plain = Number ∷ Id ∷ Calendar ∷ Date ∷ []
-entry_order Sealed = Number ∷ Id ∷ Calendar ∷ Date ∷ Note ∷ []
+-- the column at a place, and past the last one of nothing
+abbrev pub column_at : List Column → ℕ → Column
+column_at all place = get_or all place (column [] (λ row. []))
 
--- a column of a day: it stands at this place among those of an answer, where no target is asked for
-abbrev pub day_column : DayColumn → Column
-day_column DayNumber = column_at 0 (answer_columns [])
-day_column Weekday = column_at 1 (answer_columns [])
+-- what heads a column: its name, and for the cells those of their targets
+abbrev pub column_name : TableColumn → List ℕ
+column_name c = (column_at (columns Sealed []) (column_place c)).name
 
-abbrev pub day_name : DayColumn → List ℕ
-day_name column = (day_column column).name
+abbrev pub column_names : List Target → TableColumn → List (List ℕ)
+column_names targets Cells = map target_name targets
+column_names targets c = column_name c ∷ []
 
--- those of a day, in order
-abbrev pub day_order : List DayColumn
-day_order = DayNumber ∷ Weekday ∷ []
+-- what stands in a column of an entry; the others have nothing of it
+abbrev pub entry_field : TableRow → TableColumn → List ℕ
+entry_field row c = (column_at (take 5 (columns Sealed [])) (column_place c)).field row
 
--- the column of the refusal
-abbrev pub refusal_column : Column
-refusal_column = column_at 2 (answer_columns [])
+-- a row that has this outcome and these cells
+abbrev pub answered : Result ℤ Refusal → List (List ℕ) → TableRow
+answered outcome cells = record { number = 0; body = Err FieldCount; outcome = outcome; cells = cells }
 
--- what stands in a column of an answer: it is the same in each row that has this outcome and these cells
-abbrev pub answer_field : Result ℤ Refusal → List (List ℕ) → Column → List ℕ
-answer_field outcome cells column =
-    column.field (record { number = 0; body = Err FieldCount; outcome = outcome; cells = cells })
+-- what stands in the columns of an answer: it is the same in each such row
+abbrev pub answer_texts : List Target → Result ℤ Refusal → List (List ℕ) → List (List ℕ)
+answer_texts targets outcome cells =
+    map (λ (c : Column). c.field (answered outcome cells)) (drop 4 (columns Plain targets))
+
+-- what stands in one that has no cells
+abbrev pub answer_field : Result ℤ Refusal → TableColumn → List ℕ
+answer_field outcome c = (column_at (columns Sealed []) (column_place c)).field (answered outcome [])
+
+-- what stands in the column of a target: on a day its cell, and else nothing
+abbrev pub IsCellField : Result ℤ Refusal → Target → List ℕ → Type 0
+IsCellField (Ok n) target field = IsCell target n field
+IsCellField (Err r) target field = field ≡ []
+
+-- these are the fields of a column of an answer; the others have none in it
+abbrev pub AreFields : List Target → Result ℤ Refusal → TableColumn → List (List ℕ) → Type 0
+AreFields targets outcome Cells fields = AllZip (IsCellField outcome) targets fields
+AreFields targets outcome DayNumber fields = fields ≡ answer_field outcome DayNumber ∷ []
+AreFields targets outcome Weekday fields = fields ≡ answer_field outcome Weekday ∷ []
+AreFields targets outcome RefusalColumn fields = fields ≡ answer_field outcome RefusalColumn ∷ []
+AreFields targets outcome c fields = fields ≡ []

@@ -4,12 +4,11 @@ use Rattle.std.specs.declared.snapshot.Snapshot.{Snapshot}
 use Rattle.std.specs.declared.io.traits.Read.{Ghosts}
 use Rattle.date_texts.specs.declared.calendar.Target.{Target}
 use Rattle.register_records.specs.Answers.{cells_of}
-use Rattle.register_records.specs.Columns.{answer_columns}
 use Rattle.register_records.specs.Entries.{Format, Numbered}
 use Rattle.register_records.specs.Outcomes.{TableRow}
 use Rattle.register_records.specs.Seen.{entry_seen, has_ended, has_failed, has_stopped, has_sunk, row_made}
 use Rattle.register_records.specs.ShortLists.{items_in}
-use Rattle.register_records.specs.TableColumns.{answer_field}
+use Rattle.register_records.specs.TableColumns.{answer_texts}
 use Rattle.register_records.specs.Tables.{Layout, row_line}
 use Rattle.register_records.specs.declared.entries.Entry.{Entry}
 use Rattle.register_records.specs.declared.reading.EntryReader.{EntryReader}
@@ -52,12 +51,11 @@ abbrev pub row_targets : Row → List Target
 row_targets row = items_in row.targets.items
 
 abbrev pub row_seen : Row → TableRow
-row_seen row = row_made row.entry row.outcome (cells_of row.answer)
+row_seen row = row_made row.entry row.outcome (cells_of (row_targets row) row.outcome row.answer)
 
 -- the fields of its answer
 abbrev pub answer_fields : Row → List (List ℕ)
-answer_fields row =
-    map (answer_field (row_seen row).outcome (row_seen row).cells) (answer_columns (row_targets row))
+answer_fields row = answer_texts (row_targets row) (row_seen row).outcome (row_seen row).cells
 
 -- how a writer writes lines
 abbrev pub writes_by : RowWriter → Format

@@ -1,12 +1,13 @@
 //! The lines of a table: its heading and its rows.
 
 ghost use Rattle.std.specs.Prelude.{◌≡◌, ◌≤◌, ◌+◌, ◌∷◌, ◌++◌, [], ℕ, List, length, map, IsOk, OnOk, true, false};
+ghost use Rattle.date_texts.specs.Calendars.{target_name};
 ghost use Rattle.register_records.specs.LineRoom.{entry_room};
 ghost use Rattle.register_records.specs.LineViews.{Begins, GainsFields, line_bytes};
 ghost use Rattle.register_records.specs.LineViews.{line_capacity, line_delimiter, line_len};
 ghost use Rattle.register_records.specs.Lines.{line_text};
 ghost use Rattle.register_records.specs.Columns.{heading, row_fields};
-ghost use Rattle.register_records.specs.TableColumns.{entry_field, entry_name, entry_order};
+ghost use Rattle.register_records.specs.TableColumns.{column_name, column_names, entry_field, entry_order};
 ghost use Rattle.register_records.specs.Views.{answer_fields, row_seen, row_targets};
 ghost use Rattle.register_records.specs.declared.answers.TheConstants.{ANSWER_ROOM};
 ghost use Rattle.register_records.specs.declared.row_lines.TheConstants.{LINE_ROOM};
@@ -15,7 +16,7 @@ use crate::answers::Answer;
 use crate::csv_lines::Lines;
 use crate::rows::Row;
 use crate::setups::Form;
-use crate::table_columns::{day_columns, entry_columns};
+use crate::table_columns::{TableColumn, answer_columns, entry_columns};
 use date_texts::Target;
 use date_texts::laws::one_cell;
 use itoa::Buffer;
@@ -27,7 +28,7 @@ pub const LINE_ROOM: usize = 1024;
 
 /// Begins the line of the heading: the columns of the entries.
 fn begin_heading(lines: &mut Lines, form: Form) -> Result<(), AllocError>
-    ensures value { OnOk result (Begins (line_bytes lines.old) (map entry_name (entry_order form)) lines.new) }
+    ensures value { OnOk result (Begins (line_bytes lines.old) (map column_name (entry_order form)) lines.new) }
     ensures kept { line_delimiter lines.new ≡ line_delimiter lines.old }
     ensures capacity { line_capacity lines.old ≤ line_capacity lines.new }
 {
@@ -37,6 +38,34 @@ fn begin_heading(lines: &mut Lines, form: Form) -> Result<(), AllocError>
         lines.push(columns[i].name().as_bytes())?;
     }
     Ok(())
+}
+
+/// Appends the names of the targets, which head their columns.
+fn push_target_names(lines: &mut Lines, targets: &[Target]) -> Result<(), AllocError>
+    ensures value { OnOk result (GainsFields (map target_name targets.now) lines.old lines.new) }
+    ensures kept { line_delimiter lines.new ≡ line_delimiter lines.old }
+    ensures capacity { line_capacity lines.old ≤ line_capacity lines.new }
+{
+    'targets: for target in targets {
+        lines.push(target.name().as_bytes())?;
+    }
+    Ok(())
+}
+
+/// Appends what heads a column: its name, or for the cells those of their targets.
+fn push_names(
+    lines: &mut Lines,
+    column: TableColumn,
+    targets: &[Target],
+) -> Result<(), AllocError>
+    ensures value { OnOk result (GainsFields (column_names targets.now column) lines.old lines.new) }
+    ensures kept { line_delimiter lines.new ≡ line_delimiter lines.old }
+    ensures capacity { line_capacity lines.old ≤ line_capacity lines.new }
+{
+    match column {
+        TableColumn::Cells => push_target_names(lines, targets),
+        _ => lines.push(column.name().as_bytes()),
+    }
 }
 
 /// Appends the line of the heading.
@@ -51,13 +80,9 @@ pub(crate) fn make_heading(
     ensures capacity { line_capacity lines.old ≤ line_capacity lines.new }
 {
     begin_heading(lines, form)?;
-    'days: for column in day_columns() {
-        lines.push(column.name().as_bytes())?;
+    'columns: for column in answer_columns() {
+        push_names(lines, *column, targets)?;
     }
-    'targets: for target in targets {
-        lines.push(target.name().as_bytes())?;
-    }
-    lines.push_plain(b"refusal")?;
     lines.end()?;
     Ok(())
 }

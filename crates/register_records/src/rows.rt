@@ -1,11 +1,12 @@
 //! The row of an entry.
 
 ghost use Rattle.std.specs.Prelude.{◌≡◌, ◌≤◌, length, map};
-ghost use Rattle.register_records.specs.Answers.{answer_bytes, answer_text, cells_of};
+ghost use Rattle.register_records.specs.Answers.{cells_of, fields_of};
 ghost use Rattle.register_records.specs.CellTexts.{cell_bytes};
 ghost use Rattle.register_records.specs.Outcomes.{IsRowOf};
 ghost use Rattle.register_records.specs.ShortLists.{items_in};
 ghost use Rattle.register_records.specs.Seen.{entry_seen, outcome_seen, row_made};
+ghost use Rattle.register_records.specs.TableColumns.{answer_texts};
 
 use crate::answers::Answer;
 use crate::cell_texts::CellText;
@@ -28,10 +29,10 @@ pub struct Row {
     pub(crate) outcome: Result<Day, Refusal>,
     pub(crate) targets: TargetList,
     pub(crate) answer: Answer,
-    pub ghost is_row: { ∥ IsRowOf (items_in targets.items) (entry_seen entry) (row_made entry outcome (cells_of answer))
-        ∥₁ },
-    ghost written: { answer_bytes answer
-        ≡ answer_text answer.delimiter (items_in targets.items) (outcome_seen outcome) (cells_of answer) },
+    pub ghost is_row: { ∥ IsRowOf (items_in targets.items) (entry_seen entry)
+        (row_made entry outcome (cells_of (items_in targets.items) outcome answer)) ∥₁ },
+    ghost written: { fields_of answer ≡ answer_texts (items_in targets.items) (outcome_seen outcome)
+        (cells_of (items_in targets.items) outcome answer) },
 }
 
 impl Row {

@@ -1,6 +1,6 @@
-use Rattle.std.proofs.Common.{◌∙◌, ◌++◌, map, sym}
-use Rattle.register_records.specs.Columns.{answer_columns, row_fields}
-use Rattle.register_records.specs.TableColumns.{answer_field, entry_field, entry_order}
+use Rattle.std.proofs.Common.{◌≡◌, ◌∙◌, ◌++◌, map, sym}
+use Rattle.register_records.specs.Columns.{row_fields}
+use Rattle.register_records.specs.TableColumns.{answer_texts, entry_field, entry_order}
 use Rattle.register_records.specs.LineViews.{line_bytes}
 use Rattle.register_records.specs.Views.{row_seen, row_targets}
 use Rattle.register_records.proofs.LineLemmas.{fields_in_parts, same_line, some_columns, two_of}
@@ -12,7 +12,7 @@ returns-clause-value c =
     let before = line_bytes c.args.lines.now in
     let entry = map (entry_field row) (entry_order c.args.form) in
     let targets = row_targets c.args.row.now in
-    let fields = entry ++ map (answer_field row.outcome row.cells) (answer_columns targets) in
+    let fields = entry ++ answer_texts targets row.outcome row.cells in
     let all =
     c.in_ok-push_answer.ensures.value before entry (some_columns c.args.form (entry_field row))
     c.in_ok-begin_line.ensures.value in

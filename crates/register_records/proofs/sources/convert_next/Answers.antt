@@ -1,10 +1,10 @@
-use Rattle.std.proofs.Common.{◌≡◌, ◌∙◌, ℕ, List, ap, false, refl, rules, subst, true}
+use Rattle.std.proofs.Common.{◌≡◌, ◌∙◌, ℕ, List, ap, false, refl, rules, subst, sym, true}
 use Rattle.std.specs.Io.KnownBytes.{Appends}
 use Rattle.date_texts.specs.declared.calendar.Target.{Target}
 use Rattle.register_records.specs.Answers.{cells_of}
 use Rattle.register_records.specs.Entries.{Format, HasEntries}
-use Rattle.register_records.specs.Outcomes.{IsRowOf}
-use Rattle.register_records.specs.Seen.{entry_seen, row_made}
+use Rattle.register_records.specs.Outcomes.{AreCells, IsRowOf}
+use Rattle.register_records.specs.Seen.{entry_seen, outcome_seen, row_made}
 use Rattle.register_records.specs.ShortLists.{items_in}
 use Rattle.register_records.specs.Tables.{row_line}
 use Rattle.register_records.specs.Views.{format_of, given_of, layout_of, targets_of, writes_by}
@@ -29,7 +29,9 @@ returns-in-Ok-clause-row g c begun come =
     let number = (rw found at c.in-Ok-true.ensures.number) refl in
     let gives = (rw found at c.in-Ok-true.ensures.gives) refl in
     let setup = c.args.setup.now in
-    let row = row_made c.read_next-answer.new.entry c.day_of_body-outcome.result (cells_of c.set.new.self) in
+    let outcome = c.day_of_body-outcome.result in
+    let row = row_made c.read_next-answer.new.entry outcome
+    (cells_of (items_in c.target_list-row.result.items) outcome c.set.new.self) in
     let same_line :
     row_line (record { format = writes_by c.args.writer.now; targets = items_in c.target_list-row.result.items }) row
     ≡ row_line (layout_of setup) row
@@ -45,6 +47,8 @@ returns-in-Ok-clause-row g c begun come =
       number = refl;
       body = refl;
       outcome = rw (← c.body.ensures.value) c.day_of_body-outcome.ensures;
-      cells = rw (← c.targets.ensures.value) c.set.ensures.cells;
+      cells = subst (λ (ts : List Target). AreCells (targets_of setup) (outcome_seen outcome)
+          (cells_of ts outcome c.set.new.self)) (sym c.target_list-row.ensures)
+          (rw c.targets.ensures.value at c.set.ensures.cells);
     } in
     rw (gives, c.in-Ok.ensures.noted) (step _ _ _ _ _ _ _ _ come number.0 is line)

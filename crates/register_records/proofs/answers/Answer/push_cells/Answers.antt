@@ -1,29 +1,41 @@
-use Rattle.std.proofs.Common.{◌∙◌, ◌++◌, [], ℕ, List, ap, refl, sym}
-use Rattle.csv.specs.Writing.{fields_text}
-use Rattle.register_records.specs.Answers.{answer_bytes}
-use Rattle.register_records.specs.Lines.{writing}
-use Rattle.register_records.proofs.AnswerLemmas.{day_cells, no_columns}
+use Rattle.std.proofs.Common.{◌≡◌, ◌∙◌, ◌∷◌, ◌++◌, [], ℕ, List, ap, append-nil, append_assoc, arith, refl, subst, sym, take}
+use Rattle.std.proofs.lemmas.List.{take_all, take_more}
+use Rattle.std.specs.List.{AllZip}
+use Rattle.date_texts.specs.declared.calendar.Target.{Target}
+use Rattle.register_records.specs.Answers.{fields_of}
+use Rattle.register_records.specs.Seen.{outcome_seen}
+use Rattle.register_records.specs.TableColumns.{IsCellField}
+use Rattle.register_records.proofs.AnswerLemmas.{one_more_beside}
 use Rattle.register_records.proofs.answers.Answer.push_cells.Goals as goal
 
-pub returns-in-Ok-clause-value : goal.returns-in-Ok-clause-value
-returns-in-Ok-clause-value c =
-    let (made, are, text, lengths) = c.push_cells_of_day.ensures.value in
-    let columns = day_cells c.in-Ok.day.number 0 made c.args.targets.now made refl are in
-    rw c.in-Ok.is (
-      made,
-      are,
-      text ∙ ap (λ (fields : List (List ℕ)). answer_bytes c.args.self.now
-          ++ fields_text (writing c.args.self.now.delimiter) fields) (sym columns),
-      lengths,
-    )
+pub cells-init : goal.cells-init
+cells-init c = record { made = ([], tt, sym (append-nil _)); grown = omega arith; delimiter = refl }
 
-pub returns-in-Err-clause-value : goal.returns-in-Err-clause-value
-returns-in-Err-clause-value c =
-    let columns = no_columns c.in-Err._refusal 0 c.args.targets.now in
-    rw c.in-Err.is (
-      [],
-      refl,
-      c.push_no_cells.ensures.value ∙ ap (λ (fields : List (List ℕ)). answer_bytes c.args.self.now
-          ++ fields_text (writing c.args.self.now.delimiter) fields) (sym columns),
-      c.push_no_cells.ensures.kept.2,
+pub cells-preserved : goal.cells-preserved
+cells-preserved c =
+    let inv = c.cells.invariant in
+    let o = outcome_seen c.args.outcome in
+    let i = c.cells.target-index in
+    let targets = c.args.targets.now in
+    let (made, are, fields) = inv.made in
+    let (cell, is, more) = c.push_cell.ensures.value in
+    let last = one_more_beside (IsCellField o) (take i targets) made _ cell are is in
+    record {
+      made = (
+        made ++ cell ∷ [],
+        subst (λ (ts : List Target). AllZip (IsCellField o) ts (made ++ cell ∷ []))
+            (sym (take_more targets i _ c.cells-test.true)) last,
+        more ∙ ap (λ (t : List (List ℕ)). t ++ cell ∷ []) fields ∙ append_assoc (fields_of c.args.self.now) made (cell ∷ []),
+      );
+      grown = omega (arith, c.push_cell.ensures.grows, inv.grown);
+      delimiter = c.push_cell.ensures.delimiter ∙ inv.delimiter;
+    }
+
+pub returns-clause-value : goal.returns-clause-value
+returns-clause-value c =
+    let (made, are, fields) = c.cells.invariant.made in (
+      made,
+      subst (λ (ts : List Target). AllZip (IsCellField (outcome_seen c.args.outcome)) ts made)
+          (take_all c.cells.target-index c.args.targets.now c.cells-test.false) are,
+      fields,
     )

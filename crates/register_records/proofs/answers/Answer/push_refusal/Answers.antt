@@ -1,4 +1,4 @@
-use Rattle.std.proofs.Common.{◌∙◌, ap, arith}
+use Rattle.std.proofs.Common.{◌≡◌, ◌≤◌, ◌∙◌, ap, arith, length}
 use Rattle.std.specs.Fmt.{decimal}
 use Rattle.register_records.proofs.AnswerLemmas.{refusal_length}
 use Rattle.register_records.proofs.LineLemmas.{plain_decimal}
@@ -14,3 +14,10 @@ pub push-requires-in-Err-clause-room : goal.push-requires-in-Err-clause-room
 push-requires-in-Err-clause-room c =
     rw (c.as_bytes.ensures.value ∙ c.format.ensures.text ∙ ap decimal c.number.ensures)
     (omega (arith, refusal_length c.in-Err.refusal))
+
+pub returns-in-Err-clause-grows : goal.returns-in-Err-clause-grows
+returns-in-Err-clause-grows c =
+    let short : length c.as_bytes.result.now ≤ 1 =
+    rw (c.as_bytes.ensures.value ∙ c.format.ensures.text ∙ ap decimal c.number.ensures)
+    (refusal_length c.in-Err.refusal) in
+    omega (arith, c.push-in-Err.ensures.len)

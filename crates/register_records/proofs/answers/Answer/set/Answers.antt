@@ -1,47 +1,47 @@
-use Rattle.std.proofs.Common.{◌≡◌, ◌∙◌, ◌++◌, ◌∷◌, [], ℕ, List, ap, append_assoc, drop, length, map, subst, sym}
-use Rattle.register_records.specs.Answers.{answer_bytes, answer_text, cells_of, cut_cells}
-use Rattle.register_records.specs.Columns.{cell_columns}
-use Rattle.register_records.specs.TableColumns.{answer_field, day_column, day_order, refusal_column}
-use Rattle.register_records.specs.Outcomes.{AreCells}
+use Rattle.std.proofs.Common.{◌≡◌, ◌∙◌, ◌∷◌, ◌++◌, [], ℕ, List, ap, arith, subst, sym, take}
+use Rattle.std.proofs.lemmas.List.{flat_map_more, take_all, take_more}
+use Rattle.std.specs.List.{AllZip}
 use Rattle.register_records.specs.Seen.{outcome_seen}
-use Rattle.register_records.proofs.AnswerLemmas.{cut_answer, text, whole_answer}
+use Rattle.register_records.specs.TableColumns.{AreFields, answer_order}
+use Rattle.register_records.specs.declared.table_columns.TableColumn.{TableColumn}
+use Rattle.register_records.proofs.AnswerLemmas.{AreWhole, one_more_beside, room_left, whole_answer}
 use Rattle.register_records.proofs.answers.Answer.set.Goals as goal
+
+pub columns-init : goal.columns-init
+columns-init c = record {
+  made = ([], tt, c.clear.ensures.none);
+  room = omega (arith, c.clear.ensures.len);
+  delimiter = c.clear.ensures.delimiter;
+}
+
+pub columns-preserved : goal.columns-preserved
+columns-preserved c =
+    let inv = c.columns.invariant in
+    let items = c.answer_columns-column-items.ensures in
+    let are_fields = AreFields c.args.targets.now (outcome_seen c.args.outcome) in
+    let i = c.columns.column-index in
+    let inside = rw items at c.columns-test.true in
+    let (parts, are, whole) = inv.made in
+    let (fields, is, more) = rw items at c.push_column.ensures.value in
+    let last = one_more_beside are_fields (take i answer_order) parts _ fields are is in
+    record {
+      made = (
+        parts ++ fields ∷ [],
+        subst (λ (columns : List TableColumn). AllZip are_fields columns (parts ++ fields ∷ []))
+            (sym (take_more answer_order i _ inside)) last,
+        more ∙ ap (λ (t : List (List ℕ)). t ++ fields) whole ∙ flat_map_more (λ part. part) [] parts fields,
+      );
+      room = room_left answer_order i _ _ _ inside (rw items at c.push_column.ensures.grows) inv.room;
+      delimiter = c.push_column.ensures.delimiter ∙ inv.delimiter;
+    }
 
 pub returns : goal.returns
 returns c =
-    let d = c.args.delimiter in
-    let o = outcome_seen c.args.outcome in
     let targets = c.args.targets.now in
-    let (cells, are, added, lengths) = c.push_cells.ensures.value in
-    let one = c.clear.ensures.delimiter in
-    let two = c.push_day_columns.ensures.kept ∙ one in
-    let three = c.push_cells.ensures.kept ∙ two in
-    let front = answer_bytes c.push_day_columns.new.self in
-    let first = map (λ column. answer_field o [] (day_column column)) day_order in
-    let days : front ≡ text d first =
-    c.push_day_columns.ensures.value
-    ∙ ap (λ (t : List ℕ). t ++ text c.clear.new.self.delimiter first) c.clear.ensures.none
-    ∙ ap (λ e. text e first) one in
-    let columns = map (answer_field o cells) (cell_columns 0 targets) in
-    let middle : answer_bytes c.push_cells.new.self ≡ front ++ text d columns =
-    added ∙ ap (λ e. front ++ text e columns) two in
-    let last = text d (answer_field o [] refusal_column ∷ []) in
-    let all : answer_bytes c.push_refusal.new.self ≡ (front ++ text d columns) ++ last =
-    c.push_refusal.ensures.value
-    ∙ ap (λ (t : List ℕ). t ++ text c.push_cells.new.self.delimiter (answer_field o [] refusal_column ∷ [])) middle
-    ∙ ap (λ e. (front ++ text d columns) ++ text e (answer_field o [] refusal_column ∷ [])) three in
-    let start : c.push_refusal.new.self.start ≡ length front =
-    c.push_refusal.ensures.kept.1 ∙ c.push_cells.ensures.start in
-    let same : cells_of c.push_refusal.new.self ≡ cells =
-    ap (λ (ns : List ℕ). cut_cells ns (drop c.push_refusal.new.self.start (answer_bytes c.push_refusal.new.self)))
-    (c.push_refusal.ensures.kept.2 ∙ lengths)
-    ∙ ap (λ n. cut_cells (map length cells) (drop n (answer_bytes c.push_refusal.new.self))) start
-    ∙ ap (λ (bytes : List ℕ). cut_cells (map length cells) (drop (length front) bytes))
-    (all ∙ append_assoc front (text d columns) last)
-    ∙ cut_answer c.cells_are_plain.ensures d c.requires.separated o targets cells front last are in
-    record {
-      cells = subst (λ (xs : List (List ℕ)). AreCells targets o xs) (sym same) are;
-      written = all ∙ ap (λ (t : List ℕ). (t ++ text d columns) ++ last) days ∙ whole_answer d targets o cells
-          ∙ ap (λ (xs : List (List ℕ)). answer_text d targets o xs) (sym same);
-      delimiter = c.push_refusal.ensures.kept.0 ∙ three;
-    }
+    let are_fields = AreFields targets (outcome_seen c.args.outcome) in
+    let (parts, are, whole) = c.columns.invariant.made in
+    let all = take_all c.columns.column-index answer_order
+    (rw c.answer_columns-column-items.ensures at c.columns-test.false) in
+    let made = whole_answer targets c.args.outcome parts c.columns.self
+    (subst (λ (columns : List TableColumn). AllZip are_fields columns parts) all are) whole in
+    record { cells = made.cells; written = made.written; delimiter = c.columns.invariant.delimiter }

@@ -1,0 +1,33 @@
+use Rattle.std.proofs.Common.{◌∙◌, ◌++◌, List, append-nil, arith, map, refl, subst, sym, take}
+use Rattle.std.proofs.lemmas.List.{take_all}
+use Rattle.date_texts.specs.Calendars.{target_name}
+use Rattle.date_texts.specs.declared.calendar.Target.{Target}
+use Rattle.register_records.specs.LineViews.{GainsFields, line_delimiter}
+use Rattle.register_records.proofs.LineLemmas.{one_item, same_body, some_fields}
+use Rattle.register_records.proofs.row_lines.push_target_names.Goals as goal
+
+pub targets-init : goal.targets-init
+targets-init c = record {
+  gained = λ before fields some begun. same_body _ before _ _ _ (sym (append-nil fields)) begun;
+  kept = refl;
+  capacity = omega arith;
+}
+
+pub targets-preserved : goal.targets-preserved
+targets-preserved c =
+    let inv = c.targets.invariant in
+    let names = map target_name (take c.targets.target-index c.args.targets.now) in
+    record {
+      gained = λ before fields some begun.
+          one_item target_name (line_delimiter c.push.new.self) before fields _ _ _ _ _ c.targets-test.true
+          (c.as_bytes.ensures.value ∙ c.name.ensures)
+          (c.in_ok-push.ensures.value before (fields ++ names) (some_fields fields names some)
+          (inv.gained before fields some begun));
+      kept = c.in_ok-push.ensures.kept ∙ inv.kept;
+      capacity = omega (arith, c.in_ok-push.ensures.capacity, inv.capacity);
+    }
+
+pub returns-clause-value : goal.returns-clause-value
+returns-clause-value c =
+    subst (λ (ts : List Target). GainsFields (map target_name ts) c.args.lines.now c.targets.lines)
+    (take_all c.targets.target-index c.args.targets.now c.targets-test.false) c.targets.invariant.gained

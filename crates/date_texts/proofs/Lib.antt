@@ -8,6 +8,8 @@
 --   CellLengthLemmas: the law `cells_are_short`, and with it the room in `cell` and `write_cell`.
 --   CellByteLemmas: the law `cells_are_plain`.
 --   PairLemmas, WritingLemmas, PlaceLemmas: the digits and pieces in `write_date` and `write_cell`.
+--   DecisionLemmas, DateDecisionLemmas: what can be decided of numbers, texts and dates, for the laws of the crates
+--     above.
 --   LawWords: the names of the laws, for lemmas here and above.
 pub mod PairLemmas
 pub mod LawWords
@@ -26,3 +28,5 @@ pub mod CellByteLemmas
 pub mod CellLengthLemmas
 pub mod PlaceLemmas
 pub mod WritingLemmas
+pub mod DecisionLemmas
+pub mod DateDecisionLemmas

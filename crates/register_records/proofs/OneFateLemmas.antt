@@ -1,17 +1,16 @@
 -- A text has one fate: each test that decides it is decided by the text.
-use Rattle.std.proofs.Common.{inl, inr, ◌⊎◌, ◌≡◌, ◌≤◌, ◌<◌, ◌++◌, ℕ, List, [], ◌∷◌, length, Bool, true, false, refl}
+use Rattle.std.proofs.Common.{inl, inr, ◌≡◌, ◌≤◌, ◌<◌, ◌++◌, ℕ, List, [], ◌∷◌, length, Bool, true, false, refl}
 use Rattle.std.proofs.Common.{sym}
 use Rattle.std.proofs.Common.{ap, ◌∙◌, arith, subst, Option, None, Some, codes, fold, ◌*◌, ◌+◌, ◌-◌}
 use Rattle.std.specs.Prelude.{if◌then◌else◌, IsSomeAnd, IsTrue}
 use Rattle.std.specs.Char.{is_ascii_digit}
 use Rattle.std.specs.List.{list_all}
-use Rattle.std.specs.Str.{bytes_eq, str_to_ascii_lowercase}
 use Rattle.std.proofs.lemmas.Bool.{cases_lt}
-use Rattle.std.proofs.lemmas.Slice.Eq.{bytes_eq-Decides}
 use Rattle.csv.specs.Reading.{strip_bom}
 use Rattle.date_texts.specs.Names.{IsNamed}
 use Rattle.date_texts.specs.Numerals.{IsNumeral}
 use Rattle.date_texts.specs.Trimmed.{trimmed}
+use Rattle.date_texts.proofs.DecisionLemmas.{Is, both, is_at_most, is_named, is_number, is_true}
 use Rattle.register_records.specs.Entries.{Format, HasRecords, entries_of, record_limit, text_records}
 use Rattle.register_records.specs.Headers.{IsHeader}
 use Rattle.register_records.specs.Laws.{Fate, HasFate, OneFate, accepted, no_header, not_sealed, too_many}
@@ -19,40 +18,6 @@ use Rattle.register_records.specs.Records.{Fields, Texts, texts_of}
 use Rattle.register_records.specs.Seals.{Agrees, AreClosed, before_seal, entry_records, is_seal}
 use Rattle.register_records.specs.declared.setups.Form.{Form}
 use Rattle.register_records.specs.declared.setups.Form.TheVariants.{Plain, Sealed}
-
--- it holds, or it does not
-abbrev Is : Type 0 → Type 0
-Is P = P ⊎ (¬ P)
-
-both : {P Q : Type 0} → Is P → Is Q → Is (P × Q)
-both (inl p) (inl q) = inl (p, q)
-both (inl p) (inr n) = inr (λ h. n h.1)
-both (inr n) q = inr (λ h. n h.0)
-
-is_true : (b : Bool) → Is (IsTrue b)
-is_true true = inl refl
-is_true false = inr (λ h. cc)
-
-is_at_most : (m n : ℕ) → Is (m ≤ n)
-is_at_most m n = elim (cases_lt n m) [ inl more ↦ inr (λ h. omega (arith, more, h)) | inr most ↦ inl most ]
-
-is_number : (m n : ℕ) → Is (m ≡ n)
-is_number m n = elim (is_at_most m n) [
-  | inr more ↦ inr (λ e. more (omega (arith, e)))
-  | inl most ↦ elim (is_at_most n m) [
-    | inr less ↦ inr (λ e. less (omega (arith, e)))
-    | inl least ↦ inl (omega (arith, most, least))
-  ]
-]
-
-is_text_by : (b : Bool) {P : Type 0} → (b ≡ true → P) × (P → b ≡ true) → Is P
-is_text_by true tells = inl (tells.0 refl)
-is_text_by false tells = inr (λ p. let e : false ≡ true = tells.1 p in cc)
-
-is_named : (text name : List ℕ) → Is (IsNamed text name)
-is_named text name =
-    is_text_by (bytes_eq (str_to_ascii_lowercase (trimmed text)) name)
-    (bytes_eq-Decides (str_to_ascii_lowercase (trimmed text)) name)
 
 -- whether a record is an accepted header
 is_noted : (form : Form) (note : List ℕ) → Is (form ≡ Sealed → IsNamed note (codes "note"))

@@ -22,12 +22,12 @@ OneTable =
     → HasEntries layout.format text entries → HasEntries layout.format text others
     → AreRowsOf layout.targets entries rows → AreRowsOf layout.targets others more → (entries ≡ others) × (rows ≡ more)
 
--- an accepted text has a whole table: that none is its table cannot be
+-- an accepted text has a whole table
 abbrev pub EveryTextHasTable : Type 0
 EveryTextHasTable =
     (layout : Layout) (text : List ℕ) (entries : List Numbered) → HasEntries layout.format text entries
-    → ¬ ((count refused : ℕ) (journal : List Note) (bytes : List ℕ)
-    → ¬ (IsWholeTable layout (Some text) count refused journal bytes))
+    → (count : ℕ) × (refused : ℕ) × (journal : List Note) × (bytes : List ℕ)
+    × IsWholeTable layout (Some text) count refused journal bytes
 
 -- a cell of a calendar that is not empty, read as a date of that calendar, gives the cell's day again
 abbrev pub CellsReadBack : Type 0

@@ -27,7 +27,7 @@ pub fn every_entry_has_row(entry: Entry, setup: &Setup)
     convert(entry, setup);
 }
 
-/// An accepted text has a table, for every list of targets: that none is its table cannot be.
+/// An accepted text has a table, for every list of targets.
 pub fn every_text_has_table()
     ensures { EveryTextHasTable }
 {}

@@ -22,62 +22,47 @@ pub record StandsIn {E R : Type 0} (numbers : Numbers E R) (s : State E R) (k i 
       → times_at numbers s k (EntryLane j) + times_at numbers s k (InConverter j) + times_at numbers s k (RowLane j) ≡ 0
 
 module _ {E R : Type 0} (numbers : Numbers E R) (s : State E R) (k i : ℕ) (h : StandsIn numbers s k i) where
-  -- a kind of place of which none has entry k in stripe i, and so none in any stripe
-  none_of_kind : (kind : ℕ → Place) → times_at numbers s k (kind i) ≡ 0
-      → ((j : ℕ) → (j ≡ i → ⊥) → times_at numbers s k (kind j) ≡ 0) → (j : ℕ) → times_at numbers s k (kind j) ≡ 0
-  none_of_kind kind here there j =
-      elim (cases_eq j i) [ inl e ↦ ap (λ (m : ℕ). times_at numbers s k (kind m)) e ∙ here | inr n ↦ there j n ]
+  -- a kind of place has no entry k in any stripe but where it stands, if none has it there in stripe i and in others
+  none_of_kind : (kind : ℕ → Place) (at : Place) → (kind i ≢ at → times_at numbers s k (kind i) ≡ 0)
+      → ((j : ℕ) → (j ≡ i → ⊥) → times_at numbers s k (kind j) ≡ 0) → (j : ℕ) → kind j ≢ at
+      → times_at numbers s k (kind j) ≡ 0
+  none_of_kind kind at here there j n = elim (cases_eq j i) [
+    | inl e ↦ ap (λ (m : ℕ). times_at numbers s k (kind m)) e ∙ here (λ same. n (ap kind e ∙ same))
+    | inr m ↦ there j m
+  ]
 
-  -- the same, but for the place where it stands
-  none_but : (kind : ℕ → Place) → ((j : ℕ) → (j ≡ i → ⊥) → times_at numbers s k (kind j) ≡ 0)
-      → (j : ℕ) → kind j ≢ kind i → times_at numbers s k (kind j) ≡ 0
-  none_but kind there j n =
-      elim (cases_eq j i) [ inl e ↦ absurd (n (ap kind e)) | inr m ↦ there j m ]
-
-  in_no_other_entry_lane : (j : ℕ) → (j ≡ i → ⊥) → times_at numbers s k (EntryLane j) ≡ 0
-  in_no_other_entry_lane j n = omega (arith, h.others j n)
-
-  in_no_other_converter : (j : ℕ) → (j ≡ i → ⊥) → times_at numbers s k (InConverter j) ≡ 0
-  in_no_other_converter j n = omega (arith, h.others j n)
-
-  in_no_other_row_lane : (j : ℕ) → (j ≡ i → ⊥) → times_at numbers s k (RowLane j) ≡ 0
-  in_no_other_row_lane j n = omega (arith, h.others j n)
+  -- it stands at this place, and at no other one of stripe i, nor among those popped
+  only_at : (at : Place) → times_at numbers s k at ≡ 1 → (EntryLane i ≢ at → times_at numbers s k (EntryLane i) ≡ 0)
+      → (InConverter i ≢ at → times_at numbers s k (InConverter i) ≡ 0)
+      → (RowLane i ≢ at → times_at numbers s k (RowLane i) ≡ 0) → (Popped ≢ at → times_at numbers s k Popped ≡ 0)
+      → StandsOnlyAt numbers s k at
+  only_at at once entry_lane converter row_lane popped = record { once = once; nowhere_else = elsewhere }
+    where
+      elsewhere : (other : Place) → other ≢ at → times_at numbers s k other ≡ 0
+      elsewhere (EntryLane j) n = none_of_kind EntryLane at entry_lane (λ j m. omega (arith, h.others j m)) j n
+      elsewhere (InConverter j) n = none_of_kind InConverter at converter (λ j m. omega (arith, h.others j m)) j n
+      elsewhere (RowLane j) n = none_of_kind RowLane at row_lane (λ j m. omega (arith, h.others j m)) j n
+      elsewhere Popped n = popped n
 
   pub only_in_entry_lane : 0 < times_at numbers s k (EntryLane i) → StandsOnlyAt numbers s k (EntryLane i)
-  only_in_entry_lane some = record { once = omega (arith, h.own); nowhere_else = elsewhere }
-    where
-      elsewhere : (other : Place) → other ≢ EntryLane i → times_at numbers s k other ≡ 0
-      elsewhere (EntryLane j) n = none_but EntryLane in_no_other_entry_lane j n
-      elsewhere (InConverter j) n = none_of_kind InConverter (omega (arith, h.own)) in_no_other_converter j
-      elsewhere (RowLane j) n = none_of_kind RowLane (omega (arith, h.own)) in_no_other_row_lane j
-      elsewhere Popped n = omega (arith, h.own)
+  only_in_entry_lane some =
+      only_at (EntryLane i) (omega (arith, h.own)) (λ n. absurd (n refl)) (λ n. omega (arith, h.own))
+      (λ n. omega (arith, h.own)) (λ n. omega (arith, h.own))
 
   pub only_in_converter : 0 < times_at numbers s k (InConverter i) → StandsOnlyAt numbers s k (InConverter i)
-  only_in_converter some = record { once = omega (arith, h.own); nowhere_else = elsewhere }
-    where
-      elsewhere : (other : Place) → other ≢ InConverter i → times_at numbers s k other ≡ 0
-      elsewhere (EntryLane j) n = none_of_kind EntryLane (omega (arith, h.own)) in_no_other_entry_lane j
-      elsewhere (InConverter j) n = none_but InConverter in_no_other_converter j n
-      elsewhere (RowLane j) n = none_of_kind RowLane (omega (arith, h.own)) in_no_other_row_lane j
-      elsewhere Popped n = omega (arith, h.own)
+  only_in_converter some =
+      only_at (InConverter i) (omega (arith, h.own)) (λ n. omega (arith, h.own)) (λ n. absurd (n refl))
+      (λ n. omega (arith, h.own)) (λ n. omega (arith, h.own))
 
   pub only_in_row_lane : 0 < times_at numbers s k (RowLane i) → StandsOnlyAt numbers s k (RowLane i)
-  only_in_row_lane some = record { once = omega (arith, h.own); nowhere_else = elsewhere }
-    where
-      elsewhere : (other : Place) → other ≢ RowLane i → times_at numbers s k other ≡ 0
-      elsewhere (EntryLane j) n = none_of_kind EntryLane (omega (arith, h.own)) in_no_other_entry_lane j
-      elsewhere (InConverter j) n = none_of_kind InConverter (omega (arith, h.own)) in_no_other_converter j
-      elsewhere (RowLane j) n = none_but RowLane in_no_other_row_lane j n
-      elsewhere Popped n = omega (arith, h.own)
+  only_in_row_lane some =
+      only_at (RowLane i) (omega (arith, h.own)) (λ n. omega (arith, h.own)) (λ n. omega (arith, h.own))
+      (λ n. absurd (n refl)) (λ n. omega (arith, h.own))
 
   only_popped : 0 < times_at numbers s k Popped → StandsOnlyAt numbers s k Popped
-  only_popped some = record { once = omega (arith, h.own); nowhere_else = elsewhere }
-    where
-      elsewhere : (other : Place) → other ≢ Popped → times_at numbers s k other ≡ 0
-      elsewhere (EntryLane j) n = none_of_kind EntryLane (omega (arith, h.own)) in_no_other_entry_lane j
-      elsewhere (InConverter j) n = none_of_kind InConverter (omega (arith, h.own)) in_no_other_converter j
-      elsewhere (RowLane j) n = none_of_kind RowLane (omega (arith, h.own)) in_no_other_row_lane j
-      elsewhere Popped n = absurd (n refl)
+  only_popped some =
+      only_at Popped (omega (arith, h.own)) (λ n. omega (arith, h.own)) (λ n. omega (arith, h.own))
+      (λ n. omega (arith, h.own)) (λ n. absurd (n refl))
 
 one_of_four : (a b c d : ℕ) → a + b + c + d ≡ 1 → (0 < a) ⊎ ((0 < b) ⊎ ((0 < c) ⊎ (0 < d)))
 one_of_four (suc a) b c d h = inl (omega arith)
@@ -94,7 +79,8 @@ module _ {E R : Type 0} (numbers : Numbers E R) (w : World E R) (s : State E R) 
   popped_times : (k : ℕ) → times_at numbers s k Popped ≡ times numbers k v.done
   popped_times k =
       ap (λ (rows : List R). times_in k (map numbers.of_row rows)) v.popped
-      ∙ ap (times_in k) (row_numbers numbers w v.done (keep_front numbers w v.done (v.between ++ v.left) all_same_numbers))
+      ∙ ap (times_in k)
+      (row_numbers numbers w v.done (keep_front numbers w v.done (v.between ++ v.left) all_same_numbers))
 
   pub row_lane_times : (k i : ℕ) → times_at numbers s k (RowLane i) ≡ times numbers k (v.stripes i).converted
   row_lane_times k i =
@@ -140,7 +126,8 @@ module _ {E R : Type 0} (numbers : Numbers E R) (w : World E R) (s : State E R) 
         own = omega (arith, popped_times k, stripe_times k i, own, one, times_append numbers k v.done v.between);
         others = λ j n.
             stripe_times k j
-            ∙ times_other_part numbers w.converters j k (length v.done) v.between between_numbered some (λ e. n (sym e));
+            ∙ times_other_part numbers w.converters j k (length v.done) v.between between_numbered some
+            (λ e. n (sym e));
       }
 
   pub each_stands_once : EachStandsOnce numbers w s

@@ -62,6 +62,27 @@ impl<T> Sender<T> {
     }
 }
 
+impl<T: Copy> Sender<T> {
+    ghost use Rattle.std.specs.Prelude.{◌≡◌, [], ◌∷◌, ◌++◌, OnErr, OnOk};
+    ghost use Rattle.lane_rings.specs.Lane.{sender_lane, sent};
+    ghost use Rattle.lane_rings.specs.declared.item.Item.TheVariants.{Entry};
+
+    /// Waits for room and sends a copy of an entry, which is made once, where it goes to: an entry may be large.
+    ///
+    /// It waits as `send` does. Where the receiver was dropped it answers `Gone`, also where the ring has room.
+    pub fn send_copy(&mut self, rt: &(impl Wait + Clock + CpuClock), item: &T) -> Result<(), Gone<()>>
+        ensures lane { sender_lane self.new ≡ sender_lane self.old }
+        ensures ok { OnOk result (sent self.new ≡ sent self.old ++ Entry item.now ∷ []) }
+        ensures gone { OnErr result (sent self.new ≡ sent self.old) }
+    {
+        if !self.wait_for_room(rt) {
+            return Err(Gone { value: () });
+        }
+        self.producer.push_reserved(Item::Entry(*item));
+        Ok(())
+    }
+}
+
 impl<T: Drop> Sender<T> {
     ghost use Rattle.std.specs.Prelude.{◌≡◌, [], ◌∷◌, ◌++◌, Some};
     ghost use Rattle.lane_rings.specs.Lane.{sender_lane, sent, HasConfirmation, closed_lane, all_sent};

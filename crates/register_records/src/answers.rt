@@ -38,7 +38,7 @@ const REFUSAL_ROOM: usize = 2;
 pub(crate) const ANSWER_ROOM: usize = 2 * DAY_COLUMN_ROOM + CELLS_ROOM + REFUSAL_ROOM;
 
 /// The fields of an answer, each behind a delimiter. None of them needs quotes.
-#[derive(Drop)]
+#[derive(Clone, Copy)]
 pub(crate) struct Answer {
     places: [u8; ANSWER_ROOM],
     len: u16,

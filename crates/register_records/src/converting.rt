@@ -9,7 +9,6 @@ ghost use Rattle.register_records.specs.Seen.{entry_seen, outcome_seen};
 ghost use Rattle.register_records.specs.ShortLists.{items_in};
 ghost use Rattle.register_records.specs.Views.{row_seen, row_targets, targets_of};
 
-use crate::answers::Answer;
 use crate::cell_texts::CellText;
 use crate::entries::{Body, Entry};
 use crate::rows::Row;
@@ -65,13 +64,7 @@ pub fn convert(entry: Entry, setup: &Setup) -> Row
     ensures targets { row_targets result ≡ targets_of setup.now }
     ensures row { IsRowOf (targets_of setup.now) (entry_seen entry) (row_seen result) }
 {
-    let outcome = day_of_body(entry.body());
-    let mut row = Row {
-        entry,
-        outcome,
-        targets: setup.target_list(),
-        answer: Answer::new(b','),
-    };
-    row.answer.set(setup.targets(), outcome, setup.delimiter());
+    let mut row = Row::blank();
+    row.renew(&entry, setup);
     row
 }

@@ -10,7 +10,7 @@ ghost use Rattle.register_records.specs.TableColumns.{answer_texts};
 
 use crate::answers::Answer;
 use crate::cell_texts::CellText;
-use crate::converting::make_cells;
+use crate::converting::{day_of_body, make_cells};
 use crate::entries::Entry;
 use crate::setups::Setup;
 use crate::short_lists::ShortList;
@@ -23,7 +23,7 @@ use std::alloc::AllocError;
 
 /// An entry converted: its day, and the cells of that day for the targets that the row was made for;
 /// or the first refusal that applies. A row always is the row of its entry.
-#[derive(Drop)]
+#[derive(Clone, Copy)]
 pub struct Row {
     pub(crate) entry: Entry,
     pub(crate) outcome: Result<Day, Refusal>,
@@ -40,6 +40,34 @@ impl Row {
     ghost use Rattle.std.specs.Prelude.{vec_len};
     ghost use Rattle.register_records.specs.Tables.{notes_of};
     ghost use Rattle.register_records.specs.Views.{row_seen, row_targets, targets_of};
+
+    /// A row before any entry was converted: that of an entry without texts, for no target.
+    pub fn blank() -> Row {
+        let entry = Entry::blank();
+        let outcome = day_of_body(entry.body());
+        let mut row = Row {
+            entry,
+            outcome,
+            targets: TargetList::new(&[]),
+            answer: Answer::new(b','),
+        };
+        row.answer.set(&[], outcome, b',');
+        row
+    }
+
+    /// Makes this the row of an entry for the setup's targets, where it lies, as [`convert`](crate::convert) does: a row
+    /// is large.
+    pub fn renew(&mut self, entry: &Entry, setup: &Setup)
+        ensures entry { self.new.entry ≡ entry.now }
+        ensures targets { row_targets self.new ≡ targets_of setup.now }
+        ensures row { IsRowOf (targets_of setup.now) (entry_seen entry.now) (row_seen self.new) }
+    {
+        let outcome = day_of_body(entry.body());
+        self.entry = *entry;
+        self.outcome = outcome;
+        self.targets = setup.target_list();
+        self.answer.set(setup.targets(), outcome, setup.delimiter());
+    }
 
     /// The entry.
     pub fn entry(&self) -> &Entry

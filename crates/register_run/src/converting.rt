@@ -6,7 +6,7 @@ ghost use Rattle.register_run.specs.Passages.{IsConverting};
 
 use crate::gates::Gate;
 use lane_rings::{Closed, Item, Receiver, Sender};
-use register_records::{Entry, Row, Setup, convert};
+use register_records::{Entry, Row, Setup};
 use std::sync::Wait;
 use std::time::{Clock, CpuClock};
 
@@ -34,6 +34,7 @@ pub(crate) fn convert_entries<T: Wait + Clock + CpuClock, G: Gate>(
 {
     let mut entries = entries;
     let mut rows = rows;
+    let mut row = Row::blank();
     let mut gone = false;
     for _ in rt.forever() {
         if entries.wait(rt).is_err() {
@@ -42,12 +43,13 @@ pub(crate) fn convert_entries<T: Wait + Clock + CpuClock, G: Gate>(
         }
         match entries.next() {
             Some(Item::Entry(entry)) => {
-                // The entry is converted where it lies, since each move would copy it.
-                let row = convert(*entry, setup);
+                let entry = *entry;
                 entries.pass();
+                // The row is made where the one before it lay, since each move would copy it.
+                row.renew(&entry, setup);
                 if !gone {
-                    gate.pass(rt, row.entry().number());
-                    gone = rows.send(rt, row).is_err();
+                    gate.pass(rt, entry.number());
+                    gone = rows.send_copy(rt, &row).is_err();
                 }
             }
             Some(Item::End(count)) => {

@@ -102,7 +102,7 @@ fn send_entries<R: Read + Drop>(
         count = entry.number();
         let turn = turn_after((count - 1) as usize, senders.len());
         let sender = &mut senders[turn];
-        if sender.send(rt, entry).is_err() {
+        if sender.send_copy(rt, &entry).is_err() {
             return Err(Cause::Unconfirmed);
         }
     }

@@ -15,7 +15,7 @@ use Rattle.solar_calendars.specs.declared.roman_date.RomanName.TheVariants.{Kale
 use Rattle.solar_calendars.specs.RomanPlaces.{kalends, month_length, next_month, year_of_next_month, IsPlaced, HasPlace}
 use Rattle.solar_calendars.specs.RomanPlaces.{place}
 use Rattle.solar_calendars.specs.RomanPlaces.{prior_length, prior_ides, name_within, name_after, RomanParts, parts_on}
-use Rattle.solar_calendars.proofs.RomanMonthLemmas.{IsMonth, follows, ides_small, months_small}
+use Rattle.solar_calendars.proofs.RomanMonthLemmas.{IsMonth, one_less, one_further, follows, ides_small, months_small}
 use Rattle.solar_calendars.proofs.RomanPlaceLemmas.{placed, number, small_prior, sixths_length}
 
 -- a day's name to the Ides has the day's place, and no other name has it
@@ -217,9 +217,9 @@ only_name y jy m jm jd name r h e =
 year_after : (y : ℤ) → HasYear without_zero y
     → HasYear without_zero (next_year without_zero y) × (year_before (next_year without_zero y) ≡ y)
 year_after (pos zero) h = absurd h
-year_after (pos (suc n)) h = (tt, refl)
+year_after (pos (suc n)) h = (tt, one_less n)
 year_after (negsuc zero) h = (tt, refl)
-year_after (negsuc (suc n)) h = (tt, refl)
+year_after (negsuc (suc n)) h = (tt, one_further n)
 
 next : (y : ℤ) (m : ℕ) → HasYear without_zero y → 1 ≤ m → m ≤ 12 → IsMonth (year_of_next_month y m) (next_month m)
     × (year_of_month_before (year_of_next_month y m) (next_month m) ≡ y) × (month_before (next_month m) ≡ m)

@@ -80,9 +80,9 @@ impl<C: FromYearOne> RuledCalendar for C {
         }
     }
 
-    fn year_with(&self, day: i64) -> Year {
+    fn year_on(&self, day: i64) -> i32 {
         let years_before = C::Years::years_in((day - self.epoch()) as u32);
-        self.year(years_before as i32 + 1)
+        years_before as i32 + 1
     }
 
     fn month_at(&self, year: Year, place: u16) -> (u8, u8) {

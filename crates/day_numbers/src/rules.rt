@@ -10,7 +10,7 @@ ghost use Rattle.day_numbers.specs.declared.ymd.Ymd.{Ymd};
 ghost use Rattle.day_numbers.specs.Days.{IsBetween, IsDayNumber};
 ghost use Rattle.day_numbers.specs.Dates.{IsDayOf, IsYear};
 ghost use Rattle.day_numbers.specs.Rules.{Rules, HasYear, HasDayOf, IsDateOf, day_number_of, year_start as start};
-ghost use Rattle.day_numbers.specs.Rules.{total_days, days_of_month, days_before_month, are_months};
+ghost use Rattle.day_numbers.specs.Rules.{year_length, total_days, days_of_month, days_before_month, are_months};
 
 use crate::calendar::DateFault;
 use crate::day::Day;
@@ -67,6 +67,15 @@ pub trait RuledCalendar {
         ensures few { length result.months.now ≤ 13 }
         ensures numbered { IsTrue (are_months result.months.now) };
 
+    /// The number of the year that the day with this fixed day number lies in.
+    fn year_on(&self, day: i64) -> i32
+        requires in_range { IsDayNumber day }
+        requires has { HasDayOf rules day }
+        ensures has { HasYear rules.years result }
+        ensures in_range { IsYear result }
+        ensures after { start rules result ≤ℤ day }
+        ensures before { day <ℤ (start rules result +ℤ pos (year_length rules result)) };
+
     /// The year that the day with this fixed day number lies in.
     fn year_with(&self, day: i64) -> Year
         requires in_range { IsDayNumber day }
@@ -79,7 +88,10 @@ pub trait RuledCalendar {
         ensures before { day <ℤ (result.start +ℤ pos (total_days result.months.now)) }
 
         ensures few { length result.months.now ≤ 13 }
-        ensures numbered { IsTrue (are_months result.months.now) };
+        ensures numbered { IsTrue (are_months result.months.now) }
+    {
+        self.year(self.year_on(day))
+    }
 
     /// The number of the month that a place in the year lies in, counted from 0, and its day of that month.
     fn month_at(&self, year: Year, place: u16) -> (u8, u8)

@@ -219,6 +219,10 @@ impl RuledCalendar for Hebrew {
         year_between(number, new_year(number), new_year(number + 1))
     }
 
+    fn year_on(&self, day: i64) -> i32 {
+        self.year_with(day).number
+    }
+
     fn year_with(&self, day: i64) -> Year {
         year_of_day((day - EPOCH) as u32)
     }

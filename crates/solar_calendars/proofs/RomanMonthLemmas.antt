@@ -1,6 +1,6 @@
 -- Months one after the other, and their Kalends.
-use Rattle.std.proofs.Common.{inl, inr, ◌≡◌, ℕ, zero, suc, ◌+◌, ◌-◌, ◌≤◌, Bool, true, false, refl, subst, arith, ℤ}
-use Rattle.std.proofs.Common.{pos, negsuc, ◌+ℤ◌, List, [], ◌∷◌}
+use Rattle.std.proofs.Common.{inl, inr, ◌≡◌, ℕ, zero, suc, ◌+◌, ◌-◌, ◌≤◌, Bool, true, false, refl, subst, ap, arith, ℤ}
+use Rattle.std.proofs.Common.{pos, negsuc, ◌+ℤ◌, ◌-ℤ◌, List, [], ◌∷◌}
 use Rattle.std.specs.Prelude.{if◌then◌else◌, ◌==◌, ◌&&◌}
 use Rattle.std.proofs.lemmas.Bool.{cases_eq, ne_eqb}
 use Rattle.std.proofs.lemmas.Bool.Decides.{nat_tests}
@@ -45,12 +45,18 @@ months_follow leap m a b =
     subst (λ n. days_before_month (twelve_months leap) n ≡ days_before_month (twelve_months leap)
     (m - 1) + days_of_month (twelve_months leap) (m - 1)) e (follow (lengths leap) 1 (m - 1) (omega arith))
 
+pub one_less : (n : ℕ) → pos (suc (suc n)) -ℤ pos 1 ≡ pos (suc n)
+one_less n = omega (arith, signed_arith)
+
+pub one_further : (n : ℕ) → negsuc n -ℤ pos 1 ≡ negsuc (suc n)
+one_further n = omega (arith, signed_arith)
+
 before_is : (y : ℤ) → HasYear without_zero y
     → HasYear without_zero (year_before y) × (next_year without_zero (year_before y) ≡ y)
 before_is (pos zero) h = absurd h
 before_is (pos (suc zero)) h = (tt, refl)
-before_is (pos (suc (suc n))) h = (tt, refl)
-before_is (negsuc n) h = (tt, refl)
+before_is (pos (suc (suc n))) h = rw (one_less n) (tt, refl)
+before_is (negsuc n) h = (tt, ap (next_year without_zero) (one_further n))
 
 -- January follows December
 january : (y : ℤ) → HasYear without_zero y → kalends y 1 ≡ kalends (year_before y) 12 +ℤ pos 31

@@ -15,7 +15,7 @@ use Rattle.solar_calendars.specs.declared.roman_date.RomanName.TheVariants.{Kale
 use Rattle.solar_calendars.specs.RomanPlaces.{kalends, month_length, next_month, year_of_next_month, IsPlaced, HasPlace}
 use Rattle.solar_calendars.specs.RomanPlaces.{place}
 use Rattle.solar_calendars.specs.RomanPlaces.{prior_length, prior_ides, name_within, name_after, RomanParts, parts_on}
-use Rattle.solar_calendars.proofs.RomanMonthLemmas.{IsMonth, follows, ides_small, months_small}
+use Rattle.solar_calendars.proofs.RomanMonthLemmas.{IsMonth, one_less, one_further, follows, ides_small, months_small}
 use Rattle.solar_calendars.proofs.RomanPlaceLemmas.{placed, number, small_prior, sixths_length}
 
 -- a day's name to the Ides has the day's place, and no other name has it
@@ -217,28 +217,16 @@ only_name y jy m jm jd name r h e =
 year_after : (y : ℤ) → HasYear without_zero y
     → HasYear without_zero (next_year without_zero y) × (year_before (next_year without_zero y) ≡ y)
 year_after (pos zero) h = absurd h
-year_after (pos (suc n)) h = (tt, refl)
+year_after (pos (suc n)) h = (tt, one_less n)
 year_after (negsuc zero) h = (tt, refl)
-year_after (negsuc (suc n)) h = (tt, refl)
+year_after (negsuc (suc n)) h = (tt, one_further n)
 
-record Next (y : ℤ) (m : ℕ) (ny : ℤ) (nm : ℕ) : Type 0 where
-  is_month : IsMonth ny nm
-  year_back : year_of_month_before ny nm ≡ y
-  month_back : month_before nm ≡ m
-
-next : (y : ℤ) (m : ℕ) → HasYear without_zero y → 1 ≤ m → m ≤ 12 → Next y m (year_of_next_month y m) (next_month m)
+next : (y : ℤ) (m : ℕ) → HasYear without_zero y → 1 ≤ m → m ≤ 12 → IsMonth (year_of_next_month y m) (next_month m)
+    × (year_of_month_before (year_of_next_month y m) (next_month m) ≡ y) × (month_before (next_month m) ≡ m)
 next y m h a b =
     elim (cases_eq m 12) [
-      | inl e ↦ rw e (record {
-        is_month = ((year_after y h).0, omega arith, omega arith);
-        year_back = (year_after y h).1;
-        month_back = refl;
-      })
-      | inr n ↦ rw (ne_eqb m 12 n) (record {
-        is_month = (h, omega arith, omega arith);
-        year_back = rw (ne_eqb (m + 1) 1 (λ q. omega arith)) refl;
-        month_back = rw (ne_eqb (m + 1) 1 (λ q. omega arith)) (omega arith);
-      })
+      | inl e ↦ rw e (((year_after y h).0, omega arith, omega arith), (year_after y h).1, refl)
+      | inr n ↦ rw (ne_eqb m 12 n, ne_eqb (m + 1) 1 (λ q. omega arith)) ((h, omega arith, omega arith), refl, omega arith)
     ]
 
 -- the name of a Julian date is valid, and names its day
@@ -256,16 +244,16 @@ named_is y m d h a b one long =
           let ny = year_of_next_month y m in
           let nm = next_month m in
           let x = next y m h a b in
-          let f = follows ny nm x.is_month.0 x.is_month.1 x.is_month.2 in
-          let length : prior_length ny nm ≡ month_length y m = rw (x.year_back, x.month_back) refl in
-          let two : has_two_sixths ny nm ≡ ((m == 2) && is_julian_leap y) = rw (x.year_back, x.month_back) at f.leaps in
-          let starts : kalends ny nm ≡ kalends y m +ℤ pos (month_length y m) = rw (x.year_back, x.month_back)
+          let f = follows ny nm x.0.0 x.0.1 x.0.2 in
+          let length : prior_length ny nm ≡ month_length y m = rw (x.1, x.2) refl in
+          let two : has_two_sixths ny nm ≡ ((m == 2) && is_julian_leap y) = rw (x.1, x.2) at f.leaps in
+          let starts : kalends ny nm ≡ kalends y m +ℤ pos (month_length y m) = rw (x.1, x.2)
           at f.starts in
-          let before : prior_ides nm ≡ day_of_ides m = rw x.month_back refl in
+          let before : prior_ides nm ≡ day_of_ides m = rw x.2 refl in
           let name = name_after (has_two_sixths ny nm) (prior_length ny nm) d in
           let w = after_placed (has_two_sixths ny nm) (day_of_ides nm) (prior_length ny nm) (prior_ides nm) d
           (sixths_length ny nm) (omega (arith, before)) (omega (arith, length)) in
-          let v = (placed ny nm name x.is_month.0 x.is_month.1 x.is_month.2).1 w.0 in
+          let v = (placed ny nm name x.0.0 x.0.1 x.0.2).1 w.0 in
           let n = number ny nm name w.0 in
           let e = after_ides y ny m nm d (has_two_sixths ny nm) name more refl refl two
           (ap (λ (z : ℕ). name_after (has_two_sixths ny nm) z d) (sym length)) in

@@ -1,7 +1,7 @@
 -- Roman day names: a day of the Julian calendar is counted back from the next Kalends, Nones or Ides, which has the
 -- count 1 itself (Reingold and Dershowitz, Calendrical Calculations, "Roman Nomenclature"). These three are the
 -- principal days of a month.
-use Rattle.std.specs.Prelude.{◌≡◌, ℕ, suc, ◌-◌, ◌≤◌, Bool, IsTrue, ◌==◌, ◌&&◌, ◌||◌, nat_le, if◌then◌else◌}
+use Rattle.std.specs.Prelude.{◌≡◌, ℕ, zero, suc, ◌-◌, ◌≤◌, Bool, IsTrue, ◌==◌, ◌&&◌, ◌||◌, nat_le, if◌then◌else◌}
 use Rattle.std.specs.Prelude.{ℤ, pos, negsuc, ◌-ℤ◌, ◌<ℤ◌, ◌⊎◌}
 use Rattle.day_numbers.specs.Rules.{without_zero, HasYear, day_number_of}
 use Rattle.solar_calendars.specs.Julian.{julian_rules, is_julian_leap}
@@ -18,9 +18,8 @@ day_of_nones month = day_of_ides month - 8
 
 -- the year before a year: -1 lies before 1
 abbrev pub year_before : ℤ → ℤ
-year_before (pos (suc (suc n))) = pos (suc n)
-year_before (pos n) = negsuc 0
-year_before (negsuc n) = negsuc (suc n)
+year_before (pos (suc zero)) = negsuc 0
+year_before year = year -ℤ pos 1
 
 -- the month before a month, and its year
 abbrev pub month_before : ℕ → ℕ

@@ -119,8 +119,8 @@ impl RuledCalendar for Gregorian {
         }
     }
 
-    fn year_with(&self, day: i64) -> Year {
-        self.year(year_on(day))
+    fn year_on(&self, day: i64) -> i32 {
+        year_on(day)
     }
 }
 

@@ -67,17 +67,6 @@ fn first_of_year(year: i32) -> i64
     365 * before + before.div_euclid(4) - 1
 }
 
-/// The year that the day with this fixed day number lies in.
-fn year_on(day: i64) -> i32
-    requires { IsDayNumber day }
-    ensures has { HasYear without_zero result }
-    ensures near { IsYear result }
-    ensures after { start julian_rules result ≤ℤ day }
-    ensures before { day <ℤ (start julian_rules result +ℤ pos (year_length julian_rules result)) }
-{
-    year_after((4 * day + 7).div_euclid(1461))
-}
-
 impl RuledCalendar for Julian {
     ghost rules = { julian_rules };
 
@@ -97,8 +86,8 @@ impl RuledCalendar for Julian {
         }
     }
 
-    fn year_with(&self, day: i64) -> Year {
-        self.year(year_on(day))
+    fn year_on(&self, day: i64) -> i32 {
+        year_after((4 * day + 7).div_euclid(1461))
     }
 
     fn month_at(&self, year: Year, place: u16) -> (u8, u8) {

@@ -1,4 +1,5 @@
 use Rattle.std.proofs.Common.{◌≡◌, ◌+ℤ◌, pos, arith, rules, to_z-of_z, FitsSigned, w32, w64, refl}
+use Rattle.std.proofs.lemmas.Int.{ints}
 use Rattle.day_numbers.proofs.SignedArithmeticLemmas.{signed_arith}
 use Rattle.solar_calendars.specs.IsoWeek.{week_day_number, week_year_start}
 use Rattle.solar_calendars.proofs.iso_week.number_of_week_date.Goals as goal
@@ -28,10 +29,8 @@ found c =
 pub returns-then-number-first_of_week_year-clause-valid : goal.returns-then-number-first_of_week_year-clause-valid
 returns-then-number-first_of_week_year-clause-valid c =
     let f = found (goal.at.returns-then-number-first_of_week_year-clause-valid c).After-first_of_week_year in
-    let r = f.number_fits in
-    let e = f.end_fits in
-    let less = simp to_z-of_z at c.if-number-first_of_week_year.true in
-    (λ _. (omega arith, omega arith, omega arith, omega (arith, signed_arith, f.number, f.end, less)), λ _. refl)
+    let less = c.if-number-first_of_week_year.true in
+    (λ _. (omega arith, omega arith, omega arith, omega (arith, ints, f.number, f.end, less)), λ _. refl)
 
 pub returns-then-number-first_of_week_year-clause-value : goal.returns-then-number-first_of_week_year-clause-value
 returns-then-number-first_of_week_year-clause-value c =
@@ -42,7 +41,5 @@ returns-then-number-first_of_week_year-clause-value c =
 pub returns-else-number-first_of_week_year-clause-valid : goal.returns-else-number-first_of_week_year-clause-valid
 returns-else-number-first_of_week_year-clause-valid c =
     let f = found (goal.at.returns-else-number-first_of_week_year-clause-valid c).After-first_of_week_year in
-    let r = f.number_fits in
-    let e = f.end_fits in
-    let less = simp to_z-of_z at c.if-number-first_of_week_year.false in
-    (λ e. absurd (cc), λ h. absurd (omega (arith, signed_arith, h.3, f.number, f.end, less)))
+    let more = c.if-number-first_of_week_year.false in
+    (λ e. absurd (cc), λ h. absurd (omega (arith, ints, h.3, f.number, f.end, more)))

@@ -1,7 +1,7 @@
 use Rattle.std.proofs.Common.{arith, rules, to_z-of_z, FitsSigned, w32, w64}
 use Rattle.day_numbers.proofs.SignedArithmeticLemmas.{signed_arith}
 use Rattle.solar_calendars.proofs.JulianLemmas.{julian_year_on}
-use Rattle.solar_calendars.proofs.julian.year_on.Goals as goal
+use Rattle.solar_calendars.proofs.julian.JulianRuledCalendar.year_on.Goals as goal
 
 pub returns : goal.returns
 returns c =
@@ -12,7 +12,7 @@ returns c =
     c.div_euclid.ensures (omega (arith, signed_arith)) in
     record {
       has = simp to_z-of_z c.year_after.ensures.has;
-      near = search rules;
+      in_range = search rules;
       after = simp to_z-of_z in_year.0;
       before = simp to_z-of_z in_year.1;
     }

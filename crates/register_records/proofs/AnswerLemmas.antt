@@ -25,7 +25,7 @@ use Rattle.date_texts.proofs.LawWords.{CellsArePlain, OneCell}
 use Rattle.register_records.specs.Answers.{cells_of, fields_of}
 use Rattle.register_records.specs.Columns.{Column, cell_columns}
 use Rattle.register_records.specs.TableColumns.{AreFields, IsCellField, answer_field, answer_order, answer_texts, answered}
-use Rattle.register_records.specs.LineRoom.{answer_room, answers_room}
+use Rattle.register_records.specs.LineRoom.{columns_room, plain_room}
 use Rattle.register_records.specs.Lines.{fields_behind, writing}
 use Rattle.register_records.specs.Outcomes.{AreCells}
 use Rattle.register_records.specs.Seen.{outcome_seen}
@@ -83,10 +83,10 @@ one_more_part : (d : ℕ) (bytes field : List ℕ) → needs_quotes (writing d) 
 one_more_part d [] field h = rw (same_byte_cuts d, plain_is_whole d field h) refl
 one_more_part d (b ∷ bytes) field h =
     rw (one_more_part d bytes field h) (
-      elim (cuts d b) as (λ v. cond v ([] ∷ (slice_split (cuts d) bytes ++ field ∷ []))
-          (onto_first b (slice_split (cuts d) bytes ++ field ∷ []))
-          ≡ cond v ([] ∷ slice_split (cuts d) bytes) (onto_first b (slice_split (cuts d) bytes)) ++ field ∷ [])
-          [ true ↦ refl | false ↦ part_behind b (slice_split (cuts d) bytes) field (some_parts d bytes) ]
+    elim (cuts d b) as (λ v. cond v ([] ∷ (slice_split (cuts d) bytes ++ field ∷ []))
+    (onto_first b (slice_split (cuts d) bytes ++ field ∷ []))
+    ≡ cond v ([] ∷ slice_split (cuts d) bytes) (onto_first b (slice_split (cuts d) bytes)) ++ field ∷ [])
+    [ true ↦ refl | false ↦ part_behind b (slice_split (cuts d) bytes) field (some_parts d bytes) ]
     )
 
 -- the fields of some bytes, and of one more behind them
@@ -188,11 +188,11 @@ no_cells r place (t ∷ ts) (x ∷ fields) a =
 
 -- there is room for the columns that are left
 pub room_left : (columns : List TableColumn) (i : ℕ) (e : TableColumn) (old new : ℕ) → i < length columns
-    → new ≤ old + answer_room (get_or columns i e) → old + answers_room (drop i columns) ≤ ANSWER_ROOM
-    → new + answers_room (drop (i + 1) columns) ≤ ANSWER_ROOM
+    → new ≤ old + plain_room (get_or columns i e) → old + columns_room plain_room (drop i columns) ≤ ANSWER_ROOM
+    → new + columns_room plain_room (drop (i + 1) columns) ≤ ANSWER_ROOM
 room_left columns i e old new lt grows room =
-    let split : answers_room (drop i columns) ≡ answer_room (get_or columns i e) + answers_room (drop (i + 1) columns) =
-    at_drop_more answers_room columns i e lt in
+    let split : columns_room plain_room (drop i columns) ≡ plain_room (get_or columns i e) + columns_room plain_room (drop (i + 1) columns) =
+    at_drop_more (columns_room plain_room) columns i e lt in
     omega arith
 
 -- as many stand beside a list as it has items

@@ -1,7 +1,9 @@
 -- How many bytes the fields of a line take at most. No public contract cites this file.
 use Rattle.std.specs.Prelude.{◌+◌, ◌*◌, ℕ, List, [], ◌∷◌}
+use Rattle.date_texts.specs.declared.calendar.TheConstants.{MAX_TARGETS}
+use Rattle.date_texts.specs.declared.cells.TheConstants.{MAX_CELL}
 use Rattle.register_records.specs.declared.entries.TheConstants.{CALENDAR_LIMIT, DATE_LIMIT, ID_LIMIT, NOTE_LIMIT}
-use Rattle.register_records.specs.declared.answers.TheConstants.{CELLS_ROOM, DAY_COLUMN_ROOM, REFUSAL_ROOM}
+use Rattle.register_records.specs.declared.answers.TheConstants.{DAY_LIMIT, REFUSAL_LIMIT}
 use Rattle.register_records.specs.declared.table_columns.TableColumn.{TableColumn}
 use Rattle.register_records.specs.declared.table_columns.TableColumn.TheVariants.{Calendar, Cells, Date, DayNumber, Id}
 use Rattle.register_records.specs.declared.table_columns.TableColumn.TheVariants.{Note, Number, Refusal, Weekday}
@@ -14,32 +16,31 @@ field_room n = 2 + 2 * n
 abbrev pub number_room : ℕ
 number_room = 40
 
--- what stands in a column of an entry
+-- each field of a column
 abbrev pub column_limit : TableColumn → ℕ
 column_limit Number = number_room
 column_limit Id = ID_LIMIT
 column_limit Calendar = CALENDAR_LIMIT
 column_limit Date = DATE_LIMIT
 column_limit Note = NOTE_LIMIT
-column_limit column = 0
+column_limit DayNumber = DAY_LIMIT
+column_limit Weekday = DAY_LIMIT
+column_limit Cells = MAX_CELL
+column_limit Refusal = REFUSAL_LIMIT
 
--- the fields of columns of an entry, each after a delimiter
-abbrev pub columns_room : List TableColumn → ℕ
-columns_room [] = 0
-columns_room (column ∷ columns) = (1 + field_room (column_limit column)) + columns_room columns
+-- the fields of a column, each after a delimiter: quoted, and as they are
+abbrev pub quoted_room : TableColumn → ℕ
+quoted_room column = 1 + field_room (column_limit column)
+
+abbrev pub plain_room : TableColumn → ℕ
+plain_room Cells = MAX_TARGETS * (1 + column_limit Cells)
+plain_room column = 1 + column_limit column
+
+-- those of some columns
+abbrev pub columns_room : (TableColumn → ℕ) → List TableColumn → ℕ
+columns_room room [] = 0
+columns_room room (column ∷ columns) = room column + columns_room room columns
 
 -- the fields that a row has of its entry
 abbrev pub entry_room : ℕ
-entry_room = number_room + columns_room (Id ∷ Calendar ∷ Date ∷ Note ∷ [])
-
--- the fields of a column of an answer, each after a delimiter, and those of some
-abbrev pub answer_room : TableColumn → ℕ
-answer_room DayNumber = DAY_COLUMN_ROOM
-answer_room Weekday = DAY_COLUMN_ROOM
-answer_room Cells = CELLS_ROOM
-answer_room Refusal = REFUSAL_ROOM
-answer_room column = 0
-
-abbrev pub answers_room : List TableColumn → ℕ
-answers_room [] = 0
-answers_room (column ∷ columns) = answer_room column + answers_room columns
+entry_room = number_room + columns_room quoted_room (Id ∷ Calendar ∷ Date ∷ Note ∷ [])

@@ -18,25 +18,21 @@ columns_seen c = record { id = c.id.now; calendar = c.calendar.now; date = c.dat
 
 -- a reader of entries has failed, or it has come to the end
 abbrev pub has_failed : ReaderState → Bool
-has_failed state.Open = false
-has_failed state.Ended = false
 has_failed state.Failed = true
+has_failed other = false
 
 abbrev pub has_ended : ReaderState → Bool
-has_ended state.Open = false
 has_ended state.Ended = true
-has_ended state.Failed = false
+has_ended other = false
 
 -- a writer of rows has stopped, or its output has failed
 abbrev pub has_stopped : WriterState → Bool
 has_stopped writer.Open = false
-has_stopped writer.OutOfMemory = true
-has_stopped writer.Sunk = true
+has_stopped other = true
 
 abbrev pub has_sunk : WriterState → Bool
-has_sunk writer.Open = false
-has_sunk writer.OutOfMemory = false
 has_sunk writer.Sunk = true
+has_sunk other = false
 
 -- the entry as a text has it
 abbrev pub entry_seen : Entry → Numbered

@@ -7,14 +7,13 @@ ghost use Rattle.std.specs.List.{AllZip};
 ghost use Rattle.csv.specs.Writing.{fields_text, needs_quotes};
 ghost use Rattle.date_texts.specs.declared.calendar.TheConstants.{MAX_TARGETS};
 ghost use Rattle.date_texts.specs.declared.cells.TheConstants.{MAX_CELL};
-ghost use Rattle.register_records.specs.LineRoom.{answer_room};
+ghost use Rattle.register_records.specs.LineRoom.{plain_room};
 ghost use Rattle.register_records.specs.Lines.{fields_behind, writing};
 ghost use Rattle.register_records.specs.Outcomes.{AreCells};
 ghost use Rattle.register_records.specs.Seen.{outcome_seen};
 ghost use Rattle.register_records.specs.SetupRules.{is_delimiter};
-ghost use Rattle.register_records.specs.TableColumns.{AreFields, IsCellField, answer_field, answer_texts};
-ghost use Rattle.register_records.specs.declared.answers.TheConstants.{ANSWER_ROOM, CELL_ROOM, CELLS_ROOM};
-ghost use Rattle.register_records.specs.declared.answers.TheConstants.{DAY_COLUMN_ROOM, REFUSAL_ROOM};
+ghost use Rattle.register_records.specs.TableColumns.{AreFields, IsCellField, answer_texts};
+ghost use Rattle.register_records.specs.declared.answers.TheConstants.{ANSWER_ROOM, CELL_ROOM};
 
 use crate::table_columns::{TableColumn, answer_columns};
 use date_texts::laws::cells_are_plain;
@@ -22,20 +21,20 @@ use date_texts::{MAX_CELL, MAX_TARGETS, Refusal, Target, write_cell};
 use day_numbers::Day;
 use itoa::Buffer;
 
-/// Room for a column of a day behind its delimiter: the longest name of a weekday has nine bytes, a day number eight.
-const DAY_COLUMN_ROOM: usize = 10;
+/// The most bytes of a column of the day: the longest name of a weekday has nine, a day number eight.
+const DAY_LIMIT: usize = 9;
+
+/// The digits of a refusal's number.
+const REFUSAL_LIMIT: usize = 1;
 
 /// Room for a cell behind its delimiter.
 const CELL_ROOM: usize = 1 + MAX_CELL;
 
-/// Room for the cells of all targets.
-const CELLS_ROOM: usize = MAX_TARGETS * CELL_ROOM;
-
-/// Room for the digit of a refusal behind its delimiter.
-const REFUSAL_ROOM: usize = 2;
-
-/// Room for the longest answer: the number of the day and its weekday, the cells, and the refusal.
-pub(crate) const ANSWER_ROOM: usize = 2 * DAY_COLUMN_ROOM + CELLS_ROOM + REFUSAL_ROOM;
+/// Room for the longest answer: the number of the day and its weekday, the cells of all targets, and the refusal, each
+/// behind a delimiter.
+pub(crate) const ANSWER_ROOM: usize = 2 * (1 + DAY_LIMIT)
+    + MAX_TARGETS * CELL_ROOM
+    + (1 + REFUSAL_LIMIT);
 
 /// The fields of an answer, each behind a delimiter. None of them needs quotes.
 #[derive(Clone, Copy)]
@@ -115,34 +114,6 @@ impl Answer {
         self.len = end as u16;
     }
 
-    /// Appends the number of the day, which a refused row has not.
-    fn push_day_number(&mut self, outcome: Result<Day, Refusal>)
-        requires { self.old.len + DAY_COLUMN_ROOM ≤ ANSWER_ROOM }
-        ensures value { fields_of self.new
-            ≡ fields_of self.old ++ answer_field (outcome_seen outcome) TableColumn.DayNumber ∷ [] }
-        ensures grows { self.new.len ≤ self.old.len + DAY_COLUMN_ROOM }
-        ensures delimiter { self.new.delimiter ≡ self.old.delimiter }
-    {
-        match outcome {
-            Ok(day) => self.push(Buffer::new().format(day.number()).as_bytes()),
-            Err(_) => self.push(b""),
-        }
-    }
-
-    /// Appends the name of the weekday, which a refused row has not.
-    fn push_weekday(&mut self, outcome: Result<Day, Refusal>)
-        requires { self.old.len + DAY_COLUMN_ROOM ≤ ANSWER_ROOM }
-        ensures value { fields_of self.new
-            ≡ fields_of self.old ++ answer_field (outcome_seen outcome) TableColumn.Weekday ∷ [] }
-        ensures grows { self.new.len ≤ self.old.len + DAY_COLUMN_ROOM }
-        ensures delimiter { self.new.delimiter ≡ self.old.delimiter }
-    {
-        match outcome {
-            Ok(day) => self.push(day.weekday().name().as_bytes()),
-            Err(_) => self.push(b""),
-        }
-    }
-
     /// Appends what stands in the column of a target. All the room of a cell is copied, and what lies behind its text is
     /// written over by the next field: a copy of a fixed length is cheap.
     #[inline(always)]
@@ -165,10 +136,10 @@ impl Answer {
     /// Appends the cells, which a refused row has not.
     fn push_cells(&mut self, targets: &[Target], outcome: Result<Day, Refusal>)
         requires few { length targets.now ≤ MAX_TARGETS }
-        requires room { self.old.len + CELLS_ROOM ≤ ANSWER_ROOM }
+        requires room { self.old.len + plain_room TableColumn.Cells ≤ ANSWER_ROOM }
         ensures value { (cells : List (List ℕ)) × AllZip (IsCellField (outcome_seen outcome)) targets.now cells
             × (fields_of self.new ≡ fields_of self.old ++ cells) }
-        ensures grows { self.new.len ≤ self.old.len + CELLS_ROOM }
+        ensures grows { self.new.len ≤ self.old.len + plain_room TableColumn.Cells }
         ensures delimiter { self.new.delimiter ≡ self.old.delimiter }
     {
         'cells: for target in targets {
@@ -176,21 +147,7 @@ impl Answer {
         }
     }
 
-    /// Appends the number of the refusal, which an accepted row has not.
-    fn push_refusal(&mut self, outcome: Result<Day, Refusal>)
-        requires { self.old.len + REFUSAL_ROOM ≤ ANSWER_ROOM }
-        ensures value { fields_of self.new
-            ≡ fields_of self.old ++ answer_field (outcome_seen outcome) TableColumn.Refusal ∷ [] }
-        ensures grows { self.new.len ≤ self.old.len + REFUSAL_ROOM }
-        ensures delimiter { self.new.delimiter ≡ self.old.delimiter }
-    {
-        match outcome {
-            Ok(_) => self.push(b""),
-            Err(refusal) => self.push(Buffer::new().format(refusal.number()).as_bytes()),
-        }
-    }
-
-    /// Appends the fields of a column of an answer.
+    /// Appends what stands in a column of an answer. A refused row has no day, and an accepted one no refusal.
     fn push_column(
         &mut self,
         column: TableColumn,
@@ -198,22 +155,31 @@ impl Answer {
         outcome: Result<Day, Refusal>,
     )
         requires few { length targets.now ≤ MAX_TARGETS }
-        requires room { self.old.len + answer_room column ≤ ANSWER_ROOM }
+        requires room { self.old.len + plain_room column ≤ ANSWER_ROOM }
         ensures value { (fields : List (List ℕ)) × AreFields targets.now (outcome_seen outcome) column fields
             × (fields_of self.new ≡ fields_of self.old ++ fields) }
-        ensures grows { self.new.len ≤ self.old.len + answer_room column }
+        ensures grows { self.new.len ≤ self.old.len + plain_room column }
         ensures delimiter { self.new.delimiter ≡ self.old.delimiter }
     {
-        match column {
-            TableColumn::DayNumber => self.push_day_number(outcome),
-            TableColumn::Weekday => self.push_weekday(outcome),
-            TableColumn::Cells => self.push_cells(targets, outcome),
-            TableColumn::Refusal => self.push_refusal(outcome),
-            TableColumn::Number
-            | TableColumn::Id
-            | TableColumn::Calendar
-            | TableColumn::Date
-            | TableColumn::Note => (),
+        match (column, outcome) {
+            (TableColumn::DayNumber, Ok(day)) => {
+                self.push(Buffer::new().format(day.number()).as_bytes());
+            }
+            (TableColumn::Weekday, Ok(day)) => self.push(day.weekday().name().as_bytes()),
+            (TableColumn::Cells, _) => self.push_cells(targets, outcome),
+            (TableColumn::Refusal, Err(refusal)) => {
+                self.push(Buffer::new().format(refusal.number()).as_bytes());
+            }
+            (TableColumn::DayNumber | TableColumn::Weekday, Err(_))
+            | (TableColumn::Refusal, Ok(_)) => self.push(b""),
+            (
+                TableColumn::Number
+                | TableColumn::Id
+                | TableColumn::Calendar
+                | TableColumn::Date
+                | TableColumn::Note,
+                _,
+            ) => (),
         }
     }
 

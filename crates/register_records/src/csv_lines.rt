@@ -53,21 +53,6 @@ fn push_escaped(line: &mut Vec<u8>, delimiter: u8, b: u8) -> Result<(), AllocErr
     Ok(())
 }
 
-/// Appends a field between quotes.
-fn push_quoted(line: &mut Vec<u8>, delimiter: u8, field: &[u8]) -> Result<(), AllocError>
-    ensures value { OnOk result (line.new.items ≡ line.old.items ++ Spec.quoted (writing delimiter) field.now) }
-    ensures room { vec_len line.old + field_room (length field.now) ≤ vec_capacity line.old → IsOk result }
-    ensures grows { OnOk result (vec_len line.new ≤ vec_len line.old + field_room (length field.now)) }
-    ensures capacity { vec_capacity line.old ≤ vec_capacity line.new }
-{
-    line.push(QUOTE)?;
-    'bytes: for i in 0..field.len() {
-        push_escaped(line, delimiter, field[i])?;
-    }
-    line.push(QUOTE)?;
-    Ok(())
-}
-
 /// Appends a field, quoted where it must be.
 fn push_field(line: &mut Vec<u8>, delimiter: u8, field: &[u8]) -> Result<(), AllocError>
     ensures value { OnOk result (line.new.items ≡ line.old.items ++ Spec.field_text (writing delimiter) field.now) }
@@ -75,11 +60,15 @@ fn push_field(line: &mut Vec<u8>, delimiter: u8, field: &[u8]) -> Result<(), All
     ensures grows { OnOk result (vec_len line.new ≤ vec_len line.old + field_room (length field.now)) }
     ensures capacity { vec_capacity line.old ≤ vec_capacity line.new }
 {
-    if needs_quotes(delimiter, field) {
-        push_quoted(line, delimiter, field)?;
-    } else {
+    if !needs_quotes(delimiter, field) {
         line.extend_from_slice(field)?;
+        return Ok(());
     }
+    line.push(QUOTE)?;
+    'bytes: for b in field {
+        push_escaped(line, delimiter, *b)?;
+    }
+    line.push(QUOTE)?;
     Ok(())
 }
 

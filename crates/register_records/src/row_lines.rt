@@ -12,13 +12,11 @@ ghost use Rattle.register_records.specs.Views.{answer_fields, row_seen, row_targ
 ghost use Rattle.register_records.specs.declared.answers.TheConstants.{ANSWER_ROOM};
 ghost use Rattle.register_records.specs.declared.row_lines.TheConstants.{LINE_ROOM};
 
-use crate::answers::Answer;
 use crate::csv_lines::Lines;
 use crate::rows::Row;
 use crate::setups::Form;
 use crate::table_columns::{TableColumn, answer_columns, entry_columns};
 use date_texts::Target;
-use date_texts::laws::one_cell;
 use itoa::Buffer;
 use std::alloc::AllocError;
 
@@ -53,11 +51,7 @@ fn push_target_names(lines: &mut Lines, targets: &[Target]) -> Result<(), AllocE
 }
 
 /// Appends what heads a column: its name, or for the cells those of their targets.
-fn push_names(
-    lines: &mut Lines,
-    column: TableColumn,
-    targets: &[Target],
-) -> Result<(), AllocError>
+fn push_names(lines: &mut Lines, column: TableColumn, targets: &[Target]) -> Result<(), AllocError>
     ensures value { OnOk result (GainsFields (column_names targets.now column) lines.old lines.new) }
     ensures kept { line_delimiter lines.new ≡ line_delimiter lines.old }
     ensures capacity { line_capacity lines.old ≤ line_capacity lines.new }
@@ -120,23 +114,8 @@ fn push_answer(lines: &mut Lines, row: &Row) -> Result<(), AllocError>
     if row.answer().delimiter() == lines.delimiter() {
         lines.push_fields(row.answer().as_slice())
     } else {
-        push_other_answer(lines, row)
+        lines.push_fields(row.answer_with(lines.delimiter()).as_slice())
     }
-}
-
-/// Appends the fields of a row behind those of its entry, written anew.
-#[inline(never)]
-fn push_other_answer(lines: &mut Lines, row: &Row) -> Result<(), AllocError>
-    ensures value { OnOk result (GainsFields (answer_fields row.now) lines.old lines.new) }
-    ensures kept { line_delimiter lines.new ≡ line_delimiter lines.old }
-    ensures room { line_len lines.old + ANSWER_ROOM ≤ line_capacity lines.old → IsOk result }
-    ensures grows { OnOk result (line_len lines.new ≤ line_len lines.old + ANSWER_ROOM) }
-    ensures capacity { line_capacity lines.old ≤ line_capacity lines.new }
-{
-    one_cell();
-    let mut answer = Answer::new(lines.delimiter());
-    answer.set(row.targets(), row.outcome(), lines.delimiter());
-    lines.push_fields(answer.as_slice())
 }
 
 /// Appends the line of a row, where there is memory for it.

@@ -38,8 +38,9 @@ pub struct Row {
 impl Row {
     ghost use Rattle.std.specs.Prelude.{◌↔◌, ◌<◌, ◌+◌, ◌∷◌, ◌++◌, [], true, IsOk, MatchOption, OnErr, OnOk, vec_capacity};
     ghost use Rattle.std.specs.Prelude.{vec_len};
+    ghost use Rattle.register_records.specs.SetupRules.{is_delimiter};
     ghost use Rattle.register_records.specs.Tables.{notes_of};
-    ghost use Rattle.register_records.specs.Views.{row_seen, row_targets, targets_of};
+    ghost use Rattle.register_records.specs.Views.{answer_fields, row_seen, row_targets, targets_of};
 
     /// A row before any entry was converted: that of an entry without texts, for no target.
     pub fn blank() -> Row {
@@ -107,6 +108,19 @@ impl Row {
         ensures { result.now ≡ self.now.answer }
     {
         &self.answer
+    }
+
+    /// The same for a table with another delimiter, written anew.
+    #[inline(never)]
+    pub(crate) fn answer_with(&self, delimiter: u8) -> Answer
+        requires { is_delimiter delimiter ≡ true }
+        ensures value { fields_of result ≡ answer_fields self.now }
+        ensures delimiter { result.delimiter ≡ delimiter }
+    {
+        one_cell();
+        let mut answer = Answer::new(delimiter);
+        answer.set(self.targets(), self.outcome, delimiter);
+        answer
     }
 
     /// Whether the row was made for the setup's targets.

@@ -94,7 +94,10 @@ impl TableColumn {
             (TableColumn::Date, Body::Fields { date, .. }) => date.as_str(),
             (TableColumn::Note, Body::Fields { note, .. }) => note.as_str(),
             (
-                TableColumn::DayNumber | TableColumn::Weekday | TableColumn::Cells | TableColumn::Refusal,
+                TableColumn::DayNumber
+                | TableColumn::Weekday
+                | TableColumn::Cells
+                | TableColumn::Refusal,
                 _,
             ) => "",
             (_, Body::Refused(_)) => "",

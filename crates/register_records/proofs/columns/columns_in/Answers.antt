@@ -1,23 +1,20 @@
-use Rattle.std.proofs.Common.{◌≡◌, ◌<◌, ◌∙◌, ap, arith, length}
+use Rattle.std.proofs.Common.{◌≡◌, ◌<◌, ◌∙◌, ap, arith, length, lit<}
 use Rattle.csv.specs.Records.{fields_of}
 use Rattle.register_records.specs.Records.{field_count}
-use Rattle.register_records.proofs.FieldLemmas.{field_there, plain_texts, sealed_texts, three_or_four}
+use Rattle.register_records.proofs.FieldLemmas.{field_there, one_of_three, plain_texts, sealed_texts}
 use Rattle.register_records.proofs.columns.columns_in.Goals as goal
 
 pub returns-in_err-id : goal.returns-in_err-id
 returns-in_err-id c =
-    field_there c.args.form (fields_of c.args.csv_record.now) 0 (omega arith)
-    (omega (arith, three_or_four c.args.form)) c.in_err-id.ensures.value
+    one_of_three c.args.form (fields_of c.args.csv_record.now) 0 (omega arith) (lit< tt) c.in_err-id.ensures.value
 
 pub returns-in_err-calendar : goal.returns-in_err-calendar
 returns-in_err-calendar c =
-    field_there c.args.form (fields_of c.args.csv_record.now) 1 (omega arith)
-    (omega (arith, three_or_four c.args.form)) c.in_err-calendar.ensures.value
+    one_of_three c.args.form (fields_of c.args.csv_record.now) 1 (omega arith) (lit< tt) c.in_err-calendar.ensures.value
 
 pub returns-in_err-date : goal.returns-in_err-date
 returns-in_err-date c =
-    field_there c.args.form (fields_of c.args.csv_record.now) 2 (omega arith)
-    (omega (arith, three_or_four c.args.form)) c.in_err-date.ensures.value
+    one_of_three c.args.form (fields_of c.args.csv_record.now) 2 (omega arith) (lit< tt) c.in_err-date.ensures.value
 
 pub returns-in-Plain : goal.returns-in-Plain
 returns-in-Plain c =

@@ -8,7 +8,7 @@ use Rattle.register_records.proofs.table_columns.TableColumn.field.Goals.{in_def
 pub returns-in_default-Refused-clause-value : goal.returns-in_default-Refused-clause-value
 returns-in_default-Refused-clause-value c =
     elim c.in_default-Refused.branch [
-      in_default-Refused-via-in-Id+in-Refused w ↦ search rules
+      | in_default-Refused-via-in-Id+in-Refused w ↦ search rules
       | in_default-Refused-via-in-Calendar+in-Refused w ↦ search rules
       | in_default-Refused-via-in-Date+in-Refused w ↦ search rules
       | in_default-Refused-via-in-Note+in-Refused w ↦ search rules

@@ -2,7 +2,7 @@ use Rattle.std.proofs.Common.{◌<◌, ◌∙◌, ◌++◌, ap, append_assoc, ar
 use Rattle.csv.specs.Writing.{escaped}
 use Rattle.csv.proofs.WriteFacts.{quoted-step}
 use Rattle.register_records.specs.Lines.{writing}
-use Rattle.register_records.proofs.csv_lines.push_quoted.Goals as goal
+use Rattle.register_records.proofs.csv_lines.push_field.Goals as goal
 
 pub bytes-init : goal.bytes-init
 unfolding escaped
@@ -15,12 +15,12 @@ bytes-init c =
 
 pub bytes-preserved : goal.bytes-preserved
 bytes-preserved c =
-    let lt : c.bytes.i < length c.args.field.now = omega arith in
+    let lt : c.bytes.b-index < length c.args.field.now = omega arith in
     let inv = c.bytes.invariant in
     record {
       escaped = c.in_ok-push_escaped.ensures.value ∙ rw (inv.escaped, append_assoc)
           (ap (λ t. c.args.line.now.items ++ t)
-          (quoted-step (writing c.args.delimiter) 34 c.args.field.now c.bytes.i lt));
+          (quoted-step (writing c.args.delimiter) 34 c.args.field.now c.bytes.b-index lt));
       grown = omega (arith, c.in_ok-push_escaped.ensures.grows, inv.grown);
       kept = omega (arith, c.in_ok-push_escaped.ensures.capacity, inv.kept);
     }

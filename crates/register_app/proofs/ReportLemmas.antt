@@ -3,7 +3,6 @@ use Rattle.std.proofs.Common.{◌≡◌, ◌≢◌, ◌∙◌, ◌<◌, ◌≤�
 use Rattle.std.proofs.Common.{arith, append_assoc, append-nil, eq-eqb, ne_eqb, length-append, Option, None, Some}
 use Rattle.std.proofs.Common.{Bool, true, false, zero, suc}
 use Rattle.std.specs.Prelude.{All}
-use Rattle.std.specs.Io.KnownBytes.{Appends}
 use Rattle.std.proofs.lemmas.List.{drop_more}
 use Rattle.std.proofs.lemmas.List.Elements.{All-head, All-tail}
 use Rattle.register_records.specs.Sources.{is_whole_end}
@@ -11,16 +10,6 @@ use Rattle.register_records.specs.declared.sources.SourceEnd.{SourceEnd}
 use Rattle.register_records.specs.declared.sources.SourceEnd.TheVariants as ended
 use Rattle.register_records.specs.declared.sources.Note.{Note}
 use Rattle.register_app.specs.Reports.{count_text, counts_from, line_of_end, lines_from, refusal_numbers, refused_with}
-
-pub appends_none : (bytes : Option (List ℕ)) → Appends bytes bytes []
-appends_none None = tt
-appends_none (Some xs) = sym (append-nil xs)
-
-pub appends_both : (a b c : Option (List ℕ)) (xs ys : List ℕ) → Appends a b xs → Appends b c ys → Appends a c (xs ++ ys)
-appends_both None b c xs ys h k = tt
-appends_both (Some us) None c xs ys h k = absurd h
-appends_both (Some us) (Some vs) None xs ys h k = k
-appends_both (Some us) (Some vs) (Some ws) xs ys h k = k ∙ ap (λ t. t ++ ys) h ∙ append_assoc us xs ys
 
 -- with the next line told, one line fewer is left
 pub lines_more : (summary : Bool) (ends : List SourceEnd) (i : ℕ) (e : SourceEnd) (text all : List ℕ) → i < length ends

@@ -1,6 +1,6 @@
 -- Which file serves which public clause:
 --   MatchLemmas, ApartLemmas: `opened`, `made`, `kept` and `apart` of `open_files`.
---   ToldLemmas: the contract of `write` of `Told`.
+--   AppendsLemmas: the contract of `write` of `Told`.
 mod MatchLemmas
-mod ToldLemmas
+pub mod AppendsLemmas
 mod ApartLemmas

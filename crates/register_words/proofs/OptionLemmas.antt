@@ -1,12 +1,14 @@
 -- From what clap says of options to their values, and from a fault of a value to the first check that fails.
-use Rattle.std.proofs.Common.{◌≡◌, ap, Bool, true, false, List, Option, Some, None, codes, refl, sym}
-use Rattle.std.specs.Prelude.{◌↔◌, IfSome, IsSomeAnd}
+use Rattle.std.proofs.Common.{◌≡◌, ap, ℕ, Bool, true, false, List, Option, Some, None, codes, refl, sym, subst}
+use Rattle.std.specs.Prelude.{◌↔◌, IfErr, IfOk, IfSome, IsSomeAnd}
+use Rattle.std.specs.Option.{ok_or}
 use Rattle.std.specs.Str.{bytes_eq}
 use Rattle.std.proofs.lemmas.Slice.Eq.{bytes_eq-Decides}
 use Rattle.clap.specs.Words.{Text}
 use Rattle.register_words.specs.CommandLine.{is_set}
-use Rattle.register_words.specs.Faults.{Fault}
-use Rattle.register_words.specs.Requests.{Check, FailFirst}
+use Rattle.register_words.specs.Faults.{Fault, fault_told}
+use Rattle.register_words.specs.Requests.{Check, FailFirst, IsNumberFault, IsNumberOf, NumberOption}
+use Rattle.register_words.specs.declared.request_faults.RequestFault.{RequestFault}
 
 -- a flag that is given exactly where its text is `true` is set as its text says
 pub set_by_text : (b : Bool) (text : Option Text) → ((b ≡ true) ↔ (text ≡ Some (codes "true"))) → b ≡ is_set text
@@ -36,3 +38,21 @@ found_first (Some fault) fails checks is first = first fault is
 pub if_some : (told : Option Fault) (fails : Fault → Type 0) → IsSomeAnd told fails → IfSome told fails
 if_some None fails is = tt
 if_some (Some fault) fails is = is
+
+-- an option asks for the number that its word names
+pub asks_named : (option : NumberOption) (word : Text) (named : Option ℕ) (error : RequestFault)
+    → ((n : ℕ) → (named ≡ Some n) ↔ option.names word n) → IfOk (ok_or named error) (IsNumberOf option (Some word))
+asks_named option word None error is = tt
+asks_named option word (Some n) error is = (is n).0 refl
+
+-- where its word names none, that is its fault
+pub faults_unnamed : (option : NumberOption) (word : Text) (named : Option ℕ) (error : RequestFault)
+    → ((n : ℕ) → (named ≡ Some n) ↔ option.names word n) → fault_told error ≡ Some (option.fault word)
+    → IfErr (ok_or named error) (λ e. IsSomeAnd (fault_told e) (IsNumberFault option (Some word)))
+faults_unnamed option word (Some n) error is told = tt
+faults_unnamed option word None error is told =
+    subst (λ fault. IsSomeAnd fault (IsNumberFault option (Some word))) (sym told)
+    (word, refl, refl, λ n names. none n ((is n).1 names))
+  where
+    none : (n : ℕ) → None ≡ Some n → ⊥
+    none n e = cc

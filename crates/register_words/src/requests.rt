@@ -207,10 +207,7 @@ fn chosen_ring<'a>(word: Option<&'a str>) -> Result<usize, RequestFault<'a>>
     let Some(word) = word else {
         return Ok(RING);
     };
-    match number_named(word, MAX_RING) {
-        Some(ring) => Ok(ring),
-        None => Err(RequestFault::BadRing(word)),
-    }
+    number_named(word, MAX_RING).ok_or(RequestFault::BadRing(word))
 }
 
 /// The byte that the value of `--delimiter` names, or a comma where there is none.
@@ -222,10 +219,7 @@ fn chosen_delimiter<'a>(word: Option<&'a str>) -> Result<u8, RequestFault<'a>>
     let Some(word) = word else {
         return Ok(b',');
     };
-    match delimiter_named(word) {
-        Some(delimiter) => Ok(delimiter),
-        None => Err(RequestFault::UnknownDelimiter(word)),
-    }
+    delimiter_named(word).ok_or(RequestFault::UnknownDelimiter(word))
 }
 
 /// The number of converters that the value of `--stripes` names, or the usual one where there is none.
@@ -237,10 +231,7 @@ fn chosen_stripes<'a>(word: Option<&'a str>) -> Result<usize, RequestFault<'a>>
     let Some(word) = word else {
         return Ok(STRIPES);
     };
-    match number_named(word, MAX_STRIPES) {
-        Some(stripes) => Ok(stripes),
-        None => Err(RequestFault::BadStripes(word)),
-    }
+    number_named(word, MAX_STRIPES).ok_or(RequestFault::BadStripes(word))
 }
 
 /// The form of the registers: sealed where the flag is given, and else plain.

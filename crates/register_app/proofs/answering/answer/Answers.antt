@@ -42,6 +42,11 @@ at_most_three status high (inl zero) = absurd (omega (arith, high, zero))
 at_most_three status high (inr (inl one)) = absurd (omega (arith, high, one))
 at_most_three status high (inr (inr three)) = three
 
+never_two : (status : ℕ) → (status ≡ 0) ⊎ (status ≡ 1) ⊎ (status ≡ 3) → status ≡ 2 → ⊥
+never_two status (inl zero) two = absurd (omega (arith, two, zero))
+never_two status (inr (inl one)) two = absurd (omega (arith, two, one))
+never_two status (inr (inr three)) two = absurd (omega (arith, two, three))
+
 none_of : {A : Type 0} (xs : List A) → length xs ≡ 0 → xs ≡ []
 none_of [] e = refl
 none_of (x ∷ xs) e = absurd (omega (arith, e))
@@ -63,15 +68,10 @@ returns-then-is_empty-clause-answered g c = λ low.
 
 pub returns-then-is_empty-clause-refused : goal.returns-then-is_empty-clause-refused
 returns-then-is_empty-clause-refused g c =
-    let words = map string_bytes c.args.words.now in
-    let task = task_of c.in-Ok-Convert.job in
-    let just : MeanJust words (table task) = search (rules, c.in-Ok-Convert.ensures.asked) in
-    λ had. never_refused words (table task) c.convert_input.result.status just (λ fault e. cc)
-    (λ two. elim c.convert_input.ensures.statuses [
-      | inl zero ↦ absurd (omega (arith, two, zero))
-      | inr (inl one) ↦ absurd (omega (arith, two, one))
-      | inr (inr three) ↦ absurd (omega (arith, two, three))
-    ])
+    let just : MeanJust (map string_bytes c.args.words.now) (table (task_of c.in-Ok-Convert.job))
+        = search (rules, c.in-Ok-Convert.ensures.asked) in
+    λ had. never_refused _ _ c.convert_input.result.status just (λ fault e. cc)
+    (never_two c.convert_input.result.status c.convert_input.ensures.statuses)
 
 map_none : {A B : Type 0} (f : A → B) (xs : List A) → map f xs ≡ [] → xs ≡ []
 map_none f [] e = refl
@@ -93,15 +93,10 @@ returns-else-is_empty-clause-answered g c = λ low.
 
 pub returns-else-is_empty-clause-refused : goal.returns-else-is_empty-clause-refused
 returns-else-is_empty-clause-refused g c =
-    let words = map string_bytes c.args.words.now in
-    let task = task_of c.in-Ok-Convert.job in
-    let just : MeanJust words (table task) = search (rules, c.in-Ok-Convert.ensures.asked) in
-    λ had. never_refused words (table task) c.convert_files.result.status just (λ fault e. cc)
-    (λ two. elim c.convert_files.ensures.statuses [
-      | inl zero ↦ absurd (omega (arith, two, zero))
-      | inr (inl one) ↦ absurd (omega (arith, two, one))
-      | inr (inr three) ↦ absurd (omega (arith, two, three))
-    ])
+    let just : MeanJust (map string_bytes c.args.words.now) (table (task_of c.in-Ok-Convert.job))
+        = search (rules, c.in-Ok-Convert.ensures.asked) in
+    λ had. never_refused _ _ c.convert_files.result.status just (λ fault e. cc)
+    (never_two c.convert_files.result.status c.convert_files.ensures.statuses)
 
 pub returns-in-Err-clause-refused : goal.returns-in-Err-clause-refused
 returns-in-Err-clause-refused g c =

@@ -2,7 +2,8 @@
 use Rattle.std.proofs.Common.{◌≡◌, ◌∙◌, rules, arith, sym, subst, ap, false}
 use Rattle.std.specs.Io.KnownBytes.{Appends}
 use Rattle.register_app.specs.Reports.{lines_from}
-use Rattle.register_app.proofs.ReportLemmas.{appends_none, no_lines}
+use Rattle.register_app.proofs.ReportLemmas.{no_lines}
+use Rattle.register_places.proofs.AppendsLemmas.{appends_none}
 use Rattle.register_app.proofs.answering.tell_report.Goals as goal
 
 pub returns-else-summary-clause-lines : goal.returns-else-summary-clause-lines

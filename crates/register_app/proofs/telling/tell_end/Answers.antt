@@ -3,7 +3,7 @@ use Rattle.std.proofs.Common.{◌≡◌, ◌∙◌, rules, subst, sym, true, is_
 use Rattle.std.specs.Prelude.{OnOk}
 use Rattle.std.specs.Io.KnownBytes.{Appends}
 use Rattle.register_app.specs.Reports.{line_of_end}
-use Rattle.register_app.proofs.ReportLemmas.{appends_none}
+use Rattle.register_places.proofs.AppendsLemmas.{appends_none}
 use Rattle.register_app.proofs.telling.tell_end.Goals as goal
 
 on_ok : {A B : Type 0} (r : Result A B) (P : Type 0) → OnOk r P → is_ok r ≡ true → P

@@ -2,7 +2,8 @@
 use Rattle.std.proofs.Common.{◌∙◌, ◌+◌, ◌++◌, [], ap, refl, subst}
 use Rattle.std.specs.Io.KnownBytes.{Appends}
 use Rattle.register_app.specs.Reports.{line_of_end}
-use Rattle.register_app.proofs.ReportLemmas.{appends_both, appends_none, lines_end, lines_more}
+use Rattle.register_app.proofs.ReportLemmas.{lines_end, lines_more}
+use Rattle.register_places.proofs.AppendsLemmas.{appends_both, appends_none}
 use Rattle.register_app.proofs.telling.tell_ends.Goals as goal
 
 pub ends-init : goal.ends-init

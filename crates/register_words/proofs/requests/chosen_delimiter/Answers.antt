@@ -1,15 +1,13 @@
 -- The word names the byte that it is asked for, or no byte.
 use Rattle.std.proofs.Common.{refl}
+use Rattle.register_words.specs.Requests.{delimiter_option}
+use Rattle.register_words.proofs.OptionLemmas.{asks_named, faults_unnamed}
 use Rattle.register_words.proofs.requests.chosen_delimiter.Goals as goal
 
-pub returns-in-Some-delimiter_named-clause-value : goal.returns-in-Some-delimiter_named-clause-value
-returns-in-Some-delimiter_named-clause-value c = rw c.in-Some.is
-    ((c.delimiter_named.ensures _).0 c.in-Some-delimiter_named.is)
+pub returns-clause-value : goal.returns-clause-value
+returns-clause-value c =
+    rw (c.in-Some.is, c.ok_or.ensures.value) (asks_named delimiter_option c.in-Some.word.now _ _ c.delimiter_named.ensures)
 
-pub returns-in-None-clause-fault : goal.returns-in-None-clause-fault
-returns-in-None-clause-fault c = (
-  c.in-Some.word.now,
-  refl,
-  rw c.in-Some.is refl,
-  λ byte h. let some = (c.delimiter_named.ensures byte).1 h in cc,
-)
+pub returns-clause-fault : goal.returns-clause-fault
+returns-clause-fault c =
+    rw (c.in-Some.is, c.ok_or.ensures.value) (faults_unnamed delimiter_option c.in-Some.word.now _ _ c.delimiter_named.ensures refl)

@@ -6,8 +6,8 @@ use Rattle.clap.specs.Words.{Text}
 use Rattle.register_words.specs.CommandLine.{Values}
 use Rattle.register_words.specs.Faults.{Fault, IsOfWords, fault_told}
 use Rattle.register_words.specs.Requests.{values_by}
-use Rattle.register_words.specs.Requests.{AreFilesToConvert, AreTargetsOf, FailFirst, IsFileFault, IsNumberFault}
-use Rattle.register_words.specs.Requests.{IsNumberOf, IsTargetFault}
+use Rattle.register_words.specs.Requests.{AreFilesToConvert, AreTargetsOf, FailFirst, IsFileFault}
+use Rattle.register_words.specs.Requests.{IsNumberOf}
 use Rattle.register_words.specs.Requests.{delimiter_option, ring_option, stripes_option, value_checks}
 use Rattle.register_words.specs.declared.request_faults.RequestFault.{RequestFault}
 use Rattle.register_words.specs.declared.requests.Job.{Job}
@@ -69,7 +69,7 @@ returns-in_err-stripes-clause-fault c =
 pub returns-in_err-check_files-clause-fault : goal.returns-in_err-check_files-clause-fault
 returns-in_err-check_files-clause-fault c =
     let told = subst (λ (files : List Text). IsSomeAnd (fault_told c.in_err-check_files.field-0.0) (IsFileFault files))
-        (ap (map (λ f. f.now)) c.as_slice.ensures.value) c.in_err-check_files.ensures.fault in
+    (ap (map (λ f. f.now)) c.as_slice.ensures.value) c.in_err-check_files.ensures.fault in
     passes_found c.from_residual-in_err-check_files.result c.in_err-check_files.field-0.0 (values_by c.args.options) _
     c.from_residual-in_err-check_files.ensures.1 told
     (λ fault is. inr (

@@ -2,8 +2,7 @@
 use Rattle.std.proofs.Common.{rules, ◌≡◌, ◌++◌, subst, sym, take}
 use Rattle.std.proofs.Math.Logic.{∥∥₁_map}
 use Rattle.std.specs.Io.KnownBytes.{Appends}
-use Rattle.register_places.proofs.ReportLemmas.{appends_both}
-use Rattle.register_places.proofs.ToldLemmas.{appends_kept}
+use Rattle.register_places.proofs.AppendsLemmas.{appends_both, appends_kept}
 use Rattle.register_places.proofs.told.ToldWrite.write.Goals as goal
 
 pub invariant_of-self : goal.invariant_of-self

@@ -1,7 +1,7 @@
 -- What lanes carry: the rows of a converter by the entries that it took.
 use Rattle.std.proofs.Common.{◌≡◌, ◌∙◌, ap, sym, subst, refl, zero, suc, List, [], ◌∷◌, ◌++◌, append_assoc, append-nil}
 use Rattle.std.proofs.Common.{ℕ, ◌+◌, length, map, false, true, Option, None, Some, arith}
-use Rattle.std.specs.Prelude.{Bool, Err, IfErr, MatchOption, Ok, OnOk, Result, eqb, is_err}
+use Rattle.std.specs.Prelude.{Bool, Err, MatchOption, Ok, OnErr, OnOk, Result, eqb, is_err}
 use Rattle.std.specs.List.{Contains}
 use Rattle.std.specs.Option.{option_eq}
 use Rattle.std.proofs.lemmas.List.{length_push, map-append}
@@ -89,8 +89,8 @@ first_of_all entries rows all = ([], append-nil (row_entries rows) ∙ all)
 
 -- one more entry was taken, and its row was sent if the writer was there
 pub row_sent : (entries all : List (Item Entry)) (rows more : List (Item Row)) (made : Row) (e : Entry)
-    (r : Result (Unit {0}) (Gone Row)) → all ≡ entries ++ item.Entry e ∷ []
-    → OnOk r (more ≡ rows ++ item.Entry made ∷ []) → IfErr r (λ g. (g.value ≡ made) × (more ≡ rows))
+    (r : Result (Unit {0}) (Gone (Unit {0}))) → all ≡ entries ++ item.Entry e ∷ []
+    → OnOk r (more ≡ rows ++ item.Entry made ∷ []) → OnErr r (more ≡ rows)
     → made.entry ≡ e → AreOfAllTaken entries rows
     → AreOfTaken all more × (is_err r ≡ false → AreOfAllTaken all more)
 row_sent entries all rows more made e (Ok u) is ok gone of before =
@@ -100,7 +100,7 @@ row_sent entries all rows more made e (Ok u) is ok gone of before =
 row_sent entries all rows more made e (Err g) is ok gone of before = (
   (
     e ∷ [],
-    ap (λ (l : List (Item Row)). row_entries l ++ e ∷ []) gone.1 ∙ ap (λ (l : List Entry). l ++ e ∷ []) before
+    ap (λ (l : List (Item Row)). row_entries l ++ e ∷ []) gone ∙ ap (λ (l : List Entry). l ++ e ∷ []) before
         ∙ sym (one_more entries all e is),
   ),
   λ sure. cc,

@@ -2,7 +2,7 @@
 use Rattle.std.proofs.Common.{◌≡◌, ◌∙◌, ◌+◌, ◌-◌, ◌<◌, ℕ, zero, suc, List, [], ◌∷◌, ◌++◌, append-nil, arith, get_or}
 use Rattle.std.proofs.Common.{set}
 use Rattle.std.proofs.Common.{ap, map, sym}
-use Rattle.std.specs.Prelude.{◌==◌, All, Bool, Err, IfErr, Ok, OnOk, Result, cond, false, is_err, true}
+use Rattle.std.specs.Prelude.{◌==◌, All, Bool, Err, Ok, OnErr, OnOk, Result, cond, false, is_err, true}
 use Rattle.std.specs.List.{AllZip, Contains, filter}
 use Rattle.std.proofs.lemmas.Bool.{eq-eqb, ne_eqb}
 use Rattle.std.proofs.lemmas.List.{map-append}
@@ -73,7 +73,7 @@ dealt_same w i (suc at) given (s ∷ rest) new d same all =
 -- one more entry was given, and sent where it is dealt
 pub dealt_send : (w : World) (at : ℕ) (given more : List Numbered) (senders : List (Sender Entry))
     (new old : Sender Entry)
-    (e : Entry) (r : Result (Unit {0}) (Gone Entry)) → old ≡ get_or senders at old → is_err r ≡ false
+    (e : Entry) (r : Result (Unit {0}) (Gone (Unit {0}))) → old ≡ get_or senders at old → is_err r ≡ false
     → more ≡ given ++ entry_seen e ∷ [] → turn w (e.number - 1) ≡ at
     → OnOk r (sent new ≡ sent old ++ item.Entry e ∷ []) → AreDealt w 0 given senders
     → AreDealt w 0 more (set senders at new)
@@ -86,12 +86,12 @@ dealt_send w at given more senders new old e (Err g) is sure m on ok all = cc
 
 -- an entry was not sent
 pub dealt_unsent : (w : World) (at : ℕ) (given : List Numbered) (senders : List (Sender Entry)) (new old : Sender Entry)
-    (e : Entry) (r : Result (Unit {0}) (Gone Entry)) → old ≡ get_or senders at old → is_err r ≡ true
-    → IfErr r (λ g. (g.value ≡ e) × (sent new ≡ sent old)) → AreDealt w 0 given senders
+    (r : Result (Unit {0}) (Gone (Unit {0}))) → old ≡ get_or senders at old → is_err r ≡ true
+    → OnErr r (sent new ≡ sent old) → AreDealt w 0 given senders
     → AreDealt w 0 given (set senders at new)
-dealt_unsent w at given senders new old e (Ok u) is sure gone all = cc
-dealt_unsent w at given senders new old e (Err g) is sure gone all =
-    dealt_same w 0 at given senders new old (gone.1 ∙ ap (λ (s : Sender Entry). sent s) is) all
+dealt_unsent w at given senders new old (Ok u) is sure gone all = cc
+dealt_unsent w at given senders new old (Err g) is sure gone all =
+    dealt_same w 0 at given senders new old (gone ∙ ap (λ (s : Sender Entry). sent s) is) all
 
 -- the lanes were ended
 pub dealt_ended : (w : World) (i : ℕ) (given : List Numbered) (senders : List (Sender Entry))

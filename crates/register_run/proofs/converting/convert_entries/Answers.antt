@@ -25,11 +25,11 @@ loop-preserved-then-not-gone g c =
     (waiting c.pass.new.self) (item.Entry c.in-Some-Entry.entry) c.wait.ensures.taken next c.pass.ensures.taken
     c.pass.ensures.one in
     let went =
-    row_sent (taken c.loop.entries) (taken c.pass.new.self) (sent c.loop.rows) (sent c.send.new.self)
-    c.convert-row.result c.in-Some-Entry.entry c.send.result is c.send.ensures.ok c.send.ensures.gone
-    c.convert-row.ensures.entry (c.loop.invariant.all c.if-not-gone.true) in record {
+    row_sent (taken c.loop.entries) (taken c.pass.new.self) (sent c.loop.rows) (sent c.send_copy.new.self)
+    c.renew.new.self c.in-Some-Entry.entry c.send_copy.result is c.send_copy.ensures.ok c.send_copy.ensures.gone
+    c.renew.ensures.entry (c.loop.invariant.all c.if-not-gone.true) in record {
       from = c.pass.ensures.lane ∙ c.wait.ensures.lane ∙ c.loop.invariant.from;
-      into = c.send.ensures.lane ∙ c.loop.invariant.into;
+      into = c.send_copy.ensures.lane ∙ c.loop.invariant.into;
       rows = went.0;
       all = λ there. went.1 (sym c.is_err-gone.ensures.value ∙ there);
     }

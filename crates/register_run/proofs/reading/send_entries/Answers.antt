@@ -44,8 +44,8 @@ pub returns-then-is_err-clause-lanes : goal.returns-then-is_err-clause-lanes
 returns-then-is_err-clause-lanes g c =
     let items = c.loop.senders.items in let at = c.turn_after-turn.result in
     map-set_same sender_lane items
-    at c.send.new.self c.index_mut-sender.result.now
-    (c.send.ensures.lane ∙ ap sender_lane c.index_mut-sender.ensures.value) ∙ c.loop.invariant.lanes
+    at c.send_copy.new.self c.index_mut-sender.result.now
+    (c.send_copy.ensures.lane ∙ ap sender_lane c.index_mut-sender.ensures.value) ∙ c.loop.invariant.lanes
 
 pub returns-then-is_err-clause-sends : goal.returns-then-is_err-clause-sends
 returns-then-is_err-clause-sends g c =
@@ -53,10 +53,10 @@ returns-then-is_err-clause-sends g c =
     let items = c.loop.senders.items in let at = c.turn_after-turn.result in
     sends_gone (g.R.Read.remaining c.args.source) (text_of was) (format_of c.args.setup.now) (reads_by was)
     inv.text inv.by (given_of was) (given_of was) refl inv.numbered was.first _
-    (λ w many. dealt_unsent w at (given_of was) items c.send.new.self c.index_mut-sender.result.now
-    c.in-Ok-Some.entry c.send.result c.index_mut-sender.ensures.value (sym c.is_err.ensures.value ∙ c.if-is_err.true)
-    c.send.ensures.gone
-    (inv.deals w (many ∙ length-set items at c.send.new.self)))
+    (λ w many. dealt_unsent w at (given_of was) items c.send_copy.new.self c.index_mut-sender.result.now
+    c.send_copy.result c.index_mut-sender.ensures.value (sym c.is_err.ensures.value ∙ c.if-is_err.true)
+    c.send_copy.ensures.gone
+    (inv.deals w (many ∙ length-set items at c.send_copy.new.self)))
 
 pub loop-preserved : goal.loop-preserved
 loop-preserved g c =
@@ -71,8 +71,8 @@ loop-preserved g c =
       len = inv.len;
       lanes =
           map-set_same sender_lane items
-          at c.send.new.self c.index_mut-sender.result.now
-          (c.send.ensures.lane ∙ ap sender_lane c.index_mut-sender.ensures.value) ∙ inv.lanes;
+          at c.send_copy.new.self c.index_mut-sender.result.now
+          (c.send_copy.ensures.lane ∙ ap sender_lane c.index_mut-sender.ensures.value) ∙ inv.lanes;
       text = c.next-in-loop.ensures.text.0 ∙ inv.text;
       by = c.next-in-loop.ensures.text.1 ∙ inv.by;
       goes = c.in-Ok-Some.ensures.fails;
@@ -82,12 +82,12 @@ loop-preserved g c =
           (numbered_more 1 (given_of c.loop.entries) (entry_seen c.in-Ok-Some.entry) inv.numbered
           (let n = number.0 in omega arith));
       deals = λ w is.
-          let before = is ∙ length-set items at c.send.new.self in
-          dealt_send w at (given_of c.loop.entries) (given_of new) items c.send.new.self c.index_mut-sender.result.now
-          c.in-Ok-Some.entry c.send.result c.index_mut-sender.ensures.value
+          let before = is ∙ length-set items at c.send_copy.new.self in
+          dealt_send w at (given_of c.loop.entries) (given_of new) items c.send_copy.new.self c.index_mut-sender.result.now
+          c.in-Ok-Some.entry c.send_copy.result c.index_mut-sender.ensures.value
           (sym c.is_err.ensures.value ∙ c.if-is_err.false) gives
           (sym (c.turn_after-turn.ensures.machine w (before ∙ many) ∙ ap (λ n. turn w (n - 1)) same))
-          c.send.ensures.ok (inv.deals w before);
+          c.send_copy.ensures.ok (inv.deals w before);
     }
 
 pub loop-init : goal.loop-init

@@ -1,6 +1,6 @@
 //! Setups, entries, rows, cells and lines that wait.
 
-use super::{GREGORIAN, JULIAN, fields_of, plain, row_of};
+use super::{GREGORIAN, ISO, JULIAN, ROMAN, fields_of, plain, row_of};
 use date_texts::{Refusal, Target};
 use register_records::{
     Body, Cause, Entry, EntryFault, Form, PlainOutput, Row, RowFault, RowWriter, Setup,
@@ -60,12 +60,21 @@ fn tells_its_parts(row: &Row, setup: &Setup, other: &Setup) -> bool {
         && row.note().is_none()
 }
 
+/// The row of an entry that was made for another setup, made again for this one.
+fn renewed_row(entry: Entry, other: &Setup, setup: &Setup) -> Row {
+    let mut row = row_of(entry, other);
+    row.renew(&entry, setup);
+    row
+}
+
 #[test]
 fn rows_tell_their_parts_and_are_small(rt: HostRuntime) -> Result<(), Fail> {
     let setup = plain(&[GREGORIAN, JULIAN])?;
     let other = plain(&[JULIAN, GREGORIAN])?;
     let last = Entry::new(1_000_000, fields_of(["", "Julian", "1582-10-05"])?).ok_or("no entry")?;
     let row = row_of(last, &setup);
+    assert!(rt; tells_its_parts(&row, &setup, &other));
+    let row = renewed_row(last, &plain(&[ISO, JULIAN, ROMAN])?, &setup);
     assert!(rt; tells_its_parts(&row, &setup, &other));
     assert!(rt; size_of::<Entry>() == 216 && size_of::<Row>() == 552);
     Ok(())

@@ -1,6 +1,7 @@
 -- Rows that were taken from one of several arms, and what is left of the senders of several lanes.
 use Rattle.std.proofs.Common.{◌≡◌, sym, subst, ℕ, zero, suc, ◌<◌, ◌+◌, List, [], ◌∷◌, ◌++◌, inl, inr, set, get_or}
-use Rattle.std.proofs.Common.{length, map, append_assoc, append-nil, arith, refl, true}
+use Rattle.std.proofs.Common.{length, map, append_assoc, append-nil, arith, refl, true, ap, ◌∙◌}
+use Rattle.std.proofs.Math.Seq.{map-set_same}
 use Rattle.std.specs.Prelude.{◌&&◌, Bool, false, IfSome, None, Option, Some}
 use Rattle.std.specs.List.{AllZip, Contains}
 use Rattle.lane_rings.specs.Items.{entries_in}
@@ -13,7 +14,8 @@ use Rattle.register_records.specs.Seen.{entry_seen}
 use Rattle.register_records.specs.declared.entries.Entry.{Entry}
 use Rattle.register_records.specs.declared.rows.Row.{Row}
 use Rattle.register_run.specs.declared.arms.Arm.{Arm}
-use Rattle.register_run.specs.Arms.{AnyTook, ArmTook, HasPassedOn, HavePassedOn, feeding_lane}
+use Rattle.register_run.specs.Arms.{AnyTook, AreSameArms, ArmTook, HasPassedOn, HavePassedOn, IsSameArm, arm_setup}
+use Rattle.register_run.specs.Arms.{feeding_lane}
 use Rattle.register_run.specs.Carried.{HasEnded, WereDealt, carried, dealt, row_entries, rows_carried}
 use Rattle.register_run.specs.Worlds.{World}
 use Rattle.register_run.specs.Passages.{AreOfLanes, IsOfGiven}
@@ -27,6 +29,16 @@ any_set (arm ∷ rest) zero new d row kept (inl a) = inl (kept a)
 any_set (arm ∷ rest) zero new d row kept (inr b) = inr b
 any_set (arm ∷ rest) (suc i) new d row kept (inl a) = inl a
 any_set (arm ∷ rest) (suc i) new d row kept (inr b) = inr (any_set rest i new d row kept b)
+
+-- one arm was called where it stands among others
+pub same_arms : (arms : List Arm) (at : ℕ) (new was : Arm) → was ≡ get_or arms at was → IsSameArm was new
+    → AreSameArms arms (set arms at new)
+same_arms arms at new was here same = record {
+  lanes = map-set_same feeding_lane arms at new was (same.lane ∙ ap feeding_lane here);
+  setups = map-set_same arm_setup arms at new was (same.setup ∙ ap arm_setup here);
+  kept = λ row h. any_set arms at new was row
+      (λ a. same.kept row (subst (λ x. ArmTook x row) (sym here) a)) h;
+}
 
 pub any_here : (arms : List Arm) (i : ℕ) (d : Arm) (row : Row) → i < length arms → ArmTook (get_or arms i d) row
     → AnyTook arms row

@@ -47,6 +47,18 @@ abbrev pub AnyTook : List Arm → Row → Type 0
 AnyTook [] row = ⊥
 AnyTook (arm ∷ rest) row = ArmTook arm row ⊎ AnyTook rest row
 
+-- the arm after a call: the same lane feeds it, it was started by the same setup, and what it took stays taken
+pub record IsSameArm (old new : Arm) : Type 0 where
+  pub lane : feeding_lane new ≡ feeding_lane old
+  pub setup : arm_setup new ≡ arm_setup old
+  pub kept : (row : Row) → ArmTook old row → ArmTook new row
+
+-- these arms after a call
+pub record AreSameArms (old new : List Arm) : Type 0 where
+  pub lanes : map feeding_lane new ≡ map feeding_lane old
+  pub setups : map arm_setup new ≡ map arm_setup old
+  pub kept : (row : Row) → AnyTook old row → AnyTook new row
+
 -- the first of these items is a row
 abbrev pub StartWithRow : List (Item Row) → Type 0
 StartWithRow [] = ⊥

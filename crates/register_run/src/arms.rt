@@ -82,7 +82,7 @@ pub(crate) struct Arm {
 }
 
 impl Arm {
-    ghost use Rattle.register_run.specs.Arms.{ArmTook, HasPassedOn, IsRowNext, arm_setup, feeding_lane};
+    ghost use Rattle.register_run.specs.Arms.{ArmTook, HasPassedOn, IsRowNext, IsSameArm, arm_setup, feeding_lane};
     ghost use Rattle.register_run.specs.Passages.{IsConverting, IsOfLane};
     ghost use Rattle.register_run.specs.Popped.{HasLooked, popped_from};
 
@@ -144,9 +144,7 @@ impl Arm {
     /// Looks for the next item. A row is left where it is until it is passed; an end and a stop are taken. A converter
     /// that is gone counts as one that stopped.
     pub(crate) fn look(&mut self) -> Found
-        ensures lane { feeding_lane self.new ≡ feeding_lane self.old }
-        ensures setup { arm_setup self.new ≡ arm_setup self.old }
-        ensures kept { (row : Row) → ArmTook self.old row → ArmTook self.new row }
+        ensures same { IsSameArm self.old self.new }
         ensures looked { HasLooked self.old self.new result }
     {
         match self.rows.look() {
@@ -162,9 +160,7 @@ impl Arm {
     /// What is next, after a look. An end and a stop are taken.
     #[tactic(auto, using(crate::proofs::PassageLemmas::same_seen), unfolding(crate::specs::Arms::ArmTook))]
     fn found(&mut self) -> Found
-        ensures lane { feeding_lane self.new ≡ feeding_lane self.old }
-        ensures setup { arm_setup self.new ≡ arm_setup self.old }
-        ensures kept { (row : Row) → ArmTook self.old row → ArmTook self.new row }
+        ensures same { IsSameArm self.old self.new }
         ensures looked { HasLooked self.old self.new result }
     {
         match self.rows.next() {
@@ -198,10 +194,8 @@ impl Arm {
     #[tactic(auto, using(crate::proofs::PassageLemmas::same_seen), unfolding(crate::specs::Arms::ArmTook))]
     pub(crate) fn pass(&mut self)
         requires { IsRowNext self.old }
-        ensures lane { feeding_lane self.new ≡ feeding_lane self.old }
-        ensures setup { arm_setup self.new ≡ arm_setup self.old }
-        ensures kept { (row : Row) → ArmTook self.old row → ArmTook self.new row }
-        ensures same { self.new.«open» ≡ self.old.«open» }
+        ensures same { IsSameArm self.old self.new }
+        ensures still { self.new.«open» ≡ self.old.«open» }
         ensures one { popped_from self.new ≡ popped_from self.old + 1 }
     {
         self.rows.pass();
@@ -255,7 +249,7 @@ impl Arm {
 
 // What a link does with all its arms.
 impl Arm {
-    ghost use Rattle.register_run.specs.Arms.{AnyTook, HavePassedOn, arm_setup, feeding_lane};
+    ghost use Rattle.register_run.specs.Arms.{AnyTook, AreSameArms, HavePassedOn, feeding_lane};
     ghost use Rattle.register_run.specs.Passages.{AreOfLanes};
     ghost use Rattle.register_run.specs.Popped.{HasLookedAt, HasPopped, IsRowNextAt};
 
@@ -295,10 +289,8 @@ impl Arm {
     /// Looks at one arm.
     pub(crate) fn look_at(arms: &mut Vec<Arm>, at: usize) -> Found
         requires { at < vec_len arms.old }
-        ensures lanes { map feeding_lane arms.new.items ≡ map feeding_lane arms.old.items }
-        ensures setups { map arm_setup arms.new.items ≡ map arm_setup arms.old.items }
         ensures len { vec_len arms.new ≡ vec_len arms.old }
-        ensures kept { (row : Row) → AnyTook arms.old.items row → AnyTook arms.new.items row }
+        ensures same { AreSameArms arms.old.items arms.new.items }
         ensures looked { HasLookedAt at arms.old.items arms.new.items result }
     {
         let arm = &mut arms[at];
@@ -318,10 +310,8 @@ impl Arm {
     pub(crate) fn pass_at(arms: &mut Vec<Arm>, at: usize)
         requires within { at < vec_len arms.old }
         requires row { IsRowNextAt arms.old.items at }
-        ensures lanes { map feeding_lane arms.new.items ≡ map feeding_lane arms.old.items }
-        ensures setups { map arm_setup arms.new.items ≡ map arm_setup arms.old.items }
         ensures len { vec_len arms.new ≡ vec_len arms.old }
-        ensures kept { (row : Row) → AnyTook arms.old.items row → AnyTook arms.new.items row }
+        ensures same { AreSameArms arms.old.items arms.new.items }
         ensures popped { HasPopped arms.old.items arms.new.items }
     {
         let arm = &mut arms[at];

@@ -6,8 +6,6 @@ use Rattle.register_run.proofs.running.report.Goals as goal
 pub loop-one-preserved : goal.loop-one-preserved
 loop-one-preserved g c = record {
   room = search rules;
-  space = search rules;
-  more = search rules;
   outputs =
       seen_more output_of _ c.loop-one.outputs.items c.push_reserved.new.self.items _ _ _ c.in-Some.one
       c.push_reserved.ensures.items refl c.in-Some.ensures.steps.0 c.loop-one.invariant.outputs;

@@ -5,9 +5,7 @@ use Rattle.register_run.proofs.running.start_all.Goals as goal
 
 pub loop-source-init : goal.loop-source-init
 loop-source-init g c = record {
-  room = search rules;
-  len = search rules;
-  same = search rules;
+  counts = search rules;
   cases =
       start_begin c.args.by.now.setup.now _ c.args.sources.items _ c.args.outputs.items
       c.into_iter-source-iterator.ensures.into_iter_gives.0 c.into_iter-rest.ensures.rest c.args.stations.items
@@ -16,9 +14,7 @@ loop-source-init g c = record {
 
 pub loop-source-preserved : goal.loop-source-preserved
 loop-source-preserved g c = record {
-  room = search rules;
-  len = search rules;
-  same = search rules;
+  counts = search rules;
   cases =
       start_more c.args.by.now.setup.now _ c.loop-source.stations.items c.push_reserved.new.self.items c.start.result _ _ _ _
       c.in-Some.source c.in-Some-next.output

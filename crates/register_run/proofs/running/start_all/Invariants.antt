@@ -6,9 +6,9 @@ use Rattle.register_run.proofs.running.start_all.Given as goal
 
 abbrev pub invariant-loop-source : goal.invariant-loop-source
 invariant-loop-source g l = record {
-  room : vec_len l.stations + into_iter_len l.source-iterator ≤ vec_capacity l.stations;
-  len : vec_len l.stations + into_iter_len l.source-iterator ≡ vec_len l.fn.sources;
-  same : into_iter_len l.source-iterator ≡ into_iter_len l.rest;
+  counts : (vec_len l.stations + into_iter_len l.source-iterator ≤ vec_capacity l.stations)
+      × (vec_len l.stations + into_iter_len l.source-iterator ≡ vec_len l.fn.sources)
+      × (into_iter_len l.source-iterator ≡ into_iter_len l.rest);
   cases : map case_of l.stations.items ++ cases l.by.setup.now (into_iter_items l.source-iterator) (into_iter_items l.rest)
       ≡ cases l.by.setup.now l.fn.sources.items l.fn.outputs.items;
 }

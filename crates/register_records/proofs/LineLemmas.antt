@@ -24,9 +24,9 @@ use Rattle.register_records.specs.SetupRules.{is_delimiter}
 use Rattle.date_texts.specs.Cells.{is_plain}
 use Rattle.date_texts.specs.Calendars.{target_name}
 use Rattle.date_texts.specs.declared.calendar.Target.{Target}
-use Rattle.register_records.specs.Columns.{Column, cell_columns, heading, row_fields, shown, weekday_text}
+use Rattle.register_records.specs.Columns.{Column, cell_columns, shown, weekday_text}
 use Rattle.register_records.specs.TableColumns.{answer_order, answer_texts, answered, column_name, column_names}
-use Rattle.register_records.specs.TableColumns.{entry_field, entry_order}
+use Rattle.register_records.specs.TableColumns.{entry_field, entry_order, heading, row_fields}
 use Rattle.register_records.specs.Outcomes.{TableRow}
 use Rattle.register_records.specs.declared.setups.Form.{Form}
 use Rattle.register_records.specs.declared.setups.Form.TheVariants.{Plain, Sealed}

@@ -24,7 +24,8 @@ use Rattle.date_texts.specs.declared.refusal.Refusal.TheVariants as refused
 use Rattle.date_texts.proofs.LawWords.{CellsArePlain, OneCell}
 use Rattle.register_records.specs.Answers.{cells_of, fields_of}
 use Rattle.register_records.specs.Columns.{Column, cell_columns}
-use Rattle.register_records.specs.TableColumns.{AreFields, IsCellField, answer_field, answer_order, answer_texts, answered}
+use Rattle.register_records.specs.TableColumns.{AreFields, IsCellField, answer_field, answer_order, answer_texts}
+use Rattle.register_records.specs.TableColumns.{answered}
 use Rattle.register_records.specs.LineRoom.{columns_room, plain_room}
 use Rattle.register_records.specs.Lines.{fields_behind, writing}
 use Rattle.register_records.specs.Outcomes.{AreCells}
@@ -175,7 +176,8 @@ nothing_at : (place : ℕ) → get_or {A = List ℕ} [] place [] ≡ []
 nothing_at zero = refl
 nothing_at (suc place) = refl
 
-no_cells : (r : Refusal) (place : ℕ) (ts : List Target) (fields : List (List ℕ)) → AllZip (IsCellField (Err r)) ts fields
+no_cells : (r : Refusal) (place : ℕ) (ts : List Target) (fields : List (List ℕ))
+    → AllZip (IsCellField (Err r)) ts fields
     → map (λ (c : Column). c.field (answered (Err r) [])) (cell_columns place ts) ≡ fields
 no_cells r place [] [] a = refl
 no_cells r place [] (x ∷ fields) a = absurd a
@@ -191,7 +193,8 @@ pub room_left : (columns : List TableColumn) (i : ℕ) (e : TableColumn) (old ne
     → new ≤ old + plain_room (get_or columns i e) → old + columns_room plain_room (drop i columns) ≤ ANSWER_ROOM
     → new + columns_room plain_room (drop (i + 1) columns) ≤ ANSWER_ROOM
 room_left columns i e old new lt grows room =
-    let split : columns_room plain_room (drop i columns) ≡ plain_room (get_or columns i e) + columns_room plain_room (drop (i + 1) columns) =
+    let split : columns_room plain_room (drop i columns)
+    ≡ plain_room (get_or columns i e) + columns_room plain_room (drop (i + 1) columns) =
     at_drop_more (columns_room plain_room) columns i e lt in
     omega arith
 

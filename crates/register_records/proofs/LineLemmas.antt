@@ -1,7 +1,7 @@
 -- The fields of a line, while they are appended.
 use Rattle.std.proofs.Common.{◌≡◌, ◌<◌, ◌≤◌, ◌+◌, ◌^◌, ◌%◌, ◌++◌, ℕ, List, [], ◌∷◌, true, false, refl, sym, ap, ◌∙◌}
 use Rattle.std.proofs.Common.{arith, append_assoc, append-nil, length, length-append, length-set, map, set, take}
-use Rattle.std.proofs.Common.{get_or}
+use Rattle.std.proofs.Common.{drop, get_or}
 use Rattle.std.specs.Prelude.{ℤ, pos, negsuc, suc, codes}
 use Rattle.std.specs.Fmt.{decimal, signed_decimal}
 use Rattle.std.proofs.lemmas.Int.{ints}
@@ -18,14 +18,15 @@ use Rattle.std.specs.Result.{result_ok}
 use Rattle.csv.specs.Writing.{field_text, fields_text, is_blank, needs_byte, needs_quotes, row_body}
 use Rattle.csv.proofs.WriteFacts.{fields-snoc}
 use Rattle.day_numbers.specs.Days.{IsDayNumber}
+use Rattle.register_records.specs.LineRoom.{columns_room, entry_room, number_room, quoted_room}
 use Rattle.register_records.specs.Lines.{line_text, writing}
 use Rattle.register_records.specs.SetupRules.{is_delimiter}
 use Rattle.date_texts.specs.Cells.{is_plain}
 use Rattle.date_texts.specs.Calendars.{target_name}
 use Rattle.date_texts.specs.declared.calendar.Target.{Target}
-use Rattle.register_records.specs.Columns.{Column, cell_columns, heading, row_fields, shown, weekday_text}
+use Rattle.register_records.specs.Columns.{Column, cell_columns, shown, weekday_text}
 use Rattle.register_records.specs.TableColumns.{answer_order, answer_texts, answered, column_name, column_names}
-use Rattle.register_records.specs.TableColumns.{entry_field, entry_order}
+use Rattle.register_records.specs.TableColumns.{entry_field, entry_order, heading, row_fields}
 use Rattle.register_records.specs.Outcomes.{TableRow}
 use Rattle.register_records.specs.declared.setups.Form.{Form}
 use Rattle.register_records.specs.declared.setups.Form.TheVariants.{Plain, Sealed}
@@ -51,7 +52,7 @@ pub plain_text : (d : ℕ) (field : List ℕ) → needs_quotes (writing d) field
     → field_text (writing d) field ≡ field
 plain_text d field h = rw h refl
 
-pub only_field : (d : ℕ) (before field bytes : List ℕ) → needs_quotes (writing d) field ≡ false
+only_field : (d : ℕ) (before field bytes : List ℕ) → needs_quotes (writing d) field ≡ false
     → bytes ≡ before ++ field → bytes ≡ before ++ body d (field ∷ [])
 unfolding fields_text
 only_field d before field bytes h e =
@@ -152,6 +153,17 @@ plain_bytes d h (c ∷ text) p =
 pub first_number : (form : Form) (e : TableColumn) → get_or (entry_order form) 0 e ≡ Number
 first_number Plain e = refl
 first_number Sealed e = refl
+
+pub first_field : (form : Form) (f : TableColumn → List ℕ) (d e : ℕ) (before field bytes : List ℕ) → e ≡ d
+    → needs_quotes (writing d) field ≡ false → field ≡ f Number → bytes ≡ before ++ field
+    → bytes ≡ before ++ body e (map f (take 1 (entry_order form)))
+first_field Plain f d e before field bytes same h is b = rw (same, ← is) (only_field d before field bytes h b)
+first_field Sealed f d e before field bytes same h is b = rw (same, ← is) (only_field d before field bytes h b)
+
+-- there is room for those that follow
+pub room_behind : (form : Form) → number_room + columns_room quoted_room (drop 1 (entry_order form)) ≤ entry_room
+room_behind Plain = omega arith
+room_behind Sealed = omega arith
 
 pub plain_column : (d : ℕ) → is_delimiter d ≡ true → (row : TableRow) → row.number < 2 ^ 64
     → has_special row.body ≡ false → (column : TableColumn) → needs_quotes (writing d) (entry_field row column) ≡ false

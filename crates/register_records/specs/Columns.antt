@@ -8,10 +8,16 @@ use Rattle.date_texts.specs.Calendars.{target_name}
 use Rattle.date_texts.specs.Refusals.{refusal_number}
 use Rattle.date_texts.specs.declared.calendar.Target.{Target}
 use Rattle.date_texts.specs.declared.refusal.Refusal.{Refusal}
+use Rattle.register_records.specs.Entries.{Format}
 use Rattle.register_records.specs.Outcomes.{TableRow}
 use Rattle.register_records.specs.Records.{Texts}
 use Rattle.register_records.specs.declared.setups.Form.{Form}
 use Rattle.register_records.specs.declared.setups.Form.TheVariants.{Plain, Sealed}
+
+-- what a table is asked for: how it is written, and the targets of its columns
+pub record Layout : Type 0 where
+  pub format : Format
+  pub targets : List Target
 
 -- a column: its name, and what stands in it in a row
 pub record Column : Type 0 where
@@ -42,22 +48,15 @@ cell_columns place (target ∷ targets) =
 
 -- the columns of a table, in order: the number of an entry and its texts, which a record that was refused before has
 -- not; and its answer: the day, which a refused row has not, and the refusal
-abbrev pub columns : Form → List Target → List Column
-columns form targets =
+abbrev pub columns : Layout → List Column
+columns layout =
     column (codes "row") (λ row. decimal row.number)
     ∷ column (codes "id") (λ row. shown (λ (t : Texts). t.id) (result_ok row.body))
     ∷ column (codes "calendar") (λ row. shown (λ (t : Texts). t.calendar) (result_ok row.body))
     ∷ column (codes "date") (λ row. shown (λ (t : Texts). t.date) (result_ok row.body))
-    ∷ (note_columns form
+    ∷ (note_columns layout.format.form
     ++ column (codes "rd") (λ row. shown signed_decimal (result_ok row.outcome))
     ∷ column (codes "weekday") (λ row. shown weekday_text (result_ok row.outcome))
-    ∷ (cell_columns 0 targets
+    ∷ (cell_columns 0 layout.targets
     ++ column (codes "refusal") (λ row. shown (λ (r : Refusal). decimal (refusal_number r)) (result_err row.outcome))
     ∷ []))
-
--- the heading, and the fields of a row
-abbrev pub heading : Form → List Target → List (List ℕ)
-heading form targets = map (λ (c : Column). c.name) (columns form targets)
-
-abbrev pub row_fields : Form → List Target → TableRow → List (List ℕ)
-row_fields form targets row = map (λ (c : Column). c.field row) (columns form targets)

@@ -6,7 +6,7 @@ use Rattle.date_texts.specs.Cells.{IsCell}
 use Rattle.date_texts.specs.declared.calendar.Target.{Target}
 use Rattle.date_texts.specs.declared.refusal.Refusal.{Refusal}
 use Rattle.date_texts.specs.declared.refusal.Refusal.TheVariants.{FieldCount}
-use Rattle.register_records.specs.Columns.{Column, column, columns}
+use Rattle.register_records.specs.Columns.{Column, Layout, column, columns}
 use Rattle.register_records.specs.Outcomes.{TableRow}
 use Rattle.register_records.specs.declared.setups.Form.{Form}
 use Rattle.register_records.specs.declared.setups.Form.TheVariants.{Plain, Sealed}
@@ -27,6 +27,16 @@ entry_order Sealed = take 5 column_order
 abbrev pub answer_order : List TableColumn
 answer_order = drop 5 column_order
 
+-- a layout of this form, whatever its delimiter; the heading, and the fields of a row
+abbrev pub laid_out : Form → List Target → Layout
+laid_out form targets = record { format = record { delimiter = 0; form = form }; targets = targets }
+
+abbrev pub heading : Form → List Target → List (List ℕ)
+heading form targets = map (λ (c : Column). c.name) (columns (laid_out form targets))
+
+abbrev pub row_fields : Form → List Target → TableRow → List (List ℕ)
+row_fields form targets row = map (λ (c : Column). c.field row) (columns (laid_out form targets))
+
 -- where a column stands in a sealed table of no targets, in which the cells have no place
 abbrev pub column_place : TableColumn → ℕ
 column_place Number = 0
@@ -45,7 +55,7 @@ column_at all place = get_or all place (column [] (λ row. []))
 
 -- what heads a column: its name, and for the cells those of their targets
 abbrev pub column_name : TableColumn → List ℕ
-column_name c = (column_at (columns Sealed []) (column_place c)).name
+column_name c = (column_at (columns (laid_out Sealed [])) (column_place c)).name
 
 abbrev pub column_names : List Target → TableColumn → List (List ℕ)
 column_names targets Cells = map target_name targets
@@ -53,7 +63,7 @@ column_names targets c = column_name c ∷ []
 
 -- what stands in a column of an entry; the others have nothing of it
 abbrev pub entry_field : TableRow → TableColumn → List ℕ
-entry_field row c = (column_at (take 5 (columns Sealed [])) (column_place c)).field row
+entry_field row c = (column_at (take 5 (columns (laid_out Sealed []))) (column_place c)).field row
 
 -- a row that has this outcome and these cells
 abbrev pub answered : Result ℤ Refusal → List (List ℕ) → TableRow
@@ -62,11 +72,11 @@ answered outcome cells = record { number = 0; body = Err FieldCount; outcome = o
 -- what stands in the columns of an answer: it is the same in each such row
 abbrev pub answer_texts : List Target → Result ℤ Refusal → List (List ℕ) → List (List ℕ)
 answer_texts targets outcome cells =
-    map (λ (c : Column). c.field (answered outcome cells)) (drop 4 (columns Plain targets))
+    map (λ (c : Column). c.field (answered outcome cells)) (drop 4 (columns (laid_out Plain targets)))
 
 -- what stands in one that has no cells
 abbrev pub answer_field : Result ℤ Refusal → TableColumn → List ℕ
-answer_field outcome c = (column_at (columns Sealed []) (column_place c)).field (answered outcome [])
+answer_field outcome c = (column_at (columns (laid_out Sealed [])) (column_place c)).field (answered outcome [])
 
 -- what stands in the column of a target: on a day its cell, and else nothing
 abbrev pub IsCellField : Result ℤ Refusal → Target → List ℕ → Type 0

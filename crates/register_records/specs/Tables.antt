@@ -1,26 +1,20 @@
 -- The table and the journal of rows.
-use Rattle.std.specs.Prelude.{ℕ, ℤ, List, [], ◌∷◌, ◌++◌, Result, Ok, Err}
+use Rattle.std.specs.Prelude.{ℕ, ℤ, List, [], ◌∷◌, ◌++◌, map, Result, Ok, Err}
 use Rattle.std.specs.List.{flat_map}
-use Rattle.register_records.specs.Columns.{heading, row_fields}
-use Rattle.register_records.specs.Entries.{Format}
+use Rattle.register_records.specs.Columns.{Column, columns}
+pub use Rattle.register_records.specs.Columns.{Layout}
 use Rattle.register_records.specs.Lines.{line_text}
 use Rattle.register_records.specs.Outcomes.{TableRow}
-use Rattle.date_texts.specs.declared.calendar.Target.{Target}
 use Rattle.date_texts.specs.declared.refusal.Refusal.{Refusal}
 use Rattle.register_records.specs.declared.sources.Note.{Note}
 
--- what a table is asked for: how it is written, and the targets of its columns
-pub record Layout : Type 0 where
-  pub format : Format
-  pub targets : List Target
-
--- the line of the heading
+-- the line of the heading: the names of the columns
 abbrev pub heading_line : Layout → List ℕ
-heading_line layout = line_text layout.format.delimiter (heading layout.format.form layout.targets)
+heading_line layout = line_text layout.format.delimiter (map (λ (c : Column). c.name) (columns layout))
 
--- the line of a row
+-- the line of a row: what stands in the columns
 abbrev pub row_line : Layout → TableRow → List ℕ
-row_line layout row = line_text layout.format.delimiter (row_fields layout.format.form layout.targets row)
+row_line layout row = line_text layout.format.delimiter (map (λ (c : Column). c.field row) (columns layout))
 
 -- the lines of rows, in order
 unfoldable pub lines_text : Layout → List TableRow → List ℕ

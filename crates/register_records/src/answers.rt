@@ -114,8 +114,8 @@ impl Answer {
         self.len = end as u16;
     }
 
-    /// Appends what stands in the column of a target. All the room of a cell is copied, and what lies behind its text is
-    /// written over by the next field: a copy of a fixed length is cheap.
+    /// Appends what stands in the column of a target. All the room of a cell is copied, and what lies behind its text
+    /// is written over by the next field: a copy of a fixed length is cheap.
     #[inline(always)]
     fn push_cell(&mut self, target: Target, outcome: Result<Day, Refusal>)
         requires { self.old.len + CELL_ROOM ≤ ANSWER_ROOM }

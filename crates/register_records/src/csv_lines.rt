@@ -73,7 +73,8 @@ fn push_field(line: &mut Vec<u8>, delimiter: u8, field: &[u8]) -> Result<(), All
 }
 
 impl Lines {
-    ghost use Rattle.register_records.specs.LineViews.{Begins, GainsFields, line_bytes, line_delimiter, line_len, line_capacity};
+    ghost use Rattle.register_records.specs.LineViews.{Begins, GainsFields, line_bytes, line_capacity};
+    ghost use Rattle.register_records.specs.LineViews.{line_delimiter, line_len};
 
     /// No line yet, in memory for so many bytes. This delimiter will separate the fields.
     pub fn new(alloc: Global, delimiter: u8, room: usize) -> Result<Lines, AllocError>
@@ -128,35 +129,24 @@ impl Lines {
         self.bytes.reserve(room)
     }
 
-    /// Begins a line with this field, which needs no quotes.
-    pub fn start(&mut self, field: &[u8]) -> Result<(), AllocError>
-        requires { Spec.needs_quotes (writing (line_delimiter self.old)) field.now ≡ false }
-        ensures value { OnOk result (Begins (line_bytes self.old) (field.now ∷ []) self.new) }
+    /// Appends bytes as they stand.
+    pub fn extend(&mut self, bytes: &[u8]) -> Result<(), AllocError>
+        ensures value { OnOk result (line_bytes self.new ≡ line_bytes self.old ++ bytes.now) }
+        ensures fields { (more : List (List ℕ)) → bytes.now ≡ fields_text (writing (line_delimiter self.old)) more
+            → OnOk result (GainsFields more self.old self.new) }
         ensures kept { line_delimiter self.new ≡ line_delimiter self.old }
-        ensures room { line_len self.old + length field.now ≤ line_capacity self.old → IsOk result }
-        ensures grows { OnOk result (line_len self.new ≤ line_len self.old + length field.now) }
+        ensures room { line_len self.old + length bytes.now ≤ line_capacity self.old → IsOk result }
+        ensures grows { OnOk result (line_len self.new ≤ line_len self.old + length bytes.now) }
         ensures capacity { line_capacity self.old ≤ line_capacity self.new }
     {
-        self.bytes.extend_from_slice(field)?;
+        self.bytes.extend_from_slice(bytes)?;
         Ok(())
     }
 
-    /// Appends a field that needs no quotes.
-    pub fn push_plain(&mut self, field: &[u8]) -> Result<(), AllocError>
-        requires { Spec.needs_quotes (writing (line_delimiter self.old)) field.now ≡ false }
-        ensures value { OnOk result (GainsFields (field.now ∷ []) self.old self.new) }
-        ensures kept { line_delimiter self.new ≡ line_delimiter self.old }
-        ensures room { line_len self.old + (1 + length field.now) ≤ line_capacity self.old → IsOk result }
-        ensures grows { OnOk result (line_len self.new ≤ line_len self.old + (1 + length field.now)) }
-        ensures capacity { line_capacity self.old ≤ line_capacity self.new }
-    {
-        self.bytes.push(self.delimiter)?;
-        self.bytes.extend_from_slice(field)?;
-        Ok(())
-    }
-
-    /// Appends a field, quoted where it must be.
-    pub fn push(&mut self, field: &[u8]) -> Result<(), AllocError>
+    /// Appends one more field, quoted where it must be. It is looked through for bytes that call for quotes, unless it
+    /// is known to have none.
+    pub fn push(&mut self, field: &[u8], bare: bool) -> Result<(), AllocError>
+        requires { bare ≡ true → Spec.needs_quotes (writing (line_delimiter self.old)) field.now ≡ false }
         ensures value { OnOk result (GainsFields (field.now ∷ []) self.old self.new) }
         ensures kept { line_delimiter self.new ≡ line_delimiter self.old }
         ensures room { line_len self.old + (1 + field_room (length field.now)) ≤ line_capacity self.old → IsOk result }
@@ -164,36 +154,11 @@ impl Lines {
         ensures capacity { line_capacity self.old ≤ line_capacity self.new }
     {
         self.bytes.push(self.delimiter)?;
-        push_field(&mut self.bytes, self.delimiter, field)?;
-        Ok(())
-    }
-
-    /// Appends a text, which is looked through for bytes that call for quotes unless it is known to have none.
-    pub fn push_text(&mut self, text: &[u8], bare: bool) -> Result<(), AllocError>
-        requires { bare ≡ true → Spec.needs_quotes (writing (line_delimiter self.old)) text.now ≡ false }
-        ensures value { OnOk result (GainsFields (text.now ∷ []) self.old self.new) }
-        ensures kept { line_delimiter self.new ≡ line_delimiter self.old }
-        ensures room { line_len self.old + (1 + field_room (length text.now)) ≤ line_capacity self.old → IsOk result }
-        ensures grows { OnOk result (line_len self.new ≤ line_len self.old + (1 + field_room (length text.now))) }
-        ensures capacity { line_capacity self.old ≤ line_capacity self.new }
-    {
         if bare {
-            self.push_plain(text)
-        } else {
-            self.push(text)
+            self.bytes.extend_from_slice(field)?;
+            return Ok(());
         }
-    }
-
-    /// Appends more fields, each behind a delimiter as it stands in the text.
-    pub fn push_fields(&mut self, text: &[u8]) -> Result<(), AllocError>
-        ensures value { (more : List (List ℕ)) → text.now ≡ fields_text (writing (line_delimiter self.old)) more
-            → OnOk result (GainsFields more self.old self.new) }
-        ensures kept { line_delimiter self.new ≡ line_delimiter self.old }
-        ensures room { line_len self.old + length text.now ≤ line_capacity self.old → IsOk result }
-        ensures grows { OnOk result (line_len self.new ≤ line_len self.old + length text.now) }
-        ensures capacity { line_capacity self.old ≤ line_capacity self.new }
-    {
-        self.bytes.extend_from_slice(text)?;
+        push_field(&mut self.bytes, self.delimiter, field)?;
         Ok(())
     }
 

@@ -1,6 +1,7 @@
 //! Laws of tables.
 
-ghost use Rattle.register_records.specs.Laws.{CellsReadBack, EveryTextHasTable, NoLossIsSealed, OneFate, OneTable, TablesGrow};
+ghost use Rattle.register_records.specs.Laws.{CellsReadBack, EveryTextHasTable, NoLossIsSealed, OneFate, OneTable};
+ghost use Rattle.register_records.specs.Laws.{TablesGrow};
 ghost use Rattle.register_records.specs.Outcomes.{IsRowOf, TableRow};
 ghost use Rattle.register_records.specs.Seen.{entry_seen};
 ghost use Rattle.register_records.specs.Views.{targets_of};

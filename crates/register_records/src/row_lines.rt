@@ -6,8 +6,8 @@ ghost use Rattle.register_records.specs.LineRoom.{entry_room};
 ghost use Rattle.register_records.specs.LineViews.{Begins, GainsFields, line_bytes};
 ghost use Rattle.register_records.specs.LineViews.{line_capacity, line_delimiter, line_len};
 ghost use Rattle.register_records.specs.Lines.{line_text};
-ghost use Rattle.register_records.specs.Columns.{heading, row_fields};
 ghost use Rattle.register_records.specs.TableColumns.{column_name, column_names, entry_field, entry_order};
+ghost use Rattle.register_records.specs.TableColumns.{heading, row_fields};
 ghost use Rattle.register_records.specs.Views.{answer_fields, row_seen, row_targets};
 ghost use Rattle.register_records.specs.declared.answers.TheConstants.{ANSWER_ROOM};
 ghost use Rattle.register_records.specs.declared.row_lines.TheConstants.{LINE_ROOM};
@@ -31,9 +31,9 @@ fn begin_heading(lines: &mut Lines, form: Form) -> Result<(), AllocError>
     ensures capacity { line_capacity lines.old ≤ line_capacity lines.new }
 {
     let columns = entry_columns(form);
-    lines.start(columns[0].name().as_bytes())?;
+    lines.extend(columns[0].name().as_bytes())?;
     'columns: for i in 1..columns.len() {
-        lines.push(columns[i].name().as_bytes())?;
+        lines.push(columns[i].name().as_bytes(), false)?;
     }
     Ok(())
 }
@@ -45,7 +45,7 @@ fn push_target_names(lines: &mut Lines, targets: &[Target]) -> Result<(), AllocE
     ensures capacity { line_capacity lines.old ≤ line_capacity lines.new }
 {
     'targets: for target in targets {
-        lines.push(target.name().as_bytes())?;
+        lines.push(target.name().as_bytes(), false)?;
     }
     Ok(())
 }
@@ -58,7 +58,7 @@ fn push_names(lines: &mut Lines, column: TableColumn, targets: &[Target]) -> Res
 {
     match column {
         TableColumn::Cells => push_target_names(lines, targets),
-        _ => lines.push(column.name().as_bytes()),
+        _ => lines.push(column.name().as_bytes(), false),
     }
 }
 
@@ -95,9 +95,9 @@ fn begin_line(lines: &mut Lines, form: Form, row: &Row) -> Result<(), AllocError
     let mut buffer = Buffer::new();
     let number = buffer.format(row.entry().number());
     let columns = entry_columns(form);
-    lines.start(columns[0].field(number, row).as_bytes())?;
+    lines.extend(columns[0].field(number, row).as_bytes())?;
     'columns: for i in 1..columns.len() {
-        lines.push_text(columns[i].field(number, row).as_bytes(), bare)?;
+        lines.push(columns[i].field(number, row).as_bytes(), bare)?;
     }
     Ok(())
 }
@@ -112,9 +112,9 @@ fn push_answer(lines: &mut Lines, row: &Row) -> Result<(), AllocError>
     ensures capacity { line_capacity lines.old ≤ line_capacity lines.new }
 {
     if row.answer().delimiter() == lines.delimiter() {
-        lines.push_fields(row.answer().as_slice())
+        lines.extend(row.answer().as_slice())
     } else {
-        lines.push_fields(row.answer_with(lines.delimiter()).as_slice())
+        lines.extend(row.answer_with(lines.delimiter()).as_slice())
     }
 }
 

@@ -36,8 +36,8 @@ pub struct Row {
 }
 
 impl Row {
-    ghost use Rattle.std.specs.Prelude.{◌↔◌, ◌<◌, ◌+◌, ◌∷◌, ◌++◌, [], true, IsOk, MatchOption, OnErr, OnOk, vec_capacity};
-    ghost use Rattle.std.specs.Prelude.{vec_len};
+    ghost use Rattle.std.specs.Prelude.{◌↔◌, ◌<◌, ◌+◌, ◌∷◌, ◌++◌, [], true, IsOk, MatchOption, OnErr, OnOk};
+    ghost use Rattle.std.specs.Prelude.{vec_capacity, vec_len};
     ghost use Rattle.register_records.specs.SetupRules.{is_delimiter};
     ghost use Rattle.register_records.specs.Tables.{notes_of};
     ghost use Rattle.register_records.specs.Views.{answer_fields, row_seen, row_targets, targets_of};

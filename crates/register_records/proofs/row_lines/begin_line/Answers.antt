@@ -1,21 +1,34 @@
-use Rattle.std.proofs.Common.{◌∙◌, ap, arith}
-use Rattle.register_records.specs.LineViews.{line_delimiter}
+use Rattle.std.proofs.Common.{◌≡◌, ◌≤◌, ◌∙◌, ap, arith, length, subst}
+use Rattle.std.specs.Fmt.{decimal}
+use Rattle.register_records.specs.LineRoom.{column_limit, number_room}
+use Rattle.register_records.specs.LineViews.{line_bytes, line_delimiter}
 use Rattle.register_records.specs.TableColumns.{entry_field}
 use Rattle.register_records.specs.Views.{row_seen}
-use Rattle.register_records.proofs.LineLemmas.{first_number, plain_column, plain_decimal}
+use Rattle.register_records.specs.declared.table_columns.TableColumn.{TableColumn}
+use Rattle.register_records.proofs.LineLemmas.{first_field, first_number, plain_column, plain_decimal, room_behind}
 use Rattle.register_records.proofs.row_lines.begin_line.Goals as goal
 
-pub start-requires : goal.start-requires
-start-requires c =
-    let first =
-    (rw c.entry_columns-columns.ensures.value at c.field.ensures.value)
-    ∙ ap (entry_field (row_seen c.args.row.now)) (first_number c.args.form _) in
-    rw (c.as_bytes.ensures.value, first)
-    (plain_decimal (line_delimiter c.args.lines.now) c.args.lines.now.separated (row_seen c.args.row.now).number
-    (omega (arith, c.args.row.now.entry.limited)))
+pub columns-init : goal.columns-init
+columns-init c =
+    let row = row_seen c.args.row.now in
+    let d = line_delimiter c.args.lines.now in
+    let first : c.as_bytes.result.now ≡ decimal row.number =
+    c.as_bytes.ensures.value ∙ (rw c.entry_columns-columns.ensures.value at c.field.ensures.value)
+    ∙ ap (entry_field row) (first_number c.args.form _) in
+    let plain = plain_decimal d c.args.lines.now.separated row.number (omega (arith, c.args.row.now.entry.limited)) in
+    let short : length c.as_bytes.result.now ≤ number_room =
+    rw c.as_bytes.ensures.value (subst (λ (column : TableColumn). length c.field.result.now ≤ column_limit column)
+    (first_number c.args.form _) (rw c.entry_columns-columns.ensures.value at c.field.ensures.short)) in
+    record {
+      begun = first_field c.args.form (entry_field row) d _ (line_bytes c.args.lines.now) _ _
+          c.in_ok-extend.ensures.kept (rw first plain) first c.in_ok-extend.ensures.value;
+      kept = c.in_ok-extend.ensures.kept;
+      room = omega (arith, c.in_ok-extend.ensures.grows, room_behind c.args.form, short);
+      capacity = c.in_ok-extend.ensures.capacity;
+    }
 
-pub push_text-requires : goal.push_text-requires
-push_text-requires c b =
+pub push-requires : goal.push-requires
+push-requires c b =
     let bare = rw c.entry.ensures at (c.is_bare-bare.ensures b) in
     rw (c.as_bytes-in-columns.ensures.value, c.field-in-columns.ensures.value)
     (plain_column (line_delimiter c.columns.lines) c.columns.lines.separated (row_seen c.args.row.now)

@@ -11,6 +11,7 @@ invariant-columns l =
       begun : Begins (line_bytes l.fn.lines) (map (entry_field (row_seen l.row))
           (take l.i (entry_order l.fn.form))) l.lines;
       kept : line_delimiter l.lines ≡ line_delimiter l.fn.lines;
-      room : line_len l.lines + columns_room quoted_room (drop l.i (entry_order l.fn.form)) ≤ line_len l.fn.lines + entry_room;
+      room : line_len l.lines + columns_room quoted_room (drop l.i (entry_order l.fn.form))
+          ≤ line_len l.fn.lines + entry_room;
       capacity : line_capacity l.fn.lines ≤ line_capacity l.lines;
     }

@@ -11,7 +11,7 @@ pub returns-then-delimiter-clause-value : goal.returns-then-delimiter-clause-val
 returns-then-delimiter-clause-value c =
     let row = c.args.row.now in
     let same : row.answer.delimiter ≡ line_delimiter c.args.lines.now = search rules in
-    c.push_fields.ensures.value (answer_fields row)
+    c.extend.ensures.fields (answer_fields row)
     (c.as_slice.ensures.value
     ∙ ap (λ (answer : Answer). fields_text (writing answer.delimiter) (fields_of answer))
     c.answer-then-delimiter.ensures

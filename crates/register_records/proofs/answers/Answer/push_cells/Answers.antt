@@ -1,4 +1,5 @@
-use Rattle.std.proofs.Common.{◌≡◌, ◌∙◌, ◌∷◌, ◌++◌, [], ℕ, List, ap, append-nil, append_assoc, arith, refl, subst, sym, take}
+use Rattle.std.proofs.Common.{◌≡◌, ◌∙◌, ◌∷◌, ◌++◌, [], ℕ, List, ap, append-nil, append_assoc, arith, refl, subst}
+use Rattle.std.proofs.Common.{sym, take}
 use Rattle.std.proofs.lemmas.List.{take_all, take_more}
 use Rattle.std.specs.List.{AllZip}
 use Rattle.date_texts.specs.declared.calendar.Target.{Target}
@@ -25,7 +26,8 @@ cells-preserved c =
         made ++ cell ∷ [],
         subst (λ (ts : List Target). AllZip (IsCellField o) ts (made ++ cell ∷ []))
             (sym (take_more targets i _ c.cells-test.true)) last,
-        more ∙ ap (λ (t : List (List ℕ)). t ++ cell ∷ []) fields ∙ append_assoc (fields_of c.args.self.now) made (cell ∷ []),
+        more ∙ ap (λ (t : List (List ℕ)). t ++ cell ∷ []) fields
+            ∙ append_assoc (fields_of c.args.self.now) made (cell ∷ []),
       );
       grown = omega (arith, c.push_cell.ensures.grows, inv.grown);
       delimiter = c.push_cell.ensures.delimiter ∙ inv.delimiter;

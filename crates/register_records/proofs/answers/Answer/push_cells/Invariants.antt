@@ -9,7 +9,8 @@ use Rattle.register_records.proofs.answers.Answer.push_cells.Given as goal
 abbrev pub invariant-cells : goal.invariant-cells
 invariant-cells l =
     record {
-      made : (cells : List (List ℕ)) × AllZip (IsCellField (outcome_seen l.outcome)) (take l.target-index l.targets) cells
+      made : (cells : List (List ℕ))
+          × AllZip (IsCellField (outcome_seen l.outcome)) (take l.target-index l.targets) cells
           × (fields_of l.self ≡ fields_of l.fn.self ++ cells);
       grown : l.self.len ≤ l.fn.self.len + CELL_ROOM * l.target-index;
       delimiter : l.self.delimiter ≡ l.fn.self.delimiter;

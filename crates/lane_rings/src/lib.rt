@@ -36,7 +36,8 @@ pub fn lane<T: Drop>(alloc: Global, capacity: usize) -> Result<(Sender<T>, Recei
     patient_lane(alloc, capacity, Patience::for_run(1, 1))
 }
 
-/// A lane as [`lane`] makes it, whose ends wait with this patience.
+/// A lane as [`lane`] makes it, whose sender waits with this patience, and whose receiver with that of a thread one
+/// lane further.
 ///
 /// # Errors
 ///
@@ -57,7 +58,7 @@ pub fn patient_lane<T: Drop>(
         Receiver {
             consumer,
             last: None,
-            patience,
+            patience: patience.a_lane_further(),
         },
     ))
 }

@@ -34,6 +34,14 @@ const LONG_NAP: u64 = 100;
 /// From this many sources on a run has many more threads than a machine has processors.
 const MANY_SOURCES: usize = 5;
 
+/// By how many microseconds a nap is longer one lane further from the reader, where threads share processors. The
+/// system ends naps that end near one another together, and the one that is due first runs first: so the threads run in
+/// the order of their lanes, and each finds what the one before it has left.
+const LONGER_BY_A_LANE: u64 = 15;
+
+/// With so many processors the reader, a converter and the thread that writes have one each.
+const ONE_FOR_EACH_THREAD: usize = 3;
+
 /// A wait of more microseconds is one for something outside, as a slow source: the threads of a run answer one another
 /// sooner.
 const LONG_WAIT: u64 = 5000;
@@ -72,8 +80,9 @@ struct Reading {
 #[derive(Clone, Copy, Debug)]
 pub struct Patience {
     processors: u32,
-    // A nap in microseconds.
+    // A nap in microseconds, and by how much it is longer one lane further.
     nap: u64,
+    longer: u64,
     // The looks of this wait that were followed by the next one at once.
     looks: u32,
     // When this wait came to its first yield.
@@ -95,11 +104,24 @@ impl Patience {
             } else {
                 LONG_NAP
             },
+            longer: if processors < ONE_FOR_EACH_THREAD {
+                LONGER_BY_A_LANE
+            } else {
+                0
+            },
             looks: 0,
             since: None,
             last_long: None,
             naps: 0,
             next_naps: FEWEST_NAPS,
+        }
+    }
+
+    /// For a thread that is one lane further from the reader.
+    pub fn a_lane_further(self) -> Patience {
+        Patience {
+            nap: self.nap.saturating_add(self.longer),
+            ..self
         }
     }
 

@@ -230,3 +230,23 @@ fn naps_double() -> bool {
 fn naps_double_beside_others_that_stay(rt: HostRuntime) {
     assert!(rt; naps_double());
 }
+
+// The naps of the reader's thread and of those one and two lanes further.
+fn naps_by_lane(sources: usize, processors: usize) -> [u64; 3] {
+    let reader = Patience::for_run(sources, processors);
+    let converter = reader.a_lane_further();
+    [reader, converter, converter.a_lane_further()].map(|patience| {
+        let mut patience = patience;
+        StepClock::of_long_yields(Step::Forward(1))
+            .rest_anew(&mut patience, 3)
+            .1
+    })
+}
+
+#[test]
+fn naps_are_longer_one_lane_further_where_threads_share_processors(rt: HostRuntime) {
+    assert!(rt; naps_by_lane(1, 2) == [1, 16, 31]);
+    assert!(rt; naps_by_lane(5, 2) == [100, 115, 130]);
+    assert!(rt; naps_by_lane(1, 4) == [1, 1, 1]);
+    assert!(rt; naps_by_lane(5, 4) == [100, 100, 100]);
+}

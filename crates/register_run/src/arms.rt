@@ -104,8 +104,8 @@ impl Arm {
         else {
             return Err(StartFault::NoMemory);
         };
-        let Ok((row_sender, rows)) = patient_lane::<Row>(by.alloc, setup.ring(), by.patience)
-        else {
+        let further = by.patience.a_lane_further();
+        let Ok((row_sender, rows)) = patient_lane::<Row>(by.alloc, setup.ring(), further) else {
             return Err(StartFault::NoMemory);
         };
         let feeding = Snapshot::of(&sender);

@@ -231,7 +231,9 @@ fn run_all<'s, 'e, T: Host, R: Read + Send + Drop + 'e, W: Output + Drop, G: Gat
         ran,
     } = lists;
     let mut stations = start_all(by, sources, outputs, stations);
-    drive(by.rt, by.patience, &mut stations);
+    // This thread is two lanes further than the readers.
+    let patience = by.patience.a_lane_further().a_lane_further();
+    drive(by.rt, patience, &mut stations);
     let settled = settle_all(by.rt, stations, settled);
     report(settled, written, ends, ran)
 }

@@ -17,12 +17,14 @@ const SHARE_OF_ONE_ALONE: u32 = 7;
 
 const PARTS_OF_A_SHARE: u32 = 8;
 
-/// How many naps follow where others are at work, the first time and at most. Each time doubles them, and each short
-/// yield takes one off: a single stray long yield costs little, and beside others that stay the thread seldom tries a
-/// yield. So many of the shortest naps take 1 and 55 milliseconds.
-const FEWEST_NAPS: u32 = 16;
+/// How many naps follow where others are at work, the first time and at most. Each time makes them four times as many,
+/// and each short yield takes one off: a single stray long yield costs little, and beside others that stay the thread
+/// seldom tries a yield, which costs it a slice of theirs. So many of the shortest naps take 4 and 230 milliseconds.
+const FEWEST_NAPS: u32 = 64;
 
-const MOST_NAPS: u32 = 1024;
+const MOST_NAPS: u32 = 4096;
+
+const TIMES_AS_MANY: u32 = 4;
 
 /// A nap in microseconds where a run has few sources: the shortest, which the system makes some 55, loses the least.
 const SHORT_NAP: u64 = 1;
@@ -172,7 +174,10 @@ impl Patience {
             self.next_naps = self.next_naps.saturating_sub(1).max(FEWEST_NAPS);
         } else if self.are_others_at_work(clock, now) {
             self.naps = self.next_naps;
-            self.next_naps = self.next_naps.saturating_mul(2).min(MOST_NAPS);
+            self.next_naps = self
+                .next_naps
+                .saturating_mul(TIMES_AS_MANY)
+                .min(MOST_NAPS);
         }
     }
 

@@ -136,7 +136,7 @@ fn naps_and_sleeps_by_jumps() -> bool {
     let clock = StepClock::new(Step::Forward(HOUR));
     let mut patience = Patience::for_run(1, 4);
     clock.rest_anew(&mut patience, 2) == (0, 0)
-        && clock.rest(&mut patience, 16) == (16, 1)
+        && clock.rest(&mut patience, 64) == (64, 1)
         && clock.rest(&mut patience, 1) == (1, 10_000)
 }
 
@@ -215,20 +215,20 @@ fn naps_follow_a_share_under_seven_eighths(rt: HostRuntime) {
     assert!(rt; [20_999, 21_000, 24_000].map(|used| nap_after(5, 4, used)) == [100, 0, 0]);
 }
 
-// Whether 16 naps follow the first time, and 32 the next time.
-fn naps_double() -> bool {
+// Whether 64 naps follow the first time, and 256 the next time.
+fn naps_grow() -> bool {
     let clock = StepClock::of_long_yields(Step::Forward(1));
     let mut patience = Patience::for_run(1, 4);
     clock.rest_anew(&mut patience, 2) == (0, 0)
-        && clock.rest_anew(&mut patience, 16) == (16, 1)
+        && clock.rest_anew(&mut patience, 64) == (64, 1)
         && clock.rest_anew(&mut patience, 1) == (0, 0)
-        && clock.rest_anew(&mut patience, 32) == (32, 1)
+        && clock.rest_anew(&mut patience, 256) == (256, 1)
         && clock.rest_anew(&mut patience, 1) == (0, 0)
 }
 
 #[test]
-fn naps_double_beside_others_that_stay(rt: HostRuntime) {
-    assert!(rt; naps_double());
+fn naps_grow_beside_others_that_stay(rt: HostRuntime) {
+    assert!(rt; naps_grow());
 }
 
 // The naps of the reader's thread and of those one and two lanes further.

@@ -117,10 +117,12 @@ fn gives_what_was_sent(rt: &impl Host, alloc: Global) -> Result<bool, AllocError
     let (mut sender, mut receiver) = lane::<u32>(alloc, 1)?;
     let mut gives = sender.send(rt, 7).is_ok();
     gives &= receiver.take(rt) == Ok(Item::Entry(7));
-    let closed = sender.close(rt, 1);
-    gives &= receiver.take(rt) == Ok(Item::End(1));
+    gives &= sender.send_copy(rt, &8).is_ok();
+    gives &= receiver.take(rt) == Ok(Item::Entry(8));
+    let closed = sender.close(rt, 2);
+    gives &= receiver.take(rt) == Ok(Item::End(2));
     gives &= receiver.take(rt) == Err(Gone { value: () });
-    Ok(has_ended(receiver.confirm(closed), Some(1)) && gives)
+    Ok(has_ended(receiver.confirm(closed), Some(2)) && gives)
 }
 
 #[test]
@@ -194,6 +196,7 @@ fn sees_dropped_receiver(rt: &impl Host, alloc: Global, leave: Leave) -> Result<
     let mut sees = sender.send(rt, 7).is_ok();
     drop(receiver);
     sees &= sender.send(rt, 8) == Err(Gone { value: 8 });
+    sees &= sender.send_copy(rt, &9) == Err(Gone { value: () });
     let _closed = leave.leave(rt, sender);
     Ok(sees)
 }

@@ -70,7 +70,11 @@ impl<T: Copy> Sender<T> {
     /// Waits for room and sends a copy of an entry, which is made once, where it goes to: an entry may be large.
     ///
     /// It waits as `send` does. Where the receiver was dropped it answers `Gone`, also where the ring has room.
-    pub fn send_copy(&mut self, rt: &(impl Wait + Clock + CpuClock), item: &T) -> Result<(), Gone<()>>
+    pub fn send_copy(
+        &mut self,
+        rt: &(impl Wait + Clock + CpuClock),
+        item: &T,
+    ) -> Result<(), Gone<()>>
         ensures lane { sender_lane self.new ≡ sender_lane self.old }
         ensures ok { OnOk result (sent self.new ≡ sent self.old ++ Entry item.now ∷ []) }
         ensures gone { OnErr result (sent self.new ≡ sent self.old) }

@@ -174,10 +174,7 @@ impl Patience {
             self.next_naps = self.next_naps.saturating_sub(1).max(FEWEST_NAPS);
         } else if self.are_others_at_work(clock, now) {
             self.naps = self.next_naps;
-            self.next_naps = self
-                .next_naps
-                .saturating_mul(TIMES_AS_MANY)
-                .min(MOST_NAPS);
+            self.next_naps = self.next_naps.saturating_mul(TIMES_AS_MANY).min(MOST_NAPS);
         }
     }
 

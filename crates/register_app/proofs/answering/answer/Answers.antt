@@ -69,7 +69,7 @@ returns-then-is_empty-clause-answered g c = λ low.
 pub returns-then-is_empty-clause-refused : goal.returns-then-is_empty-clause-refused
 returns-then-is_empty-clause-refused g c =
     let just : MeanJust (map string_bytes c.args.words.now) (table (task_of c.in-Ok-Convert.job))
-        = search (rules, c.in-Ok-Convert.ensures.asked) in
+    = search (rules, c.in-Ok-Convert.ensures.asked) in
     λ had. never_refused _ _ c.convert_input.result.status just (λ fault e. cc)
     (never_two c.convert_input.result.status c.convert_input.ensures.statuses)
 
@@ -94,7 +94,7 @@ returns-else-is_empty-clause-answered g c = λ low.
 pub returns-else-is_empty-clause-refused : goal.returns-else-is_empty-clause-refused
 returns-else-is_empty-clause-refused g c =
     let just : MeanJust (map string_bytes c.args.words.now) (table (task_of c.in-Ok-Convert.job))
-        = search (rules, c.in-Ok-Convert.ensures.asked) in
+    = search (rules, c.in-Ok-Convert.ensures.asked) in
     λ had. never_refused _ _ c.convert_files.result.status just (λ fault e. cc)
     (never_two c.convert_files.result.status c.convert_files.ensures.statuses)
 

@@ -67,7 +67,7 @@ fn rows_tell_their_parts_and_are_small(rt: HostRuntime) -> Result<(), Fail> {
     let last = Entry::new(1_000_000, fields_of(["", "Julian", "1582-10-05"])?).ok_or("no entry")?;
     let row = row_of(last, &setup);
     assert!(rt; tells_its_parts(&row, &setup, &other));
-    assert!(rt; size_of::<Entry>() == 216 && size_of::<Row>() == 552);
+    assert!(rt; size_of::<Entry>() == 216 && size_of::<Row>() == 536);
     Ok(())
 }
 

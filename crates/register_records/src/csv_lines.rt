@@ -54,6 +54,8 @@ fn push_escaped(line: &mut Vec<u8>, delimiter: u8, b: u8) -> Result<(), AllocErr
 }
 
 /// Appends a field, quoted where it must be.
+// Not inlined, so that what most fields need stays small.
+#[inline(never)]
 fn push_field(line: &mut Vec<u8>, delimiter: u8, field: &[u8]) -> Result<(), AllocError>
     ensures value { OnOk result (line.new.items ≡ line.old.items ++ Spec.field_text (writing delimiter) field.now) }
     ensures room { vec_len line.old + field_room (length field.now) ≤ vec_capacity line.old → IsOk result }
@@ -145,6 +147,7 @@ impl Lines {
 
     /// Appends one more field, quoted where it must be. It is looked through for bytes that call for quotes, unless it
     /// is known to have none.
+    #[inline(always)]
     pub fn push(&mut self, field: &[u8], bare: bool) -> Result<(), AllocError>
         requires { bare ≡ true → Spec.needs_quotes (writing (line_delimiter self.old)) field.now ≡ false }
         ensures value { OnOk result (GainsFields (field.now ∷ []) self.old self.new) }

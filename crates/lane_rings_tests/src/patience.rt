@@ -7,7 +7,7 @@ use std::io::ErrorKind;
 use std::time::{Clock, CpuClock, Duration};
 
 // What a clock does each time it is read, in microseconds.
-#[derive(Clone, Copy)]
+#[derive(Clone, Copy, Debug)]
 enum Step {
     Fails,
     Forward(u64),
@@ -15,6 +15,9 @@ enum Step {
 }
 
 const HOUR: u64 = 3_600_000_000;
+
+// A clock that cannot be read, one that stands still and one that goes back.
+const NO_CLOCK: [Step; 3] = [Step::Fails, Step::Forward(0), Step::Back(1000)];
 
 // By readings of the clock that are so far apart each yield is long, and six milliseconds lie between the ends of two.
 const BETWEEN_READINGS: u64 = 3000;
@@ -121,18 +124,10 @@ fn never_sleeps(step: Step) -> bool {
 }
 
 #[test]
-fn a_clock_that_cannot_be_read_lets_a_thread_yield(rt: HostRuntime) {
-    assert!(rt; never_sleeps(Step::Fails));
-}
-
-#[test]
-fn a_clock_that_stands_still_lets_a_thread_yield(rt: HostRuntime) {
-    assert!(rt; never_sleeps(Step::Forward(0)));
-}
-
-#[test]
-fn a_clock_that_goes_back_lets_a_thread_yield(rt: HostRuntime) {
-    assert!(rt; never_sleeps(Step::Back(1000)));
+fn a_clock_that_cannot_be_read_stands_still_or_goes_back_lets_a_thread_yield(rt: HostRuntime) {
+    for step in NO_CLOCK {
+        assert!(rt; never_sleeps(step), "{step:?}");
+    }
 }
 
 // Whether, by a clock that jumps an hour a reading, the second long yield leads to naps, and a wait that lasted hours
@@ -197,23 +192,11 @@ fn never_naps(process: Step) -> bool {
 }
 
 #[test]
-fn a_clock_of_the_process_that_cannot_be_read_lets_a_thread_yield(rt: HostRuntime) {
-    assert!(rt; never_naps(Step::Fails));
-}
-
-#[test]
-fn a_clock_of_the_process_that_stands_still_lets_a_thread_yield(rt: HostRuntime) {
-    assert!(rt; never_naps(Step::Forward(0)));
-}
-
-#[test]
-fn a_clock_of_the_process_that_goes_back_lets_a_thread_yield(rt: HostRuntime) {
-    assert!(rt; never_naps(Step::Back(1000)));
-}
-
-#[test]
-fn a_clock_of_the_process_that_jumps_lets_a_thread_yield(rt: HostRuntime) {
+fn a_clock_of_the_process_that_jumps_or_tells_nothing_lets_a_thread_yield(rt: HostRuntime) {
     assert!(rt; never_naps(Step::Forward(HOUR)));
+    for process in NO_CLOCK {
+        assert!(rt; never_naps(process), "{process:?}");
+    }
 }
 
 // The nap after two long yields between which the process had so many microseconds, 0 where there is none.

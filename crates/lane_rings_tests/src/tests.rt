@@ -10,6 +10,11 @@ use std::sync::Wait;
 use std::test::Fail;
 use std::time::{Clock, CpuClock};
 
+// The runtime of a lane: its ends wait and tell the time.
+trait Host: Wait + Clock + CpuClock {}
+
+impl<T: Wait + Clock + CpuClock> Host for T {}
+
 // The functions below answer whether all is as it is wanted, and promise no more than that a lane stays the same: a
 // test that asserted each value itself would be long to prove.
 
@@ -24,7 +29,7 @@ impl Leave {
     ghost use Rattle.std.specs.Prelude.{◌≡◌, Some};
     ghost use Rattle.lane_rings.specs.Lane.{sender_lane, closed_lane, HasConfirmation};
 
-    fn leave<T: Drop>(self, rt: &(impl Wait + Clock + CpuClock), sender: Sender<T>) -> Closed<T>
+    fn leave<T: Drop>(self, rt: &impl Host, sender: Sender<T>) -> Closed<T>
         ensures { HasConfirmation result → closed_lane result ≡ Some (sender_lane sender) }
     {
         match self {
@@ -54,7 +59,7 @@ fn has_ended(confirmed: Result<Confirmed<u32>, Unconfirmed>, count: Option<u64>)
 
 // Whether a lane with one entry lives, on one thread, and ends with this item and count.
 fn lives(
-    rt: &(impl Wait + Clock + CpuClock),
+    rt: &impl Host,
     alloc: Global,
     leave: Leave,
     last: &Item<u32>,
@@ -85,20 +90,14 @@ fn a_lane_is_refused_its_memory_or_lives(rt: HostRuntime) {
 }
 
 // Whether a lane is confirmed of which nothing was taken.
-fn is_confirmed_unread(
-    rt: &(impl Wait + Clock + CpuClock),
-    alloc: Global,
-) -> Result<bool, AllocError> {
+fn is_confirmed_unread(rt: &impl Host, alloc: Global) -> Result<bool, AllocError> {
     let (sender, receiver) = lane::<u32>(alloc, 1)?;
     let closed = sender.stop(rt);
     Ok(receiver.confirm(closed).is_ok())
 }
 
 // Whether a lane is refused of which all but its end was taken.
-fn is_refused_without_end(
-    rt: &(impl Wait + Clock + CpuClock),
-    alloc: Global,
-) -> Result<bool, AllocError> {
+fn is_refused_without_end(rt: &impl Host, alloc: Global) -> Result<bool, AllocError> {
     let (mut sender, mut receiver) = lane::<u32>(alloc, 2)?;
     let mut goes = sender.send(rt, 7).is_ok();
     let closed = sender.close(rt, 1);
@@ -114,10 +113,7 @@ fn a_lane_with_items_left_is_not_confirmed(rt: HostRuntime) -> Result<(), Fail> 
 }
 
 // Whether `take` gives what was sent, and `Gone` behind it.
-fn gives_what_was_sent(
-    rt: &(impl Wait + Clock + CpuClock),
-    alloc: Global,
-) -> Result<bool, AllocError> {
+fn gives_what_was_sent(rt: &impl Host, alloc: Global) -> Result<bool, AllocError> {
     let (mut sender, mut receiver) = lane::<u32>(alloc, 1)?;
     let mut gives = sender.send(rt, 7).is_ok();
     gives &= receiver.take(rt) == Ok(Item::Entry(7));
@@ -158,10 +154,7 @@ fn sees_nothing(receiver: &mut Receiver<u32>) -> bool
 }
 
 // Whether looks and waits find what is sent and leave it to be passed, and find `Gone` behind it.
-fn finds_what_was_sent(
-    rt: &(impl Wait + Clock + CpuClock),
-    alloc: Global,
-) -> Result<bool, AllocError> {
+fn finds_what_was_sent(rt: &impl Host, alloc: Global) -> Result<bool, AllocError> {
     let (mut sender, mut receiver) = lane::<u32>(alloc, 2)?;
     let mut finds = sees_nothing(&mut receiver);
     finds &= sender.send(rt, 7).is_ok();
@@ -181,10 +174,7 @@ fn a_look_leaves_the_item_that_a_pass_takes(rt: HostRuntime) -> Result<(), Fail>
 }
 
 // Whether a lane is refused whose end was seen and not passed.
-fn is_refused_with_seen_end(
-    rt: &(impl Wait + Clock + CpuClock),
-    alloc: Global,
-) -> Result<bool, AllocError> {
+fn is_refused_with_seen_end(rt: &impl Host, alloc: Global) -> Result<bool, AllocError> {
     let (sender, mut receiver) = lane::<u32>(alloc, 1)?;
     let closed = sender.close(rt, 0);
     let sees = receiver.look() == Ok(true);
@@ -199,11 +189,7 @@ fn a_lane_with_a_seen_item_is_not_confirmed(rt: HostRuntime) -> Result<(), Fail>
 }
 
 // Whether a sender sees that its receiver was dropped, and leaves all the same.
-fn sees_dropped_receiver(
-    rt: &(impl Wait + Clock + CpuClock),
-    alloc: Global,
-    leave: Leave,
-) -> Result<bool, AllocError> {
+fn sees_dropped_receiver(rt: &impl Host, alloc: Global, leave: Leave) -> Result<bool, AllocError> {
     let (mut sender, receiver) = lane::<u32>(alloc, 2)?;
     let mut sees = sender.send(rt, 7).is_ok();
     drop(receiver);
@@ -221,10 +207,7 @@ fn a_dropped_receiver_is_seen(rt: HostRuntime) -> Result<(), Fail> {
 }
 
 // Whether a receiver takes what is left in the lane and then sees that its sender was dropped, by each of its calls.
-fn sees_dropped_sender(
-    rt: &(impl Wait + Clock + CpuClock),
-    alloc: Global,
-) -> Result<bool, AllocError> {
+fn sees_dropped_sender(rt: &impl Host, alloc: Global) -> Result<bool, AllocError> {
     let (mut sender, mut receiver) = lane::<u32>(alloc, 2)?;
     let mut sees = sender.send(rt, 7).is_ok();
     drop(sender);
@@ -278,7 +261,7 @@ impl Shared {
 
 // Lets the ends of a lane go. Whether it refuses what comes too late.
 fn leave_ends(
-    rt: &(impl Wait + Clock + CpuClock),
+    rt: &impl Host,
     first: First,
     sender: Sender<Rc<u32>>,
     receiver: Receiver<Rc<u32>>,
@@ -309,7 +292,7 @@ fn leave_ends(
 
 // Whether the items go into a lane, one is taken and one is left, and the ends then go.
 fn go_through(
-    rt: &(impl Wait + Clock + CpuClock),
+    rt: &impl Host,
     alloc: Global,
     first: First,
     items: &Shared,
@@ -326,11 +309,7 @@ fn go_through(
 }
 
 // Whether items go through a lane, and each drops out of it.
-fn are_dropped(
-    rt: &(impl Wait + Clock + CpuClock),
-    alloc: Global,
-    first: First,
-) -> Result<bool, AllocError> {
+fn are_dropped(rt: &impl Host, alloc: Global, first: First) -> Result<bool, AllocError> {
     let items = Shared::new(alloc)?;
     let go = go_through(rt, alloc, first, &items)?;
     Ok(go && items.are_alone())

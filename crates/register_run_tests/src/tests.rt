@@ -1,7 +1,7 @@
 //! The tables that are wanted are worked by hand from the calendars' rules.
 
 use date_texts::{Calendar, Target};
-use register_records::{Form, Output, PlainOutput, Setup, SetupFault, SourceEnd};
+use register_records::{Form, Note, Output, PlainOutput, Setup, SetupFault, SourceEnd};
 use register_run::{Report, RunFault, RunFaultKind, Verdict, run};
 use std::alloc::{AllocError, Global};
 use std::io::Read;
@@ -18,6 +18,11 @@ mod hostile;
 mod lengths;
 mod schedules;
 mod sealed;
+
+/// The runtime of a run: it starts threads, waits and tells the time, in each of them.
+trait Host: Threads + Wait + Clock + CpuClock + Sync {}
+
+impl<T: Threads + Wait + Clock + CpuClock + Sync> Host for T {}
 
 const HEADING: &str = "row,id,calendar,date,rd,weekday,refusal\n";
 
@@ -78,7 +83,7 @@ fn outputs_of(alloc: Global, count: usize) -> Result<Vec<PlainOutput<Vec<u8>>>, 
 }
 
 /// What `run` answers.
-fn answer_of<T: Threads + Wait + Clock + CpuClock + Sync, R: Read + Send + Drop, W: Output + Drop>(
+fn answer_of<T: Host, R: Read + Send + Drop, W: Output + Drop>(
     rt: &T,
     alloc: Global,
     sources: Vec<R>,
@@ -89,7 +94,7 @@ fn answer_of<T: Threads + Wait + Clock + CpuClock + Sync, R: Read + Send + Drop,
 }
 
 /// The report of a run that begins.
-fn report_of<T: Threads + Wait + Clock + CpuClock + Sync, R: Read + Send + Drop, W: Output + Drop>(
+fn report_of<T: Host, R: Read + Send + Drop, W: Output + Drop>(
     rt: &T,
     alloc: Global,
     sources: Vec<R>,
@@ -103,7 +108,7 @@ fn report_of<T: Threads + Wait + Clock + CpuClock + Sync, R: Read + Send + Drop,
 }
 
 /// Whether a run begins and is complete.
-fn completes<T: Threads + Wait + Clock + CpuClock + Sync, R: Read + Send + Drop, W: Output + Drop>(
+fn completes<T: Host, R: Read + Send + Drop, W: Output + Drop>(
     rt: &T,
     alloc: Global,
     sources: Vec<R>,
@@ -143,8 +148,8 @@ fn sources_of(alloc: Global, texts: &[Vec<u8>]) -> Result<Vec<&[u8]>, AllocError
     Ok(sources)
 }
 
-/// Whether a source is whole with so many rows, of which none is refused.
-fn is_whole_with(end: &SourceEnd, count: usize) -> bool {
+/// Whether a source is whole with so many rows, and its journal has these notes alone, one for each refused row.
+fn is_whole_with(end: &SourceEnd, count: usize, notes: &[Note]) -> bool {
     let SourceEnd::Whole {
         rows,
         refused,
@@ -153,7 +158,7 @@ fn is_whole_with(end: &SourceEnd, count: usize) -> bool {
     else {
         return false;
     };
-    *rows as usize == count && *refused == 0 && journal.is_empty()
+    *rows as usize == count && *refused as usize == notes.len() && journal.as_slice() == notes
 }
 
 /// Whether an output has this mark, and holds this table.
@@ -168,7 +173,7 @@ fn has_tables(report: Report<PlainOutput<Vec<u8>>>, counts: &[usize], tables: &[
         && report.ends.len() == counts.len()
         && report.outputs.len() == counts.len();
     for (end, count) in report.ends.iter().zip(counts) {
-        are_right = is_whole_with(end, *count) && are_right;
+        are_right = is_whole_with(end, *count, &[]) && are_right;
     }
     let mut mark = 7u32;
     for (output, table) in report.outputs.into_iter().zip(tables) {
@@ -180,7 +185,7 @@ fn has_tables(report: Report<PlainOutput<Vec<u8>>>, counts: &[usize], tables: &[
 
 /// Whether sources of so many records each become their tables under this setup.
 fn become_tables(
-    rt: &(impl Threads + Wait + Clock + CpuClock + Sync),
+    rt: &impl Host,
     alloc: Global,
     counts: &[usize],
     setup: &Setup,
@@ -288,7 +293,7 @@ fn a_broken_source_leaves_the_other_one_alone(rt: HostRuntime) -> Result<(), Fai
 
 /// The kind of the fault of a run of so many sources with one output, where the fault gives all of them back.
 fn kind_of_fault(
-    rt: &(impl Threads + Wait + Clock + CpuClock + Sync),
+    rt: &impl Host,
     alloc: Global,
     count: usize,
 ) -> Result<Option<RunFaultKind>, Fail> {

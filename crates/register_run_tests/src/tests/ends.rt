@@ -1,6 +1,7 @@
 //! The ends of a lane on two threads, where one of them is slow: nothing but a dropped end is told as gone, and what
 //! was sent before the sender was dropped is taken.
 
+use super::Host;
 use lane_rings::{Item, Receiver, Sender, lane};
 use std::alloc::{AllocError, Global};
 use std::sync::Wait;
@@ -87,7 +88,7 @@ fn try_items(receiver: Receiver<u32>, slow: bool) -> u32 {
 
 /// How many items come in order over a lane before its sender is told as gone.
 fn count_over_lane(
-    rt: &(impl Threads + Wait + Clock + CpuClock + Sync),
+    rt: &impl Host,
     alloc: Global,
     slow: Slow,
     waits: bool,
@@ -163,11 +164,7 @@ fn take_few(
 }
 
 /// What a sender is told whose receiver takes a few items and is dropped.
-fn told_to_sender(
-    rt: &(impl Threads + Wait + Clock + CpuClock + Sync),
-    alloc: Global,
-    slow: Slow,
-) -> Result<u64, AllocError> {
+fn told_to_sender(rt: &impl Host, alloc: Global, slow: Slow) -> Result<u64, AllocError> {
     let (sender, receiver) = lane::<u32>(alloc, 2)?;
     let (dropping, told) = (AtomicU64::new(0), AtomicU64::new(0));
     let (dropping_seen, told_seen) = (&dropping, &told);
@@ -273,11 +270,7 @@ fn count_items(
 }
 
 /// How many of the lanes give an item that is sent just before the sender is dropped, while the receiver waits.
-fn count_over_lanes(
-    rt: &(impl Threads + Wait + Clock + CpuClock + Sync),
-    alloc: Global,
-    way: Way,
-) -> Result<usize, AllocError> {
+fn count_over_lanes(rt: &impl Host, alloc: Global, way: Way) -> Result<usize, AllocError> {
     let mut senders = Vec::new(alloc);
     let mut receivers = Vec::new(alloc);
     for _ in 0..LANES {
@@ -296,21 +289,26 @@ fn count_over_lanes(
     Ok(count)
 }
 
+/// The least of five such counts.
+fn least_over_lanes(rt: &impl Host, alloc: Global, way: Way) -> Result<usize, AllocError> {
+    let mut least = LANES;
+    for _ in 0..5 {
+        least = least.min(count_over_lanes(rt, alloc, way)?);
+    }
+    Ok(least)
+}
+
 // The item may come after a look at the ring, and the sender leave before the look at the sender.
 #[test]
 fn an_item_that_was_sent_just_before_its_end_is_seen(rt: HostRuntime) -> Result<(), Fail> {
-    for _ in 0..5 {
-        let count = count_over_lanes(&rt, rt.alloc(), Way::Look)?;
-        assert!(rt; count == LANES, "{count}");
-    }
+    let least = least_over_lanes(&rt, rt.alloc(), Way::Look)?;
+    assert!(rt; least == LANES, "{least}");
     Ok(())
 }
 
 #[test]
 fn an_item_that_was_sent_just_before_its_end_is_taken(rt: HostRuntime) -> Result<(), Fail> {
-    for _ in 0..5 {
-        let count = count_over_lanes(&rt, rt.alloc(), Way::Take)?;
-        assert!(rt; count == LANES, "{count}");
-    }
+    let least = least_over_lanes(&rt, rt.alloc(), Way::Take)?;
+    assert!(rt; least == LANES, "{least}");
     Ok(())
 }

@@ -1,7 +1,7 @@
 //! Sources and outputs that fail at each place in turn, and memory that is refused, beside sources that do not fail.
 
 use super::{
-    answer_of, cause_of, is_complete, plain_setup, report_of, table_of, tables_of, text_of,
+    Host, answer_of, cause_of, is_complete, plain_setup, report_of, table_of, tables_of, text_of,
 };
 use register_records::faults::{Chunks, Sink};
 use register_records::{Output, PlainOutput, Setup, SourceEnd};
@@ -122,7 +122,7 @@ fn seen_beside_whole(report: &Report<Sink>, table: &[u8]) -> Option<Seen> {
 /// Runs a text of so many records with these faults beside another text, which becomes its table, and says what is
 /// seen of the first.
 fn seen_of(
-    rt: &(impl Threads + Wait + Clock + CpuClock + Sync + Abort),
+    rt: &(impl Host + Abort),
     alloc: Global,
     (stripes, records): (usize, usize),
     faults: Faults,
@@ -151,7 +151,7 @@ fn is_broken_at_read(seen: Seen, read: u32) -> bool {
 
 /// How many of the first reads break the source, each alone: from the next one on it is whole.
 fn count_of_broken_reads(
-    rt: &(impl Threads + Wait + Clock + CpuClock + Sync + Abort),
+    rt: &(impl Host + Abort),
     alloc: Global,
     stripes: usize,
 ) -> Result<u32, Fail> {
@@ -196,7 +196,7 @@ fn fault_at(place: u32, by_flush: bool) -> Faults {
 
 /// How many of the first writes or flushes break the source, each alone: from the next one on it is whole.
 fn count_of_broken_writes(
-    rt: &(impl Threads + Wait + Clock + CpuClock + Sync + Abort),
+    rt: &(impl Host + Abort),
     alloc: Global,
     stripes: usize,
     by_flush: bool,
@@ -317,11 +317,7 @@ fn is_table(report: Report<PlainOutput<Nervous<Vec<u8>>>>, table: &[u8]) -> bool
 }
 
 /// Whether three records become their table by reads and writes that are interrupted.
-fn becomes_table(
-    rt: &(impl Threads + Wait + Clock + CpuClock + Sync),
-    alloc: Global,
-    stripes: usize,
-) -> Result<bool, Fail> {
+fn becomes_table(rt: &impl Host, alloc: Global, stripes: usize) -> Result<bool, Fail> {
     let setup = plain_setup(1, stripes)?;
     let text = text_of(alloc, 3)?;
     let table = table_of(alloc, 3)?;
@@ -355,7 +351,7 @@ fn reader_of_records(alloc: Global, records: usize) -> Result<Chunks, AllocError
 
 /// What a run answers where memory may be refused. Its sources and outputs take none.
 fn answer_in_need(
-    rt: &(impl Threads + Wait + Clock + CpuClock + Sync),
+    rt: &impl Host,
     alloc: Global,
     setup: &Setup,
 ) -> Result<Result<Report<Sink>, RunFault<Chunks, Sink>>, AllocError> {

@@ -1,7 +1,7 @@
 //! Tests with a gate or with readers that wait show that the work of several threads goes on at the same time. Each of
 //! them looks only so often: where what it waits for does not come, it fails.
 
-use super::{RECORD, WHOLE_TEXT, completes, is_complete, outputs_of, plain_setup, text_of};
+use super::{Host, RECORD, WHOLE_TEXT, completes, is_complete, outputs_of, plain_setup, text_of};
 use register_records::{Output, PlainOutput, Setup};
 use register_run::{Gate, run_gated};
 use std::alloc::{AllocError, Global};
@@ -112,11 +112,7 @@ fn watched_outputs(
 
 /// Whether a run of two readers is complete, each of which gives its first chunk only after the other one's was asked
 /// for.
-fn readers_meet(
-    rt: &(impl Threads + Wait + Clock + CpuClock + Sync),
-    alloc: Global,
-    stripes: usize,
-) -> Result<bool, Fail> {
+fn readers_meet(rt: &impl Host, alloc: Global, stripes: usize) -> Result<bool, Fail> {
     let setup = plain_setup(16, stripes)?;
     let (first, second) = (AtomicU64::new(0), AtomicU64::new(0));
     let chunks = [WHOLE_TEXT];
@@ -139,11 +135,7 @@ fn two_readers_meet(rt: HostRuntime) -> Result<(), Fail> {
 }
 
 /// Whether a run is complete whose reader gives the second record only after a row was written.
-fn row_comes_before_record(
-    rt: &(impl Threads + Wait + Clock + CpuClock + Sync),
-    alloc: Global,
-    stripes: usize,
-) -> Result<bool, Fail> {
+fn row_comes_before_record(rt: &impl Host, alloc: Global, stripes: usize) -> Result<bool, Fail> {
     let setup = plain_setup(16, stripes)?;
     let (asked, rows) = (AtomicU64::new(0), AtomicU64::new(0));
     let chunks = [WHOLE_TEXT, RECORD];
@@ -165,12 +157,14 @@ fn first_row_before_second_record(rt: HostRuntime) -> Result<(), Fail> {
 }
 
 /// Whether a run with a gate begins and is complete. Nothing is promised of it, as of a run without one.
-fn completes_gated<
-    T: Threads + Wait + Clock + CpuClock + Sync,
-    R: Read + Send + Drop,
-    W: Output + Drop,
-    G: Gate + Sync,
->(rt: &T, alloc: Global, sources: Vec<R>, outputs: Vec<W>, setup: &Setup, gate: &G) -> bool {
+fn completes_gated(
+    rt: &impl Host,
+    alloc: Global,
+    sources: Vec<impl Read + Send + Drop>,
+    outputs: Vec<impl Output + Drop>,
+    setup: &Setup,
+    gate: &(impl Gate + Sync),
+) -> bool {
     match run_gated(rt, alloc, sources, outputs, setup, gate) {
         Ok(report) => is_complete(&report),
         Err(_) => false,
@@ -200,7 +194,7 @@ impl Gate for Held<'_> {
 
 /// Whether a run with this gate is complete, what the gate waited for has come, and so many entries came to it.
 fn is_held<R: Read + Send + Drop, W: Output + Drop>(
-    rt: &(impl Threads + Wait + Clock + CpuClock + Sync),
+    rt: &impl Host,
     alloc: Global,
     sources: Vec<R>,
     outputs: Vec<W>,
@@ -254,11 +248,7 @@ fn converter_beside_writer(rt: HostRuntime) -> Result<(), Fail> {
 }
 
 /// Whether a run of so many stripes and entries is complete whose gate holds each entry until all of them came.
-fn converters_meet(
-    rt: &(impl Threads + Wait + Clock + CpuClock + Sync),
-    alloc: Global,
-    stripes: usize,
-) -> Result<bool, Fail> {
+fn converters_meet(rt: &impl Host, alloc: Global, stripes: usize) -> Result<bool, Fail> {
     let setup = plain_setup(16, stripes)?;
     let came = AtomicU64::new(0);
     let text = text_of(alloc, stripes)?;

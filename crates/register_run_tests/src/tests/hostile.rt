@@ -1,6 +1,6 @@
 //! Texts that are meant to harm, converted on one thread and by runs, read at once and a byte at a time.
 
-use super::{HEADING, RECORD, cause_of, is_joined, plain_setup, report_of};
+use super::{HEADING, Host, RECORD, cause_of, is_joined, plain_setup, report_of};
 use register_records::faults::{Chunks, Sink};
 use register_records::{PlainOutput, Setup, SourceEnd, convert_source};
 use register_run::Report;
@@ -146,7 +146,7 @@ fn told_by_one_thread(alloc: Global, text: &str, size: usize) -> Result<Told, Fa
 
 /// Adds how a text, read at once and a byte at a time, ends in a run of so many stripes.
 fn tell_by_run(
-    rt: &(impl Threads + Wait + Clock + CpuClock + Sync),
+    rt: &impl Host,
     alloc: Global,
     text: &str,
     stripes: usize,
@@ -168,11 +168,7 @@ fn tell_by_run(
 }
 
 /// How a text ends on one thread and in runs of 1 and 4 stripes, read at once and a byte at a time.
-fn told_by_all(
-    rt: &(impl Threads + Wait + Clock + CpuClock + Sync),
-    alloc: Global,
-    text: &str,
-) -> Result<Vec<Told>, Fail> {
+fn told_by_all(rt: &impl Host, alloc: Global, text: &str) -> Result<Vec<Told>, Fail> {
     let mut told = Vec::new(alloc);
     for size in [ROOM, 1] {
         told.push(told_by_one_thread(alloc, text, size)?)?;
@@ -310,11 +306,7 @@ fn are_both_right(report: Report<PlainOutput<Counter>>) -> bool {
 }
 
 /// Whether a run converts a million records, and no more of one more beside it.
-fn run_converts(
-    rt: &(impl Threads + Wait + Clock + CpuClock + Sync),
-    alloc: Global,
-    setup: &Setup,
-) -> Result<bool, Fail> {
+fn run_converts(rt: &impl Host, alloc: Global, setup: &Setup) -> Result<bool, Fail> {
     let mut sources = Vec::new(alloc);
     let mut outputs = Vec::new(alloc);
     for count in COUNTS {

@@ -1,7 +1,7 @@
 //! Records whose fields have every length that is allowed, a million of them: no length and no number is an error.
 
 use super::hostile::Counter;
-use super::{plain_setup, report_of};
+use super::{Host, plain_setup, report_of};
 use register_records::{PlainOutput, Setup, SourceEnd, convert_source};
 use register_run::Report;
 use std::alloc::Global;
@@ -113,11 +113,7 @@ fn has_whole_table(report: Report<PlainOutput<Counter>>) -> bool {
 }
 
 /// Whether a run converts them all.
-fn run_converts(
-    rt: &(impl Threads + Wait + Clock + CpuClock + Sync),
-    alloc: Global,
-    setup: &Setup,
-) -> Result<bool, Fail> {
+fn run_converts(rt: &impl Host, alloc: Global, setup: &Setup) -> Result<bool, Fail> {
     let mut sources = Vec::new(alloc);
     sources.push(Lengths::new(alloc)?)?;
     let mut outputs = Vec::new(alloc);

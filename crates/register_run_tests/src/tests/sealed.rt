@@ -1,7 +1,7 @@
 //! Sealed registers: which are whole, why the others are not, and what stands in their tables. The rows are worked by
 //! hand from the calendars' rules: 5 October 1582 in the Julian calendar is day 577736, a Friday.
 
-use super::{GREGORIAN, Told, outputs_of, report_of, sources_of, told_by};
+use super::{GREGORIAN, Host, Told, is_whole_with, outputs_of, report_of, sources_of, told_by};
 use date_texts::Refusal;
 use register_records::{Form, Note, PlainOutput, Setup, SourceEnd};
 use register_run::Report;
@@ -69,7 +69,7 @@ fn joined(alloc: Global, parts: &[&str]) -> Result<Vec<u8>, AllocError> {
 
 /// The report of a run of sealed registers, with rings of one item.
 fn run_sealed<R: Read + Send + Drop>(
-    rt: &(impl Threads + Wait + Clock + CpuClock + Sync),
+    rt: &impl Host,
     alloc: Global,
     sources: Vec<R>,
     stripes: usize,
@@ -89,11 +89,7 @@ fn texts_with_ends(alloc: Global) -> Result<Vec<Vec<u8>>, AllocError> {
 }
 
 /// What a run of these registers tells of them.
-fn told_of_ends(
-    rt: &(impl Threads + Wait + Clock + CpuClock + Sync),
-    alloc: Global,
-    stripes: usize,
-) -> Result<Vec<Told>, Fail> {
+fn told_of_ends(rt: &impl Host, alloc: Global, stripes: usize) -> Result<Vec<Told>, Fail> {
     let texts = texts_with_ends(alloc)?;
     let sources = sources_of(alloc, texts.as_slice())?;
     let report = run_sealed(rt, alloc, sources, stripes)?;
@@ -130,22 +126,11 @@ fn a_register_without_entries_has_a_seal_too(rt: HostRuntime) -> Result<(), Fail
     Ok(())
 }
 
-/// Whether a register is whole with two rows, and its journal has the note of the second alone.
-fn has_one_note(end: &SourceEnd) -> bool {
-    let SourceEnd::Whole {
-        rows,
-        refused,
-        journal,
-    } = end
-    else {
-        return false;
-    };
-    let note = Note {
-        number: 2,
-        refusal: Refusal::FieldCount,
-    };
-    *rows == 2 && *refused == 1 && journal.as_slice() == [note].as_slice()
-}
+/// The note of the second of two rows.
+const NOTE: Note = Note {
+    number: 2,
+    refusal: Refusal::FieldCount,
+};
 
 #[test]
 fn a_seal_is_no_row_and_has_no_note_in_the_journal(rt: HostRuntime) -> Result<(), Fail> {
@@ -153,7 +138,8 @@ fn a_seal_is_no_row_and_has_no_note_in_the_journal(rt: HostRuntime) -> Result<()
     let mut sources = Vec::new(rt.alloc());
     sources.push(text.as_slice())?;
     let report = run_sealed(&rt, rt.alloc(), sources, 4)?;
-    assert!(rt; report.ends.first().is_some_and(has_one_note));
+    let is_right = |end: &SourceEnd| is_whole_with(end, 2, &[NOTE]);
+    assert!(rt; report.ends.first().is_some_and(is_right));
     Ok(())
 }
 

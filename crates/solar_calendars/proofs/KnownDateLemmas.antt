@@ -36,7 +36,8 @@ roman_days = (refl, refl)
 thirteen_month_days : (day_number_of coptic_rules (pos 3) 13 6 ≡ pos 104_700)
     × (day_number_of ethiopic_rules (pos 3) 13 6 ≡ pos 3_891)
     × (day_number_of egyptian_rules (pos 1) 13 5 ≡ neg_ℤ (pos 272_423))
-    × (day_number_of armenian_rules (pos 1) 13 5 ≡ pos 201_807) × (day_number_of french_rules (pos 4) 13 6 ≡ pos 655_875)
+    × (day_number_of armenian_rules (pos 1) 13 5 ≡ pos 201_807)
+    × (day_number_of french_rules (pos 4) 13 6 ≡ pos 655_875)
 unfolding start_of_year days_of_years
 thirteen_month_days = (refl, refl, refl, refl, refl)
 

@@ -226,7 +226,9 @@ next : (y : ℤ) (m : ℕ) → HasYear without_zero y → 1 ≤ m → m ≤ 12 �
 next y m h a b =
     elim (cases_eq m 12) [
       | inl e ↦ rw e (((year_after y h).0, omega arith, omega arith), (year_after y h).1, refl)
-      | inr n ↦ rw (ne_eqb m 12 n, ne_eqb (m + 1) 1 (λ q. omega arith)) ((h, omega arith, omega arith), refl, omega arith)
+      | inr n ↦
+          let later = ne_eqb (m + 1) 1 (λ q. omega arith) in
+          rw (ne_eqb m 12 n, later) ((h, omega arith, omega arith), refl, omega arith)
     ]
 
 -- the name of a Julian date is valid, and names its day

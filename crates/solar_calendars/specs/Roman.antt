@@ -34,7 +34,7 @@ principal_day year month (Nones count) = day_number_of julian_rules year month (
 principal_day year month (Ides count) = day_number_of julian_rules year month (day_of_ides month)
 principal_day year month name = day_number_of julian_rules year month 1
 
--- that of the principal day before it: Kalends, Nones and Ides follow each other, and then the Kalends of the next month
+-- that of the principal day before it: Kalends, Nones and Ides follow each other, and then the next month's Kalends
 abbrev pub preceding_day : ℤ → ℕ → RomanName → ℤ
 preceding_day year month (Nones count) = principal_day year month (Kalends 1)
 preceding_day year month (Ides count) = principal_day year month (Nones 1)

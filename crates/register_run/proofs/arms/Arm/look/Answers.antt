@@ -1,6 +1,6 @@
 use Rattle.lane_rings.specs.Lane.{taken, waiting}
 use Rattle.lane_rings.specs.declared.item.Item.TheVariants as item
-use Rattle.std.proofs.Common.{◌∙◌, rules}
+use Rattle.std.proofs.Common.{rules}
 use Rattle.register_run.specs.Arms.{ArmTook}
 use Rattle.register_run.proofs.PassageLemmas.{seen_kept}
 use Rattle.register_run.proofs.arms.Arm.look.Goals as goal

@@ -8,7 +8,6 @@ use std::sync::Wait;
 use std::sync::atomic::{AtomicU64, Ordering};
 use std::test::Fail;
 use std::thread;
-use std::thread::Threads;
 use std::time::{Clock, CpuClock};
 
 /// How many items are sent: more than a ring holds.

@@ -10,10 +10,7 @@ use std::alloc::{AllocError, Global};
 use std::io;
 use std::io::{ErrorKind, Read, Write};
 use std::process::Abort;
-use std::sync::Wait;
 use std::test::Fail;
-use std::thread::Threads;
-use std::time::{Clock, CpuClock};
 
 /// The reader of a text in chunks, one for each line, of which the read of this number fails, from 1, or for 0 none.
 fn reader_of(alloc: Global, text: &[u8], fail_read: u32) -> Result<Chunks, AllocError> {

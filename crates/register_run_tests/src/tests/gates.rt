@@ -9,8 +9,6 @@ use std::io::{ErrorKind, Read, Write};
 use std::sync::Wait;
 use std::sync::atomic::{AtomicU64, Ordering};
 use std::test::Fail;
-use std::thread::Threads;
-use std::time::{Clock, CpuClock};
 use std::{io, thread};
 
 /// How often a test looks for what it waits for.

@@ -7,10 +7,7 @@ use register_run::Report;
 use std::alloc::{AllocError, Global};
 use std::io;
 use std::io::{Read, Write};
-use std::sync::Wait;
 use std::test::Fail;
-use std::thread::Threads;
-use std::time::{Clock, CpuClock};
 
 /// Texts, in which the substitute U+001A stands for the byte FF, which is nowhere in UTF-8. Each has the cause that is
 /// told, or 0, and the rows below the heading.

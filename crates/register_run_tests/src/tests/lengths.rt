@@ -7,10 +7,7 @@ use register_run::Report;
 use std::alloc::Global;
 use std::io;
 use std::io::Read;
-use std::sync::Wait;
 use std::test::Fail;
-use std::thread::Threads;
-use std::time::{Clock, CpuClock};
 
 /// The most records of a source.
 const MOST: u32 = 1_000_000;

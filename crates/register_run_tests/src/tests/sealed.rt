@@ -8,10 +8,7 @@ use register_run::Report;
 use std::alloc::{AllocError, Global};
 use std::io;
 use std::io::{ErrorKind, Read};
-use std::sync::Wait;
 use std::test::Fail;
-use std::thread::Threads;
-use std::time::{Clock, CpuClock};
 
 const HEADER: &str = "id,calendar,date,note\n";
 

@@ -1,6 +1,6 @@
 -- The fields of an answer, while they are appended, and the cells among them.
 use Rattle.std.proofs.Common.{◌≡◌, ◌<◌, ◌≤◌, ◌+◌, ◌++◌, ℕ, List, [], ◌∷◌, true, false, refl, sym, ap, ◌∙◌}
-use Rattle.std.proofs.Common.{add-one, arith, append_assoc, append-nil, drop, drop-cons, get_or, length, length-drop}
+use Rattle.std.proofs.Common.{add-one, arith, append-nil, drop, drop-cons, get_or, length, length-drop}
 use Rattle.std.proofs.Common.{map, subst}
 use Rattle.std.proofs.Common.{set, take}
 use Rattle.std.specs.Prelude.{◌==◌, ℤ, pos, negsuc, zero, suc, Bool, cond, Ok, Err, Result}

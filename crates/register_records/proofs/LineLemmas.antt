@@ -2,7 +2,7 @@
 use Rattle.std.proofs.Common.{◌≡◌, ◌<◌, ◌≤◌, ◌+◌, ◌^◌, ◌%◌, ◌++◌, ℕ, List, [], ◌∷◌, true, false, refl, sym, ap, ◌∙◌}
 use Rattle.std.proofs.Common.{arith, append_assoc, append-nil, length, length-append, length-set, map, set, take}
 use Rattle.std.proofs.Common.{drop, get_or}
-use Rattle.std.specs.Prelude.{ℤ, pos, negsuc, suc, codes}
+use Rattle.std.specs.Prelude.{ℤ, pos, negsuc, suc}
 use Rattle.std.specs.Fmt.{decimal, signed_decimal}
 use Rattle.std.proofs.lemmas.Int.{ints}
 use Rattle.std.proofs.lemmas.Bool.{and_parts}

@@ -1,4 +1,4 @@
-use Rattle.std.proofs.Common.{◌≡◌, ◌∙◌, ◌++◌, map, sym}
+use Rattle.std.proofs.Common.{◌∙◌, ◌++◌, map, sym}
 use Rattle.register_records.specs.TableColumns.{answer_texts, entry_field, entry_order, row_fields}
 use Rattle.register_records.specs.LineViews.{line_bytes}
 use Rattle.register_records.specs.Views.{row_seen, row_targets}

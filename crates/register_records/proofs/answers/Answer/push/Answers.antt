@@ -1,6 +1,6 @@
-use Rattle.std.proofs.Common.{◌≡◌, ◌∷◌, ◌++◌, arith}
+use Rattle.std.proofs.Common.{arith}
 use Rattle.register_records.specs.Answers.{answer_bytes}
-use Rattle.register_records.proofs.AnswerLemmas.{Grown, grown, put_field}
+use Rattle.register_records.proofs.AnswerLemmas.{grown, put_field}
 use Rattle.register_records.proofs.answers.Answer.push.Goals as goal
 
 pub returns-clause-value : goal.returns-clause-value

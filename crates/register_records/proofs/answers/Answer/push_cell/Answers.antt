@@ -1,7 +1,7 @@
 use Rattle.std.proofs.Common.{◌≡◌, arith, length, rules, take}
 use Rattle.register_records.specs.Answers.{answer_bytes}
 use Rattle.register_records.specs.Seen.{outcome_seen}
-use Rattle.register_records.proofs.AnswerLemmas.{Grown, grown, plain_field, put_cell}
+use Rattle.register_records.proofs.AnswerLemmas.{grown, plain_field, put_cell}
 use Rattle.register_records.proofs.answers.Answer.push_cell.Goals as goal
 
 pub returns-clause-value : goal.returns-clause-value

@@ -1,10 +1,10 @@
-use Rattle.std.proofs.Common.{◌≡◌, ◌∙◌, ◌∷◌, ◌++◌, [], ℕ, List, ap, arith, subst, sym, take}
+use Rattle.std.proofs.Common.{◌∙◌, ◌∷◌, ◌++◌, [], ℕ, List, ap, arith, subst, sym, take}
 use Rattle.std.proofs.lemmas.List.{flat_map_more, take_all, take_more}
 use Rattle.std.specs.List.{AllZip}
 use Rattle.register_records.specs.Seen.{outcome_seen}
 use Rattle.register_records.specs.TableColumns.{AreFields, answer_order}
 use Rattle.register_records.specs.declared.table_columns.TableColumn.{TableColumn}
-use Rattle.register_records.proofs.AnswerLemmas.{AreWhole, one_more_beside, room_left, whole_answer}
+use Rattle.register_records.proofs.AnswerLemmas.{one_more_beside, room_left, whole_answer}
 use Rattle.register_records.proofs.answers.Answer.set.Goals as goal
 
 pub columns-init : goal.columns-init

@@ -1,6 +1,6 @@
 -- The lines on sources, told one after the other.
 use Rattle.std.proofs.Common.{◌≡◌, ◌≢◌, ◌∙◌, ◌<◌, ◌≤◌, ◌+◌, ℕ, List, [], ◌∷◌, ◌++◌, length, get_or, drop, ap, sym, refl}
-use Rattle.std.proofs.Common.{arith, append_assoc, append-nil, eq-eqb, ne_eqb, length-append, Option, None, Some}
+use Rattle.std.proofs.Common.{arith, append_assoc, append-nil, eq-eqb, ne_eqb, length-append}
 use Rattle.std.proofs.Common.{Bool, true, false, zero, suc}
 use Rattle.std.specs.Prelude.{All}
 use Rattle.std.proofs.lemmas.List.{drop_more}

@@ -69,7 +69,7 @@ fn a_seal_ends_its_register(rt: HostRuntime) {
     }
 }
 
-const CASES: [TextCase; 7] = [
+const CASES: [TextCase; 6] = [
     // No entries.
     TextCase {
         input: b"\

@@ -1,12 +1,11 @@
 -- What follows from a calendar's rules, for every calendar.
 use Rattle.std.proofs.Common.{◌≡◌, ℕ, zero, suc, ◌+◌, ◌-◌, ◌*◌, ◌<◌, ◌≤◌, List, [], ◌∷◌, length, IsTrue, refl, sym}
-use Rattle.std.proofs.Common.{subst, ap, ◌∙◌, arith, ℤ, pos, negsuc, ◌+ℤ◌, ◌-ℤ◌, ◌<ℤ◌, ◌≤ℤ◌}
+use Rattle.std.proofs.Common.{subst, ap, ◌∙◌, arith, ℤ, pos, negsuc, ◌+ℤ◌, ◌-ℤ◌, ◌<ℤ◌, ◌≤ℤ◌, neg_ℤ, unsigned_abs}
 use Rattle.std.proofs.lemmas.Int.{by_lt_z}
 use Rattle.std.proofs.lemmas.Bool.Decides.{nat_tests}
 use Rattle.day_numbers.specs.Rules.{Years, from_one, with_zero, without_zero, Rules, HasYear, total_days, days_of_month}
-use Rattle.day_numbers.specs.Rules.{days_before_month, days_of_years, year_before, days_of_years_before, years_back}
-use Rattle.day_numbers.specs.Rules.{start_of_year, year_length, year_start, IsDateOf, day_number_of, are_months}
-use Rattle.day_numbers.specs.Rules.{HasDayOf, first_day_by}
+use Rattle.day_numbers.specs.Rules.{days_before_month, days_of_years, year_before, start_of_year, year_length}
+use Rattle.day_numbers.specs.Rules.{year_start, IsDateOf, day_number_of, are_months, HasDayOf, first_day_by}
 use Rattle.day_numbers.specs.Days.{IsSinceFirstDay}
 use Rattle.day_numbers.specs.declared.rules.Month.{Month}
 use Rattle.day_numbers.proofs.SignedArithmeticLemmas.{signed_arith}
@@ -27,33 +26,59 @@ pub years_zero : (f : ℤ → ℕ) → days_of_years f 0 ≡ 0
 unfolding days_of_years
 years_zero f = refl
 
-before_suc : (s : Years) (f : ℤ → ℕ) (n : ℕ)
-    → days_of_years_before s f (suc n) ≡ days_of_years_before s f n + f (year_before s n)
-unfolding days_of_years_before
-before_suc s f n = refl
-
-before_zero : (s : Years) (f : ℤ → ℕ) → days_of_years_before s f 0 ≡ 0
-unfolding days_of_years_before
-before_zero s f = refl
-
 pub start_one : (s : Years) (e : ℤ) (f : ℤ → ℕ) → start_of_year s e f (pos 1) ≡ e
 unfolding start_of_year
 start_one s e f = omega (arith, signed_arith, years_zero f)
+
+-- the lengths of the years before year 1, the nearest first
+abbrev lengths_before : Years → (ℤ → ℕ) → ℤ → ℕ
+lengths_before s f k = f (year_before s k)
+
+-- the start of the year that lies n years before year 1
+start_before : (s : Years) (e : ℤ) (f : ℤ → ℕ) (y : ℤ) (n : ℕ) → y <ℤ pos 1 → unsigned_abs (year_before s y) ≡ n
+    → start_of_year s e f y ≡ e -ℤ pos (days_of_years (lengths_before s f) n)
+unfolding start_of_year
+start_before s e f (pos zero) n lt h = rw h refl
+start_before s e f (pos (suc k)) n lt h = absurd (omega (arith, signed_arith))
+start_before s e f (negsuc k) n lt h = rw h refl
+
+-- the year z that lies n years before year 1, and the year y before it
+start_step : (s : Years) (e : ℤ) (f : ℤ → ℕ) (y z : ℤ) (n : ℕ) → y <ℤ pos 1 → z <ℤ pos 1
+    → unsigned_abs (year_before s z) ≡ n → unsigned_abs (year_before s y) ≡ suc n → year_before s (pos (suc n)) ≡ y
+    → start_of_year s e f z ≡ start_of_year s e f y +ℤ pos (f y)
+start_step s e f y z n a b g h k =
+    let more : days_of_years (lengths_before s f) (suc n) ≡ days_of_years (lengths_before s f) n + f y =
+    rw (← k) (years_suc (lengths_before s f) n) in
+    omega (arith, signed_arith, more, start_before s e f z n b g, start_before s e f y (suc n) a h)
+
+-- the same of year 1, and the year y before it
+start_last : (s : Years) (e : ℤ) (f : ℤ → ℕ) (y : ℤ) → y <ℤ pos 1 → unsigned_abs (year_before s y) ≡ 1
+    → year_before s (pos 1) ≡ y → start_of_year s e f (pos 1) ≡ start_of_year s e f y +ℤ pos (f y)
+start_last s e f y a h k =
+    let more : days_of_years (lengths_before s f) 1 ≡ days_of_years (lengths_before s f) 0 + f y =
+    rw (← k) (years_suc (lengths_before s f) 0) in
+    omega (arith, signed_arith, more, years_zero (lengths_before s f), start_before s e f y 1 a h, start_one s e f)
 
 -- each year begins after the days of the one before
 pub start_next : (s : Years) (e : ℤ) (f : ℤ → ℕ) (y : ℤ) → HasYear s y
     → start_of_year s e f (next_year s y) ≡ start_of_year s e f y +ℤ pos (f y)
 unfolding start_of_year
 start_next s e f (pos (suc n)) h = omega (arith, signed_arith, years_suc f n)
-start_next with_zero e f (pos zero) h =
-    omega (arith, signed_arith, years_zero f, before_suc with_zero f 0, before_zero with_zero f)
+start_next with_zero e f (pos zero) h = start_last with_zero e f (pos 0) (omega (arith, signed_arith)) refl refl
 start_next without_zero e f (pos zero) h = absurd h
 start_next from_one e f (pos zero) h = absurd h
-start_next with_zero e f (negsuc zero) h = omega (arith, signed_arith, before_suc with_zero f 1)
-start_next with_zero e f (negsuc (suc n)) h = omega (arith, signed_arith, before_suc with_zero f (suc (suc n)))
+start_next with_zero e f (negsuc zero) h =
+    start_step with_zero e f (negsuc 0) (pos 0) 1 (omega (arith, signed_arith)) (omega (arith, signed_arith)) refl refl
+    refl
+start_next with_zero e f (negsuc (suc n)) h =
+    start_step with_zero e f (negsuc (suc n)) (negsuc n) (suc (suc n)) (omega (arith, signed_arith))
+    (omega (arith, signed_arith)) (omega (arith, signed_arith)) (omega (arith, signed_arith))
+    (omega (arith, signed_arith))
 start_next without_zero e f (negsuc zero) h =
-    omega (arith, signed_arith, years_zero f, before_suc without_zero f 0, before_zero without_zero f)
-start_next without_zero e f (negsuc (suc n)) h = omega (arith, signed_arith, before_suc without_zero f (suc n))
+    start_last without_zero e f (negsuc 0) (omega (arith, signed_arith)) refl refl
+start_next without_zero e f (negsuc (suc n)) h =
+    start_step without_zero e f (negsuc (suc n)) (negsuc n) (suc n) (omega (arith, signed_arith))
+    (omega (arith, signed_arith)) refl refl refl
 start_next from_one e f (negsuc n) h = absurd h
 
 -- a closed formula that is right at year 1 and grows by each year's length gives the first day of each year
@@ -131,22 +156,19 @@ years_mono f n zero = let same : 0 + n ≡ n = omega arith in rw same (omega ari
 years_mono f n (suc k) =
     let next : suc k + n ≡ suc (k + n) = omega arith in rw next (omega (arith, years_mono f n k, years_suc f (k + n)))
 
-before_mono : (s : Years) (f : ℤ → ℕ) (n k : ℕ) → days_of_years_before s f n ≤ days_of_years_before s f (k + n)
-before_mono s f n zero = let same : 0 + n ≡ n = omega arith in rw same (omega arith)
-before_mono s f n (suc k) =
-    let next : suc k + n ≡ suc (k + n) = omega arith in
-    rw next (omega (arith, before_mono s f n k, before_suc s f (k + n)))
-
 years_le : (f : ℤ → ℕ) (m n : ℕ) → m ≤ n → days_of_years f m ≤ days_of_years f n
 years_le f m n h = let same : n - m + m ≡ n = omega arith in rw same at (years_mono f m (n - m))
 
-before_le : (s : Years) (f : ℤ → ℕ) (m n : ℕ) → m ≤ n → days_of_years_before s f m ≤ days_of_years_before s f n
-before_le s f m n h = let same : n - m + m ≡ n = omega arith in rw same at (before_mono s f m (n - m))
+abs_le : (a b : ℤ) → pos 0 ≤ℤ a → a ≤ℤ b → unsigned_abs a ≤ unsigned_abs b
+abs_le (negsuc n) b h le = absurd (omega (arith, signed_arith))
+abs_le (pos n) (negsuc k) h le = absurd (omega (arith, signed_arith))
+abs_le (pos n) (pos k) h le = omega (arith, signed_arith)
 
-back_le : (s : Years) (m n : ℕ) → m ≤ n → years_back s m ≤ years_back s n
-back_le with_zero m n h = omega arith
-back_le without_zero m n h = omega arith
-back_le from_one m n h = omega arith
+back_le : (s : Years) (y z : ℤ) → y ≤ℤ z → z <ℤ pos 1
+    → unsigned_abs (year_before s z) ≤ unsigned_abs (year_before s y)
+back_le with_zero y z h lt =
+    abs_le (pos 1 -ℤ z) (pos 1 -ℤ y) (omega (arith, signed_arith)) (omega (arith, signed_arith))
+back_le s y z h lt = abs_le (neg_ℤ z) (neg_ℤ y) (omega (arith, signed_arith)) (omega (arith, signed_arith))
 
 pub start_mono : (s : Years) (e : ℤ) (f : ℤ → ℕ) (y z : ℤ) → y ≤ℤ z → start_of_year s e f y ≤ℤ start_of_year s e f z
 unfolding start_of_year
@@ -155,22 +177,15 @@ start_mono s e f (pos (suc n)) (pos (suc m)) le =
 start_mono s e f (pos (suc n)) (pos zero) le = absurd (omega (arith, signed_arith))
 start_mono s e f (pos (suc n)) (negsuc m) le = absurd (omega (arith, signed_arith))
 start_mono s e f (pos zero) (pos (suc m)) le = omega (arith, signed_arith)
-start_mono s e f (pos zero) (pos zero) le = omega (arith, signed_arith)
-start_mono s e f (pos zero) (negsuc m) le = absurd (omega (arith, signed_arith))
 start_mono s e f (negsuc n) (pos (suc m)) le = omega (arith, signed_arith)
-start_mono s e f (negsuc n) (pos zero) le =
+start_mono s e f y z le =
+    let lt : z <ℤ pos 1 = omega (arith, signed_arith) in
     omega (
       arith,
       signed_arith,
-      before_le s f (years_back s 0) (years_back s (suc n))
-          (back_le s 0 (suc n) (omega arith)),
-    )
-start_mono s e f (negsuc n) (negsuc m) le =
-    omega (
-      arith,
-      signed_arith,
-      before_le s f (years_back s (suc m)) (years_back s (suc n))
-          (back_le s (suc m) (suc n) (omega (arith, signed_arith))),
+      start_before s e f y _ (omega (arith, signed_arith)) refl,
+      start_before s e f z _ lt refl,
+      years_le (lengths_before s f) _ _ (back_le s y z le lt),
     )
 
 next_le : (s : Years) (y z : ℤ) → HasYear s z → y <ℤ z → next_year s y ≤ℤ z

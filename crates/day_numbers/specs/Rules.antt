@@ -53,27 +53,17 @@ unfoldable pub days_of_years : (ℤ → ℕ) → ℕ → ℕ
 days_of_years length_of zero = 0
 days_of_years length_of (suc n) = days_of_years length_of n + length_of (pos (suc n))
 
--- the years before year 1, the nearest first
-abbrev pub year_before : Years → ℕ → ℤ
-year_before with_zero k = neg_ℤ (pos k)
-year_before years k = negsuc k
-
--- the sum of the lengths of the n years before year 1
-unfoldable pub days_of_years_before : Years → (ℤ → ℕ) → ℕ → ℕ
-days_of_years_before years length_of zero = 0
-days_of_years_before years length_of (suc n) = days_of_years_before years length_of n + length_of (year_before years n)
-
--- how many years there are from the year -n to the year before year 1
-abbrev pub years_back : Years → ℕ → ℕ
-years_back with_zero n = suc n
-years_back years n = n
+-- the year that lies k years before year 1, and also how many years before year 1 a year lies
+abbrev pub year_before : Years → ℤ → ℤ
+year_before with_zero k = pos 1 -ℤ k
+year_before years k = neg_ℤ k
 
 -- the day number of the first day of a year: the epoch and the lengths of all years from year 1 on,
 -- or less the lengths of all years from it up to year 1
 unfoldable pub start_of_year : Years → ℤ → (ℤ → ℕ) → ℤ → ℤ
 start_of_year years epoch length_of (pos (suc n)) = epoch +ℤ pos (days_of_years length_of n)
 start_of_year years epoch length_of year =
-    epoch -ℤ pos (days_of_years_before years length_of (years_back years (unsigned_abs year)))
+    epoch -ℤ pos (days_of_years (λ k. length_of (year_before years k)) (unsigned_abs (year_before years year)))
 
 abbrev pub year_length : Rules → ℤ → ℕ
 year_length r y = total_days (r.months y)

@@ -8,11 +8,12 @@ use Rattle.day_numbers.specs.Rules.{Years, from_one, with_zero, without_zero, Ha
 use Rattle.day_numbers.specs.Rules.{days_of_month}
 use Rattle.day_numbers.specs.declared.ymd.Ymd.{Ymd}
 use Rattle.day_numbers.proofs.SignedArithmeticLemmas.{signed_arith}
-use Rattle.solar_calendars.specs.Roman.{IsCounted, IsRomanDate, count_of, has_two_sixths, preceding_day}
-use Rattle.solar_calendars.specs.Roman.{principal_day, roman_day_number}
+use Rattle.solar_calendars.specs.Roman.{IsRomanDate, count_of, has_two_sixths}
+use Rattle.solar_calendars.specs.RomanPlaces.{HasPlace}
 use Rattle.solar_calendars.specs.declared.roman_date.RomanDate.{RomanDate}
 use Rattle.solar_calendars.specs.declared.roman_date.RomanName.{RomanName}
 use Rattle.solar_calendars.specs.declared.roman_date.RomanName.TheVariants.{Kalends, Nones, Ides, SecondSixth}
+use Rattle.solar_calendars.proofs.RomanPlaceLemmas.{placed}
 use Rattle.maya_calendars.specs.Places.{ArePlaces}
 use Rattle.maya_calendars.specs.declared.long_count.LongCount.{LongCount}
 use Rattle.maya_calendars.proofs.LongCountLemmas.{same_places}
@@ -62,17 +63,16 @@ is_date_by by_weeks d =
 is_date_by by_places d = inr (λ h. h)
 is_date_by by_names d = inr (λ h. h)
 
-is_counted : (year : ℤ) (month : ℕ) (name : RomanName) → Is (IsCounted (has_two_sixths year month) name)
-is_counted year month (Kalends n) = is_at_most 1 n
-is_counted year month (Nones n) = is_at_most 1 n
-is_counted year month (Ides n) = is_at_most 1 n
-is_counted year month SecondSixth = is_true (has_two_sixths year month)
+has_place : (year : ℤ) (month : ℕ) (name : RomanName) → Is (HasPlace year month name)
+has_place year month (Kalends n) = both (is_at_most 1 n) (is_at_most _ _)
+has_place year month (Nones n) = both (is_at_most 1 n) (is_at_most _ _)
+has_place year month (Ides n) = both (is_at_most 1 n) (is_at_most n 8)
+has_place year month SecondSixth = is_true (has_two_sixths year month)
 
 is_roman_date : (year : ℤ) (month : ℕ) (name : RomanName) → Is (IsRomanDate year month name)
 is_roman_date year month name =
-    all_five (is_year without_zero year) (is_at_most 1 month) (is_at_most month 12) (is_counted year month name)
-    (either (is_integer (roman_day_number year month name) (principal_day year month name))
-    (is_less_z (preceding_day year month name) (roman_day_number year month name)))
+    in_words (all_four (is_year without_zero year) (is_at_most 1 month) (is_at_most month 12) (has_place year month name))
+    (λ h. (placed year month name h.0 h.1 h.2).1 h.3) (λ r. (r.0, r.1, r.2, (placed year month name r.0 r.1 r.2).0 r))
 
 pub is_date_of_calendar : (date : Date) → Is (IsDateOfCalendar date)
 is_date_of_calendar (Civil d) = is_date_by (reckoning d.calendar) d.ymd

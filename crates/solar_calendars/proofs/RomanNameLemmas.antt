@@ -9,11 +9,11 @@ use Rattle.day_numbers.proofs.RulesLemmas.{next_year, date_unique}
 use Rattle.day_numbers.proofs.SignedArithmeticLemmas.{signed_arith}
 use Rattle.solar_calendars.specs.Julian.{julian_rules, is_julian_leap}
 use Rattle.solar_calendars.specs.Roman.{day_of_ides, month_before, year_before, year_of_month_before}
-use Rattle.solar_calendars.specs.Roman.{has_two_sixths, days_back, roman_day_number, IsRomanDate}
+use Rattle.solar_calendars.specs.Roman.{has_two_sixths, roman_day_number, IsRomanDate}
 use Rattle.solar_calendars.specs.declared.roman_date.RomanName.{RomanName}
 use Rattle.solar_calendars.specs.declared.roman_date.RomanName.TheVariants.{Kalends, Nones, Ides, SecondSixth}
 use Rattle.solar_calendars.specs.RomanPlaces.{kalends, month_length, next_month, year_of_next_month, IsPlaced, HasPlace}
-use Rattle.solar_calendars.specs.RomanPlaces.{place}
+use Rattle.solar_calendars.specs.RomanPlaces.{kalends_back, place}
 use Rattle.solar_calendars.specs.RomanPlaces.{prior_length, prior_ides, name_within, name_after, RomanParts, parts_on}
 use Rattle.solar_calendars.proofs.RomanMonthLemmas.{IsMonth, one_less, one_further, follows, ides_small, months_small}
 use Rattle.solar_calendars.proofs.RomanPlaceLemmas.{placed, number, small_prior, sixths_length}
@@ -47,7 +47,7 @@ within_placed two i l p d a b c e f =
 within_same : (two : Bool) (i l p d : ℕ) (name : RomanName) → 13 ≤ i → IsPlaced two i l p name → 1 ≤ d → d ≤ i
     → place two i name ≡ pos d -ℤ pos 1 → name_within i d ≡ name
 within_same two i l p d (Kalends k) g h a b e =
-    let back : days_back two (Kalends k) ≡ 0 = omega (arith, signed_arith, e) in
+    let back : kalends_back two k ≡ 0 = omega (arith, signed_arith, e) in
     let one : k ≡ 1 = grind (arith, nat_tests) in
     let first : d ≡ 1 = omega (arith, signed_arith, e) in
     rw (one, first) refl
@@ -68,14 +68,14 @@ after_same : (two : Bool) (i l p d : ℕ) (name : RomanName) → 13 ≤ i → Is
 after_same true i l p d (Kalends k) g h a b t e =
     elim (cases_lt k 6) [
       | inl less ↦
-          let back : days_back true (Kalends k) ≡ k - 1 = rw (lt-leb 6 k less) refl in
+          let back : kalends_back true k ≡ k - 1 = rw (lt-leb 6 k less) refl in
           let k_is : k ≡ 31 - d = omega (arith, signed_arith, e, h, back, t refl) in
           let far : 25 < d = omega (arith, signed_arith, e, h, back, t refl) in
           let name : name_after true l d ≡ Kalends (31 - d) =
           rw (lt-leb d 24 (omega arith), ne_eqb d 25 (λ q. omega arith)) refl in
           name ∙ ap Kalends (sym k_is)
       | inr more ↦
-          let back : days_back true (Kalends k) ≡ k = rw (le-leb 6 k more) refl in
+          let back : kalends_back true k ≡ k = rw (le-leb 6 k more) refl in
           let k_is : k ≡ 30 - d = omega (arith, signed_arith, e, h, back, t refl) in
           let near : d ≤ 24 = omega (arith, signed_arith, e, h, back, t refl) in
           let name : name_after true l d ≡ Kalends (30 - d) = rw (le-leb d 24 near) refl in
@@ -103,13 +103,13 @@ leap_placed i l p d x y a b =
         | inl q ↦ rw q (refl, omega (arith, signed_arith, x))
         | inr n ↦
             let name : name_after true l d ≡ Kalends (31 - d) = rw (lt-leb d 24 more, ne_eqb d 25 n) refl in
-            let back : days_back true (Kalends (31 - d)) ≡ 31 - d - 1 = rw (lt-leb 6 (31 - d) (omega arith)) refl in
+            let back : kalends_back true (31 - d) ≡ 31 - d - 1 = rw (lt-leb 6 (31 - d) (omega arith)) refl in
             subst (After true i l p d) (sym name)
             ((omega arith, omega (arith, back)), omega (arith, signed_arith, back))
       ]
       | inr less ↦
           let name : name_after true l d ≡ Kalends (30 - d) = rw (le-leb d 24 less) refl in
-          let back : days_back true (Kalends (30 - d)) ≡ 30 - d = rw (le-leb 6 (30 - d) (omega arith)) refl in
+          let back : kalends_back true (30 - d) ≡ 30 - d = rw (le-leb 6 (30 - d) (omega arith)) refl in
           subst (After true i l p d) (sym name) ((omega arith, omega (arith, back)), omega (arith, signed_arith, back))
     ]
 
@@ -173,11 +173,11 @@ last_month y m name d h a b p more less at =
           f.month_on f.leaps x;
     }
 
-back_one : (two : Bool) (k : ℕ) → k ≡ 1 → days_back two (Kalends k) ≡ 0
+back_one : (two : Bool) (k : ℕ) → k ≡ 1 → kalends_back two k ≡ 0
 back_one true k e = rw e refl
 back_one false k e = rw e refl
 
-back_more : (two : Bool) (k : ℕ) → 2 ≤ k → 1 ≤ days_back two (Kalends k)
+back_more : (two : Bool) (k : ℕ) → 2 ≤ k → 1 ≤ kalends_back two k
 back_more two k h = grind (arith, nat_tests)
 
 pub stands : (y : ℤ) (m : ℕ) (name : RomanName) → IsRomanDate y m name → Stands y m name
@@ -196,7 +196,7 @@ stands y m (Kalends k) r =
           (omega (arith, signed_arith, back_one (has_two_sixths y m) k q))
       | inr n ↦
           let far = back_more (has_two_sixths y m) k (omega (arith, p)) in
-          last_month y m (Kalends k) (prior_length y m + 1 - days_back (has_two_sixths y m) (Kalends k)) r.0 r.1 r.2 p
+          last_month y m (Kalends k) (prior_length y m + 1 - kalends_back (has_two_sixths y m) k) r.0 r.1 r.2 p
           (omega (arith, p, far)) (omega (arith, p, far)) (omega (arith, signed_arith, p, far))
     ]
 stands y m SecondSixth r =

@@ -2,7 +2,7 @@
 -- count 1 itself (Reingold and Dershowitz, Calendrical Calculations, "Roman Nomenclature"). These three are the
 -- principal days of a month.
 use Rattle.std.specs.Prelude.{◌≡◌, ℕ, zero, suc, ◌-◌, ◌≤◌, Bool, IsTrue, ◌==◌, ◌&&◌, ◌||◌, nat_le, if◌then◌else◌}
-use Rattle.std.specs.Prelude.{ℤ, pos, negsuc, ◌-ℤ◌, ◌<ℤ◌, ◌⊎◌}
+use Rattle.std.specs.Prelude.{ℤ, pos, negsuc, ◌-ℤ◌, ◌≤ℤ◌, ◌<ℤ◌}
 use Rattle.day_numbers.specs.Rules.{without_zero, HasYear, day_number_of}
 use Rattle.solar_calendars.specs.Julian.{julian_rules, is_julian_leap}
 use Rattle.solar_calendars.specs.declared.roman_date.RomanName.{RomanName}
@@ -53,22 +53,20 @@ count_of SecondSixth = 6
 
 -- how many days a name lies before its principal day: one less than its count; the second sixth lies 5 days before,
 -- and the first sixth and all that are counted before it one day more
-abbrev pub days_back : Bool → RomanName → ℕ
-days_back two_sixths (Kalends count) = if two_sixths && nat_le 6 count then count else count - 1
-days_back two_sixths name = count_of name - 1
-
--- counts begin with 1, and a second sixth is named only where there are two
-abbrev pub IsCounted : Bool → RomanName → Type 0
-IsCounted two_sixths SecondSixth = IsTrue two_sixths
-IsCounted two_sixths name = 1 ≤ count_of name
+abbrev pub days_back : Bool → RomanName → ℤ
+days_back two_sixths (Kalends count) = if two_sixths && nat_le 6 count then pos count else pos count -ℤ pos 1
+days_back two_sixths (Nones count) = pos count -ℤ pos 1
+days_back two_sixths (Ides count) = pos count -ℤ pos 1
+days_back two_sixths SecondSixth = pos 5
 
 -- the day number of a Roman date; the year and the month are those of its principal day
 abbrev pub roman_day_number : ℤ → ℕ → RomanName → ℤ
-roman_day_number year month name = principal_day year month name -ℤ pos (days_back (has_two_sixths year month) name)
+roman_day_number year month name = principal_day year month name -ℤ days_back (has_two_sixths year month) name
 
--- a Roman date is valid: its day is the principal day, or lies after the one that precedes it
+-- a Roman date is valid: a second sixth is named only where there are two, and the day does not lie after its principal
+-- day, but after the one that precedes it
 abbrev pub IsRomanDate : ℤ → ℕ → RomanName → Type 0
 IsRomanDate year month name =
-    HasYear without_zero year × (1 ≤ month) × (month ≤ 12) × IsCounted (has_two_sixths year month) name
-    × ((roman_day_number year month name ≡ principal_day year month name)
-    ⊎ (preceding_day year month name <ℤ roman_day_number year month name))
+    HasYear without_zero year × (1 ≤ month) × (month ≤ 12) × (name ≡ SecondSixth → IsTrue (has_two_sixths year month))
+    × (roman_day_number year month name ≤ℤ principal_day year month name)
+    × (preceding_day year month name <ℤ roman_day_number year month name)

@@ -5,7 +5,6 @@ use Rattle.day_numbers.proofs.RulesLemmas.{next_year}
 use Rattle.solar_calendars.specs.Julian.{is_julian_leap}
 use Rattle.solar_calendars.specs.TwelveMonths.{twelve_months}
 use Rattle.solar_calendars.specs.Roman.{day_of_ides, principal_day, month_before, year_of_month_before, has_two_sixths}
-use Rattle.solar_calendars.specs.Roman.{days_back}
 use Rattle.solar_calendars.specs.declared.roman_date.RomanName.{RomanName}
 use Rattle.solar_calendars.specs.declared.roman_date.RomanName.TheVariants.{Kalends, Nones, Ides, SecondSixth}
 use Rattle.solar_calendars.specs.declared.roman_date.RomanDate.{RomanDate}
@@ -37,17 +36,21 @@ next_month month = if month == 12 then 1 else month + 1
 abbrev pub year_of_next_month : ℤ → ℕ → ℤ
 year_of_next_month year month = if month == 12 then next_year without_zero year else year
 
+-- how many days before the Kalends a day with this count lies
+abbrev pub kalends_back : Bool → ℕ → ℕ
+kalends_back two_sixths count = if two_sixths && nat_le 6 count then count else count - 1
+
 -- a name names a day: by whether there are two sixths, the Ides of the month, and the length and the Ides of the
 -- month before
 abbrev pub IsPlaced : Bool → ℕ → ℕ → ℕ → RomanName → Type 0
-IsPlaced two_sixths ides length before (Kalends k) = (1 ≤ k) × (days_back two_sixths (Kalends k) + before ≤ length)
+IsPlaced two_sixths ides length before (Kalends k) = (1 ≤ k) × (kalends_back two_sixths k + before ≤ length)
 IsPlaced two_sixths ides length before (Nones k) = (1 ≤ k) × (k + 1 ≤ ides - 8)
 IsPlaced two_sixths ides length before (Ides k) = (1 ≤ k) × (k ≤ 8)
 IsPlaced two_sixths ides length before SecondSixth = IsTrue two_sixths
 
 -- how many days after the Kalends of the month that day lies
 abbrev pub place : Bool → ℕ → RomanName → ℤ
-place two_sixths ides (Kalends k) = pos 0 -ℤ pos (days_back two_sixths (Kalends k))
+place two_sixths ides (Kalends k) = pos 0 -ℤ pos (kalends_back two_sixths k)
 place two_sixths ides (Nones k) = pos (ides - 8) -ℤ pos k
 place two_sixths ides (Ides k) = pos ides -ℤ pos k
 place two_sixths ides SecondSixth = pos 0 -ℤ pos 5

@@ -10,10 +10,10 @@ ghost use Rattle.day_numbers.specs.Days.{IsBetween};
 ghost use Rattle.day_numbers.specs.Dates.{IsDayOf, IsYear};
 ghost use Rattle.day_numbers.specs.Rules.{HasYear, without_zero};
 ghost use Rattle.solar_calendars.specs.Roman.{day_of_nones as nones_spec, day_of_ides as ides_spec};
-ghost use Rattle.solar_calendars.specs.Roman.{has_two_sixths as two_sixths, days_back, count_of};
+ghost use Rattle.solar_calendars.specs.Roman.{has_two_sixths as two_sixths, count_of};
 ghost use Rattle.solar_calendars.specs.Roman.{roman_day_number, IsRomanDate};
 ghost use Rattle.solar_calendars.specs.RomanPlaces.{month_length, prior_length, prior_ides, HasPlace};
-ghost use Rattle.solar_calendars.specs.RomanPlaces.{kalends as kalends_spec, place as place_spec};
+ghost use Rattle.solar_calendars.specs.RomanPlaces.{kalends as kalends_spec, kalends_back, place as place_spec};
 ghost use Rattle.solar_calendars.specs.RomanPlaces.{name_within as within_spec, name_after as after_spec};
 ghost use Rattle.solar_calendars.specs.RomanPlaces.{year_of_next_month as next_year_spec, parts_on, parts_of};
 ghost use Rattle.solar_calendars.specs.declared.roman_date.RomanDate.{RomanDate};
@@ -111,7 +111,7 @@ fn day_before_kalends(year: i32, month: u8, count: u8) -> i64
     requires month { (1 ≤ month) × (month ≤ 12) }
     requires count { 1 ≤ count }
     ensures { result ≡ pos (prior_length year month + 1)
-        -ℤ pos (days_back (two_sixths year month) (RomanName.Kalends count)) }
+        -ℤ pos (kalends_back (two_sixths year month) count) }
 {
     if count >= 6 && has_two_sixths(year, month) {
         30 - count as i64

@@ -13,7 +13,7 @@ use Rattle.solar_calendars.specs.RomanPlaces.{HasPlace}
 use Rattle.solar_calendars.specs.declared.roman_date.RomanDate.{RomanDate}
 use Rattle.solar_calendars.specs.declared.roman_date.RomanName.{RomanName}
 use Rattle.solar_calendars.specs.declared.roman_date.RomanName.TheVariants.{Kalends, Nones, Ides, SecondSixth}
-use Rattle.solar_calendars.proofs.RomanPlaceLemmas.{placed}
+use Rattle.solar_calendars.proofs.RomanPlaceLemmas.{month_of, placed}
 use Rattle.maya_calendars.specs.Places.{ArePlaces}
 use Rattle.maya_calendars.specs.declared.long_count.LongCount.{LongCount}
 use Rattle.maya_calendars.proofs.LongCountLemmas.{same_places}
@@ -72,7 +72,8 @@ has_place year month SecondSixth = is_true (has_two_sixths year month)
 is_roman_date : (year : ℤ) (month : ℕ) (name : RomanName) → Is (IsRomanDate year month name)
 is_roman_date year month name =
     in_words (all_four (is_year without_zero year) (is_at_most 1 month) (is_at_most month 12) (has_place year month name))
-    (λ h. (placed year month name h.0 h.1 h.2).1 h.3) (λ r. (r.0, r.1, r.2, (placed year month name r.0 r.1 r.2).0 r))
+    (λ h. (placed year month name h.0 h.1 h.2).1 h.3)
+    (λ r. let h = month_of year month name r in (h.0, h.1, h.2, (placed year month name h.0 h.1 h.2).0 r))
 
 pub is_date_of_calendar : (date : Date) → Is (IsDateOfCalendar date)
 is_date_of_calendar (Civil d) = is_date_by (reckoning d.calendar) d.ymd

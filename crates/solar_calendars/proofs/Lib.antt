@@ -4,8 +4,8 @@
 --   GregorianLemmas: `day_of` and `date_on` of Gregorian, by `jiff` and by the rules.
 --   JulianLemmas: `day_of` and `date_on` of Julian, by the starts of years.
 --   IsoWeekLemmas: `day_of` and `date_on` of IsoWeek.
---   RomanMonthLemmas, RomanPlaceLemmas, RomanNameLemmas, RomanDateLemmas, each upon those before it: the clauses of
---     `roman_day_of` and `roman_on`, and the law `one_roman_date`.
+--   RomanMonthLemmas, RomanPrincipalLemmas, RomanPlaceLemmas, RomanNameLemmas, RomanDateLemmas, each upon those before
+--     it: the clauses of `roman_day_of` and `roman_on`, and the law `one_roman_date`.
 --   LawWords: the name of that law, for lemmas here and above.
 --   KnownDateLemmas: the definitions computed on known dates; it serves no clause.
 pub mod ThirteenMonthsLemmas
@@ -13,6 +13,7 @@ pub mod FrenchLemmas
 pub mod GregorianLemmas
 pub mod JulianLemmas
 pub mod RomanMonthLemmas
+pub mod RomanPrincipalLemmas
 pub mod RomanPlaceLemmas
 pub mod RomanNameLemmas
 pub mod RomanDateLemmas

@@ -10,9 +10,9 @@ use Rattle.day_numbers.proofs.RulesLemmas.{next_year, start_next}
 use Rattle.day_numbers.proofs.SignedArithmeticLemmas.{signed_arith}
 use Rattle.solar_calendars.specs.Julian.{julian_rules, is_julian_leap}
 use Rattle.solar_calendars.specs.TwelveMonths.{twelve_months}
-use Rattle.solar_calendars.specs.RomanPlaces.{kalends, month_length, next_month, year_of_next_month}
-use Rattle.solar_calendars.specs.Roman.{day_of_ides, year_before, month_before, year_of_month_before}
-use Rattle.solar_calendars.specs.Roman.{has_two_sixths}
+use Rattle.solar_calendars.specs.Roman.{day_of_ides, has_two_sixths}
+use Rattle.solar_calendars.specs.RomanPlaces.{kalends, month_length, year_before, month_before, year_of_month_before}
+use Rattle.solar_calendars.specs.RomanPlaces.{next_month, year_of_next_month}
 
 first_before : (ds : List ℕ) (k : ℕ) → days_before_month (numbered_from k ds) k ≡ 0
 first_before [] k = refl

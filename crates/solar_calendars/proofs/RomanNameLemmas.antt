@@ -8,15 +8,15 @@ use Rattle.day_numbers.specs.Rules.{without_zero, HasYear, IsDateOf, day_number_
 use Rattle.day_numbers.proofs.RulesLemmas.{next_year, date_unique}
 use Rattle.day_numbers.proofs.SignedArithmeticLemmas.{signed_arith}
 use Rattle.solar_calendars.specs.Julian.{julian_rules, is_julian_leap}
-use Rattle.solar_calendars.specs.Roman.{day_of_ides, month_before, year_before, year_of_month_before}
-use Rattle.solar_calendars.specs.Roman.{has_two_sixths, roman_day_number, IsRomanDate}
+use Rattle.solar_calendars.specs.Roman.{day_of_ides, has_two_sixths, roman_day_number, IsRomanDate}
 use Rattle.solar_calendars.specs.declared.roman_date.RomanName.{RomanName}
 use Rattle.solar_calendars.specs.declared.roman_date.RomanName.TheVariants.{Kalends, Nones, Ides, SecondSixth}
 use Rattle.solar_calendars.specs.RomanPlaces.{kalends, month_length, next_month, year_of_next_month, IsPlaced, HasPlace}
-use Rattle.solar_calendars.specs.RomanPlaces.{kalends_back, place}
+use Rattle.solar_calendars.specs.RomanPlaces.{kalends_back, place, month_before, year_before, year_of_month_before}
 use Rattle.solar_calendars.specs.RomanPlaces.{prior_length, prior_ides, name_within, name_after, RomanParts, parts_on}
 use Rattle.solar_calendars.proofs.RomanMonthLemmas.{IsMonth, one_less, one_further, follows, ides_small, months_small}
-use Rattle.solar_calendars.proofs.RomanPlaceLemmas.{placed, number, small_prior, sixths_length}
+use Rattle.solar_calendars.proofs.RomanPlaceLemmas.{month_of, placed, number, sixths_length}
+use Rattle.solar_calendars.proofs.RomanPrincipalLemmas.{small_prior}
 
 -- a day's name to the Ides has the day's place, and no other name has it
 first_placed : (two : Bool) (i l p : ℕ) → p + 13 ≤ l
@@ -182,27 +182,31 @@ back_more two k h = grind (arith, nat_tests)
 
 pub stands : (y : ℤ) (m : ℕ) (name : RomanName) → IsRomanDate y m name → Stands y m name
 stands y m (Nones k) r =
-    let p = (placed y m (Nones k) r.0 r.1 r.2).0 r in
-    this_month y m (Nones k) (day_of_ides m - 8 + 1 - k) r.0 r.1 r.2 p (omega (arith, p, ides_small m))
+    let h = month_of y m (Nones k) r in
+    let p = (placed y m (Nones k) h.0 h.1 h.2).0 r in
+    this_month y m (Nones k) (day_of_ides m - 8 + 1 - k) h.0 h.1 h.2 p (omega (arith, p, ides_small m))
     (omega (arith, p, ides_small m)) (omega (arith, signed_arith, p, ides_small m))
 stands y m (Ides k) r =
-    let p = (placed y m (Ides k) r.0 r.1 r.2).0 r in
-    this_month y m (Ides k) (day_of_ides m + 1 - k) r.0 r.1 r.2 p (omega (arith, p, ides_small m))
+    let h = month_of y m (Ides k) r in
+    let p = (placed y m (Ides k) h.0 h.1 h.2).0 r in
+    this_month y m (Ides k) (day_of_ides m + 1 - k) h.0 h.1 h.2 p (omega (arith, p, ides_small m))
     (omega (arith, p, ides_small m)) (omega (arith, signed_arith, p, ides_small m))
 stands y m (Kalends k) r =
-    let p = (placed y m (Kalends k) r.0 r.1 r.2).0 r in
+    let h = month_of y m (Kalends k) r in
+    let p = (placed y m (Kalends k) h.0 h.1 h.2).0 r in
     elim (cases_eq k 1) [
-      | inl q ↦ this_month y m (Kalends k) 1 r.0 r.1 r.2 p (omega arith) (omega (arith, ides_small m))
+      | inl q ↦ this_month y m (Kalends k) 1 h.0 h.1 h.2 p (omega arith) (omega (arith, ides_small m))
           (omega (arith, signed_arith, back_one (has_two_sixths y m) k q))
       | inr n ↦
           let far = back_more (has_two_sixths y m) k (omega (arith, p)) in
-          last_month y m (Kalends k) (prior_length y m + 1 - kalends_back (has_two_sixths y m) k) r.0 r.1 r.2 p
+          last_month y m (Kalends k) (prior_length y m + 1 - kalends_back (has_two_sixths y m) k) h.0 h.1 h.2 p
           (omega (arith, p, far)) (omega (arith, p, far)) (omega (arith, signed_arith, p, far))
     ]
 stands y m SecondSixth r =
-    let p = (placed y m SecondSixth r.0 r.1 r.2).0 r in
+    let h = month_of y m SecondSixth r in
+    let p = (placed y m SecondSixth h.0 h.1 h.2).0 r in
     let l = sixths_length y m p in
-    last_month y m SecondSixth 25 r.0 r.1 r.2 p (omega (arith, l)) (omega (arith, l)) (omega (arith, signed_arith, l))
+    last_month y m SecondSixth 25 h.0 h.1 h.2 p (omega (arith, l)) (omega (arith, l)) (omega (arith, signed_arith, l))
 
 -- a Roman date is the name of each Julian date with its day number
 pub only_name : (y jy : ℤ) (m jm jd : ℕ) (name : RomanName) → IsRomanDate y m name → IsDateOf julian_rules jy jm jd

@@ -1,20 +1,18 @@
 -- Roman names by the days of the month.
-use Rattle.std.proofs.Common.{inl, inr, ◌≡◌, ◌↔◌, ℕ, zero, suc, ◌+◌, ◌-◌, ◌<◌, ◌≤◌, Bool, true, false, refl, ap, arith}
-use Rattle.std.proofs.Common.{ℤ, pos, neg_ℤ, ◌+ℤ◌, ◌-ℤ◌, ◌≤ℤ◌, ◌<ℤ◌}
+use Rattle.std.proofs.Common.{inl, inr, ◌≡◌, ◌↔◌, ℕ, zero, suc, ◌+◌, ◌-◌, ◌<◌, ◌≤◌, Bool, true, false, refl, ap}
+use Rattle.std.proofs.Common.{arith, ℤ, pos, neg_ℤ, ◌+ℤ◌, ◌-ℤ◌, ◌≤ℤ◌, ◌<ℤ◌}
 use Rattle.std.proofs.lemmas.Bool.{cases_lt, le-leb, lt-leb}
 use Rattle.std.proofs.lemmas.Bool.Decides.{nat_tests}
 use Rattle.day_numbers.specs.Rules.{without_zero, HasYear}
 use Rattle.day_numbers.specs.Days.{IsBetween}
 use Rattle.day_numbers.proofs.SignedArithmeticLemmas.{signed_arith}
-use Rattle.solar_calendars.specs.Julian.{is_julian_leap}
-use Rattle.solar_calendars.specs.Roman.{day_of_ides, month_before}
-use Rattle.solar_calendars.specs.Roman.{year_of_month_before, has_two_sixths, days_back, roman_day_number}
-use Rattle.solar_calendars.specs.Roman.{IsRomanDate}
+use Rattle.solar_calendars.specs.Roman.{day_of_ides, has_two_sixths, days_back, roman_day_number, IsRomanDate}
 use Rattle.solar_calendars.specs.declared.roman_date.RomanName.{RomanName}
 use Rattle.solar_calendars.specs.declared.roman_date.RomanName.TheVariants.{Kalends, Nones, Ides, SecondSixth}
-use Rattle.solar_calendars.specs.RomanPlaces.{kalends, ides, kalends_back, HasPlace, place, prior_length}
-use Rattle.solar_calendars.specs.RomanPlaces.{prior_ides}
-use Rattle.solar_calendars.proofs.RomanMonthLemmas.{follows, ides_small, months_small}
+use Rattle.solar_calendars.specs.RomanPlaces.{kalends, ides, month_before, year_of_month_before}
+use Rattle.solar_calendars.specs.RomanPlaces.{kalends_back, HasPlace, place, prior_length, prior_ides}
+use Rattle.solar_calendars.proofs.RomanMonthLemmas.{IsMonth, ides_small}
+use Rattle.solar_calendars.proofs.RomanPrincipalLemmas.{ides_are, small_prior, first_from}
 
 -- a day that is counted back from a principal day, which lies so far after the one before it
 by_sides : (k b n : ℤ) (gap back : ℕ) → k ≡ b +ℤ pos gap → n ≡ k -ℤ pos back → (b <ℤ n) ↔ (back + 1 ≤ gap)
@@ -34,75 +32,70 @@ counted two (suc k) h = omega arith
 counted false zero h = absurd (omega (arith, signed_arith))
 counted true zero h = absurd (omega (arith, signed_arith))
 
-ides_are : (y : ℤ) (m : ℕ) → HasYear without_zero y → 1 ≤ m → m ≤ 12
-    → kalends y m ≡ ides (year_of_month_before y m) (month_before m) +ℤ pos (prior_length y m + 1 - prior_ides m)
-ides_are y m h a b =
-    let f = follows y m h a b in
-    omega (
-      arith,
-      signed_arith,
-      f.starts,
-      ides_small (month_before m),
-      months_small (is_julian_leap (year_of_month_before y m)) (month_before m) f.is_month.1 f.is_month.2,
-    )
-
--- the month before is longer than its Ides are far
-pub small_prior : (y : ℤ) (m : ℕ) → HasYear without_zero y → 1 ≤ m → m ≤ 12
-    → (1 ≤ prior_length y m + 1 - prior_ides m) × (prior_ides m + 13 ≤ prior_length y m) × (13 ≤ prior_ides m)
-    × (prior_length y m ≤ 31)
-small_prior y m h a b =
-    let f = follows y m h a b in
-    let n = months_small (is_julian_leap (year_of_month_before y m)) (month_before m) f.is_month.1 f.is_month.2 in
-    let i = ides_small (month_before m) in
-    (omega (arith, n, i), omega (arith, n, i), i.0, n.1)
+-- the month of a valid date is one that the calendar has
+pub month_of : (y : ℤ) (m : ℕ) (name : RomanName) → IsRomanDate y m name → IsMonth y m
+unfolding IsRomanDate
+month_of y m name r = (r.0, r.1, r.2)
 
 -- the valid dates are those whose name names a day
 pub placed : (y : ℤ) (m : ℕ) (name : RomanName) → HasYear without_zero y → 1 ≤ m → m ≤ 12
     → IsRomanDate y m name ↔ HasPlace y m name
+unfolding IsRomanDate
 placed y m (Kalends k) h a b =
     let two = has_two_sixths y m in
-    let far = λ (one : 1 ≤ k). by_sides (kalends y m) (ides (year_of_month_before y m) (month_before m))
-    (roman_day_number y m (Kalends k)) (prior_length y m + 1 - prior_ides m) (kalends_back two k) (ides_are y m h a b)
+    let n = roman_day_number y m (Kalends k) in
+    let first = first_from y n m (Kalends k) (h, a, b) in
+    let far = λ (one : 1 ≤ k). by_sides (kalends y m) (ides (year_of_month_before y m) (month_before m)) n
+    (prior_length y m + 1 - prior_ides m) (kalends_back two k) (ides_are y m h a b)
     (ap (λ z. kalends y m -ℤ z) (back_is two k one)) in (
       λ r.
-          let one : 1 ≤ k = counted two k (omega (arith, signed_arith, r.4)) in
-          (one, omega (arith, (far one).0 r.5, small_prior y m h a b)),
+          let s = first.0 r.4 in
+          let one : 1 ≤ k = counted two k (omega (arith, signed_arith, s.1)) in
+          (one, omega (arith, (far one).0 s.0, small_prior y m h a b)),
       λ p. (
         h,
         a,
         b,
         λ e. absurd (cc),
-        omega (arith, signed_arith, back_is two k p.0),
-        (far p.0).1 (omega (arith, p, small_prior y m h a b)),
+        first.1 ((far p.0).1 (omega (arith, p, small_prior y m h a b)), omega (arith, signed_arith, back_is two k p.0)),
       ),
     )
-placed y m (Nones k) h a b = (
-  λ r. (omega (arith, signed_arith, r.4), omega (arith, signed_arith, r.4, r.5, ides_small m)),
-  λ p. (
-    h,
-    a,
-    b,
-    λ e. absurd (cc),
-    omega (arith, signed_arith, p),
-    omega (arith, signed_arith, p, ides_small m),
-  ),
-)
-placed y m (Ides k) h a b = (
-  λ r. (omega (arith, signed_arith, r.4), omega (arith, signed_arith, r.4, r.5, ides_small m)),
-  λ p. (
-    h,
-    a,
-    b,
-    λ e. absurd (cc),
-    omega (arith, signed_arith, p),
-    omega (arith, signed_arith, p, ides_small m),
-  ),
-)
+placed y m (Nones k) h a b =
+    let first = first_from y (roman_day_number y m (Nones k)) m (Nones k) (h, a, b) in (
+      λ r.
+          let s = first.0 r.4 in (omega (arith, signed_arith, s), omega (arith, signed_arith, s, ides_small m)),
+      λ p. (
+        h,
+        a,
+        b,
+        λ e. absurd (cc),
+        first.1 (omega (arith, signed_arith, p, ides_small m), omega (arith, signed_arith, p)),
+      ),
+    )
+placed y m (Ides k) h a b =
+    let first = first_from y (roman_day_number y m (Ides k)) m (Ides k) (h, a, b) in (
+      λ r.
+          let s = first.0 r.4 in (omega (arith, signed_arith, s), omega (arith, signed_arith, s, ides_small m)),
+      λ p. (
+        h,
+        a,
+        b,
+        λ e. absurd (cc),
+        first.1 (omega (arith, signed_arith, p, ides_small m), omega (arith, signed_arith, p)),
+      ),
+    )
 placed y m SecondSixth h a b =
+    let first = first_from y (roman_day_number y m SecondSixth) m SecondSixth (h, a, b) in
     let s = by_sides (kalends y m) (ides (year_of_month_before y m) (month_before m))
     (kalends y m -ℤ pos 5) (prior_length y m + 1 - prior_ides m) 5 (ides_are y m h a b) refl in (
       λ r. r.3 refl,
-      λ p. (h, a, b, λ e. p, omega (arith, signed_arith), s.1 (omega (arith, small_prior y m h a b))),
+      λ p. (
+        h,
+        a,
+        b,
+        λ e. p,
+        first.1 (s.1 (omega (arith, small_prior y m h a b)), omega (arith, signed_arith)),
+      ),
     )
 
 -- and its day lies so far from the Kalends

@@ -1,8 +1,8 @@
 -- Roman day names: a day of the Julian calendar is counted back from the next Kalends, Nones or Ides, which has the
 -- count 1 itself (Reingold and Dershowitz, Calendrical Calculations, "Roman Nomenclature"). These three are the
 -- principal days of a month.
-use Rattle.std.specs.Prelude.{◌≡◌, ℕ, zero, suc, ◌-◌, ◌≤◌, Bool, IsTrue, ◌==◌, ◌&&◌, ◌||◌, nat_le, if◌then◌else◌}
-use Rattle.std.specs.Prelude.{ℤ, pos, negsuc, ◌-ℤ◌, ◌≤ℤ◌, ◌<ℤ◌}
+use Rattle.std.specs.Prelude.{◌≡◌, ◌↔◌, ℕ, ◌-◌, ◌≤◌, Bool, IsTrue, ◌==◌, ◌&&◌, ◌||◌, nat_le, if◌then◌else◌}
+use Rattle.std.specs.Prelude.{ℤ, pos, ◌-ℤ◌, ◌<ℤ◌}
 use Rattle.day_numbers.specs.Rules.{without_zero, HasYear, day_number_of}
 use Rattle.solar_calendars.specs.Julian.{julian_rules, is_julian_leap}
 use Rattle.solar_calendars.specs.declared.roman_date.RomanName.{RomanName}
@@ -12,33 +12,12 @@ use Rattle.solar_calendars.specs.declared.roman_date.RomanName.TheVariants.{Kale
 abbrev pub day_of_ides : ℕ → ℕ
 day_of_ides month = if (month == 3) || (month == 5) || (month == 7) || (month == 10) then 15 else 13
 
--- the Nones stand 8 days before the Ides
-abbrev pub day_of_nones : ℕ → ℕ
-day_of_nones month = day_of_ides month - 8
-
--- the year before a year: -1 lies before 1
-abbrev pub year_before : ℤ → ℤ
-year_before (pos (suc zero)) = negsuc 0
-year_before year = year -ℤ pos 1
-
--- the month before a month, and its year
-abbrev pub month_before : ℕ → ℕ
-month_before month = if month == 1 then 12 else month - 1
-
-abbrev pub year_of_month_before : ℤ → ℕ → ℤ
-year_of_month_before year month = if month == 1 then year_before year else year
-
--- the day number of the principal day that a name counts back from; the Kalends are day 1 of the month
+-- the day number of the principal day that a name counts back from: the Kalends are day 1 of the month, and the Nones
+-- stand 8 days before the Ides
 abbrev pub principal_day : ℤ → ℕ → RomanName → ℤ
-principal_day year month (Nones count) = day_number_of julian_rules year month (day_of_nones month)
+principal_day year month (Nones count) = day_number_of julian_rules year month (day_of_ides month - 8)
 principal_day year month (Ides count) = day_number_of julian_rules year month (day_of_ides month)
 principal_day year month name = day_number_of julian_rules year month 1
-
--- that of the principal day before it: Kalends, Nones and Ides follow each other, and then the next month's Kalends
-abbrev pub preceding_day : ℤ → ℕ → RomanName → ℤ
-preceding_day year month (Nones count) = principal_day year month (Kalends 1)
-preceding_day year month (Ides count) = principal_day year month (Nones 1)
-preceding_day year month name = principal_day (year_of_month_before year month) (month_before month) (Ides 1)
 
 -- before the Kalends of March of a leap year two days are the sixth
 abbrev pub has_two_sixths : ℤ → ℕ → Bool
@@ -63,10 +42,11 @@ days_back two_sixths SecondSixth = pos 5
 abbrev pub roman_day_number : ℤ → ℕ → RomanName → ℤ
 roman_day_number year month name = principal_day year month name -ℤ days_back (has_two_sixths year month) name
 
--- a Roman date is valid: a second sixth is named only where there are two, and the day does not lie after its principal
--- day, but after the one that precedes it
-abbrev pub IsRomanDate : ℤ → ℕ → RomanName → Type 0
-IsRomanDate year month name =
-    HasYear without_zero year × (1 ≤ month) × (month ≤ 12) × (name ≡ SecondSixth → IsTrue (has_two_sixths year month))
-    × (roman_day_number year month name ≤ℤ principal_day year month name)
-    × (preceding_day year month name <ℤ roman_day_number year month name)
+-- a Roman date is valid: the Julian calendar has the year and the month, a second sixth is named only where there are
+-- two, and the principal day of the name is the first from the day on, so that any principal day lies before the day
+-- exactly where it lies before this one
+unfoldable pub IsRomanDate : ℤ → ℕ → RomanName → Type 0
+IsRomanDate y m name =
+    HasYear without_zero y × (1 ≤ m) × (m ≤ 12) × (name ≡ SecondSixth → IsTrue (has_two_sixths y m))
+    × ((z : ℤ) (k : ℕ) (other : RomanName) → HasYear without_zero z → 1 ≤ k → k ≤ 12
+    → (principal_day z k other <ℤ roman_day_number y m name) ↔ (principal_day z k other <ℤ principal_day y m name))

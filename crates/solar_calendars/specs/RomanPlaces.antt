@@ -1,13 +1,18 @@
 -- Roman dates by the days of the month, as the code finds them. No public contract cites this.
-use Rattle.std.specs.Prelude.{ℕ, ◌+◌, ◌-◌, ◌≤◌, Bool, IsTrue, ◌==◌, ◌&&◌, nat_le, if◌then◌else◌, ℤ, pos, ◌-ℤ◌}
+use Rattle.std.specs.Prelude.{ℕ, zero, suc, ◌+◌, ◌-◌, ◌≤◌, Bool, IsTrue, ◌==◌, ◌&&◌, nat_le, if◌then◌else◌, ℤ}
+use Rattle.std.specs.Prelude.{pos, negsuc, ◌-ℤ◌}
 use Rattle.day_numbers.specs.Rules.{without_zero, days_of_month}
 use Rattle.day_numbers.proofs.RulesLemmas.{next_year}
 use Rattle.solar_calendars.specs.Julian.{is_julian_leap}
 use Rattle.solar_calendars.specs.TwelveMonths.{twelve_months}
-use Rattle.solar_calendars.specs.Roman.{day_of_ides, principal_day, month_before, year_of_month_before, has_two_sixths}
+use Rattle.solar_calendars.specs.Roman.{day_of_ides, principal_day, has_two_sixths}
 use Rattle.solar_calendars.specs.declared.roman_date.RomanName.{RomanName}
 use Rattle.solar_calendars.specs.declared.roman_date.RomanName.TheVariants.{Kalends, Nones, Ides, SecondSixth}
 use Rattle.solar_calendars.specs.declared.roman_date.RomanDate.{RomanDate}
+
+-- the Nones stand 8 days before the Ides
+abbrev pub day_of_nones : ℕ → ℕ
+day_of_nones month = day_of_ides month - 8
 
 -- the day numbers of the principal days of a month
 abbrev pub kalends : ℤ → ℕ → ℤ
@@ -21,6 +26,25 @@ ides year month = principal_day year month (Ides 1)
 
 abbrev pub month_length : ℤ → ℕ → ℕ
 month_length year month = days_of_month (twelve_months (is_julian_leap year)) month
+
+-- the year before a year: -1 lies before 1
+abbrev pub year_before : ℤ → ℤ
+year_before (pos (suc zero)) = negsuc 0
+year_before year = year -ℤ pos 1
+
+-- the month before a month, and its year
+abbrev pub month_before : ℕ → ℕ
+month_before month = if month == 1 then 12 else month - 1
+
+abbrev pub year_of_month_before : ℤ → ℕ → ℤ
+year_of_month_before year month = if month == 1 then year_before year else year
+
+-- the day number of the principal day before that of a name: Kalends, Nones and Ides follow each other, and then the
+-- next month's Kalends
+abbrev pub preceding_day : ℤ → ℕ → RomanName → ℤ
+preceding_day year month (Nones count) = principal_day year month (Kalends 1)
+preceding_day year month (Ides count) = principal_day year month (Nones 1)
+preceding_day year month name = principal_day (year_of_month_before year month) (month_before month) (Ides 1)
 
 -- the length and the Ides of the month before a month
 abbrev pub prior_length : ℤ → ℕ → ℕ
@@ -36,7 +60,7 @@ next_month month = if month == 12 then 1 else month + 1
 abbrev pub year_of_next_month : ℤ → ℕ → ℤ
 year_of_next_month year month = if month == 12 then next_year without_zero year else year
 
--- how many days before the Kalends a day with this count lies
+-- how many days before the Kalends the day with this count lies, which is at least 1
 abbrev pub kalends_back : Bool → ℕ → ℕ
 kalends_back two_sixths count = if two_sixths && nat_le 6 count then count else count - 1
 

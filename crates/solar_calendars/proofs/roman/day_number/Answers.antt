@@ -1,8 +1,11 @@
-use Rattle.std.proofs.Common.{arith, to_z-of_z, FitsSigned, w32, refl}
+use Rattle.std.proofs.Common.{arith, rules, to_z-of_z, FitsSigned, w32, refl}
 use Rattle.day_numbers.proofs.SignedArithmeticLemmas.{signed_arith}
 use Rattle.solar_calendars.specs.RomanPlaces.{HasPlace}
-use Rattle.solar_calendars.proofs.RomanPlaceLemmas.{placed, place_near, number}
+use Rattle.solar_calendars.proofs.RomanPlaceLemmas.{month_of, placed, place_near, number}
 use Rattle.solar_calendars.proofs.roman.day_number.Goals as goal
+
+pub returns-then-year-eq0-clause-valid : goal.returns-then-year-eq0-clause-valid
+returns-then-year-eq0-clause-valid c = search (rules, month_of)
 
 pub overflow_add-result : goal.overflow_add-result
 overflow_add-result c =

@@ -14,6 +14,8 @@ use Rattle.register_words.specs.CommandLine.{AreTaken, Values, command_line, val
 use Rattle.register_words.specs.Faults.{Fault, usage, bad_ring, unknown_delimiter, bad_stripes, too_many_files}
 use Rattle.register_words.specs.Faults.{file_twice}
 use Rattle.register_words.specs.OptionValues.{AsksForTargets, IsDelimiterWord, IsListFault, IsNumberWord}
+use Rattle.register_words.specs.declared.requests.AskedNumber.{AskedNumber}
+use Rattle.register_words.specs.declared.requests.AskedNumber.TheVariants as numbers
 use Rattle.register_words.specs.declared.requests.Job.{Job}
 use Rattle.register_words.specs.declared.requests.Options.{Options}
 use Rattle.register_words.specs.declared.requests.Request.{Request}
@@ -40,16 +42,24 @@ pub record NumberOption : Type 1 where
   pub usual : ℕ
   pub fault : Text → Fault
 
--- the size of a ring, from 1 to 4096; the byte of a delimiter, a comma (44) without a word; and the number of
--- converters, from 1 to 4
-abbrev pub ring_option : NumberOption
-ring_option = record { names = IsNumberWord largest_ring; usual = 16; fault = bad_ring }
-
+-- the byte of a delimiter, a comma (44) without a word
 abbrev pub delimiter_option : NumberOption
 delimiter_option = record { names = IsDelimiterWord; usual = 44; fault = unknown_delimiter }
 
-abbrev pub stripes_option : NumberOption
-stripes_option = record { names = IsNumberWord most_stripes; usual = 1; fault = bad_stripes }
+-- numbers from 1 on: the greatest, the number without a word, and the fault of a word that names none
+pub record Bounds : Type 0 where
+  pub most : ℕ
+  pub usual : ℕ
+  pub fault : Text → Fault
+
+-- the size of a ring, and the number of converters
+abbrev pub bounds_of : AskedNumber → Bounds
+bounds_of numbers.Ring = record { most = largest_ring; usual = 16; fault = bad_ring }
+bounds_of numbers.Stripes = record { most = most_stripes; usual = 1; fault = bad_stripes }
+
+abbrev pub number_option : AskedNumber → NumberOption
+number_option asks = let bounds = bounds_of asks in
+    record { names = IsNumberWord bounds.most; usual = bounds.usual; fault = bounds.fault }
 
 -- this is the number that the option asks for
 abbrev pub IsNumberOf : NumberOption → Option Text → ℕ → Type 0
@@ -82,9 +92,9 @@ AreFilesToConvert files = (length files ≤ most_files) × ((file : Text) → ¬
 -- the values ask for this task
 pub record Ask (values : Values) (task : Task) : Type 0 where
   pub targets : AreTargetsOf values.to task.layout.targets
-  pub ring : IsNumberOf ring_option values.ring task.ring
+  pub ring : IsNumberOf (number_option numbers.Ring) values.ring task.ring
   pub delimiter : IsNumberOf delimiter_option values.delimiter task.layout.format.delimiter
-  pub stripes : IsNumberOf stripes_option values.stripes task.stripes
+  pub stripes : IsNumberOf (number_option numbers.Stripes) values.stripes task.stripes
   pub form : task.layout.format.form ≡ (if values.sealed then Sealed else Plain)
   pub summary : task.summary ≡ values.summary
   pub files : task.files ≡ values.files
@@ -142,9 +152,9 @@ file_check files = record { fails = IsFileFault files; passes = AreFilesToConver
 abbrev pub value_checks : Values → List Check
 value_checks values =
     target_check values.to
-    ∷ number_check ring_option values.ring
+    ∷ number_check (number_option numbers.Ring) values.ring
     ∷ number_check delimiter_option values.delimiter
-    ∷ number_check stripes_option values.stripes
+    ∷ number_check (number_option numbers.Stripes) values.stripes
     ∷ file_check values.files
     ∷ []
 

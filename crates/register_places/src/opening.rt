@@ -63,7 +63,7 @@ fn is_taken<R, W: Output, P: Places<R, W>>(places: &P, names: &[String], name: &
 }
 
 /// Refuses the first file whose output would go to the file itself and empty it, as where it is a link to it.
-fn keep_sources<'a, R, W: Output, P: Places<R, W>>(
+fn check_sources_kept<'a, R, W: Output, P: Places<R, W>>(
     alloc: Global,
     places: &P,
     files: &[&'a str],
@@ -137,7 +137,7 @@ pub fn open_files<'a, R: Drop, W: Output + Drop, P: Places<R, W>>(
     ensures status { IfErr result (λ error. status_of_fault error ≡ 3) }
 {
     let sources = open_sources(alloc, places, files)?;
-    keep_sources(alloc, places, files)?;
+    check_sources_kept(alloc, places, files)?;
     let outputs = make_outputs(alloc, places, files)?;
     Ok(Opened { sources, outputs })
 }

@@ -79,8 +79,8 @@ fn flag<'a>(alloc: Global, name: &'a str) -> Arg<'a>
     Arg::new(alloc, name).long(name).action(ArgAction::SetTrue)
 }
 
-/// Words that are no options, as many as there are.
-fn words_alone<'a>(alloc: Global, name: &'a str, value: &'a str) -> Arg<'a>
+/// The words that are no options, as many as there are.
+fn files_argument<'a>(alloc: Global, name: &'a str, value: &'a str) -> Arg<'a>
     ensures rule { rule_of result ≡ word_rule name.entry.now }
     ensures local { result.global ≡ false }
 {
@@ -90,7 +90,7 @@ fn words_alone<'a>(alloc: Global, name: &'a str, value: &'a str) -> Arg<'a>
 }
 
 /// The command with none of its options.
-fn bare<'a>(alloc: Global) -> Command<'a>
+fn empty_command<'a>(alloc: Global) -> Command<'a>
     ensures { app_of result ≡ bare_command }
 {
     Command::new(alloc, "register")
@@ -102,14 +102,14 @@ fn bare<'a>(alloc: Global) -> Command<'a>
 fn command<'a>(alloc: Global) -> Result<Command<'a>, AllocError>
     ensures { IfOk result (λ c. app_of c ≡ command_line) }
 {
-    bare(alloc)
+    empty_command(alloc)
         .arg(option(alloc, "to", "LIST"))?
         .arg(option(alloc, "ring", "N"))?
         .arg(option(alloc, "stripes", "N"))?
         .arg(option(alloc, "delimiter", "comma|semicolon|tab"))?
         .arg(flag(alloc, "sealed"))?
         .arg(flag(alloc, "summary"))?
-        .arg(words_alone(alloc, "file", "FILE"))
+        .arg(files_argument(alloc, "file", "FILE"))
 }
 
 /// Whether the words give a flag.
@@ -304,8 +304,8 @@ fn check_files<'a>(files: &[&'a str]) -> Result<(), RequestFault<'a>>
 /// # Errors
 ///
 /// The first that applies: the faults of the list of targets as [`read_targets`] has them, `BadRing`,
-/// `UnknownDelimiter`, `BadStripes`, and the faults of the files as [`check_files`] has them; and `OutOfMemory` where a
-/// growth of memory was refused on the way.
+/// `UnknownDelimiter`, `BadStripes`, and the faults of the files as [`check_files`] has them; and `OutOfMemory` where
+/// memory runs out on the way.
 fn chosen_job<'a>(alloc: Global, options: Options<'a>) -> Result<Job<'a>, RequestFault<'a>>
     ensures asked { IfOk result (λ job. Ask (values_by options.entry) (task_of job)) }
     ensures fault { IfErr result (λ error. IfSome (fault_told error) (FailFirst (value_checks (values_by options.entry)))) }
@@ -331,10 +331,10 @@ fn chosen_job<'a>(alloc: Global, options: Options<'a>) -> Result<Job<'a>, Reques
 ///
 /// # Errors
 ///
-/// The first that applies: `Usage` where the words are not options as they are taken, the faults of the
-/// list of targets as [`read_targets`] has them, `BadRing`, `UnknownDelimiter`, `BadStripes`, and the faults
-/// of the files as [`check_files`] has them; and `OutOfMemory` where a growth of memory was refused on the
-/// way.
+/// The first that applies: `Usage` where the words are not options as they are taken; `UnknownTarget` or `TargetTwice`
+/// for the first name of the list that names no target or one that was named before; `BadRing`; `UnknownDelimiter`;
+/// `BadStripes`; `TooManyFiles` for more than 32 files, or else `FileTwice` for the first that was named before. Besides
+/// these, `OutOfMemory` where memory runs out on the way.
 pub fn read_request<'a>(alloc: Global, words: &'a [String]) -> Result<Request<'a>, RequestFault<'a>>
     ensures asked { IfOk result (λ request. MeanJust (map string_bytes words.entry.now) (meaning_of request)) }
     ensures refused { IfErr result (λ error. IfSome (fault_told error)

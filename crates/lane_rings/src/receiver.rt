@@ -32,6 +32,7 @@ pub struct Confirmed<T> {
 #[derive(Clone, Copy, Debug, Eq, PartialEq)]
 pub struct Unconfirmed;
 
+/// The mark that an item is, if it is no entry.
 fn mark_of<T>(item: &Item<T>) -> Option<Mark>
     ensures { result ≡ Rattle.lane_rings.specs.Items.mark_of item.now }
 {
@@ -130,9 +131,9 @@ impl<T> Receiver<T> {
         Some(self.consumer.peek_known())
     }
 
-    // Takes the next item, which a look has shown. It is copied once from where it lies, since it may be large.
+    /// Takes the next item, which a look has shown. It is copied once from where it lies, since it may be large.
     #[inline(always)]
-    #[tactic(auto, using(crate::proofs::Ends::last_mark_append))]
+    #[tactic(auto, using(crate::proofs::EndLemmas::last_mark_append))]
     fn take_next(&mut self) -> Item<T>
         requires { 0 < length (waiting self.old) }
         ensures lane { receiver_lane self.new ≡ receiver_lane self.old }
@@ -145,8 +146,11 @@ impl<T> Receiver<T> {
 }
 
 impl<T: Drop> Receiver<T> {
+    ghost use Rattle.std.specs.Prelude.{◌≡◌, ◌<◌, ◌+◌, [], ◌++◌, ◌↔◌, length, IfOk, IsOk};
+    ghost use Rattle.lane_rings.specs.Lane.{receiver_lane, taken, waiting, IsClosedOf, IsWhole, items};
+
     /// Takes the next item, which a look has shown, and drops it.
-    #[tactic(auto, using(crate::proofs::Ends::last_mark_append))]
+    #[tactic(auto, using(crate::proofs::EndLemmas::last_mark_append))]
     pub fn pass(&mut self)
         requires { 0 < length (waiting self.old) }
         ensures lane { receiver_lane self.new ≡ receiver_lane self.old }
@@ -157,12 +161,9 @@ impl<T: Drop> Receiver<T> {
         self.last = mark_of(&item);
     }
 
-    ghost use Rattle.std.specs.Prelude.{◌≡◌, ◌<◌, ◌+◌, [], ◌++◌, ◌↔◌, length, IfOk, IsOk};
-    ghost use Rattle.lane_rings.specs.Lane.{receiver_lane, taken, waiting, IsClosedOf, IsWhole, items};
-
     /// Whether what was taken is all that was ever sent, up to an `End` or a `Stop`. `closed` is what is left of the
     /// sender that was made with this receiver. The lane is spent either way.
-    #[tactic(auto, using(crate::proofs::Ends::none_before))]
+    #[tactic(auto, using(crate::proofs::EndLemmas::none_before))]
     pub fn confirm(self, closed: Closed<T>) -> Result<Confirmed<T>, Unconfirmed>
         requires { IsClosedOf closed self }
         ensures whole { IsOk result ↔ IsWhole closed self }

@@ -29,20 +29,20 @@ impl<T> Sender<T> {
     /// Waits for room and sends an entry.
     ///
     /// While the ring is full it waits as [`Patience`] does. Where the receiver was dropped it answers `Gone` with the
-    /// item, also where the ring has room.
-    pub fn send(&mut self, rt: &(impl Wait + Clock + CpuClock), item: T) -> Result<(), Gone<T>>
+    /// entry, also where the ring has room.
+    pub fn send(&mut self, rt: &(impl Wait + Clock + CpuClock), entry: T) -> Result<(), Gone<T>>
         ensures lane { sender_lane self.new ≡ sender_lane self.old }
-        ensures ok { OnOk result (sent self.new ≡ sent self.old ++ Entry item ∷ []) }
-        ensures gone { IfErr result (λ g. (g.value ≡ item) × (sent self.new ≡ sent self.old)) }
+        ensures ok { OnOk result (sent self.new ≡ sent self.old ++ Entry entry ∷ []) }
+        ensures gone { IfErr result (λ g. (g.value ≡ entry) × (sent self.new ≡ sent self.old)) }
     {
         if !self.wait_for_room(rt) {
-            return Err(Gone { value: item });
+            return Err(Gone { value: entry });
         }
-        self.producer.push_reserved(Item::Entry(item));
+        self.producer.push_reserved(Item::Entry(entry));
         Ok(())
     }
 
-    // Waits for a free slot. `false` where the receiver was dropped.
+    /// Waits for a free slot. `false` where the receiver was dropped.
     fn wait_for_room(&mut self, rt: &(impl Wait + Clock + CpuClock)) -> bool
         ensures lane { sender_lane self.new ≡ sender_lane self.old }
         ensures unsent { sent self.new ≡ sent self.old }
@@ -73,16 +73,16 @@ impl<T: Copy> Sender<T> {
     pub fn send_copy(
         &mut self,
         rt: &(impl Wait + Clock + CpuClock),
-        item: &T,
+        entry: &T,
     ) -> Result<(), Gone<()>>
         ensures lane { sender_lane self.new ≡ sender_lane self.old }
-        ensures ok { OnOk result (sent self.new ≡ sent self.old ++ Entry item.now ∷ []) }
+        ensures ok { OnOk result (sent self.new ≡ sent self.old ++ Entry entry.now ∷ []) }
         ensures gone { OnErr result (sent self.new ≡ sent self.old) }
     {
         if !self.wait_for_room(rt) {
             return Err(Gone { value: () });
         }
-        self.producer.push_reserved(Item::Entry(*item));
+        self.producer.push_reserved(Item::Entry(*entry));
         Ok(())
     }
 }
@@ -112,7 +112,7 @@ impl<T: Drop> Sender<T> {
         self.finish(rt, Item::Stop)
     }
 
-    // Sends the last item.
+    /// Sends the last item.
     fn finish(self, rt: &(impl Wait + Clock + CpuClock), last: Item<T>) -> Closed<T>
         ensures lane { HasConfirmation result → closed_lane result ≡ Some (sender_lane self) }
         ensures sent { HasConfirmation result → all_sent result ≡ sent self ++ last ∷ [] }

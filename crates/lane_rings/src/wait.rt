@@ -11,19 +11,22 @@ const LOOKS: u32 = 8;
 /// beside a busy loop 4000, a tick of the system's clock.
 const LONG_YIELD: u64 = 2500;
 
-/// Where this process had less than this share of the processors, seven parts of eight, others are at work. The threads
-/// of a run that is alone make a yield long too, now and then, but only where they fill the processors themselves.
+/// Where this process had less than so many parts of the processors, of [`PARTS_OF_A_SHARE`], others are at work. The
+/// threads of a run that is alone make a yield long too, now and then, but only where they fill the processors
+/// themselves.
 const SHARE_OF_ONE_ALONE: u32 = 7;
 
+/// How many parts make all the processors.
 const PARTS_OF_A_SHARE: u32 = 8;
 
-/// How many naps follow where others are at work, the first time and at most. Each time makes them four times as many,
-/// and each short yield takes one off: a single stray long yield costs little, and beside others that stay the thread
-/// seldom tries a yield, which costs it a slice of theirs. So many of the shortest naps take 4 and 230 milliseconds.
+/// How many naps follow where others are at work, the first time: so many of the shortest take 4 milliseconds.
 const FEWEST_NAPS: u32 = 64;
 
+/// How many naps follow at most: so many of the shortest take 230 milliseconds.
 const MOST_NAPS: u32 = 4096;
 
+/// How many times as many naps follow each time. Each short yield takes one off. So a single stray long yield costs
+/// little, and beside others that stay the thread seldom tries a yield, which costs it a slice of theirs.
 const TIMES_AS_MANY: u32 = 4;
 
 /// A nap in microseconds where a run has few sources: the shortest, which the system makes some 55, loses the least.
@@ -57,7 +60,7 @@ const LONGEST_SLEEP: u64 = 1000;
 /// A wait of so many microseconds is a silence: what brings a line each tenth of a second has none.
 const SILENCE: u64 = 250_000;
 
-/// A silence sleeps this part of itself, which begins with what the longest sleep before it was.
+/// A silence sleeps this part of itself: at first about [`LONGEST_SLEEP`].
 const PART_OF_A_SILENCE: u32 = 256;
 
 /// The longest sleep of a silence in microseconds: with all its threads a run then takes next to no processor time.
@@ -65,7 +68,7 @@ const LONGEST_SLEEP_OF_A_SILENCE: u64 = 10_000;
 
 /// What the clocks showed at the end of a long yield.
 #[derive(Clone, Copy, Debug)]
-struct Reading {
+struct YieldEnd {
     time: Instant,
     // The processor time that the process had used.
     used: Duration,
@@ -90,7 +93,7 @@ pub struct Patience {
     // When this wait came to its first yield.
     since: Option<Instant>,
     // The end of the last long yield.
-    last_long: Option<Reading>,
+    last_long: Option<YieldEnd>,
     // The naps that are left, and how many come next time.
     naps: u32,
     next_naps: u32,
@@ -164,7 +167,7 @@ impl Patience {
         }
     }
 
-    // Yields, and goes by how long that took.
+    /// Yields, and goes by how long that took.
     fn give_way(&mut self, clock: &(impl Clock + CpuClock), begun: Instant) {
         thread::yield_now();
         let Ok(now) = Instant::now(clock) else {
@@ -178,12 +181,12 @@ impl Patience {
         }
     }
 
-    // At the end of a long yield: whether others had the processors since the one before it.
+    /// At the end of a long yield: whether others had the processors since the one before it.
     fn are_others_at_work(&mut self, clock: &impl CpuClock, now: Instant) -> bool {
         let Ok(used) = clock.process_cpu_time() else {
             return false;
         };
-        let Some(last) = self.last_long.replace(Reading { time: now, used }) else {
+        let Some(last) = self.last_long.replace(YieldEnd { time: now, used }) else {
             return false;
         };
         let own = used.saturating_sub(last.used);
@@ -195,7 +198,7 @@ impl Patience {
     }
 }
 
-// The sleep that follows in a long wait that has lasted so long.
+/// The sleep that follows in a long wait that has lasted so long.
 fn sleep_after(waited: Duration) -> Duration {
     if waited < Duration::from_micros(SILENCE) {
         (waited / PART_OF_A_WAIT).min(Duration::from_micros(LONGEST_SLEEP))

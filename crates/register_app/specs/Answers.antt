@@ -11,7 +11,7 @@ use Rattle.register_run.specs.declared.reports.Verdict.TheVariants.{Complete}
 use Rattle.register_words.specs.Faults.{fault_told, line_told, status_of_fault}
 use Rattle.register_places.specs.Openings.{AreMade, AreNotSources, AreOpened, AreTwoFiles}
 use Rattle.register_app.specs.Reports.{lines_from}
-use Rattle.register_words.specs.Requests.{IsFaultOf, MeanJust, Task, help, version}
+use Rattle.register_words.specs.Requests.{IsFaultOf, MeanJust, Task, help, table, version}
 use Rattle.register_words.specs.declared.help.TheConstants.{HELP, PRINT_FAULT}
 use Rattle.register_words.specs.declared.request_faults.RequestFault.{RequestFault}
 use Rattle.register_words.specs.declared.requests.TheConstants.{VERSION}
@@ -48,13 +48,14 @@ pub record IsConverted {R W E : Type 0} (r : reads.Ghosts R) (o : outputs.Ghosts
   pub settled : IsReport r o setup sources given report
   pub outputs : written ≡ report.outputs.items
   pub complete : (status ≡ 0) ↔ (report.verdict ≡ Complete)
-  pub lines : e.has_failed after ≡ false → Appends (e.contents before) (e.contents after) (lines_from task.summary 1 report.ends.items)
+  pub lines : e.has_failed after ≡ false
+      → Appends (e.contents before) (e.contents after) (lines_from task.summary 1 report.ends.items)
   pub quiet : status ≡ 0 → task.summary ≡ false → after ≡ before
 
 -- sources were opened by the names of a task and outputs made by them, none of which goes to one of the files or to the
 -- file of another output, as far as names were told apart; and then the sources were converted
-pub record AreConverted {R W E : Type 0} (r : reads.Ghosts R) (o : outputs.Ghosts W) (e : outputs.Ghosts E) (IsOpened : List ℕ → R → Type 0)
-    (IsMade : List ℕ → ℕ → W → Type 0) (AreApart : List ℕ → List ℕ → Type 0)
+pub record AreConverted {R W E : Type 0} (r : reads.Ghosts R) (o : outputs.Ghosts W) (e : outputs.Ghosts E)
+    (IsOpened : List ℕ → R → Type 0) (IsMade : List ℕ → ℕ → W → Type 0) (AreApart : List ℕ → List ℕ → Type 0)
     (task : Task) (status : ℕ) (written : List W) (before after : E) : Type 0 where
   pub sources : List R
   pub given : List W
@@ -62,8 +63,28 @@ pub record AreConverted {R W E : Type 0} (r : reads.Ghosts R) (o : outputs.Ghost
   pub made : AreMade IsMade task.files given
   pub kept : AreNotSources AreApart task.files
   pub apart : AreTwoFiles AreApart task.files
-  pub converted : IsConverted r o e task status sources given
-      written before after
+  pub converted : IsConverted r o e task status sources given written before after
+
+-- the words ask for a page, which was printed; no output was made
+abbrev pub IsPageAnswered : {W E : Type 0} → outputs.Ghosts W → outputs.Ghosts E → List (List ℕ) → ℕ → W → W → List W → E
+    → E → Type 0
+IsPageAnswered o e words status given written outputs before after =
+    (page : List ℕ) × AskForPage words page × IsPrinted o e page status given written before after × (outputs ≡ [])
+
+-- the words ask for the table of standard input; no output was made
+abbrev pub IsInputAnswered : {R W E : Type 0} → reads.Ghosts R → outputs.Ghosts W → outputs.Ghosts E → List (List ℕ) → ℕ
+    → R → W → W → List W → E → E → Type 0
+IsInputAnswered r o e words status input given written outputs before after =
+    (task : Task) × MeanJust words (table task) × (task.files ≡ []) × (outputs ≡ [])
+    × IsConverted r o e task status (input ∷ []) (given ∷ []) (written ∷ []) before after
+
+-- the words ask for the tables of files; standard output is as it was
+abbrev pub AreFilesAnswered : {R W E : Type 0} → reads.Ghosts R → outputs.Ghosts W → outputs.Ghosts E
+    → (List ℕ → R → Type 0) → (List ℕ → ℕ → W → Type 0) → (List ℕ → List ℕ → Type 0) → List (List ℕ) → ℕ → W → W → List W
+    → E → E → Type 0
+AreFilesAnswered r o e IsOpened IsMade AreApart words status given written outputs before after =
+    (task : Task) × MeanJust words (table task) × (task.files ≢ []) × (written ≡ given)
+    × AreConverted r o e IsOpened IsMade AreApart task status outputs before after
 
 -- an error was told with this status: something that is wrong with the words, or that memory ran out or a file was
 -- missing; of words that are no arguments as they are taken, clap tells more than the definitions say

@@ -1,15 +1,17 @@
-//! What the program answers.
+//! What the program does with its words: it prints a page, or converts, and answers how that ended.
 
 ghost use Rattle.std.specs.Prelude.{◌≡◌, ◌≢◌, ◌≤◌, ◌⊎◌, ◌↔◌, ℕ, List, [], ◌∷◌, All, true, false, map, length, vec_len};
 ghost use Rattle.std.specs.Prelude.{IfSome, codes};
 ghost use Rattle.std.specs.Io.KnownBytes.{Appends};
 ghost use Rattle.std.specs.String.{string_bytes};
-ghost use Rattle.register_app.specs.Answers.{AreConverted, AskForPage, IsConverted, IsPrinted, IsTold, version_line};
+ghost use Rattle.register_app.specs.Answers.{AreConverted, AreFilesAnswered, IsConverted, IsInputAnswered};
+ghost use Rattle.register_app.specs.Answers.{IsPageAnswered, IsPrinted, IsTold, version_line};
 ghost use Rattle.register_records.specs.Sources.{is_whole_end};
 ghost use Rattle.register_places.specs.Openings.{AreMade, IsFresh, IsNewlyMade};
 ghost use Rattle.register_app.specs.Reports.{lines_from};
 ghost use Rattle.register_words.specs.Faults.{fault_told, own_line, status_of_fault};
-ghost use Rattle.register_words.specs.Requests.{AreWrong, IsFaultOf, MeanJust, Task, most_files, table, task_of};
+ghost use Rattle.register_words.specs.declared.requests.TheConstants.{MAX_FILES};
+ghost use Rattle.register_words.specs.Requests.{AreWrong, IsFaultOf, MeanJust, Task, table, task_of};
 
 use crate::telling::tell_ends;
 use arrayvec::ArrayString;
@@ -31,10 +33,10 @@ const COMPLETE: u8 = 0;
 /// The conversion of a text broke off, or a page could not be printed.
 const INCOMPLETE: u8 = 1;
 
-/// There was no memory before the run.
+/// Memory ran out before the run.
 const OUT_OF_MEMORY: u8 = 3;
 
-/// What the program answers.
+/// The exit status, and the outputs as they were left.
 #[derive(Drop)]
 pub struct Answered<W> {
     /// The exit status.
@@ -48,9 +50,9 @@ pub struct Answered<W> {
 // A run takes as many sources as the words may name.
 const _: () = prove!(MAX_FILES <= MAX_SOURCES);
 
-/// How a run has ended: the status, and the outputs in the order of the sources.
+/// How a job has ended: the status, and the outputs in the order of the sources.
 #[derive(Drop)]
-struct Ran<W> {
+struct JobEnd<W> {
     status: u8,
     outputs: Vec<W>,
 }
@@ -66,7 +68,7 @@ fn version_line_text() -> ArrayString<32>
     line
 }
 
-/// Tells that there was no memory. A fault of `errors` is let go: there is nowhere else to tell it.
+/// Tells that memory ran out. A fault of `errors` is let go: there is nowhere else to tell it.
 fn tell_out_of_memory<E: Output>(errors: &mut E)
     ensures told { E.has_failed errors.new ≡ false
         → Appends (E.contents errors.old) (E.contents errors.new) (own_line (codes "out of memory")) }
@@ -172,12 +174,19 @@ fn tell_report<W, E: Output>(errors: &mut E, summary: bool, report: &Report<W>) 
 
 /// Converts the sources, each to the output at its place, and tells how they have ended. There are no more sources
 /// than a run takes, and as many outputs, so that only running out of memory keeps a run from its beginning.
-fn convert<
+fn run_job<
     T: Threads + Wait + Clock + CpuClock + Sync,
     R: Read + Send + Drop,
     W: Output + Drop,
     E: Output,
->(rt: &T, alloc: Global, sources: Vec<R>, outputs: Vec<W>, errors: &mut E, job: &Job<'_>) -> Ran<W>
+>(
+    rt: &T,
+    alloc: Global,
+    sources: Vec<R>,
+    outputs: Vec<W>,
+    errors: &mut E,
+    job: &Job<'_>,
+) -> JobEnd<W>
     ensures converted { result.status ≢ 3 → IsConverted R.Read W.Output E.Output
         (task_of job.now) result.status sources.items outputs.items result.outputs.items errors.old errors.new }
     ensures untouched { result.status ≡ 3 → result.outputs.items ≡ outputs.items }
@@ -190,14 +199,14 @@ fn convert<
     match run(rt, alloc, sources, outputs, &job.setup) {
         Ok(report) => {
             let status = tell_report(errors, job.summary, &report);
-            Ran {
+            JobEnd {
                 status,
                 outputs: report.outputs,
             }
         }
         Err(fault) => {
             tell_out_of_memory(errors);
-            Ran {
+            JobEnd {
                 status: OUT_OF_MEMORY,
                 outputs: fault.outputs,
             }
@@ -230,10 +239,10 @@ fn convert_input<
     };
     sources.push_reserved(input);
     outputs.push_reserved(output);
-    let Ran {
+    let JobEnd {
         status,
         mut outputs,
-    } = convert(rt, alloc, sources, outputs, errors, job);
+    } = run_job(rt, alloc, sources, outputs, errors, job);
     let Some(output) = outputs.pop() else {
         unreachable!()
     };
@@ -252,7 +261,7 @@ fn convert_files<
     P: Places<R, W>,
     E: Output,
 >(rt: &T, alloc: Global, output: W, places: &P, errors: &mut E, job: &Job<'_>) -> Answered<W>
-    requires few { length job.now.files.items ≤ most_files }
+    requires few { length job.now.files.items ≤ MAX_FILES }
     ensures converted { result.status ≢ 3 → AreConverted R.Read W.Output E.Output
         (P.is_opened places.now) (IsNewlyMade W.Output (P.is_made places.now))
         (P.are_apart places.now) (task_of job.now) result.status result.outputs.items errors.old errors.new }
@@ -269,7 +278,7 @@ fn convert_files<
         Ok(opened) => opened,
         Err(fault) => return refuse(alloc, output, errors, &fault),
     };
-    let Ran { status, outputs } = convert(rt, alloc, sources, outputs, errors, job);
+    let JobEnd { status, outputs } = run_job(rt, alloc, sources, outputs, errors, job);
     Answered {
         status,
         output,
@@ -287,7 +296,7 @@ fn convert_files<
 ///   could not be printed;
 /// - 2 where the words were refused, with one line of the program's own or the text of clap;
 /// - 3 where a file could not be opened or made, a table would go to one of the files or to the file of another table,
-///   or there was no memory before the run, with one line.
+///   or memory ran out before the run, with one line.
 ///
 /// Nothing is read where the status is 2 or 3, or where the words ask for a page. A fault of `errors` changes
 /// neither the status nor the outputs.
@@ -312,19 +321,13 @@ pub fn answer<
 
     // The words ask for a page, which was printed; or for the table of standard input; or for those of files.
     ensures answered { result.status ≤ 1
-        → ((page : List ℕ) × AskForPage (map string_bytes words.now) page
-        × IsPrinted W.Output E.Output page result.status output result.output
-        errors.old errors.new
-        × (result.outputs.items ≡ []))
-        ⊎ ((task : Task) × MeanJust (map string_bytes words.now) (table task) × (task.files ≡ [])
-        × (result.outputs.items ≡ [])
-        × IsConverted R.Read W.Output E.Output
-        task result.status (input ∷ []) (output ∷ []) (result.output ∷ []) errors.old errors.new)
-        ⊎ ((task : Task) × MeanJust (map string_bytes words.now) (table task) × (task.files ≢ [])
-        × (result.output ≡ output)
-        × AreConverted R.Read W.Output E.Output
-        (P.is_opened places.now) (IsNewlyMade W.Output (P.is_made places.now))
-        (P.are_apart places.now) task result.status result.outputs.items errors.old errors.new) }
+        → IsPageAnswered W.Output E.Output (map string_bytes words.now) result.status
+        output result.output result.outputs.items errors.old errors.new
+        ⊎ IsInputAnswered R.Read W.Output E.Output (map string_bytes words.now) result.status
+        input output result.output result.outputs.items errors.old errors.new
+        ⊎ AreFilesAnswered R.Read W.Output E.Output (P.is_opened places.now)
+        (IsNewlyMade W.Output (P.is_made places.now)) (P.are_apart places.now) (map string_bytes words.now)
+        result.status output result.output result.outputs.items errors.old errors.new }
 
     // Unless the status is 3, words are refused exactly where something is wrong with them.
     ensures refused { result.status ≢ 3 → (result.status ≡ 2) ↔ AreWrong (map string_bytes words.now) }

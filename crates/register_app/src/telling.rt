@@ -1,6 +1,6 @@
 //! Tells on standard error how sources have ended.
 
-ghost use Rattle.std.specs.Prelude.{◌≡◌, ◌≤◌, ◌+◌, ◌++◌, ◌∷◌, [], MatchOption, codes, length, true, false};
+ghost use Rattle.std.specs.Prelude.{◌≡◌, ◌≤◌, ◌<◌, ◌+◌, ◌++◌, ◌∷◌, [], MatchOption, codes, length, true, false};
 ghost use Rattle.std.specs.Fmt.{decimal};
 ghost use Rattle.std.specs.Io.KnownBytes.{Appends};
 ghost use Rattle.register_app.specs.Reports.{count_text, counts_from, line_of_end, lines_from, refusal_numbers};
@@ -13,13 +13,20 @@ use register_records::{Cause, Note, Output, SourceEnd, send};
 /// The most bytes of a line on a source.
 const LINE: usize = 256;
 
+/// Room for the name and the place of a source, and for one count with its number: a number of twenty digits, and seven
+/// bytes more.
+const PART: usize = 27;
+
+/// Room for the line of a whole source without its counts.
+const WHOLE: usize = 64;
+
 /// A line on a source.
 type Line = ArrayString<LINE>;
 
 /// Begins the line of the source at this place, from 1.
 fn begin_line(place: usize) -> Line
     ensures bytes { result.bytes ≡ codes "source " ++ decimal place }
-    ensures short { length result.bytes ≤ 27 }
+    ensures short { length result.bytes ≤ PART }
 {
     let mut line = Line::new();
     line.push_str("source ");
@@ -53,9 +60,9 @@ const REFUSALS: [u8; 7] = [1, 2, 3, 4, 5, 6, 7];
 
 /// Adds to a line how many records were refused with one number; `behind` says whether another number stands before.
 fn push_count(line: &mut Line, behind: bool, number: u8, count: usize)
-    requires room { length line.old.bytes + 27 ≤ LINE }
+    requires room { length line.old.bytes + PART ≤ LINE }
     ensures bytes { line.new.bytes ≡ line.old.bytes ++ count_text behind number count }
-    ensures short { length line.new.bytes ≤ length line.old.bytes + 27 }
+    ensures short { length line.new.bytes ≤ length line.old.bytes + PART }
 {
     line.push_str(if behind { ", " } else { " (" });
     line.push_str(Buffer::new().format(number));
@@ -66,7 +73,7 @@ fn push_count(line: &mut Line, behind: bool, number: u8, count: usize)
 /// Begins the line of a whole source.
 fn begin_whole(place: usize, rows: u32, refused: u32) -> Line
     ensures bytes { result.bytes ≡ rows_text place rows refused }
-    ensures short { length result.bytes ≤ 64 }
+    ensures short { length result.bytes ≤ WHOLE }
 {
     let mut line = begin_line(place);
     line.push_str(": ");
@@ -79,9 +86,9 @@ fn begin_whole(place: usize, rows: u32, refused: u32) -> Line
 
 /// Adds to a line how many records were refused with each number.
 fn push_counts(line: &mut Line, journal: &[Note])
-    requires room { length line.old.bytes ≤ 64 }
+    requires room { length line.old.bytes ≤ WHOLE }
     ensures bytes { line.new.bytes ≡ line.old.bytes ++ counts_from false journal.now refusal_numbers }
-    ensures short { length line.new.bytes ≤ 254 }
+    ensures short { length line.new.bytes < LINE }
 {
     let mut behind = false;
     'numbers: for number in &REFUSALS {

@@ -55,18 +55,18 @@ impl<O: Write, F: Write> Write for Destination<O, F> {
     }
 }
 
-/// A file that one opening of it can keep from others.
+/// A file that one opening of it can lock against others.
 pub trait Exclusive {
-    /// Keeps the file for this opening of it alone, until it is closed.
+    /// Locks the file for this opening of it alone, until it is closed.
     ///
     /// # Errors
     ///
-    /// `WouldBlock` where another opening keeps it. Where the file system has no locks, there is no error.
-    fn keep(&self) -> io::Result<()>;
+    /// `WouldBlock` where another opening has locked it. Where the file system has no locks, there is no error.
+    fn lock(&self) -> io::Result<()>;
 }
 
 impl Exclusive for File {
-    fn keep(&self) -> io::Result<()> {
+    fn lock(&self) -> io::Result<()> {
         match self.try_lock() {
             Err(TryLockError::WouldBlock) => Err(io::Error::from(ErrorKind::WouldBlock)),
             Ok(()) | Err(TryLockError::Error(_)) => Ok(()),
@@ -74,10 +74,10 @@ impl Exclusive for File {
     }
 }
 
-/// Keeps the file of a table for this run alone, and then empties it where it has bytes. One that was emptied is not
-/// closed before the disk has it, which can take longer than the run.
-fn keep_and_empty<F: OpenFile + Exclusive>(file: &F) -> io::Result<()> {
-    file.keep()?;
+/// Locks the file of a table for this run alone, and then empties it. A file of no bytes is left as it is: the closing of
+/// an emptied one waits for the disk.
+fn lock_and_empty<F: OpenFile + Exclusive>(file: &F) -> io::Result<()> {
+    file.lock()?;
     if file.metadata()?.len() > 0 {
         file.set_len(0)?;
     }
@@ -128,7 +128,7 @@ where
             .write(true)
             .create(true)
             .open(self.files, name)?;
-        keep_and_empty(&file)?;
+        lock_and_empty(&file)?;
         Ok(PlainOutput::new(Told::new(Destination::File(file)), mark))
     }
 

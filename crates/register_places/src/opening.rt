@@ -4,7 +4,7 @@ ghost use Rattle.std.specs.Prelude.{◌≡◌, ◌≤◌, ◌++◌, ℕ, List, S
 ghost use Rattle.std.specs.Prelude.{IfErr, IfOk, OnOk, map, slice_get};
 ghost use Rattle.std.specs.String.{string_bytes};
 ghost use Rattle.register_words.specs.Faults.{status_of_fault};
-ghost use Rattle.register_words.specs.Requests.{most_files};
+ghost use Rattle.register_words.specs.declared.requests.TheConstants.{MAX_FILES};
 ghost use Rattle.register_places.specs.Openings.{AreMade, AreNotSources, AreOpened, AreTwoFiles, IsNewlyMade};
 
 use crate::places::Places;
@@ -63,7 +63,7 @@ fn is_taken<R, W: Output, P: Places<R, W>>(places: &P, names: &[String], name: &
 }
 
 /// Refuses the first file whose output would go to the file itself and empty it, as where it is a link to it.
-fn keep_sources<'a, R, W: Output, P: Places<R, W>>(
+fn check_sources_kept<'a, R, W: Output, P: Places<R, W>>(
     alloc: Global,
     places: &P,
     files: &[&'a str],
@@ -88,7 +88,7 @@ fn make_outputs<'a, R, W: Output + Drop, P: Places<R, W>>(
     places: &P,
     files: &[&'a str],
 ) -> Result<Vec<W>, RequestFault<'a>>
-    requires few { length files.now ≤ most_files }
+    requires few { length files.now ≤ MAX_FILES }
     ensures made { IfOk result (λ outputs. AreMade (IsNewlyMade W.Output
         (P.is_made places.now)) (map (λ file. file.now) files.now) outputs.items) }
     ensures apart { IfOk result (λ outputs. AreTwoFiles (P.are_apart places.now) (map (λ file. file.now) files.now)) }
@@ -121,13 +121,13 @@ fn make_outputs<'a, R, W: Output + Drop, P: Places<R, W>>(
 ///
 /// `CannotOpen` for the first file that cannot be opened, before any output is made; `CannotMake` for the first whose
 /// output would go to the file itself, before any output is made too, or else for the first whose output cannot be made
-/// or goes to the file of an earlier one; `OutOfMemory` where a growth of memory was refused.
+/// or goes to the file of an earlier one; `OutOfMemory` where memory ran out.
 pub fn open_files<'a, R: Drop, W: Output + Drop, P: Places<R, W>>(
     alloc: Global,
     places: &P,
     files: &[&'a str],
 ) -> Result<Opened<R, W>, RequestFault<'a>>
-    requires few { length files.now ≤ most_files }
+    requires few { length files.now ≤ MAX_FILES }
     ensures opened { IfOk result (λ o. AreOpened (P.is_opened places.now) (map (λ file. file.now) files.now)
         o.sources.items) }
     ensures made { IfOk result (λ o. AreMade (IsNewlyMade W.Output
@@ -137,7 +137,7 @@ pub fn open_files<'a, R: Drop, W: Output + Drop, P: Places<R, W>>(
     ensures status { IfErr result (λ error. status_of_fault error ≡ 3) }
 {
     let sources = open_sources(alloc, places, files)?;
-    keep_sources(alloc, places, files)?;
+    check_sources_kept(alloc, places, files)?;
     let outputs = make_outputs(alloc, places, files)?;
     Ok(Opened { sources, outputs })
 }

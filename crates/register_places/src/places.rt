@@ -14,7 +14,7 @@ pub trait Places<R, W: Output> {
     // This output goes to the file of this name, and has this mark.
     ghost is_made: { Self → List ℕ → ℕ → W → Type 0 };
 
-    // These two names were told to be those of two files.
+    // The place says that these two names are those of two files.
     ghost are_apart: { Self → List ℕ → List ℕ → Type 0 };
 
     /// Opens the file of this name to be read from its beginning.

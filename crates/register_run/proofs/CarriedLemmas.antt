@@ -7,7 +7,7 @@ use Rattle.std.specs.Option.{option_eq}
 use Rattle.std.proofs.lemmas.List.{length_push, map-append}
 use Rattle.std.proofs.lemmas.List.Elements.{Contains-append_left}
 use mathlib.Core.List.{IsPrefix}
-use Rattle.lane_rings.proofs.Ends.{entries_in_append, last_mark_append}
+use Rattle.lane_rings.proofs.EndLemmas.{entries_in_append, last_mark_append}
 use Rattle.lane_rings.specs.Items.{entries_in, last_mark}
 use Rattle.lane_rings.specs.Lane.{IsWhole, Lane, all_sent, taken, waiting}
 use Rattle.lane_rings.specs.declared.item.Gone.{Gone}

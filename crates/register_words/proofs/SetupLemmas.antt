@@ -16,7 +16,8 @@ use Rattle.register_records.specs.declared.setups.Setup.{Setup}
 use Rattle.register_records.specs.declared.setups.SetupFault.{SetupFault}
 use Rattle.register_records.specs.declared.setups.SetupFault.TheVariants.{TargetTwice, RingSize, Delimiter, Stripes}
 use Rattle.register_words.proofs.NameLemmas.{never_twice}
-use Rattle.register_words.specs.Requests.{AreTargetsOf, IsNumberOf, delimiter_option, ring_option, stripes_option}
+use Rattle.register_words.specs.Requests.{AreTargetsOf, IsNumberOf, delimiter_option, number_option}
+use Rattle.register_words.specs.declared.requests.AskedNumber.TheVariants as numbers
 
 -- no name stands at two places
 abbrev differ : List (List ℕ) → Bool
@@ -69,11 +70,11 @@ asked_delimiter (Some word) byte (inr (inr tab)) = rw tab.1 refl
 within : (low high n : ℕ) → low ≤ n → n ≤ high → (nat_le low n && nat_le n high) ≡ true
 within low high n over under = rw (le-leb low n over, le-leb n high under) refl
 
-pub asked_ring : (value : Option (List ℕ)) (ring : ℕ) → IsNumberOf ring_option value ring → is_ring_size ring ≡ true
+pub asked_ring : (value : Option (List ℕ)) (ring : ℕ) → IsNumberOf (number_option numbers.Ring) value ring → is_ring_size ring ≡ true
 asked_ring None ring is = rw is refl
 asked_ring (Some word) ring is = within 1 largest_ring ring is.some is.no_more
 
-pub asked_stripes : (value : Option (List ℕ)) (stripes : ℕ) → IsNumberOf stripes_option value stripes
+pub asked_stripes : (value : Option (List ℕ)) (stripes : ℕ) → IsNumberOf (number_option numbers.Stripes) value stripes
     → is_stripe_count stripes ≡ true
 asked_stripes None stripes is = rw is refl
 asked_stripes (Some word) stripes is = within 1 most_stripes stripes is.some is.no_more

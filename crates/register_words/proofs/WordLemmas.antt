@@ -9,7 +9,6 @@ use Rattle.clap.specs.declared.error.kind.ErrorKind.{ErrorKind}
 use Rattle.clap.specs.declared.error.kind.ErrorKind.TheVariants.{DisplayHelp, DisplayVersion, OutOfMemory}
 use Rattle.date_texts.proofs.LawWords.{OneTarget}
 use Rattle.date_texts.specs.declared.calendar.Target.{Target}
-use Rattle.register_records.specs.SetupRules.{largest_ring, most_stripes}
 use Rattle.register_words.specs.CommandLine.{AreTaken, command_line, values_in}
 use Rattle.register_words.specs.Faults.{Fault, IsOfWords, fault_told, usage}
 use Rattle.register_words.specs.OptionValues.{IsDelimiterWord, IsNumberWord}
@@ -18,9 +17,11 @@ use Rattle.register_records.specs.Tables.{Layout}
 use Rattle.register_records.specs.declared.setups.Form.{Form}
 use Rattle.register_words.specs.Requests.{AreTargetsOf, Check, FailFirst, IsFaultOf, IsNumberOf}
 use Rattle.register_words.specs.Requests.{IsTargetFault, Mean, MeanJust, Meaning, NumberOption, Task}
-use Rattle.register_words.specs.Requests.{delimiter_option, file_check, number_check, ring_option}
-use Rattle.register_words.specs.Requests.{stripes_option, target_check, usage_check, value_checks, help, version, table}
+use Rattle.register_words.specs.Requests.{bounds_of, delimiter_option, file_check, number_check, number_option}
+use Rattle.register_words.specs.Requests.{target_check, usage_check, value_checks, help, version, table}
 use Rattle.register_words.specs.Requests.{wrong}
+use Rattle.register_words.specs.declared.requests.AskedNumber.{AskedNumber}
+use Rattle.register_words.specs.declared.requests.AskedNumber.TheVariants as numbers
 use Rattle.register_words.specs.declared.request_faults.RequestFault.{RequestFault}
 use Rattle.register_words.proofs.FileLemmas.{fit_no_fault, one_file_fault}
 use Rattle.register_words.proofs.KindLemmas.{one_kind}
@@ -57,6 +58,10 @@ one_asked : (option : NumberOption) → NamesOne option → (value : Option Text
     → IsNumberOf option value other → n ≡ other
 one_asked option one None n other is same = is ∙ sym same
 one_asked option one (Some word) n other is same = one word n other is same
+
+one_count : (asks : AskedNumber) (value : Option Text) (n other : ℕ) → IsNumberOf (number_option asks) value n
+    → IsNumberOf (number_option asks) value other → n ≡ other
+one_count asks = one_asked (number_option asks) (one_number (bounds_of asks).most)
 
 -- a check finds one fault at most, and none where it passes
 record IsSound (check : Check) : Type 0 where
@@ -139,10 +144,10 @@ module _ (one : OneTarget) (words : List Text) where
         (
           sound_targets one values.to,
           (
-            sound_number ring_option values.ring,
+            sound_number (number_option numbers.Ring) values.ring,
             (
               sound_number delimiter_option values.delimiter,
-              (sound_number stripes_option values.stripes, (sound_files values.files, tt)),
+              (sound_number (number_option numbers.Stripes) values.stripes, (sound_files values.files, tt)),
             ),
           ),
         ),
@@ -184,13 +189,11 @@ module _ (one : OneTarget) (words : List Text) where
       let asked = asks.1 in
       let same = asks_other.1 in
       let targets = one_list one values.to task.layout.targets other.layout.targets asked.targets same.targets in
-      let ring = one_asked ring_option (one_number largest_ring) values.ring task.ring other.ring asked.ring same.ring in
+      let ring = one_count numbers.Ring values.ring task.ring other.ring asked.ring same.ring in
       let delimiter =
       one_asked delimiter_option one_byte values.delimiter task.layout.format.delimiter other.layout.format.delimiter
       asked.delimiter same.delimiter in
-      let stripes =
-      one_asked stripes_option (one_number most_stripes) values.stripes task.stripes other.stripes asked.stripes
-      same.stripes in
+      let stripes = one_count numbers.Stripes values.stripes task.stripes other.stripes asked.stripes same.stripes in
       ap table (same_task task other
       (same_layout task.layout other.layout targets delimiter (asked.form ∙ sym same.form)) ring stripes
       (asked.summary ∙ sym same.summary) (asked.files ∙ sym same.files))

@@ -14,6 +14,9 @@ use Rattle.register_words.specs.CommandLine.{AreTaken, Values, command_line, val
 use Rattle.register_words.specs.Faults.{Fault, usage, bad_ring, unknown_delimiter, bad_stripes, too_many_files}
 use Rattle.register_words.specs.Faults.{file_twice}
 use Rattle.register_words.specs.OptionValues.{AsksForTargets, IsDelimiterWord, IsListFault, IsNumberWord}
+use Rattle.register_words.specs.declared.requests.AskedNumber.{AskedNumber}
+use Rattle.register_words.specs.declared.requests.AskedNumber.TheVariants as numbers
+use Rattle.register_words.specs.declared.requests.TheConstants.{MAX_FILES}
 use Rattle.register_words.specs.declared.requests.Job.{Job}
 use Rattle.register_words.specs.declared.requests.Options.{Options}
 use Rattle.register_words.specs.declared.requests.Request.{Request}
@@ -40,16 +43,24 @@ pub record NumberOption : Type 1 where
   pub usual : ℕ
   pub fault : Text → Fault
 
--- the size of a ring, from 1 to 4096; the byte of a delimiter, a comma (44) without a word; and the number of
--- converters, from 1 to 4
-abbrev pub ring_option : NumberOption
-ring_option = record { names = IsNumberWord largest_ring; usual = 16; fault = bad_ring }
-
+-- the byte of a delimiter, a comma (44) without a word
 abbrev pub delimiter_option : NumberOption
 delimiter_option = record { names = IsDelimiterWord; usual = 44; fault = unknown_delimiter }
 
-abbrev pub stripes_option : NumberOption
-stripes_option = record { names = IsNumberWord most_stripes; usual = 1; fault = bad_stripes }
+-- numbers from 1 on: the greatest, the number without a word, and the fault of a word that names none
+pub record Bounds : Type 0 where
+  pub most : ℕ
+  pub usual : ℕ
+  pub fault : Text → Fault
+
+-- the size of a ring, and the number of converters
+abbrev pub bounds_of : AskedNumber → Bounds
+bounds_of numbers.Ring = record { most = largest_ring; usual = 16; fault = bad_ring }
+bounds_of numbers.Stripes = record { most = most_stripes; usual = 1; fault = bad_stripes }
+
+abbrev pub number_option : AskedNumber → NumberOption
+number_option asks = let bounds = bounds_of asks in
+    record { names = IsNumberWord bounds.most; usual = bounds.usual; fault = bounds.fault }
 
 -- this is the number that the option asks for
 abbrev pub IsNumberOf : NumberOption → Option Text → ℕ → Type 0
@@ -71,20 +82,16 @@ pub record IsFirstTwice (files : List Text) (file : Text) : Type 0 where
   pub named : Contains before file
   pub first : (other : Text) → ¬ IsNamedTwice before other
 
--- the most files of a command line
-abbrev pub most_files : ℕ
-most_files = 32
-
 -- at most 32 files, each named once
 abbrev pub AreFilesToConvert : List Text → Type 0
-AreFilesToConvert files = (length files ≤ most_files) × ((file : Text) → ¬ IsNamedTwice files file)
+AreFilesToConvert files = (length files ≤ MAX_FILES) × ((file : Text) → ¬ IsNamedTwice files file)
 
 -- the values ask for this task
 pub record Ask (values : Values) (task : Task) : Type 0 where
   pub targets : AreTargetsOf values.to task.layout.targets
-  pub ring : IsNumberOf ring_option values.ring task.ring
+  pub ring : IsNumberOf (number_option numbers.Ring) values.ring task.ring
   pub delimiter : IsNumberOf delimiter_option values.delimiter task.layout.format.delimiter
-  pub stripes : IsNumberOf stripes_option values.stripes task.stripes
+  pub stripes : IsNumberOf (number_option numbers.Stripes) values.stripes task.stripes
   pub form : task.layout.format.form ≡ (if values.sealed then Sealed else Plain)
   pub summary : task.summary ≡ values.summary
   pub files : task.files ≡ values.files
@@ -119,8 +126,8 @@ IsNumberFault option value fault =
 -- what is wrong with the files: there are too many, or else one is named twice
 abbrev pub IsFileFault : List Text → Fault → Type 0
 IsFileFault files fault =
-    ((fault ≡ too_many_files) × (most_files < length files))
-    ⊎ ((file : Text) × (fault ≡ file_twice file) × (length files ≤ most_files) × IsFirstTwice files file)
+    ((fault ≡ too_many_files) × (MAX_FILES < length files))
+    ⊎ ((file : Text) × (fault ≡ file_twice file) × (length files ≤ MAX_FILES) × IsFirstTwice files file)
 
 -- the checks of the words, of the targets, of a number, and of the files
 abbrev pub usage_check : List Text → Check
@@ -142,9 +149,9 @@ file_check files = record { fails = IsFileFault files; passes = AreFilesToConver
 abbrev pub value_checks : Values → List Check
 value_checks values =
     target_check values.to
-    ∷ number_check ring_option values.ring
+    ∷ number_check (number_option numbers.Ring) values.ring
     ∷ number_check delimiter_option values.delimiter
-    ∷ number_check stripes_option values.stripes
+    ∷ number_check (number_option numbers.Stripes) values.stripes
     ∷ file_check values.files
     ∷ []
 

@@ -18,8 +18,8 @@ const NO_TARGET: &str = "none";
 /// # Errors
 ///
 /// The names are looked at from left to right: `UnknownTarget` for the first that names no target, and
-/// `TargetTwice` for the first whose target was named before, whichever comes first. `OutOfMemory` where a
-/// growth of the targets is refused.
+/// `TargetTwice` for the first whose target was named before, whichever comes first. `OutOfMemory` where
+/// memory runs out.
 pub fn read_targets(alloc: Global, list: &str) -> Result<Vec<Target>, RequestFault<'_>>
     ensures value { IfOk result (λ targets. ListMeansJust list.entry.now (Ok targets.items)) }
     ensures fault { IfErr result (λ error. IfSome (fault_told error)

@@ -13,7 +13,7 @@ pub const SUFFIX: &str = ".out.csv";
 /// Why nothing is done: what is wrong with the words, or what was missing before the run.
 #[derive(Debug, Drop)]
 pub enum RequestFault<'a> {
-    /// A growth of memory was refused.
+    /// Memory ran out.
     OutOfMemory,
     /// The options are not written as they are taken. The text says how, and ends its last line.
     Usage(clap::Error),
@@ -55,7 +55,7 @@ impl RequestFault<'_> {
     ///
     /// # Errors
     ///
-    /// A growth of memory was refused.
+    /// Memory ran out.
     pub fn text(&self, alloc: Global) -> Result<String, AllocError>
         ensures { IfOk result (λ text. IfSome (line_told self.now) (λ line. string_bytes text ≡ line)) }
     {

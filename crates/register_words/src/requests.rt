@@ -1,6 +1,7 @@
 //! What the words ask for.
 
-ghost use Rattle.std.specs.Prelude.{◌≡◌, ℕ, List, IfOk, IfErr, IfSome, IfNone, IsSomeAnd, OnOk, map, option_map};
+ghost use Rattle.std.specs.Prelude.{◌≡◌, ℕ, List, IfOk, IfErr, IfSome, IfNone, IsSomeAnd, OnOk, map};
+ghost use Rattle.std.specs.Prelude.{Some, option_map};
 ghost use Rattle.std.specs.Prelude.{if◌then◌else◌, unwrap_or, codes, [], false};
 ghost use Rattle.std.specs.String.{string_bytes};
 ghost use Rattle.clap.specs.Words.{FailsBy, HasKind, all_of, app_of, fault_of, found_of, matches_of, one_of};
@@ -10,7 +11,7 @@ ghost use Rattle.register_words.specs.CommandLine.{values_in, values_of, word_ru
 ghost use Rattle.register_words.specs.Faults.{IsOfWords, fault_told};
 ghost use Rattle.register_words.specs.Requests.{AreFilesToConvert, AreTargetsOf, Ask, FailFirst, IsFileFault, IsFirstTwice};
 ghost use Rattle.register_words.specs.Requests.{IsNamedTwice, IsNumberFault, IsNumberOf, IsTargetFault, MeanJust};
-ghost use Rattle.register_words.specs.Requests.{delimiter_option, meaning_of, ring_option, stripes_option, value_checks};
+ghost use Rattle.register_words.specs.Requests.{delimiter_option, meaning_of, value_checks};
 ghost use Rattle.register_words.specs.Requests.{task_of, values_by, wrong};
 
 use crate::option_values::{delimiter_named, number_named, read_targets};
@@ -27,12 +28,6 @@ pub const MAX_FILES: usize = 32;
 
 /// The version of the program.
 pub const VERSION: &str = "1.0.0";
-
-/// How many items a ring holds where the words do not say.
-const RING: usize = 16;
-
-/// How many converters a source has where the words do not say.
-const STRIPES: usize = 1;
 
 /// A conversion that the words ask for.
 #[derive(Drop)]
@@ -84,8 +79,8 @@ fn flag<'a>(alloc: Global, name: &'a str) -> Arg<'a>
     Arg::new(alloc, name).long(name).action(ArgAction::SetTrue)
 }
 
-/// Words that are no options, as many as there are.
-fn words_alone<'a>(alloc: Global, name: &'a str, value: &'a str) -> Arg<'a>
+/// The words that are no options, as many as there are.
+fn files_argument<'a>(alloc: Global, name: &'a str, value: &'a str) -> Arg<'a>
     ensures rule { rule_of result ≡ word_rule name.entry.now }
     ensures local { result.global ≡ false }
 {
@@ -95,7 +90,7 @@ fn words_alone<'a>(alloc: Global, name: &'a str, value: &'a str) -> Arg<'a>
 }
 
 /// The command with none of its options.
-fn bare<'a>(alloc: Global) -> Command<'a>
+fn empty_command<'a>(alloc: Global) -> Command<'a>
     ensures { app_of result ≡ bare_command }
 {
     Command::new(alloc, "register")
@@ -107,14 +102,14 @@ fn bare<'a>(alloc: Global) -> Command<'a>
 fn command<'a>(alloc: Global) -> Result<Command<'a>, AllocError>
     ensures { IfOk result (λ c. app_of c ≡ command_line) }
 {
-    bare(alloc)
+    empty_command(alloc)
         .arg(option(alloc, "to", "LIST"))?
         .arg(option(alloc, "ring", "N"))?
         .arg(option(alloc, "stripes", "N"))?
         .arg(option(alloc, "delimiter", "comma|semicolon|tab"))?
         .arg(flag(alloc, "sealed"))?
         .arg(flag(alloc, "summary"))?
-        .arg(words_alone(alloc, "file", "FILE"))
+        .arg(files_argument(alloc, "file", "FILE"))
 }
 
 /// Whether the words give a flag.
@@ -198,18 +193,6 @@ fn chosen_targets<'a>(alloc: Global, list: Option<&'a str>) -> Result<Vec<Target
     }
 }
 
-/// The size of a ring that the value of `--ring` names, or the usual one where there is none.
-fn chosen_ring<'a>(word: Option<&'a str>) -> Result<usize, RequestFault<'a>>
-    ensures value { IfOk result (IsNumberOf ring_option (option_map (λ w. w.now) word.entry)) }
-    ensures fault { IfErr result (λ error. IsSomeAnd (fault_told error)
-        (IsNumberFault ring_option (option_map (λ w. w.now) word.entry))) }
-{
-    let Some(word) = word else {
-        return Ok(RING);
-    };
-    number_named(word, MAX_RING).ok_or(RequestFault::BadRing(word))
-}
-
 /// The byte that the value of `--delimiter` names, or a comma where there is none.
 fn chosen_delimiter<'a>(word: Option<&'a str>) -> Result<u8, RequestFault<'a>>
     ensures value { IfOk result (IsNumberOf delimiter_option (option_map (λ w. w.now) word.entry)) }
@@ -222,16 +205,59 @@ fn chosen_delimiter<'a>(word: Option<&'a str>) -> Result<u8, RequestFault<'a>>
     delimiter_named(word).ok_or(RequestFault::UnknownDelimiter(word))
 }
 
-/// The number of converters that the value of `--stripes` names, or the usual one where there is none.
-fn chosen_stripes<'a>(word: Option<&'a str>) -> Result<usize, RequestFault<'a>>
-    ensures value { IfOk result (IsNumberOf stripes_option (option_map (λ w. w.now) word.entry)) }
-    ensures fault { IfErr result (λ error. IsSomeAnd (fault_told error)
-        (IsNumberFault stripes_option (option_map (λ w. w.now) word.entry))) }
-{
-    let Some(word) = word else {
-        return Ok(STRIPES);
-    };
-    number_named(word, MAX_STRIPES).ok_or(RequestFault::BadStripes(word))
+/// A number from 1 on that an option asks for.
+#[derive(Clone, Copy)]
+enum AskedNumber {
+    /// How many items a ring holds, by `--ring`.
+    Ring,
+    /// How many converters a source has, by `--stripes`.
+    Stripes,
+}
+
+impl AskedNumber {
+    ghost use Rattle.register_words.specs.Requests.{bounds_of, number_option};
+
+    /// The greatest.
+    fn most(self) -> usize
+        ensures { result ≡ (bounds_of self).most }
+    {
+        match self {
+            AskedNumber::Ring => MAX_RING,
+            AskedNumber::Stripes => MAX_STRIPES,
+        }
+    }
+
+    /// The one where the words do not say.
+    fn usual(self) -> usize
+        ensures { result ≡ (bounds_of self).usual }
+    {
+        match self {
+            AskedNumber::Ring => 16,
+            AskedNumber::Stripes => 1,
+        }
+    }
+
+    /// What is wrong with a word that names none.
+    fn fault<'a>(self, word: &'a str) -> RequestFault<'a>
+        ensures { fault_told result ≡ Some ((bounds_of self).fault word.entry.now) }
+    {
+        match self {
+            AskedNumber::Ring => RequestFault::BadRing(word),
+            AskedNumber::Stripes => RequestFault::BadStripes(word),
+        }
+    }
+
+    /// The number that the value of the option names, or the usual one where there is none.
+    fn chosen<'a>(self, word: Option<&'a str>) -> Result<usize, RequestFault<'a>>
+        ensures value { IfOk result (IsNumberOf (number_option self) (option_map (λ w. w.now) word.entry)) }
+        ensures fault { IfErr result (λ error. IsSomeAnd (fault_told error)
+            (IsNumberFault (number_option self) (option_map (λ w. w.now) word.entry))) }
+    {
+        let Some(word) = word else {
+            return Ok(self.usual());
+        };
+        number_named(word, self.most()).ok_or(self.fault(word))
+    }
 }
 
 /// The form of the registers: sealed where the flag is given, and else plain.
@@ -278,17 +304,17 @@ fn check_files<'a>(files: &[&'a str]) -> Result<(), RequestFault<'a>>
 /// # Errors
 ///
 /// The first that applies: the faults of the list of targets as [`read_targets`] has them, `BadRing`,
-/// `UnknownDelimiter`, `BadStripes`, and the faults of the files as [`check_files`] has them; and `OutOfMemory` where a
-/// growth of memory was refused on the way.
+/// `UnknownDelimiter`, `BadStripes`, and the faults of the files as [`check_files`] has them; and `OutOfMemory` where
+/// memory runs out on the way.
 fn chosen_job<'a>(alloc: Global, options: Options<'a>) -> Result<Job<'a>, RequestFault<'a>>
     ensures asked { IfOk result (λ job. Ask (values_by options.entry) (task_of job)) }
     ensures fault { IfErr result (λ error. IfSome (fault_told error) (FailFirst (value_checks (values_by options.entry)))) }
     ensures memory { IfErr result IsOfWords }
 {
     let targets = chosen_targets(alloc, options.to)?;
-    let ring = chosen_ring(options.ring)?;
+    let ring = AskedNumber::Ring.chosen(options.ring)?;
     let delimiter = chosen_delimiter(options.delimiter)?;
-    let stripes = chosen_stripes(options.stripes)?;
+    let stripes = AskedNumber::Stripes.chosen(options.stripes)?;
     check_files(options.files.as_slice())?;
     let form = chosen_form(options.sealed);
     match Setup::new(targets.as_slice(), ring, delimiter, stripes, form) {
@@ -305,10 +331,10 @@ fn chosen_job<'a>(alloc: Global, options: Options<'a>) -> Result<Job<'a>, Reques
 ///
 /// # Errors
 ///
-/// The first that applies: `Usage` where the words are not options as they are taken, the faults of the
-/// list of targets as [`read_targets`] has them, `BadRing`, `UnknownDelimiter`, `BadStripes`, and the faults
-/// of the files as [`check_files`] has them; and `OutOfMemory` where a growth of memory was refused on the
-/// way.
+/// The first that applies: `Usage` where the words are not options as they are taken; `UnknownTarget` or `TargetTwice`
+/// for the first name of the list that names no target or one that was named before; `BadRing`; `UnknownDelimiter`;
+/// `BadStripes`; `TooManyFiles` for more than 32 files, or else `FileTwice` for the first that was named before. Besides
+/// these, `OutOfMemory` where memory runs out on the way.
 pub fn read_request<'a>(alloc: Global, words: &'a [String]) -> Result<Request<'a>, RequestFault<'a>>
     ensures asked { IfOk result (λ request. MeanJust (map string_bytes words.entry.now) (meaning_of request)) }
     ensures refused { IfErr result (λ error. IfSome (fault_told error)

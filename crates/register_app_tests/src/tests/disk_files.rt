@@ -142,7 +142,7 @@ where
     let told = b"register: cannot make files_of_the_test/register.csv.out.csv\n";
     fs::write(rt, TABLE, OLDER_TEXT)?;
     let keeper = OpenOptions::new().write(true).open(rt, TABLE)?;
-    keeper.keep()?;
+    keeper.lock()?;
     let is_refused = is_told(rt, &words, 3, told);
     let is_left = fs::read(rt, TABLE)?.as_slice() == OLDER_TEXT;
     drop(keeper);

@@ -3,5 +3,5 @@ use Rattle.std.proofs.Common.{inr}
 use Rattle.register_app.proofs.answering.convert_files.Goals as goal
 
 pub returns-clause-unwritten : goal.returns-clause-unwritten
-returns-clause-unwritten g c = λ three. inr (rw (c.convert-status.ensures.untouched three, ← c.as_slice.ensures.value)
+returns-clause-unwritten g c = λ three. inr (rw (c.run_job-status.ensures.untouched three, ← c.as_slice.ensures.value)
     c.in-Ok.ensures.made)

@@ -8,7 +8,8 @@ use Rattle.register_words.specs.Faults.{Fault, IsOfWords, fault_told}
 use Rattle.register_words.specs.Requests.{values_by}
 use Rattle.register_words.specs.Requests.{AreFilesToConvert, AreTargetsOf, FailFirst, IsFileFault}
 use Rattle.register_words.specs.Requests.{IsNumberOf}
-use Rattle.register_words.specs.Requests.{delimiter_option, ring_option, stripes_option, value_checks}
+use Rattle.register_words.specs.Requests.{delimiter_option, number_option, value_checks}
+use Rattle.register_words.specs.declared.requests.AskedNumber.TheVariants as numbers
 use Rattle.register_words.specs.declared.request_faults.RequestFault.{RequestFault}
 use Rattle.register_words.specs.declared.requests.Job.{Job}
 use Rattle.register_words.proofs.OptionLemmas.{found_first, if_some}
@@ -90,9 +91,9 @@ returns-clause-asked c =
     record {
       targets = subst (AreTargetsOf values.to) (sym (fields.0 ∙ c.as_slice-2.ensures.value))
           c.in_ok-targets.ensures.value;
-      ring = subst (IsNumberOf ring_option values.ring) (sym fields.1) c.in_ok-ring.ensures.value;
+      ring = subst (IsNumberOf (number_option numbers.Ring) values.ring) (sym fields.1) c.in_ok-ring.ensures.value;
       delimiter = subst (IsNumberOf delimiter_option values.delimiter) (sym fields.2) c.in_ok-delimiter.ensures.value;
-      stripes = subst (IsNumberOf stripes_option values.stripes) (sym fields.3) c.in_ok-stripes.ensures.value;
+      stripes = subst (IsNumberOf (number_option numbers.Stripes) values.stripes) (sym fields.3) c.in_ok-stripes.ensures.value;
       form = fields.4 ∙ c.chosen_form-form.ensures;
       summary = refl;
       files = refl;

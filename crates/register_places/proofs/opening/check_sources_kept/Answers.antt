@@ -1,7 +1,7 @@
 use Rattle.std.proofs.Common.{◌++◌, ◌∙◌, arith, codes, map}
 use Rattle.std.proofs.lemmas.List.{length-map}
 use Rattle.register_places.proofs.ApartLemmas.{all_before, apart_by, none_before, one_before, value_at}
-use Rattle.register_places.proofs.opening.keep_sources.Goals as goal
+use Rattle.register_places.proofs.opening.check_sources_kept.Goals as goal
 
 pub files-init : goal.files-init
 files-init g c = none_before (λ file. g.P.Places.are_apart c.args.places.now file (file ++ codes ".out.csv"))

@@ -1,6 +1,6 @@
 use Rattle.std.proofs.Common.{◌++◌, codes, map}
 use Rattle.register_places.proofs.ApartLemmas.{HoldBefore}
-use Rattle.register_places.proofs.opening.keep_sources.Given as goal
+use Rattle.register_places.proofs.opening.check_sources_kept.Given as goal
 
 -- the output of each file so far does not go to the file itself
 abbrev pub invariant-files : goal.invariant-files

@@ -2,7 +2,7 @@
 use Rattle.std.proofs.Common.{arith, refl}
 use Rattle.register_run.proofs.HeadlineLemmas.{lengths_of}
 use Rattle.register_words.specs.declared.request_faults.RequestFault.TheVariants as request_fault
-use Rattle.register_app.proofs.answering.convert.Goals as goal
+use Rattle.register_app.proofs.answering.run_job.Goals as goal
 
 pub returns-in-Ok-clause-converted : goal.returns-in-Ok-clause-converted
 returns-in-Ok-clause-converted g c = λ begun. record {

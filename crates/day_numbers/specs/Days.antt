@@ -6,13 +6,9 @@ use Rattle.day_numbers.specs.declared.day.Weekday.{Weekday}
 use Rattle.day_numbers.specs.declared.day.Weekday.TheVariants.{Sunday, Monday, Tuesday, Wednesday, Thursday, Friday}
 use Rattle.day_numbers.specs.declared.day.Weekday.TheVariants.{Saturday}
 
--- z lies from low to high, both included
-abbrev pub IsBetween : ℤ → ℤ → ℤ → Type 0
-IsBetween low high z = (low ≤ℤ z) × (z ≤ℤ high)
-
 -- a day from 1 January -9999 to 31 December 9999, Gregorian
 abbrev pub IsDayNumber : ℤ → Type 0
-IsDayNumber n = IsBetween (neg_ℤ (pos 3_652_424)) (pos 3_652_059) n
+IsDayNumber n = (neg_ℤ (pos 3_652_424) ≤ℤ n) × (n ≤ℤ pos 3_652_059)
 
 -- a day of a calendar that has a first day, or any day where it has none
 abbrev pub IsSinceFirstDay : Option ℤ → ℤ → Type 0

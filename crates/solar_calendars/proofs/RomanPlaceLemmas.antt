@@ -3,7 +3,7 @@ use Rattle.std.proofs.Common.{inl, inr, ◌≡◌, ◌↔◌, ◌⊎◌, ℕ, �
 use Rattle.std.proofs.Common.{pos, neg_ℤ, ◌+ℤ◌, ◌-ℤ◌, ◌≤ℤ◌, ◌<ℤ◌}
 use Rattle.std.proofs.lemmas.Bool.Decides.{nat_tests}
 use Rattle.day_numbers.specs.Rules.{without_zero, HasYear}
-use Rattle.day_numbers.specs.Days.{IsBetween}
+use Rattle.day_numbers.specs.Dates.{IsBetween}
 use Rattle.day_numbers.proofs.SignedArithmeticLemmas.{signed_arith}
 use Rattle.solar_calendars.specs.Julian.{is_julian_leap}
 use Rattle.solar_calendars.specs.Roman.{day_of_ides, month_before}

@@ -2,6 +2,7 @@
 -- A fixed day number, R.D., counts days; day 1 is Monday, 1 January of the Gregorian year 1.
 use Rattle.std.specs.Prelude.{ℕ, ℤ, pos, neg_ℤ, ◌≤ℤ◌, unsigned_abs, Option, IfSome, List, [], ◌∷◌, codes}
 use Rattle.std.specs.Int.{int_rem_euclid}
+use Rattle.day_numbers.specs.Numbered.{words}
 use Rattle.day_numbers.specs.declared.day.Weekday.{Weekday}
 use Rattle.day_numbers.specs.declared.day.Weekday.TheVariants.{Sunday, Monday, Tuesday, Wednesday, Thursday, Friday}
 use Rattle.day_numbers.specs.declared.day.Weekday.TheVariants.{Saturday}
@@ -22,11 +23,6 @@ weekday_number n = unsigned_abs (int_rem_euclid n (pos 7))
 abbrev pub all_weekdays : List Weekday
 all_weekdays = Sunday ∷ Monday ∷ Tuesday ∷ Wednesday ∷ Thursday ∷ Friday ∷ Saturday ∷ []
 
-abbrev pub weekday_name : Weekday → List ℕ
-weekday_name Sunday = codes "Sunday"
-weekday_name Monday = codes "Monday"
-weekday_name Tuesday = codes "Tuesday"
-weekday_name Wednesday = codes "Wednesday"
-weekday_name Thursday = codes "Thursday"
-weekday_name Friday = codes "Friday"
-weekday_name Saturday = codes "Saturday"
+-- their names, in the same order
+abbrev pub weekday_names : List (List ℕ)
+weekday_names = words (codes "Sunday Monday Tuesday Wednesday Thursday Friday Saturday")

@@ -28,8 +28,8 @@ use Rattle.register_records.specs.Answers.{cells_of, fields_of}
 use Rattle.register_records.specs.Columns.{Column, cell_columns}
 use Rattle.register_records.specs.TableColumns.{AreFields, IsCellField, answer_field, answer_order, answer_texts}
 use Rattle.register_records.specs.TableColumns.{answered}
-use Rattle.register_records.specs.LineRoom.{columns_room, plain_room}
-use Rattle.register_records.specs.Lines.{fields_behind, writing}
+use Rattle.register_records.specs.LineRoom.{columns_room, plain_room, writing}
+use Rattle.register_records.specs.Lines.{fields_behind}
 use Rattle.register_records.specs.Outcomes.{AreCells}
 use Rattle.register_records.specs.Seen.{outcome_seen}
 use Rattle.register_records.specs.SetupRules.{is_delimiter}

@@ -17,8 +17,8 @@ use Rattle.std.specs.List.{flat_map, list_all}
 use Rattle.csv.specs.Writing.{field_text, fields_text, is_blank, needs_byte, needs_quotes, row_body}
 use Rattle.csv.proofs.WriteFacts.{fields-snoc}
 use Rattle.day_numbers.specs.Days.{IsDayNumber}
-use Rattle.register_records.specs.LineRoom.{columns_room, entry_room, number_room, quoted_room}
-use Rattle.register_records.specs.Lines.{line_text, writing}
+use Rattle.register_records.specs.LineRoom.{columns_room, entry_room, number_room, quoted_room, writing}
+use Rattle.register_records.specs.Lines.{line_text}
 use Rattle.register_records.specs.SetupRules.{is_delimiter}
 use Rattle.date_texts.specs.Cells.{is_plain}
 use Rattle.date_texts.specs.Calendars.{target_name}

@@ -1,15 +1,17 @@
 -- The bytes of cells.
-use Rattle.std.proofs.Common.{◌≡◌, ℕ, zero, suc, ◌-◌, ◌≤◌, List, [], ◌∷◌, ◌++◌, Bool, true, ◌&&◌, IsTrue, ℤ, refl}
+use Rattle.std.proofs.Common.{◌≡◌, ℕ, zero, suc, ◌-◌, ◌≤◌, List, [], ◌∷◌, ◌++◌, true, IsTrue, ℤ, refl}
 use Rattle.std.proofs.Common.{arith}
-use Rattle.std.specs.Prelude.{slice_get, unwrap_or, codes, ◌<◌, IsAscii}
+use Rattle.std.specs.Prelude.{codes, ◌<◌, IsAscii}
 use Rattle.std.specs.Char.{is_ascii_digit, to_ascii_lowercase}
 use Rattle.std.specs.Str.{str_to_ascii_lowercase}
 use Rattle.std.specs.Fmt.{decimal}
 use Rattle.std.specs.List.{list_all}
 use Rattle.std.proofs.lemmas.Bool.Decides.{nat_tests}
 use Rattle.std.proofs.lemmas.List.Folds.{list_all-append}
-use Rattle.maya_calendars.specs.HaabNames.{month_names, month_name}
-use Rattle.maya_calendars.specs.TzolkinNames.{name_texts, name_text}
+use Rattle.day_numbers.specs.Numbered.{name_of_number, words}
+use Rattle.day_numbers.proofs.NameLemmas.{each_name}
+use Rattle.maya_calendars.specs.HaabNames.{month_names}
+use Rattle.maya_calendars.specs.TzolkinNames.{name_texts}
 use Rattle.maya_calendars.proofs.LawWords.{HaabDaysInRange, TzolkinNumbersInRange}
 use Rattle.date_texts.specs.declared.calendar.Calendar.{Calendar}
 use Rattle.date_texts.specs.declared.date.Date.{Date}
@@ -124,23 +126,13 @@ date_cell_plain c n text (on_date date p h i e) = rw e (date_plain date)
 date_cell_plain c n text (no_date none e) = rw e refl
 
 -- ---- names with numbers
-all_plain : List (List ℕ) → Bool
-all_plain [] = true
-all_plain (x ∷ xs) = list_all is_plain x && all_plain xs
+month_plain : (month : ℕ) → ArePlain (name_of_number month_names month)
+unfolding words
+month_plain month = each_name (list_all is_plain) month_names (month - 1) refl refl
 
-plain_at : (names : List (List ℕ)) (i : ℕ) → IsTrue (all_plain names) → ArePlain (unwrap_or (slice_get names i) [])
-unfolding all_plain
-plain_at [] i h = refl
-plain_at (x ∷ xs) zero h = (both_true (list_all is_plain x) (all_plain xs) h).0
-plain_at (x ∷ xs) (suc i) h = plain_at xs i (both_true (list_all is_plain x) (all_plain xs) h).1
-
-month_plain : (month : ℕ) → ArePlain (month_name month)
-unfolding all_plain
-month_plain month = plain_at month_names (month - 1) refl
-
-name_plain : (place : ℕ) → ArePlain (name_text place)
-unfolding all_plain
-name_plain place = plain_at name_texts (place - 1) refl
+name_plain : (place : ℕ) → ArePlain (name_of_number name_texts place)
+unfolding words
+name_plain place = each_name (list_all is_plain) name_texts (place - 1) refl refl
 
 numbered_plain : (number : ℕ) (name : List ℕ) → number ≤ 99 → ArePlain name → ArePlain (decimal number ++ 32 ∷ name)
 numbered_plain number name small h =
@@ -151,5 +143,5 @@ numbered_plain number name small h =
 pub cells_are_plain : HaabDaysInRange → TzolkinNumbersInRange → CellsArePlain
 cells_are_plain days numbers =
     each_cell ArePlain days numbers date_cell_plain
-    (λ number month small. numbered_plain number (month_name month) small (month_plain month))
-    (λ number place small. numbered_plain number (name_text place) small (name_plain place))
+    (λ number month small. numbered_plain number (name_of_number month_names month) small (month_plain month))
+    (λ number place small. numbered_plain number (name_of_number name_texts place) small (name_plain place))

@@ -19,8 +19,9 @@ use Rattle.date_texts.specs.Dates.{calendar_of_date, IsDateOfCalendar, day_numbe
 use Rattle.date_texts.specs.CivilText.{canonical_civil}
 use Rattle.date_texts.specs.DateText.{canonical_text}
 use Rattle.date_texts.specs.Cells.{IsDateCell, on_date, no_date, IsCell, numbered_name}
-use Rattle.maya_calendars.specs.HaabNames.{haab_of, month_name}
-use Rattle.maya_calendars.specs.TzolkinNames.{tzolkin_of, name_text}
+use Rattle.day_numbers.specs.Numbered.{name_of_number}
+use Rattle.maya_calendars.specs.HaabNames.{haab_of, month_names}
+use Rattle.maya_calendars.specs.TzolkinNames.{tzolkin_of, name_texts}
 use Rattle.maya_calendars.proofs.LawWords.{HaabDaysInRange, TzolkinNumbersInRange}
 use Rattle.maya_calendars.proofs.LongCountLemmas.{one_long_count, day_since_epoch}
 use Rattle.date_texts.proofs.LawWords.{OneCell}
@@ -96,8 +97,8 @@ civil_cell_is c n d x civil h i e = on_date (Civil (record { calendar = c; ymd =
 -- what holds of each date's cell, and of each small number with the name of a month or of a day, holds of each cell
 pub each_cell : (P : List ℕ → Type 0) → HaabDaysInRange → TzolkinNumbersInRange
     → ((c : Calendar) (n : ℤ) (text : List ℕ) → IsDateCell c n text → P text)
-    → ((number month : ℕ) → number ≤ 99 → P (numbered_name number (month_name month)))
-    → ((number place : ℕ) → number ≤ 99 → P (numbered_name number (name_text place)))
+    → ((number month : ℕ) → number ≤ 99 → P (numbered_name number (name_of_number month_names month)))
+    → ((number place : ℕ) → number ≤ 99 → P (numbered_name number (name_of_number name_texts place)))
     → (target : Target) (n : ℤ) (text : List ℕ) → IsCell target n text → P text
 each_cell P days numbers dates haabs tzolkins (DateTarget c) n text h = dates c n text h
 each_cell P days numbers dates haabs tzolkins Haab n text h =

@@ -1,11 +1,13 @@
 -- The lengths of cells.
-use Rattle.std.proofs.Common.{ℕ, zero, suc, ◌-◌, ◌≤◌, List, [], ◌∷◌, ◌++◌, Bool, true, ◌&&◌, IsTrue, ℤ, refl, ap}
+use Rattle.std.proofs.Common.{ℕ, ◌-◌, ◌≤◌, List, ◌∷◌, ◌++◌, Bool, IsTrue, ℤ, refl, ap}
 use Rattle.std.proofs.Common.{arith, length, length-append}
-use Rattle.std.specs.Prelude.{slice_get, unwrap_or, nat_le}
+use Rattle.std.specs.Prelude.{nat_le}
 use Rattle.std.specs.Fmt.{decimal}
 use Rattle.std.proofs.lemmas.Bool.Decides.{nat_tests}
-use Rattle.maya_calendars.specs.HaabNames.{month_names, month_name}
-use Rattle.maya_calendars.specs.TzolkinNames.{name_texts, name_text}
+use Rattle.day_numbers.specs.Numbered.{name_of_number, words}
+use Rattle.day_numbers.proofs.NameLemmas.{each_name}
+use Rattle.maya_calendars.specs.HaabNames.{month_names}
+use Rattle.maya_calendars.specs.TzolkinNames.{name_texts}
 use Rattle.maya_calendars.proofs.LawWords.{HaabDaysInRange, TzolkinNumbersInRange}
 use Rattle.date_texts.specs.declared.calendar.Calendar.{Calendar}
 use Rattle.date_texts.specs.declared.date.Date.{Date}
@@ -24,7 +26,7 @@ use Rattle.date_texts.specs.DateText.{canonical_text}
 use Rattle.date_texts.proofs.LawWords.{CellsAreShort}
 use Rattle.date_texts.proofs.CellLemmas.{each_cell}
 use Rattle.date_texts.proofs.DateTextLemmas.{canonical_is}
-use Rattle.date_texts.proofs.ReadingLemmas.{both_true, decimal_numeral}
+use Rattle.date_texts.proofs.ReadingLemmas.{decimal_numeral}
 use Rattle.date_texts.proofs.WritingLemmas.{one_or_two}
 use Rattle.date_texts.proofs.RomanReadingLemmas.{canonical_roman_is, second_sixth_is}
 
@@ -114,26 +116,19 @@ date_cell_length c n text (on_date date p h i e) = rw e (date_length date h)
 date_cell_length c n text (no_date none e) = rw e (omega arith)
 
 -- ---- names with numbers
-all_short : List (List ℕ) → Bool
-all_short [] = true
-all_short (x ∷ xs) = nat_le (length x) 8 && all_short xs
+abbrev is_short : List ℕ → Bool
+is_short name = nat_le (length name) 8
 
-short_at : (names : List (List ℕ)) (i : ℕ) → IsTrue (all_short names) → length (unwrap_or (slice_get names i) []) ≤ 8
-unfolding all_short
-short_at [] i h = omega arith
-short_at (x ∷ xs) zero h = first (length x) (both_true (nat_le (length x) 8) (all_short xs) h).0
-  where
-    first : (n : ℕ) → IsTrue (nat_le n 8) → n ≤ 8
-    first n h = grind (arith, nat_tests)
-short_at (x ∷ xs) (suc i) h = short_at xs i (both_true (nat_le (length x) 8) (all_short xs) h).1
+short_length : (name : List ℕ) → IsTrue (is_short name) → length name ≤ 8
+short_length name h = grind (arith, nat_tests)
 
-pub month_length : (month : ℕ) → length (month_name month) ≤ 8
-unfolding all_short
-month_length month = short_at month_names (month - 1) refl
+pub month_length : (month : ℕ) → length (name_of_number month_names month) ≤ 8
+unfolding words
+month_length month = short_length _ (each_name is_short month_names (month - 1) refl refl)
 
-pub day_name_length : (place : ℕ) → length (name_text place) ≤ 8
-unfolding all_short
-day_name_length place = short_at name_texts (place - 1) refl
+pub day_name_length : (place : ℕ) → length (name_of_number name_texts place) ≤ 8
+unfolding words
+day_name_length place = short_length _ (each_name is_short name_texts (place - 1) refl refl)
 
 numbered_length : (number : ℕ) (name : List ℕ) → number ≤ 99 → length name ≤ 8
     → length (decimal number ++ 32 ∷ name) ≤ 16
@@ -143,5 +138,5 @@ numbered_length number name small h = omega (arith, length-append {A = ℕ}, one
 pub cells_are_short : HaabDaysInRange → TzolkinNumbersInRange → CellsAreShort
 cells_are_short days numbers =
     each_cell (λ text. length text ≤ 16) days numbers date_cell_length
-    (λ number month small. numbered_length number (month_name month) small (month_length month))
-    (λ number place small. numbered_length number (name_text place) small (day_name_length place))
+    (λ number month small. numbered_length number (name_of_number month_names month) small (month_length month))
+    (λ number place small. numbered_length number (name_of_number name_texts place) small (day_name_length place))

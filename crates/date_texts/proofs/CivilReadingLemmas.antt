@@ -4,7 +4,7 @@ use Rattle.std.proofs.Common.{◌++◌, ◌==◌, refl, subst, ap, arith, cond, 
 use Rattle.std.proofs.Common.{ℤ, pos, neg_ℤ, append-nil}
 use Rattle.std.proofs.Common.{append_assoc}
 use Rattle.std.specs.Fmt.{decimal}
-use Rattle.day_numbers.specs.Days.{IsBetween}
+use Rattle.day_numbers.specs.Dates.{IsBetween}
 use Rattle.date_texts.specs.declared.grammar.Grammar.{Grammar}
 use Rattle.date_texts.specs.declared.grammar.Grammar.TheVariants.{Civil, Week, LongCount, Roman}
 use Rattle.date_texts.specs.Numerals.{IsNumeral, IsYearText, padded, canonical_year}

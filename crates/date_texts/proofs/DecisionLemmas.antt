@@ -5,7 +5,7 @@ use Rattle.std.specs.Str.{bytes_eq, str_to_ascii_lowercase}
 use Rattle.std.proofs.lemmas.Bool.{cases_lt}
 use Rattle.std.proofs.lemmas.Int.{by_lt_z}
 use Rattle.std.proofs.lemmas.Slice.Eq.{bytes_eq-Decides}
-use Rattle.day_numbers.specs.Days.{IsBetween}
+use Rattle.day_numbers.specs.Dates.{IsBetween}
 use Rattle.day_numbers.proofs.SignedArithmeticLemmas.{signed_arith}
 use Rattle.date_texts.specs.Names.{IsNamed}
 use Rattle.date_texts.specs.Trimmed.{trimmed}

@@ -6,7 +6,7 @@ use Rattle.std.specs.Char.{is_ascii_digit, to_ascii_lowercase}
 use Rattle.std.specs.Str.{str_to_ascii_lowercase, str_eq_ignore_ascii_case}
 use Rattle.std.proofs.lemmas.Bool.Decides.{nat_tests}
 use Rattle.std.proofs.lemmas.Slice.Eq.{bytes_eq-Decides}
-use Rattle.day_numbers.specs.Days.{IsBetween}
+use Rattle.day_numbers.specs.Dates.{IsBetween}
 use Rattle.solar_calendars.specs.Roman.{count_of}
 use Rattle.solar_calendars.specs.declared.roman_date.RomanName.{RomanName}
 use Rattle.solar_calendars.specs.declared.roman_date.RomanName.TheVariants.{Kalends, Nones, Ides, SecondSixth}

@@ -2,8 +2,9 @@
 use Rattle.std.specs.Prelude.{◌≡◌, ◌==◌, ◌||◌, Bool, ℕ, ℤ, List, [], ◌∷◌, ◌++◌}
 use Rattle.std.specs.Char.{is_ascii_alphanumeric}
 use Rattle.std.specs.Fmt.{decimal}
-use Rattle.maya_calendars.specs.HaabNames.{haab_of, month_name}
-use Rattle.maya_calendars.specs.TzolkinNames.{tzolkin_of, name_text}
+use Rattle.day_numbers.specs.Numbered.{name_of_number}
+use Rattle.maya_calendars.specs.HaabNames.{haab_of, month_names}
+use Rattle.maya_calendars.specs.TzolkinNames.{tzolkin_of, name_texts}
 use Rattle.date_texts.specs.Dates.{calendar_of_date, IsDateOfCalendar, day_number_of_date}
 use Rattle.date_texts.specs.DateText.{canonical_text}
 use Rattle.date_texts.specs.declared.calendar.Calendar.{Calendar}
@@ -27,8 +28,8 @@ numbered_name number name = decimal number ++ 32 ∷ name
 -- tzolkin its number and its name, 11 Muluc
 abbrev pub IsCell : Target → ℤ → List ℕ → Type 0
 IsCell (DateTarget calendar) n text = IsDateCell calendar n text
-IsCell Haab n text = text ≡ numbered_name (haab_of n).0 (month_name (haab_of n).1)
-IsCell Tzolkin n text = text ≡ numbered_name (tzolkin_of n).0 (name_text (tzolkin_of n).1)
+IsCell Haab n text = text ≡ numbered_name (haab_of n).0 (name_of_number month_names (haab_of n).1)
+IsCell Tzolkin n text = text ≡ numbered_name (tzolkin_of n).0 (name_of_number name_texts (tzolkin_of n).1)
 
 -- a byte that cells are made of: a digit or a letter of ASCII, a space (32), a dash (45) or a dot (46)
 abbrev pub is_plain : ℕ → Bool

@@ -1,9 +1,13 @@
 -- What contracts say of a year, month and day, and of a fault.
-use Rattle.std.specs.Prelude.{◌≡◌, ◌↔◌, ℕ, ℤ, pos, neg_ℤ, ◌≤◌, Result, Err, IsOk, IfOk}
-use Rattle.day_numbers.specs.Days.{IsBetween, IsDayNumber}
+use Rattle.std.specs.Prelude.{◌≡◌, ◌↔◌, ℕ, ℤ, pos, neg_ℤ, ◌≤◌, ◌≤ℤ◌, Result, Err, IsOk, IfOk}
+use Rattle.day_numbers.specs.Days.{IsDayNumber}
 use Rattle.day_numbers.specs.declared.day.Day.{Day}
 use Rattle.day_numbers.specs.declared.calendar.DateFault.{DateFault}
 use Rattle.day_numbers.specs.declared.calendar.DateFault.TheVariants.{NoSuchDate, OutOfRange}
+
+-- z lies from low to high, both included
+abbrev pub IsBetween : ℤ → ℤ → ℤ → Type 0
+IsBetween low high z = (low ≤ℤ z) × (z ≤ℤ high)
 
 -- a year that a date can be written with
 abbrev pub IsYear : ℤ → Type 0

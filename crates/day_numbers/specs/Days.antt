@@ -2,17 +2,14 @@
 -- A fixed day number, R.D., counts days; day 1 is Monday, 1 January of the Gregorian year 1.
 use Rattle.std.specs.Prelude.{ℕ, ℤ, pos, neg_ℤ, ◌≤ℤ◌, unsigned_abs, Option, IfSome, List, [], ◌∷◌, codes}
 use Rattle.std.specs.Int.{int_rem_euclid}
+use Rattle.day_numbers.specs.Numbered.{words}
 use Rattle.day_numbers.specs.declared.day.Weekday.{Weekday}
 use Rattle.day_numbers.specs.declared.day.Weekday.TheVariants.{Sunday, Monday, Tuesday, Wednesday, Thursday, Friday}
 use Rattle.day_numbers.specs.declared.day.Weekday.TheVariants.{Saturday}
 
--- z lies from low to high, both included
-abbrev pub IsBetween : ℤ → ℤ → ℤ → Type 0
-IsBetween low high z = (low ≤ℤ z) × (z ≤ℤ high)
-
 -- a day from 1 January -9999 to 31 December 9999, Gregorian
 abbrev pub IsDayNumber : ℤ → Type 0
-IsDayNumber n = IsBetween (neg_ℤ (pos 3_652_424)) (pos 3_652_059) n
+IsDayNumber n = (neg_ℤ (pos 3_652_424) ≤ℤ n) × (n ≤ℤ pos 3_652_059)
 
 -- a day of a calendar that has a first day, or any day where it has none
 abbrev pub IsSinceFirstDay : Option ℤ → ℤ → Type 0
@@ -26,11 +23,6 @@ weekday_number n = unsigned_abs (int_rem_euclid n (pos 7))
 abbrev pub all_weekdays : List Weekday
 all_weekdays = Sunday ∷ Monday ∷ Tuesday ∷ Wednesday ∷ Thursday ∷ Friday ∷ Saturday ∷ []
 
-abbrev pub weekday_name : Weekday → List ℕ
-weekday_name Sunday = codes "Sunday"
-weekday_name Monday = codes "Monday"
-weekday_name Tuesday = codes "Tuesday"
-weekday_name Wednesday = codes "Wednesday"
-weekday_name Thursday = codes "Thursday"
-weekday_name Friday = codes "Friday"
-weekday_name Saturday = codes "Saturday"
+-- their names, in the same order
+abbrev pub weekday_names : List (List ℕ)
+weekday_names = words (codes "Sunday Monday Tuesday Wednesday Thursday Friday Saturday")

@@ -1,4 +1,4 @@
--- What holds of the dates of every calendar by rules. No public contract cites this file.
+-- What holds of the dates of every calendar by rules. The trait `CalendarByRules` asks for it.
 use Rattle.std.specs.Prelude.{◌≡◌}
 use Rattle.day_numbers.specs.Rules.{Rules, IsDateOf, day_number_of, HasDayOf}
 use Rattle.day_numbers.specs.declared.ymd.Ymd.{Ymd}

@@ -1,7 +1,7 @@
 //! Days by their numbers, and the days of the week.
 
-ghost use Rattle.std.specs.Prelude.{◌≡◌, ◌↔◌, IsSome, IfSome, Some, slice_get};
-ghost use Rattle.day_numbers.specs.Days.{IsDayNumber, weekday_number, all_weekdays, weekday_name};
+ghost use Rattle.std.specs.Prelude.{◌≡◌, ◌↔◌, ℕ, [], IsSome, IfSome, Some, get_or, slice_get};
+ghost use Rattle.day_numbers.specs.Days.{IsDayNumber, weekday_number, all_weekdays, weekday_names};
 
 /// A day by its fixed day number (R.D.), which counts days: R.D. 1 is Monday, 1 January of year 1 of
 /// the proleptic Gregorian calendar (Reingold and Dershowitz, *Calendrical Calculations*).
@@ -73,8 +73,10 @@ pub enum Weekday {
 
 impl Weekday {
     /// The English name, from `Sunday` to `Saturday`.
+    #[tactic(auto, using(crate::proofs::NameLemmas::weekday_named))]
     pub fn name(&self) -> &str
-        ensures { result.now ≡ weekday_name self.now }
+        ensures { (number : ℕ) → slice_get all_weekdays number ≡ Some self.now
+            → result.now ≡ get_or weekday_names number [] }
     {
         match self {
             Weekday::Sunday => "Sunday",

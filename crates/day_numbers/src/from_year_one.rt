@@ -1,7 +1,7 @@
 //! Calendars whose years begin with year 1, in whole numbers from the epoch on.
 
 ghost use Rattle.std.specs.Prelude.{◌≡◌, ◌≤◌, ◌<◌, ◌+◌, List, ℤ, pos, neg_ℤ, IsTrue, length};
-ghost use Rattle.day_numbers.specs.Days.{IsBetween};
+ghost use Rattle.day_numbers.specs.Dates.{IsBetween};
 ghost use Rattle.day_numbers.specs.Rules.{from_one, days_of_years as days_of, total_days, are_months};
 ghost use Rattle.day_numbers.specs.Rules.{days_of_month, days_before_month};
 ghost use Rattle.day_numbers.specs.declared.rules.Month.{Month};

@@ -7,8 +7,8 @@
 ghost use Rattle.std.specs.Prelude.{◌≡◌, ◌↔◌, ◌≤◌, ◌<◌, ◌+◌, ℤ, pos, neg_ℤ, ◌+ℤ◌, ◌≤ℤ◌, ◌<ℤ◌, IsTrue, IsSome};
 ghost use Rattle.std.specs.Prelude.{IfSome, Some, length};
 ghost use Rattle.day_numbers.specs.declared.ymd.Ymd.{Ymd};
-ghost use Rattle.day_numbers.specs.Days.{IsBetween, IsDayNumber};
-ghost use Rattle.day_numbers.specs.Dates.{IsDayOf, IsYear};
+ghost use Rattle.day_numbers.specs.Days.{IsDayNumber};
+ghost use Rattle.day_numbers.specs.Dates.{IsBetween, IsDayOf, IsYear};
 ghost use Rattle.day_numbers.specs.Rules.{Rules, HasYear, HasDayOf, IsDateOf, day_number_of, year_start as start};
 ghost use Rattle.day_numbers.specs.Rules.{year_length, total_days, days_of_month, days_before_month, are_months};
 

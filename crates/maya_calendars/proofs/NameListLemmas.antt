@@ -1,13 +1,11 @@
 -- The lists of the months of the haab and of the names of the tzolkin have each once, in the order of their variants.
-use Rattle.std.proofs.Common.{◌≡◌, ℕ, zero, suc, ◌+◌, ◌-◌, ◌≤◌, Some, refl, sym, ap, ◌∙◌, arith, List, [], map}
-use Rattle.std.proofs.Common.{unwrap_or}
+use Rattle.std.specs.Prelude.{◌∷◌, codes}
+use Rattle.std.proofs.Common.{◌≡◌, ℕ, ◌+◌, ◌-◌, ◌≤◌, refl, arith, List, [], get_or}
 use Rattle.std.proofs.lemmas.Bool.Decides.{nat_tests}
-use Rattle.std.proofs.lemmas.Option.{slice_get-map}
-use Rattle.std.specs.List.{range_with_len, slice_get}
-use Rattle.std.specs.Option.{option_map}
-use Rattle.day_numbers.specs.Numbered.{IsNumbered}
-use Rattle.maya_calendars.specs.HaabNames.{all_months, month_name, month_names, last_day}
-use Rattle.maya_calendars.specs.TzolkinNames.{all_names, name_text, name_texts}
+use Rattle.day_numbers.specs.Numbered.{IsNumbered, name_of_number, words}
+use Rattle.day_numbers.proofs.NameLemmas.{named_by_tag}
+use Rattle.maya_calendars.specs.HaabNames.{all_months, month_names, last_day}
+use Rattle.maya_calendars.specs.TzolkinNames.{all_names, name_texts}
 use Rattle.maya_calendars.specs.declared.haab.HaabMonth.{HaabMonth}
 use Rattle.maya_calendars.specs.declared.haab.HaabMonth.TheVariants.{Pop}
 use Rattle.maya_calendars.specs.declared.tzolkin.TzolkinName.{TzolkinName}
@@ -15,25 +13,26 @@ use Rattle.maya_calendars.specs.contracts.haab.HaabMonth.{the_type as the_months
 use Rattle.maya_calendars.specs.contracts.tzolkin.TzolkinName.{the_type as the_names}
 use denote.Enum.Declared.{tag_of}
 
-range_place : (a n k j : ℕ) → slice_get (range_with_len a n) k ≡ Some j → j ≡ a + k
-range_place a zero k j e = cc
-range_place a (suc n) zero j e = let same : a ≡ j = cc in omega arith
-range_place a (suc n) (suc k) j e = let later = range_place (a + 1) n k j e in omega arith
+-- the names of the months, and of the days, each by itself
+abbrev spelled_months : List (List ℕ)
+spelled_months =
+    codes "Pop" ∷ codes "Uo" ∷ codes "Zip" ∷ codes "Zotz" ∷ codes "Tzec" ∷ codes "Xul" ∷ codes "Yaxkin" ∷ codes "Mol"
+    ∷ codes "Chen" ∷ codes "Yax" ∷ codes "Zac" ∷ codes "Ceh" ∷ codes "Mac" ∷ codes "Kankin" ∷ codes "Muan" ∷ codes "Pax"
+    ∷ codes "Kayab" ∷ codes "Cumku" ∷ codes "Uayeb" ∷ []
 
-place_is : (n k j : ℕ) → slice_get (range_with_len 0 n) k ≡ Some j → j ≡ k
-place_is n k j e = let counted = range_place 0 n k j e in omega arith
+months_spelled : month_names ≡ spelled_months
+unfolding words
+months_spelled = refl
 
--- where tags count the items of a list from 0 on, the item of a number has its text at the place of its tag
-text_by_tag : {A : Type 0} (tag : A → ℕ) (items : List A) (n : ℕ) (texts : List (List ℕ)) (x : A) (number : ℕ)
-    → map tag items ≡ range_with_len 0 n → IsNumbered items number x
-    → unwrap_or (slice_get texts (number - 1)) [] ≡ unwrap_or (slice_get texts (tag x + 1 - 1)) []
-text_by_tag tag items n texts x number counted e =
-    let tag_at : slice_get (range_with_len 0 n) (number - 1) ≡ Some (tag x) =
-    ap (λ tags. slice_get tags (number - 1)) (sym counted) ∙ slice_get-map tag items (number - 1)
-    ∙ ap (option_map tag) e.1 in
-    let place = place_is n (number - 1) (tag x) tag_at in
-    let same : number - 1 ≡ tag x + 1 - 1 = omega arith in
-    ap (λ k. unwrap_or (slice_get texts k) []) same
+abbrev spelled_names : List (List ℕ)
+spelled_names =
+    codes "Imix" ∷ codes "Ik" ∷ codes "Akbal" ∷ codes "Kan" ∷ codes "Chicchan" ∷ codes "Cimi" ∷ codes "Manik"
+    ∷ codes "Lamat" ∷ codes "Muluc" ∷ codes "Oc" ∷ codes "Chuen" ∷ codes "Eb" ∷ codes "Ben" ∷ codes "Ix" ∷ codes "Men"
+    ∷ codes "Cib" ∷ codes "Caban" ∷ codes "Etznab" ∷ codes "Cauac" ∷ codes "Ahau" ∷ []
+
+names_spelled : name_texts ≡ spelled_names
+unfolding words
+names_spelled = refl
 
 -- a month stands at the place of its tag, and only there
 pub month_at : (m : HaabMonth) → IsNumbered all_months (tag_of the_months m + 1) m
@@ -41,8 +40,9 @@ month_at Pop = (omega arith, refl)
 month_at m = (omega arith, refl)
 
 pub month_named : (m : HaabMonth) (number : ℕ) → IsNumbered all_months number m
-    → month_name number ≡ month_name (tag_of the_months m + 1)
-month_named m number e = text_by_tag (tag_of the_months) all_months 19 month_names m number refl e
+    → name_of_number month_names number ≡ get_or spelled_months (tag_of the_months m) []
+month_named m number e =
+    named_by_tag (tag_of the_months) all_months 19 (number - 1) m month_names spelled_months refl months_spelled e.1
 
 -- the last day of a month is 19 at most
 pub day_below : (day : ℕ) (m : HaabMonth)
@@ -52,5 +52,6 @@ day_below day m h =
 
 -- so does a name
 pub name_named : (name : TzolkinName) (place : ℕ) → IsNumbered all_names place name
-    → name_text place ≡ name_text (tag_of the_names name + 1)
-name_named name place e = text_by_tag (tag_of the_names) all_names 20 name_texts name place refl e
+    → name_of_number name_texts place ≡ get_or spelled_names (tag_of the_names name) []
+name_named name place e =
+    named_by_tag (tag_of the_names) all_names 20 (place - 1) name name_texts spelled_names refl names_spelled e.1

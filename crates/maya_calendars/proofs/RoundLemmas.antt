@@ -1,11 +1,12 @@
 -- Rounds by remainders: what is a place by a remainder of the days moves one place on each day.
-use Rattle.std.proofs.Common.{◌≡◌, ℕ, zero, suc, ◌+◌, ◌-◌, ◌<◌, ◌%◌, ◌==◌, if◌then◌else◌, refl, sym, subst, ap}
+use Rattle.std.proofs.Common.{◌≡◌, ℕ, zero, suc, ◌+◌, ◌-◌, ◌<◌, ◌%◌, ◌==◌, if◌then◌else◌, sym, subst, ap}
 use Rattle.std.proofs.Common.{zero-add, ◌≤◌, ◌∙◌, arith, add-one, ℤ, pos, negsuc, ◌+ℤ◌, ◌-ℤ◌, unsigned_abs}
 use Rattle.std.proofs.Math.Nat.{mod-add-mod, mod_self, mod-eq_of_lt}
+use Rattle.std.specs.Fn.{iterate}
 use Rattle.std.specs.Int.{int_rem_euclid}
 use Rattle.std.proofs.lemmas.Bool.Decides.{nat_tests}
 use Rattle.std.proofs.lemmas.Int.{ints}
-use Rattle.maya_calendars.specs.Rounds.{epoch, number_after, number_before, after_steps, after_days, round_number}
+use Rattle.maya_calendars.specs.Rounds.{epoch, number_after, number_before, after_days, round_number}
 use Rattle.maya_calendars.specs.Rounds.{StepsOnEachDay}
 
 below_zero_next : (n : ℕ) → negsuc (suc n) +ℤ pos 1 ≡ negsuc n
@@ -13,27 +14,32 @@ below_zero_next n = omega (arith, ints)
 
 -- names that a step on leads from day to day, and that a step back undoes, are those that the steps from
 -- the first name lead to
-steps_on : {A : Type 0} → (on : A → A) (name_of : ℤ → A) → StepsOnEachDay on name_of → (n : ℕ)
-    → after_steps on n (name_of (pos 0)) ≡ name_of (pos n)
-unfolding after_steps
-steps_on on name_of each_day zero = refl
-steps_on on name_of each_day (suc n) =
-    ap on (steps_on on name_of each_day n) ∙ sym (each_day (pos n)) ∙ ap (λ k. name_of (pos k)) (add-one n)
+steps_on : {A : Type 0} → (on : A → A) (name_of : ℤ → A) → StepsOnEachDay on name_of → (n : ℕ) (day : ℤ)
+    → iterate on n (name_of day) ≡ name_of (day +ℤ pos n)
+steps_on on name_of each_day zero day = let same : day ≡ day +ℤ pos 0 = omega (arith, ints) in ap name_of same
+steps_on on name_of each_day (suc n) day =
+    let next : day +ℤ pos 1 +ℤ pos n ≡ day +ℤ pos (suc n) = omega (arith, ints) in
+    ap (iterate on n) (sym (each_day day)) ∙ steps_on on name_of each_day n (day +ℤ pos 1) ∙ ap name_of next
 
 steps_back : {A : Type 0} → (back : A → A) (name_of : ℤ → A) → ((day : ℤ) → back (name_of (day +ℤ pos 1)) ≡ name_of day)
-    → (n : ℕ) → after_steps back (suc n) (name_of (pos 0)) ≡ name_of (negsuc n)
-unfolding after_steps
-steps_back back name_of undone zero = undone (negsuc 0)
-steps_back back name_of undone (suc n) =
-    ap back (steps_back back name_of undone n ∙ ap name_of (sym (below_zero_next n))) ∙ undone (negsuc (suc n))
+    → (n : ℕ) (day : ℤ) → iterate back n (name_of day) ≡ name_of (day -ℤ pos n)
+steps_back back name_of undone zero day = let same : day ≡ day -ℤ pos 0 = omega (arith, ints) in ap name_of same
+steps_back back name_of undone (suc n) day =
+    let before : day ≡ day -ℤ pos 1 +ℤ pos 1 = omega (arith, ints) in
+    let next : day -ℤ pos 1 -ℤ pos n ≡ day -ℤ pos (suc n) = omega (arith, ints) in
+    ap (λ d. iterate back n (back (name_of d))) before ∙ ap (iterate back n) (undone (day -ℤ pos 1))
+    ∙ steps_back back name_of undone n (day -ℤ pos 1) ∙ ap name_of next
 
 pub after_days_are : {A : Type 0} → (on back : A → A) (name_of : ℤ → A) → StepsOnEachDay on name_of
     → ((day : ℤ) → back (on (name_of day)) ≡ name_of day) → (day : ℤ)
     → after_days on back (name_of (pos 0)) day ≡ name_of day
 unfolding after_days
-after_days_are on back name_of each_day undone (pos n) = steps_on on name_of each_day n
+after_days_are on back name_of each_day undone (pos n) =
+    let counted : pos 0 +ℤ pos n ≡ pos n = omega (arith, ints) in
+    steps_on on name_of each_day n (pos 0) ∙ ap name_of counted
 after_days_are on back name_of each_day undone (negsuc n) =
-    steps_back back name_of (λ day. ap back (each_day day) ∙ undone day) n
+    let counted : pos 0 -ℤ pos (suc n) ≡ negsuc n = omega (arith, ints) in
+    steps_back back name_of (λ day. ap back (each_day day) ∙ undone day) (suc n) (pos 0) ∙ ap name_of counted
 
 -- so a step on leads from the name of each day to the next, also where the days are counted from the epoch
 pub each_day_from_epoch : {A : Type 0} → (on back : A → A) (name_of : ℤ → A) → StepsOnEachDay on name_of

@@ -1,6 +1,7 @@
 -- The haab, a round of 365 names: days 0 to 19 of eighteen months, and days 0 to 4 of Uayeb (Reingold and
 -- Dershowitz, Calendrical Calculations, "The Mayan Calendars").
-use Rattle.std.specs.Prelude.{ℕ, ◌+◌, ◌-◌, ◌==◌, if◌then◌else◌, ℤ, ◌-ℤ◌, List, [], ◌∷◌, codes, slice_get, unwrap_or}
+use Rattle.std.specs.Prelude.{ℕ, ◌+◌, ◌-◌, ◌==◌, if◌then◌else◌, ℤ, ◌-ℤ◌, List, [], ◌∷◌, codes}
+use Rattle.day_numbers.specs.Numbered.{words}
 use Rattle.maya_calendars.specs.Rounds.{epoch, number_after, number_before, after_days}
 use Rattle.maya_calendars.specs.declared.haab.HaabMonth.{HaabMonth}
 use Rattle.maya_calendars.specs.declared.haab.HaabMonth.TheVariants.{Pop, Uo, Zip, Zotz, Tzec, Xul, Yaxkin, Mol, Chen}
@@ -15,14 +16,7 @@ all_months =
 
 -- their names, in the same order
 abbrev pub month_names : List (List ℕ)
-month_names =
-    codes "Pop" ∷ codes "Uo" ∷ codes "Zip" ∷ codes "Zotz" ∷ codes "Tzec" ∷ codes "Xul" ∷ codes "Yaxkin" ∷ codes "Mol"
-    ∷ codes "Chen" ∷ codes "Yax" ∷ codes "Zac" ∷ codes "Ceh" ∷ codes "Mac" ∷ codes "Kankin" ∷ codes "Muan" ∷ codes "Pax"
-    ∷ codes "Kayab" ∷ codes "Cumku" ∷ codes "Uayeb" ∷ []
-
--- the name of the month of this number
-abbrev pub month_name : ℕ → List ℕ
-month_name number = unwrap_or (slice_get month_names (number - 1)) []
+month_names = words (codes "Pop Uo Zip Zotz Tzec Xul Yaxkin Mol Chen Yax Zac Ceh Mac Kankin Muan Pax Kayab Cumku Uayeb")
 
 -- the last day of the month of this number: 4 in Uayeb, which is month 19, and 19 in the others
 abbrev pub last_day : ℕ → ℕ

@@ -1,6 +1,7 @@
 -- Names that move one place on in a round from each day to the next (Reingold and Dershowitz,
 -- Calendrical Calculations, "The Mayan Calendars").
-use Rattle.std.specs.Prelude.{◌≡◌, ℕ, zero, suc, ◌+◌, ◌-◌, ◌==◌, if◌then◌else◌, ℤ, pos, negsuc, neg_ℤ, ◌+ℤ◌, ◌-ℤ◌}
+use Rattle.std.specs.Prelude.{◌≡◌, ℕ, suc, ◌+◌, ◌-◌, ◌==◌, if◌then◌else◌, ℤ, pos, negsuc, neg_ℤ, ◌+ℤ◌, ◌-ℤ◌}
+use Rattle.std.specs.Fn.{iterate}
 
 -- the day number of the day whose long count is 0.0.0.0.0
 abbrev pub epoch : ℤ
@@ -14,15 +15,10 @@ number_after n k = if k == n then 1 else k + 1
 abbrev pub number_before : ℕ → ℕ → ℕ
 number_before n k = if k == 1 then n else k - 1
 
--- what this many steps lead to
-unfoldable pub after_steps : {A : Type 0} → (A → A) → ℕ → A → A
-after_steps step zero a = a
-after_steps step (suc n) a = step (after_steps step n a)
-
 -- a step on for each day after the first, or a step back for each day before it
 unfoldable pub after_days : {A : Type 0} → (A → A) → (A → A) → A → ℤ → A
-after_days on back first (pos n) = after_steps on n first
-after_days on back first (negsuc n) = after_steps back (suc n) first
+after_days on back first (pos n) = iterate on n first
+after_days on back first (negsuc n) = iterate back (suc n) first
 
 -- the number of a day in the round of the numbers 1 to n, which is `first` on the epoch and moves one
 -- place on each day

@@ -1,6 +1,7 @@
 -- The tzolkin: a number from 1 to 13 and one of twenty names, which both move one place on each day
 -- (Reingold and Dershowitz, Calendrical Calculations, "The Mayan Calendars").
-use Rattle.std.specs.Prelude.{ℕ, ◌-◌, ℤ, List, [], ◌∷◌, codes, slice_get, unwrap_or}
+use Rattle.std.specs.Prelude.{ℕ, ℤ, List, [], ◌∷◌, codes}
+use Rattle.day_numbers.specs.Numbered.{words}
 use Rattle.maya_calendars.specs.Rounds.{number_after, round_number}
 use Rattle.maya_calendars.specs.declared.tzolkin.TzolkinName.{TzolkinName}
 use Rattle.maya_calendars.specs.declared.tzolkin.TzolkinName.TheVariants.{Imix, Ik, Akbal, Kan, Chicchan, Cimi, Manik}
@@ -16,13 +17,7 @@ all_names =
 -- how they are written, in the same order
 abbrev pub name_texts : List (List ℕ)
 name_texts =
-    codes "Imix" ∷ codes "Ik" ∷ codes "Akbal" ∷ codes "Kan" ∷ codes "Chicchan" ∷ codes "Cimi" ∷ codes "Manik"
-    ∷ codes "Lamat" ∷ codes "Muluc" ∷ codes "Oc" ∷ codes "Chuen" ∷ codes "Eb" ∷ codes "Ben" ∷ codes "Ix" ∷ codes "Men"
-    ∷ codes "Cib" ∷ codes "Caban" ∷ codes "Etznab" ∷ codes "Cauac" ∷ codes "Ahau" ∷ []
-
--- the name at this place as it is written
-abbrev pub name_text : ℕ → List ℕ
-name_text place = unwrap_or (slice_get name_texts (place - 1)) []
+    words (codes "Imix Ik Akbal Kan Chicchan Cimi Manik Lamat Muluc Oc Chuen Eb Ben Ix Men Cib Caban Etznab Cauac Ahau")
 
 -- the tzolkin of a day, as its number and the place of its name; that of the epoch is 4 Ahau, the last name
 abbrev pub tzolkin_of : ℤ → ℕ × ℕ

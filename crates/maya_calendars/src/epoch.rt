@@ -1,7 +1,7 @@
 //! The day from which long counts, the haab and the tzolkin are counted.
 
 ghost use Rattle.std.specs.Prelude.{◌≡◌, pos, neg_ℤ, ◌-ℤ◌};
-ghost use Rattle.day_numbers.specs.Days.{IsBetween};
+ghost use Rattle.day_numbers.specs.Dates.{IsBetween};
 ghost use Rattle.maya_calendars.specs.Rounds.{epoch};
 
 use day_numbers::Day;

@@ -1,8 +1,8 @@
 //! The haab: eighteen months of twenty days, and five days behind them.
 
 ghost use Rattle.std.specs.Prelude.{◌≡◌, ◌≤◌, ℕ};
-ghost use Rattle.maya_calendars.specs.HaabNames.{all_months, month_name, last_day, haab_after, haab_of};
-ghost use Rattle.day_numbers.specs.Numbered.{IsNumbered};
+ghost use Rattle.maya_calendars.specs.HaabNames.{all_months, month_names, last_day, haab_after, haab_of};
+ghost use Rattle.day_numbers.specs.Numbered.{IsNumbered, name_of_number};
 ghost use Rattle.maya_calendars.specs.Rounds.{StepsOnEachDay};
 
 use crate::round::number_on;
@@ -91,7 +91,8 @@ impl Haab {
     /// The name of the month, from `Pop` to `Uayeb`.
     #[tactic(auto, using(crate::proofs::NameListLemmas::month_named))]
     pub fn month_name(&self) -> &str
-        ensures { (number : ℕ) → IsNumbered all_months number self.now.month → result.now ≡ month_name number }
+        ensures { (number : ℕ) → IsNumbered all_months number self.now.month
+            → result.now ≡ name_of_number month_names number }
     {
         match self.month {
             HaabMonth::Pop => "Pop",

@@ -1,8 +1,8 @@
 //! The tzolkin: thirteen numbers and twenty names, which both move on from each day to the next.
 
 ghost use Rattle.std.specs.Prelude.{◌≡◌, ◌≤◌, ℕ};
-ghost use Rattle.maya_calendars.specs.TzolkinNames.{all_names, name_text, tzolkin_after, tzolkin_of};
-ghost use Rattle.day_numbers.specs.Numbered.{IsNumbered};
+ghost use Rattle.maya_calendars.specs.TzolkinNames.{all_names, name_texts, tzolkin_after, tzolkin_of};
+ghost use Rattle.day_numbers.specs.Numbered.{IsNumbered, name_of_number};
 ghost use Rattle.maya_calendars.specs.Rounds.{StepsOnEachDay};
 
 use crate::round::number_on;
@@ -84,7 +84,8 @@ impl Tzolkin {
     /// The day name, from `Imix` to `Ahau`.
     #[tactic(auto, using(crate::proofs::NameListLemmas::name_named))]
     pub fn name(&self) -> &str
-        ensures { (place : ℕ) → IsNumbered all_names place self.now.name → result.now ≡ name_text place }
+        ensures { (place : ℕ) → IsNumbered all_names place self.now.name
+            → result.now ≡ name_of_number name_texts place }
     {
         match self.name {
             TzolkinName::Imix => "Imix",

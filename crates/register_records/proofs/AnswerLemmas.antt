@@ -3,9 +3,9 @@ use Rattle.std.proofs.Common.{◌≡◌, ◌<◌, ◌≤◌, ◌+◌, ◌++◌, 
 use Rattle.std.proofs.Common.{add-one, arith, append-nil, drop, drop-cons, get_or, length, length-drop}
 use Rattle.std.proofs.Common.{map, subst}
 use Rattle.std.proofs.Common.{set, take}
-use Rattle.std.specs.Prelude.{◌==◌, ℤ, pos, negsuc, zero, suc, Bool, cond, Ok, Err, Result}
+use Rattle.std.specs.Prelude.{◌==◌, ℤ, pos, negsuc, zero, suc, Bool, IsTrue, nat_le, cond, Ok, Err, Result}
 use Rattle.std.specs.Fmt.{decimal, signed_decimal}
-use Rattle.std.specs.List.{AllZip, flat_map, onto_first, slice_split}
+use Rattle.std.specs.List.{AllZip, flat_map, list_all, onto_first, slice_split}
 use Rattle.std.proofs.lemmas.Bool.{or_parts}
 use Rattle.std.proofs.lemmas.Bool.Decides.{nat_tests}
 use Rattle.std.proofs.lemmas.Fmt.{length-decimal-le, length_signed_le}
@@ -14,9 +14,11 @@ use Rattle.std.proofs.lemmas.List.{at_drop_more, map-append, take_all, take_at}
 use Rattle.std.proofs.lemmas.List.Splits.{length-slice_split}
 use borrow.Rule.Slice.PartMut.{put_mid}
 use Rattle.csv.specs.Writing.{fields_text, needs_byte, needs_quotes}
-use Rattle.day_numbers.specs.Days.{IsDayNumber}
+use Rattle.day_numbers.specs.Days.{IsDayNumber, weekday_names}
+use Rattle.day_numbers.specs.Numbered.{words}
+use Rattle.day_numbers.proofs.NameLemmas.{each_name}
 use Rattle.day_numbers.specs.declared.day.Day.{Day}
-use Rattle.date_texts.specs.Cells.{IsCell}
+use Rattle.date_texts.specs.Cells.{IsCell, is_plain}
 use Rattle.date_texts.specs.Refusals.{refusal_number}
 use Rattle.date_texts.specs.declared.calendar.Target.{Target}
 use Rattle.date_texts.specs.declared.refusal.Refusal.{Refusal}
@@ -26,8 +28,8 @@ use Rattle.register_records.specs.Answers.{cells_of, fields_of}
 use Rattle.register_records.specs.Columns.{Column, cell_columns}
 use Rattle.register_records.specs.TableColumns.{AreFields, IsCellField, answer_field, answer_order, answer_texts}
 use Rattle.register_records.specs.TableColumns.{answered}
-use Rattle.register_records.specs.LineRoom.{columns_room, plain_room}
-use Rattle.register_records.specs.Lines.{fields_behind, writing}
+use Rattle.register_records.specs.LineRoom.{columns_room, plain_room, writing}
+use Rattle.register_records.specs.Lines.{fields_behind}
 use Rattle.register_records.specs.Outcomes.{AreCells}
 use Rattle.register_records.specs.Seen.{outcome_seen}
 use Rattle.register_records.specs.SetupRules.{is_delimiter}
@@ -141,6 +143,22 @@ pub refusal_length : (r : Refusal) → length (decimal (refusal_number r)) ≤ 1
 refusal_length r =
     let below = refusal_below r in
     length-decimal-le 1 (refusal_number r) (omega arith) (omega (arith, below)) (omega (arith, below))
+
+-- the name of a weekday has nine, and needs no quotes
+abbrev is_short : List ℕ → Bool
+is_short name = nat_le (length name) 9
+
+short_length : (name : List ℕ) → IsTrue (is_short name) → length name ≤ 9
+short_length name h = grind (arith, nat_tests)
+
+pub weekday_length : (number : ℕ) → length (get_or weekday_names number []) ≤ 9
+unfolding words
+weekday_length number = short_length _ (each_name is_short weekday_names number refl refl)
+
+pub plain_weekday : (d : ℕ) → is_delimiter d ≡ true → (number : ℕ)
+    → needs_quotes (writing d) (get_or weekday_names number []) ≡ false
+unfolding words
+plain_weekday d h number = plain_bytes d h _ (each_name (list_all is_plain) weekday_names number refl refl)
 
 -- one more that stands beside one more
 pub one_more_beside : {A B : Type 0} (R : A → B → Type 0) (xs : List A) (ys : List B) (x : A) (y : B) → AllZip R xs ys

@@ -13,7 +13,7 @@ use Rattle.date_texts.specs.declared.refusal.Refusal.{Refusal}
 use Rattle.date_texts.specs.declared.refusal.Refusal.TheVariants as refusal
 use Rattle.register_records.specs.BareTexts.{has_special, is_special_byte}
 use Rattle.register_records.specs.Entries.{are_short, are_utf8, body_of}
-use Rattle.register_records.specs.Lines.{writing}
+use Rattle.register_records.specs.LineRoom.{writing}
 use Rattle.register_records.specs.Records.{Fields, Texts}
 use Rattle.register_records.specs.SetupRules.{is_delimiter}
 use Rattle.register_records.specs.Columns.{shown}

@@ -1,6 +1,6 @@
 -- Every accepted text has a table: what the text, a date and a day decide can be decided.
-use Rattle.std.proofs.Common.{◌≡◌, ◌+◌, ℕ, List, [], ◌∷◌, Bool, true, false, inl, inr, refl, subst, sym}
-use Rattle.std.specs.List.{AllZip}
+use Rattle.std.proofs.Common.{◌≡◌, ◌+◌, ℕ, List, [], ◌∷◌, Bool, true, false, inl, inr, refl, subst, sym, map, length}
+use Rattle.std.specs.List.{AllZip, range_with_len}
 use Rattle.std.specs.Prelude.{ℤ, Result, Ok, Err, nat_lt, if◌then◌else◌}
 use Rattle.date_texts.specs.Calendars.{calendar_name}
 use Rattle.date_texts.specs.Cells.{IsCell}
@@ -13,7 +13,7 @@ use Rattle.date_texts.specs.declared.refusal.Refusal.{Refusal}
 use Rattle.date_texts.specs.declared.refusal.Refusal.TheVariants as refusal
 use Rattle.date_texts.proofs.DateDecisionLemmas.{has_cell, is_date_of_calendar, names_calendar, says_date}
 use Rattle.date_texts.proofs.DecisionLemmas.{is_between}
-use Rattle.register_records.specs.Entries.{AreNumberedFrom, Numbered, entries_from, record_limit}
+use Rattle.register_records.specs.Entries.{Numbered, entries_from, record_limit}
 use Rattle.register_records.specs.Laws.{EveryTextHasTable}
 use Rattle.register_records.specs.Outcomes.{AreCells, IsOutcome, IsRowOf, Says, TableRow, accepted}
 use Rattle.register_records.specs.Outcomes.{no_date_text, no_such_date, out_of_range, refused, unknown_calendar}
@@ -67,14 +67,17 @@ has_row ts entry =
     )
 
 -- the entries of records are numbered in order
-numbered_if : (b : Bool) (k : ℕ) (entry : Numbered) (entries : List Numbered) → entry.number ≡ k
-    → AreNumberedFrom (k + 1) entries → AreNumberedFrom k (if b then entry ∷ entries else [])
-numbered_if true k entry entries is rest = (is, rest)
-numbered_if false k entry entries is rest = tt
+abbrev AreInOrder : ℕ → List Numbered → Type 0
+AreInOrder k entries = map (λ (entry : Numbered). entry.number) entries ≡ range_with_len k (length entries)
 
-numbered : (form : Form) (k : ℕ) (records : List Fields) → AreNumberedFrom (k + 1) (entries_from form k records)
+numbered_if : (b : Bool) (k : ℕ) (entry : Numbered) (entries : List Numbered) → entry.number ≡ k
+    → AreInOrder (k + 1) entries → AreInOrder k (if b then entry ∷ entries else [])
+numbered_if true k entry entries is rest = cc (is, rest)
+numbered_if false k entry entries is rest = refl
+
+numbered : (form : Form) (k : ℕ) (records : List Fields) → AreInOrder (k + 1) (entries_from form k records)
 unfolding entries_from
-numbered form k [] = tt
+numbered form k [] = refl
 numbered form k (r ∷ rest) = numbered_if (nat_lt k record_limit) (k + 1) _ _ refl (numbered form (k + 1) rest)
 
 pub every_text_has_table : EveryTextHasTable
@@ -89,7 +92,7 @@ every_text_has_table layout text entries is =
         entries = entries;
         rows = rows.0;
         table = record {
-          numbered = subst (λ es. AreNumberedFrom 1 es) (sym are) (numbered layout.format.form 0 _);
+          numbered = subst (λ es. AreInOrder 1 es) (sym are) (numbered layout.format.form 0 _);
           converted = rows.1;
           written = refl;
         };

@@ -14,19 +14,18 @@ use Rattle.std.proofs.Math.Seq.{take-append-add}
 use borrow.Rule.Slice.PartMut.{put_mid}
 use Rattle.std.proofs.lemmas.List.Folds.{list_any-append}
 use Rattle.std.specs.List.{flat_map, list_all}
-use Rattle.std.specs.Result.{result_ok}
 use Rattle.csv.specs.Writing.{field_text, fields_text, is_blank, needs_byte, needs_quotes, row_body}
 use Rattle.csv.proofs.WriteFacts.{fields-snoc}
 use Rattle.day_numbers.specs.Days.{IsDayNumber}
-use Rattle.register_records.specs.LineRoom.{columns_room, entry_room, number_room, quoted_room}
-use Rattle.register_records.specs.Lines.{line_text, writing}
+use Rattle.register_records.specs.LineRoom.{columns_room, entry_room, number_room, quoted_room, writing}
+use Rattle.register_records.specs.Lines.{line_text}
 use Rattle.register_records.specs.SetupRules.{is_delimiter}
 use Rattle.date_texts.specs.Cells.{is_plain}
 use Rattle.date_texts.specs.Calendars.{target_name}
 use Rattle.date_texts.specs.declared.calendar.Target.{Target}
-use Rattle.register_records.specs.Columns.{Column, cell_columns, shown, weekday_text}
-use Rattle.register_records.specs.TableColumns.{answer_order, answer_texts, answered, column_name, column_names}
-use Rattle.register_records.specs.TableColumns.{entry_field, entry_order, heading, row_fields}
+use Rattle.register_records.specs.Columns.{Column, cell_columns}
+use Rattle.register_records.specs.TableColumns.{answer_field, answer_order, answer_texts, answered, column_name}
+use Rattle.register_records.specs.TableColumns.{column_names, entry_field, entry_order, heading, row_fields}
 use Rattle.register_records.specs.Outcomes.{TableRow}
 use Rattle.register_records.specs.declared.setups.Form.{Form}
 use Rattle.register_records.specs.declared.setups.Form.TheVariants.{Plain, Sealed}
@@ -234,9 +233,9 @@ pub fields_in_parts : (form : Form) (ts : List Target) (row : TableRow)
     → row_fields form ts row ≡ map (entry_field row) (entry_order form) ++ answer_texts ts row.outcome row.cells
 fields_in_parts Plain ts row =
     ap (λ (fields : List (List ℕ)). map (entry_field row) (entry_order Plain)
-    ++ (shown signed_decimal (result_ok row.outcome) ∷ shown weekday_text (result_ok row.outcome) ∷ fields))
+    ++ (answer_field row.outcome DayNumber ∷ answer_field row.outcome Weekday ∷ fields))
     (cell_fields row 0 ts _ _ refl refl)
 fields_in_parts Sealed ts row =
     ap (λ (fields : List (List ℕ)). map (entry_field row) (entry_order Sealed)
-    ++ (shown signed_decimal (result_ok row.outcome) ∷ shown weekday_text (result_ok row.outcome) ∷ fields))
+    ++ (answer_field row.outcome DayNumber ∷ answer_field row.outcome Weekday ∷ fields))
     (cell_fields row 0 ts _ _ refl refl)

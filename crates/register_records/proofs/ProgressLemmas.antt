@@ -1,14 +1,15 @@
 -- How far the table of a source has come.
-use Rattle.std.proofs.Common.{◌≡◌, ◌+◌, ◌++◌, ℕ, List, [], ◌∷◌, length, Option, refl, sym, ap, ◌∙◌, arith}
+use Rattle.std.proofs.Common.{◌≡◌, ◌+◌, ◌++◌, ℕ, List, [], ◌∷◌, length, map, Option, refl, sym, ap, ◌∙◌, arith}
 use Rattle.std.proofs.Common.{append_assoc, inl, inr}
 use Rattle.std.specs.Prelude.{IfSome, Some}
 use Rattle.std.specs.Io.KnownBytes.{Appends}
+use Rattle.std.specs.List.{range_with_len}
 use Rattle.std.proofs.KnownBytes.{Appends-trans}
 use Rattle.std.proofs.Math.Logic.{∥∥₁_map}
 use Rattle.std.proofs.lemmas.List.{append-nil, length-append}
 use Rattle.register_records.specs.Causes.{row_fault_cause}
 use Rattle.register_records.specs.Conversions.{Progress}
-use Rattle.register_records.specs.Entries.{AreNumberedFrom, Format, HasEntries, HasFirstEntries, Numbered}
+use Rattle.register_records.specs.Entries.{Format, HasEntries, HasFirstEntries, Numbered}
 use Rattle.register_records.specs.Laws.{TablesGrow}
 use Rattle.register_records.specs.Outcomes.{IsRowOf, TableRow}
 use Rattle.register_records.specs.Sources.{ArePartOfTable, Gains, IsFrontOfTable, IsWholeTable}
@@ -22,9 +23,15 @@ use Rattle.register_records.proofs.AnswerLemmas.{one_more_beside}
 
 -- one more at the end
 numbered_last : (j : ℕ) (entries : List Numbered) (x : Numbered)
-    → AreNumberedFrom j entries → x.number ≡ j + length entries → AreNumberedFrom j (entries ++ x ∷ [])
-numbered_last j [] x h e = (omega (arith, e), tt)
-numbered_last j (y ∷ entries) x h e = (h.0, numbered_last (j + 1) entries x h.1 (omega (arith, e)))
+    → map (λ (entry : Numbered). entry.number) entries ≡ range_with_len j (length entries)
+    → x.number ≡ j + length entries
+    → map (λ (entry : Numbered). entry.number) (entries ++ x ∷ []) ≡ range_with_len j (length (entries ++ x ∷ []))
+numbered_last j [] x h e = let first : x.number ≡ j = omega (arith, e) in ap (λ (n : ℕ). n ∷ []) first
+numbered_last j (y ∷ entries) x h e =
+    let first : y.number ≡ j = cc h in
+    let rest : map (λ (entry : Numbered). entry.number) entries ≡ range_with_len (j + 1) (length entries) = cc h in
+    let more = numbered_last (j + 1) entries x rest (omega (arith, e)) in
+    cc (first, more)
 
 lines_last : (layout : Layout) (rows : List TableRow) (row : TableRow)
     → lines_text layout (rows ++ row ∷ []) ≡ lines_text layout rows ++ row_line layout row
@@ -58,7 +65,7 @@ start layout old now a =
     record {
       rows = [];
       bytes = heading_line layout;
-      table = record { numbered = tt; converted = tt; written = sym (append-nil (heading_line layout)) };
+      table = record { numbered = refl; converted = tt; written = sym (append-nil (heading_line layout)) };
       gained = a;
       counted = refl;
       noted = refl;

@@ -1,9 +1,9 @@
 -- The columns of a table: their order, their names, and what stands in them.
-use Rattle.std.specs.Prelude.{◌+◌, ℕ, ℤ, List, [], ◌∷◌, ◌++◌, codes, get_or, slice_get, Option}
+use Rattle.std.specs.Prelude.{◌+◌, ℕ, List, [], ◌∷◌, ◌++◌, codes, get_or, Option}
 use Rattle.std.specs.Fmt.{decimal, signed_decimal}
 use Rattle.std.specs.Option.{option_map_or}
 use Rattle.std.specs.Result.{result_err, result_ok}
-use Rattle.day_numbers.specs.Days.{all_weekdays, weekday_name, weekday_number}
+use Rattle.day_numbers.specs.Days.{weekday_names, weekday_number}
 use Rattle.date_texts.specs.Calendars.{target_name}
 use Rattle.date_texts.specs.Refusals.{refusal_number}
 use Rattle.date_texts.specs.declared.calendar.Target.{Target}
@@ -31,10 +31,6 @@ column name field = record { name = name; field = field }
 abbrev pub shown : {A : Type 0} → (A → List ℕ) → Option A → List ℕ
 shown text value = option_map_or text value []
 
--- the name of the weekday of day n
-abbrev pub weekday_text : ℤ → List ℕ
-weekday_text n = shown weekday_name (slice_get all_weekdays (weekday_number n))
-
 -- the column of notes, which only a sealed form has
 abbrev pub note_columns : Form → List Column
 note_columns Plain = []
@@ -56,7 +52,7 @@ columns layout =
     ∷ column (codes "date") (λ row. shown (λ (t : Texts). t.date) (result_ok row.body))
     ∷ (note_columns layout.format.form
     ++ column (codes "rd") (λ row. shown signed_decimal (result_ok row.outcome))
-    ∷ column (codes "weekday") (λ row. shown weekday_text (result_ok row.outcome))
+    ∷ column (codes "weekday") (λ row. shown (λ n. get_or weekday_names (weekday_number n) []) (result_ok row.outcome))
     ∷ (cell_columns 0 layout.targets
     ++ column (codes "refusal") (λ row. shown (λ (r : Refusal). decimal (refusal_number r)) (result_err row.outcome))
     ∷ []))

@@ -1,5 +1,7 @@
--- How many bytes the fields of a line take at most. No public contract cites this file.
+-- How a line is written, and how many bytes its fields take at most. No public contract cites this file.
 use Rattle.std.specs.Prelude.{◌+◌, ◌*◌, ℕ, List, [], ◌∷◌}
+use Rattle.csv.specs.Writing.{default_writer, with_delimiter}
+use Rattle.csv.specs.declared.writer.WriterBuilder.{WriterBuilder}
 use Rattle.date_texts.specs.declared.calendar.TheConstants.{MAX_TARGETS}
 use Rattle.date_texts.specs.declared.cells.TheConstants.{MAX_CELL}
 use Rattle.register_records.specs.declared.entries.TheConstants.{CALENDAR_LIMIT, DATE_LIMIT, ID_LIMIT, NOTE_LIMIT}
@@ -7,6 +9,10 @@ use Rattle.register_records.specs.declared.answers.TheConstants.{DAY_LIMIT, REFU
 use Rattle.register_records.specs.declared.table_columns.TableColumn.{TableColumn}
 use Rattle.register_records.specs.declared.table_columns.TableColumn.TheVariants.{Calendar, Cells, Date, DayNumber, Id}
 use Rattle.register_records.specs.declared.table_columns.TableColumn.TheVariants.{Note, Number, Refusal, Weekday}
+
+-- as csv writes by its defaults, but for the delimiter
+abbrev pub writing : ℕ → WriterBuilder
+writing delimiter = with_delimiter default_writer delimiter
 
 -- a field with this many bytes: two quotes, and each byte twice
 abbrev pub field_room : ℕ → ℕ

@@ -1,7 +1,7 @@
 -- What a clause sees of `Lines`. No public contract cites this file.
 use Rattle.std.specs.Prelude.{◌≡◌, ◌≤◌, ℕ, List, ◌++◌, length, vec_capacity, vec_len}
 use Rattle.csv.specs.Writing.{row_body}
-use Rattle.register_records.specs.Lines.{writing}
+use Rattle.register_records.specs.LineRoom.{writing}
 use Rattle.register_records.specs.declared.csv_lines.Lines.{Lines}
 
 -- their bytes so far

@@ -2,15 +2,11 @@
 use Rattle.std.specs.Prelude.{◌==◌, ℕ, List, drop}
 use Rattle.std.specs.List.{slice_split}
 use Rattle.csv.specs.Writing.{default_writer, row_text, with_delimiter}
-use Rattle.csv.specs.declared.writer.WriterBuilder.{WriterBuilder}
 
--- csv's defaults but for the delimiter: a field is quoted where it must be, and a line ends with a line feed
-abbrev pub writing : ℕ → WriterBuilder
-writing delimiter = with_delimiter default_writer delimiter
-
--- the line of these fields
+-- the line of these fields, by csv's defaults but for the delimiter: a field is quoted where it must be, and the line
+-- ends with a line feed
 abbrev pub line_text : ℕ → List (List ℕ) → List ℕ
-line_text delimiter fields = row_text (writing delimiter) fields
+line_text delimiter fields = row_text (with_delimiter default_writer delimiter) fields
 
 -- the fields of some bytes, each behind this delimiter, which stands in none of them
 abbrev pub fields_behind : ℕ → List ℕ → List (List ℕ)

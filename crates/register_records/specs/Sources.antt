@@ -1,7 +1,8 @@
 -- How a source ends, and what its output has gained.
-use Rattle.std.specs.Prelude.{◌≡◌, ◌⊎◌, ℕ, List, [], length, Option, IfSome, ⊤, Bool, true, false}
+use Rattle.std.specs.Prelude.{◌≡◌, ◌⊎◌, ℕ, List, [], length, map, Option, IfSome, ⊤, Bool, true, false}
 use Rattle.std.specs.Io.KnownBytes.{Appends}
-use Rattle.register_records.specs.Entries.{AreNumberedFrom, HasEntries, HasFirstEntries, Numbered}
+use Rattle.std.specs.List.{range_with_len}
+use Rattle.register_records.specs.Entries.{HasEntries, HasFirstEntries, Numbered}
 use Rattle.register_records.specs.Outcomes.{AreRowsOf, TableRow}
 use Rattle.register_records.specs.Tables.{Layout, journal_of, table_text}
 use Rattle.register_records.specs.declared.sources.Cause.{Cause}
@@ -16,7 +17,7 @@ Gains old new AreAsSaid = (bytes : List ℕ) × AreAsSaid bytes × Appends old n
 
 -- these bytes are the table of these entries, numbered from 1: the heading's line, and the line of each one's row
 pub record IsTableOf (layout : Layout) (entries : List Numbered) (rows : List TableRow) (bytes : List ℕ) : Type 0 where
-  pub numbered : AreNumberedFrom 1 entries
+  pub numbered : map (λ (entry : Numbered). entry.number) entries ≡ range_with_len 1 (length entries)
   pub converted : AreRowsOf layout.targets entries rows
   pub written : bytes ≡ table_text layout rows
 

@@ -7,8 +7,8 @@ ghost use Rattle.std.specs.Prelude.{◌≡◌, ◌≤◌, ◌+◌, ◌++◌, ◌
 ghost use Rattle.std.specs.Prelude.{IfOk, IsOk, OnOk, vec_capacity, vec_len};
 ghost use Rattle.csv.specs.Writing as Spec;
 ghost use Rattle.csv.specs.Writing.{fields_text};
-ghost use Rattle.register_records.specs.LineRoom.{field_room};
-ghost use Rattle.register_records.specs.Lines.{line_text, writing};
+ghost use Rattle.register_records.specs.LineRoom.{field_room, writing};
+ghost use Rattle.register_records.specs.Lines.{line_text};
 ghost use Rattle.register_records.specs.SetupRules.{is_delimiter};
 
 use std::alloc::{AllocError, Global};

@@ -1,6 +1,6 @@
 //! An entry, and how it is made of a record.
 
-ghost use Rattle.std.specs.Prelude.{◌≡◌, ◌≤◌, ◌↔◌, [], length, IfSome, IsSome, IsOk, IsTrue};
+ghost use Rattle.std.specs.Prelude.{◌≡◌, ◌≤◌, ◌↔◌, [], length, IfSome, IsSome, IsTrue, Ok};
 ghost use Rattle.std.specs.Prelude.{true, false};
 ghost use Rattle.std.specs.List.{list_any};
 ghost use Rattle.std.specs.Str.{is_utf8};
@@ -75,7 +75,10 @@ impl Entry {
     }
 
     /// An entry before any was read.
-    pub(crate) fn blank() -> Entry {
+    pub(crate) fn blank() -> Entry
+        ensures number { result.number ≡ 1 }
+        ensures texts { body_seen result.body ≡ Ok (record { id = []; calendar = []; date = []; note = [] }) }
+    {
         Entry {
             number: 1,
             bare: false,
@@ -169,7 +172,7 @@ fn copies<const N: usize>(copy: &mut ArrayString<N>, field: &[u8]) -> bool
 impl Body {
     /// A body of empty texts.
     fn blank() -> Body
-        ensures texts { IsOk (body_seen result) }
+        ensures texts { body_seen result ≡ Ok (record { id = []; calendar = []; date = []; note = [] }) }
         ensures held { IsTrue (may_hold result) }
     {
         Body::Fields {

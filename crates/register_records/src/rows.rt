@@ -36,14 +36,19 @@ pub struct Row {
 }
 
 impl Row {
-    ghost use Rattle.std.specs.Prelude.{◌↔◌, ◌<◌, ◌+◌, ◌∷◌, ◌++◌, [], true, IsOk, MatchOption, OnErr, OnOk};
+    ghost use Rattle.std.specs.Prelude.{◌↔◌, ◌<◌, ◌+◌, ◌∷◌, ◌++◌, [], true, IsOk, Ok, MatchOption, OnErr, OnOk};
     ghost use Rattle.std.specs.Prelude.{vec_capacity, vec_len};
+    ghost use Rattle.register_records.specs.Entries.{body_seen};
     ghost use Rattle.register_records.specs.SetupRules.{is_delimiter};
     ghost use Rattle.register_records.specs.Tables.{notes_of};
     ghost use Rattle.register_records.specs.Views.{answer_fields, row_seen, row_targets, targets_of};
 
     /// A row before any entry was converted: that of an entry without texts, for no target.
-    pub fn blank() -> Row {
+    pub fn blank() -> Row
+        ensures number { result.entry.number ≡ 1 }
+        ensures texts { body_seen result.entry.body ≡ Ok (record { id = []; calendar = []; date = []; note = [] }) }
+        ensures targets { row_targets result ≡ [] }
+    {
         let entry = Entry::blank();
         let outcome = day_of_body(entry.body());
         let mut row = Row {

@@ -1,9 +1,9 @@
 -- What is known of a source that has ended.
 use Rattle.std.proofs.Common.{◌≡◌, ◌≢◌, ◌∙◌, ap, refl, sym, subst, ℕ, List, [], ◌∷◌, ◌++◌, length, Option, None, Some}
-use Rattle.std.proofs.Common.{inl, inr, arith, append-nil, length-append, true, false, Bool}
+use Rattle.std.proofs.Common.{inl, inr, arith, append-nil, length-append, map, ◌+◌, true, false, Bool}
 use Rattle.std.specs.Prelude.{Err, IfErr, IfOk, IfSome, Ok, Result}
 use Rattle.std.specs.Option.{is_some}
-use Rattle.std.specs.List.{Contains}
+use Rattle.std.specs.List.{Contains, range_with_len}
 use Rattle.std.specs.Io.KnownBytes.{Appends, append_known}
 use Rattle.std.proofs.lemmas.List.{length-map}
 use Rattle.std.proofs.lemmas.List.Elements.{Contains-append_right}
@@ -19,7 +19,8 @@ use Rattle.register_records.specs.declared.sources.Note.{Note}
 use Rattle.register_records.specs.declared.sources.SourceEnd.{SourceEnd}
 use Rattle.register_records.specs.declared.sources.SourceEnd.TheVariants as end
 use Rattle.register_records.specs.declared.writing.RowWriter.{RowWriter}
-use Rattle.register_records.specs.Entries.{HasEntries, HasFirstEntries, HasNoHeader, HasTooMany, IsNotSealed, Numbered}
+use Rattle.register_records.specs.Entries.{AreNumberedFrom, HasEntries, HasFirstEntries, HasNoHeader}
+use Rattle.register_records.specs.Entries.{HasTooMany, IsNotSealed, Numbered}
 use Rattle.register_records.specs.Outcomes.{AreRowsOf, IsRowOf}
 use Rattle.register_records.specs.Seen.{entry_seen}
 use Rattle.register_records.specs.Sources.{ArePartOfTable, Gains, IfBroken, IfWhole, IsTableOf}
@@ -45,6 +46,12 @@ rows_are targets (row ∷ rest) all =
       subst (λ ts. IsRowOf ts (entry_seen row.entry) (row_seen row)) (all row (0, omega arith, refl)) is,
       more,
     )))
+
+-- entries that are numbered in order have these numbers
+numbers_are : (k : ℕ) (entries : List Numbered) → AreNumberedFrom k entries
+    → map (λ (entry : Numbered). entry.number) entries ≡ range_with_len k (length entries)
+numbers_are k [] numbered = refl
+numbers_are k (entry ∷ entries) numbered = let rest = numbers_are (k + 1) entries numbered.1 in cc (numbered.0, rest)
 
 appends_nothing : (given output : Option (List ℕ)) → output ≡ given → Appends given output []
 appends_nothing None output e = tt
@@ -89,7 +96,7 @@ module _ {W : Type 0} (o : outputs.Ghosts W) (text : Option (List ℕ)) (table :
   table_is : AreRowsOf (layout_of table.setup).targets (entries_seen rows) (rows_seen rows)
       → IsTableOf (layout_of table.setup) (entries_seen rows) (rows_seen rows)
       (table_text (layout_of table.setup) (rows_seen rows))
-  table_is are = record { numbered = holds.numbered; converted = are; written = refl }
+  table_is are = record { numbered = numbers_are 1 (entries_seen rows) holds.numbered; converted = are; written = refl }
 
   unwritten : is_sunk table.course ≡ false → is_some table.writer ≡ false
       → (table.output ≡ table.given.value) × (rows ≡ [])

@@ -3,7 +3,8 @@ use Rattle.std.proofs.Common.{◌≡◌, ◌↔◌, ℕ, zero, suc, ◌+◌, ◌
 use Rattle.std.proofs.Common.{negsuc, neg_ℤ, ◌+ℤ◌, ◌-ℤ◌, ◌*ℤ◌, ◌≤ℤ◌, ◌<ℤ◌}
 use Rattle.std.proofs.lemmas.Bool.Decides.{nat_tests}
 use Rattle.std.specs.Int.{int_div_euclid}
-use Rattle.day_numbers.specs.Days.{IsDayNumber, IsBetween}
+use Rattle.day_numbers.specs.Dates.{IsBetween}
+use Rattle.day_numbers.specs.Days.{IsDayNumber}
 use Rattle.day_numbers.specs.Rules.{with_zero, HasYear, IsDateOf, year_length, year_start, days_of_month}
 use Rattle.day_numbers.specs.Rules.{days_before_month, day_number_of}
 use Rattle.day_numbers.proofs.RulesLemmas.{next_year, start_is, start_is_from, date_in_year}

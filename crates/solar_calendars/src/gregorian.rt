@@ -1,8 +1,8 @@
 //! The Gregorian calendar: dates and days by `jiff` where it has them, and else by a formula for the start of a year.
 
 ghost use Rattle.std.specs.Prelude.{◌≡◌, pos, neg_ℤ, ◌+ℤ◌, ◌*ℤ◌, ◌≤ℤ◌, ◌<ℤ◌, ◌↔◌, IsSome, IfSome};
-ghost use Rattle.day_numbers.specs.Days.{IsDayNumber, IsBetween};
-ghost use Rattle.day_numbers.specs.Dates.{IsYear};
+ghost use Rattle.day_numbers.specs.Days.{IsDayNumber};
+ghost use Rattle.day_numbers.specs.Dates.{IsBetween, IsYear};
 ghost use Rattle.day_numbers.specs.Rules.{IsDateOf, day_number_of, year_start as start, year_length, HasDayOf};
 ghost use Rattle.day_numbers.specs.Rules.{first_day_of};
 ghost use Rattle.day_numbers.proofs.DateLemmas.{rules_one_date, rules_have_days};

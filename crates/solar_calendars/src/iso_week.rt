@@ -1,8 +1,8 @@
 //! Week dates: a year that begins on a Monday, a week and a day of the week.
 
 ghost use Rattle.std.specs.Prelude.{◌≡◌, ◌↔◌, ◌≤◌, ◌<◌, pos, neg_ℤ, ◌+ℤ◌, ◌≤ℤ◌, ◌<ℤ◌, None, IsSome, IfSome};
-ghost use Rattle.day_numbers.specs.Days.{IsBetween, IsDayNumber};
-ghost use Rattle.day_numbers.specs.Dates.{IsYear};
+ghost use Rattle.day_numbers.specs.Days.{IsDayNumber};
+ghost use Rattle.day_numbers.specs.Dates.{IsBetween, IsYear};
 ghost use Rattle.solar_calendars.specs.IsoWeek.{monday_on_or_before as monday_of, week_year_start as start};
 ghost use Rattle.solar_calendars.specs.IsoWeek.{week_day_number, IsWeekDate};
 ghost use Rattle.solar_calendars.specs.IsoWeekLaw.{one_week_date};

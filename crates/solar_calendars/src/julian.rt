@@ -1,8 +1,7 @@
 //! The Julian calendar: twelve months, a leap year in four, and no year 0.
 
 ghost use Rattle.std.specs.Prelude.{◌≡◌, pos, neg_ℤ};
-ghost use Rattle.day_numbers.specs.Days.{IsBetween};
-ghost use Rattle.day_numbers.specs.Dates.{IsYear};
+ghost use Rattle.day_numbers.specs.Dates.{IsBetween, IsYear};
 ghost use Rattle.day_numbers.specs.Rules.{HasYear, without_zero, year_start as start};
 ghost use Rattle.day_numbers.proofs.DateLemmas.{rules_one_to_one};
 ghost use Rattle.solar_calendars.specs.Julian.{julian_rules, is_julian_leap, years_before as count_before};

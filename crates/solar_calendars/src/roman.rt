@@ -6,8 +6,7 @@
 
 ghost use Rattle.std.specs.Prelude.{◌≡◌, ◌↔◌, ◌≤◌, ◌<◌, ◌+◌, ◌-◌, pos, neg_ℤ, ◌-ℤ◌};
 ghost use Rattle.std.specs.Prelude.{IsSome, IfSome};
-ghost use Rattle.day_numbers.specs.Days.{IsBetween};
-ghost use Rattle.day_numbers.specs.Dates.{IsDayOf, IsYear};
+ghost use Rattle.day_numbers.specs.Dates.{IsBetween, IsDayOf, IsYear};
 ghost use Rattle.day_numbers.specs.Rules.{HasYear, without_zero};
 ghost use Rattle.solar_calendars.specs.Roman.{day_of_ides as ides_spec, has_two_sixths as two_sixths, count_of};
 ghost use Rattle.solar_calendars.specs.Roman.{roman_day_number, IsRomanDate};

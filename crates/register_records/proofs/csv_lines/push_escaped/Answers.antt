@@ -1,6 +1,6 @@
 use Rattle.std.proofs.Common.{◌≡◌, ◌≢◌, ◌∷◌, [], refl, rules, append_assoc}
 use Rattle.csv.proofs.WriteFacts.{escaped-double, escaped-other}
-use Rattle.register_records.specs.Lines.{writing}
+use Rattle.register_records.specs.LineRoom.{writing}
 use Rattle.register_records.proofs.csv_lines.push_escaped.Goals as goal
 
 pub returns-in_ok-push-2-clause-value : goal.returns-in_ok-push-2-clause-value

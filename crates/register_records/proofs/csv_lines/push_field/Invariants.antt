@@ -1,7 +1,7 @@
 use Rattle.std.proofs.Common.{◌≡◌, ◌≤◌, ◌+◌, ◌*◌, ◌++◌, ◌∷◌, take}
 use Rattle.std.specs.Prelude.{vec_capacity, vec_len}
 use Rattle.csv.specs.Writing.{escaped}
-use Rattle.register_records.specs.Lines.{writing}
+use Rattle.register_records.specs.LineRoom.{writing}
 use Rattle.register_records.proofs.csv_lines.push_field.Given as goal
 
 abbrev pub invariant-bytes : goal.invariant-bytes

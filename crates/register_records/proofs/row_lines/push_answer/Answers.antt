@@ -2,7 +2,7 @@ use Rattle.std.proofs.Common.{◌≡◌, ◌∙◌, ap, rules}
 use Rattle.csv.specs.Writing.{fields_text}
 use Rattle.register_records.specs.Answers.{fields_of}
 use Rattle.register_records.specs.LineViews.{line_delimiter}
-use Rattle.register_records.specs.Lines.{writing}
+use Rattle.register_records.specs.LineRoom.{writing}
 use Rattle.register_records.specs.Views.{answer_fields}
 use Rattle.register_records.specs.declared.answers.Answer.{Answer}
 use Rattle.register_records.proofs.row_lines.push_answer.Goals as goal

@@ -10,8 +10,7 @@ ghost use Rattle.register_records.specs.Sources.{is_whole_end};
 ghost use Rattle.register_places.specs.Openings.{AreMade, IsFresh, IsNewlyMade};
 ghost use Rattle.register_app.specs.Reports.{lines_from};
 ghost use Rattle.register_words.specs.Faults.{fault_told, own_line, status_of_fault};
-ghost use Rattle.register_words.specs.declared.requests.TheConstants.{MAX_FILES};
-ghost use Rattle.register_words.specs.Requests.{AreWrong, IsFaultOf, MeanJust, Task, table, task_of};
+ghost use Rattle.register_words.specs.Requests.{AreWrong, IsFaultOf, MeanJust, Task, most_files, table, task_of};
 
 use crate::telling::tell_ends;
 use arrayvec::ArrayString;
@@ -261,7 +260,7 @@ fn convert_files<
     P: Places<R, W>,
     E: Output,
 >(rt: &T, alloc: Global, output: W, places: &P, errors: &mut E, job: &Job<'_>) -> Answered<W>
-    requires few { length job.now.files.items ≤ MAX_FILES }
+    requires few { length job.now.files.items ≤ most_files }
     ensures converted { result.status ≢ 3 → AreConverted R.Read W.Output E.Output
         (P.is_opened places.now) (IsNewlyMade W.Output (P.is_made places.now))
         (P.are_apart places.now) (task_of job.now) result.status result.outputs.items errors.old errors.new }

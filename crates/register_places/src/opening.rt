@@ -4,7 +4,7 @@ ghost use Rattle.std.specs.Prelude.{◌≡◌, ◌≤◌, ◌++◌, ℕ, List, S
 ghost use Rattle.std.specs.Prelude.{IfErr, IfOk, OnOk, map, slice_get};
 ghost use Rattle.std.specs.String.{string_bytes};
 ghost use Rattle.register_words.specs.Faults.{status_of_fault};
-ghost use Rattle.register_words.specs.declared.requests.TheConstants.{MAX_FILES};
+ghost use Rattle.register_words.specs.Requests.{most_files};
 ghost use Rattle.register_places.specs.Openings.{AreMade, AreNotSources, AreOpened, AreTwoFiles, IsNewlyMade};
 
 use crate::places::Places;
@@ -88,7 +88,7 @@ fn make_outputs<'a, R, W: Output + Drop, P: Places<R, W>>(
     places: &P,
     files: &[&'a str],
 ) -> Result<Vec<W>, RequestFault<'a>>
-    requires few { length files.now ≤ MAX_FILES }
+    requires few { length files.now ≤ most_files }
     ensures made { IfOk result (λ outputs. AreMade (IsNewlyMade W.Output
         (P.is_made places.now)) (map (λ file. file.now) files.now) outputs.items) }
     ensures apart { IfOk result (λ outputs. AreTwoFiles (P.are_apart places.now) (map (λ file. file.now) files.now)) }
@@ -127,7 +127,7 @@ pub fn open_files<'a, R: Drop, W: Output + Drop, P: Places<R, W>>(
     places: &P,
     files: &[&'a str],
 ) -> Result<Opened<R, W>, RequestFault<'a>>
-    requires few { length files.now ≤ MAX_FILES }
+    requires few { length files.now ≤ most_files }
     ensures opened { IfOk result (λ o. AreOpened (P.is_opened places.now) (map (λ file. file.now) files.now)
         o.sources.items) }
     ensures made { IfOk result (λ o. AreMade (IsNewlyMade W.Output

@@ -16,7 +16,6 @@ use Rattle.register_words.specs.Faults.{file_twice}
 use Rattle.register_words.specs.OptionValues.{AsksForTargets, IsDelimiterWord, IsListFault, IsNumberWord}
 use Rattle.register_words.specs.declared.requests.AskedNumber.{AskedNumber}
 use Rattle.register_words.specs.declared.requests.AskedNumber.TheVariants as numbers
-use Rattle.register_words.specs.declared.requests.TheConstants.{MAX_FILES}
 use Rattle.register_words.specs.declared.requests.Job.{Job}
 use Rattle.register_words.specs.declared.requests.Options.{Options}
 use Rattle.register_words.specs.declared.requests.Request.{Request}
@@ -82,9 +81,13 @@ pub record IsFirstTwice (files : List Text) (file : Text) : Type 0 where
   pub named : Contains before file
   pub first : (other : Text) → ¬ IsNamedTwice before other
 
--- at most 32 files, each named once
+-- the most files of a command line
+abbrev pub most_files : ℕ
+most_files = 32
+
+-- no more files than that, each named once
 abbrev pub AreFilesToConvert : List Text → Type 0
-AreFilesToConvert files = (length files ≤ MAX_FILES) × ((file : Text) → ¬ IsNamedTwice files file)
+AreFilesToConvert files = (length files ≤ most_files) × ((file : Text) → ¬ IsNamedTwice files file)
 
 -- the values ask for this task
 pub record Ask (values : Values) (task : Task) : Type 0 where
@@ -126,8 +129,8 @@ IsNumberFault option value fault =
 -- what is wrong with the files: there are too many, or else one is named twice
 abbrev pub IsFileFault : List Text → Fault → Type 0
 IsFileFault files fault =
-    ((fault ≡ too_many_files) × (MAX_FILES < length files))
-    ⊎ ((file : Text) × (fault ≡ file_twice file) × (length files ≤ MAX_FILES) × IsFirstTwice files file)
+    ((fault ≡ too_many_files) × (most_files < length files))
+    ⊎ ((file : Text) × (fault ≡ file_twice file) × (length files ≤ most_files) × IsFirstTwice files file)
 
 -- the checks of the words, of the targets, of a number, and of the files
 abbrev pub usage_check : List Text → Check

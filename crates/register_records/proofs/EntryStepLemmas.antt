@@ -37,11 +37,11 @@ read_more {R = R} rem a b f r = by (source_of rem a) refl
 
 -- a read that found none
 pub read_none : {R : Type 0} (rem : R → Option (List ℕ)) (a b : Reader R) (f : Fields) → ReadRecord rem a b false f
-    → IfSome (records_left rem a) (λ rows. rows ≡ [])
+    → IfSome (records_left rem a) (λ records. records ≡ [])
 read_none {R = R} rem a b f r = by (source_of rem a) refl
   where
     by : (o : Option (List ℕ)) → source_of rem a ≡ o
-        → IfSome (option_map (all_after a.config a.state) o) (λ rows. rows ≡ [])
+        → IfSome (option_map (all_after a.config a.state) o) (λ records. records ≡ [])
     by None e = tt
     by (Some y) e = all_none a.config a.state y (rows-end rem a b f a.config y refl e r)
 
@@ -64,11 +64,11 @@ pub refuses : (o : Option (List ℕ)) (y : Option (List Fields)) (format : Forma
     → IfSome o (λ text. HasNoHeader format text)
 refuses None y format f t h = tt
 refuses (Some text) None format f t h = absurd t
-refuses (Some text) (Some rest) format f t h = λ rows a. let same : a.0 ≡ f = cc (t, a.1) in h (rw same at a.2)
+refuses (Some text) (Some rest) format f t h = λ records a. let same : a.0 ≡ f = cc (t, a.1) in h (rw same at a.2)
 
 -- no record
 pub refuses_none : (o : Option (List ℕ)) (format : Format)
-    → IfSome (option_map (text_records format.delimiter) o) (λ rows. rows ≡ [])
+    → IfSome (option_map (text_records format.delimiter) o) (λ records. records ≡ [])
     → IfSome o (λ text. HasNoHeader format text)
 refuses_none None format t = tt
-refuses_none (Some text) format t = λ rows a. let none : a.0 ∷ rows ≡ [] = sym a.1 ∙ t in cc
+refuses_none (Some text) format t = λ records a. let none : a.0 ∷ records ≡ [] = sym a.1 ∙ t in cc

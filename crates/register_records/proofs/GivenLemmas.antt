@@ -80,9 +80,9 @@ module _ (format : Format) (text : List ℕ) where
       → Stands format text states.Open left2 (given ++ x ∷ [])
   stands_more None left2 given f x s t n h e =
       absurd (let q : ◌≡◌ {A = Option (List Fields)} None (Some s.rest) = s.left_is refl in cc)
-  stands_more (Some rows) None given f x s t n h e = absurd t
-  stands_more (Some rows) (Some rest2) given f x s t n h e =
-      let same : rows ≡ s.rest = cc (s.left_is refl) in
+  stands_more (Some records) None given f x s t n h e = absurd t
+  stands_more (Some records) (Some rest2) given f x s t n h e =
+      let same : records ≡ s.rest = cc (s.left_is refl) in
       let rest_is : s.rest ≡ f ∷ rest2 = sym same ∙ t in
       let longer : length (given ++ x ∷ []) ≡ length given + 1 = length-append given (x ∷ []) in
       let joined : (s.past ++ f ∷ []) ++ rest2 ≡ s.past ++ s.rest =
@@ -120,9 +120,9 @@ module _ (format : Format) (text : List ℕ) where
       → entry_records form s.rest ≡ [] → entry_records form (s.past ++ s.rest) ≡ s.past
   past_records state left given s e = s.no_seal s.rest ∙ rw e (append-nil s.past)
 
-  ends_none : (k : Form) (count : ℕ) (rows : List Fields) → EndsAt k count rows → entry_records k rows ≡ []
-  ends_none Plain count rows e = e
-  ends_none Sealed count rows e = rw e.1 (seal_first e.0 [] e.2)
+  ends_none : (k : Form) (count : ℕ) (records : List Fields) → EndsAt k count records → entry_records k records ≡ []
+  ends_none Plain count records e = e
+  ends_none Sealed count records e = rw e.1 (seal_first e.0 [] e.2)
 
   closed_so : (k : Form) (past rest : List Fields) → entry_records k (past ++ rest) ≡ past → EndsAt k (length past) rest
       → AreClosed k (past ++ rest)
@@ -140,10 +140,10 @@ module _ (format : Format) (text : List ℕ) where
       → IfSome left (EndsAt form (length given)) → length given ≤ record_limit → HasEntries format text given
   all_given None given s e h =
       absurd (let q : ◌≡◌ {A = Option (List Fields)} None (Some s.rest) = s.left_is refl in cc)
-  all_given (Some rows) given s e h =
-      let same : rows ≡ s.rest = cc (s.left_is refl) in
+  all_given (Some records) given s e h =
+      let same : records ≡ s.rest = cc (s.left_is refl) in
       let ends : EndsAt form (length given) s.rest = rw (← same) e in
-      let before = past_records states.Open (Some rows) given s (ends_none form (length given) s.rest ends) in (
+      let before = past_records states.Open (Some records) given s (ends_none form (length given) s.rest ends) in (
         s.past ++ s.rest,
         s.accepted,
         (rw before (omega (arith, s.counted, h)), closed_so form s.past s.rest before (rw s.counted ends)),
@@ -184,8 +184,8 @@ module _ (format : Format) (text : List ℕ) where
       → length given ≡ record_limit → HasTooMany format text
   too_many None given s some e =
       absurd (let q : ◌≡◌ {A = Option (List Fields)} None (Some s.rest) = s.left_is refl in cc)
-  too_many (Some rows) given s some e =
-      let same : rows ≡ s.rest = cc (s.left_is refl) in
+  too_many (Some records) given s some e =
+      let same : records ≡ s.rest = cc (s.left_is refl) in
       let more : 0 < length (entry_records form s.rest) = rw (← same) some in (
         s.past ++ s.rest,
         s.accepted,
@@ -196,10 +196,10 @@ module _ (format : Format) (text : List ℕ) where
       → IfSome left (LacksSeal form (length given)) → length given ≤ record_limit → IsNotSealed format text
   not_sealed None given s lacks h =
       absurd (let q : ◌≡◌ {A = Option (List Fields)} None (Some s.rest) = s.left_is refl in cc)
-  not_sealed (Some rows) given s lacks h =
-      let same : rows ≡ s.rest = cc (s.left_is refl) in
+  not_sealed (Some records) given s lacks h =
+      let same : records ≡ s.rest = cc (s.left_is refl) in
       let without : LacksSeal form (length given) s.rest = rw (← same) lacks in
-      let before = past_records states.Open (Some rows) given s without.0 in (
+      let before = past_records states.Open (Some records) given s without.0 in (
         s.past ++ s.rest,
         s.accepted,
         rw before (omega (arith, s.counted, h)),

@@ -13,7 +13,7 @@ use Rattle.register_records.specs.Entries.{Format, HasEntries, HasFirstEntries, 
 use Rattle.register_records.specs.Laws.{TablesGrow}
 use Rattle.register_records.specs.Outcomes.{IsRowOf, TableRow}
 use Rattle.register_records.specs.Sources.{ArePartOfTable, Gains, IsFrontOfTable, IsWholeTable}
-use Rattle.register_records.specs.Tables.{Layout, heading_line, journal_of, lines_text, notes_of, row_line, table_text}
+use Rattle.register_records.specs.Tables.{Layout, heading_line, journal_of, lines_text, refusal_notes, row_line, table_text}
 use Rattle.register_records.specs.declared.sources.Cause.{Cause}
 use Rattle.register_records.specs.declared.sources.Cause.TheVariants as cause
 use Rattle.register_records.specs.declared.sources.Note.{Note}
@@ -42,12 +42,12 @@ lines_last layout (x ∷ rows) row =
     ∙ sym (append_assoc (row_line layout x) _ _)
 
 journal_last : (rows : List TableRow) (row : TableRow)
-    → journal_of (rows ++ row ∷ []) ≡ journal_of rows ++ notes_of row.number row.outcome
+    → journal_of (rows ++ row ∷ []) ≡ journal_of rows ++ refusal_notes row.number row.outcome
 unfolding journal_of
-journal_last [] row = append-nil (notes_of row.number row.outcome)
+journal_last [] row = append-nil (refusal_notes row.number row.outcome)
 journal_last (x ∷ rows) row =
-    ap (λ (t : List Note). notes_of x.number x.outcome ++ t) (journal_last rows row)
-    ∙ sym (append_assoc (notes_of x.number x.outcome) _ _)
+    ap (λ (t : List Note). refusal_notes x.number x.outcome ++ t) (journal_last rows row)
+    ∙ sym (append_assoc (refusal_notes x.number x.outcome) _ _)
 
 table_last : (layout : Layout) (rows : List TableRow) (row : TableRow)
     → table_text layout (rows ++ row ∷ []) ≡ table_text layout rows ++ row_line layout row
@@ -75,7 +75,7 @@ pub step : (layout : Layout) (old now now2 : Option (List ℕ)) (entries : List 
     (x : Numbered) (row : TableRow)
     → Progress layout old now entries journal → x.number ≡ length entries + 1 → IsRowOf layout.targets x row
     → Appends now now2 (row_line layout row)
-    → Progress layout old now2 (entries ++ x ∷ []) (journal ++ notes_of row.number row.outcome)
+    → Progress layout old now2 (entries ++ x ∷ []) (journal ++ refusal_notes row.number row.outcome)
 step layout old now now2 entries journal x row p n r a =
     record {
       rows = p.rows ++ row ∷ [];

@@ -14,7 +14,7 @@ pub found : (left after : Option (List Fields)) (b : Bool) (f : Fields) → Read
 found left after b f h e = rw e at h
 
 pub found_none : (left after : Option (List Fields)) (b : Bool) (f : Fields) → Reads left after b f → b ≡ false
-    → IfSome left (λ rows. rows ≡ [])
+    → IfSome left (λ records. records ≡ [])
 found_none left after b f h e = rw e at h
 
 -- a fault that was handed on
@@ -26,33 +26,33 @@ told_on (Err x) e P h p = rw h p
 of_first : (left mid : Option (List Fields)) (f : Fields) (P : List Fields → Type 0) → TakesFirst left mid f
     → ((rest : List Fields) → P (f ∷ rest)) → IfSome left P
 of_first None mid f P t h = tt
-of_first (Some rows) None f P t h = absurd t
-of_first (Some rows) (Some rest) f P t h = rw t (h rest)
+of_first (Some records) None f P t h = absurd t
+of_first (Some records) (Some rest) f P t h = rw t (h rest)
 
-lacks_none : (count : ℕ) (rows : List Fields) → rows ≡ [] → LacksSeal Sealed count rows
-lacks_none count rows e = (rw e before_none, λ ends. let clash : ends.0 ∷ [] ≡ [] = sym ends.1 ∙ e in absurd (cc))
+lacks_none : (count : ℕ) (records : List Fields) → records ≡ [] → LacksSeal Sealed count records
+lacks_none count records e = (rw e before_none, λ ends. let clash : ends.0 ∷ [] ≡ [] = sym ends.1 ∙ e in absurd (cc))
 
 pub no_seal_left : (left : Option (List Fields)) (form : Form) (count : ℕ) → form ≡ Sealed
-    → IfSome left (λ rows. rows ≡ []) → IfSome left (LacksSeal form count)
-no_seal_left left form count e h = if_some left _ _ (λ rows none. rw e (lacks_none count rows none)) h
+    → IfSome left (λ records. records ≡ []) → IfSome left (LacksSeal form count)
+no_seal_left left form count e h = if_some left _ _ (λ records none. rw e (lacks_none count records none)) h
 
 -- what holds of every list holds of the one that is left
-pub always : (left : Option (List Fields)) (P : List Fields → Type 0) → ((rows : List Fields) → P rows) → IfSome left P
+pub always : (left : Option (List Fields)) (P : List Fields → Type 0) → ((records : List Fields) → P records) → IfSome left P
 always None P h = tt
-always (Some rows) P h = h rows
+always (Some records) P h = h records
 
 -- a list whose first record was taken is not empty
 pub not_empty : (left after : Option (List Fields)) (f : Fields) (P : Type 0) → TakesFirst left after f
-    → IfSome left (λ rows. rows ≡ [] → P)
-not_empty left after f P t = of_first left after f (λ rows. rows ≡ [] → P) t (λ rest e. absurd (cc (e)))
+    → IfSome left (λ records. records ≡ [] → P)
+not_empty left after f P t = of_first left after f (λ records. records ≡ [] → P) t (λ rest e. absurd (cc (e)))
 
 -- a seal is left that does not agree, or stands before another record
 pub seal_lacks : (left mid : Option (List Fields)) (form : Form) (count : ℕ) (f : Fields) → form ≡ Sealed
-    → TakesFirst left mid f → is_seal f ≡ true → IfSome mid (λ rows. rows ≡ [] → ¬ (Agrees f count))
+    → TakesFirst left mid f → is_seal f ≡ true → IfSome mid (λ records. records ≡ [] → ¬ (Agrees f count))
     → IfSome left (LacksSeal form count)
 seal_lacks None mid form count f e t is last = tt
-seal_lacks (Some rows) None form count f e t is last = absurd t
-seal_lacks (Some rows) (Some rest) form count f e t is last =
+seal_lacks (Some records) None form count f e t is last = absurd t
+seal_lacks (Some records) (Some rest) form count f e t is last =
     rw (e, t) (
       seal_first f rest is,
       λ ends.

@@ -10,7 +10,7 @@ use Rattle.register_records.specs.Entries.{AreAccepted, Fields, Format, HasEntri
 use Rattle.register_records.specs.Entries.{IsNotSealed, Numbered, Texts}
 use Rattle.register_records.specs.Outcomes.{AreRowsOf, IsOutcome, TableRow}
 use Rattle.register_records.specs.Sources.{IsWholeTable}
-use Rattle.register_records.specs.Tables.{Layout, journal_of, notes_of, row_line, table_text}
+use Rattle.register_records.specs.Tables.{Layout, journal_of, refusal_notes, row_line, table_text}
 use Rattle.register_records.specs.declared.setups.Form.TheVariants.{Sealed}
 use Rattle.register_records.specs.declared.sources.Note.{Note}
 
@@ -40,7 +40,7 @@ abbrev pub TablesGrow : Type 0
 TablesGrow =
     (layout : Layout) (rows : List TableRow) (row : TableRow)
     → (table_text layout (rows ++ row ∷ []) ≡ table_text layout rows ++ row_line layout row)
-    × (journal_of (rows ++ row ∷ []) ≡ journal_of rows ++ notes_of row.number row.outcome)
+    × (journal_of (rows ++ row ∷ []) ≡ journal_of rows ++ refusal_notes row.number row.outcome)
 
 -- these are left where some of the records, wherever they stand, or none are taken out
 pub data AreLeftOf : List Fields → List Fields → Type 0 where

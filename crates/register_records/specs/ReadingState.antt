@@ -62,13 +62,13 @@ records_left remaining s = option_map (all_after (reader_config s) (reader_state
 -- this record was the first of those that were left
 abbrev pub TakesFirst : Option (List Fields) → Option (List Fields) → Fields → Type 0
 TakesFirst None after r = ⊤
-TakesFirst (Some rows) None r = ⊥
-TakesFirst (Some rows) (Some rest) r = rows ≡ r ∷ rest
+TakesFirst (Some records) None r = ⊥
+TakesFirst (Some records) (Some rest) r = records ≡ r ∷ rest
 
 -- a read: the record was the first of those that were left, or none was left
 abbrev pub Reads : Option (List Fields) → Option (List Fields) → Bool → Fields → Type 0
 Reads left after true r = TakesFirst left after r
-Reads left after false r = IfSome left (λ rows. rows ≡ [])
+Reads left after false r = IfSome left (λ records. records ≡ [])
 
 -- the record is no seal, where the form has seals
 abbrev pub IsNoSeal : Form → Fields → Type 0
@@ -85,16 +85,16 @@ pub record Gives (form : Form) (count : ℕ) (left after : Option (List Fields))
 
 -- what is left ends a text of so many entries, as the form wants it
 abbrev pub EndsAt : Form → ℕ → List Fields → Type 0
-EndsAt Plain count rows = rows ≡ []
-EndsAt Sealed count rows = (seal : Fields) × (rows ≡ seal ∷ []) × IsTrue (is_seal seal) × Agrees seal count
+EndsAt Plain count records = records ≡ []
+EndsAt Sealed count records = (seal : Fields) × (records ≡ seal ∷ []) × IsTrue (is_seal seal) × Agrees seal count
 
 -- what is left has no entry, but does not end the text
 abbrev pub LacksSeal : Form → ℕ → List Fields → Type 0
-LacksSeal form count rows = (entry_records form rows ≡ []) × ¬ (EndsAt form count rows)
+LacksSeal form count records = (entry_records form records ≡ []) × ¬ (EndsAt form count records)
 
 -- what is left has an entry
 abbrev pub HasEntry : Form → List Fields → Type 0
-HasEntry form rows = 0 < length (entry_records form rows)
+HasEntry form records = 0 < length (entry_records form records)
 
 -- these entries are the first of a text. While no call failed and none answered that no entry is left, those of the
 -- records that are left follow them; once a call answered so, they are all

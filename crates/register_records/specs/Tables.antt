@@ -25,10 +25,10 @@ abbrev pub table_text : Layout → List TableRow → List ℕ
 table_text layout rows = heading_line layout ++ lines_text layout rows
 
 -- what a row adds to the journal: its number and its refusal, where it was refused
-abbrev pub notes_of : ℕ → Result ℤ Refusal → List Note
-notes_of number (Ok n) = []
-notes_of number (Err r) = record { number = number; refusal = r } ∷ []
+abbrev pub refusal_notes : ℕ → Result ℤ Refusal → List Note
+refusal_notes number (Ok n) = []
+refusal_notes number (Err r) = record { number = number; refusal = r } ∷ []
 
 -- the journal of rows: the refused ones, in order
 unfoldable pub journal_of : List TableRow → List Note
-journal_of rows = flat_map (λ (row : TableRow). notes_of row.number row.outcome) rows
+journal_of rows = flat_map (λ (row : TableRow). refusal_notes row.number row.outcome) rows

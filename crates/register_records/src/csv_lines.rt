@@ -1,7 +1,6 @@
 //! Lines of fields, as csv's writer would write them.
 //!
-//! The writer of `csv` is made anew for each record and moves a buffer of 8 KiB several times, which
-//! costs more than all else in a row. A line by hand into memory that is used again takes a twentieth.
+//! They are made by hand, in memory that is used again: the writer of `csv` can be had back only by consuming it.
 
 ghost use Rattle.std.specs.Prelude.{◌≡◌, ◌≤◌, ◌+◌, ◌++◌, ◌∷◌, [], ℕ, List, true, false, length};
 ghost use Rattle.std.specs.Prelude.{IfOk, IsOk, OnOk, vec_capacity, vec_len};
@@ -165,7 +164,7 @@ impl Lines {
         Ok(())
     }
 
-    /// Ends a line of two fields or more.
+    /// Ends a line of two fields or more: a line of one empty field would need quotes.
     pub fn end(&mut self) -> Result<(), AllocError>
         ensures value { (before : List ℕ) (fields : List (List ℕ)) → 2 ≤ length fields → Begins before fields self.old
             → OnOk result (line_bytes self.new ≡ before ++ line_text (line_delimiter self.old) fields) }

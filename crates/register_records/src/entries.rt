@@ -8,20 +8,23 @@ ghost use Rattle.csv.specs.Records.{fields_of};
 ghost use Rattle.register_records.specs.BareTexts.{has_special, is_special_byte};
 ghost use Rattle.register_records.specs.Entries.{body_of, body_seen, may_hold, record_limit};
 
-use crate::columns::columns_in;
+use crate::record_fields::fields_in;
 use crate::setups::Form;
 use arrayvec::ArrayString;
 use csv::ByteRecord;
 use date_texts::Refusal;
 use std::str;
 
-/// The most bytes of an id, of a calendar's name, of a date and of a note, before anything is trimmed.
+/// The most bytes of an id, before anything is trimmed.
 pub const ID_LIMIT: usize = 40;
 
+/// The most bytes of a calendar's name, before anything is trimmed.
 pub const CALENDAR_LIMIT: usize = 16;
 
+/// The most bytes of a date, before anything is trimmed.
 pub const DATE_LIMIT: usize = 32;
 
+/// The most bytes of a note, before anything is trimmed.
 pub const NOTE_LIMIT: usize = 80;
 
 /// The most entries of a source.
@@ -122,7 +125,7 @@ impl Entry {
 }
 
 /// Whether a byte calls for quotes in some table: a delimiter, a quote, or one that ends a line.
-fn is_special(byte: u8) -> bool
+fn may_be_special(byte: u8) -> bool
     ensures { result ≡ is_special_byte byte }
 {
     matches!(byte, b',' | b';' | b'\t' | b'"' | b'\r' | b'\n')
@@ -134,7 +137,7 @@ fn is_bare(text: &[u8]) -> bool
 {
     let mut bare = true;
     'bytes: for byte in text {
-        bare &= !is_special(*byte);
+        bare &= !may_be_special(*byte);
     }
     bare
 }
@@ -154,7 +157,7 @@ fn is_allowed(body: &Body) -> bool
 
 /// Copies a field to a text, where it is UTF-8, and says whether it is.
 #[inline(always)]
-fn copies<const N: usize>(copy: &mut ArrayString<N>, field: &[u8]) -> bool
+fn copy_text<const N: usize>(copy: &mut ArrayString<N>, field: &[u8]) -> bool
     requires fits { length field.now ≤ N }
     ensures is_text { result ≡ is_utf8 field.now }
     ensures copied { result ≡ true → copy.new.bytes ≡ field.now }
@@ -188,14 +191,14 @@ impl Body {
         ensures value { body_seen self.new ≡ body_of form (fields_of csv_record.now) }
         ensures held { IsTrue (may_hold self.new) }
     {
-        let Some(columns) = columns_in(csv_record, form) else {
+        let Some(fields) = fields_in(csv_record, form) else {
             *self = Body::Refused(Refusal::FieldCount);
             return;
         };
-        if columns.id.len() > ID_LIMIT
-            || columns.calendar.len() > CALENDAR_LIMIT
-            || columns.date.len() > DATE_LIMIT
-            || columns.note.len() > NOTE_LIMIT
+        if fields.id.len() > ID_LIMIT
+            || fields.calendar.len() > CALENDAR_LIMIT
+            || fields.date.len() > DATE_LIMIT
+            || fields.note.len() > NOTE_LIMIT
         {
             *self = Body::Refused(Refusal::FieldTooLong);
             return;
@@ -209,10 +212,10 @@ impl Body {
             date,
             note,
         } = self
-            && !(copies(id, columns.id)
-                && copies(calendar, columns.calendar)
-                && copies(date, columns.date)
-                && copies(note, columns.note))
+            && !(copy_text(id, fields.id)
+                && copy_text(calendar, fields.calendar)
+                && copy_text(date, fields.date)
+                && copy_text(note, fields.note))
         {
             *self = Body::Refused(Refusal::NotUtf8);
         }

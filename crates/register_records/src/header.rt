@@ -7,7 +7,7 @@ ghost use Rattle.csv.specs.Records.{fields_of};
 ghost use Rattle.register_records.specs.Headers.{IsHeader};
 ghost use Rattle.date_texts.specs.Names.{IsNamed};
 
-use crate::columns::{Columns, columns_in};
+use crate::record_fields::{RecordFields, fields_in};
 use crate::setups::Form;
 use csv::ByteRecord;
 use date_texts::trimmed;
@@ -35,13 +35,13 @@ pub(crate) fn is_header(csv_record: &ByteRecord, form: Form) -> bool
     ensures { IsTrue result ↔ IsHeader form (fields_of csv_record.now) }
 {
     let Some(
-        Columns {
+        RecordFields {
             id,
             calendar,
             date,
             note,
         },
-    ) = columns_in(csv_record, form)
+    ) = fields_in(csv_record, form)
     else {
         return false;
     };

@@ -11,7 +11,6 @@
 mod answers;
 mod causes;
 mod cell_texts;
-mod columns;
 mod converting;
 mod csv_lines;
 mod entries;
@@ -21,6 +20,7 @@ mod header;
 pub mod laws;
 mod outputs;
 mod reading;
+mod record_fields;
 mod retrying;
 mod row_lines;
 mod rows;

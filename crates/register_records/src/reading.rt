@@ -27,7 +27,7 @@ use thiserror::Error as ErrorMessage;
 /// Why reading entries stopped.
 #[derive(Clone, Copy, PartialEq, Eq, Debug, ErrorMessage)]
 pub enum EntryFault {
-    /// A growth of memory was refused.
+    /// Memory ran out.
     #[error("out of memory")]
     OutOfMemory,
     /// The reader answered a fault.
@@ -134,12 +134,12 @@ fn read_behind_seal<R: Read>(
     ensures live { OnOk result (HasBegun records.new) }
     ensures agrees { OnOk result (Agrees (fields_of csv_record.old) count) }
     ensures last { OnOk result
-        (IfSome (records_left (inner_remaining R.remaining) records.old) (λ rows. rows ≡ [])) }
+        (IfSome (records_left (inner_remaining R.remaining) records.old) (λ left. left ≡ [])) }
     ensures not_sealed { IfErr result (λ e. e ≡ EntryFault.NotSealed
         → IfSome (records_left (inner_remaining R.remaining) records.old)
-        (λ rows. rows ≡ [] → ¬ (Agrees (fields_of csv_record.old) count))) }
-    ensures told { IfErr result (λ e. (e ≡ EntryFault.BadHeader → ⊥) × (e ≡ EntryFault.Failed → ⊥)
-        × (e ≡ EntryFault.TooManyRecords → ⊥)) }
+        (λ left. left ≡ [] → ¬ (Agrees (fields_of csv_record.old) count))) }
+    ensures never { IfErr result (λ e. (e ≢ EntryFault.BadHeader) × (e ≢ EntryFault.Failed)
+        × (e ≢ EntryFault.TooManyRecords)) }
     ensures read_fault { IfErr result (λ e. e ≡ EntryFault.ReadFault → has_failed records.new ≡ true) }
 {
     let agrees = agrees(csv_record, count);
@@ -177,8 +177,8 @@ fn keep(given: &mut Vec<Snapshot<Entry>>, entry: &Entry) -> bool
     given.push(Snapshot::of(entry)).is_ok()
 }
 
-/// Reads the entry after so many to where it stays, and says whether there was one: else the records end as the form
-/// wants it. After a seal it asks for one more record.
+/// Reads the entry after so many into `entry`. The answer is `false` where the records end as the form wants it. After a
+/// seal it asks for one more record.
 #[inline(always)]
 fn read_entry<R: Read>(
     records: &mut Reader<Retrying<R>>,
@@ -200,7 +200,7 @@ fn read_entry<R: Read>(
         × IfSome (records_left (inner_remaining R.remaining) records.old) (HasEntry form)) }
     ensures not_sealed { IfErr result (λ e. e ≡ EntryFault.NotSealed → (form ≡ Form.Sealed)
         × IfSome (records_left (inner_remaining R.remaining) records.old) (LacksSeal form count)) }
-    ensures told { IfErr result (λ e. (e ≡ EntryFault.BadHeader → ⊥) × (e ≡ EntryFault.Failed → ⊥)) }
+    ensures never { IfErr result (λ e. (e ≢ EntryFault.BadHeader) × (e ≢ EntryFault.Failed)) }
     ensures read_fault { IfErr result (λ e. e ≡ EntryFault.ReadFault → has_failed records.new ≡ true) }
 {
     if !read_record(records, csv_record)? {
@@ -239,7 +239,7 @@ impl<R: Read + Drop> EntryReader<R> {
         ensures goes { IfOk result (λ r. (reader_failed r ≡ false) × (reader_ended r ≡ false)) }
         ensures bad { IfErr result (λ e. e ≡ EntryFault.BadHeader
             → IfSome (R.remaining reader) (λ text. HasNoHeader (format_of setup.now) text)) }
-        ensures told { IfErr result (λ e. (e ≢ TooManyRecords) × (e ≢ Failed) × (e ≢ NotSealed)) }
+        ensures never { IfErr result (λ e. (e ≢ TooManyRecords) × (e ≢ Failed) × (e ≢ NotSealed)) }
     {
         let source = Snapshot::of(&reader);
         let patient = Retrying::new(reader);
@@ -264,7 +264,7 @@ impl<R: Read + Drop> EntryReader<R> {
         })
     }
 
-    /// Reads the next entry to where it stays, and says whether there was one: `next` without a copy of the entry.
+    /// Reads the next entry into `entry`, and says whether there was one: `next` without a copy of the entry.
     pub(crate) fn read_next(&mut self, entry: &mut Entry) -> Result<bool, EntryFault>
         ensures gives { result ≡ Ok true → given_of self.new ≡ given_of self.old ++ entry_seen entry.new ∷ [] }
         ensures number { result ≡ Ok true
@@ -279,8 +279,8 @@ impl<R: Read + Drop> EntryReader<R> {
             × ∥ IfSome (text_of self.new) (λ text. IsNotSealed (reads_by self.new) text) ∥₁) }
         ensures ends { result ≡ Ok false → (reader_ended self.new ≡ true) × (given_of self.new ≡ given_of self.old) }
         ensures ended { reader_ended self.old ≡ true → (result ≡ Ok false) × (self.new ≡ self.old) }
-        ensures only_failed { reader_failed self.old ≡ false → IfErr result (λ e. e ≡ EntryFault.Failed → ⊥) }
-        ensures no_header { IfErr result (λ e. e ≡ EntryFault.BadHeader → ⊥) }
+        ensures only_failed { reader_failed self.old ≡ false → IfErr result (λ e. e ≢ EntryFault.Failed) }
+        ensures no_header { IfErr result (λ e. e ≢ EntryFault.BadHeader) }
         ensures failed { reader_failed self.old ≡ true → (result ≡ Err EntryFault.Failed) × (self.new ≡ self.old) }
         ensures fails { reader_failed self.new ≡ is_err result }
         ensures read_fault { IfErr result (λ e. e ≡ EntryFault.ReadFault → has_failed self.new.records ≡ true) }
@@ -332,8 +332,8 @@ impl<R: Read + Drop> EntryReader<R> {
         // None comes only at the end, gives nothing, and comes again.
         ensures ends { result ≡ Ok None → (reader_ended self.new ≡ true) × (given_of self.new ≡ given_of self.old) }
         ensures ended { reader_ended self.old ≡ true → (result ≡ Ok None) × (self.new ≡ self.old) }
-        ensures only_failed { reader_failed self.old ≡ false → IfErr result (λ e. e ≡ EntryFault.Failed → ⊥) }
-        ensures no_header { IfErr result (λ e. e ≡ EntryFault.BadHeader → ⊥) }
+        ensures only_failed { reader_failed self.old ≡ false → IfErr result (λ e. e ≢ EntryFault.Failed) }
+        ensures no_header { IfErr result (λ e. e ≢ EntryFault.BadHeader) }
         ensures failed { reader_failed self.old ≡ true → (result ≡ Err EntryFault.Failed) × (self.new ≡ self.old) }
         ensures fails { reader_failed self.new ≡ is_err result }
         ensures read_fault { IfErr result (λ e. e ≡ EntryFault.ReadFault → has_failed self.new.records ≡ true) }

@@ -40,7 +40,7 @@ impl Row {
     ghost use Rattle.std.specs.Prelude.{vec_capacity, vec_len};
     ghost use Rattle.register_records.specs.Entries.{body_seen};
     ghost use Rattle.register_records.specs.SetupRules.{is_delimiter};
-    ghost use Rattle.register_records.specs.Tables.{notes_of};
+    ghost use Rattle.register_records.specs.Tables.{refusal_notes};
     ghost use Rattle.register_records.specs.Views.{answer_fields, row_seen, row_targets, targets_of};
 
     /// A row before any entry was converted: that of an entry without texts, for no target.
@@ -136,9 +136,9 @@ impl Row {
     }
 
     /// What the journal gains by the row: its number and its refusal, where it was refused.
-    pub fn note(&self) -> Option<Note>
-        ensures { MatchOption result (notes_of (row_seen self.now).number (row_seen self.now).outcome ≡ [])
-            (λ n. notes_of (row_seen self.now).number (row_seen self.now).outcome ≡ n ∷ []) }
+    pub fn refusal_note(&self) -> Option<Note>
+        ensures { MatchOption result (refusal_notes (row_seen self.now).number (row_seen self.now).outcome ≡ [])
+            (λ n. refusal_notes (row_seen self.now).number (row_seen self.now).outcome ≡ n ∷ []) }
     {
         match self.outcome {
             Ok(_) => None,
@@ -154,14 +154,14 @@ impl Row {
     /// # Errors
     ///
     /// Out of memory, with the journal as it was, which never comes where the journal has room for one more.
-    pub fn push_note(&self, journal: &mut Vec<Note>) -> Result<(), AllocError>
+    pub fn push_refusal(&self, journal: &mut Vec<Note>) -> Result<(), AllocError>
         ensures items { OnOk result (journal.new.items
-            ≡ journal.old.items ++ notes_of (row_seen self.now).number (row_seen self.now).outcome) }
+            ≡ journal.old.items ++ refusal_notes (row_seen self.now).number (row_seen self.now).outcome) }
         ensures len { vec_len journal.new ≤ vec_len journal.old + 1 }
         ensures kept { OnErr result (journal.new.items ≡ journal.old.items) }
         ensures room { vec_len journal.old < vec_capacity journal.old → IsOk result }
     {
-        if let Some(note) = self.note() {
+        if let Some(note) = self.refusal_note() {
             journal.push(note)?;
         }
         Ok(())

@@ -7,13 +7,12 @@ ghost use Rattle.register_records.specs.Conversions.{AreReady, ContinuesTable, I
 ghost use Rattle.register_records.specs.Entries.{HasEntries, HasNoHeader, HasTooMany, IsNotSealed, record_limit};
 ghost use Rattle.register_records.specs.Sources.{ArePartOfTable, Gains, IfBroken, IfWhole, IsFrontOfTable};
 ghost use Rattle.register_records.specs.Sources.{IsWholeTable, cause_number, is_whole_end};
-ghost use Rattle.register_records.specs.Tables.{heading_line, notes_of};
+ghost use Rattle.register_records.specs.Tables.{heading_line, refusal_notes};
 ghost use Rattle.register_records.specs.declared.setups.Form.TheVariants.{Sealed};
 ghost use Rattle.register_records.specs.Views.{format_of, given_of, layout_of, line_of, row_seen, text_of};
 ghost use Rattle.register_records.specs.Views.{writes_by};
 
-use crate::converting::{convert, day_of_body};
-use crate::entries::Entry;
+use crate::converting::day_of_body;
 use crate::outputs::Output;
 use crate::reading::EntryReader;
 use crate::rows::Row;
@@ -33,7 +32,7 @@ pub struct Note {
 /// Why a source is broken.
 #[derive(Clone, Copy, PartialEq, Eq, Debug)]
 pub enum Cause {
-    /// A growth of memory was refused.
+    /// Memory ran out.
     NoMemory,
     /// A thread did not start.
     NoThread,
@@ -94,7 +93,7 @@ impl SourceEnd {
     }
 }
 
-/// The cause that a fault is, which there is.
+/// The cause of a fault that has one.
 fn certain_cause(cause: Option<Cause>) -> Cause
     requires { IsSome cause }
     ensures { cause ≡ Some result }
@@ -121,7 +120,7 @@ fn write_row<W: Output>(
     ensures by { writes_by writer.new ≡ writes_by writer.old }
     ensures line { OnOk result (Appends (W.contents output.old) (W.contents output.new) (line_of writer.old row.now)) }
     ensures noted { OnOk result (journal.new.items
-        ≡ journal.old.items ++ notes_of (row_seen row.now).number (row_seen row.now).outcome) }
+        ≡ journal.old.items ++ refusal_notes (row_seen row.now).number (row_seen row.now).outcome) }
     ensures flushed { OnOk result (W.is_flushed output.new ≡ true) }
     ensures good { OnOk result (W.has_failed output.new ≡ W.has_failed output.old) }
     ensures causes { IfErr result (λ c. (c ≡ Cause.NoMemory) ⊎ (c ≡ Cause.SinkFault)) }
@@ -129,7 +128,7 @@ fn write_row<W: Output>(
     ensures sink { IfErr result (λ c. c ≡ Cause.SinkFault → W.has_failed output.new ≡ true) }
     ensures mark { W.own_mark output.new ≡ W.own_mark output.old }
 {
-    if row.push_note(journal).is_err() {
+    if row.push_refusal(journal).is_err() {
         return Err(Cause::NoMemory);
     }
     match writer.put(output, row) {
@@ -181,7 +180,7 @@ fn convert_next<R: Read + Drop, W: Output>(
     ensures mark { W.own_mark output.new ≡ W.own_mark output.old }
 {
     let answer = entries.read_next(&mut row.entry);
-    // Whatever was read, the row is now made that of its entry.
+    // Whatever was read, also at the end, a row is by its type that of its entry.
     let outcome = day_of_body(row.entry.body());
     row.answer.set(setup.targets(), outcome, setup.delimiter());
     row.outcome = outcome;
@@ -235,7 +234,7 @@ fn convert_entries<R: Read + Drop, W: Output>(
 {
     let mut journal = Vec::new(alloc);
     let mut rows = 0;
-    let mut row = convert(Entry::blank(), setup);
+    let mut row = Row::blank();
     'entries: loop {
         match convert_next(entries, writer, &mut journal, output, setup, &mut row) {
             Ok(Some(number)) => rows = number,

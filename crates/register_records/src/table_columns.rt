@@ -78,8 +78,8 @@ impl TableColumn {
         }
     }
 
-    /// What stands in the column of a row whose number is written so, for a column of an entry; the others have nothing
-    /// of it. A body that was refused has no texts.
+    /// What the column shows of the entry of a row; nothing for a column of the answer, or where the body was refused.
+    /// `number` is the row's number in decimal.
     #[inline(always)]
     pub fn field<'a>(self, number: &'a str, row: &'a Row) -> &'a str
         requires short { length number.now ≤ column_limit TableColumn.Number }

@@ -49,7 +49,8 @@ impl TargetList {
     }
 }
 
-/// The number that stands for these targets: their places are its digits to the base 16, and the first is the last.
+/// The number that stands for these targets: their places are its digits to the base 16, the first target's the last
+/// digit.
 fn number(targets: &[Target]) -> u64
     requires { length targets.now ≤ MAX_TARGETS }
     ensures { result ≡ number_of targets.now }

@@ -18,7 +18,7 @@ use thiserror::Error;
 /// Why writing rows stopped.
 #[derive(Clone, Copy, PartialEq, Eq, Debug, Error)]
 pub enum RowFault {
-    /// A growth of memory was refused; the output is as it was.
+    /// Memory ran out; the output is as it was.
     #[error("out of memory")]
     OutOfMemory,
     /// The output failed.
@@ -40,7 +40,7 @@ const ROOM: usize = MOST_WAITING + LINE_ROOM;
 pub(crate) enum WriterState {
     /// No call answered a fault.
     Open,
-    /// There was no memory for a line. Those before it can be sent.
+    /// Memory for a line ran out. Those before it can be sent.
     OutOfMemory,
     /// The output failed.
     Sunk,
@@ -79,7 +79,7 @@ impl RowWriter {
         ensures goes { OnOk result (W.has_failed output.new ≡ W.has_failed output.old) }
         ensures memory { IfErr result (λ e. e ≡ RowFault.OutOfMemory → output.new ≡ output.old) }
         ensures fault { IfErr result (λ e. e ≡ RowFault.WriteFault → W.has_failed output.new ≡ true) }
-        ensures told { IfErr result (λ e. e ≢ RowFault.Failed) }
+        ensures never { IfErr result (λ e. e ≢ RowFault.Failed) }
         ensures mark { W.own_mark output.new ≡ W.own_mark output.old }
     {
         let Ok(mut lines) = Lines::new(alloc, setup.delimiter(), ROOM) else {

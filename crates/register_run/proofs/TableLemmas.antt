@@ -14,7 +14,7 @@ use Rattle.register_records.specs.declared.writing.RowWriter.{RowWriter}
 use Rattle.register_records.specs.Entries.{AreNumberedFrom}
 use Rattle.register_records.specs.Laws.{TablesGrow}
 use Rattle.register_records.specs.Seen.{entry_seen}
-use Rattle.register_records.specs.Tables.{Layout, heading_line, journal_of, lines_text, notes_of, row_line, table_text}
+use Rattle.register_records.specs.Tables.{Layout, heading_line, journal_of, lines_text, refusal_notes, row_line, table_text}
 use Rattle.register_records.specs.Views.{line_of, row_seen, row_targets, waiting_in, writes_by}
 use Rattle.register_run.specs.TablesWritten.{Stands, entries_seen, rows_seen}
 use Rattle.register_run.proofs.GivenLemmas.{numbered_more}
@@ -139,10 +139,10 @@ targets_row P rows row all here r h =
     elim (Contains-append_cases rows (row ∷ []) r h) [ inl a ↦ all r a | inr b ↦ subst P (only row r b) here ]
 
 pub noted_row : (rows : List Row) (row : Row) (old new : List Note) → TablesGrow → old ≡ journal_of (rows_seen rows)
-    → new ≡ old ++ notes_of (row_seen row).number (row_seen row).outcome
+    → new ≡ old ++ refusal_notes (row_seen row).number (row_seen row).outcome
     → new ≡ journal_of (rows_seen (rows ++ row ∷ []))
 noted_row rows row old new grow h more =
-    more ∙ ap (λ b. b ++ notes_of (row_seen row).number (row_seen row).outcome) h
+    more ∙ ap (λ b. b ++ refusal_notes (row_seen row).number (row_seen row).outcome) h
     ∙ sym (grow (record { format = record { delimiter = 0; form = Plain }; targets = [] }) (rows_seen rows)
     (row_seen row)).1
     ∙ ap journal_of (sym (map-append row_seen rows (row ∷ [])))

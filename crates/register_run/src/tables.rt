@@ -5,7 +5,7 @@ ghost use Rattle.std.specs.Prelude.{vec_capacity, vec_len};
 ghost use Rattle.std.specs.Option.{is_some};
 ghost use Rattle.std.proofs.Props.{props};
 ghost use Rattle.register_records.specs.Entries.{record_limit};
-ghost use Rattle.register_records.specs.Tables.{notes_of};
+ghost use Rattle.register_records.specs.Tables.{refusal_notes};
 ghost use Rattle.register_records.specs.Views.{row_seen, writer_sunk};
 ghost use Rattle.register_records.specs.declared.sources.Cause.TheVariants as cause;
 ghost use Rattle.register_run.specs.Courses.{fault_of, is_sunk};
@@ -41,7 +41,7 @@ pub(crate) struct Table<W: Output> {
     ghost sink_told: { fault_of course ≡ Some cause.SinkFault → is_sunk course ≡ true },
     ghost not_reading: { IfSome (fault_of course) (λ c. is_of_reading c ≡ false) } by { Prim.hlevel props },
     ghost limited: { rows ≤ record_limit },
-    ghost few_notes: { vec_len journal ≤ rows },
+    ghost few_refused: { vec_len journal ≤ rows },
 }
 
 impl<W: Output + Drop> Table<W> {
@@ -140,7 +140,7 @@ impl<W: Output + Drop> Table<W> {
             self.course = Course::Halted(Cause::NoMemory);
             return;
         };
-        push_note(&mut self.journal, row);
+        push_refusal(&mut self.journal, row);
         self.rows = row.entry().number();
     }
 
@@ -208,13 +208,13 @@ impl<W: Output + Drop> Table<W> {
 }
 
 /// Notes a row that was refused, in a journal with room for it.
-fn push_note(journal: &mut Vec<Note>, row: &Row)
+fn push_refusal(journal: &mut Vec<Note>, row: &Row)
     requires { vec_len journal.old < vec_capacity journal.old }
     ensures items { journal.new.items
-        ≡ journal.old.items ++ notes_of (row_seen row.now).number (row_seen row.now).outcome }
+        ≡ journal.old.items ++ refusal_notes (row_seen row.now).number (row_seen row.now).outcome }
     ensures len { vec_len journal.new ≤ vec_len journal.old + 1 }
 {
-    let Ok(()) = row.push_note(journal) else {
+    let Ok(()) = row.push_refusal(journal) else {
         unreachable!();
     };
 }

@@ -57,7 +57,7 @@ fn tells_its_parts(row: &Row, setup: &Setup, other: &Setup) -> bool {
         })
         && row.is_for(setup)
         && !row.is_for(other)
-        && row.note().is_none()
+        && row.refusal_note().is_none()
 }
 
 /// The row of an entry that was made for another setup, made again for this one.

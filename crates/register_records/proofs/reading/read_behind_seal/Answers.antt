@@ -14,6 +14,6 @@ returns-then-more-clause-not_sealed g c _ =
     elim c.then-more.branch [
       | then-more-via-then-more w ↦ not_empty _ _ _ _ (found _ _ _ _ c.in_ok-more.ensures.reads w.if-more.true)
       | then-more-via-else-more+then-not-agrees w ↦
-          always _ (λ rows. rows ≡ [] → ¬ (Agrees (fields_of c.args.csv_record.now) c.args.count))
-          (λ rows empty a. cc (c.agrees-agrees.ensures.1 a, w.if-not-agrees.true))
+          always _ (λ records. records ≡ [] → ¬ (Agrees (fields_of c.args.csv_record.now) c.args.count))
+          (λ records empty a. cc (c.agrees-agrees.ensures.1 a, w.if-not-agrees.true))
     ]

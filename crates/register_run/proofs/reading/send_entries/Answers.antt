@@ -17,7 +17,7 @@ returns-in-Err-clause-sends g c =
     let is =
     given_none (g.R.Read.remaining c.args.source)
     (format_of c.args.setup.now) c.in-Err.fault c.cause_of.result c.cause_of.ensures c.in-Err.ensures.bad
-    c.in-Err.ensures.told.0 c.in-Err.ensures.told.2 in
+    c.in-Err.ensures.never.0 c.in-Err.ensures.never.2 in
     ∣ ([], is, λ w many. dealt_none w 0 c.args.senders.now.items c.requires.fresh) ∣₁
 
 pub returns-in-Ok-None-clause-sends : goal.returns-in-Ok-None-clause-sends

@@ -1,6 +1,6 @@
 use Rattle.std.proofs.Common.{◌≡◌, ◌∙◌, ◌++◌, ap, subst, sym, inr}
 use Rattle.register_records.specs.Seen.{entry_seen}
-use Rattle.register_records.specs.Tables.{notes_of}
+use Rattle.register_records.specs.Tables.{refusal_notes}
 use Rattle.register_records.specs.Views.{layout_of, row_seen, row_targets, targets_of}
 use Rattle.register_records.specs.declared.rows.Row.{Row}
 use Rattle.register_run.specs.TablesWritten.{Stands}
@@ -20,7 +20,7 @@ returns-clause-rows g c = λ rows h.
       counted = counted_row rows row old.rows h.counted ∙ sym c.requires.number ∙ sym next;
       targets = targets_row (λ (r : Row). row_targets r ≡ targets_of old.setup) rows row h.targets c.requires.targets;
       noted =
-          noted_row rows row old.journal.items c.push_note.new.journal.items c.tables_grow.ensures h.noted
-          (c.push_note.ensures.items ∙ ap (λ b.
-          b ++ notes_of (row_seen row).number (row_seen row).outcome) c.reserve.ensures.items);
+          noted_row rows row old.journal.items c.push_refusal.new.journal.items c.tables_grow.ensures h.noted
+          (c.push_refusal.ensures.items ∙ ap (λ b.
+          b ++ refusal_notes (row_seen row).number (row_seen row).outcome) c.reserve.ensures.items);
     })

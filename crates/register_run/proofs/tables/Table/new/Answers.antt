@@ -12,7 +12,7 @@ invariant_of-result g c = record {
   sink_told = λ e. cc;
   not_reading = tt;
   limited = omega arith;
-  few_notes = omega arith;
+  few_refused = omega arith;
 }
 
 pub returns-clause-empty : goal.returns-clause-empty

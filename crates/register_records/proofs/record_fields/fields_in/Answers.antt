@@ -2,7 +2,7 @@ use Rattle.std.proofs.Common.{◌≡◌, ◌<◌, ◌∙◌, ap, arith, length, 
 use Rattle.csv.specs.Records.{fields_of}
 use Rattle.register_records.specs.Records.{field_count}
 use Rattle.register_records.proofs.FieldLemmas.{field_there, one_of_three, plain_texts, sealed_texts}
-use Rattle.register_records.proofs.columns.columns_in.Goals as goal
+use Rattle.register_records.proofs.record_fields.fields_in.Goals as goal
 
 pub returns-in_err-id : goal.returns-in_err-id
 returns-in_err-id c =

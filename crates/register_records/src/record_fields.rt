@@ -1,26 +1,26 @@
-//! The fields of a record by their columns.
+//! The fields of a record by what they hold.
 
 ghost use Rattle.std.specs.Prelude.{◌≡◌, MatchOption, None, Some};
 ghost use Rattle.csv.specs.Records.{fields_of};
 ghost use Rattle.register_records.specs.Records.{texts_of};
-ghost use Rattle.register_records.specs.Seen.{columns_seen};
+ghost use Rattle.register_records.specs.Seen.{fields_seen};
 
 use crate::setups::Form;
 use csv::ByteRecord;
 
-/// The fields of a record by their columns. The note is empty where the form has none.
+/// The fields of a record. The note is empty where the form has none.
 #[derive(Drop)]
-pub(crate) struct Columns<'a> {
+pub(crate) struct RecordFields<'a> {
     pub(crate) id: &'a [u8],
     pub(crate) calendar: &'a [u8],
     pub(crate) date: &'a [u8],
     pub(crate) note: &'a [u8],
 }
 
-/// The columns of a record that has as many fields as the form wants.
-pub(crate) fn columns_in(csv_record: &ByteRecord, form: Form) -> Option<Columns<'_>>
+/// The fields of a record that has as many as the form wants.
+pub(crate) fn fields_in(csv_record: &ByteRecord, form: Form) -> Option<RecordFields<'_>>
     ensures { MatchOption result (texts_of form (fields_of csv_record.now) ≡ None)
-        (λ c. texts_of form (fields_of csv_record.now) ≡ Some (columns_seen c)) }
+        (λ c. texts_of form (fields_of csv_record.now) ≡ Some (fields_seen c)) }
 {
     if csv_record.len() != form.field_count() {
         return None;
@@ -29,13 +29,13 @@ pub(crate) fn columns_in(csv_record: &ByteRecord, form: Form) -> Option<Columns<
     let calendar = csv_record.get(1)?;
     let date = csv_record.get(2)?;
     match form {
-        Form::Plain => Some(Columns {
+        Form::Plain => Some(RecordFields {
             id,
             calendar,
             date,
             note: b"",
         }),
-        Form::Sealed => Some(Columns {
+        Form::Sealed => Some(RecordFields {
             id,
             calendar,
             date,

@@ -5,7 +5,7 @@
 --   AnswerLemmas, LineLemmas, BareLemmas: that a line is the fields of its row, for `put`, `add` and `open` of
 --   `RowWriter`.
 --   TargetNumberLemmas: `is_for` of `Row`.
---   ProgressLemmas: `whole`, `numbers` and `part` of `convert_source`.
+--   ProgressLemmas: `whole`, `numbers` and `part` of `convert_source`, and the law `tables_grow`.
 --   OneTableLemmas, EveryTableLemmas, ReadBackLemmas, NoLossLemmas, OneFateLemmas: the laws `one_table`,
 --   `every_text_has_table`, `cells_read_back`, `no_loss_is_sealed`, `one_fate`.
 pub mod FieldLemmas

@@ -1,10 +1,12 @@
 -- Which file serves which public clause:
 --   ArmLemmas, LinkLemmas, PassageLemmas, GivenLemmas, FrontLemmas, MoveLemmas: that the rows that were taken from a
---     source's lanes are those of its entries. CarriedLemmas, ConvertingLemmas, DealtLemmas, PoppedLemmas: that each
---     lane carries what the machine deals to its stripe, in order, and that the writer goes by the machine's turns.
---     HistoryLemmas: that some schedule of the machine has the histories of these lanes.
---   TableLemmas, StationLemmas, SettledLemmas: what is known of one source and its output.
---   HeadlineLemmas: from there to the clauses of `run` and `run_gated`.
+--     source's lanes are those of its entries; the fields `table` and `part` of `report`.
+--   CarriedLemmas, ConvertingLemmas, DealtLemmas, PoppedLemmas: that each lane carries what the machine deals to its
+--     stripe, in order, and that the writer goes by the machine's turns. HistoryLemmas, upon these: that some schedule of
+--     the machine has the histories of these lanes; the clause `machine`.
+--   TableLemmas, StationLemmas, SettledLemmas: what is known of one source and its output; the fields of `IsWhole` and
+--     `IsBroken`.
+--   HeadlineLemmas: from there to the clauses `report` and `machine` of `run` and `run_gated`.
 --   ScheduleLemmas: the law `every_schedule`, from that of the machine in striped_lanes.
 pub mod ArmLemmas
 pub mod CarriedLemmas

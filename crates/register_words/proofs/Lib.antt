@@ -1,6 +1,8 @@
--- Which file serves which public clause:
---   NameLemmas, ListLemmas, FileLemmas, KindLemmas, OptionLemmas, WordLemmas: that words mean one thing at most, for
---     `read_request`. SetupLemmas: that what they ask for makes a setup.
+-- Which file serves which public clause of `read_request`:
+--   KindLemmas: an error of clap is of one kind. OptionLemmas: what clap finds, and the values that it makes.
+--   NameLemmas, ListLemmas: a list of targets means one thing. FileLemmas: files have one fault at most.
+--   WordLemmas, upon these: words mean one thing, for `asked` and `refused`.
+--   SetupLemmas: what they ask for makes a setup, for `asked`.
 mod FileLemmas
 mod KindLemmas
 mod ListLemmas

@@ -6,7 +6,7 @@ use Rattle.std.specs.Option.{is_some}
 use Rattle.std.specs.List.{Contains}
 use Rattle.std.specs.Io.KnownBytes.{Appends, append_known}
 use Rattle.std.proofs.lemmas.List.{length-map}
-use Rattle.std.proofs.lemmas.List.Elements.{Contains-append_right}
+use Rattle.std.proofs.lemmas.List.Elements.{All-contains, All-from_recursion, Contains-append_right}
 use Rattle.std.proofs.Props.{props}
 use Rattle.std.proofs.Math.Logic.{∥∥₁_elim, ∥∥₁_map, ∥∥₁_prop}
 use Rattle.date_texts.specs.declared.calendar.Target.{Target}
@@ -29,7 +29,7 @@ use Rattle.register_run.specs.declared.settling.Course.{Course}
 use Rattle.register_run.specs.declared.settling.Course.TheVariants as course
 use Rattle.register_run.specs.declared.tables.Table.{Table}
 use Rattle.register_run.specs.Courses.{fault_of, is_sunk}
-use Rattle.register_run.specs.Headline.{IsSettled}
+use Rattle.register_run.specs.Headline.{IsSettled, causes_of_reading}
 use Rattle.register_run.specs.Passages.{HasPassed, IsGiven, IsOfGiven, is_of_reading, tells_of_text}
 use Rattle.register_run.specs.TablesWritten.{AllSent, Holds, Stands, entries_seen, rows_seen, waiting_of}
 use Rattle.register_run.proofs.FrontLemmas.{first_of_first, front_all, rows_front}
@@ -60,6 +60,12 @@ faultless : (c : Course) → fault_of c ≡ None → is_sunk c ≡ false
 faultless course.Open e = refl
 faultless (course.Halted c) e = refl
 faultless (course.Sunk c) e = cc
+
+listed : (c : Cause) → Contains causes_of_reading c → is_of_reading c ≡ true
+listed c h =
+    let each = λ (d : Cause). is_of_reading d ≡ true in
+    All-contains each causes_of_reading c
+    (All-from_recursion each causes_of_reading (refl, (refl, (refl, (refl, tt))))) h
 
 not_true : (b : Bool) → (b ≡ true → ⊥) → b ≡ false
 not_true true h = absurd (h refl)
@@ -197,13 +203,13 @@ module _ {W : Type 0} (o : outputs.Ghosts W) (text : Option (List ℕ)) (table :
       → ∥ IsSettled o (layout_of table.setup) text table.given.value table.output
       (end.Broken c) ∥₁
   threads_so c other sink = ∥∥₁_map (rows_are (layout_of table.setup).targets rows holds.targets) (λ are. record {
-    part = λ e. absurd (cc);
+    part = λ e. absurd (let k = listed c e in cc);
     bad_header = λ e. absurd (let k : is_of_reading c ≡ true = ap is_of_reading e in cc);
     too_many = λ e. absurd (let k : is_of_reading c ≡ true = ap is_of_reading e in cc);
     not_sealed = λ e. absurd (let k : is_of_reading c ≡ true = ap is_of_reading e in cc);
     in_order = λ good. in_order_so (is_some table.writer) refl (not_failed good) are;
     sink = λ e. table.failed (table.sink_told (sink e));
-    kept = λ e. absurd (cc);
+    kept = λ e. absurd (let k = listed c e in cc);
   })
 
   broken_so : (b : Bool) (c : Cause) → is_of_reading c ≡ b

@@ -76,7 +76,7 @@ pub record IsConverting (from into : Lane) (r : Converting) : Type 0 where
   pub rows : HasConfirmation r.closed → AreOfTaken (taken r.entries) (all_sent r.closed)
   pub all : HasConfirmation r.closed → HasEnd (all_sent r.closed) → AreOfAllTaken (taken r.entries) (all_sent r.closed)
 
--- the reader alone gives these causes
+-- the reader alone gives this cause
 abbrev pub is_of_reading : Cause → Bool
 is_of_reading cause.ReadFault = true
 is_of_reading cause.BadHeader = true

@@ -121,6 +121,7 @@ impl<R: Read + Drop> Link<R> {
         ensures setup { started_by self.new ≡ started_by self.old }
         ensures kept { (row : Row) → Passed self.old row → Passed self.new row }
         ensures given { HasGiven self.old self.new }
+        ensures stopped { self.new.stopped ≡ self.old.stopped }
     {
         Arm::pass_at(&mut self.arms, self.turn);
         self.turn = next_open(&self.arms, self.turn);

@@ -1,5 +1,5 @@
 -- What a reader gave of a text, by how it ended.
-use Rattle.std.proofs.Common.{◌≡◌, subst, refl, ℕ, ◌+◌, List, [], ◌∷◌, ◌++◌, length, Option, inl, inr, arith}
+use Rattle.std.proofs.Common.{◌≡◌, ◌⊎◌, ap, subst, refl, ℕ, ◌+◌, List, [], ◌∷◌, ◌++◌, length, Option, inl, inr, arith}
 use Rattle.std.specs.Prelude.{Err, IfSome, Ok}
 use Rattle.std.proofs.Math.Logic.{∥∥₁_elim, ∥∥₁_map, ∥∥₁_prop}
 use Rattle.register_records.specs.Entries.{AreNumberedFrom, Format, HasEntries, HasFirstEntries, HasNoHeader}
@@ -14,7 +14,7 @@ use Rattle.register_records.specs.declared.entries.Entry.{Entry}
 use Rattle.register_records.specs.declared.rows.Row.{Row}
 use Rattle.register_run.specs.Carried.{AreDealt}
 use Rattle.register_run.specs.Worlds.{World}
-use Rattle.register_run.specs.Passages.{HasPassed, IsCauseOf, IsGiven, IsOfThreads, Sends}
+use Rattle.register_run.specs.Passages.{HasPassed, IsCauseOf, IsGiven, IsOfThreads, Sends, is_of_reading}
 
 pub numbered_more : (k : ℕ) (given : List Numbered) (n : Numbered) → AreNumberedFrom k given
     → n.number ≡ k + length given → AreNumberedFrom k (given ++ n ∷ [])
@@ -145,6 +145,11 @@ module _ (text text' : Option (List ℕ)) (d d' : Format) (same : text' ≡ text
 
   pub sends_gone : ∥ Sends text d (Err cause.Unconfirmed) senders ∥₁
   sends_gone = ∥∥₁_map (given_gone text d old numbered first') (λ is. (old, is, deals))
+
+-- neither running out of memory nor a lane that is not confirmed is given by the reader alone or by the output
+pub of_threads : (c : Cause) → (c ≡ cause.NoMemory) ⊎ (c ≡ cause.Unconfirmed) → IsOfThreads c
+of_threads c (inl e) = (ap is_of_reading e, λ s. cc)
+of_threads c (inr e) = (ap is_of_reading e, λ s. cc)
 
 -- an answer that does not speak of the text says nothing
 pub passed_not : (text : Option (List ℕ)) (d : Format) (c : Cause) (took : Row → Type 0) → IsOfThreads c

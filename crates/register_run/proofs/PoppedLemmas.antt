@@ -59,7 +59,7 @@ module _ (arms : List Arm) (at : ℕ) (new old : Arm) (within : at < length arms
 
   -- the arm gave a row
   pub popped_at : new.«open» ≡ old.«open» → popped_from new ≡ popped_from old + 1 → HasPopped arms (set arms at new)
-  popped_at same one all = (were_open (sym same ∙ new_open all) all, popped_more 1 one)
+  popped_at same one = (λ all. were_open (sym same ∙ new_open all) all, popped_more 1 one)
 
 -- a look at an arm leaves the turn as it was
 pub in_turn_looked : (old new : List Arm) (at turned : ℕ) (found : Found) → HasLookedAt turned old new found
@@ -78,12 +78,12 @@ pub in_turn_popped : (old new : List Arm) (at next : ℕ) → HasPopped old new 
     → slice_get new (turn w (k + 1)) ≡ Some arm → arm.«open» ≡ true → next ≡ turn w (k + 1))
     → IsInTurn new next
 in_turn_popped old new at next has long within turns goes all w many =
-    let (were, one) = has all in
+    let (were, one) = has in
     let k = popped old in
     let there : turn w (k + 1) < length new =
     (let b = mod_below (k + 1) w.converters (omega (arith, many, long, within)) in omega (arith, b, many)) in
     let d = one_of new (omega (arith, long, within)) in
-    goes w k (get_or new (turn w (k + 1)) d) many (turns were w (many ∙ long))
+    goes w k (get_or new (turn w (k + 1)) d) many (turns (were all) w (many ∙ long))
     (slice_get-get_or new (turn w (k + 1)) d there) (all (turn w (k + 1)) d there)
     ∙ ap (turn w) (sym one)
 

@@ -1,12 +1,12 @@
 -- What is known of a source that has ended.
 use Rattle.std.proofs.Common.{◌≡◌, ◌≢◌, ◌∙◌, ap, refl, sym, subst, ℕ, List, [], ◌∷◌, ◌++◌, length, Option, None, Some}
-use Rattle.std.proofs.Common.{inl, inr, arith, append-nil, length-append, map, ◌+◌, true, false, Bool}
+use Rattle.std.proofs.Common.{◌≤◌, inl, inr, arith, append-nil, length-append, map, ◌+◌, true, false, Bool}
 use Rattle.std.specs.Prelude.{Err, IfErr, IfOk, IfSome, Ok, Result}
 use Rattle.std.specs.Option.{is_some}
 use Rattle.std.specs.List.{Contains, range_with_len}
 use Rattle.std.specs.Io.KnownBytes.{Appends, append_known}
 use Rattle.std.proofs.lemmas.List.{length-map}
-use Rattle.std.proofs.lemmas.List.Elements.{Contains-append_right}
+use Rattle.std.proofs.lemmas.List.Elements.{All-contains, All-from_recursion, Contains-append_right}
 use Rattle.std.proofs.Props.{props}
 use Rattle.std.proofs.Math.Logic.{∥∥₁_elim, ∥∥₁_map, ∥∥₁_prop}
 use Rattle.date_texts.specs.declared.calendar.Target.{Target}
@@ -23,15 +23,15 @@ use Rattle.register_records.specs.Entries.{AreNumberedFrom, HasEntries, HasFirst
 use Rattle.register_records.specs.Entries.{HasTooMany, IsNotSealed, Numbered}
 use Rattle.register_records.specs.Outcomes.{AreRowsOf, IsRowOf}
 use Rattle.register_records.specs.Seen.{entry_seen}
-use Rattle.register_records.specs.Sources.{ArePartOfTable, Gains, IfBroken, IfWhole, IsTableOf}
+use Rattle.register_records.specs.Sources.{ArePartOfTable, Gains, IfBroken, IfWhole, IsTableOf, cause_number}
 use Rattle.register_records.specs.Tables.{Layout, table_text}
 use Rattle.register_records.specs.Views.{format_of, layout_of, row_seen, row_targets, waiting_in}
 use Rattle.register_run.specs.declared.settling.Course.{Course}
 use Rattle.register_run.specs.declared.settling.Course.TheVariants as course
 use Rattle.register_run.specs.declared.tables.Table.{Table}
-use Rattle.register_run.specs.Courses.{fault_of, is_sunk}
-use Rattle.register_run.specs.Headline.{IsSettled}
-use Rattle.register_run.specs.Passages.{HasPassed, IsGiven, IsOfGiven, is_of_reading, tells_of_text}
+use Rattle.register_run.specs.Courses.{Differs, IsLowest, IsMet, fault_of, is_of_table, is_sunk}
+use Rattle.register_run.specs.Headline.{IsSettled, causes_of_reading}
+use Rattle.register_run.specs.Passages.{HasPassed, IsGiven, IsNotSunk, IsOfGiven, is_of_reading, tells_of_text}
 use Rattle.register_run.specs.TablesWritten.{AllSent, Holds, Stands, entries_seen, rows_seen, waiting_of}
 use Rattle.register_run.proofs.FrontLemmas.{first_of_first, front_all, rows_front}
 
@@ -68,6 +68,12 @@ faultless course.Open e = refl
 faultless (course.Halted c) e = refl
 faultless (course.Sunk c) e = cc
 
+listed : (c : Cause) → Contains causes_of_reading c → is_of_reading c ≡ true
+listed c h =
+    let each = λ (d : Cause). is_of_reading d ≡ true in
+    All-contains each causes_of_reading c
+    (All-from_recursion each causes_of_reading (refl, (refl, (refl, (refl, tt))))) h
+
 not_true : (b : Bool) → (b ≡ true → ⊥) → b ≡ false
 not_true true h = absurd (h refl)
 not_true false h = refl
@@ -85,6 +91,70 @@ table_so o layout given output (Some w) rows e none h = (
   appends_waited (o.contents given) (o.contents output) (waiting_in w) (table_text layout (rows_seen rows)) none h.0,
   h.1,
 )
+
+-- the causes of reading are higher than those of a table
+high : (c : Cause) → is_of_reading c ≡ true → 5 ≤ cause_number c
+high cause.NoMemory e = cc
+high cause.NoThread e = cc
+high cause.Unconfirmed e = cc
+high cause.SinkFault e = cc
+high cause.ReadFault e = omega arith
+high cause.BadHeader e = omega arith
+high cause.TooManyRecords e = omega arith
+high cause.NotSealed e = omega arith
+
+low : (c : Cause) → is_of_table c ≡ true → cause_number c ≤ 4
+low cause.NoMemory e = omega arith
+low cause.NoThread e = cc
+low cause.Unconfirmed e = omega arith
+low cause.SinkFault e = omega arith
+low cause.ReadFault e = cc
+low cause.BadHeader e = cc
+low cause.TooManyRecords e = cc
+low cause.NotSealed e = cc
+
+module _ (passed : Result ℕ Cause) (fault : Option Cause) (headed : Bool) (count : ℕ) (c : Cause)
+    (of_table : IfSome fault (λ f. is_of_table f ≡ true)) where
+  -- a cause that no table gives is the answer of the threads
+  met_by_threads : is_of_table c ≡ false → IsMet passed fault headed count c → passed ≡ Err c
+  met_by_threads other (inl told) = told
+  met_by_threads other (inr (inl broke)) =
+      absurd (let k = subst (λ f. IfSome f (λ d. is_of_table d ≡ true)) broke of_table in cc)
+  met_by_threads other (inr (inr differs)) = absurd (let k = ap is_of_table differs.0 in cc)
+
+  sink_met : IsNotSunk passed → IsMet passed fault headed count c → c ≡ cause.SinkFault → fault ≡ Some cause.SinkFault
+  sink_met dry (inl told) e = absurd (subst IsNotSunk told dry e)
+  sink_met dry (inr (inl broke)) e = broke ∙ ap Some e
+  sink_met dry (inr (inr differs)) e = absurd (let k = differs.0 in cc)
+
+  module _ (lowest : IsLowest (IsMet passed fault headed count) c) (reading : is_of_reading c ≡ true) where
+    not_of_table : (d : Cause) → is_of_table d ≡ true → cause_number c ≤ cause_number d → ⊥
+    not_of_table d of below = let a = high c reading in let b = low d of in omega (arith, a, b, below)
+
+    none_broke : (f : Option Cause) → fault ≡ f → f ≡ None
+    none_broke None e = refl
+    none_broke (Some d) e = absurd (not_of_table d
+        (subst (λ f. IfSome f (λ d. is_of_table d ≡ true)) e of_table) (lowest.1 d (inr (inl e))))
+
+    reading_met : (passed ≡ Err c) × (fault ≡ None) × (headed ≡ true → count ≢ 0)
+    reading_met =
+        let told = met_by_threads (not_true (is_of_table c) (λ of. not_of_table c of (omega arith))) lowest.0 in
+        let none = none_broke fault refl in (
+          told,
+          none,
+          λ head zero.
+              let differs = subst (λ p. Differs p headed count) (sym told) (head, zero) in
+              not_of_table cause.Unconfirmed refl (lowest.1 cause.Unconfirmed (inr (inr (refl, none, differs)))),
+        )
+
+-- cause 2 is the answer of the threads
+pub thread_told : (passed : Result ℕ Cause) (fault : Option Cause) (headed : Bool) (count : ℕ)
+    → IfSome fault (λ f. is_of_table f ≡ true) → (e : SourceEnd)
+    → IfBroken e (IsLowest (IsMet passed fault headed count)) → e ≡ end.Broken cause.NoThread
+    → passed ≡ Err cause.NoThread
+thread_told passed fault headed count of_table e lowest is =
+    met_by_threads passed fault headed count cause.NoThread of_table refl
+    (subst (λ b. IfBroken b (IsLowest (IsMet passed fault headed count))) is lowest).0
 
 module _ {W : Type 0} (o : outputs.Ghosts W) (text : Option (List ℕ)) (table : Table W o) (rows : List Row)
     (passed : Result ℕ Cause) (holds : Holds table rows) (sent : AllSent table)
@@ -204,13 +274,13 @@ module _ {W : Type 0} (o : outputs.Ghosts W) (text : Option (List ℕ)) (table :
       → ∥ IsSettled o (layout_of table.setup) text table.given.value table.output
       (end.Broken c) ∥₁
   threads_so c other sink = ∥∥₁_map (rows_are (layout_of table.setup).targets rows holds.targets) (λ are. record {
-    part = λ e. absurd (cc);
+    part = λ e. absurd (let k = listed c e in cc);
     bad_header = λ e. absurd (let k : is_of_reading c ≡ true = ap is_of_reading e in cc);
     too_many = λ e. absurd (let k : is_of_reading c ≡ true = ap is_of_reading e in cc);
     not_sealed = λ e. absurd (let k : is_of_reading c ≡ true = ap is_of_reading e in cc);
     in_order = λ good. in_order_so (is_some table.writer) refl (not_failed good) are;
     sink = λ e. table.failed (table.sink_told (sink e));
-    kept = λ e. absurd (cc);
+    kept = λ e. absurd (let k = listed c e in cc);
   })
 
   broken_so : (b : Bool) (c : Cause) → is_of_reading c ≡ b
@@ -223,13 +293,13 @@ module _ {W : Type 0} (o : outputs.Ghosts W) (text : Option (List ℕ)) (table :
 
   -- a source with another header has no table
   pub headless : (e : SourceEnd)
-      → IfBroken e (λ c. is_of_reading c ≡ true
-      → (passed ≡ Err c) × (fault_of table.course ≡ None) × (headed ≡ true → table.rows ≢ 0))
+      → IfBroken e (IsLowest (IsMet passed (fault_of table.course) headed table.rows))
       → e ≡ end.Broken cause.BadHeader → (is_some table.writer ≡ false) × (is_sunk table.course ≡ false)
-  headless (end.Whole count refused journal) reading is = absurd (cc)
-  headless (end.Broken c) reading is =
+  headless (end.Whole count refused journal) lowest is = absurd (cc)
+  headless (end.Broken c) lowest is =
       let same : c ≡ cause.BadHeader = cc in
-      let fact = reading (ap is_of_reading same) in
+      let fact =
+      reading_met passed (fault_of table.course) headed table.rows c table.of_table lowest (ap is_of_reading same) in
       let told : tells_of_text passed ≡ true = ap tells_of_text fact.0 ∙ ap is_of_reading same in (
         not_true (is_some table.writer) (λ some. ∥∥₁_elim (has.rows told) (Prim.hlevel props) (λ (given, so, all).
             let bad =
@@ -242,13 +312,14 @@ module _ {W : Type 0} (o : outputs.Ghosts W) (text : Option (List ℕ)) (table :
   pub settled : (e : SourceEnd)
       → IfWhole e (λ count refused notes. (passed ≡ Ok count) × (fault_of table.course ≡ None) × (headed ≡ true)
       × (count ≡ table.rows) × (refused ≡ length notes) × (notes ≡ table.journal.items))
-      → IfBroken e (λ c. is_of_reading c ≡ true
-      → (passed ≡ Err c) × (fault_of table.course ≡ None) × (headed ≡ true → table.rows ≢ 0))
-      → IfBroken e (λ c. c ≡ cause.SinkFault → fault_of table.course ≡ Some cause.SinkFault)
+      → IfBroken e (IsLowest (IsMet passed (fault_of table.course) headed table.rows))
       → ∥ IsSettled o
       (layout_of table.setup) text table.given.value table.output e ∥₁
-  settled (end.Broken c) whole reading sink = broken_so (is_of_reading c) c refl reading sink
-  settled (end.Whole count refused journal) whole reading sink =
+  settled (end.Broken c) whole lowest =
+      let fault = fault_of table.course in
+      broken_so (is_of_reading c) c refl (reading_met passed fault headed table.rows c table.of_table lowest)
+      (sink_met passed fault headed table.rows c table.of_table has.not_sunk lowest.0)
+  settled (end.Whole count refused journal) whole lowest =
       let dry = faultless table.course whole.1 in
       let told : tells_of_text passed ≡ true = ap tells_of_text whole.0 in
       ∥∥₁_elim (has.rows told) ∥∥₁_prop

@@ -1,6 +1,8 @@
--- How far a table goes on. No public contract cites this file.
-use Rattle.std.specs.Prelude.{Bool, false, true, Option, None, Some}
+-- How far a table goes on, and for which cause a source breaks off. No public contract cites this file.
+use Rattle.std.specs.Prelude.{◌≡◌, ◌≤◌, ◌⊎◌, ℕ, Bool, false, true, Option, None, Some, Result, Ok, Err}
+use Rattle.register_records.specs.Sources.{cause_number}
 use Rattle.register_records.specs.declared.sources.Cause.{Cause}
+use Rattle.register_records.specs.declared.sources.Cause.TheVariants as cause
 use Rattle.register_run.specs.declared.settling.Course.{Course}
 use Rattle.register_run.specs.declared.settling.Course.TheVariants as course
 
@@ -15,3 +17,25 @@ abbrev pub fault_of : Course → Option Cause
 fault_of course.Open = None
 fault_of (course.Halted c) = Some c
 fault_of (course.Sunk c) = Some c
+
+-- a table breaks off for this cause
+abbrev pub is_of_table : Cause → Bool
+is_of_table cause.NoMemory = true
+is_of_table cause.Unconfirmed = true
+is_of_table cause.SinkFault = true
+is_of_table cause = false
+
+-- what was written is not what the threads answered: not all rows with the heading, or the heading without a row though
+-- they gave up
+abbrev pub Differs : Result ℕ Cause → Bool → ℕ → Type 0
+Differs (Ok count) headed rows = (headed ≡ true) × (rows ≡ count) → ⊥
+Differs (Err c) headed rows = (headed ≡ true) × (rows ≡ 0)
+
+-- a source has met this cause: its threads answered it, its table broke off for it, or the table did not and differs
+abbrev pub IsMet : Result ℕ Cause → Option Cause → Bool → ℕ → Cause → Type 0
+IsMet passed fault headed rows c =
+    (passed ≡ Err c) ⊎ (fault ≡ Some c) ⊎ ((c ≡ cause.Unconfirmed) × (fault ≡ None) × Differs passed headed rows)
+
+-- the lowest of these causes
+abbrev pub IsLowest : (Cause → Type 0) → Cause → Type 0
+IsLowest Is c = Is c × ((other : Cause) → Is other → cause_number c ≤ cause_number other)

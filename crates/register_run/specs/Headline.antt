@@ -1,5 +1,6 @@
 -- What a run promises of each source.
 use Rattle.std.specs.Prelude.{◌≡◌, ℕ, List, [], ◌∷◌, Option, None, IfSome, ⊤, true, false}
+use Rattle.std.specs.List.{Contains}
 use Rattle.register_records.specs.Entries.{HasNoHeader, HasTooMany, IsNotSealed}
 use Rattle.register_records.specs.Sources.{ArePartOfTable, Gains, IsWholeTable}
 use Rattle.register_records.specs.Tables.{Layout}
@@ -10,15 +11,17 @@ use Rattle.register_records.specs.declared.sources.Cause.TheVariants as cause
 use Rattle.register_records.specs.declared.sources.Note.{Note}
 use Rattle.register_records.specs.declared.sources.SourceEnd.{SourceEnd}
 use Rattle.register_records.specs.declared.sources.SourceEnd.TheVariants as ended
-use Rattle.register_run.specs.Passages.{is_of_reading}
 
 -- the lists have one length, and this holds at each place: of the source there, of its output as it was handed in and
 -- as it is handed back, and of its end
-abbrev pub AtEachPlace : {R W : Type 0} → (R → W → W → SourceEnd → Type 0) → List R → List W → List W → List SourceEnd
-    → Type 0
+abbrev pub AtEachPlace : {R W E : Type 0} → (R → W → W → E → Type 0) → List R → List W → List W → List E → Type 0
 AtEachPlace Holds [] [] [] [] = ⊤
 AtEachPlace Holds (r ∷ rs) (g ∷ gs) (w ∷ ws) (e ∷ es) = Holds r g w e × AtEachPlace Holds rs gs ws es
 AtEachPlace Holds sources given written ends = ⊥
+
+-- the reader alone gives these causes
+abbrev pub causes_of_reading : List Cause
+causes_of_reading = cause.ReadFault ∷ cause.BadHeader ∷ cause.TooManyRecords ∷ cause.NotSealed ∷ []
 
 -- of the output of a source with this text, where it tells its bytes: as it was handed in, and as it is handed back
 module _ {W : Type 0} (o : outputs.Ghosts W) (layout : Layout) (text : Option (List ℕ)) (given written : W) where
@@ -32,8 +35,8 @@ module _ {W : Type 0} (o : outputs.Ghosts W) (layout : Layout) (text : Option (L
   -- the source is broken for this cause; in a table of no known text the rows are in the order of their numbers, from
   -- 1, and each is the row of the entry that it carries
   pub record IsBroken (c : Cause) : Type 0 where
-    pub part : is_of_reading c ≡ true → Gains (o.contents given) (o.contents written) (ArePartOfTable layout text)
-    pub kept : is_of_reading c ≡ true → o.has_failed written ≡ o.has_failed given
+    pub part : Contains causes_of_reading c → Gains (o.contents given) (o.contents written) (ArePartOfTable layout text)
+    pub kept : Contains causes_of_reading c → o.has_failed written ≡ o.has_failed given
     pub bad_header : c ≡ cause.BadHeader → IfSome text (HasNoHeader layout.format)
     pub too_many : c ≡ cause.TooManyRecords → IfSome text (HasTooMany layout.format)
     pub not_sealed : c ≡ cause.NotSealed → (layout.format.form ≡ Sealed) × IfSome text (IsNotSealed layout.format)

@@ -4,7 +4,7 @@ use Rattle.register_records.specs.declared.rows.Row.{Row}
 use Rattle.register_records.specs.declared.setups.Setup.{Setup}
 use Rattle.register_run.specs.declared.links.Link.{Link}
 use Rattle.register_run.specs.Arms.{AnyTook}
-use Rattle.register_run.specs.Popped.{IsRowNextAt}
+use Rattle.register_run.specs.Popped.{HasPopped, IsRowNextAt}
 
 module _ {R : Type 0} where
   -- the source that the link was started on
@@ -22,3 +22,7 @@ module _ {R : Type 0} where
   -- a look found a row, which was not taken yet
   abbrev pub IsNext : Link R → Type 0
   IsNext link = (link.turn < length link.arms.items) × IsRowNextAt link.arms.items link.turn
+
+  -- one row was taken
+  abbrev pub HasGiven : Link R → Link R → Type 0
+  HasGiven old new = HasPopped old.arms.items new.arms.items

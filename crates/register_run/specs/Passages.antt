@@ -46,6 +46,10 @@ pub record IsGiven (text : Option (List ℕ)) (format : Format) (outcome : Resul
 abbrev pub IsNotSunk : Result ℕ Cause → Type 0
 IsNotSunk outcome = IfErr outcome (λ c. c ≡ cause.SinkFault → ⊥)
 
+-- nor is a thread that did not start
+abbrev pub HasStarted : Result ℕ Cause → Type 0
+HasStarted outcome = IfErr outcome (λ c. c ≡ cause.NoThread → ⊥)
+
 -- the cause that a fault of reading entries is
 abbrev pub IsCauseOf : EntryFault → Cause → Type 0
 IsCauseOf fault c = MatchOption (entry_fault_cause fault) (c ≡ cause.Unconfirmed) (λ is. c ≡ is)
@@ -67,6 +71,7 @@ pub record IsReading (text : Option (List ℕ)) (format : Format) (lanes : List 
   pub from : AreOfLanes lanes r.closed.items
   pub entries : ∥ HasSent text format r.outcome r.closed.items ∥₁
   pub not_sunk : IsNotSunk r.outcome
+  pub started : HasStarted r.outcome
 
 -- a converter which was given these two lanes may answer so: its rows are those of the first entries that it took, and
 -- of all of them where it ended their lane with an `End`
@@ -76,7 +81,7 @@ pub record IsConverting (from into : Lane) (r : Converting) : Type 0 where
   pub rows : HasConfirmation r.closed → AreOfTaken (taken r.entries) (all_sent r.closed)
   pub all : HasConfirmation r.closed → HasEnd (all_sent r.closed) → AreOfAllTaken (taken r.entries) (all_sent r.closed)
 
--- the reader alone gives these causes
+-- the reader alone gives this cause
 abbrev pub is_of_reading : Cause → Bool
 is_of_reading cause.ReadFault = true
 is_of_reading cause.BadHeader = true

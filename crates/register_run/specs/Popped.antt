@@ -48,6 +48,6 @@ pub record HasLookedAt (at : ℕ) (old new : List Arm) (found : Found) : Type 0 
   pub ended : is_end found ≡ true → AreOpen new → ⊥
   pub same : AreOpen new → AreOpen old × (popped new ≡ popped old)
 
--- one row was popped
+-- one row was popped; where no lane has ended now, none had before
 abbrev pub HasPopped : List Arm → List Arm → Type 0
-HasPopped old new = AreOpen new → AreOpen old × (popped new ≡ popped old + 1)
+HasPopped old new = (AreOpen new → AreOpen old) × (popped new ≡ popped old + 1)

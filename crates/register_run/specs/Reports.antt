@@ -20,12 +20,9 @@ run_fault_number TooManySources = 1
 run_fault_number OutputCount = 2
 run_fault_number NoMemory = 3
 
--- the setup that the threads of each source were started by, and its arms, as they were joined
-abbrev pub setups_of : {W : Type 0} → Report W → List Setup
-setups_of report = map (λ r. r.setup.value) report.ran.items
-
+-- the arms of each source, as they were joined
 abbrev pub arms_of : {W : Type 0} → Report W → List (List Arm)
-arms_of report = map (λ r. r.arms.value.items) report.ran.items
+arms_of report = map (λ ran. ran.arms.value.items) report.ran.items
 
 -- each source was run by this setup and has ended as it should, and with no header it has its output as it was; and
 -- the report says how
@@ -35,5 +32,5 @@ pub record IsReport {R W : Type 0} (r : reads.Ghosts R) (o : outputs.Ghosts W) (
       × ∥ IsSettled o (layout_of setup) (r.remaining source) before after end ∥₁)
       sources given report.outputs.items report.ends.items
   pub marks : map o.own_mark report.outputs.items ≡ map o.own_mark given
-  pub by_setup : setups_of report ≡ map (λ source. setup) sources
+  pub by_setup : map (λ ran. ran.setup.value) report.ran.items ≡ map (λ source. setup) sources
   pub verdict : (report.verdict ≡ Complete) ↔ All (λ end. is_whole_end end ≡ true) report.ends.items

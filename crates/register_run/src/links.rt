@@ -1,13 +1,14 @@
 //! The threads of a source, as the writer has them.
 
-ghost use Rattle.std.specs.Prelude.{◌≡◌, ◌≢◌, ◌<◌, ◌≤◌, ◌+◌, [], ℕ, Some, slice_get, All, IfOk, IfSome, length};
-ghost use Rattle.std.specs.Prelude.{map, replicate, true, vec_capacity, vec_len};
+ghost use Rattle.std.specs.Prelude.{◌≡◌, ◌≢◌, ◌↔◌, ◌⊎◌, ◌<◌, ◌≤◌, ◌+◌, [], ℕ, Some, slice_get, All, Err, IfErr, IfOk};
+ghost use Rattle.std.specs.Prelude.{IfSome, length, map, replicate, true, vec_capacity, vec_len};
 ghost use Rattle.std.proofs.Props.{props};
 ghost use Rattle.lane_rings.specs.Lane.{sender_lane, sent};
 ghost use Rattle.register_records.specs.Views.{format_of};
-ghost use Rattle.register_run.specs.Arms.{AnyTook, IsReaderOf, arm_setup, feeding_lane};
+ghost use Rattle.register_records.specs.declared.sources.Cause.TheVariants as cause;
+ghost use Rattle.register_run.specs.Arms.{AnyTook, IsReaderOf, arm_setup, feeding_lane, start_fault_cause};
 ghost use Rattle.register_run.specs.Histories.{IsOfMachine};
-ghost use Rattle.register_run.specs.Passages.{HasPassed, IsOfThreads, IsReading};
+ghost use Rattle.register_run.specs.Passages.{HasPassed, HasStarted, IsReading};
 ghost use Rattle.register_run.specs.Popped.{AreOpen, IsInTurn, popped};
 ghost use Rattle.register_run.specs.Worlds.{World};
 ghost use Rattle.striped_lanes.specs.Machine.{turn as turn_in};
@@ -28,7 +29,6 @@ use std::thread::{PromisedHandle, Threads};
 pub(crate) struct Link<R: Read> {
     source: Snapshot<R>,
     setup: Snapshot<Setup>,
-    // Where the threads did not start, there is no arm.
     reader: Result<PromisedHandle<Reading, ReaderTask<R>>, StartFault>,
     arms: Vec<Arm>,
     // The arm that is next.
@@ -37,6 +37,8 @@ pub(crate) struct Link<R: Read> {
     stopped: bool,
     ghost reads: { IfOk reader (λ r. IsReaderOf source.value setup.value arms.items r.promise) } by { Prim.hlevel props },
     ghost by_turns: { IsInTurn arms.items turn },
+    // Where the threads did not start, there is no arm.
+    ghost unstarted: { IfErr reader (λ _. arms.items ≡ []) } by { Prim.hlevel props },
 }
 
 /// What the threads of a source leave: its arms as they were joined, and the number of its entries, or why it is not
@@ -46,10 +48,11 @@ pub(crate) struct Passage<R> {
     pub(crate) source: Snapshot<R>,
     pub(crate) arms: Snapshot<Vec<Arm>>,
     pub(crate) outcome: Result<u32, Cause>,
+    pub ghost unstarted: { outcome ≡ Err cause.NoThread → arms.value.items ≡ [] },
 }
 
 impl<R: Read + Drop> Link<R> {
-    ghost use Rattle.register_run.specs.Links.{IsNext, Passed, started_by, started_on};
+    ghost use Rattle.register_run.specs.Links.{HasGiven, IsNext, Passed, started_by, started_on};
 
     /// Starts the threads of a source. Where they do not start, the source is dropped and the link has the cause.
     pub(crate) fn start<'s, 'e, T: Host, G: Gate + Sync>(
@@ -117,6 +120,8 @@ impl<R: Read + Drop> Link<R> {
         ensures source { started_on self.new ≡ started_on self.old }
         ensures setup { started_by self.new ≡ started_by self.old }
         ensures kept { (row : Row) → Passed self.old row → Passed self.new row }
+        ensures given { HasGiven self.old self.new }
+        ensures stopped { self.new.stopped ≡ self.old.stopped }
     {
         Arm::pass_at(&mut self.arms, self.turn);
         self.turn = next_open(&self.arms, self.turn);
@@ -150,6 +155,8 @@ impl<R: Read + Drop> Link<R> {
             (Passed self) }
         ensures machine { IfOk result.outcome (λ count.
             ∥ IsOfMachine (R.remaining (started_on self)) (started_by self) count result.arms.value.items ∥₁) }
+        ensures started { IfOk self.reader (λ _. HasStarted result.outcome) }
+        ensures not_started { IfErr self.reader (λ fault. result.outcome ≡ Err (start_fault_cause fault)) }
     {
         let Link {
             source,
@@ -230,6 +237,7 @@ fn join_threads<R: Read + Drop>(
         (AnyTook arms.items) }
     ensures machine { IfOk result (λ count. ∥ IsOfMachine (R.remaining reader.promise.source.value)
         reader.promise.setup.value count arms.items ∥₁) }
+    ensures started { HasStarted result }
 {
     let Reading { closed, outcome } = reader.join(rt);
     match Arm::join_all(rt, arms, closed) {
@@ -267,7 +275,8 @@ fn next_open(arms: &[Arm], turn: usize) -> usize
 
 /// `Unconfirmed`, unless the reader met a lower cause.
 fn unconfirmed_or_lower(outcome: Result<u32, Cause>) -> Cause
-    ensures { IsOfThreads result }
+    ensures either { (result ≡ Cause.NoMemory) ⊎ (result ≡ Cause.Unconfirmed) }
+    ensures lower { (result ≡ Cause.NoMemory) ↔ (outcome ≡ Err Cause.NoMemory) }
 {
     match outcome {
         Err(Cause::NoMemory) => Cause::NoMemory,

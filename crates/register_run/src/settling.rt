@@ -1,12 +1,11 @@
 //! What is left of a source when its threads have been joined.
 
-ghost use Rattle.std.specs.Prelude.{◌≡◌, ◌≢◌, ◌≤◌, ◌⊎◌, None, Some, Ok, Err, IfSome, true, false, length, vec_len};
+ghost use Rattle.std.specs.Prelude.{◌≡◌, ◌≤◌, ◌⊎◌, [], None, Ok, true, length, vec_len};
 ghost use Rattle.register_records.specs.Sources.{IfBroken, IfWhole, cause_number};
 ghost use Rattle.register_records.specs.Views.{layout_of};
 ghost use Rattle.register_records.specs.declared.sources.Cause.TheVariants as cause;
 ghost use Rattle.register_records.specs.declared.sources.SourceEnd.TheVariants as ended;
-ghost use Rattle.register_run.specs.Passages.{IsNotSunk, is_of_reading};
-ghost use Rattle.register_run.specs.Courses.{fault_of};
+ghost use Rattle.register_run.specs.Courses.{IsLowest, IsMet, fault_of};
 ghost use Rattle.register_run.specs.Headline.{IsSettled};
 ghost use Rattle.register_run.specs.Histories.{IsOfMachine};
 
@@ -25,6 +24,8 @@ pub(crate) struct Settled<R: Read, W: Output> {
     pub(crate) end: SourceEnd,
     pub ghost marked: { W.own_mark output ≡ W.own_mark given.value },
     pub ghost untouched: { end ≡ ended.Broken cause.BadHeader → output ≡ given.value },
+    // Cause 2 comes only where the threads did not start.
+    pub ghost unstarted: { end ≡ ended.Broken cause.NoThread → ran.arms.value.items ≡ [] },
     pub ghost settled: { ∥ IsSettled W.Output (layout_of ran.setup.value)
         (R.remaining source.value) given.value output end ∥₁ },
     pub ghost machine: { ∥ IfWhole end (λ count refused journal.
@@ -76,15 +77,11 @@ pub(crate) fn end_of_source(
     journal: Vec<Note>,
 ) -> SourceEnd
     requires few { vec_len journal ≤ rows }
-    requires not_sunk { IsNotSunk passed }
-    requires not_reading { IfSome (fault_of course) (λ c. is_of_reading c ≡ false) }
     ensures whole { IfWhole result (λ count refused notes. (passed ≡ Ok count) × (fault_of course ≡ None)
         × (headed ≡ true)
         × (count ≡ rows)
         × (refused ≡ length notes) × (notes ≡ journal.items)) }
-    ensures reading { IfBroken result (λ c. is_of_reading c ≡ true
-        → (passed ≡ Err c) × (fault_of course ≡ None) × (headed ≡ true → rows ≢ 0)) }
-    ensures sink { IfBroken result (λ c. c ≡ cause.SinkFault → fault_of course ≡ Some cause.SinkFault) }
+    ensures broken { IfBroken result (IsLowest (IsMet passed (fault_of course) headed rows)) }
 {
     let fault = course.fault();
     match passed {

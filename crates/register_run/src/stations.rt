@@ -1,7 +1,7 @@
 //! A source's place at the thread that writes.
 
 ghost use Rattle.std.specs.Prelude.{◌≡◌};
-ghost use Rattle.register_run.specs.Links.{IsNext, started_by};
+ghost use Rattle.register_run.specs.Links.{HasGiven, IsNext, started_by};
 ghost use Rattle.register_run.specs.TablesWritten.{made_by};
 ghost use Rattle.register_run.specs.Written.{Wrote};
 
@@ -97,7 +97,8 @@ impl<R: Read + Drop, W: Output + Drop> Station<R, W> {
     /// Adds the row that a look found to the table from where it lies in its lane, and then takes it.
     fn take_row(&mut self)
         requires { IsNext self.old.link }
-        ensures { case_of self.new ≡ case_of self.old }
+        ensures case { case_of self.new ≡ case_of self.old }
+        ensures given { HasGiven self.old.link self.new.link }
     {
         self.add_row();
         self.link.pass();

@@ -8,8 +8,7 @@ ghost use Rattle.register_records.specs.Entries.{record_limit};
 ghost use Rattle.register_records.specs.Tables.{refusal_notes};
 ghost use Rattle.register_records.specs.Views.{row_seen, writer_sunk};
 ghost use Rattle.register_records.specs.declared.sources.Cause.TheVariants as cause;
-ghost use Rattle.register_run.specs.Courses.{fault_of, is_sunk};
-ghost use Rattle.register_run.specs.Passages.{is_of_reading};
+ghost use Rattle.register_run.specs.Courses.{fault_of, is_of_table, is_sunk};
 
 use crate::links::Passage;
 use crate::reports::Ran;
@@ -39,7 +38,7 @@ pub(crate) struct Table<W: Output> {
     ghost afloat: { is_sunk course ≡ false → IfSome writer (λ w. writer_sunk w ≡ false) } by { Prim.hlevel props },
     ghost untouched: { is_some writer ≡ false → is_sunk course ≡ false → output ≡ given.value },
     ghost sink_told: { fault_of course ≡ Some cause.SinkFault → is_sunk course ≡ true },
-    ghost not_reading: { IfSome (fault_of course) (λ c. is_of_reading c ≡ false) } by { Prim.hlevel props },
+    ghost of_table: { IfSome (fault_of course) (λ c. is_of_table c ≡ true) } by { Prim.hlevel props },
     ghost limited: { rows ≤ record_limit },
     ghost few_refused: { vec_len journal ≤ rows },
 }
@@ -50,7 +49,6 @@ impl<W: Output + Drop> Table<W> {
     ghost use Rattle.register_records.specs.declared.rows.Row.{Row};
     ghost use Rattle.std.specs.Prelude.{IfOk};
     ghost use Rattle.register_run.specs.Histories.{IsOfMachine};
-    ghost use Rattle.register_run.specs.Passages.{IsNotSunk};
     ghost use Rattle.register_run.specs.TablesWritten.{AllSent, Holds, made_by, made_for};
     ghost use Rattle.register_run.specs.Written.{Concludes};
 
@@ -170,7 +168,6 @@ impl<W: Output + Drop> Table<W> {
 
     /// What is left of the source, once its lines are written.
     pub(crate) fn conclude<R: Read + Drop>(self, passage: Passage<R>) -> Settled<R, W>
-        requires not_sunk { IsNotSunk passage.outcome }
         requires passed { ∥ Concludes (R.remaining passage.source.value) self passage.outcome ∥₁ }
         requires machine { IfOk passage.outcome (λ count. ∥ IsOfMachine (R.remaining passage.source.value)
             (made_by self) count passage.arms.value.items ∥₁) }

@@ -4,7 +4,7 @@ use Rattle.date_texts.specs.declared.refusal.Refusal.TheVariants as refusal
 use Rattle.register_run.specs.Worlds.{World}
 use Rattle.register_run.proofs.ArmLemmas.{took_given}
 use Rattle.register_run.specs.Passages.{AreOfLanes}
-use Rattle.register_run.proofs.GivenLemmas.{passed_not}
+use Rattle.register_run.proofs.GivenLemmas.{of_threads, passed_not}
 use Rattle.register_run.proofs.HistoryLemmas.{joined_of_machine}
 use Rattle.register_run.proofs.links.join_threads.Goals as goal
 
@@ -27,11 +27,11 @@ returns-then-ended-is_ok-clause-passed g c = record {
 
 pub returns-else-ended-is_ok-clause-passed : goal.returns-else-ended-is_ok-clause-passed
 returns-else-ended-is_ok-clause-passed g c = passed_not _ _ c.unconfirmed_or_lower.result _
-    c.unconfirmed_or_lower.ensures
+    (of_threads c.unconfirmed_or_lower.result c.unconfirmed_or_lower.ensures.either)
 
 pub returns-in-Err-clause-passed : goal.returns-in-Err-clause-passed
 returns-in-Err-clause-passed g c = passed_not _ _ c.unconfirmed_or_lower-in-Err.result _
-    c.unconfirmed_or_lower-in-Err.ensures
+    (of_threads c.unconfirmed_or_lower-in-Err.result c.unconfirmed_or_lower-in-Err.ensures.either)
 
 pub returns-then-ended-is_ok-clause-machine : goal.returns-then-ended-is_ok-clause-machine
 returns-then-ended-is_ok-clause-machine g c =

@@ -24,4 +24,5 @@ returns g c =
                 dealt_ended w 0 given senders closed ends (deals w (many ∙ AllZip-long HasEnded senders closed ends)),
           ));
       not_sunk = c.send_entries-outcome.ensures.not_sunk;
+      started = c.send_entries-outcome.ensures.started;
     }

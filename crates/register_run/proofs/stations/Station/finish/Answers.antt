@@ -10,7 +10,6 @@ use Rattle.register_run.proofs.stations.Station.finish.Goals as goal
 pub conclude-requires : goal.conclude-requires
 conclude-requires g c =
     let s = c.args.self in let ends = c.finish.ensures in let p = c.finish.result in record {
-      not_sunk = ends.passed.not_sunk;
       passed =
           concludes s.link s.table (g.R.Read.remaining p.source.value) p.outcome s.by_one_setup
           (subst (λ r. HasPassed (g.R.Read.remaining r) (format_of (started_by s.link)) p.outcome (Passed s.link))

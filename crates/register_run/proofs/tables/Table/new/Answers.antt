@@ -10,7 +10,7 @@ invariant_of-result g c = record {
   afloat = λ e. tt;
   untouched = λ e d. sym c.of.ensures;
   sink_told = λ e. cc;
-  not_reading = tt;
+  of_table = tt;
   limited = omega arith;
   few_refused = omega arith;
 }

@@ -61,12 +61,6 @@ module _ (arms : List Arm) (at : ℕ) (new old : Arm) (within : at < length arms
   pub popped_at : new.«open» ≡ old.«open» → popped_from new ≡ popped_from old + 1 → HasPopped arms (set arms at new)
   popped_at same one = (λ all. were_open (sym same ∙ new_open all) all, popped_more 1 one)
 
--- a look at an arm leaves the turn as it was
-pub in_turn_looked : (old new : List Arm) (at turned : ℕ) (found : Found) → HasLookedAt turned old new found
-    → length new ≡ length old → IsInTurn old at → IsInTurn new at
-in_turn_looked old new at turned found looked long turns all w many =
-    let (were, none) = looked.same all in turns were w (many ∙ long) ∙ ap (turn w) (sym none)
-
 one_of : (arms : List Arm) → 0 < length arms → Arm
 one_of [] some = absurd (omega arith)
 one_of (arm ∷ rest) some = arm
@@ -86,10 +80,6 @@ in_turn_popped old new at next has long within turns goes all w many =
     goes w k (get_or new (turn w (k + 1)) d) many (turns (were all) w (many ∙ long))
     (slice_get-get_or new (turn w (k + 1)) d there) (all (turn w (k + 1)) d there)
     ∙ ap (turn w) (sym one)
-
--- no row was popped yet
-pub in_turn_first : (arms : List Arm) → popped arms ≡ 0 → IsInTurn arms 0
-in_turn_first arms none all w many = sym (ap (turn w) none ∙ zero-mod w.converters)
 
 -- one more arm, from which no row was popped
 pub unpopped_more : (arms new : List Arm) (arm : Arm) → new ≡ arms ++ arm ∷ [] → taken arm.rows ≡ [] → popped arms ≡ 0

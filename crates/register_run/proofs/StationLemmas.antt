@@ -15,10 +15,6 @@ use Rattle.register_run.specs.Written.{Concludes, Wrote}
 use Rattle.register_run.proofs.TableLemmas.{targets_row}
 
 module _ {R W : Type 0} {o : outputs.Ghosts W} where
-  -- nothing was taken
-  pub wrote_none : (link : Link R) (table : Table W o) → Holds table [] → ∥ Wrote link table ∥₁
-  wrote_none link table holds = ∣ ([], holds, λ row h. absurd (omega (arith, h.1))) ∣₁
-
   -- more was taken, and the same rows are written
   pub wrote_same : (link new : Link R) (table after : Table W o) → ((row : Row) → Passed link row → Passed new row)
       → ((rows : List Row) → Holds table rows → Holds after rows)

@@ -39,14 +39,6 @@ appends_more (Some xs) None pending line table h = h
 appends_more (Some xs) (Some ys) pending line table h =
     sym (append_assoc ys pending line) ∙ ap (λ b. b ++ line) h ∙ append_assoc xs table line
 
-appends_sent : (given output new : Option (List ℕ)) (pending table : List ℕ)
-    → Appends given (append_known output pending) table → Appends output new pending
-    → Appends given (append_known new []) table
-appends_sent None output new pending table h sent = tt
-appends_sent (Some xs) None new pending table h sent = absurd h
-appends_sent (Some xs) (Some ys) None pending table h sent = sent
-appends_sent (Some xs) (Some ys) (Some zs) pending table h sent = append-nil zs ∙ sent ∙ h
-
 no_lines : (layout : Layout) → lines_text layout [] ≡ []
 unfolding lines_text
 no_lines layout = refl
@@ -99,30 +91,6 @@ module _ {W : Type 0} (o : outputs.Ghosts W) (layout : Layout) (given : W) where
         h.1,
         by ∙ h.2,
       )
-
-  -- the same lines wait
-  pub stands_same : (output : W) (w new : RowWriter) (rows : List Row) → Stands o layout given output (Some w) rows
-      → waiting_in new ≡ waiting_in w → writes_by new ≡ writes_by w → Stands o layout given output (Some new) rows
-  stands_same output w new rows h same by = (
-    subst (λ p. Appends (o.contents given) (append_known (o.contents output) p) (table_text layout (rows_seen rows)))
-        (sym same) h.0,
-    h.1,
-    by ∙ h.2,
-  )
-
-  -- the lines that waited were written
-  pub stands_sent : (output after : W) (w new : RowWriter) (rows : List Row)
-      → Stands o layout given output (Some w) rows → Appends (o.contents output) (o.contents after) (waiting_in w)
-      → o.is_flushed after ≡ true → waiting_in new ≡ [] → writes_by new ≡ writes_by w
-      → Stands o layout given after (Some new) rows
-  stands_sent output after w new rows h wrote flushed none by = (
-    subst (λ p. Appends (o.contents given) (append_known (o.contents after) p) (table_text layout (rows_seen rows)))
-        (sym none)
-        (appends_sent (o.contents given) (o.contents output) (o.contents after) (waiting_in w)
-        (table_text layout (rows_seen rows)) h.0 wrote),
-    flushed,
-    by ∙ h.2,
-  )
 
 -- one more row
 pub numbered_row : (rows : List Row) (row : Row) (n : ℕ) → AreNumberedFrom 1 (entries_seen rows) → length rows ≡ n

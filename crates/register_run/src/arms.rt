@@ -148,7 +148,7 @@ impl Arm {
         ensures looked { HasLooked self.old self.new result }
     {
         match self.rows.look() {
-            Ok(true) => self.found(),
+            Ok(true) => self.take_found(),
             Ok(false) => Found::Nothing,
             Err(_) => {
                 self.open = false;
@@ -159,7 +159,7 @@ impl Arm {
 
     /// What is next, after a look. An end and a stop are taken.
     #[tactic(auto, using(crate::proofs::PassageLemmas::same_seen), unfolding(crate::specs::Arms::ArmTook))]
-    fn found(&mut self) -> Found
+    fn take_found(&mut self) -> Found
         ensures same { IsSameArm self.old self.new }
         ensures looked { HasLooked self.old self.new result }
     {

@@ -58,7 +58,7 @@ fn start_all<'s, 'e, T: Host, R: Read + Send + Drop + 'e, W: Output + Drop, G: G
 }
 
 /// Visits each source once. The answer is whether there was an item at one of them.
-fn round<R: Read + Drop, W: Output + Drop>(stations: &mut Vec<Station<R, W>>) -> bool
+fn visit_all<R: Read + Drop, W: Output + Drop>(stations: &mut Vec<Station<R, W>>) -> bool
     ensures len { vec_len stations.new ≡ vec_len stations.old }
     ensures cases { map case_of stations.new.items ≡ map case_of stations.old.items }
 {
@@ -73,7 +73,7 @@ fn round<R: Read + Drop, W: Output + Drop>(stations: &mut Vec<Station<R, W>>) ->
 }
 
 /// Takes from all sources and writes until each has ended. After a round that found nothing it rests.
-fn drive<R: Read + Drop, W: Output + Drop>(
+fn visit_until_ended<R: Read + Drop, W: Output + Drop>(
     rt: &(impl Wait + Clock + CpuClock),
     patience: Patience,
     stations: &mut Vec<Station<R, W>>,
@@ -86,7 +86,7 @@ fn drive<R: Read + Drop, W: Output + Drop>(
         if !stations.iter().any(|station| station.is_open()) {
             break;
         }
-        if round(stations) {
+        if visit_all(stations) {
             patience.renew();
         } else {
             patience.rest(rt);
@@ -178,7 +178,7 @@ struct Lists<R: Read, W: Output> {
 }
 
 /// Makes the lists, with room for so many sources.
-fn reserve<R: Read + Drop, W: Output + Drop>(
+fn make_lists<R: Read + Drop, W: Output + Drop>(
     alloc: Global,
     count: usize,
 ) -> Result<Lists<R, W>, AllocError>
@@ -200,7 +200,7 @@ fn reserve<R: Read + Drop, W: Output + Drop>(
 }
 
 /// Hands the lists back with a fault.
-fn refused<R, W>(kind: RunFaultKind, sources: Vec<R>, outputs: Vec<W>) -> RunFault<R, W>
+fn hand_back<R, W>(kind: RunFaultKind, sources: Vec<R>, outputs: Vec<W>) -> RunFault<R, W>
     ensures { (result.kind ≡ kind) × (result.sources ≡ sources) × (result.outputs ≡ outputs) }
 {
     RunFault {
@@ -233,7 +233,7 @@ fn run_all<'s, 'e, T: Host, R: Read + Send + Drop + 'e, W: Output + Drop, G: Gat
     let mut stations = start_all(by, sources, outputs, stations);
     // This thread is two lanes further than the readers.
     let patience = by.patience.a_lane_further().a_lane_further();
-    drive(by.rt, patience, &mut stations);
+    visit_until_ended(by.rt, patience, &mut stations);
     let settled = settle_all(by.rt, stations, settled);
     report(settled, written, ends, ran)
 }
@@ -321,13 +321,13 @@ pub fn run_gated<
 {
     let count = sources.len();
     if count > MAX_SOURCES {
-        return Err(refused(RunFaultKind::TooManySources, sources, outputs));
+        return Err(hand_back(RunFaultKind::TooManySources, sources, outputs));
     }
     if outputs.len() != count {
-        return Err(refused(RunFaultKind::OutputCount, sources, outputs));
+        return Err(hand_back(RunFaultKind::OutputCount, sources, outputs));
     }
-    let Ok(lists) = reserve(alloc, count) else {
-        return Err(refused(RunFaultKind::NoMemory, sources, outputs));
+    let Ok(lists) = make_lists(alloc, count) else {
+        return Err(hand_back(RunFaultKind::NoMemory, sources, outputs));
     };
     Ok(run_in_scope(rt, gate, alloc, setup, sources, outputs, lists))
 }

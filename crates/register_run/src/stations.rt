@@ -87,7 +87,7 @@ impl<R: Read + Drop, W: Output + Drop> Station<R, W> {
             Found::Other => {}
             Found::End => {
                 self.open = false;
-                self.table.head();
+                self.table.write_heading();
             }
             Found::Stop => self.open = false,
         }

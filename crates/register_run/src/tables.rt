@@ -86,7 +86,7 @@ impl<W: Output + Drop> Table<W> {
         ensures rows { (rows : List Row) → Holds self.old rows
             → Holds self.new rows ⊎ Holds self.new (rows ++ row.now ∷ []) }
     {
-        self.head();
+        self.write_heading();
         let Course::Open = self.course else {
             return;
         };
@@ -98,7 +98,7 @@ impl<W: Output + Drop> Table<W> {
     }
 
     /// Writes the heading, where that was not done and no fault was met.
-    pub(crate) fn head(&mut self)
+    pub(crate) fn write_heading(&mut self)
         ensures output { made_for self.new ≡ made_for self.old }
         ensures setup { made_by self.new ≡ made_by self.old }
         ensures rows { (rows : List Row) → Holds self.old rows → Holds self.new rows }

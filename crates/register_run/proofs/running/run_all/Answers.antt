@@ -9,7 +9,7 @@ returns g c =
     let same : length sources ≡ length outputs =
     (let a = c.args.sources.ok.0 in let b = c.args.outputs.ok.0 in let p = c.requires.0 in let q = c.requires.1 in
     omega arith) in
-    let is = c.settle_all-settled.ensures.cases ∙ c.drive.ensures.cases ∙ c.start_all-stations.ensures.cases in
+    let is = c.settle_all-settled.ensures.cases ∙ c.visit_until_ended.ensures.cases ∙ c.start_all-stations.ensures.cases in
     let told = c.report.ensures in record {
       report = report_of setup settled sources outputs same is c.report.result told.ends told.ran told.outputs
           told.verdict;

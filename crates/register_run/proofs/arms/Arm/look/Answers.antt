@@ -10,7 +10,7 @@ unfolding ArmTook
 returns-in-Ok-true-clause-same c = record {
   lane = search rules;
   setup = search rules;
-  kept = λ row h. c.found.ensures.same.kept row
+  kept = λ row h. c.take_found.ensures.same.kept row
       (seen_kept (taken c.args.self.now.rows) (taken c.look.new.self) (waiting c.args.self.now.rows)
       (waiting c.look.new.self) c.look.ensures.taken c.look.ensures.waiting (item.Entry row) h);
 }

@@ -1,6 +1,6 @@
 use Rattle.std.proofs.Common.{◌≡◌, map, vec_len}
 use Rattle.register_run.specs.Stations.{case_of}
-use Rattle.register_run.proofs.running.drive.Given as goal
+use Rattle.register_run.proofs.running.visit_until_ended.Given as goal
 
 abbrev pub invariant-loop : goal.invariant-loop
 invariant-loop g l = record {

@@ -2,7 +2,7 @@ use Rattle.std.proofs.Common.{◌≡◌, false}
 use Rattle.std.specs.Option.{is_some}
 use Rattle.register_records.specs.Views.{layout_of}
 use Rattle.register_run.proofs.TableLemmas.{stands_headed, stands_none}
-use Rattle.register_run.proofs.tables.Table.head.Goals as goal
+use Rattle.register_run.proofs.tables.Table.write_heading.Goals as goal
 
 pub returns-in-Ok-clause-rows : goal.returns-in-Ok-clause-rows
 returns-in-Ok-clause-rows g c = λ rows h.

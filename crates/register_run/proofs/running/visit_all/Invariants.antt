@@ -1,6 +1,6 @@
 use Rattle.std.proofs.Common.{◌≡◌, map, vec_len}
 use Rattle.register_run.specs.Stations.{case_of}
-use Rattle.register_run.proofs.running.round.Given as goal
+use Rattle.register_run.proofs.running.visit_all.Given as goal
 
 abbrev pub invariant-loop-i : goal.invariant-loop-i
 invariant-loop-i g l = record {

@@ -1,7 +1,7 @@
 use Rattle.std.proofs.Common.{◌∙◌, ap}
 use Rattle.std.proofs.Math.Seq.{map-set_same}
 use Rattle.register_run.specs.Stations.{case_of}
-use Rattle.register_run.proofs.running.round.Goals as goal
+use Rattle.register_run.proofs.running.visit_all.Goals as goal
 
 pub loop-i-preserved : goal.loop-i-preserved
 loop-i-preserved g c =

@@ -7,7 +7,7 @@
 --   RomanMonthLemmas, RomanPrincipalLemmas, RomanPlaceLemmas, RomanNameLemmas, RomanDateLemmas, each upon those before
 --     it: the clauses of `roman_day_of` and `roman_on`, and the law `one_roman_date`.
 --   LawWords: the name of that law, for lemmas here and above.
---   KnownDateLemmas: the definitions computed on known dates; it serves no clause.
+--   KnownDateExamples: the definitions computed on known dates; it serves no clause.
 pub mod ThirteenMonthsLemmas
 pub mod FrenchLemmas
 pub mod GregorianLemmas
@@ -18,5 +18,5 @@ pub mod RomanPlaceLemmas
 pub mod RomanNameLemmas
 pub mod RomanDateLemmas
 pub mod IsoWeekLemmas
-mod KnownDateLemmas
+mod KnownDateExamples
 pub mod LawWords

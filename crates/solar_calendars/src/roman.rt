@@ -53,7 +53,6 @@ fn kalends(year: i32, month: u8) -> i64
     requires has { HasYear without_zero year }
     requires near { IsYear year }
     ensures value { result ≡ kalends_spec year month }
-    ensures has { HasYear without_zero year }
     ensures near { IsBetween (neg_ℤ (pos 100_070_000)) (pos 100_070_000) result }
 {
     let year = Julian.year(year);

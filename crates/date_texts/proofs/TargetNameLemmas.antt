@@ -10,7 +10,7 @@ use Rattle.date_texts.specs.declared.calendar.Calendar.TheVariants.{Gregorian}
 use Rattle.date_texts.specs.declared.calendar.Target.{Target}
 use Rattle.date_texts.specs.declared.calendar.Target.TheVariants.{Date, Haab, Tzolkin}
 use Rattle.date_texts.specs.Calendars.{calendar_name, target_name, all_targets}
-use Rattle.date_texts.proofs.LawWords.{OneCalendar, OneTarget}
+use Rattle.date_texts.specs.Laws.{OneCalendar, OneTarget}
 use Rattle.date_texts.specs.Names.{IsNamed}
 use Rattle.date_texts.specs.Trimmed.{trimmed}
 use Rattle.date_texts.proofs.ReadingLemmas.{some_inside, both_true}

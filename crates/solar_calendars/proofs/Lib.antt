@@ -6,7 +6,6 @@
 --   IsoWeekLemmas: `day_of` and `date_on` of IsoWeek.
 --   RomanMonthLemmas, RomanPrincipalLemmas, RomanPlaceLemmas, RomanNameLemmas, RomanDateLemmas, each upon those before
 --     it: the clauses of `roman_day_of` and `roman_on`, and the law `one_roman_date`.
---   LawWords: the name of that law, for lemmas here and above.
 --   KnownDateExamples: the definitions computed on known dates; it serves no clause.
 pub mod ThirteenMonthsLemmas
 pub mod FrenchLemmas
@@ -19,4 +18,3 @@ pub mod RomanNameLemmas
 pub mod RomanDateLemmas
 pub mod IsoWeekLemmas
 mod KnownDateExamples
-pub mod LawWords

@@ -12,7 +12,7 @@ use Rattle.solar_calendars.specs.TwelveMonths.{twelve_months}
 use Rattle.solar_calendars.specs.Roman.{count_of, roman_day_number, IsRomanDate}
 use Rattle.solar_calendars.specs.declared.roman_date.RomanDate.{RomanDate}
 use Rattle.solar_calendars.specs.RomanPlaces.{RomanParts, parts_on, parts_of}
-use Rattle.solar_calendars.proofs.LawWords.{OneRomanDate}
+use Rattle.solar_calendars.specs.Laws.{OneRomanDate}
 use Rattle.solar_calendars.proofs.JulianLemmas.{closed, julian_start}
 use Rattle.solar_calendars.proofs.RomanNameLemmas.{named_is, stands, only_name}
 

@@ -8,11 +8,12 @@ use Rattle.std.specs.Fmt.{decimal}
 use Rattle.std.specs.List.{list_all}
 use Rattle.std.proofs.lemmas.Bool.Decides.{nat_tests}
 use Rattle.std.proofs.lemmas.List.Folds.{list_all-append}
+use Rattle.std.proofs.lemmas.Bool.{and_parts}
 use Rattle.day_numbers.specs.Numbered.{name_of_number, words}
 use Rattle.day_numbers.proofs.NameLemmas.{each_name}
 use Rattle.maya_calendars.specs.HaabNames.{month_names}
 use Rattle.maya_calendars.specs.TzolkinNames.{name_texts}
-use Rattle.maya_calendars.proofs.LawWords.{HaabDaysInRange, TzolkinNumbersInRange}
+use Rattle.maya_calendars.specs.Laws.{HaabDaysInRange, TzolkinNumbersInRange}
 use Rattle.date_texts.specs.declared.calendar.Calendar.{Calendar}
 use Rattle.date_texts.specs.declared.date.Date.{Date}
 use Rattle.date_texts.specs.declared.date.Date.TheVariants.{Civil, Long, Roman}
@@ -27,10 +28,10 @@ use Rattle.date_texts.proofs.CivilReadingLemmas.{IsMark, no_letter, capital_lett
 use Rattle.date_texts.proofs.LongReadingLemmas.{LongParts}
 use Rattle.date_texts.proofs.RomanReadingLemmas.{RomanParts}
 use Rattle.date_texts.specs.DateText.{canonical_text}
-use Rattle.date_texts.proofs.LawWords.{CellsArePlain}
+use Rattle.date_texts.specs.Laws.{CellsArePlain}
 use Rattle.date_texts.proofs.CellLemmas.{each_cell}
 use Rattle.date_texts.proofs.DateTextLemmas.{canonical_is}
-use Rattle.date_texts.proofs.ReadingLemmas.{both_true, decimal_numeral}
+use Rattle.date_texts.proofs.ReadingLemmas.{decimal_numeral}
 use Rattle.date_texts.proofs.LongReadingLemmas.{canonical_long_is}
 use Rattle.date_texts.proofs.RomanReadingLemmas.{canonical_roman_is, second_sixth_is}
 
@@ -43,7 +44,7 @@ digit_plain c h = grind (arith, nat_tests)
 digits_plain : (ds : List ℕ) → IsTrue (all_digits ds) → ArePlain ds
 digits_plain [] h = refl
 digits_plain (c ∷ cs) h =
-    let both = both_true (is_ascii_digit c) (all_digits cs) h in
+    let both = and_parts (is_ascii_digit c) (all_digits cs) h in
     rw (digit_plain c both.0) (digits_plain cs both.1)
 
 numeral_plain : {most n : ℕ} {ds : List ℕ} → IsNumeral most ds n → ArePlain ds
@@ -55,8 +56,8 @@ plain_below c h = grind (arith, nat_tests)
 
 pub plain_ascii : (text : List ℕ) → ArePlain text → IsAscii text
 plain_ascii [] h i = omega arith
-plain_ascii (c ∷ cs) h zero = plain_below c (both_true (is_plain c) (list_all is_plain cs) h).0
-plain_ascii (c ∷ cs) h (suc i) = plain_ascii cs (both_true (is_plain c) (list_all is_plain cs) h).1 i
+plain_ascii (c ∷ cs) h zero = plain_below c (and_parts (is_plain c) (list_all is_plain cs) h).0
+plain_ascii (c ∷ cs) h (suc i) = plain_ascii cs (and_parts (is_plain c) (list_all is_plain cs) h).1 i
 
 joined_plain : (xs ys : List ℕ) → ArePlain xs → ArePlain ys → ArePlain (xs ++ ys)
 joined_plain xs ys h g = rw (list_all-append is_plain xs ys, h, g) refl

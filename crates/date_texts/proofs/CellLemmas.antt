@@ -5,7 +5,7 @@ use Rattle.day_numbers.specs.declared.ymd.Ymd.{Ymd}
 use Rattle.day_numbers.specs.Days.{IsSinceFirstDay}
 use Rattle.day_numbers.proofs.DateLemmas.{rules_one_date, rules_have_days}
 use Rattle.solar_calendars.specs.IsoWeekLaw.{one_week_date}
-use Rattle.solar_calendars.proofs.LawWords.{OneRomanDate}
+use Rattle.solar_calendars.specs.Laws.{OneRomanDate}
 use Rattle.date_texts.specs.declared.calendar.Calendar.{Calendar}
 use Rattle.date_texts.specs.declared.calendar.Calendar.TheVariants.{Longcount}
 use Rattle.date_texts.specs.declared.calendar.Target.{Target}
@@ -22,9 +22,9 @@ use Rattle.date_texts.specs.Cells.{IsDateCell, on_date, no_date, IsCell, numbere
 use Rattle.day_numbers.specs.Numbered.{name_of_number}
 use Rattle.maya_calendars.specs.HaabNames.{haab_of, month_names}
 use Rattle.maya_calendars.specs.TzolkinNames.{tzolkin_of, name_texts}
-use Rattle.maya_calendars.proofs.LawWords.{HaabDaysInRange, TzolkinNumbersInRange}
+use Rattle.maya_calendars.specs.Laws.{HaabDaysInRange, TzolkinNumbersInRange}
 use Rattle.maya_calendars.proofs.LongCountLemmas.{one_long_count, day_since_epoch}
-use Rattle.date_texts.proofs.LawWords.{OneCell}
+use Rattle.date_texts.specs.Laws.{OneCell}
 use Rattle.date_texts.proofs.DatePartLemmas.{civil_same}
 
 -- ---- a calendar has one date on a day, and none before its first day

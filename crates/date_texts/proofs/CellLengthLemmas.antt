@@ -8,7 +8,7 @@ use Rattle.day_numbers.specs.Numbered.{name_of_number, words}
 use Rattle.day_numbers.proofs.NameLemmas.{each_name}
 use Rattle.maya_calendars.specs.HaabNames.{month_names}
 use Rattle.maya_calendars.specs.TzolkinNames.{name_texts}
-use Rattle.maya_calendars.proofs.LawWords.{HaabDaysInRange, TzolkinNumbersInRange}
+use Rattle.maya_calendars.specs.Laws.{HaabDaysInRange, TzolkinNumbersInRange}
 use Rattle.date_texts.specs.declared.calendar.Calendar.{Calendar}
 use Rattle.date_texts.specs.declared.date.Date.{Date}
 use Rattle.date_texts.specs.declared.date.Date.TheVariants.{Civil, Long, Roman}
@@ -23,7 +23,7 @@ use Rattle.date_texts.proofs.RomanReadingLemmas.{RomanParts}
 use Rattle.date_texts.specs.LongText.{canonical_long}
 use Rattle.date_texts.specs.RomanText.{IsNameText, of_kalends, of_nones, of_ides, of_second_sixth}
 use Rattle.date_texts.specs.DateText.{canonical_text}
-use Rattle.date_texts.proofs.LawWords.{CellsAreShort}
+use Rattle.date_texts.specs.Laws.{CellsAreShort}
 use Rattle.date_texts.proofs.CellLemmas.{each_cell}
 use Rattle.date_texts.proofs.DateTextLemmas.{canonical_is}
 use Rattle.date_texts.proofs.ReadingLemmas.{decimal_numeral}

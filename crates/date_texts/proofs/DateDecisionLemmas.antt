@@ -7,12 +7,14 @@ use Rattle.day_numbers.specs.Dates.{IsYear, IsYmd}
 use Rattle.day_numbers.specs.Rules.{Years, from_one, with_zero, without_zero, HasYear}
 use Rattle.day_numbers.specs.Rules.{days_of_month}
 use Rattle.day_numbers.specs.declared.ymd.Ymd.{Ymd}
+use Rattle.day_numbers.proofs.DateLemmas.{ymd_same}
 use Rattle.day_numbers.proofs.SignedArithmeticLemmas.{signed_arith}
 use Rattle.solar_calendars.specs.Roman.{IsRomanDate, count_of, has_two_sixths}
 use Rattle.solar_calendars.specs.RomanPlaces.{HasPlace}
 use Rattle.solar_calendars.specs.declared.roman_date.RomanDate.{RomanDate}
 use Rattle.solar_calendars.specs.declared.roman_date.RomanName.{RomanName}
 use Rattle.solar_calendars.specs.declared.roman_date.RomanName.TheVariants.{Kalends, Nones, Ides, SecondSixth}
+use Rattle.solar_calendars.proofs.RomanDateLemmas.{roman_same}
 use Rattle.solar_calendars.proofs.RomanPlaceLemmas.{month_of, placed}
 use Rattle.maya_calendars.specs.Places.{ArePlaces}
 use Rattle.maya_calendars.specs.declared.long_count.LongCount.{LongCount}
@@ -34,7 +36,7 @@ use Rattle.date_texts.specs.declared.calendar.Target.TheVariants.{Date as DateTa
 use Rattle.date_texts.specs.declared.date.Date.{Date}
 use Rattle.date_texts.specs.declared.date.Date.TheVariants.{Civil, Long, Roman}
 use Rattle.date_texts.proofs.CivilReadingLemmas.{civil_parts, civil_read, civil_take, civil_whole}
-use Rattle.date_texts.proofs.DatePartLemmas.{civil_same, roman_same, ymd_same}
+use Rattle.date_texts.proofs.DatePartLemmas.{civil_same}
 use Rattle.date_texts.proofs.DecisionLemmas.{Below, Is, all_five, all_four, all_three, both, either, in_words}
 use Rattle.date_texts.proofs.DecisionLemmas.{is_answer, is_at_most, is_between, is_integer, is_less_z, is_number}
 use Rattle.date_texts.proofs.DecisionLemmas.{is_true, some_below, with_fit}
@@ -104,7 +106,7 @@ some_ymd P is =
     (some_year (λ y. Below 100 (λ m. Below 100 (λ d. (h : IsYmd y m d) × P (ymd y m d h))))
     (λ y. some_below 100 (λ m. Below 100 (λ d. (h : IsYmd y m d) × P (ymd y m d h)))
     (λ m. some_below 100 (λ d. (h : IsYmd y m d) × P (ymd y m d h))
-    (λ d. with_fit P (ymd y m d) (λ f g. ymd_same (ymd y m d f) (ymd y m d g) refl)
+    (λ d. with_fit P (ymd y m d) (λ f g. ymd_same (ymd y m d f) (ymd y m d g) refl refl refl)
     (all_three (is_between _ _ y) (is_at_most m 99) (is_at_most d 99)) is))))
     (λ h. (ymd h.0 h.2.0 h.2.2.0 h.2.2.2.0, h.2.2.2.1))
     (λ h. let d = h.0 in (

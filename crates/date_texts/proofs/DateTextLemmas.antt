@@ -3,6 +3,7 @@ use Rattle.std.proofs.Common.{◌≡◌, ◌↔◌, ◌⊎◌, inl, inr, ℕ, Li
 use Rattle.std.proofs.Common.{Some, None, Err, ℤ, refl, sym, subst, ap, ◌∙◌, arith, append_assoc}
 use Rattle.std.proofs.lemmas.List.{reverse-append, reverse-reverse}
 use Rattle.std.proofs.lemmas.Bool.Decides.{nat_tests}
+use Rattle.std.proofs.lemmas.Bool.{and_parts}
 use Rattle.std.specs.Prelude.{reverse, codes}
 use Rattle.std.specs.Option.{ok_or}
 use Rattle.std.specs.Char.{is_ascii_digit}
@@ -34,8 +35,10 @@ use Rattle.date_texts.specs.CivilReading.{civil_at}
 use Rattle.date_texts.specs.LongReading.{long_at}
 use Rattle.date_texts.specs.RomanReading.{roman_at}
 use Rattle.maya_calendars.proofs.LongCountLemmas.{same_places}
-use Rattle.date_texts.proofs.DatePartLemmas.{ymd_same, civil_same, roman_same}
-use Rattle.date_texts.proofs.ReadingLemmas.{both_true, some_inside}
+use Rattle.day_numbers.proofs.DateLemmas.{ymd_same}
+use Rattle.solar_calendars.proofs.RomanDateLemmas.{roman_same}
+use Rattle.date_texts.proofs.DatePartLemmas.{civil_same}
+use Rattle.date_texts.proofs.ReadingLemmas.{none_some, some_inside}
 use Rattle.date_texts.proofs.CivilReadingLemmas.{civil_read, civil_take}
 use Rattle.date_texts.proofs.LongReadingLemmas.{long_read, long_take}
 use Rattle.date_texts.proofs.CivilReadingLemmas.{canonical_civil_is, canonical_week_is}
@@ -63,9 +66,6 @@ roman_said text z m x h = roman_take text z m x (roman_parts text z m x h)
 roman_says : (text : List ℕ) (z : ℤ) (m : ℕ) (x : RomanName) → roman_at text ≡ Some (z, m, x) → IsRomanText text z m x
 roman_says text z m x e = roman_whole text z m x (roman_read text z m x e)
 
-none_some : {A : Type 0} {x : A} → None ≡ Some x → ⊥
-none_some e = cc
-
 pub no_civil : (calendar : Calendar) (text : List ℕ) → civil_at (grammar calendar) text ≡ None → IsCivil calendar
     → (date : Date) → SaysDate calendar text date → ⊥
 no_civil calendar text e civil (Civil d) h =
@@ -78,7 +78,7 @@ one_civil : (calendar : Calendar) (text : List ℕ) (d e : CivilDate) → d.cale
     → SaysDate calendar text (Civil e) → d ≡ e
 one_civil calendar text d e p q h =
     let same = some_inside (sym q ∙ civil_said (grammar calendar) text e.ymd.year e.ymd.month e.ymd.day h.1) in
-    civil_same d e (p ∙ sym h.0) (ymd_same d.ymd e.ymd same)
+    civil_same d e (p ∙ sym h.0) (ymd_same d.ymd e.ymd (ap (λ x. x.0) same) (ap (λ x. x.1) same) (ap (λ x. x.2) same))
 
 only_civil : (calendar : Calendar) (text : List ℕ) (d : CivilDate) → d.calendar ≡ calendar
     → civil_at (grammar calendar) text ≡ Some (d.ymd.year, d.ymd.month, d.ymd.day)
@@ -140,7 +140,8 @@ only_roman : (text : List ℕ) (d : RomanDate) → roman_at text ≡ Some (d.yea
 only_roman text d q (Civil e) h = absurd (e.civil.1 h.0)
 only_roman text d q (Long n) h = absurd (cc (h.0))
 only_roman text d q (Roman e) h =
-    ap Roman (roman_same d e (some_inside (sym q ∙ roman_said text e.year e.month e.name h.1)))
+    let same = some_inside (sym q ∙ roman_said text e.year e.month e.name h.1) in
+    ap Roman (roman_same d e (ap (λ x. record { year = x.0; month = x.1; name = x.2 }) same))
 
 pub some_roman : (text : List ℕ) (d : RomanDate) → roman_at text ≡ Some (d.year, d.month, d.name)
     → (date : Date) → (Some (Roman d) ≡ Some date) ↔ SaysDate RomanCalendar text date
@@ -203,9 +204,9 @@ record EndsPlain (text : List ℕ) : Type 0 where
 
 last_digit : (c : ℕ) (cs : List ℕ) → IsTrue (all_digits (c ∷ cs)) → EndsPlain (c ∷ cs)
 last_digit c [] h =
-    record { front = []; last = c; no_blank = digit_no_blank c (both_true (is_ascii_digit c) true h).0; joined = refl }
+    record { front = []; last = c; no_blank = digit_no_blank c (and_parts (is_ascii_digit c) true h).0; joined = refl }
 last_digit c (d ∷ ds) h =
-    let more = last_digit d ds (both_true (is_ascii_digit c) (all_digits (d ∷ ds)) h).1 in
+    let more = last_digit d ds (and_parts (is_ascii_digit c) (all_digits (d ∷ ds)) h).1 in
     record { front = c ∷ more.front; last = more.last; no_blank = more.no_blank; joined = ap (λ t. c ∷ t) more.joined }
 
 numeral_ends : (most n : ℕ) (ds : List ℕ) → IsNumeral most ds n → EndsPlain ds
@@ -215,7 +216,7 @@ numeral_ends most n (c ∷ cs) h = last_digit c cs h.digits
 year_begins : (y : List ℕ) (z : ℤ) (x : List ℕ) → IsYearText y z → trim_start (y ++ x) ≡ y ++ x
 year_begins [] z x (plain {n = n} h) = absurd (omega (arith, h.some))
 year_begins (c ∷ cs) z x (plain {n = n} h) =
-    start_stays c (cs ++ x) (digit_no_blank c (both_true (is_ascii_digit c) (all_digits cs) h.digits).0)
+    start_stays c (cs ++ x) (digit_no_blank c (and_parts (is_ascii_digit c) (all_digits cs) h.digits).0)
 year_begins y z x (minus {text = ds} {n = n} h) = refl
 
 -- what a text ends in, it ends in after more before it
@@ -243,7 +244,7 @@ civil_trimmed grammar text z m d h =
 place_begins : (ds : List ℕ) (n : ℕ) (x : List ℕ) → IsNumeral 4 ds n → trim_start (ds ++ x) ≡ ds ++ x
 place_begins [] n x h = absurd (omega (arith, h.some))
 place_begins (c ∷ cs) n x h =
-    start_stays c (cs ++ x) (digit_no_blank c (both_true (is_ascii_digit c) (all_digits cs) h.digits).0)
+    start_stays c (cs ++ x) (digit_no_blank c (and_parts (is_ascii_digit c) (all_digits cs) h.digits).0)
 
 long_trimmed : (text : List ℕ) (p q r s t : ℕ) → LongParts text p q r s t → trimmed text ≡ text
 long_trimmed text p q r s t h =

@@ -10,9 +10,7 @@
 --   PairLemmas, WritingLemmas, PlaceLemmas: the digits and pieces in `write_date` and `write_cell`.
 --   DecisionLemmas, DateDecisionLemmas: what can be decided of numbers, texts and dates, for the laws of the crates
 --     above.
---   LawWords: the names of the laws, for lemmas here and above.
 pub mod PairLemmas
-pub mod LawWords
 pub mod TextWords
 pub mod ReadingLemmas
 pub mod CivilReadingLemmas

@@ -1,6 +1,6 @@
 -- What is written to places, piece by piece.
 use Rattle.std.proofs.Common.{◌≡◌, ℕ, ◌+◌, ◌<◌, ◌%◌, ◌/◌, List, [], ◌∷◌, ◌++◌, length, take, slice_set}
-use Rattle.std.proofs.Common.{sym, ap, ◌∙◌, arith, append_assoc, append-nil, length-append}
+use Rattle.std.proofs.Common.{sym, ap, ◌∙◌, arith, append_assoc, length-append}
 use Rattle.std.specs.Fmt.{decimal}
 use Rattle.std.proofs.Math.Seq.{lt-length-set}
 use Rattle.std.proofs.lemmas.Fmt.{decimal_digit}
@@ -19,10 +19,6 @@ put_then {a = a} {at = at} {x = x} {y = y} h g = record {
 -- the same piece, said in another way
 pub put_same : {a b : List ℕ} {at i : ℕ} {x y : List ℕ} → x ≡ y → IsPut a b at i x → IsPut a b at i y
 put_same e h = rw (sym e) h
-
--- nothing
-pub put_none : (places : List ℕ) (at : ℕ) → IsPut places places at at []
-put_none places at = record { follows = omega arith; value = sym (append-nil (take at places)) }
 
 -- a byte
 pub put_one : (places : List ℕ) (at c : ℕ) → at < length places

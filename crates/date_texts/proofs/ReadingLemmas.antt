@@ -1,6 +1,6 @@
 -- Reading finds the numbers and years that the grammar relates to a text, and nothing else. The files of the three
 -- grammars stand on this one.
-use Rattle.std.proofs.Common.{◌≡◌, ℕ, zero, suc, ◌+◌, ◌-◌, ◌*◌, ◌^◌, ◌≤◌, ◌<◌, Bool, true, false, ◌&&◌, List, [], ◌∷◌}
+use Rattle.std.proofs.Common.{◌≡◌, ℕ, zero, suc, ◌+◌, ◌-◌, ◌*◌, ◌^◌, ◌≤◌, ◌<◌, Bool, true, false, List, [], ◌∷◌}
 use Rattle.std.proofs.Common.{◌++◌, length, ◌==◌, refl, sym, subst, ap, ◌∙◌, arith, IsTrue, cond, Option, Some, None}
 use Rattle.std.proofs.Common.{ℤ, pos, neg_ℤ, rules, get_or, take, drop, negsuc, replicate, length-append}
 use Rattle.std.specs.Char.{is_ascii_digit}
@@ -12,6 +12,7 @@ use Rattle.day_numbers.specs.Dates.{IsBetween}
 use Rattle.std.proofs.lemmas.Int.{ints}
 use Rattle.std.proofs.Math.Seq.{take-length}
 use Rattle.std.proofs.lemmas.Bool.Decides.{nat_tests}
+use Rattle.std.proofs.lemmas.Bool.{and_parts}
 use Rattle.date_texts.specs.Numerals.{IsNumeral, IsYearText, plain, minus, padded, canonical_year}
 use Rattle.date_texts.proofs.TextWords.{all_digits, value_after}
 use Rattle.date_texts.specs.Reading.{digits_at, number_at, after_byte, year_at, all_read, as_year}
@@ -42,17 +43,13 @@ pub no_digit_first : (bytes : List ℕ) → is_ascii_digit (get_or bytes 0 0) �
 no_digit_first [] e = tt
 no_digit_first (c ∷ cs) e = e
 
-pub both_true : (a b : Bool) → IsTrue (a && b) → (a ≡ true) × IsTrue b
-both_true true b h = (refl, h)
-both_true false b h = absurd (cc)
-
 -- digits and then no digit are read to the last digit
 digits_take : (k n : ℕ) (ds x : List ℕ) → IsTrue (all_digits ds) → length ds ≤ k → NoDigitFirst x
     → digits_at k n (ds ++ x) ≡ (value_after n ds, x)
 digits_take k n [] x h few stop = digits_stop k n x stop
 digits_take zero n (c ∷ cs) x h few stop = absurd (omega arith)
 digits_take (suc k) n (c ∷ cs) x h few stop =
-    let both = both_true (is_ascii_digit c) (all_digits cs) h in
+    let both = and_parts (is_ascii_digit c) (all_digits cs) h in
     rw both.0 (digits_take k (10 * n + (c - 48)) cs x both.1 (omega arith) stop)
 
 -- what was read is digits
@@ -92,7 +89,7 @@ pub number_take : (more : ℕ) (ds x : List ℕ) (n : ℕ) → IsNumeral (suc mo
 unfolding number_at
 number_take more [] x n h stop = absurd (omega (arith, h.some))
 number_take more (c ∷ cs) x n h stop =
-    let both = both_true (is_ascii_digit c) (all_digits cs) h.digits in
+    let both = and_parts (is_ascii_digit c) (all_digits cs) h.digits in
     let front = digits_take more (c - 48) cs x both.1 (omega (arith, h.few)) stop in
     let value : n ≡ value_after (c - 48) cs = h.value ∙ ap (λ k. value_after k cs) (omega arith) in
     rw (both.0, front, value)
@@ -181,6 +178,9 @@ byte_read_by b c cs rest false eb e = absurd (cc)
 pub some_inside : {A : Type 0} {x y : A} → Some x ≡ Some y → x ≡ y
 some_inside e = cc
 
+pub none_some : {A : Type 0} {x : A} → None ≡ Some x → ⊥
+none_some e = cc
+
 pub byte_read : (b : ℕ) (bytes rest : List ℕ) → after_byte b bytes ≡ Some rest → bytes ≡ b ∷ rest
 unfolding after_byte
 byte_read b [] rest e = absurd (cc)
@@ -230,7 +230,7 @@ pub year_take : (text : List ℕ) (z : ℤ) (x : List ℕ) → IsYearText text z
 unfolding year_at after_byte
 year_take [] z x (plain {n = n} h) stop = absurd (omega (arith, h.some))
 year_take (c ∷ cs) z x (plain {n = n} h) stop =
-    let both = both_true (is_ascii_digit c) (all_digits cs) h.digits in
+    let both = and_parts (is_ascii_digit c) (all_digits cs) h.digits in
     rw (digit_no_dash c both.0, number_take 4 (c ∷ cs) x n h stop)
 year_take text z x (minus {text = ds} {n = n} h) stop = rw (number_take 4 ds x n h stop)
 

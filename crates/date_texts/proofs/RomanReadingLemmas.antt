@@ -6,6 +6,7 @@ use Rattle.std.specs.Char.{is_ascii_digit, to_ascii_lowercase}
 use Rattle.std.specs.Str.{str_to_ascii_lowercase, str_eq_ignore_ascii_case}
 use Rattle.std.proofs.lemmas.Bool.Decides.{nat_tests}
 use Rattle.std.proofs.lemmas.Slice.Eq.{bytes_eq-Decides}
+use Rattle.std.proofs.lemmas.Bool.{and_parts}
 use Rattle.day_numbers.specs.Dates.{IsBetween}
 use Rattle.solar_calendars.specs.Roman.{count_of}
 use Rattle.solar_calendars.specs.declared.roman_date.RomanName.{RomanName}
@@ -15,7 +16,7 @@ use Rattle.date_texts.specs.RomanText.{IsNameText, of_kalends, of_nones, of_ides
 use Rattle.date_texts.specs.RomanText.{canonical_roman, IsRomanText}
 use Rattle.date_texts.specs.Reading.{number_at, after_byte, year_at, ◌>>=◌}
 use Rattle.date_texts.specs.RomanReading.{count_at, counted_at, name_at, roman_at}
-use Rattle.date_texts.proofs.ReadingLemmas.{both_true, number_take, number_read, bind_some, some_inside, byte_read}
+use Rattle.date_texts.proofs.ReadingLemmas.{number_take, number_read, bind_some, some_inside, byte_read}
 use Rattle.date_texts.proofs.ReadingLemmas.{all_is_read, year_read, year_take, padded_numeral, year_is_year}
 use Rattle.date_texts.proofs.ReadingLemmas.{decimal_numeral}
 
@@ -150,8 +151,8 @@ no_second_sixth : (c : ℕ) (ds : List ℕ) (n : ℕ) → IsNumeral 2 ds n → s
 no_second_sixth c [] n h e = cc
 no_second_sixth c (a ∷ []) n h e = cc
 no_second_sixth c (a ∷ b ∷ []) n h e =
-    let more = both_true (is_ascii_digit a) _ h.digits in
-    digit_no_letter b (both_true (is_ascii_digit b) true more.1).0 cc
+    let more = and_parts (is_ascii_digit a) _ h.digits in
+    digit_no_letter b (and_parts (is_ascii_digit b) true more.1).0 cc
 no_second_sixth c (a ∷ b ∷ d ∷ ds) n h e = omega (arith, h.few)
 
 no_sixth_test : (c : ℕ) (ds : List ℕ) (n : ℕ) (b : Bool) → IsNumeral 2 ds n

@@ -11,7 +11,7 @@ use Rattle.std.proofs.lemmas.Option.{slice_get-get_or}
 use Rattle.date_texts.specs.declared.calendar.Target.{Target}
 use Rattle.date_texts.specs.declared.calendar.Target.TheVariants.{Haab}
 use Rattle.date_texts.specs.declared.calendar.TheConstants.{MAX_TARGETS}
-use Rattle.date_texts.proofs.LawWords.{FewTargets}
+use Rattle.date_texts.specs.Laws.{FewTargets}
 use Rattle.date_texts.proofs.TargetPlaceLemmas.{target_place, place_below, place_same}
 
 below : (ts : List Target) (q : ℕ) → list_any (eqb q) (map target_place ts) ≡ true → q < MAX_TARGETS

@@ -5,15 +5,16 @@ use Rattle.std.specs.Prelude.{find}
 use Rattle.std.specs.List.{list_all}
 use Rattle.std.specs.Str.{bytes_eq, str_to_ascii_lowercase}
 use Rattle.std.proofs.lemmas.Slice.Eq.{bytes_eq-Decides}
+use Rattle.std.proofs.lemmas.Bool.{and_parts}
 use Rattle.date_texts.specs.declared.calendar.Calendar.{Calendar}
 use Rattle.date_texts.specs.declared.calendar.Calendar.TheVariants.{Gregorian}
 use Rattle.date_texts.specs.declared.calendar.Target.{Target}
 use Rattle.date_texts.specs.declared.calendar.Target.TheVariants.{Date, Haab, Tzolkin}
 use Rattle.date_texts.specs.Calendars.{calendar_name, target_name, all_targets}
-use Rattle.date_texts.proofs.LawWords.{OneCalendar, OneTarget}
+use Rattle.date_texts.specs.Laws.{OneCalendar, OneTarget}
 use Rattle.date_texts.specs.Names.{IsNamed}
 use Rattle.date_texts.specs.Trimmed.{trimmed}
-use Rattle.date_texts.proofs.ReadingLemmas.{some_inside, both_true}
+use Rattle.date_texts.proofs.ReadingLemmas.{none_some, some_inside}
 
 -- the target with this name
 abbrev pub has_name : List ℕ → Target → Bool
@@ -53,7 +54,7 @@ all_pass : {X : Type 0} (test q : X → Bool) (y : X) (xs : List X) → find tes
     → q y ≡ true
 all_pass test q y [] e h = absurd (cc)
 all_pass test q y (x ∷ xs) e h =
-    let both = both_true (q x) (list_all q xs) h in
+    let both = and_parts (q x) (list_all q xs) h in
     all_pass_by test q x y xs (test x) e both.0 (λ f. all_pass test q y xs f both.1)
 
 abbrev in_small_letters : Target → Bool
@@ -90,9 +91,6 @@ named_as_spelled u name text t e f =
     let found = ap str_to_ascii_lowercase e ∙ small_letters u in
     named_by_search (Some u) name text t (sym (ap target_by_name found ∙ finds_own u)) f
 
-no_some : {A : Type 0} {x : A} → None ≡ Some x → ⊥
-no_some e = cc
-
 true_no_false : true ≡ false → ⊥
 true_no_false e = cc
 
@@ -112,7 +110,7 @@ pub no_target_is_named : (o : Option Target) (r : Option Calendar) (text : List 
     → ((t : Target) → (o ≡ Some t) ↔ IsNamed text (target_name t)) → o ≡ None → r ≡ None → (e : Calendar)
     → (r ≡ Some e) ↔ IsNamed text (calendar_name e)
 no_target_is_named o r text h p n e =
-    (λ q. absurd (no_some (sym n ∙ q)), λ q. absurd (no_some (sym p ∙ (h (Date e)).1 q)))
+    (λ q. absurd (none_some (sym n ∙ q)), λ q. absurd (none_some (sym p ∙ (h (Date e)).1 q)))
 
 -- a target that is no calendar's
 abbrev pub is_date : Target → Bool
@@ -124,7 +122,7 @@ pub other_is_named : (o : Option Target) (text : List ℕ) (u : Target)
     → ((t : Target) → (o ≡ Some t) ↔ IsNamed text (target_name t)) → o ≡ Some u → is_date u ≡ false → (e : Calendar)
     → (◌≡◌ {A = Option Calendar} None (Some e)) ↔ IsNamed text (calendar_name e)
 other_is_named o text u h p other e = (
-  λ q. absurd (no_some q),
+  λ q. absurd (none_some q),
   λ q. absurd (true_no_false (ap is_date (some_inside (sym ((h (Date e)).1 q) ∙ p)) ∙ other)),
 )
 

@@ -1,4 +1,4 @@
--- Reading civil dates and week dates from left to right.
+-- Reading civil dates and week dates from left to right. No public contract cites this file.
 use Rattle.std.specs.Prelude.{ℕ, List, [], ◌∷◌, Option, Some, None, ℤ, ◌==◌}
 use Rattle.std.specs.Prelude.{if◌then◌else◌}
 use Rattle.date_texts.specs.declared.grammar.Grammar.{Grammar}

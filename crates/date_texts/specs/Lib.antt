@@ -15,3 +15,4 @@ pub mod LongReading
 pub mod RomanReading
 pub mod Places
 pub mod Cells
+pub mod Laws

@@ -1,4 +1,4 @@
--- Reading long counts from left to right.
+-- Reading long counts from left to right. No public contract cites this file.
 use Rattle.std.specs.Prelude.{ℕ, List, Option, Some}
 use Rattle.date_texts.specs.Reading.{number_at, ◌>>=◌, after_byte, all_read}
 

@@ -1,6 +1,6 @@
--- Reading numbers and years from left to right, as the reader's private functions do. No public contract cites this
--- file or those of the three grammars, `CivilReading`, `LongReading` and `RomanReading`: the grammar in `DateText`
--- stands apart from them, and lemmas tie the two.
+-- Reading numbers and years from left to right, as private functions do. No public contract cites this file. It serves
+-- those of the three grammars, `CivilReading`, `LongReading` and `RomanReading`: the grammar in `DateText` stands apart
+-- from them, and lemmas tie the two.
 use Rattle.std.specs.Prelude.{ℕ, zero, suc, ◌+◌, ◌-◌, ◌*◌, List, [], ◌∷◌, Option, Some, None, ℤ, pos, neg_ℤ, ◌==◌}
 use Rattle.std.specs.Prelude.{if◌then◌else◌}
 use Rattle.std.specs.Char.{is_ascii_digit}

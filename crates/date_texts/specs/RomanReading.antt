@@ -1,4 +1,4 @@
--- Reading Roman dates from left to right.
+-- Reading Roman dates from left to right. No public contract cites this file.
 use Rattle.std.specs.Prelude.{ℕ, List, [], ◌∷◌, Option, Some, None, ℤ, ◌==◌}
 use Rattle.std.specs.Prelude.{if◌then◌else◌, codes}
 use Rattle.std.specs.Char.{to_ascii_lowercase}

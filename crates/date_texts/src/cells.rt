@@ -12,7 +12,7 @@ use crate::laws::{cells_are_plain, cells_are_short};
 use crate::long_text::put_long;
 use crate::places::{put_byte, put_short, put_text};
 use crate::roman_text::put_roman;
-use crate::write::text_of;
+use crate::write::{MAX_TEXT, text_of};
 use arrayvec::ArrayString;
 use day_numbers::{ArithmeticCalendar, Day};
 use lunar_calendars::{Hebrew, Islamic};
@@ -131,7 +131,7 @@ pub fn write_cell(places: &mut [u8; MAX_CELL], target: Target, day: Day) -> u8
 /// assert_eq!(rt; cell(Target::Haab, day).as_str(), "7 Zac");
 /// ```
 #[inline(always)]
-pub fn cell(target: Target, day: Day) -> ArrayString<24>
+pub fn cell(target: Target, day: Day) -> ArrayString<MAX_TEXT>
     ensures { IsCell target day.number result.bytes }
 {
     cells_are_plain();

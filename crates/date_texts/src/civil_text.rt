@@ -2,6 +2,7 @@
 
 ghost use Rattle.std.specs.Prelude.{◌≡◌, ◌↔◌, ◌≤◌, IfSome, Some, length};
 ghost use Rattle.day_numbers.specs.Dates.{IsYmd};
+ghost use Rattle.date_texts.specs.declared.cells.TheConstants.{MAX_CELL};
 ghost use Rattle.date_texts.specs.declared.date.Date.{Date};
 ghost use Rattle.date_texts.specs.Calendars.{IsCivil};
 ghost use Rattle.date_texts.specs.CivilText.{canonical_civil};
@@ -67,9 +68,9 @@ pub fn civil_date_at(calendar: Calendar, text: &[u8]) -> Option<Date>
 /// Writes a year, a month and a day, or a year, a week and a weekday, to the front.
 #[inline(always)]
 pub fn put_civil(places: &mut [u8], grammar: Grammar, date: Ymd) -> usize
-    requires { 16 ≤ length places.old }
+    requires { MAX_CELL ≤ length places.old }
     ensures value { IsPut places.old places.new 0 result (canonical_civil grammar date.year date.month date.day) }
-    ensures few { result ≤ 16 }
+    ensures few { result ≤ MAX_CELL }
 {
     let after = put_year(places, date.year());
     let after = put_byte(places, after, b'-');

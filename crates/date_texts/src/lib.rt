@@ -32,4 +32,4 @@ pub use read::read_date;
 pub use refusal::Refusal;
 pub use solar_calendars::{RomanDate, RomanName};
 pub use trim::trimmed;
-pub use write::write_date;
+pub use write::{MAX_TEXT, write_date};

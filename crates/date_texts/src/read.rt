@@ -31,7 +31,8 @@ fn date_at(calendar: Calendar, text: &[u8]) -> Option<Date>
 /// them. A week date is a year, a week and a weekday, written in the same way, with the letter W of either case before
 /// the week. A long count is five places of one to four digits, joined by dots. A Roman date is a year, a month and
 /// the name of a day: the letter K, N or I with a count of one or two digits, or K6B, in letters of either case.
-/// Leading zeros are allowed in numbers, but not in K6B. The date need not be one that the calendar has.
+/// Leading zeros are allowed in numbers, but not in K6B. The date need not be one that the calendar has. The grammar is
+/// this project's own, after the calendar dates and week dates of ISO 8601.
 ///
 /// # Errors
 ///

@@ -5,6 +5,7 @@ ghost use Rattle.std.specs.Fmt.{decimal};
 ghost use Rattle.day_numbers.specs.Dates.{IsYear};
 ghost use Rattle.solar_calendars.specs.Roman.{count_of};
 ghost use Rattle.date_texts.specs.declared.calendar.Calendar.TheVariants.{Roman};
+ghost use Rattle.date_texts.specs.declared.cells.TheConstants.{MAX_CELL};
 ghost use Rattle.date_texts.specs.declared.date.Date.{Date};
 ghost use Rattle.date_texts.specs.DateText.{SaysDate, canonical_text};
 ghost use Rattle.date_texts.specs.RomanText.{canonical_name};
@@ -109,9 +110,9 @@ fn put_name(places: &mut [u8], at: usize, name: RomanName) -> usize
 /// Writes a Roman date to the front.
 #[inline(always)]
 pub fn put_roman(places: &mut [u8], date: RomanDate) -> usize
-    requires { 16 ≤ length places.old }
+    requires { MAX_CELL ≤ length places.old }
     ensures value { IsPut places.old places.new 0 result (canonical_text (Date.Roman date)) }
-    ensures few { result ≤ 16 }
+    ensures few { result ≤ MAX_CELL }
 {
     let after = put_year(places, date.year());
     let after = put_byte(places, after, b'-');

@@ -15,7 +15,7 @@ use crate::roman_text::put_roman;
 use arrayvec::ArrayString;
 
 /// The most bytes of a date's text: those of a long count of five times four digits.
-const MAX_TEXT: usize = 24;
+pub const MAX_TEXT: usize = 24;
 
 /// Writes a date to the front.
 #[inline(always)]
@@ -33,7 +33,7 @@ fn put_date(places: &mut [u8], date: Date) -> usize
 
 /// The text of a few bytes, each of which is plain.
 #[inline(always)]
-pub fn text_of(bytes: &[u8]) -> ArrayString<24>
+pub fn text_of(bytes: &[u8]) -> ArrayString<MAX_TEXT>
     requires few { length bytes.now ≤ MAX_TEXT }
     requires plain { IsTrue (list_all is_plain bytes.now) }
     ensures { result.bytes ≡ bytes.now }
@@ -62,7 +62,7 @@ pub fn text_of(bytes: &[u8]) -> ArrayString<24>
 /// let week_date = read_date(Calendar::Iso, "2004-w53-6")?;
 /// assert_eq!(rt; write_date(&week_date).as_str(), "2004-W53-6");
 /// ```
-pub fn write_date(date: &Date) -> ArrayString<24>
+pub fn write_date(date: &Date) -> ArrayString<MAX_TEXT>
     ensures { result.bytes ≡ canonical_text date.now }
 {
     let mut places = [0; MAX_TEXT];

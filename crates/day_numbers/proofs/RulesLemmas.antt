@@ -81,15 +81,7 @@ start_next without_zero e f (negsuc (suc n)) h =
     (omega (arith, signed_arith)) refl refl refl
 start_next from_one e f (negsuc n) h = absurd h
 
--- a closed formula that is right at year 1 and grows by each year's length gives the first day of each year
-pub start_is_from_one : (e : ℤ) (f : ℤ → ℕ) (g : ℤ → ℤ) → g (pos 1) ≡ e
-    → ((y : ℤ) → HasYear from_one y → g (next_year from_one y) ≡ g y +ℤ pos (f y)) → (n : ℕ)
-    → g (pos (suc n)) ≡ start_of_year from_one e f (pos (suc n))
-start_is_from_one e f g one more zero = one ∙ sym (start_one from_one e f)
-start_is_from_one e f g one more (suc n) =
-    more (pos (suc n)) tt ∙ ap (λ z. z +ℤ pos (f (pos (suc n)))) (start_is_from_one e f g one more n)
-    ∙ sym (start_next from_one e f (pos (suc n)) tt)
-
+-- a closed formula that is right at year 1 and grows by each year's length gives the first days of the years from 1 on
 start_later : (s : Years) (e : ℤ) (f : ℤ → ℕ) (g : ℤ → ℤ) → g (pos 1) ≡ e
     → ((y : ℤ) → HasYear s y → g (next_year s y) ≡ g y +ℤ pos (f y)) → (n : ℕ)
     → g (pos (suc n)) ≡ start_of_year s e f (pos (suc n))
@@ -98,7 +90,7 @@ start_later s e f g one more (suc n) =
     more (pos (suc n)) tt ∙ ap (λ z. z +ℤ pos (f (pos (suc n)))) (start_later s e f g one more n)
     ∙ sym (start_next s e f (pos (suc n)) tt)
 
--- the same two, going backwards by one
+-- from a year to the one before it
 back_one : (a b c d : ℤ) (n : ℕ) → c ≡ a +ℤ pos n → d ≡ b +ℤ pos n → c ≡ d → a ≡ b
 back_one a b c d n p q e = omega (arith, signed_arith)
 
@@ -107,6 +99,7 @@ start_earlier : (s : Years) (e : ℤ) (f : ℤ → ℕ) (g : ℤ → ℤ) (y : �
     → g (next_year s y) ≡ start_of_year s e f (next_year s y) → g y ≡ start_of_year s e f y
 start_earlier s e f g y more h same = back_one _ _ _ _ (f y) (more y h) (start_next s e f y h) same
 
+-- and so the first day of each year
 pub start_is : (s : Years) (e : ℤ) (f : ℤ → ℕ) (g : ℤ → ℤ) → g (pos 1) ≡ e
     → ((y : ℤ) → HasYear s y → g (next_year s y) ≡ g y +ℤ pos (f y)) → (y : ℤ) → HasYear s y
     → g y ≡ start_of_year s e f y
@@ -200,17 +193,17 @@ next_le from_one (negsuc zero) (negsuc n) h lt = absurd h
 next_le s (negsuc (suc n)) z h lt = omega (arith, signed_arith)
 
 -- a later year begins after all days of an earlier one
-pub start-later : (s : Years) (e : ℤ) (f : ℤ → ℕ) (y z : ℤ) → HasYear s y → HasYear s z → y <ℤ z
+pub begins_after : (s : Years) (e : ℤ) (f : ℤ → ℕ) (y z : ℤ) → HasYear s y → HasYear s z → y <ℤ z
     → (start_of_year s e f y +ℤ pos (f y)) ≤ℤ start_of_year s e f z
-start-later s e f y z h k lt = rw (← start_next s e f y h) (start_mono s e f (next_year s y) z (next_le s y z k lt))
+begins_after s e f y z h k lt = rw (← start_next s e f y h) (start_mono s e f (next_year s y) z (next_le s y z k lt))
 
 -- a day lies in one year
 pub year_unique : (s : Years) (e : ℤ) (f : ℤ → ℕ) (y z n : ℤ) → HasYear s y → HasYear s z → start_of_year s e f y ≤ℤ n
     → n <ℤ (start_of_year s e f y +ℤ pos (f y)) → start_of_year s e f z ≤ℤ n → n <ℤ (start_of_year s e f z +ℤ pos (f z))
     → y ≡ z
 year_unique s e f y z n h k a b c d =
-    by_lt_z y z (λ lt. absurd (omega (arith, signed_arith, start-later s e f y z h k lt)))
-    (λ ge. by_lt_z z y (λ gt. absurd (omega (arith, signed_arith, start-later s e f z y k h gt)))
+    by_lt_z y z (λ lt. absurd (omega (arith, signed_arith, begins_after s e f y z h k lt)))
+    (λ ge. by_lt_z z y (λ gt. absurd (omega (arith, signed_arith, begins_after s e f z y k h gt)))
     (λ le. omega (arith, signed_arith)))
 
 -- the months
@@ -282,13 +275,6 @@ date_at_place r y n s m d place ms e h a b c f k =
 pub number_from_parts : (r : Rules) (y s : ℤ) (m d before : ℕ) (ms : List Month) → ms ≡ r.months y
     → before ≡ days_before_month ms m → s ≡ year_start r y → (s +ℤ pos before) +ℤ pos d -ℤ pos 1 ≡ day_number_of r y m d
 number_from_parts r y s m d before ms e f k = rw (f, e, k) refl
-
--- a closed sum that is right at year 1 and grows by each year's length gives the first day of each year from year 1 on
-pub year_starts : (s : Years) (e : ℤ) (f : ℤ → ℕ) (g : ℕ → ℕ) → g 0 ≡ 0 → ((n : ℕ) → g (suc n) ≡ g n + f (pos (suc n)))
-    → (n : ℕ) → e +ℤ pos (g n) ≡ start_of_year s e f (pos (suc n))
-year_starts s e f g none more zero = omega (arith, signed_arith, none, start_one s e f)
-year_starts s e f g none more (suc n) =
-    omega (arith, signed_arith, more n, year_starts s e f g none more n, start_next s e f (pos (suc n)) tt)
 
 -- in a calendar from year 1 on, the sum of epoch and days before is the first day of the year
 pub sum_is_start : (e : ℤ) (f : ℤ → ℕ) (y z b : ℤ) (n s : ℕ) → s ≡ days_of_years f n → b ≡ e → y ≡ pos (suc n)

@@ -21,7 +21,7 @@ pub record Rules : Type 0 where
   -- the months of each year, in the order in which they run
   pub months : ℤ → List Month
 
--- the year is accepted
+-- a calendar with these years has this one
 abbrev pub HasYear : Years → ℤ → Type 0
 HasYear years (pos (suc n)) = Unit {0}
 HasYear with_zero year = Unit {0}
@@ -58,8 +58,8 @@ abbrev pub year_before : Years → ℤ → ℤ
 year_before with_zero k = pos 1 -ℤ k
 year_before years k = neg_ℤ k
 
--- the day number of the first day of a year: the epoch and the lengths of all years from year 1 on,
--- or less the lengths of all years from it up to year 1
+-- the day number of the first day of a year: the epoch and the lengths of the years from year 1 up to it,
+-- or, before year 1, the epoch less the lengths of the years from it up to year 1
 unfoldable pub start_of_year : Years → ℤ → (ℤ → ℕ) → ℤ → ℤ
 start_of_year years epoch length_of (pos (suc n)) = epoch +ℤ pos (days_of_years length_of n)
 start_of_year years epoch length_of year =

@@ -43,7 +43,7 @@ pub trait ArithmeticCalendar {
     /// The fixed day number of a date.
     ghost day_number: { Ymd → ℤ };
 
-    /// The first day of a calendar that has one.
+    /// The fixed day number of the first day of a calendar that has one.
     ghost first_day: { Option ℤ };
 
     /// The day of a date.

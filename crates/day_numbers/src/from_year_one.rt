@@ -35,7 +35,7 @@ pub trait YearRule {
         ensures numbered { IsTrue (are_months result.now) };
 
     /// The number of the month that a place in the year lies in, counted from 0, and its day of that month; the year is
-    /// from 1 to 99999.
+    /// from 1 to 99999, and the place is less than its days.
     fn month_at(year: u32, place: u16) -> (u8, u8)
         requires low { 1 ≤ year }
         requires high { year ≤ 99_999 }
@@ -54,7 +54,7 @@ pub trait FromYearOne {
     /// The fixed day number of the first day of year 1.
     ghost epoch_day: { ℤ };
 
-    /// The fixed day number of the first day of year 1.
+    /// The fixed day number of the first day of year 1, from -2000000 to 2000000.
     fn epoch(&self) -> i64
         ensures value { result ≡ epoch_day }
         ensures near { IsBetween (neg_ℤ (pos 2_000_000)) (pos 2_000_000) result };

@@ -16,7 +16,7 @@ use crate::calendar::DateFault;
 use crate::day::Day;
 use crate::ymd::Ymd;
 
-/// A month of a year: its number, from 0 to 99, and how many days it has.
+/// A month of a year: its number and how many days it has, each from 0 to 99 in the years of a calendar.
 #[derive(Clone, Copy, PartialEq, Eq, Debug)]
 pub struct Month {
     pub number: u8,
@@ -55,7 +55,7 @@ pub trait RuledCalendar {
     fn has_day(&self, day: i64) -> bool
         ensures { IsTrue result ↔ HasDayOf rules day };
 
-    /// The year of this number.
+    /// The year of this number, which is one that the calendar has.
     fn year(&self, number: i32) -> Year
         requires has { HasYear rules.years number }
         requires in_range { IsYear number }
@@ -67,7 +67,8 @@ pub trait RuledCalendar {
         ensures few { length result.months.now ≤ 13 }
         ensures numbered { IsTrue (are_months result.months.now) };
 
-    /// The number of the year that the day with this fixed day number lies in.
+    /// The number of the year that the day with this fixed day number lies in. The day is from -3652424 to 3652059, and
+    /// one that the calendar has a date on.
     fn year_on(&self, day: i64) -> i32
         requires in_range { IsDayNumber day }
         requires has { HasDayOf rules day }
@@ -76,7 +77,7 @@ pub trait RuledCalendar {
         ensures after { start rules result ≤ℤ day }
         ensures before { day <ℤ (start rules result +ℤ pos (year_length rules result)) };
 
-    /// The year that the day with this fixed day number lies in.
+    /// The year that the day with this fixed day number lies in, which is a day as for [`year_on`](Self::year_on).
     fn year_with(&self, day: i64) -> Year
         requires in_range { IsDayNumber day }
         requires has { HasDayOf rules day }
@@ -93,7 +94,8 @@ pub trait RuledCalendar {
         self.year(self.year_on(day))
     }
 
-    /// The number of the month that a place in the year lies in, counted from 0, and its day of that month.
+    /// The number of the month that a place in the year lies in, counted from 0, and its day of that month. The year is
+    /// one of the calendar's, and the place is less than its days.
     fn month_at(&self, year: Year, place: u16) -> (u8, u8)
         requires has { HasYear rules.years year.number }
         requires in_range { IsYear year.number }
@@ -110,7 +112,7 @@ pub trait RuledCalendar {
 }
 
 /// The days of the months before the month of this number, and that month's days; all the days and 0
-/// where no month has the number.
+/// where no month has the number. There are at most 13 months.
 pub fn month_by_number(months: &[Month], number: u8) -> (u16, u8)
     requires { length months.now ≤ 13 }
     ensures before { result.0 ≡ days_before_month months.now number }

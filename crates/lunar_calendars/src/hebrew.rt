@@ -245,8 +245,9 @@ impl CalendarByRules for Hebrew {
 /// A year opens on the day of its molad, the mean new moon of Tishri, or later by four postponements: the
 /// next day where the molad is at noon or later; the day after where that would be a Sunday, a Wednesday or a
 /// Friday; Thursday where the molad of a common year is on a Tuesday at 9 hours and 204 parts or later; and
-/// Tuesday where the molad of a year after a leap year is on a Monday at 15 hours and 589 parts or later. It
-/// lies as many days after the first day of year 1 as the years before it have together.
+/// Tuesday where the molad of a year after a leap year is on a Monday at 15 hours and 589 parts or later
+/// (Reingold and Dershowitz, *Calendrical Calculations*, "The Hebrew Calendar"). It lies as many days after the
+/// first day of year 1 as the years before it have together.
 ///
 /// # Examples
 ///
@@ -266,7 +267,8 @@ pub fn hebrew_new_year(year: u32) -> i64
     EPOCH + new_year(year) as i64
 }
 
-/// The days of the Hebrew year `year`, which is from 1 to 99999: those from its new year to the next.
+/// The days of the Hebrew year `year`, which is from 1 to 99999: those from its new year to the next, 353, 354, 355,
+/// 383, 384 or 385.
 #[tactic(auto, using(crate::proofs::YearLengthLemmas::end_of_year, crate::proofs::YearLengthLemmas::total))]
 pub fn hebrew_year_length(year: u32) -> u16
     requires low { 1 ≤ year }

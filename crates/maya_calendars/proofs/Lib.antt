@@ -5,11 +5,9 @@
 --   NameListLemmas: the clauses of `Haab::day` and `Haab::month`, and the names, which are those of the lists.
 --   LongCountLemmas: `value` and `only` of `long_on`.
 --   RangeLemmas: the laws `haab_days_in_range` and `tzolkin_numbers_in_range`.
---   LawWords: the names of these laws, for lemmas here and above.
 pub mod RoundLemmas
 pub mod HaabLemmas
 pub mod TzolkinLemmas
 pub mod LongCountLemmas
-pub mod LawWords
 pub mod RangeLemmas
 pub mod NameListLemmas

@@ -48,9 +48,6 @@ one_long_count c d h g e =
     same_places c d (same_numbers c.baktun c.katun c.tun c.uinal c.kin d.baktun d.katun d.tun d.uinal d.kin h.0 h.1 h.2
     h.3 g.0 g.1 g.2 g.3 (omega (arith, ints, e)))
 
-nothing : IsSome {T = LongCount} None → ⊥
-nothing h = cc
-
 pub day_since_epoch : (c : LongCount) → epoch ≤ℤ long_day c
 day_since_epoch c = omega (arith, ints)
 
@@ -58,5 +55,5 @@ day_since_epoch c = omega (arith, ints)
 pub only_long_count : (o : Option LongCount) (day : ℤ) → IsSome o ↔ (epoch ≤ℤ day)
     → IfSome o (λ c. IsLongCount c × (long_day c ≡ day)) → (c : LongCount) → IsLongCount c → long_day c ≡ day
     → o ≡ Some c
-only_long_count None day some value c h e = absurd (nothing (some.1 (subst (λ z. epoch ≤ℤ z) e (day_since_epoch c))))
+only_long_count None day some value c h e = absurd (cc (some.1 (subst (λ z. epoch ≤ℤ z) e (day_since_epoch c))))
 only_long_count (Some x) day some value c h e = ap Some (one_long_count x c value.0 h (value.1 ∙ sym e))

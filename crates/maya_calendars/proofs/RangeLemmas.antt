@@ -1,7 +1,7 @@
 -- The ranges of the numbers of the haab and the tzolkin.
 use Rattle.std.proofs.Common.{◌+◌, ◌-◌, ◌≤◌, ◌%◌, ◌/◌, pos, ◌+ℤ◌, ◌-ℤ◌, refl, subst, arith}
 use Rattle.maya_calendars.specs.Rounds.{epoch, round_number}
-use Rattle.maya_calendars.proofs.LawWords.{HaabDaysInRange, TzolkinNumbersInRange}
+use Rattle.maya_calendars.specs.Laws.{HaabDaysInRange, TzolkinNumbersInRange}
 use Rattle.maya_calendars.proofs.RoundLemmas.{place_below, round_number_is}
 use Rattle.maya_calendars.proofs.HaabLemmas.{haab_is}
 

@@ -3,3 +3,4 @@ pub mod Places
 pub mod LongCounts
 pub mod HaabNames
 pub mod TzolkinNames
+pub mod Laws

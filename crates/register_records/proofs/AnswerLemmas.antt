@@ -23,7 +23,7 @@ use Rattle.date_texts.specs.Refusals.{refusal_number}
 use Rattle.date_texts.specs.declared.calendar.Target.{Target}
 use Rattle.date_texts.specs.declared.refusal.Refusal.{Refusal}
 use Rattle.date_texts.specs.declared.refusal.Refusal.TheVariants as refused
-use Rattle.date_texts.proofs.LawWords.{CellsArePlain, OneCell}
+use Rattle.date_texts.specs.Laws.{CellsArePlain, OneCell}
 use Rattle.register_records.specs.Answers.{cells_of, fields_of}
 use Rattle.register_records.specs.Columns.{Column, cell_columns}
 use Rattle.register_records.specs.TableColumns.{AreFields, IsCellField, answer_field, answer_order, answer_texts}

@@ -5,7 +5,7 @@ use Rattle.day_numbers.specs.Days.{IsDayNumber}
 use Rattle.date_texts.specs.Cells.{no_date, on_date}
 use Rattle.date_texts.specs.DateText.{IsDateText}
 use Rattle.date_texts.specs.Dates.{calendar_of_date}
-use Rattle.date_texts.proofs.LawWords.{CanonicalTextsReadBack}
+use Rattle.date_texts.specs.Laws.{CanonicalTextsReadBack}
 use Rattle.register_records.specs.Laws.{CellsReadBack}
 use Rattle.register_records.specs.Outcomes.{IsOutcome, accepted}
 

@@ -3,7 +3,7 @@ use Rattle.std.proofs.Common.{◌≡◌, ◌∙◌, ◌<◌, ◌⊎◌, ℕ, Lis
 use Rattle.std.proofs.Common.{arith, inl, inr, Option, Some, None, length-append, Result, Ok, Err}
 use Rattle.std.specs.Prelude.{Contains, IfSome, slice_get, slice_index_or}
 use Rattle.date_texts.specs.Calendars.{target_name}
-use Rattle.date_texts.proofs.LawWords.{OneTarget}
+use Rattle.date_texts.specs.Laws.{OneTarget}
 use Rattle.date_texts.specs.Names.{IsNamed}
 use Rattle.date_texts.specs.declared.calendar.Target.{Target}
 use Rattle.register_records.specs.SetupRules.{NamesTwice}

@@ -6,8 +6,7 @@
 --   IsoWeekLemmas: `day_of` and `date_on` of IsoWeek.
 --   RomanMonthLemmas, RomanPrincipalLemmas, RomanPlaceLemmas, RomanNameLemmas, RomanDateLemmas, each upon those before
 --     it: the clauses of `roman_day_of` and `roman_on`, and the law `one_roman_date`.
---   LawWords: the name of that law, for lemmas here and above.
---   KnownDateLemmas: the definitions computed on known dates; it serves no clause.
+--   KnownDateExamples: the definitions computed on known dates; it serves no clause.
 pub mod ThirteenMonthsLemmas
 pub mod FrenchLemmas
 pub mod GregorianLemmas
@@ -18,5 +17,4 @@ pub mod RomanPlaceLemmas
 pub mod RomanNameLemmas
 pub mod RomanDateLemmas
 pub mod IsoWeekLemmas
-mod KnownDateLemmas
-pub mod LawWords
+mod KnownDateExamples

@@ -12,9 +12,9 @@ use Rattle.solar_calendars.specs.TwelveMonths.{twelve_months}
 use Rattle.solar_calendars.specs.Roman.{count_of, roman_day_number, IsRomanDate}
 use Rattle.solar_calendars.specs.declared.roman_date.RomanDate.{RomanDate}
 use Rattle.solar_calendars.specs.RomanPlaces.{RomanParts, parts_on, parts_of}
-use Rattle.solar_calendars.proofs.LawWords.{OneRomanDate}
+use Rattle.solar_calendars.specs.Laws.{OneRomanDate}
 use Rattle.solar_calendars.proofs.JulianLemmas.{closed, julian_start}
-use Rattle.solar_calendars.proofs.RomanNameLemmas.{named_is, stands, only_name}
+use Rattle.solar_calendars.proofs.RomanNameLemmas.{NamesDay, named_is, stands, only_name}
 
 -- ---- Roman dates with the same parts are one value
 abbrev AreParts : RomanParts → Type 0
@@ -36,7 +36,7 @@ parts_prop p = hlevel props
 made : (p q : RomanParts) → p ≡ q → (h : AreParts p) (g : AreParts q) → make p h ≡ make q g
 made p q e h = subst (λ r. (g : AreParts r) → make p h ≡ make r g) e (λ g. ap (make p) (parts_prop p h g))
 
-roman_same : (d e : RomanDate) → parts_of d ≡ parts_of e → d ≡ e
+pub roman_same : (d e : RomanDate) → parts_of d ≡ parts_of e → d ≡ e
 unfolding make
 roman_same d e p =
     made (parts_of d) (parts_of e) p (d.year_in, d.month_in, d.count_in) (e.year_in, e.month_in, e.count_in)
@@ -62,17 +62,14 @@ pub year_near : (y n : ℤ) (m d : ℕ) → IsDateOf julian_rules y m d → day_
 year_near y n m d h e r =
     closed_near y (rw (julian_start y h.0) (omega (arith, signed_arith, (date_in_year julian_rules y m d h).0, e, r)))
 
-Names : ℤ → RomanParts → Type 0
-Names n r = IsRomanDate r.year r.month r.name × (roman_day_number r.year r.month r.name ≡ n)
-
 pub names_day : (r : RomanDate) (y n : ℤ) (m d : ℕ) → parts_of r ≡ parts_on y m d → IsDateOf julian_rules y m d
     → day_number_of julian_rules y m d ≡ n
     → IsRomanDate r.year r.month r.name × (roman_day_number r.year r.month r.name ≡ n)
-unfolding Names
+unfolding NamesDay
 names_day r y n m d e h k =
     let months = month_is (is_julian_leap y) m (omega (arith, h.1, h.2)) in
     let v = named_is y m d h.0 months.0 months.1 h.1 h.2 in
-    subst (Names n) (sym e) (v.0, v.1 ∙ k)
+    subst (NamesDay n) (sym e) (v.0, v.1 ∙ k)
 
 pub only_roman : (r : RomanDate) (y n : ℤ) (m d : ℕ) → parts_of r ≡ parts_on y m d → IsDateOf julian_rules y m d
     → day_number_of julian_rules y m d ≡ n

@@ -236,7 +236,7 @@ next y m h a b =
     ]
 
 -- the name of a Julian date is valid, and names its day
-NamesDay : ℤ → RomanParts → Type 0
+unfoldable pub NamesDay : ℤ → RomanParts → Type 0
 NamesDay n r = IsRomanDate r.year r.month r.name × (roman_day_number r.year r.month r.name ≡ n)
 
 pub named_is : (y : ℤ) (m d : ℕ) → HasYear without_zero y → 1 ≤ m → m ≤ 12 → 1 ≤ d → d ≤ month_length y m

@@ -8,3 +8,4 @@ pub mod IsoWeekLaw
 pub mod French
 pub mod Roman
 pub mod RomanPlaces
+pub mod Laws

@@ -1,4 +1,4 @@
--- Roman dates by the days of the month, as the code finds them. No public contract cites this.
+-- Roman dates by the days of the month, as the code finds them. No public contract cites this file.
 use Rattle.std.specs.Prelude.{ℕ, zero, suc, ◌+◌, ◌-◌, ◌≤◌, Bool, IsTrue, ◌==◌, ◌&&◌, nat_le, if◌then◌else◌, ℤ}
 use Rattle.std.specs.Prelude.{pos, negsuc, ◌-ℤ◌}
 use Rattle.day_numbers.specs.Rules.{without_zero, days_of_month}

@@ -53,7 +53,6 @@ fn kalends(year: i32, month: u8) -> i64
     requires has { HasYear without_zero year }
     requires near { IsYear year }
     ensures value { result ≡ kalends_spec year month }
-    ensures has { HasYear without_zero year }
     ensures near { IsBetween (neg_ℤ (pos 100_070_000)) (pos 100_070_000) result }
 {
     let year = Julian.year(year);
@@ -174,9 +173,10 @@ fn day_number(year: i32, month: u8, name: RomanName) -> Option<i64>
 
 /// The day of a Roman date.
 ///
-/// A date is valid where the Julian calendar has the year and the month, the count is at least 1, and the day is the
-/// principal day of the name or lies after the principal day before it. Before the Kalends of March of a leap year,
-/// and nowhere else, two days are the sixth.
+/// A date is valid where the Julian calendar has the year and the month, and the principal day of the name is the first
+/// from the day on: the count is at least 1, and the day is that principal day or lies after the one before it. Before
+/// the Kalends of March of a leap year, and nowhere else, two days are the sixth (Reingold and Dershowitz, *Calendrical
+/// Calculations*, "Roman Nomenclature").
 ///
 /// # Errors
 ///

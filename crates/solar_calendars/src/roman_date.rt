@@ -5,7 +5,7 @@ ghost use Rattle.day_numbers.specs.Dates.{IsYear};
 ghost use Rattle.solar_calendars.specs.Roman.{count_of};
 
 /// The Roman name of a day: a principal day of a month and the count of days back from it, the principal day itself
-/// being 1.
+/// being 1 (Reingold and Dershowitz, *Calendrical Calculations*, "Roman Nomenclature").
 #[derive(Clone, Copy, PartialEq, Eq, Debug)]
 pub enum RomanName {
     /// A count back from the Kalends, day 1 of the month.

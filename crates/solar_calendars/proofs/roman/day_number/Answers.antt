@@ -1,5 +1,6 @@
 use Rattle.std.proofs.Common.{arith, rules, to_z-of_z, FitsSigned, w32, refl}
 use Rattle.day_numbers.proofs.SignedArithmeticLemmas.{signed_arith}
+use Rattle.day_numbers.specs.Rules.{HasYear, without_zero}
 use Rattle.solar_calendars.specs.RomanPlaces.{HasPlace}
 use Rattle.solar_calendars.proofs.RomanPlaceLemmas.{month_of, placed, place_near, number}
 use Rattle.solar_calendars.proofs.roman.day_number.Goals as goal
@@ -10,7 +11,7 @@ returns-then-year-eq0-clause-valid c = search (rules, month_of)
 pub overflow_add-result : goal.overflow_add-result
 overflow_add-result c =
     let f : FitsSigned w32 c.args.year = c.ranges.year in
-    let has = simp to_z-of_z at c.kalends-kalends.ensures.has in
+    let has : HasYear without_zero c.args.year = search rules in
     let p : HasPlace c.args.year c.args.month c.args.name = (simp to_z-of_z at c.in-Some.ensures.valid).0 refl in
     omega (
       arith,
@@ -23,14 +24,14 @@ overflow_add-result c =
 pub returns-in-Some-clause-valid : goal.returns-in-Some-clause-valid
 returns-in-Some-clause-valid c =
     let f : FitsSigned w32 c.args.year = c.ranges.year in
-    let has = simp to_z-of_z at c.kalends-kalends.ensures.has in
+    let has : HasYear without_zero c.args.year = search rules in
     let p : HasPlace c.args.year c.args.month c.args.name = (simp to_z-of_z at c.in-Some.ensures.valid).0 refl in
     (λ _. (placed c.args.year c.args.month c.args.name has (omega arith) (omega arith)).1 p, λ _. refl)
 
 pub returns-in-Some-clause-value : goal.returns-in-Some-clause-value
 returns-in-Some-clause-value c =
     let f : FitsSigned w32 c.args.year = c.ranges.year in
-    let has = simp to_z-of_z at c.kalends-kalends.ensures.has in
+    let has : HasYear without_zero c.args.year = search rules in
     let p : HasPlace c.args.year c.args.month c.args.name = (simp to_z-of_z at c.in-Some.ensures.valid).0 refl in
     let near = place_near c.args.year c.args.month c.args.name has (omega arith) (omega arith) p in
     let kalends_is = simp to_z-of_z at c.kalends-kalends.ensures.value in
@@ -48,7 +49,7 @@ returns-in-Some-clause-value c =
 pub returns-in-None-clause-valid : goal.returns-in-None-clause-valid
 returns-in-None-clause-valid c =
     let f : FitsSigned w32 c.args.year = c.ranges.year in
-    let has = simp to_z-of_z at c.kalends-kalends.ensures.has in (
+    let has : HasYear without_zero c.args.year = search rules in (
       λ e. absurd (cc),
       λ r. (simp to_z-of_z at c.in-None.ensures.valid).1
           ((placed c.args.year c.args.month c.args.name has (omega arith) (omega arith)).0 r),

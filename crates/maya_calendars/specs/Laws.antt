@@ -1,4 +1,4 @@
--- Names of the laws of the haab and the tzolkin, for lemmas; `laws.rt` states them.
+-- Laws of the haab and the tzolkin.
 use Rattle.std.specs.Prelude.{◌≤◌, ℤ}
 use Rattle.maya_calendars.specs.HaabNames.{haab_of}
 use Rattle.maya_calendars.specs.TzolkinNames.{tzolkin_of}

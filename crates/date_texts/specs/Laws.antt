@@ -1,4 +1,4 @@
--- Names of the laws of names, date texts, cells and lists of targets, for lemmas; `laws.rt` states them.
+-- Laws of names, date texts, cells and lists of targets.
 use Rattle.std.specs.Prelude.{◌≡◌, ◌≢◌, ◌<◌, ◌≤◌, ℕ, ℤ, IsTrue, List, length, slice_get}
 use Rattle.std.specs.List.{list_all}
 use Rattle.date_texts.specs.declared.calendar.Calendar.{Calendar}
@@ -22,7 +22,8 @@ OneTarget = (text : List ℕ) (t u : Target) → IsNamed text (target_name t) �
 
 -- a text says one date of a calendar at most
 abbrev pub OneDateText : Type 0
-OneDateText = (calendar : Calendar) (text : List ℕ) (d e : Date) → IsDateText calendar text d
+OneDateText =
+    (calendar : Calendar) (text : List ℕ) (d e : Date) → IsDateText calendar text d
     → IsDateText calendar text e → d ≡ e
 
 -- the canonical text of a date says that date in its calendar
@@ -37,12 +38,13 @@ OneCell = (target : Target) (n : ℤ) (x y : List ℕ) → IsCell target n x →
 abbrev pub CellsArePlain : Type 0
 CellsArePlain = (target : Target) (n : ℤ) (text : List ℕ) → IsCell target n text → IsTrue (list_all is_plain text)
 
--- a cell has `MAX_CELL` bytes at most
+-- a cell has `MAX_CELL` bytes at most, whatever the day
 abbrev pub CellsAreShort : Type 0
 CellsAreShort = (target : Target) (n : ℤ) (text : List ℕ) → IsCell target n text → length text ≤ MAX_CELL
 
 -- targets of which none stands at two places are no more than there are targets
 abbrev pub FewTargets : Type 0
-FewTargets = (targets : List Target)
+FewTargets =
+    (targets : List Target)
     → ((i j : ℕ) → i < j → j < length targets → slice_get targets i ≢ slice_get targets j)
     → length targets ≤ MAX_TARGETS

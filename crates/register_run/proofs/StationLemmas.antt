@@ -1,5 +1,5 @@
 -- What a source's table holds, as rows are taken from its threads.
-use Rattle.std.proofs.Common.{◌≡◌, subst, ℕ, List, [], ◌∷◌, ◌++◌, Option, ◌⊎◌, inl, inr, arith}
+use Rattle.std.proofs.Common.{◌≡◌, subst, ℕ, List, [], ◌∷◌, ◌++◌, Option, ◌⊎◌, inl, inr}
 use Rattle.std.specs.Prelude.{Result}
 use Rattle.std.proofs.Math.Logic.{∥∥₁_map}
 use Rattle.register_records.specs.declared.outputs.Output as outputs

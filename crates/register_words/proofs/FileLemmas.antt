@@ -72,7 +72,7 @@ one_more files file once new other twice = decide (meet twice.before other twice
 
 -- ---- the files as a slice holds them
 
-or_true : (a : Bool) {b : Bool} → b ≡ true → (a || b) ≡ true
+pub or_true : (a : Bool) {b : Bool} → b ≡ true → (a || b) ≡ true
 or_true true e = refl
 or_true false e = e
 

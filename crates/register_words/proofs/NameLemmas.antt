@@ -1,6 +1,7 @@
 -- Names and their targets, one more at a time.
 use Rattle.std.proofs.Common.{◌≡◌, ◌≢◌, ◌∙◌, ◌<◌, ◌+◌, ℕ, List, [], ◌∷◌, ◌++◌, length, get_or, take, drop, suc, sym, ap}
 use Rattle.std.proofs.Common.{ap₂, refl, arith, zero, lit<, Some, length-append, inl, inr, ◌⊎◌}
+use Rattle.std.proofs.lemmas.Bool.{cases_lt}
 use Rattle.std.proofs.lemmas.List.{take-append-drop}
 use Rattle.std.proofs.Math.Seq.{drop-cons}
 use Rattle.std.specs.Prelude.{Contains, slice_get, slice_index_or, true}
@@ -92,11 +93,4 @@ pub once_more : (targets : List Target) (target : Target) → (¬ NamesTwice tar
 once_more targets target once new twice =
     let high : twice.1 < length targets + 1 = omega (arith, twice.3, length-append targets (target ∷ [])) in
     twice_split targets target twice.0 twice.1 once new twice.2 high twice.4
-    (below_or_last twice.1 (length targets) high)
-  where
-    below_or_last : (j n : ℕ) → j < n + 1 → (j < n) ⊎ (j ≡ n)
-    below_or_last zero zero lt = inr refl
-    below_or_last zero (suc n) lt = inl (omega arith)
-    below_or_last (suc j) zero lt = absurd (omega arith)
-    below_or_last (suc j) (suc n) lt = elim (below_or_last j n (omega arith))
-        [ inl h ↦ inl (omega arith) | inr h ↦ inr (omega arith) ]
+    (elim (cases_lt twice.1 (length targets)) [ inl less ↦ inl less | inr more ↦ inr (omega (arith, high, more)) ])

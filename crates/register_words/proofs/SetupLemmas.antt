@@ -15,6 +15,7 @@ use Rattle.register_records.specs.SetupRules.{most_stripes}
 use Rattle.register_records.specs.declared.setups.Setup.{Setup}
 use Rattle.register_records.specs.declared.setups.SetupFault.{SetupFault}
 use Rattle.register_records.specs.declared.setups.SetupFault.TheVariants.{TargetTwice, RingSize, Delimiter, Stripes}
+use Rattle.register_words.proofs.FileLemmas.{or_true}
 use Rattle.register_words.proofs.NameLemmas.{never_twice}
 use Rattle.register_words.specs.Requests.{AreTargetsOf, IsNumberOf, delimiter_option, number_option}
 use Rattle.register_words.specs.declared.requests.AskedNumber.TheVariants as numbers
@@ -32,10 +33,6 @@ found (u ∷ us) zero target is =
     ap (λ b. b || list_any (λ other. bytes_eq other (target_name target)) (map target_name us))
     ((bytes_eq-Decides (target_name u) (target_name target)).1 (ap target_name same))
 found (u ∷ us) (suc j) target is = or_true (bytes_eq (target_name u) (target_name target)) (found us j target is)
-  where
-    or_true : (a : Bool) {b : Bool} → b ≡ true → (a || b) ≡ true
-    or_true true e = refl
-    or_true false e = e
 
 once_from : (targets : List Target) (i j : ℕ) → differ (map target_name targets) ≡ true → i < j → j < length targets
     → slice_get targets i ≡ slice_get targets j → ⊥

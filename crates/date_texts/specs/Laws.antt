@@ -4,9 +4,7 @@ use Rattle.std.specs.List.{list_all}
 use Rattle.date_texts.specs.declared.calendar.Calendar.{Calendar}
 use Rattle.date_texts.specs.declared.calendar.Target.{Target}
 use Rattle.date_texts.specs.declared.date.Date.{Date}
-use Rattle.date_texts.specs.declared.calendar.TheConstants.{MAX_TARGETS}
-use Rattle.date_texts.specs.declared.cells.TheConstants.{MAX_CELL}
-use Rattle.date_texts.specs.Calendars.{calendar_name, target_name}
+use Rattle.date_texts.specs.Calendars.{all_targets, calendar_name, target_name}
 use Rattle.date_texts.specs.Cells.{IsCell, is_plain}
 use Rattle.date_texts.specs.Dates.{calendar_of_date}
 use Rattle.date_texts.specs.DateText.{IsDateText, canonical_text}
@@ -38,13 +36,13 @@ OneCell = (target : Target) (n : ℤ) (x y : List ℕ) → IsCell target n x →
 abbrev pub CellsArePlain : Type 0
 CellsArePlain = (target : Target) (n : ℤ) (text : List ℕ) → IsCell target n text → IsTrue (list_all is_plain text)
 
--- a cell has `MAX_CELL` bytes at most, whatever the day
+-- a cell has 16 bytes at most, whatever the day
 abbrev pub CellsAreShort : Type 0
-CellsAreShort = (target : Target) (n : ℤ) (text : List ℕ) → IsCell target n text → length text ≤ MAX_CELL
+CellsAreShort = (target : Target) (n : ℤ) (text : List ℕ) → IsCell target n text → length text ≤ 16
 
 -- targets of which none stands at two places are no more than there are targets
 abbrev pub FewTargets : Type 0
 FewTargets =
     (targets : List Target)
     → ((i j : ℕ) → i < j → j < length targets → slice_get targets i ≢ slice_get targets j)
-    → length targets ≤ MAX_TARGETS
+    → length targets ≤ length all_targets

@@ -1,10 +1,12 @@
 //! The cells of a table.
 
-ghost use Rattle.std.specs.Prelude.{◌≡◌, ◌≤◌, length, take};
+ghost use Rattle.std.specs.Prelude.{◌≡◌, ◌≤◌, ◌↔◌, IfSome, IsSome, length, take};
 ghost use Rattle.day_numbers.specs.declared.ymd.Ymd.{Ymd};
 ghost use Rattle.date_texts.specs.Calendars.{IsCivil, IsDateBy, day_number_by, first_day_by, reckoning};
+ghost use Rattle.date_texts.specs.declared.cells.TheConstants.{MAX_CELL};
 ghost use Rattle.date_texts.specs.Cells.{IsDateCell, IsCell, numbered_name};
 ghost use Rattle.date_texts.specs.declared.calendar.Calendar.TheVariants.{Longcount, Roman};
+ghost use Rattle.date_texts.specs.declared.calendar.Target.TheVariants.{Haab, Tzolkin};
 
 use crate::calendar::{Calendar, Target, by_calendar};
 use crate::civil_text::put_civil;
@@ -28,12 +30,8 @@ pub const MAX_CELL: usize = 16;
 /// many bytes it has: none before the calendar's first day. `by` finds the calendar's dates.
 // A function for each calendar: it finds the date and writes it without a call between.
 #[inline(never)]
-fn write_civil<C: ArithmeticCalendar>(
-    places: &mut [u8; MAX_CELL],
-    by: &C,
-    calendar: Calendar,
-    day: Day,
-) -> u8
+fn write_civil<C: ArithmeticCalendar>(places: &mut [u8], by: &C, calendar: Calendar, day: Day) -> u8
+    requires room { MAX_CELL ≤ length places.old }
     requires civil { IsCivil calendar }
     requires dates { (date : Ymd) → C.IsDate date
         → IsDateBy (reckoning calendar) date × (day_number_by (reckoning calendar) date ≡ C.day_number date) }
@@ -50,7 +48,8 @@ fn write_civil<C: ArithmeticCalendar>(
 /// Writes the long count of a day to the front of a cell's room, and says how many bytes it has: none before the first
 /// long count.
 #[inline(never)]
-fn write_long_count(places: &mut [u8; MAX_CELL], day: Day) -> u8
+fn write_long_count(places: &mut [u8], day: Day) -> u8
+    requires { MAX_CELL ≤ length places.old }
     ensures few { result ≤ MAX_CELL }
     ensures value { IsDateCell Longcount day.number (take result places.new) }
 {
@@ -63,7 +62,8 @@ fn write_long_count(places: &mut [u8; MAX_CELL], day: Day) -> u8
 
 /// Writes the Roman date of a day to the front of a cell's room, and says how many bytes it has.
 #[inline(never)]
-fn write_roman(places: &mut [u8; MAX_CELL], day: Day) -> u8
+fn write_roman(places: &mut [u8], day: Day) -> u8
+    requires { MAX_CELL ≤ length places.old }
     ensures few { result ≤ MAX_CELL }
     ensures value { IsDateCell Roman day.number (take result places.new) }
 {
@@ -72,7 +72,8 @@ fn write_roman(places: &mut [u8; MAX_CELL], day: Day) -> u8
 
 /// Writes the cell of a day in the column of a calendar to the front of a cell's room, and says how many bytes it has.
 #[inline(always)]
-fn write_date_cell(places: &mut [u8; MAX_CELL], calendar: Calendar, day: Day) -> u8
+fn write_date_cell(places: &mut [u8], calendar: Calendar, day: Day) -> u8
+    requires { MAX_CELL ≤ length places.old }
     ensures few { result ≤ MAX_CELL }
     ensures value { IsDateCell calendar day.number (take result places.new) }
 {
@@ -85,7 +86,8 @@ fn write_date_cell(places: &mut [u8; MAX_CELL], calendar: Calendar, day: Day) ->
 /// Writes a number without leading zeros, one space and a name to the front of a cell's room, and says how many bytes
 /// they have.
 #[inline(always)]
-fn write_numbered(places: &mut [u8; MAX_CELL], number: u8, name: &str) -> u8
+fn write_numbered(places: &mut [u8], number: u8, name: &str) -> u8
+    requires room { MAX_CELL ≤ length places.old }
     requires small { number ≤ 99 }
     requires short { length name.now ≤ 13 }
     ensures few { result ≤ MAX_CELL }
@@ -96,24 +98,64 @@ fn write_numbered(places: &mut [u8; MAX_CELL], number: u8, name: &str) -> u8
     put_text(places, after, name) as u8
 }
 
-/// Writes the [`cell`] of a day to the front of a cell's room, and says how many bytes it has. What lies behind them
-/// is no part of it.
+/// Writes the haab of a day to the front of a cell's room, and says how many bytes it has.
 #[inline(never)]
-pub fn write_cell(places: &mut [u8; MAX_CELL], target: Target, day: Day) -> u8
+fn write_haab(places: &mut [u8], day: Day) -> u8
+    requires { MAX_CELL ≤ length places.old }
+    ensures few { result ≤ MAX_CELL }
+    ensures value { IsCell Haab day.number (take result places.new) }
+{
+    let haab = haab_on(day);
+    write_numbered(places, haab.day(), haab.month_name())
+}
+
+/// Writes the tzolkin of a day to the front of a cell's room, and says how many bytes it has.
+#[inline(never)]
+fn write_tzolkin(places: &mut [u8], day: Day) -> u8
+    requires { MAX_CELL ≤ length places.old }
+    ensures few { result ≤ MAX_CELL }
+    ensures value { IsCell Tzolkin day.number (take result places.new) }
+{
+    let tzolkin = tzolkin_on(day);
+    write_numbered(places, tzolkin.number(), tzolkin.name())
+}
+
+/// Writes the [`cell`] of a day to the front of a cell's room, and says how many bytes it has.
+// Inlined, so that a loop over targets jumps to what writes each cell.
+#[inline(always)]
+fn put_cell(places: &mut [u8], target: Target, day: Day) -> u8
+    requires { MAX_CELL ≤ length places.old }
     ensures few { result ≤ MAX_CELL }
     ensures value { IsCell target day.number (take result places.new) }
 {
     match target {
         Target::Date(calendar) => write_date_cell(places, calendar, day),
-        Target::Haab => {
-            let haab = haab_on(day);
-            write_numbered(places, haab.day(), haab.month_name())
-        }
-        Target::Tzolkin => {
-            let tzolkin = tzolkin_on(day);
-            write_numbered(places, tzolkin.number(), tzolkin.name())
-        }
+        Target::Haab => write_haab(places, day),
+        Target::Tzolkin => write_tzolkin(places, day),
     }
+}
+
+/// Writes the [`cell`] of a day to the front of a cell's room, and says how many bytes it has. What lies behind them
+/// is no part of it.
+pub fn write_cell(places: &mut [u8; MAX_CELL], target: Target, day: Day) -> u8
+    ensures few { result ≤ MAX_CELL }
+    ensures value { IsCell target day.number (take result places.new) }
+{
+    put_cell(places, target, day)
+}
+
+/// Writes the [`cell`] of a day to the front of these places, as [`write_cell`] does, or answers `None` where they are
+/// fewer than [`MAX_CELL`].
+#[inline(always)]
+pub fn write_cell_within(places: &mut [u8], target: Target, day: Day) -> Option<u8>
+    ensures room { IsSome result ↔ (MAX_CELL ≤ length places.old) }
+    ensures few { IfSome result (λ count. count ≤ MAX_CELL) }
+    ensures value { IfSome result (λ count. IsCell target day.number (take count places.new)) }
+{
+    if places.len() < MAX_CELL {
+        return None;
+    }
+    Some(put_cell(places, target, day))
 }
 
 /// The cell of a day in the column of a target. For a calendar it is the canonical text of the one date

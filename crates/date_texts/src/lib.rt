@@ -23,7 +23,7 @@ mod trim;
 mod write;
 
 pub use calendar::{Calendar, MAX_TARGETS, Target};
-pub use cells::{MAX_CELL, cell, write_cell};
+pub use cells::{MAX_CELL, cell, write_cell, write_cell_within};
 pub use date::{CivilDate, Date};
 pub use days::day_of_date;
 pub use maya_calendars::LongCount;

@@ -3,7 +3,7 @@
 
 use date_texts::{
     Calendar, CivilDate, MAX_CELL, Refusal, Target, calendar_named, cell, day_of_date, read_date,
-    target_named, write_cell, write_date,
+    target_named, write_cell, write_cell_within, write_date,
 };
 use day_numbers::{Day, Ymd};
 
@@ -250,7 +250,11 @@ fn day_numbered(number: &str) -> Option<Day> {
 fn has_cell(target: Target, day: Day, text: &str) -> bool {
     let mut places = [b'?'; MAX_CELL];
     let count = write_cell(&mut places, target, day);
-    cell(target, day).as_str() == text && places.get(..count as usize) == Some(text.as_bytes())
+    let mut too_few = [b'?'; MAX_CELL - 1];
+    cell(target, day).as_str() == text
+        && places.get(..count as usize) == Some(text.as_bytes())
+        && write_cell_within(&mut places, target, day) == Some(count)
+        && write_cell_within(&mut too_few, target, day).is_none()
 }
 
 /// Whether the day whose number stands first on the line has the cells after it, one for each target.

@@ -1,15 +1,18 @@
 -- How the program answers: what its outputs have gained, and when its words are refused.
-use Rattle.std.specs.Prelude.{◌≡◌, ◌≢◌, ◌⊎◌, ◌↔◌, ℕ, List, [], ◌∷◌, ◌++◌, codes, IfSome, Option, true, false}
+use Rattle.std.specs.Prelude.{◌≡◌, ◌≢◌, ◌⊎◌, ◌↔◌, ℕ, List, [], ◌∷◌, ◌++◌, codes, IfSome, Option, Some, slice_get, true, false}
 use Rattle.std.specs.Io.KnownBytes.{Appends}
 use Rattle.std.specs.declared.io.traits.Read as reads
-use Rattle.register_run.specs.Reports.{IsReport}
+use Rattle.register_run.specs.Histories.{AreOfMachine}
+use Rattle.register_run.specs.Reports.{IsReport, arms_of}
+use Rattle.register_run.specs.Threads.{AreThreads}
+use Rattle.register_run.specs.declared.reports.Ran.{Ran}
 use Rattle.register_run.specs.declared.reports.Report.{Report}
 use Rattle.register_records.specs.Views.{layout_of}
 use Rattle.register_records.specs.declared.outputs.Output as outputs
 use Rattle.register_records.specs.declared.setups.Setup.{Setup}
 use Rattle.register_run.specs.declared.reports.Verdict.TheVariants.{Complete}
 use Rattle.register_words.specs.Faults.{fault_told, line_told, status_of_fault}
-use Rattle.register_places.specs.Openings.{AreMade, AreNotSources, AreOpened, AreTwoFiles}
+use Rattle.register_places.specs.Openings.{AreMade, AreNotSources, AreOpened, AreTwoFiles, missing_file}
 use Rattle.register_app.specs.Reports.{lines_from}
 use Rattle.register_words.specs.Requests.{IsFaultOf, MeanJust, Task, help, table, version}
 use Rattle.register_words.specs.declared.help.TheConstants.{HELP, PRINT_FAULT}
@@ -37,33 +40,37 @@ pub record IsPrinted {W E : Type 0} (o : outputs.Ghosts W) (e : outputs.Ghosts E
 abbrev pub IsSetupOf : Task → Setup → Type 0
 IsSetupOf task setup = (layout_of setup ≡ task.layout) × (setup.ring ≡ task.ring) × (setup.stripes ≡ task.stripes)
 
--- tables were made: the threads of each source were started by the setup that the task asks for, each source has ended
--- as it should, the status is 0 exactly where all are whole, and standard error has gained the lines on them, unless it
--- failed, and nothing where there are none
+-- tables were made: the threads of each source, which ran as is handed on, were started by the setup that the task asks
+-- for, with its ring and its stripes, each source has ended as it should, the status is 0 exactly where all are whole, and
+-- standard error has gained the lines on them, unless it failed, and nothing where there are none
 pub record IsConverted {R W E : Type 0} (r : reads.Ghosts R) (o : outputs.Ghosts W) (e : outputs.Ghosts E)
-    (task : Task) (status : ℕ) (sources : List R) (given written : List W) (before after : E) : Type 0 where
-  pub setup : Setup
-  pub asked : IsSetupOf task setup
-  pub report : Report W
-  pub settled : IsReport r o setup sources given report
-  pub outputs : written ≡ report.outputs.items
-  pub complete : (status ≡ 0) ↔ (report.verdict ≡ Complete)
-  pub lines : e.has_failed after ≡ false
-      → Appends (e.contents before) (e.contents after) (lines_from task.summary 1 report.ends.items)
-  pub quiet : status ≡ 0 → task.summary ≡ false → after ≡ before
+    (task : Task) (status : ℕ) (sources : List R) (given written : List W) (ran : List Ran) (before after : E) : Type 0
+  where
+    pub setup : Setup
+    pub asked : IsSetupOf task setup
+    pub report : Report W
+    pub settled : IsReport r o setup sources given report
+    pub machine : AreOfMachine r o setup sources given report.outputs.items report.ends.items (arms_of report)
+    pub threads : AreThreads setup report.ends.items report.ran.items
+    pub outputs : written ≡ report.outputs.items
+    pub ran_so : ran ≡ report.ran.items
+    pub complete : (status ≡ 0) ↔ (report.verdict ≡ Complete)
+    pub lines : e.has_failed after ≡ false
+        → Appends (e.contents before) (e.contents after) (lines_from task.summary 1 report.ends.items)
+    pub quiet : status ≡ 0 → task.summary ≡ false → after ≡ before
 
 -- sources were opened by the names of a task and outputs made by them, none of which goes to one of the files or to the
 -- file of another output, as far as names were told apart; and then the sources were converted
 pub record AreConverted {R W E : Type 0} (r : reads.Ghosts R) (o : outputs.Ghosts W) (e : outputs.Ghosts E)
     (IsOpened : List ℕ → R → Type 0) (IsMade : List ℕ → ℕ → W → Type 0) (AreApart : List ℕ → List ℕ → Type 0)
-    (task : Task) (status : ℕ) (written : List W) (before after : E) : Type 0 where
+    (task : Task) (status : ℕ) (written : List W) (ran : List Ran) (before after : E) : Type 0 where
   pub sources : List R
   pub given : List W
   pub opened : AreOpened IsOpened task.files sources
   pub made : AreMade IsMade task.files given
   pub kept : AreNotSources AreApart task.files
   pub apart : AreTwoFiles AreApart task.files
-  pub converted : IsConverted r o e task status sources given written before after
+  pub converted : IsConverted r o e task status sources given written ran before after
 
 -- the words ask for a page, which was printed; no output was made
 abbrev pub IsPageAnswered : {W E : Type 0} → outputs.Ghosts W → outputs.Ghosts E → List (List ℕ) → ℕ → W → W → List W → E
@@ -73,18 +80,23 @@ IsPageAnswered o e words status given written outputs before after =
 
 -- the words ask for the table of standard input; no output was made
 abbrev pub IsInputAnswered : {R W E : Type 0} → reads.Ghosts R → outputs.Ghosts W → outputs.Ghosts E → List (List ℕ) → ℕ
-    → R → W → W → List W → E → E → Type 0
-IsInputAnswered r o e words status input given written outputs before after =
+    → R → W → W → List W → List Ran → E → E → Type 0
+IsInputAnswered r o e words status input given written outputs ran before after =
     (task : Task) × MeanJust words (table task) × (task.files ≡ []) × (outputs ≡ [])
-    × IsConverted r o e task status (input ∷ []) (given ∷ []) (written ∷ []) before after
+    × IsConverted r o e task status (input ∷ []) (given ∷ []) (written ∷ []) ran before after
 
 -- the words ask for the tables of files; standard output is as it was
 abbrev pub AreFilesAnswered : {R W E : Type 0} → reads.Ghosts R → outputs.Ghosts W → outputs.Ghosts E
     → (List ℕ → R → Type 0) → (List ℕ → ℕ → W → Type 0) → (List ℕ → List ℕ → Type 0) → List (List ℕ) → ℕ → W → W → List W
-    → E → E → Type 0
-AreFilesAnswered r o e IsOpened IsMade AreApart words status given written outputs before after =
+    → List Ran → E → E → Type 0
+AreFilesAnswered r o e IsOpened IsMade AreApart words status given written outputs ran before after =
     (task : Task) × MeanJust words (table task) × (task.files ≢ []) × (written ≡ given)
-    × AreConverted r o e IsOpened IsMade AreApart task status outputs before after
+    × AreConverted r o e IsOpened IsMade AreApart task status outputs ran before after
+
+-- the file that cannot be opened or made, where the error is that, is one of those whose tables the words ask for
+abbrev pub IsOfAsked : List (List ℕ) → RequestFault → Type 0
+IsOfAsked words error = IfSome (missing_file error) (λ file.
+    (task : Task) × MeanJust words (table task) × (i : ℕ) × (slice_get task.files i ≡ Some file))
 
 -- an error was told with this status: something that is wrong with the words, or that memory ran out or a file was
 -- missing; of words that are no arguments as they are taken, clap tells more than the definitions say
@@ -92,4 +104,5 @@ pub record IsTold (words : List (List ℕ)) (status : ℕ) (before after : Optio
   pub error : RequestFault
   pub status_told : status_of_fault error ≡ status
   pub fault : IfSome (fault_told error) (IsFaultOf words)
+  pub file : IsOfAsked words error
   pub line : IfSome (line_told error) (Appends before after)

@@ -5,7 +5,7 @@ ghost use Rattle.std.specs.Prelude.{IfSome, codes};
 ghost use Rattle.std.specs.Io.KnownBytes.{Appends};
 ghost use Rattle.std.specs.String.{string_bytes};
 ghost use Rattle.register_app.specs.Answers.{AreConverted, AreFilesAnswered, IsConverted, IsInputAnswered};
-ghost use Rattle.register_app.specs.Answers.{IsPageAnswered, IsPrinted, IsTold, version_line};
+ghost use Rattle.register_app.specs.Answers.{IsOfAsked, IsPageAnswered, IsPrinted, IsTold, version_line};
 ghost use Rattle.register_records.specs.Sources.{is_whole_end};
 ghost use Rattle.register_places.specs.Openings.{AreMade, IsFresh, IsNewlyMade};
 ghost use Rattle.register_app.specs.Reports.{lines_from};
@@ -16,7 +16,7 @@ use crate::telling::tell_ends;
 use arrayvec::ArrayString;
 use register_places::{Opened, Places, open_files};
 use register_records::{Output, send};
-use register_run::{MAX_SOURCES, Report, Verdict, run};
+use register_run::{MAX_SOURCES, Ran, Report, Verdict, run};
 use register_words::{
     HELP, Job, MAX_FILES, PRINT_FAULT, Request, RequestFault, VERSION, read_request,
 };
@@ -44,16 +44,19 @@ pub struct Answered<W> {
     pub output: W,
     /// The outputs of the files, as they were left.
     pub outputs: Vec<W>,
+    /// How the threads of each source ran, in the order of the sources. Only clauses read it.
+    pub ran: Vec<Ran>,
 }
 
 // A run takes as many sources as the words may name.
 const _: () = prove!(MAX_FILES <= MAX_SOURCES);
 
-/// How a job has ended: the status, and the outputs in the order of the sources.
+/// How a job has ended: the status, and the outputs and how the threads ran, each in the order of the sources.
 #[derive(Drop)]
 struct JobEnd<W> {
     status: u8,
     outputs: Vec<W>,
+    ran: Vec<Ran>,
 }
 
 /// The line that tells the version.
@@ -80,7 +83,8 @@ fn tell_out_of_memory<E: Output>(errors: &mut E)
 fn tell_fault<E: Output>(alloc: Global, errors: &mut E, fault: &RequestFault<'_>) -> u8
     ensures status { (result ≡ 3) ⊎ (result ≡ status_of_fault fault.now) }
     ensures told { (words : List (List ℕ)) → IfSome (fault_told fault.now) (IsFaultOf words)
-        → E.has_failed errors.new ≡ false → IsTold words result (E.contents errors.old) (E.contents errors.new) }
+        → IsOfAsked words fault.now → E.has_failed errors.new ≡ false
+        → IsTold words result (E.contents errors.old) (E.contents errors.new) }
     ensures mark { E.own_mark errors.new ≡ E.own_mark errors.old }
 {
     match fault.text(alloc) {
@@ -104,7 +108,7 @@ fn refuse<W: Output, E: Output>(
 ) -> Answered<W>
     ensures status { (result.status ≡ 3) ⊎ (result.status ≡ status_of_fault fault.now) }
     ensures told { (words : List (List ℕ)) → IfSome (fault_told fault.now) (IsFaultOf words)
-        → E.has_failed errors.new ≡ false
+        → IsOfAsked words fault.now → E.has_failed errors.new ≡ false
         → IsTold words result.status (E.contents errors.old) (E.contents errors.new) }
     ensures untouched { result.output ≡ output }
     ensures none { result.outputs.items ≡ [] }
@@ -114,6 +118,7 @@ fn refuse<W: Output, E: Output>(
         status: tell_fault(alloc, errors, fault),
         output,
         outputs: Vec::new(alloc),
+        ran: Vec::new(alloc),
     }
 }
 
@@ -142,6 +147,7 @@ fn print_page<W: Output, E: Output>(
         status,
         output,
         outputs: Vec::new(alloc),
+        ran: Vec::new(alloc),
     }
 }
 
@@ -187,7 +193,8 @@ fn run_job<
     job: &Job<'_>,
 ) -> JobEnd<W>
     ensures converted { result.status ≢ 3 → IsConverted R.Read W.Output E.Output
-        (task_of job.now) result.status sources.items outputs.items result.outputs.items errors.old errors.new }
+        (task_of job.now) result.status sources.items outputs.items result.outputs.items result.ran.items errors.old
+        errors.new }
     ensures untouched { result.status ≡ 3 → result.outputs.items ≡ outputs.items }
     ensures told { result.status ≡ 3 → E.has_failed errors.new ≡ false → (words : List (List ℕ))
         → IsTold words result.status (E.contents errors.old) (E.contents errors.new) }
@@ -201,6 +208,7 @@ fn run_job<
             JobEnd {
                 status,
                 outputs: report.outputs,
+                ran: report.ran,
             }
         }
         Err(fault) => {
@@ -208,6 +216,7 @@ fn run_job<
             JobEnd {
                 status: OUT_OF_MEMORY,
                 outputs: fault.outputs,
+                ran: Vec::new(alloc),
             }
         }
     }
@@ -221,7 +230,8 @@ fn convert_input<
     E: Output,
 >(rt: &T, alloc: Global, input: R, output: W, errors: &mut E, job: &Job<'_>) -> Answered<W>
     ensures converted { result.status ≢ 3 → IsConverted R.Read W.Output E.Output
-        (task_of job.now) result.status (input ∷ []) (output ∷ []) (result.output ∷ []) errors.old errors.new }
+        (task_of job.now) result.status (input ∷ []) (output ∷ []) (result.output ∷ []) result.ran.items errors.old
+        errors.new }
     ensures untouched { result.status ≡ 3 → result.output ≡ output }
     ensures told { result.status ≡ 3 → E.has_failed errors.new ≡ false → (words : List (List ℕ))
         → IsTold words result.status (E.contents errors.old) (E.contents errors.new) }
@@ -241,6 +251,7 @@ fn convert_input<
     let JobEnd {
         status,
         mut outputs,
+        ran,
     } = run_job(rt, alloc, sources, outputs, errors, job);
     let Some(output) = outputs.pop() else {
         unreachable!()
@@ -249,6 +260,7 @@ fn convert_input<
         status,
         output,
         outputs,
+        ran,
     }
 }
 
@@ -263,12 +275,14 @@ fn convert_files<
     requires few { length job.now.files.items ≤ most_files }
     ensures converted { result.status ≢ 3 → AreConverted R.Read W.Output E.Output
         (P.is_opened places.now) (IsNewlyMade W.Output (P.is_made places.now))
-        (P.are_apart places.now) (task_of job.now) result.status result.outputs.items errors.old errors.new }
+        (P.are_apart places.now) (task_of job.now) result.status result.outputs.items result.ran.items errors.old
+        errors.new }
     ensures untouched { result.output ≡ output }
     ensures unwritten { result.status ≡ 3 → (result.outputs.items ≡ [])
         ⊎ AreMade (IsNewlyMade W.Output (P.is_made places.now)) (task_of job.now).files
         result.outputs.items }
     ensures told { result.status ≡ 3 → E.has_failed errors.new ≡ false → (words : List (List ℕ))
+        → MeanJust words (table (task_of job.now))
         → IsTold words result.status (E.contents errors.old) (E.contents errors.new) }
     ensures statuses { (result.status ≡ 0) ⊎ (result.status ≡ 1) ⊎ (result.status ≡ 3) }
     ensures errors_mark { E.own_mark errors.new ≡ E.own_mark errors.old }
@@ -277,11 +291,16 @@ fn convert_files<
         Ok(opened) => opened,
         Err(fault) => return refuse(alloc, output, errors, &fault),
     };
-    let JobEnd { status, outputs } = run_job(rt, alloc, sources, outputs, errors, job);
+    let JobEnd {
+        status,
+        outputs,
+        ran,
+    } = run_job(rt, alloc, sources, outputs, errors, job);
     Answered {
         status,
         output,
         outputs,
+        ran,
     }
 }
 
@@ -323,10 +342,10 @@ pub fn answer<
         → IsPageAnswered W.Output E.Output (map string_bytes words.now) result.status
         output result.output result.outputs.items errors.old errors.new
         ⊎ IsInputAnswered R.Read W.Output E.Output (map string_bytes words.now) result.status
-        input output result.output result.outputs.items errors.old errors.new
+        input output result.output result.outputs.items result.ran.items errors.old errors.new
         ⊎ AreFilesAnswered R.Read W.Output E.Output (P.is_opened places.now)
         (IsNewlyMade W.Output (P.is_made places.now)) (P.are_apart places.now) (map string_bytes words.now)
-        result.status output result.output result.outputs.items errors.old errors.new }
+        result.status output result.output result.outputs.items result.ran.items errors.old errors.new }
 
     // Unless the status is 3, words are refused exactly where something is wrong with them.
     ensures refused { result.status ≢ 3 → (result.status ≡ 2) ↔ AreWrong (map string_bytes words.now) }

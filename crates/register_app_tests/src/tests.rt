@@ -7,6 +7,7 @@ mod disk_files;
 mod files;
 pub mod helpers;
 mod named;
+mod page;
 mod refused_words;
 mod sealed;
 mod streams;

@@ -1,6 +1,8 @@
 -- What the files of a command line are opened as.
-use Rattle.std.specs.Prelude.{◌≡◌, ◌<◌, ◌+◌, ◌++◌, ℕ, List, [], false, codes, length, Some, slice_get}
+use Rattle.std.specs.Prelude.{◌≡◌, ◌<◌, ◌+◌, ◌++◌, ℕ, List, [], false, codes, length, Option, IfSome, None, Some, slice_get}
 use Rattle.register_records.specs.declared.outputs.Output as outputs
+use Rattle.register_words.specs.declared.request_faults.RequestFault.{RequestFault}
+use Rattle.register_words.specs.declared.request_faults.RequestFault.TheVariants as request_fault
 
 -- the lists are of one length, and this holds of what stands at each place of both, the place being counted from 0
 pub record AreMatched {A B : Type 0} (Match : ℕ → A → B → Type 0) (left : List A) (right : List B) : Type 0 where
@@ -34,3 +36,13 @@ abbrev pub AreTwoFiles : (List ℕ → List ℕ → Type 0) → List (List ℕ) 
 AreTwoFiles AreApart files =
     (i j : ℕ) (file later : List ℕ) → i < j → slice_get files i ≡ Some file → slice_get files j ≡ Some later
     → AreApart (file ++ codes ".out.csv") (later ++ codes ".out.csv")
+
+-- the file that cannot be opened or made, where the fault is that
+abbrev pub missing_file : RequestFault → Option (List ℕ)
+missing_file (request_fault.CannotOpen file) = Some file.now
+missing_file (request_fault.CannotMake file) = Some file.now
+missing_file fault = None
+
+-- it is one of these
+abbrev pub IsOfFiles : List (List ℕ) → RequestFault → Type 0
+IsOfFiles files fault = IfSome (missing_file fault) (λ file. (i : ℕ) × (slice_get files i ≡ Some file))

@@ -1,12 +1,12 @@
 //! The files of the system, and the standard streams beside them.
 
-ghost use Rattle.std.specs.Prelude.{◌≡◌, ⊤};
+ghost use Rattle.std.specs.Prelude.{◌≡◌, ◌≢◌, ◌↔◌, ⊤, true};
 ghost use Rattle.register_places.specs.Sides.{destination_contents, source_remaining};
 
 use crate::places::Places;
 use crate::told::Told;
 use register_records::PlainOutput;
-use std::fs::{File, OpenFile, OpenOptions, TryLockError};
+use std::fs::{File, Metadata, OpenFile, OpenOptions, TryLockError};
 use std::io;
 use std::io::{ErrorKind, Read, Write};
 use std::os::unix::fs::MetadataExt;
@@ -84,6 +84,31 @@ fn lock_and_empty<F: OpenFile + Exclusive>(file: &F) -> io::Result<()> {
     Ok(())
 }
 
+/// What the system knows a file by: the number of its file system, and the file's own number there, which is 0 where it
+/// has none.
+#[derive(Clone, Copy)]
+struct FileId {
+    file_system: u64,
+    file: u64,
+}
+
+impl FileId {
+    /// What the file with this metadata is known by.
+    fn of(metadata: &Metadata) -> FileId {
+        FileId {
+            file_system: metadata.dev(),
+            file: metadata.ino(),
+        }
+    }
+}
+
+/// Whether one file is known by both.
+fn are_of_one_file(one: FileId, two: FileId) -> bool
+    ensures { (result ≡ true) ↔ ((one.file ≢ 0) × (one.file ≡ two.file) × (one.file_system ≡ two.file_system)) }
+{
+    one.file != 0 && one.file == two.file && one.file_system == two.file_system
+}
+
 /// The files of the system.
 #[derive(Clone, Copy)]
 pub struct Disk<'a, F> {
@@ -139,6 +164,6 @@ where
         let Ok(two) = self.files.metadata(other) else {
             return false;
         };
-        one.ino() != 0 && one.ino() == two.ino() && one.dev() == two.dev()
+        are_of_one_file(FileId::of(&one), FileId::of(&two))
     }
 }

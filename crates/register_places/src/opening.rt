@@ -5,7 +5,7 @@ ghost use Rattle.std.specs.Prelude.{IfErr, IfOk, OnOk, map, slice_get};
 ghost use Rattle.std.specs.String.{string_bytes};
 ghost use Rattle.register_words.specs.Faults.{status_of_fault};
 ghost use Rattle.register_words.specs.Requests.{most_files};
-ghost use Rattle.register_places.specs.Openings.{AreMade, AreNotSources, AreOpened, AreTwoFiles, IsNewlyMade};
+ghost use Rattle.register_places.specs.Openings.{AreMade, AreNotSources, AreOpened, AreTwoFiles, IsNewlyMade, IsOfFiles};
 
 use crate::places::Places;
 use register_records::Output;
@@ -36,6 +36,7 @@ fn open_sources<'a, R: Drop, W: Output, P: Places<R, W>>(
     ensures opened { IfOk result (λ sources. AreOpened (P.is_opened places.now) (map (λ file. file.now) files.now)
         sources.items) }
     ensures status { IfErr result (λ error. status_of_fault error ≡ 3) }
+    ensures named { IfErr result (IsOfFiles (map (λ file. file.now) files.now)) }
 {
     let mut sources = Vec::new(alloc);
     'files: for &file in files {
@@ -70,6 +71,7 @@ fn check_sources_kept<'a, R, W: Output, P: Places<R, W>>(
 ) -> Result<(), RequestFault<'a>>
     ensures kept { OnOk result (AreNotSources (P.are_apart places.now) (map (λ file. file.now) files.now)) }
     ensures status { IfErr result (λ error. status_of_fault error ≡ 3) }
+    ensures named { IfErr result (IsOfFiles (map (λ file. file.now) files.now)) }
 {
     'files: for &file in files {
         let Ok(name) = output_name(alloc, file) else {
@@ -93,6 +95,7 @@ fn make_outputs<'a, R, W: Output + Drop, P: Places<R, W>>(
         (P.is_made places.now)) (map (λ file. file.now) files.now) outputs.items) }
     ensures apart { IfOk result (λ outputs. AreTwoFiles (P.are_apart places.now) (map (λ file. file.now) files.now)) }
     ensures status { IfErr result (λ error. status_of_fault error ≡ 3) }
+    ensures named { IfErr result (IsOfFiles (map (λ file. file.now) files.now)) }
 {
     let mut outputs = Vec::new(alloc);
     let mut names = Vec::new(alloc);
@@ -135,6 +138,7 @@ pub fn open_files<'a, R: Drop, W: Output + Drop, P: Places<R, W>>(
     ensures kept { IfOk result (λ o. AreNotSources (P.are_apart places.now) (map (λ file. file.now) files.now)) }
     ensures apart { IfOk result (λ o. AreTwoFiles (P.are_apart places.now) (map (λ file. file.now) files.now)) }
     ensures status { IfErr result (λ error. status_of_fault error ≡ 3) }
+    ensures named { IfErr result (IsOfFiles (map (λ file. file.now) files.now)) }
 {
     let sources = open_sources(alloc, places, files)?;
     check_sources_kept(alloc, places, files)?;

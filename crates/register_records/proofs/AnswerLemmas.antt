@@ -12,6 +12,8 @@ use Rattle.std.proofs.lemmas.Fmt.{length-decimal-le, length_signed_le}
 use Rattle.std.proofs.lemmas.Int.{ints}
 use Rattle.std.proofs.lemmas.List.{at_drop_more, map-append, take_all, take_at}
 use Rattle.std.proofs.lemmas.List.Splits.{length-slice_split}
+use Rattle.std.proofs.Math.Logic.{∥∥₁_elim}
+use Rattle.std.proofs.Props.{props}
 use borrow.Rule.Slice.PartMut.{put_mid}
 use Rattle.csv.specs.Writing.{fields_text, needs_byte, needs_quotes}
 use Rattle.day_numbers.specs.Days.{IsDayNumber, weekday_names}
@@ -38,6 +40,7 @@ use Rattle.register_records.specs.declared.answers.TheConstants.{ANSWER_ROOM}
 use Rattle.register_records.specs.declared.table_columns.TableColumn.{TableColumn}
 use Rattle.register_records.specs.declared.table_columns.TableColumn.TheVariants.{DayNumber, Weekday}
 use Rattle.register_records.specs.declared.table_columns.TableColumn.TheVariants.{Refusal as RefusalColumn}
+use Rattle.register_records.proofs.EveryTableLemmas.{has_cells}
 use Rattle.register_records.proofs.LineLemmas.{more_fields_text, plain_bytes, plain_text, put_after}
 
 -- the bytes of fields behind delimiters
@@ -277,3 +280,38 @@ pub one_cells : OneCell → (o : Result ℤ Refusal) (ts : List Target) (xs ys :
     → AreCells ts o ys → xs ≡ ys
 one_cells law (Err r) ts xs ys a b = a ∙ sym b
 one_cells law (Ok n) ts xs ys a b = one_beside (λ t cell. IsCell t n cell) (λ t x y. law t n x y) ts xs ys a b
+
+-- the cells of one outcome are those of the other, which is the same
+pub cells_of_same : (ts : List Target) (o p : Result Day Refusal) (answer : Answer) → outcome_seen o ≡ outcome_seen p
+    → cells_of ts o answer ≡ cells_of ts p answer
+cells_of_same ts (Ok d) (Ok e) answer same = refl
+cells_of_same ts (Ok d) (Err r) answer same = absurd (cc)
+cells_of_same ts (Err r) (Ok d) answer same = absurd (cc)
+cells_of_same ts (Err r) (Err s) answer same = refl
+
+-- an answer of an outcome for some targets is that of the same outcome for the same targets
+pub record Stands (ts : List Target) (o : Result Day Refusal) (answer : Answer) : Type 0 where
+  pub cells : AreCells ts (outcome_seen o) (cells_of ts o answer)
+  pub written : fields_of answer ≡ answer_texts ts (outcome_seen o) (cells_of ts o answer)
+
+-- what is only said of its cells is known of them, since they are the only ones
+known_cells : OneCell → (ts : List Target) (o : Result ℤ Refusal) (cells : List (List ℕ)) → ∥ AreCells ts o cells ∥₁
+    → AreCells ts o cells
+known_cells law ts o cells said =
+    let (known, are) = has_cells ts o in
+    let same : known ≡ cells =
+    ∥∥₁_elim said (Prim.hlevel props) (λ is. one_cells law o ts known cells are is) in
+    subst (λ (xs : List (List ℕ)). AreCells ts o xs) same are
+
+pub stands : OneCell → (ts us : List Target) (o p : Result Day Refusal) (answer : Answer)
+    → ∥ AreCells ts (outcome_seen o) (cells_of ts o answer) ∥₁
+    → fields_of answer ≡ answer_texts ts (outcome_seen o) (cells_of ts o answer)
+    → ts ≡ us → outcome_seen o ≡ outcome_seen p → Stands us p answer
+stands law ts us o p answer said written targets same =
+    let cells = cells_of_same ts o p answer same in
+    let for_same : Stands ts p answer = record {
+      cells = rw (← cells, ← same) (known_cells law ts (outcome_seen o) (cells_of ts o answer) said);
+      written = written ∙ ap (λ (xs : List (List ℕ)). answer_texts ts (outcome_seen o) xs) cells
+          ∙ ap (λ (x : Result ℤ Refusal). answer_texts ts x (cells_of ts p answer)) same;
+    } in
+    subst (λ (list : List Target). Stands list p answer) targets for_same

@@ -54,7 +54,7 @@ all_beside R has (x ∷ xs) =
     let y = has x in let ys = all_beside R has xs in (y.0 ∷ ys.0, (y.1, ys.1))
 
 -- the cells of an outcome
-has_cells : (ts : List Target) (outcome : Result ℤ Refusal) → (cells : List (List ℕ)) × AreCells ts outcome cells
+pub has_cells : (ts : List Target) (outcome : Result ℤ Refusal) → (cells : List (List ℕ)) × AreCells ts outcome cells
 has_cells ts (Err r) = ([], refl)
 has_cells ts (Ok n) = all_beside (λ t cell. IsCell t n cell) (λ t. has_cell t n) ts
 

@@ -1,19 +1,19 @@
 -- What a step of a reader of entries does to those that it gave.
 use Rattle.std.proofs.Common.{◌≡◌, suc, ◌<◌, ◌≤◌, ◌+◌, ◌++◌, ℕ, List, [], ◌∷◌, length, Option, Some, None, true}
-use Rattle.std.proofs.Common.{refl, sym, ap, ◌∙◌, arith, append_assoc}
+use Rattle.std.proofs.Common.{refl, sym, subst, ap, ◌∙◌, arith, append_assoc}
 use Rattle.std.specs.Prelude.{IfSome, nat_lt, option_map}
 use Rattle.std.proofs.Math.Logic.{∥∥₁_map}
 use Rattle.std.proofs.lemmas.Bool.Decides.{nat_tests}
 use Rattle.std.proofs.lemmas.List.{append-nil, append_cancel_left, length-append}
 use Rattle.std.specs.declared.snapshot.Snapshot.{Snapshot}
 use Rattle.register_records.specs.Headers.{IsHeader}
-use Rattle.register_records.specs.Entries.{Fields, Format, HasEntries, HasFirstEntries, HasTooMany, IsNotSealed}
-use Rattle.register_records.specs.Entries.{Numbered, body_of, body_seen, entries_from, record_limit}
-use Rattle.register_records.specs.Entries.{text_records}
+use Rattle.register_records.specs.Entries.{Fields, Format, HasAllEntries, HasEntries, HasFirstEntries, HasRecords}
+use Rattle.register_records.specs.Entries.{HasTooMany, IsNotSealed, Numbered, body_of, body_seen, entries_from}
+use Rattle.register_records.specs.Entries.{entries_of, record_limit, text_records}
 use Rattle.register_records.specs.Seals.{AreClosed, before_seal, entry_records, is_seal}
 use Rattle.register_records.specs.Seen.{entry_seen}
 use Rattle.register_records.specs.ReadingState.{entries_shown, format_by}
-use Rattle.register_records.specs.ReadingState.{EndsAt, Gives, HasEntry, IsNoSeal, LacksSeal, Stands, TakesFirst}
+use Rattle.register_records.specs.ReadingState.{Ends, EndsAt, Gives, HasEntry, IsNoSeal, LacksSeal, Stands, TakesFirst}
 use Rattle.register_records.specs.declared.entries.Entry.{Entry}
 use Rattle.register_records.specs.declared.reading.ReaderState.{ReaderState}
 use Rattle.register_records.specs.declared.reading.ReaderState.TheVariants as states
@@ -50,47 +50,74 @@ entries_none : (form : Form) (k : ℕ) → entries_from form k [] ≡ []
 unfolding entries_from
 entries_none form k = refl
 
--- a first record that is a header
-pub stands_first : (o : Option (List ℕ)) (y : Option (List Fields)) (format : Format) (f : Fields)
-    → TakesFirst (option_map (text_records format.delimiter) o) y f → IsHeader format.form f
-    → IfSome o (λ text. Stands format text states.Open y [])
-stands_first None y format f t h = tt
-stands_first (Some text) None format f t h = absurd t
-stands_first (Some text) (Some rest) format f t h =
-    record {
-      past = [];
-      rest = rest;
-      accepted = (f, t, h);
-      counted = refl;
-      no_seal = λ more. refl;
-      followed = λ more. refl;
-      left_is = λ _. refl;
-      ended = λ e. absurd (cc);
-    }
+-- no record is an entry
+no_entries : (form : Form) → entry_records form [] ≡ []
+no_entries Plain = refl
+no_entries Sealed = before_none
 
-module _ (format : Format) (text : List ℕ) where
+module _ (format : Format) where
   abbrev form : Form
   form = format.form
 
-  -- one more entry
-  stands_more : (left left2 : Option (List Fields)) (given : List Numbered) (f : Fields) (x : Numbered)
-      → Stands format text states.Open left given → TakesFirst left left2 f → IsNoSeal form f
+  -- these records are the text's, and where it is known, these are left of them
+  abbrev Has : Option (List ℕ) → List Fields → Type 0
+  Has text after = IfSome text (λ t. HasRecords format t after)
+
+  abbrev AreLeft : Option (List ℕ) → Option (List Fields) → List Fields → Type 0
+  AreLeft text left rest = IfSome text (λ t. left ≡ Some rest)
+
+  none_is_left : (rest : List Fields) → ◌≡◌ {A = Option (List Fields)} None (Some rest) → ⊥
+  none_is_left rest e = cc
+
+  -- a first record that is a header
+  header_first : (text : Option (List ℕ)) (y : Option (List Fields)) (f : Fields)
+      → TakesFirst (option_map (text_records format.delimiter) text) y f → IsHeader form f
+      → (rest : List Fields) × Has text rest × AreLeft text y rest
+  header_first None y f t h = ([], tt, tt)
+  header_first (Some text) None f t h = absurd t
+  header_first (Some text) (Some rest) f t h = (rest, (f, t, h), refl)
+
+  stands_first : (text : Option (List ℕ)) (y : Option (List Fields)) (f : Fields)
+      → TakesFirst (option_map (text_records format.delimiter) text) y f → IsHeader form f
+      → Stands format text states.Open y []
+  stands_first text y f t h =
+      let behind = header_first text y f t h in
+      record {
+        past = [];
+        rest = behind.0;
+        accepted = behind.1;
+        counted = refl;
+        no_seal = λ more. refl;
+        followed = λ more. refl;
+        left_is = λ _. behind.2;
+        ended = λ e. absurd (cc);
+      }
+
+  -- one more record
+  record_more : (text : Option (List ℕ)) (left left2 : Option (List Fields)) (past rest : List Fields) (f : Fields)
+      → Has text (past ++ rest) → AreLeft text left rest → TakesFirst left left2 f
+      → (rest2 : List Fields) × Has text ((past ++ f ∷ []) ++ rest2) × AreLeft text left2 rest2
+  record_more None left left2 past rest f has is t = ([], tt, tt)
+  record_more (Some text) None left2 past rest f has is t = absurd (none_is_left rest is)
+  record_more (Some text) (Some records) None past rest f has is t = absurd t
+  record_more (Some text) (Some records) (Some rest2) past rest f has is t =
+      let same : records ≡ rest = cc in
+      let joined : (past ++ f ∷ []) ++ rest2 ≡ past ++ rest =
+      append_assoc past (f ∷ []) rest2 ∙ ap (λ (t : List Fields). past ++ t) (sym (sym same ∙ t)) in
+      (rest2, rw joined has, refl)
+
+  stands_more : (text : Option (List ℕ)) (left left2 : Option (List Fields)) (given : List Numbered) (f : Fields)
+      (x : Numbered) → Stands format text states.Open left given → TakesFirst left left2 f → IsNoSeal form f
       → length given < record_limit
       → x ≡ record { number = length given + 1; body = body_of form f }
       → Stands format text states.Open left2 (given ++ x ∷ [])
-  stands_more None left2 given f x s t n h e =
-      absurd (let q : ◌≡◌ {A = Option (List Fields)} None (Some s.rest) = s.left_is refl in cc)
-  stands_more (Some records) None given f x s t n h e = absurd t
-  stands_more (Some records) (Some rest2) given f x s t n h e =
-      let same : records ≡ s.rest = cc (s.left_is refl) in
-      let rest_is : s.rest ≡ f ∷ rest2 = sym same ∙ t in
+  stands_more text left left2 given f x s t n h e =
+      let more = record_more text left left2 s.past s.rest f s.accepted (s.left_is refl) t in
       let longer : length (given ++ x ∷ []) ≡ length given + 1 = length-append given (x ∷ []) in
-      let joined : (s.past ++ f ∷ []) ++ rest2 ≡ s.past ++ s.rest =
-      append_assoc s.past (f ∷ []) rest2 ∙ ap (λ (t : List Fields). s.past ++ t) (sym rest_is) in
       record {
         past = s.past ++ f ∷ [];
-        rest = rest2;
-        accepted = rw joined s.accepted;
+        rest = more.0;
+        accepted = more.1;
         counted = length-append s.past (f ∷ []) ∙ omega (arith, s.counted, longer);
         no_seal = λ more.
             ap (entry_records form) (append_assoc s.past (f ∷ []) more)
@@ -101,24 +128,30 @@ module _ (format : Format) (text : List ℕ) where
             ap (entries_from form 0) (append_assoc s.past (f ∷ []) more)
             ∙ (s.followed (f ∷ more) ∙ rw (longer, e, first_entry form (length given) f more h)
             (sym (append_assoc given _ _)));
-        left_is = λ _. refl;
+        left_is = λ _. more.2;
         ended = λ e. absurd (cc);
       }
 
-  first_given : (state : ReaderState) (left : Option (List Fields)) (given : List Numbered)
-      → Stands format text state left given → HasFirstEntries format text given
-  first_given state left given s = (
-    s.past ++ s.rest,
-    entries_from form (length given) (entry_records form s.rest),
-    s.accepted,
-    ap (entries_from form 0) (s.no_seal s.rest) ∙ s.followed (entry_records form s.rest),
-  )
+  -- of those that were given, and of records behind them
+  module _ (text : Option (List ℕ)) (state : ReaderState) (left : Option (List Fields)) (given : List Numbered)
+      (s : Stands format text state left given) where
+    first_given : HasFirstEntries format text given
+    first_given = (
+      entries_from form (length given) (entry_records form s.rest),
+      (
+        s.past ++ s.rest,
+        s.accepted,
+        sym (ap (entries_from form 0) (s.no_seal s.rest) ∙ s.followed (entry_records form s.rest)),
+      ),
+    )
 
-  -- those before the end
-  past_records : (state : ReaderState) (left : Option (List Fields)) (given : List Numbered)
-      (s : Stands format text state left given)
-      → entry_records form s.rest ≡ [] → entry_records form (s.past ++ s.rest) ≡ s.past
-  past_records state left given s e = s.no_seal s.rest ∙ rw e (append-nil s.past)
+    past_records : (rest : List Fields) → entry_records form rest ≡ [] → entry_records form (s.past ++ rest) ≡ s.past
+    past_records rest e = s.no_seal rest ∙ rw e (append-nil s.past)
+
+    past_given : (rest : List Fields) → entry_records form rest ≡ [] → given ≡ entries_of form (s.past ++ rest)
+    past_given rest e =
+        sym (ap (entries_from form 0) (past_records rest e ∙ sym (append-nil s.past))
+        ∙ (s.followed [] ∙ rw (entries_none form (length given)) (append-nil given)))
 
   ends_none : (k : Form) (count : ℕ) (records : List Fields) → EndsAt k count records → entry_records k records ≡ []
   ends_none Plain count records e = e
@@ -135,27 +168,53 @@ module _ (format : Format) (text : List ℕ) where
   ends_so Plain past rest n e c = n
   ends_so Sealed past rest n e c = (c.0, append_cancel_left past rest (c.0 ∷ []) (c.1 ∙ rw e refl), c.2, rw e at c.3)
 
+  -- the records behind those past that end the text, and those among which no entry is
+  last_records : (text : Option (List ℕ)) (left : Option (List Fields)) (past rest : List Fields) (count : ℕ)
+      → Has text (past ++ rest) → AreLeft text left rest → Ends form count left
+      → (last : List Fields) × Has text (past ++ last) × EndsAt form count last
+  last_records None left past rest count has is e = (e.0, tt, e.1)
+  last_records (Some text) None past rest count has is e = absurd (none_is_left rest is)
+  last_records (Some text) (Some records) past rest count has is e =
+      let same : rest ≡ e.0 = cc (is, e.2) in
+      (e.0, subst (λ (l : List Fields). HasRecords format text (past ++ l)) same has, e.1)
+
+  no_entries_left : (text : Option (List ℕ)) (left : Option (List Fields)) (past rest : List Fields) (count : ℕ)
+      → Has text (past ++ rest) → AreLeft text left rest → IfSome left (LacksSeal form count)
+      → (last : List Fields) × Has text (past ++ last) × (entry_records form last ≡ [])
+  no_entries_left None left past rest count has is lacks = ([], tt, no_entries form)
+  no_entries_left (Some text) None past rest count has is lacks = absurd (none_is_left rest is)
+  no_entries_left (Some text) (Some records) past rest count has is lacks =
+      let same : records ≡ rest = cc in
+      (rest, has, subst (λ (l : List Fields). entry_records form l ≡ []) same lacks.0)
+
   -- the text ends after the entries given
-  all_given : (left : Option (List Fields)) (given : List Numbered) → Stands format text states.Open left given
-      → IfSome left (EndsAt form (length given)) → length given ≤ record_limit → HasEntries format text given
-  all_given None given s e h =
-      absurd (let q : ◌≡◌ {A = Option (List Fields)} None (Some s.rest) = s.left_is refl in cc)
-  all_given (Some records) given s e h =
-      let same : records ≡ s.rest = cc (s.left_is refl) in
-      let ends : EndsAt form (length given) s.rest = rw (← same) e in
-      let before = past_records states.Open (Some records) given s (ends_none form (length given) s.rest ends) in (
-        s.past ++ s.rest,
-        s.accepted,
-        (rw before (omega (arith, s.counted, h)), closed_so form s.past s.rest before (rw s.counted ends)),
-        sym (ap (entries_from form 0) (before ∙ sym (append-nil s.past))
-            ∙ (s.followed [] ∙ rw (entries_none form (length given)) (append-nil given))),
+  all_given : (text : Option (List ℕ)) (left : Option (List Fields)) (given : List Numbered)
+      → Stands format text states.Open left given → Ends form (length given) left → length given ≤ record_limit
+      → HasEntries format text given
+  all_given text left given s e h =
+      let last = last_records text left s.past s.rest (length given) s.accepted (s.left_is refl) e in
+      let none = ends_none form (length given) last.0 last.2 in
+      let before = past_records text states.Open left given s last.0 none in (
+        s.past ++ last.0,
+        last.1,
+        (rw before (omega (arith, s.counted, h)), closed_so form s.past last.0 before (rw s.counted last.2)),
+        past_given text states.Open left given s last.0 none,
       )
 
+  -- no entry is left after those given
+  all_above : (text : Option (List ℕ)) (left : Option (List Fields)) (given : List Numbered)
+      → Stands format text states.Open left given → IfSome left (LacksSeal form (length given))
+      → HasAllEntries format text given
+  all_above text left given s lacks =
+      let last = no_entries_left text left s.past s.rest (length given) s.accepted (s.left_is refl) lacks in
+      (s.past ++ last.0, last.1, past_given text states.Open left given s last.0 last.2)
+
   -- the reader gives no more
-  stands_stopped : (state stopped : ReaderState) (left left2 : Option (List Fields)) (given : List Numbered)
+  stands_stopped : (text : Option (List ℕ)) (state stopped : ReaderState) (left left2 : Option (List Fields))
+      (given : List Numbered)
       → ¬ (stopped ≡ states.Open) → (stopped ≡ states.Ended → HasEntries format text given)
       → Stands format text state left given → Stands format text stopped left2 given
-  stands_stopped state stopped left left2 given shut all s =
+  stands_stopped text state stopped left left2 given shut all s =
       record {
         past = s.past;
         rest = s.rest;
@@ -167,24 +226,25 @@ module _ (format : Format) (text : List ℕ) where
         ended = all;
       }
 
-  stands_end : (left left2 : Option (List Fields)) (given : List Numbered) → Stands format text states.Open left given
-      → IfSome left (EndsAt form (length given)) → length given ≤ record_limit
+  stands_end : (text : Option (List ℕ)) (left left2 : Option (List Fields)) (given : List Numbered)
+      → Stands format text states.Open left given → Ends form (length given) left → length given ≤ record_limit
       → Stands format text states.Ended left2 given
-  stands_end left left2 given s e h =
-      stands_stopped states.Open states.Ended left left2 given (λ o. absurd (cc)) (λ _. all_given left given s e h) s
+  stands_end text left left2 given s e h =
+      stands_stopped text states.Open states.Ended left left2 given (λ o. absurd (cc))
+      (λ _. all_given text left given s e h) s
 
   -- a call failed
-  stands_failed : (state : ReaderState) (left left2 : Option (List Fields)) (given : List Numbered)
-      → Stands format text state left given → Stands format text states.Failed left2 given
-  stands_failed state left left2 given s =
-      stands_stopped state states.Failed left left2 given (λ o. absurd (cc)) (λ e. absurd (cc)) s
+  stands_failed : (text : Option (List ℕ)) (state : ReaderState) (left left2 : Option (List Fields))
+      (given : List Numbered) → Stands format text state left given → Stands format text states.Failed left2 given
+  stands_failed text state left left2 given s =
+      stands_stopped text state states.Failed left left2 given (λ o. absurd (cc)) (λ e. absurd (cc)) s
 
-  too_many : (left : Option (List Fields)) (given : List Numbered) → Stands format text states.Open left given
-      → IfSome left (HasEntry form)
-      → length given ≡ record_limit → HasTooMany format text
-  too_many None given s some e =
-      absurd (let q : ◌≡◌ {A = Option (List Fields)} None (Some s.rest) = s.left_is refl in cc)
-  too_many (Some records) given s some e =
+  too_many : (text : Option (List ℕ)) (left : Option (List Fields)) (given : List Numbered)
+      → Stands format text states.Open left given → IfSome left (HasEntry form) → length given ≡ record_limit
+      → IfSome text (λ t. HasTooMany format t)
+  too_many None left given s some e = tt
+  too_many (Some text) None given s some e = absurd (none_is_left s.rest (s.left_is refl))
+  too_many (Some text) (Some records) given s some e =
       let same : records ≡ s.rest = cc (s.left_is refl) in
       let more : 0 < length (entry_records form s.rest) = rw (← same) some in (
         s.past ++ s.rest,
@@ -192,23 +252,24 @@ module _ (format : Format) (text : List ℕ) where
         rw (s.no_seal s.rest) (omega (arith, length-append s.past (entry_records form s.rest), s.counted, e, more)),
       )
 
-  not_sealed : (left : Option (List Fields)) (given : List Numbered) → Stands format text states.Open left given
-      → IfSome left (LacksSeal form (length given)) → length given ≤ record_limit → IsNotSealed format text
-  not_sealed None given s lacks h =
-      absurd (let q : ◌≡◌ {A = Option (List Fields)} None (Some s.rest) = s.left_is refl in cc)
-  not_sealed (Some records) given s lacks h =
+  not_sealed : (text : Option (List ℕ)) (left : Option (List Fields)) (given : List Numbered)
+      → Stands format text states.Open left given → IfSome left (LacksSeal form (length given))
+      → length given ≤ record_limit → IfSome text (λ t. IsNotSealed format t)
+  not_sealed None left given s lacks h = tt
+  not_sealed (Some text) None given s lacks h = absurd (none_is_left s.rest (s.left_is refl))
+  not_sealed (Some text) (Some records) given s lacks h =
       let same : records ≡ s.rest = cc (s.left_is refl) in
       let without : LacksSeal form (length given) s.rest = rw (← same) lacks in
-      let before = past_records states.Open (Some records) given s without.0 in (
+      let before = past_records (Some text) states.Open (Some records) given s s.rest without.0 in (
         s.past ++ s.rest,
         s.accepted,
         rw before (omega (arith, s.counted, h)),
         λ closed. without.1 (rw (← s.counted) (ends_so form s.past s.rest without.0 before closed)),
       )
 
-  going : (state : ReaderState) (left : Option (List Fields)) (given : List Numbered) → state ≡ states.Open
-      → Stands format text state left given → Stands format text states.Open left given
-  going state left given e s = rw e at s
+  going : (text : Option (List ℕ)) (state : ReaderState) (left : Option (List Fields)) (given : List Numbered)
+      → state ≡ states.Open → Stands format text state left given → Stands format text states.Open left given
+  going text state left given e s = rw e at s
 
 -- an entry that a snapshot was taken of
 pub shown_more : (given : List (Snapshot Entry)) (s : Snapshot Entry) (e : Entry) → s.value ≡ e
@@ -225,32 +286,28 @@ entry_is : (form : Form) (e : Entry) (k : ℕ) (f : Fields) → e.number ≡ k +
     → entry_seen e ≡ record { number = k + 1; body = body_of form f }
 entry_is form e k f n b = rw (n, b) refl
 
--- the same, where the text may be unknown
 abbrev pub MayStand : Option (List ℕ) → Format → ReaderState → Option (List Fields) → List Numbered → Type 0
-MayStand o format state left given = ∥ IfSome o (λ text. Stands format text state left given) ∥₁
-
-may : (o : Option (List ℕ)) (P Q : List ℕ → Type 0) → ((t : List ℕ) → P t → Q t) → ∥ IfSome o P ∥₁ → ∥ IfSome o Q ∥₁
-may o P Q f h = ∥∥₁_map h (if_some o P Q f)
+MayStand o format state left given = ∥ Stands format o state left given ∥₁
 
 pub first_step : (o p : Option (List ℕ)) (left : Option (List Fields)) (d e : ℕ) (j k : Form) (given : List Numbered)
     (f : Fields) → p ≡ o → e ≡ d → k ≡ j
     → given ≡ [] → TakesFirst (option_map (text_records d) o) left f → IsHeader j f
     → MayStand p (format_by e k) states.Open left given
 first_step o p left d e j k given f a b c h t i =
-    let s = stands_first o left (format_by d j) f t i in rw (a, b, c, h) (∣ s ∣₁)
+    let s = stands_first (format_by d j) o left f t i in rw (a, b, c, h) (∣ s ∣₁)
 
 module _ (o : Option (List ℕ)) (format : Format) (state : ReaderState) (left : Option (List Fields))
     (given : List Numbered)
     (stands : MayStand o format state left given) where
-  pub may_first : ∥ IfSome o (λ text. HasFirstEntries format text given) ∥₁
-  may_first = may o _ _ (λ t x. first_given format t state left given x) stands
+  pub may_first : ∥ HasFirstEntries format o given ∥₁
+  may_first = ∥∥₁_map stands (first_given format o state left given)
 
   pub may_fail : (left2 : Option (List Fields)) (given2 : List Numbered) → given2 ≡ given
       → MayStand o format states.Failed left2 given2
-  may_fail left2 given2 e = rw e (may o _ _ (λ t x. stands_failed format t state left left2 given x) stands)
+  may_fail left2 given2 e = rw e (∥∥₁_map stands (stands_failed format o state left left2 given))
 
-  pub may_ended : state ≡ states.Ended → ∥ IfSome o (λ text. HasEntries format text given) ∥₁
-  may_ended e = may o _ _ (λ t x. x.ended e) stands
+  pub may_ended : state ≡ states.Ended → ∥ HasEntries format o given ∥₁
+  may_ended e = ∥∥₁_map stands (λ s. s.ended e)
 
   module _ (goes : state ≡ states.Open) (count : ℕ) (counted : count ≡ length given) where
     pub may_more : (left2 : Option (List Fields)) (given2 : List Numbered) (x : Entry)
@@ -259,30 +316,35 @@ module _ (o : Option (List ℕ)) (format : Format) (state : ReaderState) (left :
     may_more left2 given2 x g h e =
         let number : x.number ≡ length given + 1 = rw (← counted) g.number in
         rw (goes, e)
-        (may o _ _
-        (λ t s. stands_more format t left left2 given g.fields (entry_seen x)
-        (going format t state left given goes s) g.first g.no_seal
-        (rw (← counted) h) (entry_is format.form x (length given) g.fields number g.body)) stands)
+        (∥∥₁_map stands
+        (λ s. stands_more format o left left2 given g.fields (entry_seen x)
+        (going format o state left given goes s) g.first g.no_seal
+        (rw (← counted) h) (entry_is format.form x (length given) g.fields number g.body)))
 
     module _ (few : length given ≤ record_limit) where
-      pub may_all : IfSome left (EndsAt format.form count) → ∥ IfSome o (λ text. HasEntries format text given) ∥₁
+      pub may_all : Ends format.form count left → ∥ HasEntries format o given ∥₁
       may_all e =
-          may o _ _ (λ t s. all_given format t left given (going format t state left given goes s)
-          (rw (← counted) e) few) stands
+          ∥∥₁_map stands (λ s. all_given format o left given (going format o state left given goes s)
+          (rw (← counted) e) few)
 
-      pub may_end : (left2 : Option (List Fields)) → IfSome left (EndsAt format.form count)
+      pub may_end : (left2 : Option (List Fields)) → Ends format.form count left
           → MayStand o format states.Ended left2 given
       may_end left2 e =
-          may o _ _ (λ t s. stands_end format t left left2 given
-          (going format t state left given goes s) (rw (← counted) e) few) stands
+          ∥∥₁_map stands (λ s. stands_end format o left left2 given
+          (going format o state left given goes s) (rw (← counted) e) few)
 
       pub may_lack : IfSome left (LacksSeal format.form count) → ∥ IfSome o (λ text. IsNotSealed format text) ∥₁
       may_lack e =
-          may o _ _ (λ t s. not_sealed format t left given (going format t state left given goes s)
-          (rw (← counted) e) few) stands
+          ∥∥₁_map stands (λ s. not_sealed format o left given (going format o state left given goes s)
+          (rw (← counted) e) few)
+
+    pub may_above : IfSome left (LacksSeal format.form count) → ∥ HasAllEntries format o given ∥₁
+    may_above e =
+        ∥∥₁_map stands (λ s. all_above format o left given (going format o state left given goes s)
+        (rw (← counted) e))
 
     pub may_many : IfSome left (HasEntry format.form) → count ≡ record_limit
         → ∥ IfSome o (λ text. HasTooMany format text) ∥₁
     may_many e full =
-        may o _ _ (λ t s. too_many format t left given (going format t state left given goes s) e
-        (rw (← counted) full)) stands
+        ∥∥₁_map stands (λ s. too_many format o left given (going format o state left given goes s) e
+        (rw (← counted) full))

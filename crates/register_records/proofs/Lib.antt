@@ -5,7 +5,8 @@
 --   AnswerLemmas, LineLemmas, BareLemmas: that a line is the fields of its row, for `put`, `add` and `open` of
 --   `RowWriter`.
 --   TargetNumberLemmas: `is_for` of `Row`.
---   ProgressLemmas: `whole`, `numbers` and `part` of `convert_source`, and the law `tables_grow`.
+--   ProgressLemmas: `whole`, `numbers`, `part` and `not_sealed` of `convert_source`, and the law `tables_grow`.
+--   SomeRecordsLemmas: the rows of entries are those of some records, for `in_order` of a run.
 --   OneTableLemmas, EveryTableLemmas, ReadBackLemmas, NoLossLemmas, OneFateLemmas: the laws `one_table`,
 --   `every_text_has_table`, `cells_read_back`, `no_loss_is_sealed`, `one_fate`.
 pub mod FieldLemmas
@@ -22,6 +23,7 @@ pub mod AnswerLemmas
 pub mod OutcomeLemmas
 pub mod TargetNumberLemmas
 pub mod ProgressLemmas
+pub mod SomeRecordsLemmas
 pub mod OneTableLemmas
 pub mod EveryTableLemmas
 pub mod ReadBackLemmas

@@ -1,6 +1,6 @@
 -- A text has one table at most.
 use Rattle.std.proofs.Common.{◌≡◌, ℕ, List, refl, sym, ap, ◌∙◌}
-use Rattle.std.specs.Prelude.{ℤ, Result, Ok, Err}
+use Rattle.std.specs.Prelude.{ℤ, Result, Ok, Err, Some}
 use Rattle.day_numbers.specs.Days.{IsDayNumber}
 use Rattle.date_texts.specs.Calendars.{calendar_name}
 use Rattle.date_texts.specs.Dates.{IsDateOfCalendar, day_number_of_date}
@@ -117,8 +117,8 @@ module _ (one_calendar : OneCalendar) (one_date_text : OneDateText) (one_cell : 
       made_row _ _ _ _ _ _ _ _ (a.number ∙ sym b.number) (a.body ∙ sym b.body) same
       (one_cells one_cell s.outcome targets r.cells s.cells (rw same at a.cells) b.cells)
 
-  one_list : (format : Format) (text : List ℕ) (entries others : List Numbered) → HasEntries format text entries
-      → HasEntries format text others → entries ≡ others
+  one_list : (format : Format) (text : List ℕ) (entries others : List Numbered)
+      → HasEntries format (Some text) entries → HasEntries format (Some text) others → entries ≡ others
   one_list format text entries others (records, (header, is, ok), all, made)
       (records2, (header2, is2, ok2), all2, made2) =
       let same : records ≡ records2 = cc in

@@ -1,19 +1,21 @@
 -- How far the table of a source has come.
 use Rattle.std.proofs.Common.{◌≡◌, ◌+◌, ◌++◌, ℕ, List, [], ◌∷◌, length, map, Option, refl, sym, ap, ◌∙◌, arith}
 use Rattle.std.proofs.Common.{append_assoc, inl, inr}
-use Rattle.std.specs.Prelude.{IfSome, Some}
+use Rattle.std.specs.Prelude.{Some}
 use Rattle.std.specs.Io.KnownBytes.{Appends}
 use Rattle.std.specs.List.{range_with_len}
 use Rattle.std.proofs.KnownBytes.{Appends-trans}
 use Rattle.std.proofs.Math.Logic.{∥∥₁_map}
 use Rattle.std.proofs.lemmas.List.{append-nil, length-append}
-use Rattle.register_records.specs.Causes.{row_fault_cause}
+use Rattle.register_records.specs.Causes.{entry_fault_cause, row_fault_cause}
 use Rattle.register_records.specs.Conversions.{Progress}
-use Rattle.register_records.specs.Entries.{Format, HasEntries, HasFirstEntries, Numbered}
+use Rattle.register_records.specs.Entries.{Format, HasAllEntries, HasEntries, HasFirstEntries, Numbered}
 use Rattle.register_records.specs.Laws.{TablesGrow}
 use Rattle.register_records.specs.Outcomes.{IsRowOf, TableRow}
-use Rattle.register_records.specs.Sources.{ArePartOfTable, Gains, IsFrontOfTable, IsWholeTable}
+use Rattle.register_records.specs.Sources.{ArePartOfTable, Gains, IsFrontOfTable, IsTableOfAll, IsWholeTable}
 use Rattle.register_records.specs.Tables.{Layout, heading_line, journal_of, lines_text, refusal_notes, row_line, table_text}
+use Rattle.register_records.specs.declared.reading.EntryFault.{EntryFault}
+use Rattle.register_records.specs.declared.reading.EntryFault.TheVariants as entry
 use Rattle.register_records.specs.declared.sources.Cause.{Cause}
 use Rattle.register_records.specs.declared.sources.Cause.TheVariants as cause
 use Rattle.register_records.specs.declared.sources.Note.{Note}
@@ -94,7 +96,7 @@ step layout old now now2 entries journal x row p n r a =
 pub finish : (layout : Layout) (e : Format) (text told old now : Option (List ℕ)) (entries given : List Numbered)
     (journal : List Note) (count refused : ℕ)
     → Progress layout old now entries journal → told ≡ text → e ≡ layout.format → given ≡ entries
-    → ∥ IfSome told (λ t. HasEntries e t given) ∥₁ → count ≡ length entries → refused ≡ length journal
+    → ∥ HasEntries e told given ∥₁ → count ≡ length entries → refused ≡ length journal
     → ∥ Gains old now (IsWholeTable layout text count refused journal) ∥₁
 finish layout e text told old now entries given journal count refused p a b f h c r =
     ∥∥₁_map (rw (a, b, f) at h) (λ accepted. (
@@ -115,7 +117,7 @@ finish layout e text told old now entries given journal count refused p a b f h 
 pub first_rows : (layout : Layout) (e : Format) (text told old now : Option (List ℕ)) (entries : List Numbered)
     (journal : List Note) (count : ℕ)
     → Progress layout old now entries journal → told ≡ text → e ≡ layout.format
-    → ∥ IfSome told (λ t. HasFirstEntries e t entries) ∥₁ → count ≡ length entries
+    → ∥ HasFirstEntries e told entries ∥₁ → count ≡ length entries
     → ∥ Gains old now (IsFrontOfTable layout text count) ∥₁
 first_rows layout e text told old now entries journal count p a b h c =
     ∥∥₁_map (rw (a, b) at h) (λ first. (
@@ -131,19 +133,30 @@ part_of layout text old now count (bytes, front, gained) = (bytes, inr (count, f
 pub front : (layout : Layout) (e : Format) (text told old now : Option (List ℕ)) (entries : List Numbered)
     (journal : List Note)
     → Progress layout old now entries journal → told ≡ text → e ≡ layout.format
-    → ∥ IfSome told (λ t. HasFirstEntries e t entries) ∥₁ → ∥ Gains old now (ArePartOfTable layout text) ∥₁
+    → ∥ HasFirstEntries e told entries ∥₁ → ∥ Gains old now (ArePartOfTable layout text) ∥₁
 front layout e text told old now entries journal p a b h =
     ∥∥₁_map (first_rows layout e text told old now entries journal (length entries) p a b h refl)
     (part_of layout text old now (length entries))
+
+-- and where no entry is left, the table of all entries
+pub all_rows : (layout : Layout) (e : Format) (text told old now : Option (List ℕ)) (entries given : List Numbered)
+    (journal : List Note)
+    → Progress layout old now entries journal → told ≡ text → e ≡ layout.format → given ≡ entries
+    → ∥ HasAllEntries e told given ∥₁ → ∥ Gains old now (IsTableOfAll layout text) ∥₁
+all_rows layout e text told old now entries given journal p a b f h =
+    ∥∥₁_map (rw (a, b, f) at h) (λ all. (
+      p.bytes,
+      record { entries = entries; rows = p.rows; table = p.table; all = all },
+      p.gained,
+    ))
 
 -- nothing was written
 pub nothing : (layout : Layout) (text old now : Option (List ℕ)) → Appends old now []
     → ∥ Gains old now (ArePartOfTable layout text) ∥₁
 nothing layout text old now a = ∣ ([], inl refl, a) ∣₁
 
-pub told_of : (Is : Format → List ℕ → Type 0) (d e : Format) (text told : Option (List ℕ)) → told ≡ text → e ≡ d
-    → ∥ IfSome told (λ t. Is e t) ∥₁
-    → ∥ IfSome text (λ t. Is d t) ∥₁
+pub told_of : (Is : Format → Option (List ℕ) → Type 0) (d e : Format) (text told : Option (List ℕ)) → told ≡ text
+    → e ≡ d → ∥ Is e told ∥₁ → ∥ Is d text ∥₁
 told_of Is d e text told a b h = rw (a, b) at h
 
 -- a fault of a row that is no fault of the output
@@ -152,3 +165,13 @@ pub only_memory : (f : RowFault) (c : Cause) → row_fault_cause f ≡ Some c �
 only_memory row.OutOfMemory c a k = refl
 only_memory row.WriteFault c a k = absurd (k cc)
 only_memory row.Failed c a k = cc
+
+-- a fault of a seal
+pub only_not_sealed : (f : EntryFault) (c : Cause) → entry_fault_cause f ≡ Some c → c ≡ cause.NotSealed
+    → f ≡ entry.NotSealed
+only_not_sealed entry.OutOfMemory c a is = cc
+only_not_sealed entry.ReadFault c a is = cc
+only_not_sealed entry.BadHeader c a is = cc
+only_not_sealed entry.TooManyRecords c a is = cc
+only_not_sealed entry.NotSealed c a is = refl
+only_not_sealed entry.Failed c a is = cc

@@ -3,7 +3,7 @@ use Rattle.std.proofs.Common.{◌≡◌, ℕ, List, [], ◌∷◌, Bool, Option,
 use Rattle.std.specs.Prelude.{IfSome, IfErr, IsErrAnd, Result, Ok, Err}
 use Rattle.register_records.specs.Records.{Fields}
 use Rattle.register_records.specs.Seals.{Agrees, is_seal}
-use Rattle.register_records.specs.ReadingState.{HasEntry, IsNoSeal, LacksSeal, Reads, TakesFirst}
+use Rattle.register_records.specs.ReadingState.{Ends, HasEntry, IsNoSeal, LacksSeal, Reads, TakesFirst}
 use Rattle.register_records.specs.declared.setups.Form.{Form}
 use Rattle.register_records.specs.declared.setups.Form.TheVariants.{Plain, Sealed}
 use Rattle.register_records.proofs.GivenLemmas.{before_none, if_some, no_seal_first, seal_first}
@@ -60,6 +60,22 @@ seal_lacks (Some records) (Some rest) form count f e t is last =
           let none : rest ≡ [] = cc (ends.1) in
           last none (rw same at ends.3),
     )
+
+-- a text of a plain form ends where no record is left, and one of a sealed form where a seal is left alone that agrees
+pub plain_ends : (left : Option (List Fields)) (form : Form) (count : ℕ) → form ≡ Plain
+    → IfSome left (λ records. records ≡ []) → Ends form count left
+plain_ends left form count e h = rw e ([], refl, h)
+
+pub seal_ends : (left mid : Option (List Fields)) (form : Form) (count : ℕ) (f : Fields) → form ≡ Sealed
+    → TakesFirst left mid f → is_seal f ≡ true → Agrees f count → IfSome mid (λ records. records ≡ [])
+    → Ends form count left
+seal_ends left mid form count f e t is agrees last = rw e (f ∷ [], (f, refl, is, agrees), taken_last left mid t last)
+  where
+    taken_last : (left mid : Option (List Fields)) → TakesFirst left mid f → IfSome mid (λ records. records ≡ [])
+        → IfSome left (λ records. records ≡ f ∷ [])
+    taken_last None mid t last = tt
+    taken_last (Some records) None t last = absurd t
+    taken_last (Some records) (Some rest) t last = rw (t, last) refl
 
 -- an entry's record is left
 pub entry_left : (left mid : Option (List Fields)) (form : Form) (f : Fields) → TakesFirst left mid f → IsNoSeal form f

@@ -1,6 +1,6 @@
 -- The records and the entries of a text.
 use Rattle.std.specs.Prelude.{◌≡◌, ◌≤◌, ◌<◌, ◌+◌, ◌++◌, ⊤, ◌&&◌, Bool, true, nat_le, nat_lt, ℕ, List, [], ◌∷◌}
-use Rattle.std.specs.Prelude.{length, Result, Ok, Err, if◌then◌else◌}
+use Rattle.std.specs.Prelude.{length, Option, IfSome, Result, Ok, Err, if◌then◌else◌}
 use Rattle.std.specs.Option.{option_map_or}
 use Rattle.std.specs.Str.{is_utf8}
 use Rattle.csv.specs.Reading.{default_config, records, strip_bom}
@@ -10,7 +10,6 @@ use Rattle.register_records.specs.Seals.{AreClosed, entry_records}
 use Rattle.date_texts.specs.Refusals.{refusal_number}
 use Rattle.date_texts.specs.declared.refusal.Refusal.{Refusal}
 use Rattle.date_texts.specs.declared.refusal.Refusal.TheVariants as refusal
-use Rattle.register_records.specs.declared.entries.TheConstants.{CALENDAR_LIMIT, DATE_LIMIT, ID_LIMIT, NOTE_LIMIT}
 use Rattle.register_records.specs.declared.entries.Body.{Body}
 use Rattle.register_records.specs.declared.entries.Body.TheVariants as body
 use Rattle.register_records.specs.declared.setups.Form.{Form}
@@ -39,8 +38,7 @@ HasNoHeader format text = (after : List Fields) → HasRecords format text after
 -- no text is over its limit in bytes
 abbrev pub are_short : Texts → Bool
 are_short t =
-    nat_le (length t.id) ID_LIMIT && nat_le (length t.calendar) CALENDAR_LIMIT && nat_le (length t.date) DATE_LIMIT
-    && nat_le (length t.note) NOTE_LIMIT
+    nat_le (length t.id) 40 && nat_le (length t.calendar) 16 && nat_le (length t.date) 32 && nat_le (length t.note) 80
 
 abbrev pub are_utf8 : Texts → Bool
 are_utf8 t = is_utf8 t.id && is_utf8 t.calendar && is_utf8 t.date && is_utf8 t.note
@@ -65,6 +63,11 @@ body_seen (body.Refused r) = Err r
 abbrev pub may_hold : Body → Bool
 may_hold (body.Fields id calendar date note) = true
 may_hold (body.Refused r) = nat_le (refusal_number r) 3
+
+-- texts within their limits that are UTF-8, or one of those refusals
+abbrev pub are_fit : Result Texts Refusal → Bool
+are_fit (Ok t) = are_short t && are_utf8 t
+are_fit (Err r) = nat_le (refusal_number r) 3
 
 -- an entry: its number, and its body
 pub record Numbered : Type 0 where
@@ -94,17 +97,22 @@ AreAll form after = (length (entry_records form after) ≤ record_limit) × AreC
 abbrev pub AreAccepted : Form → List Fields → Type 0
 AreAccepted form records = (after : List Fields) × AreAfterHeader form records after × AreAll form after
 
--- the text is accepted, and these are its entries
-abbrev pub HasEntries : Format → List ℕ → List Numbered → Type 0
+-- the text is accepted, and these are its entries. A text may be unknown: then they are those of some records that
+-- could follow an accepted header and are all that a text may have
+abbrev pub HasEntries : Format → Option (List ℕ) → List Numbered → Type 0
 HasEntries format text entries =
-    (after : List Fields) × HasRecords format text after × AreAll format.form after
+    (after : List Fields) × IfSome text (λ t. HasRecords format t after) × AreAll format.form after
     × (entries ≡ entries_of format.form after)
 
--- the text has an accepted header, and these are its first entries
-abbrev pub HasFirstEntries : Format → List ℕ → List Numbered → Type 0
-HasFirstEntries format text entries =
-    (after : List Fields) × (rest : List Numbered) × HasRecords format text after
-    × (entries_of format.form after ≡ entries ++ rest)
+-- the text has an accepted header, and these are all its entries, be it accepted or not; where it is unknown, they are
+-- those of some records
+abbrev pub HasAllEntries : Format → Option (List ℕ) → List Numbered → Type 0
+HasAllEntries format text entries =
+    (after : List Fields) × IfSome text (λ t. HasRecords format t after) × (entries ≡ entries_of format.form after)
+
+-- these are the first of them
+abbrev pub HasFirstEntries : Format → Option (List ℕ) → List Numbered → Type 0
+HasFirstEntries format text entries = (rest : List Numbered) × HasAllEntries format text (entries ++ rest)
 
 -- these entries are numbered in order, the first with this number
 abbrev pub AreNumberedFrom : ℕ → List Numbered → Type 0

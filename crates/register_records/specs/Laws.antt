@@ -19,13 +19,13 @@ use Rattle.register_records.specs.declared.sources.Note.{Note}
 abbrev pub OneTable : Type 0
 OneTable =
     (layout : Layout) (text : List ℕ) (entries others : List Numbered) (rows more : List TableRow)
-    → HasEntries layout.format text entries → HasEntries layout.format text others
+    → HasEntries layout.format (Some text) entries → HasEntries layout.format (Some text) others
     → AreRowsOf layout.targets entries rows → AreRowsOf layout.targets others more → (entries ≡ others) × (rows ≡ more)
 
 -- an accepted text has a whole table
 abbrev pub EveryTextHasTable : Type 0
 EveryTextHasTable =
-    (layout : Layout) (text : List ℕ) (entries : List Numbered) → HasEntries layout.format text entries
+    (layout : Layout) (text : List ℕ) (entries : List Numbered) → HasEntries layout.format (Some text) entries
     → (count : ℕ) × (refused : ℕ) × (journal : List Note) × (bytes : List ℕ)
     × IsWholeTable layout (Some text) count refused journal bytes
 
@@ -62,7 +62,7 @@ pub data Fate : Type 0 where
   not_sealed : Fate
 
 abbrev pub HasFate : Format → List ℕ → Fate → Type 0
-HasFate format text accepted = (entries : List Numbered) × HasEntries format text entries
+HasFate format text accepted = (entries : List Numbered) × HasEntries format (Some text) entries
 HasFate format text no_header = HasNoHeader format text
 HasFate format text too_many = HasTooMany format text
 HasFate format text not_sealed = IsNotSealed format text

@@ -88,6 +88,10 @@ abbrev pub EndsAt : Form → ℕ → List Fields → Type 0
 EndsAt Plain count records = records ≡ []
 EndsAt Sealed count records = (seal : Fields) × (records ≡ seal ∷ []) × IsTrue (is_seal seal) × Agrees seal count
 
+-- some records end it so; where it is known what is left, these are left
+abbrev pub Ends : Form → ℕ → Option (List Fields) → Type 0
+Ends form count left = (records : List Fields) × EndsAt form count records × IfSome left (λ l. l ≡ records)
+
 -- what is left has no entry, but does not end the text
 abbrev pub LacksSeal : Form → ℕ → List Fields → Type 0
 LacksSeal form count records = (entry_records form records ≡ []) × ¬ (EndsAt form count records)
@@ -96,17 +100,17 @@ LacksSeal form count records = (entry_records form records ≡ []) × ¬ (EndsAt
 abbrev pub HasEntry : Form → List Fields → Type 0
 HasEntry form records = 0 < length (entry_records form records)
 
--- these entries are the first of a text. While no call failed and none answered that no entry is left, those of the
--- records that are left follow them; once a call answered so, they are all
-pub record Stands (format : Format) (text : List ℕ) (state : ReaderState) (left : Option (List Fields))
+-- these entries are the first of a text, which may be unknown. While no call failed and none answered that no entry is
+-- left, those of the records that are left follow them; once a call answered so, they are all
+pub record Stands (format : Format) (text : Option (List ℕ)) (state : ReaderState) (left : Option (List Fields))
     (given : List Numbered)
     : Type 0 where
   pub past : List Fields
   pub rest : List Fields
-  pub accepted : HasRecords format text (past ++ rest)
+  pub accepted : IfSome text (λ t. HasRecords format t (past ++ rest))
   pub counted : length past ≡ length given
   pub no_seal : (more : List Fields) → entry_records format.form (past ++ more) ≡ past ++ entry_records format.form more
   pub followed : (more : List Fields)
       → entries_from format.form 0 (past ++ more) ≡ given ++ entries_from format.form (length given) more
-  pub left_is : state ≡ states.Open → left ≡ Some rest
+  pub left_is : state ≡ states.Open → IfSome text (λ t. left ≡ Some rest)
   pub ended : state ≡ states.Ended → HasEntries format text given

@@ -1,8 +1,8 @@
 -- How a source ends, and what its output has gained.
-use Rattle.std.specs.Prelude.{◌≡◌, ◌⊎◌, ℕ, List, [], length, map, Option, IfSome, ⊤, Bool, true, false}
+use Rattle.std.specs.Prelude.{◌≡◌, ◌⊎◌, ℕ, List, [], length, map, Option, ⊤, Bool, true, false}
 use Rattle.std.specs.Io.KnownBytes.{Appends}
 use Rattle.std.specs.List.{range_with_len}
-use Rattle.register_records.specs.Entries.{HasEntries, HasFirstEntries, Numbered}
+use Rattle.register_records.specs.Entries.{HasAllEntries, HasEntries, HasFirstEntries, Numbered}
 use Rattle.register_records.specs.Outcomes.{AreRowsOf, TableRow}
 use Rattle.register_records.specs.Tables.{Layout, journal_of, table_text}
 use Rattle.register_records.specs.declared.sources.Cause.{Cause}
@@ -21,8 +21,7 @@ pub record IsTableOf (layout : Layout) (entries : List Numbered) (rows : List Ta
   pub converted : AreRowsOf layout.targets entries rows
   pub written : bytes ≡ table_text layout rows
 
--- these bytes are the whole table, with so many rows and refused rows, and this journal; and where the text is known,
--- it is accepted and the entries are its own
+-- these bytes are the whole table of the text, which is accepted, with so many rows and refused rows, and this journal
 pub record IsWholeTable (layout : Layout) (text : Option (List ℕ)) (count refused : ℕ) (journal : List Note)
     (bytes : List ℕ) : Type 0 where
   pub entries : List Numbered
@@ -31,7 +30,7 @@ pub record IsWholeTable (layout : Layout) (text : Option (List ℕ)) (count refu
   pub counted : count ≡ length rows
   pub noted : journal ≡ journal_of rows
   pub refused_counted : refused ≡ length journal
-  pub accepted : IfSome text (λ t. HasEntries layout.format t entries)
+  pub accepted : HasEntries layout.format text entries
 
 -- these bytes are a front of the table: its heading and its first rows, so many
 pub record IsFrontOfTable (layout : Layout) (text : Option (List ℕ)) (count : ℕ) (bytes : List ℕ) : Type 0 where
@@ -39,7 +38,14 @@ pub record IsFrontOfTable (layout : Layout) (text : Option (List ℕ)) (count : 
   pub rows : List TableRow
   pub table : IsTableOf layout entries rows bytes
   pub counted : count ≡ length rows
-  pub first : IfSome text (λ t. HasFirstEntries layout.format t entries)
+  pub first : HasFirstEntries layout.format text entries
+
+-- these bytes are the heading and the rows of all entries of the text, which need not be accepted
+pub record IsTableOfAll (layout : Layout) (text : Option (List ℕ)) (bytes : List ℕ) : Type 0 where
+  pub entries : List Numbered
+  pub rows : List TableRow
+  pub table : IsTableOf layout entries rows bytes
+  pub all : HasAllEntries layout.format text entries
 
 -- these bytes are none, or a front of the table
 abbrev pub ArePartOfTable : Layout → Option (List ℕ) → List ℕ → Type 0

@@ -15,9 +15,11 @@ ghost use Rattle.register_records.specs.SetupRules.{is_delimiter};
 ghost use Rattle.register_records.specs.TableColumns.{AreFields, IsCellField, answer_texts};
 ghost use Rattle.register_records.specs.declared.answers.TheConstants.{ANSWER_ROOM, CELL_ROOM};
 
+use crate::setups::Setup;
 use crate::table_columns::{TableColumn, answer_columns};
-use date_texts::laws::cells_are_plain;
-use date_texts::{MAX_CELL, MAX_TARGETS, Refusal, Target, write_cell};
+use crate::target_lists::TargetList;
+use date_texts::laws::{cells_are_plain, one_cell};
+use date_texts::{MAX_CELL, MAX_TARGETS, Refusal, Target, write_cell_within};
 use day_numbers::Day;
 use itoa::Buffer;
 
@@ -47,20 +49,38 @@ pub(crate) struct Answer {
     ghost plain: { take len places ≡ fields_text (writing delimiter) (fields_behind delimiter (take len places)) },
 }
 
-/// Writes what stands in the column of a target, which is nothing for a refused row, and says how many bytes it has.
+/// Writes what stands in the column of a target, which is nothing for a refused row, to the front of a cell's room, and
+/// says how many bytes it has.
 #[inline(always)]
-fn write_field(cell: &mut [u8; MAX_CELL], target: Target, outcome: Result<Day, Refusal>) -> u8
+fn write_field(room: &mut [u8], target: Target, outcome: Result<Day, Refusal>) -> u8
+    requires { MAX_CELL ≤ length room.old }
     ensures few { result ≤ MAX_CELL }
-    ensures value { IsCellField (outcome_seen outcome) target (take result cell.new) }
+    ensures value { IsCellField (outcome_seen outcome) target (take result room.new) }
 {
     match outcome {
-        Ok(day) => write_cell(cell, target, day),
+        Ok(day) => match write_cell_within(room, target, day) {
+            Some(count) => count,
+            None => unreachable!(),
+        },
         Err(_) => 0,
+    }
+}
+
+/// Whether two outcomes are one.
+fn is_same(outcome: Result<Day, Refusal>, other: Result<Day, Refusal>) -> bool
+    ensures { result ≡ true → outcome_seen outcome ≡ outcome_seen other }
+{
+    match (outcome, other) {
+        (Ok(day), Ok(other)) => day.number() == other.number(),
+        (Err(refusal), Err(other)) => refusal == other,
+        _ => false,
     }
 }
 
 impl Answer {
     ghost use Rattle.register_records.specs.Answers.{cells_of, fields_of};
+    ghost use Rattle.register_records.specs.ShortLists.{items_in};
+    ghost use Rattle.register_records.specs.Views.{targets_of};
 
     /// The answer of no field.
     pub fn new(delimiter: u8) -> Answer
@@ -114,8 +134,8 @@ impl Answer {
         self.len = end as u16;
     }
 
-    /// Appends what stands in the column of a target. All the room of a cell is copied, and what lies behind its text
-    /// is written over by the next field: a copy of a fixed length is cheap.
+    /// Appends what stands in the column of a target, written where it stays. What lies behind its text is written over
+    /// by the next field.
     #[inline(always)]
     fn push_cell(&mut self, target: Target, outcome: Result<Day, Refusal>)
         requires { self.old.len + CELL_ROOM ≤ ANSWER_ROOM }
@@ -126,10 +146,9 @@ impl Answer {
     {
         cells_are_plain();
         let at = self.len as usize;
-        let mut cell = [0; MAX_CELL];
-        let len = write_field(&mut cell, target, outcome);
         self.places[at] = self.delimiter;
-        self.places[at + 1..at + 1 + MAX_CELL].copy_from_slice(&cell);
+        let room = &mut self.places[at + 1..at + 1 + MAX_CELL];
+        let len = write_field(room, target, outcome);
         self.len += 1 + len as u16;
     }
 
@@ -198,5 +217,32 @@ impl Answer {
         'columns: for column in answer_columns() {
             self.push_column(*column, targets, outcome);
         }
+    }
+
+    /// Makes this, the answer of an outcome for some targets, that of the next outcome for the setup's. Where these are the
+    /// same it stands, as for a second entry on a day in a register in order of time.
+    #[inline(always)]
+    pub fn renew(
+        &mut self,
+        targets: &TargetList,
+        outcome: Result<Day, Refusal>,
+        setup: &Setup,
+        next: Result<Day, Refusal>,
+    )
+        requires cells { ∥ AreCells (items_in targets.now.items) (outcome_seen outcome)
+            (cells_of (items_in targets.now.items) outcome self.old) ∥₁ }
+        requires written { fields_of self.old ≡ answer_texts (items_in targets.now.items) (outcome_seen outcome)
+            (cells_of (items_in targets.now.items) outcome self.old) }
+        ensures cells { AreCells (targets_of setup.now) (outcome_seen next)
+            (cells_of (targets_of setup.now) next self.new) }
+        ensures written { fields_of self.new ≡ answer_texts (targets_of setup.now) (outcome_seen next)
+            (cells_of (targets_of setup.now) next self.new) }
+    {
+        one_cell();
+        let same_targets = targets.is_same(&setup.target_list());
+        if same_targets && is_same(outcome, next) && self.delimiter == setup.delimiter() {
+            return;
+        }
+        self.set(setup.targets(), next, setup.delimiter());
     }
 }

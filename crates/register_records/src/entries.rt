@@ -6,7 +6,7 @@ ghost use Rattle.std.specs.List.{list_any};
 ghost use Rattle.std.specs.Str.{is_utf8};
 ghost use Rattle.csv.specs.Records.{fields_of};
 ghost use Rattle.register_records.specs.BareTexts.{has_special, is_special_byte};
-ghost use Rattle.register_records.specs.Entries.{body_of, body_seen, may_hold, record_limit};
+ghost use Rattle.register_records.specs.Entries.{are_fit, body_of, body_seen, may_hold, record_limit};
 
 use crate::record_fields::fields_in;
 use crate::setups::Form;
@@ -54,8 +54,9 @@ pub struct Entry {
     bare: bool,
     body: Body,
     ghost from_one: { 1 ≤ number },
-    ghost limited: { number ≤ record_limit },
+    pub ghost limited: { number ≤ record_limit },
     ghost held: { IsTrue (may_hold body) },
+    pub ghost fit: { are_fit (body_seen body) ≡ true },
     ghost bared: { bare ≡ true → has_special (body_seen body) ≡ false },
 }
 
@@ -142,12 +143,27 @@ fn is_bare(text: &[u8]) -> bool
     bare
 }
 
+/// Whether a text is within its limit, which by its type it is.
+fn is_within<const N: usize>(text: &ArrayString<N>) -> bool
+    ensures is { result ≡ true }
+    ensures fits { length text.now.bytes ≤ N }
+    ensures is_text { is_utf8 text.now.bytes ≡ true }
+{
+    text.as_str().len() <= N
+}
+
 /// Whether an entry may have this body.
 fn is_allowed(body: &Body) -> bool
-    ensures { result ≡ may_hold body.now }
+    ensures value { result ≡ may_hold body.now }
+    ensures fit { result ≡ true → are_fit (body_seen body.now) ≡ true }
 {
     match body {
-        Body::Fields { .. } => true,
+        Body::Fields {
+            id,
+            calendar,
+            date,
+            note,
+        } => is_within(id) && is_within(calendar) && is_within(date) && is_within(note),
         Body::Refused(refusal) => matches!(
             refusal,
             Refusal::FieldCount | Refusal::FieldTooLong | Refusal::NotUtf8

@@ -5,7 +5,7 @@ ghost use Rattle.std.specs.Prelude.{◌≢◌, IfSome, Ok, Err, Option, None, is
 ghost use Rattle.csv.specs.Reading.{error_kind, has_failed, stops_reader};
 ghost use Rattle.csv.specs.Records.{fields_of};
 ghost use Rattle.register_records.specs.Entries.{HasFirstEntries, record_limit};
-ghost use Rattle.register_records.specs.ReadingState.{EndsAt, Gives, HasBegun, HasEntry, IsLive, IsOfReading};
+ghost use Rattle.register_records.specs.ReadingState.{Ends, Gives, HasBegun, HasEntry, IsLive, IsOfReading};
 ghost use Rattle.register_records.specs.ReadingState.{LacksSeal, Reads, Stands};
 ghost use Rattle.register_records.specs.ReadingState.{entries_shown, fault_of, format_by, records_left};
 ghost use Rattle.register_records.specs.Retrying.{inner_remaining};
@@ -82,11 +82,11 @@ pub struct EntryReader<R: Read> {
     state: ReaderState,
     ghost live: { state ≢ ReaderState.Failed → HasBegun records },
     ghost few: { length given.items ≤ record_limit },
-    ghost stands: { ∥ IfSome (R.remaining source.value) (λ text. Stands (format_by delimiter form) text state
-        (records_left (inner_remaining R.remaining) records) (entries_shown given.items)) ∥₁ },
-    // Where the reader tells its bytes, the entries given are the first of the text.
-    pub ghost first: { ∥ IfSome (R.remaining source.value)
-        (λ text. HasFirstEntries (format_by delimiter form) text (entries_shown given.items)) ∥₁ },
+    ghost stands: { ∥ Stands (format_by delimiter form) (R.remaining source.value) state
+        (records_left (inner_remaining R.remaining) records) (entries_shown given.items) ∥₁ },
+    // The entries given are the first of the text, and where the reader does not tell its bytes, those of some records.
+    pub ghost first: { ∥ HasFirstEntries (format_by delimiter form) (R.remaining source.value)
+        (entries_shown given.items) ∥₁ },
 }
 
 /// What an error of csv's reader that stops it means.
@@ -194,8 +194,7 @@ fn read_entry<R: Read>(
         → Gives form count (records_left (inner_remaining R.remaining) records.old)
         (records_left (inner_remaining R.remaining) records.new) entry.new }
     ensures number { result ≡ Ok true → (entry.new.number ≡ count + 1) × (entry.new.number ≤ record_limit) }
-    ensures ends { result ≡ Ok false
-        → IfSome (records_left (inner_remaining R.remaining) records.old) (EndsAt form count) }
+    ensures ends { result ≡ Ok false → Ends form count (records_left (inner_remaining R.remaining) records.old) }
     ensures many { IfErr result (λ e. e ≡ EntryFault.TooManyRecords → (count ≡ record_limit)
         × IfSome (records_left (inner_remaining R.remaining) records.old) (HasEntry form)) }
     ensures not_sealed { IfErr result (λ e. e ≡ EntryFault.NotSealed → (form ≡ Form.Sealed)
@@ -219,7 +218,7 @@ fn read_entry<R: Read>(
 }
 
 impl<R: Read + Drop> EntryReader<R> {
-    ghost use Rattle.register_records.specs.Entries.{HasEntries, HasNoHeader, HasTooMany, IsNotSealed};
+    ghost use Rattle.register_records.specs.Entries.{HasAllEntries, HasEntries, HasNoHeader, HasTooMany, IsNotSealed};
     ghost use Rattle.register_records.specs.Views.{format_of, given_of, reader_ended, reader_failed};
     ghost use Rattle.register_records.specs.Views.{reads_by, text_of};
     ghost use Rattle.register_records.specs.declared.reading.EntryFault.TheVariants.{Failed, NotSealed, TooManyRecords};
@@ -272,11 +271,13 @@ impl<R: Read + Drop> EntryReader<R> {
         ensures kept { OnErr result (given_of self.new ≡ given_of self.old) }
         ensures text { (text_of self.new ≡ text_of self.old) × (reads_by self.new ≡ reads_by self.old) }
         ensures all { result ≡ Ok false
-            → ∥ IfSome (text_of self.new) (λ text. HasEntries (reads_by self.new) text (given_of self.new)) ∥₁ }
+            → ∥ HasEntries (reads_by self.new) (text_of self.new) (given_of self.new) ∥₁ }
         ensures many { IfErr result (λ e. e ≡ EntryFault.TooManyRecords → (length (given_of self.old) ≡ record_limit)
             × ∥ IfSome (text_of self.new) (λ text. HasTooMany (reads_by self.new) text) ∥₁) }
         ensures not_sealed { IfErr result (λ e. e ≡ EntryFault.NotSealed → ((reads_by self.new).form ≡ Form.Sealed)
             × ∥ IfSome (text_of self.new) (λ text. IsNotSealed (reads_by self.new) text) ∥₁) }
+        ensures above { IfErr result (λ e. e ≡ EntryFault.NotSealed
+            → ∥ HasAllEntries (reads_by self.new) (text_of self.new) (given_of self.new) ∥₁) }
         ensures ends { result ≡ Ok false → (reader_ended self.new ≡ true) × (given_of self.new ≡ given_of self.old) }
         ensures ended { reader_ended self.old ≡ true → (result ≡ Ok false) × (self.new ≡ self.old) }
         ensures only_failed { reader_failed self.old ≡ false → IfErr result (λ e. e ≢ EntryFault.Failed) }
@@ -321,13 +322,15 @@ impl<R: Read + Drop> EntryReader<R> {
         ensures kept { OnErr result (given_of self.new ≡ given_of self.old) }
         ensures text { (text_of self.new ≡ text_of self.old) × (reads_by self.new ≡ reads_by self.old) }
 
-        // Where the reader tells its bytes, the entries given are at the end all of the text.
+        // At the end the entries given are all of the text, and at a seal that does not close it, all above the seal.
         ensures all { result ≡ Ok None
-            → ∥ IfSome (text_of self.new) (λ text. HasEntries (reads_by self.new) text (given_of self.new)) ∥₁ }
+            → ∥ HasEntries (reads_by self.new) (text_of self.new) (given_of self.new) ∥₁ }
         ensures many { IfErr result (λ e. e ≡ EntryFault.TooManyRecords → (length (given_of self.old) ≡ record_limit)
             × ∥ IfSome (text_of self.new) (λ text. HasTooMany (reads_by self.new) text) ∥₁) }
         ensures not_sealed { IfErr result (λ e. e ≡ EntryFault.NotSealed → ((reads_by self.new).form ≡ Form.Sealed)
             × ∥ IfSome (text_of self.new) (λ text. IsNotSealed (reads_by self.new) text) ∥₁) }
+        ensures above { IfErr result (λ e. e ≡ EntryFault.NotSealed
+            → ∥ HasAllEntries (reads_by self.new) (text_of self.new) (given_of self.new) ∥₁) }
 
         // None comes only at the end, gives nothing, and comes again.
         ensures ends { result ≡ Ok None → (reader_ended self.new ≡ true) × (given_of self.new ≡ given_of self.old) }

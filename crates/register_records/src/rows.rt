@@ -69,10 +69,11 @@ impl Row {
         ensures row { IsRowOf (targets_of setup.now) (entry_seen entry.now) (row_seen self.new) }
     {
         let outcome = day_of_body(entry.body());
+        self.answer
+            .renew(&self.targets, self.outcome, setup, outcome);
         self.entry = *entry;
         self.outcome = outcome;
         self.targets = setup.target_list();
-        self.answer.set(setup.targets(), outcome, setup.delimiter());
     }
 
     /// The entry.

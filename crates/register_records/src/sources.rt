@@ -4,9 +4,10 @@ ghost use Rattle.std.specs.Prelude.{◌≡◌, ◌≢◌, ◌≤◌, ◌⊎◌, 
 ghost use Rattle.std.specs.Prelude.{IfSome, IsSome, IfOk, IfErr, OnOk, Ok};
 ghost use Rattle.std.specs.Io.KnownBytes.{Appends};
 ghost use Rattle.register_records.specs.Conversions.{AreReady, ContinuesTable, IsReady};
-ghost use Rattle.register_records.specs.Entries.{HasEntries, HasNoHeader, HasTooMany, IsNotSealed, record_limit};
+ghost use Rattle.register_records.specs.Entries.{HasAllEntries, HasEntries, HasNoHeader, HasTooMany, IsNotSealed};
+ghost use Rattle.register_records.specs.Entries.{record_limit};
 ghost use Rattle.register_records.specs.Sources.{ArePartOfTable, Gains, IfBroken, IfWhole, IsFrontOfTable};
-ghost use Rattle.register_records.specs.Sources.{IsWholeTable, cause_number, is_whole_end};
+ghost use Rattle.register_records.specs.Sources.{IsTableOfAll, IsWholeTable, cause_number, is_whole_end};
 ghost use Rattle.register_records.specs.Tables.{heading_line, refusal_notes};
 ghost use Rattle.register_records.specs.declared.setups.Form.TheVariants.{Sealed};
 ghost use Rattle.register_records.specs.Views.{format_of, given_of, layout_of, line_of, row_seen, text_of};
@@ -168,21 +169,22 @@ fn convert_next<R: Read + Drop, W: Output>(
 
     // At the end nothing is written, and the entries given are all of the text.
     ensures end { result ≡ Ok None → (output.new ≡ output.old) × (journal.new ≡ journal.old)
-        × ∥ IfSome (text_of entries.old) (λ text. HasEntries (format_of setup.now) text (given_of entries.old)) ∥₁ }
+        × ∥ HasEntries (format_of setup.now) (text_of entries.old) (given_of entries.old) ∥₁ }
 
     ensures kept { IfErr result (λ c. (c ≢ Cause.SinkFault) → output.new ≡ output.old) }
     ensures sink { IfErr result (λ c. c ≡ Cause.SinkFault → W.has_failed output.new ≡ true) }
     ensures many { IfErr result (λ c. c ≡ Cause.TooManyRecords → (length (given_of entries.old) ≡ record_limit)
         × ∥ IfSome (text_of entries.old) (λ text. HasTooMany (format_of setup.now) text) ∥₁) }
     ensures not_sealed { IfErr result (λ c. c ≡ Cause.NotSealed → (setup.now.form ≡ Sealed)
-        × ∥ IfSome (text_of entries.old) (λ text. IsNotSealed (format_of setup.now) text) ∥₁) }
+        × ∥ IfSome (text_of entries.old) (λ text. IsNotSealed (format_of setup.now) text) ∥₁
+        × ∥ HasAllEntries (format_of setup.now) (text_of entries.old) (given_of entries.old) ∥₁) }
     ensures never { IfErr result (λ c. (c ≢ Cause.NoThread) × (c ≢ Cause.Unconfirmed) × (c ≢ Cause.BadHeader)) }
     ensures mark { W.own_mark output.new ≡ W.own_mark output.old }
 {
     let answer = entries.read_next(&mut row.entry);
     // Whatever was read, also at the end, a row is by its type that of its entry.
     let outcome = day_of_body(row.entry.body());
-    row.answer.set(setup.targets(), outcome, setup.delimiter());
+    row.answer.renew(&row.targets, row.outcome, setup, outcome);
     row.outcome = outcome;
     row.targets = setup.target_list();
     match answer {
@@ -224,8 +226,11 @@ fn convert_entries<R: Read + Drop, W: Output>(
         → ∥ IfSome (text_of entries.old) (λ text. HasTooMany (format_of setup.now) text) ∥₁
         × ∥ Gains begun (W.contents output.new)
         (IsFrontOfTable (layout_of setup.now) (text_of entries.old) record_limit) ∥₁) }
-    ensures not_sealed { IfBroken result (λ c. c ≡ Cause.NotSealed → (setup.now.form ≡ Sealed)
-        × ∥ IfSome (text_of entries.old) (λ text. IsNotSealed (format_of setup.now) text) ∥₁) }
+    ensures not_sealed { (begun : Option (List ℕ))
+        → Appends begun (W.contents output.old) (heading_line (layout_of setup.now))
+        → IfBroken result (λ c. c ≡ Cause.NotSealed → (setup.now.form ≡ Sealed)
+        × ∥ IfSome (text_of entries.old) (λ text. IsNotSealed (format_of setup.now) text) ∥₁
+        × ∥ Gains begun (W.contents output.new) (IsTableOfAll (layout_of setup.now) (text_of entries.old)) ∥₁) }
     ensures never { IfBroken result (λ c. (c ≢ Cause.NoThread) × (c ≢ Cause.Unconfirmed) × (c ≢ Cause.BadHeader)) }
     ensures sink { IfBroken result (λ c. c ≡ Cause.SinkFault → W.has_failed output.new ≡ true) }
     ensures kept { IfBroken result (λ c. (c ≢ Cause.SinkFault) → W.has_failed output.new ≡ W.has_failed output.old) }
@@ -273,8 +278,8 @@ pub fn convert_source<R: Read + Drop, W: Output>(
     output: &mut W,
     setup: &Setup,
 ) -> SourceEnd
-    // The output has gained the table, and nothing else; where the reader tells its bytes, these are
-    // accepted and the table is theirs.
+    // The output has gained the table, and nothing else. The text is accepted and the table is its own; where the
+    // reader does not tell its bytes, they are some that would be accepted.
     ensures whole { IfWhole result (λ rows refused journal. ∥ Gains (W.contents output.old) (W.contents output.new)
         (IsWholeTable (layout_of setup.now) (R.remaining reader) rows refused journal) ∥₁) }
     ensures numbers { IfWhole result (λ rows refused journal.
@@ -291,9 +296,12 @@ pub fn convert_source<R: Read + Drop, W: Output>(
         → ∥ IfSome (R.remaining reader) (λ text. HasTooMany (format_of setup.now) text) ∥₁
         × ∥ Gains (W.contents output.old) (W.contents output.new)
         (IsFrontOfTable (layout_of setup.now) (R.remaining reader) record_limit) ∥₁) }
-    // The text is sealed, but its seal is missing or does not agree, or a record follows it.
+    // The text is sealed, but its seal is missing or does not agree, or a record follows it. All the records above the
+    // seal were converted.
     ensures not_sealed { IfBroken result (λ c. c ≡ Cause.NotSealed → (setup.now.form ≡ Sealed)
-        × ∥ IfSome (R.remaining reader) (λ text. IsNotSealed (format_of setup.now) text) ∥₁) }
+        × ∥ IfSome (R.remaining reader) (λ text. IsNotSealed (format_of setup.now) text) ∥₁
+        × ∥ Gains (W.contents output.old) (W.contents output.new)
+        (IsTableOfAll (layout_of setup.now) (R.remaining reader)) ∥₁) }
     ensures never { IfBroken result (λ c. (c ≢ Cause.NoThread) × (c ≢ Cause.Unconfirmed)) }
 
     // The output has failed exactly where it had failed before or is the cause.

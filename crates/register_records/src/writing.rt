@@ -4,8 +4,7 @@ ghost use Rattle.std.specs.Prelude.{◌≡◌, ◌≢◌, ◌≤◌, ◌+◌, �
 ghost use Rattle.std.specs.Prelude.{Ok, Err, if◌then◌else◌, is_err};
 ghost use Rattle.std.specs.Io.KnownBytes.{Appends};
 ghost use Rattle.register_records.specs.LineViews.{line_capacity};
-ghost use Rattle.register_records.specs.declared.row_lines.TheConstants.{LINE_ROOM};
-ghost use Rattle.register_records.specs.declared.writing.TheConstants.{MOST_WAITING, ROOM};
+ghost use Rattle.register_records.specs.declared.writing.TheConstants.{ROOM};
 
 use crate::csv_lines::Lines;
 use crate::outputs::{Output, send};
@@ -103,17 +102,17 @@ impl RowWriter {
     ///
     /// # Errors
     ///
-    /// `OutOfMemory`, which never comes where at most `MOST_WAITING` bytes of lines wait, and `Failed` after a fault;
+    /// `OutOfMemory`, which never comes where at most 16 KiB of lines wait, `MOST_WAITING`, and `Failed` after a fault;
     /// then the same lines wait as before.
     pub fn add(&mut self, row: &Row) -> Result<(), RowFault>
         ensures ok { OnOk result (waiting_in self.new ≡ waiting_in self.old ++ line_of self.old row.now) }
-        ensures short { OnOk result (length (waiting_in self.new) ≤ length (waiting_in self.old) + LINE_ROOM) }
+        ensures short { OnOk result (length (waiting_in self.new) ≤ length (waiting_in self.old) + 1024) }
         ensures kept { OnErr result (waiting_in self.new ≡ waiting_in self.old) }
         ensures by { writes_by self.new ≡ writes_by self.old }
         ensures sunk { writer_sunk self.new ≡ writer_sunk self.old }
         ensures fails { writer_failed self.new ≡ is_err result }
         ensures memory { writer_failed self.old ≡ false → IfErr result (λ e. e ≡ RowFault.OutOfMemory) }
-        ensures roomy { length (waiting_in self.old) ≤ MOST_WAITING → IfErr result (λ e. e ≢ RowFault.OutOfMemory) }
+        ensures roomy { length (waiting_in self.old) ≤ 16384 → IfErr result (λ e. e ≢ RowFault.OutOfMemory) }
         ensures failed { writer_failed self.old ≡ true → (result ≡ Err RowFault.Failed) × (self.new ≡ self.old) }
     {
         let WriterState::Open = self.state else {
@@ -183,7 +182,7 @@ impl RowWriter {
         ensures fails { writer_failed self.new ≡ is_err result }
         ensures memory { IfErr result (λ e. e ≡ RowFault.OutOfMemory → (output.new ≡ output.old)
             × (waiting_in self.new ≡ waiting_in self.old) × (writer_sunk self.new ≡ writer_sunk self.old)) }
-        ensures roomy { length (waiting_in self.old) ≤ MOST_WAITING → IfErr result (λ e. e ≢ RowFault.OutOfMemory) }
+        ensures roomy { length (waiting_in self.old) ≤ 16384 → IfErr result (λ e. e ≢ RowFault.OutOfMemory) }
         ensures fault { IfErr result (λ e. e ≡ RowFault.WriteFault
             → (W.has_failed output.new ≡ true) × (writer_sunk self.new ≡ true)) }
         ensures only_failed { writer_failed self.old ≡ false → IfErr result (λ e. e ≢ RowFault.Failed) }

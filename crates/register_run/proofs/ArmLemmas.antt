@@ -2,13 +2,14 @@
 use Rattle.std.proofs.Common.{◌≡◌, sym, subst, ℕ, zero, suc, ◌<◌, ◌+◌, List, [], ◌∷◌, ◌++◌, inl, inr, set, get_or}
 use Rattle.std.proofs.Common.{length, map, append_assoc, append-nil, arith, refl, true, ap, ◌∙◌}
 use Rattle.std.proofs.Math.Seq.{map-set_same}
-use Rattle.std.specs.Prelude.{◌&&◌, Bool, false, IfSome, None, Option, Some}
+use Rattle.std.specs.Prelude.{◌&&◌, Bool, Err, false, IfSome, None, Option, Some}
 use Rattle.std.specs.List.{AllZip, Contains}
 use Rattle.lane_rings.specs.Items.{entries_in}
 use Rattle.lane_rings.specs.declared.item.Item.TheVariants as item
 use Rattle.lane_rings.specs.declared.sender.Closed.{Closed}
 use Rattle.lane_rings.specs.declared.sender.Sender.{Sender}
 use Rattle.lane_rings.specs.Lane.{HasConfirmation, all_sent, sender_lane, taken}
+use Rattle.date_texts.specs.declared.refusal.Refusal.TheVariants as refusal
 use Rattle.register_records.specs.Entries.{Numbered}
 use Rattle.register_records.specs.Seen.{entry_seen}
 use Rattle.register_records.specs.declared.entries.Entry.{Entry}
@@ -155,3 +156,15 @@ took_given given w i b (arm ∷ arms) (c ∷ closed) row on deals (inl here) =
     took_one given w i b arm c row on.0 deals.0 here
 took_given given w i b (arm ∷ arms) (c ∷ closed) row on deals (inr there) =
     took_given given w (i + 1) b arms closed row on.1 deals.1 there
+
+pub took_dealt : (given : List Numbered) (b : Bool) (arms : List Arm) (closed : List (Closed Entry))
+    → ((w : World) → w.converters ≡ length closed → WereDealt w 0 given closed) → HavePassedOn b arms closed
+    → (row : Row) → AnyTook arms row → IsOfGiven given row
+took_dealt given b arms closed deals on row took =
+    let w : World = record {
+      entries = [];
+      row_of = λ e. record { number = e.number; body = e.body; outcome = Err refusal.NotUtf8; cells = [] };
+      converters = length closed;
+      ring = 1;
+    } in
+    took_given given w 0 b arms closed row on (deals w refl) took

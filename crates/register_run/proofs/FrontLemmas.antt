@@ -1,7 +1,6 @@
 -- Entries that are numbered in order are the first of those among which they stand.
 use Rattle.std.proofs.Common.{◌≡◌, ◌∙◌, ap, refl, sym, subst, ℕ, zero, suc, ◌+◌, ◌≤◌, List, [], ◌∷◌, ◌++◌, length}
-use Rattle.std.proofs.Common.{arith, append_assoc, length-append, append-nil, Option, None, Some}
-use Rattle.std.specs.Prelude.{IfSome}
+use Rattle.std.proofs.Common.{arith, append_assoc, length-append, append-nil, Option}
 use Rattle.std.specs.List.{Contains}
 use Rattle.register_records.specs.Entries.{AreNumberedFrom, Format, HasFirstEntries, Numbered}
 use Rattle.register_records.specs.Seen.{entry_seen}
@@ -60,7 +59,6 @@ pub front_all : (given xs rest : List Numbered) → given ≡ xs ++ rest → len
 front_all given xs rest e len = e ∙ none_more xs rest (sym (ap length e) ∙ len)
 
 pub first_of_first : (format : Format) (text : Option (List ℕ)) (given xs rest : List Numbered) → given ≡ xs ++ rest
-    → IfSome text (λ t. HasFirstEntries format t given) → IfSome text (λ t. HasFirstEntries format t xs)
-first_of_first format None given xs rest e h = h
-first_of_first format (Some t) given xs rest e (after, more, has, is) =
-    (after, rest ++ more, has, is ∙ ap (λ l. l ++ more) e ∙ append_assoc xs rest more)
+    → HasFirstEntries format text given → HasFirstEntries format text xs
+first_of_first format text given xs rest e (more, (after, has, is)) =
+    (rest ++ more, (after, has, sym (append_assoc xs rest more) ∙ (ap (λ l. l ++ more) (sym e) ∙ is)))

@@ -1,9 +1,9 @@
 -- What a reader gave of a text, by how it ended.
-use Rattle.std.proofs.Common.{◌≡◌, ◌⊎◌, ap, subst, refl, ℕ, ◌+◌, List, [], ◌∷◌, ◌++◌, length, Option, inl, inr, arith}
-use Rattle.std.specs.Prelude.{Err, IfSome, Ok}
+use Rattle.std.proofs.Common.{◌≡◌, ◌⊎◌, ◌∙◌, ap, subst, sym, refl, true, ℕ, ◌+◌, List, [], ◌∷◌, ◌++◌, length, Option, inl, inr, arith}
+use Rattle.std.specs.Prelude.{Err, IfSome, Ok, Result}
 use Rattle.std.proofs.Math.Logic.{∥∥₁_elim, ∥∥₁_map, ∥∥₁_prop}
-use Rattle.register_records.specs.Entries.{AreNumberedFrom, Format, HasEntries, HasFirstEntries, HasNoHeader}
-use Rattle.register_records.specs.Entries.{HasTooMany, IsNotSealed, Numbered}
+use Rattle.register_records.specs.Entries.{AreNumberedFrom, Format, HasAllEntries, HasEntries, HasFirstEntries}
+use Rattle.register_records.specs.Entries.{HasNoHeader, HasTooMany, IsNotSealed, Numbered, record_limit}
 use Rattle.register_records.specs.declared.reading.EntryFault.{EntryFault}
 use Rattle.register_records.specs.declared.reading.EntryFault.TheVariants as fault
 use Rattle.register_records.specs.declared.setups.Form.TheVariants.{Sealed}
@@ -14,7 +14,9 @@ use Rattle.register_records.specs.declared.entries.Entry.{Entry}
 use Rattle.register_records.specs.declared.rows.Row.{Row}
 use Rattle.register_run.specs.Carried.{AreDealt}
 use Rattle.register_run.specs.Worlds.{World}
-use Rattle.register_run.specs.Passages.{HasPassed, IsCauseOf, IsGiven, IsOfThreads, Sends, is_of_reading}
+use Rattle.register_run.specs.Passages.{HasPassed, IsCauseOf, IsGiven, IsNotSunk, IsOfThreads, Sends, is_of_reading}
+use Rattle.register_run.specs.Passages.{tells_of_text}
+use Rattle.register_run.specs.declared.reading.Sent.{Sent}
 
 pub numbered_more : (k : ℕ) (given : List Numbered) (n : Numbered) → AreNumberedFrom k given
     → n.number ≡ k + length given → AreNumberedFrom k (given ++ n ∷ [])
@@ -32,28 +34,41 @@ fault_told fault.TooManyRecords c is = (λ e. cc, λ e. refl, λ e. cc)
 fault_told fault.NotSealed c is = (λ e. cc, λ e. cc, λ e. refl)
 fault_told fault.Failed c is = (λ e. cc, λ e. cc, λ e. cc)
 
+-- what was sent, by its parts
+abbrev sent_of : ℕ → Result ℕ Cause → Sent
+sent_of n outcome = record { count = n; outcome = outcome }
+
+made_so : (sent : Sent) (n : ℕ) (outcome : Result ℕ Cause) → sent.count ≡ n → sent.outcome ≡ outcome
+    → sent_of n outcome ≡ sent
+made_so sent n outcome counted why =
+    sym (ap (λ (m : ℕ). sent_of m sent.outcome) counted ∙ ap (λ (o : Result ℕ Cause). sent_of n o) why)
+
 module _ (text : Option (List ℕ)) (format : Format) where
   -- the text was not opened
   pub given_none : (f : EntryFault) (c : Cause) → IsCauseOf f c
       → (f ≡ fault.BadHeader → IfSome text (λ t. HasNoHeader format t)) → (f ≡ fault.TooManyRecords → ⊥)
-      → (f ≡ fault.NotSealed → ⊥)
-      → IsGiven text format (Err c) []
-  given_none f c is bad many unsealed = record {
-    numbered = tt;
-    first = inl refl;
-    all = tt;
-    bad_header = λ e. (refl, bad ((fault_told f c is).0 e));
-    too_many = λ e. absurd (many ((fault_told f c is).1 e));
-    not_sealed = λ e. absurd (unsealed ((fault_told f c is).2 e));
-  }
+      → (f ≡ fault.NotSealed → ⊥) → (sent : Sent) → (sent.count ≡ 0) × (sent.outcome ≡ Err c)
+      → IsGiven text format sent []
+  given_none f c is bad many unsealed sent (none, why) =
+      subst (λ s. IsGiven text format s []) (made_so sent 0 (Err c) none why) (record {
+        counted = λ told. refl;
+        numbered = tt;
+        first = inl refl;
+        all = tt;
+        bad_header = λ e. (refl, bad ((fault_told f c is).0 e));
+        too_many = λ e. absurd (many ((fault_told f c is).1 e));
+        not_sealed = λ e. absurd (unsealed ((fault_told f c is).2 e));
+      })
 
   stopped_so : (f : EntryFault) (c : Cause) (given : List Numbered) → IsCauseOf f c → (f ≡ fault.BadHeader → ⊥)
       → AreNumberedFrom 1 given
-      → IfSome text (λ t. HasFirstEntries format t given)
-      → (f ≡ fault.TooManyRecords → IfSome text (λ t. HasTooMany format t))
-      → (f ≡ fault.NotSealed → (format.form ≡ Sealed) × IfSome text (λ t. IsNotSealed format t))
-      → IsGiven text format (Err c) given
+      → HasFirstEntries format text given
+      → (f ≡ fault.TooManyRecords → (length given ≡ record_limit) × IfSome text (λ t. HasTooMany format t))
+      → (f ≡ fault.NotSealed → (format.form ≡ Sealed) × IfSome text (λ t. IsNotSealed format t)
+      × HasAllEntries format text given)
+      → IsGiven text format (record { count = length given; outcome = Err c }) given
   stopped_so f c given is bad numbered first many unsealed = record {
+    counted = λ told. refl;
     numbered = numbered;
     first = inr first;
     all = tt;
@@ -64,29 +79,34 @@ module _ (text : Option (List ℕ)) (format : Format) where
 
   -- the reading stopped after these entries
   pub given_stopped : (f : EntryFault) (c : Cause) (given : List Numbered) → IsCauseOf f c → (f ≡ fault.BadHeader → ⊥)
-      → (f ≡ fault.TooManyRecords → ∥ IfSome text (λ t. HasTooMany format t) ∥₁)
+      → (f ≡ fault.TooManyRecords → (length given ≡ record_limit) × ∥ IfSome text (λ t. HasTooMany format t) ∥₁)
       → (f ≡ fault.NotSealed → (format.form ≡ Sealed) × ∥ IfSome text (λ t. IsNotSealed format t) ∥₁)
+      → (f ≡ fault.NotSealed → ∥ HasAllEntries format text given ∥₁)
       → AreNumberedFrom 1 given
-      → ∥ IfSome text (λ t. HasFirstEntries format t given) ∥₁ → ∥ IsGiven text format (Err c) given ∥₁
-  given_stopped fault.TooManyRecords c given is bad many unsealed numbered first =
+      → ∥ HasFirstEntries format text given ∥₁
+      → ∥ IsGiven text format (record { count = length given; outcome = Err c }) given ∥₁
+  given_stopped fault.TooManyRecords c given is bad many unsealed above numbered first =
       ∥∥₁_elim first ∥∥₁_prop (λ s.
-      ∥∥₁_map (many refl) (λ m. stopped_so fault.TooManyRecords c given is bad numbered s (λ e. m) (λ e. cc)))
-  given_stopped fault.NotSealed c given is bad many unsealed numbered first =
-      ∥∥₁_elim first ∥∥₁_prop (λ s.
+      ∥∥₁_map (many refl).1 (λ m.
+      stopped_so fault.TooManyRecords c given is bad numbered s (λ e. ((many refl).0, m)) (λ e. cc)))
+  given_stopped fault.NotSealed c given is bad many unsealed above numbered first =
+      ∥∥₁_elim first ∥∥₁_prop (λ s. ∥∥₁_elim (above refl) ∥∥₁_prop (λ a.
       ∥∥₁_map (unsealed refl).1 (λ u.
-      stopped_so fault.NotSealed c given is bad numbered s (λ e. cc) (λ e. ((unsealed refl).0, u))))
-  given_stopped fault.OutOfMemory c given is bad many unsealed numbered first =
+      stopped_so fault.NotSealed c given is bad numbered s (λ e. cc) (λ e. ((unsealed refl).0, u, a)))))
+  given_stopped fault.OutOfMemory c given is bad many unsealed above numbered first =
       ∥∥₁_map first (λ s. stopped_so fault.OutOfMemory c given is bad numbered s (λ e. cc) (λ e. cc))
-  given_stopped fault.ReadFault c given is bad many unsealed numbered first =
+  given_stopped fault.ReadFault c given is bad many unsealed above numbered first =
       ∥∥₁_map first (λ s. stopped_so fault.ReadFault c given is bad numbered s (λ e. cc) (λ e. cc))
-  given_stopped fault.BadHeader c given is bad many unsealed numbered first = absurd (bad refl)
-  given_stopped fault.Failed c given is bad many unsealed numbered first =
+  given_stopped fault.BadHeader c given is bad many unsealed above numbered first = absurd (bad refl)
+  given_stopped fault.Failed c given is bad many unsealed above numbered first =
       ∥∥₁_map first (λ s. stopped_so fault.Failed c given is bad numbered s (λ e. cc) (λ e. cc))
 
   -- a converter was gone after these entries
   pub given_gone : (given : List Numbered) → AreNumberedFrom 1 given
-      → ∥ IfSome text (λ t. HasFirstEntries format t given) ∥₁ → ∥ IsGiven text format (Err cause.Unconfirmed) given ∥₁
-  given_gone given numbered first = ∥∥₁_map first (λ f. record {
+      → ∥ HasFirstEntries format text given ∥₁ → (n : ℕ)
+      → ∥ IsGiven text format (record { count = n; outcome = Err cause.Unconfirmed }) given ∥₁
+  given_gone given numbered first n = ∥∥₁_map first (λ f. record {
+    counted = λ told. cc;
     numbered = numbered;
     first = inr f;
     all = tt;
@@ -97,9 +117,10 @@ module _ (text : Option (List ℕ)) (format : Format) where
 
   -- these are all
   pub given_all : (n : ℕ) (given : List Numbered) → n ≡ length given → AreNumberedFrom 1 given
-      → ∥ IfSome text (λ t. HasFirstEntries format t given) ∥₁ → ∥ IfSome text (λ t. HasEntries format t given) ∥₁
-      → ∥ IsGiven text format (Ok n) given ∥₁
+      → ∥ HasFirstEntries format text given ∥₁ → ∥ HasEntries format text given ∥₁
+      → ∥ IsGiven text format (record { count = n; outcome = Ok n }) given ∥₁
   given_all n given count numbered first all = ∥∥₁_elim first ∥∥₁_prop (λ f. ∥∥₁_map all (λ a. record {
+    counted = λ told. sym count;
     numbered = numbered;
     first = inr f;
     all = (count, a);
@@ -115,36 +136,44 @@ along P text text' d d' e f h = subst (λ t. P t d) e (subst (λ n. P text' n) f
 
 module _ (text text' : Option (List ℕ)) (d d' : Format) (same : text' ≡ text) (by : d' ≡ d) (given old : List Numbered)
     (kept : given ≡ old) (numbered : AreNumberedFrom 1 old)
-    (first : ∥ IfSome text' (λ t. HasFirstEntries d' t given) ∥₁) (senders : List (Sender Entry))
+    (first : ∥ HasFirstEntries d' text' given ∥₁) (senders : List (Sender Entry))
     (deals : (w : World) → w.converters ≡ length senders → AreDealt w 0 old senders) where
-  first' : ∥ IfSome text (λ t. HasFirstEntries d t old) ∥₁
+  first' : ∥ HasFirstEntries d text old ∥₁
   first' =
-      subst (λ g. ∥ IfSome text (λ t. HasFirstEntries d t g) ∥₁) kept
-      (along (λ o n. ∥ IfSome o (λ t. HasFirstEntries n t given) ∥₁) text text' d d' same by first)
+      subst (λ g. ∥ HasFirstEntries d text g ∥₁) kept
+      (along (λ o n. ∥ HasFirstEntries n o given ∥₁) text text' d d' same by first)
 
-  pub sends_all : (n : ℕ) → n ≡ length old → ∥ IfSome text' (λ t. HasEntries d' t given) ∥₁
-      → ∥ Sends text d (Ok n) senders ∥₁
+  pub sends_all : (n : ℕ) → n ≡ length old → ∥ HasEntries d' text' given ∥₁
+      → ∥ Sends text d (record { count = n; outcome = Ok n }) senders ∥₁
   sends_all n count all =
       let all' =
-      subst (λ g. ∥ IfSome text (λ t. HasEntries d t g) ∥₁) kept
-      (along (λ o n. ∥ IfSome o (λ t. HasEntries n t given) ∥₁) text text' d d' same by all) in
+      subst (λ g. ∥ HasEntries d text g ∥₁) kept
+      (along (λ o n. ∥ HasEntries n o given ∥₁) text text' d d' same by all) in
       ∥∥₁_map (given_all text d n old count numbered first' all') (λ is. (old, is, deals))
 
   pub sends_stopped : (f : EntryFault) (c : Cause) → IsCauseOf f c → (f ≡ fault.BadHeader → ⊥)
-      → (f ≡ fault.TooManyRecords → ∥ IfSome text' (λ t. HasTooMany d' t) ∥₁)
+      → (f ≡ fault.TooManyRecords → (length old ≡ record_limit) × ∥ IfSome text' (λ t. HasTooMany d' t) ∥₁)
       → (f ≡ fault.NotSealed → (d'.form ≡ Sealed) × ∥ IfSome text' (λ t. IsNotSealed d' t) ∥₁)
-      → ∥ Sends text d (Err c) senders ∥₁
-  sends_stopped f c is bad many unsealed =
-      let many' =
-      λ (e : f ≡ fault.TooManyRecords).
-      along (λ o n. ∥ IfSome o (λ t. HasTooMany n t) ∥₁) text text' d d' same by (many e) in
+      → (f ≡ fault.NotSealed → ∥ HasAllEntries d' text' given ∥₁) → (sent : Sent)
+      → sent.count ≡ length old → sent.outcome ≡ Err c → ∥ Sends text d sent senders ∥₁
+  sends_stopped f c is bad many unsealed above sent counted why =
+      let many' : f ≡ fault.TooManyRecords → (length old ≡ record_limit) × ∥ IfSome text (λ t. HasTooMany d t) ∥₁ =
+      λ e. let m = many e in
+      (m.0, along (λ o n. ∥ IfSome o (λ t. HasTooMany n t) ∥₁) text text' d d' same by m.1) in
       let unsealed' =
       λ (e : f ≡ fault.NotSealed). along (λ o n. (n.form ≡ Sealed)
       × ∥ IfSome o (λ t. IsNotSealed n t) ∥₁) text text' d d' same by (unsealed e) in
-      ∥∥₁_map (given_stopped text d f c old is bad many' unsealed' numbered first') (λ is'. (old, is', deals))
+      let above' =
+      λ (e : f ≡ fault.NotSealed).
+      subst (λ g. ∥ HasAllEntries d text g ∥₁) kept
+      (along (λ o n. ∥ HasAllEntries n o given ∥₁) text text' d d' same by (above e)) in
+      subst (λ s. ∥ Sends text d s senders ∥₁) (made_so sent (length old) (Err c) counted why)
+      (∥∥₁_map (given_stopped text d f c old is bad many' unsealed' above' numbered first') (λ is'. (old, is', deals)))
 
-  pub sends_gone : ∥ Sends text d (Err cause.Unconfirmed) senders ∥₁
-  sends_gone = ∥∥₁_map (given_gone text d old numbered first') (λ is. (old, is, deals))
+  pub sends_gone : (sent : Sent) → sent.outcome ≡ Err cause.Unconfirmed → ∥ Sends text d sent senders ∥₁
+  sends_gone sent why =
+      subst (λ s. ∥ Sends text d s senders ∥₁) (made_so sent sent.count (Err cause.Unconfirmed) refl why)
+      (∥∥₁_map (given_gone text d old numbered first' sent.count) (λ is. (old, is, deals)))
 
 -- neither running out of memory nor a lane that is not confirmed is given by the reader alone or by the output
 pub of_threads : (c : Cause) → (c ≡ cause.NoMemory) ⊎ (c ≡ cause.Unconfirmed) → IsOfThreads c
@@ -152,6 +181,9 @@ of_threads c (inl e) = (ap is_of_reading e, λ s. cc)
 of_threads c (inr e) = (ap is_of_reading e, λ s. cc)
 
 -- an answer that does not speak of the text says nothing
-pub passed_not : (text : Option (List ℕ)) (d : Format) (c : Cause) (took : Row → Type 0) → IsOfThreads c
-    → HasPassed text d (Err c) took
-passed_not text d c took is = record { not_sunk = is.1; rows = λ told. absurd (let k = is.0 in cc) }
+pub passed_not : (text : Option (List ℕ)) (d : Format) (sent : Sent) (c : Cause) (took : Row → Type 0)
+    → sent.outcome ≡ Err c → IsOfThreads c → HasPassed text d sent took
+passed_not text d sent c took why is = record {
+  not_sunk = subst IsNotSunk (sym why) is.1;
+  rows = λ told. absurd (let k = is.0 in let t : is_of_reading c ≡ true = sym (ap tells_of_text why) ∙ told in cc);
+}

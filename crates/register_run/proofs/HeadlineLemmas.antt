@@ -19,9 +19,10 @@ use Rattle.register_run.specs.declared.settling.Settled.{Settled}
 use Rattle.register_run.specs.declared.stations.Station.{Station}
 use Rattle.register_run.specs.Cases.{Case, case, cases, end_of, ended_case, output_of, ran_of}
 use Rattle.register_run.specs.Headline.{AtEachPlace, IsSettled}
-use Rattle.register_run.specs.Histories.{AreOfMachine, IsOfMachine}
+use Rattle.register_run.specs.Histories.{AreOfMachine, IsMachineWithTable}
 use Rattle.register_run.specs.Reports.{IsReport, arms_of}
 use Rattle.register_run.specs.Stations.{case_of}
+use Rattle.register_run.specs.Threads.{AreThreads, AreThreadsOf}
 
 module _ {R W : Type 0} {o : outputs.Ghosts W} where
   -- one more station
@@ -120,13 +121,23 @@ module _ {R W : Type 0} {r : reads.Ghosts R} {o : outputs.Ghosts W} (setup : Set
         ap (λ s. s ∷ map (λ ran. ran.setup.value) (map ran_of rest)) (ap (λ (k : Case R W). k.setup) first)
         ∙ ap (λ ss. setup ∷ ss) others) all sources given len is
 
-    pub of_machine : AreOfMachine r.remaining setup sources (map end_of all) (map arms_in (map ran_of all))
+    pub of_machine : AreOfMachine r o setup sources given (map output_of all) (map end_of all)
+        (map arms_in (map ran_of all))
     of_machine =
         at_each (λ all sources given.
-        AreOfMachine r.remaining setup sources (map end_of all) (map arms_in (map ran_of all))) tt
+        AreOfMachine r o setup sources given (map output_of all) (map end_of all) (map arms_in (map ran_of all))) tt
         (λ one x y rest xs ys first others. (
           subst (λ (k : Case R W). ∥ IfWhole one.end (λ count refused journal.
-              IsOfMachine (r.remaining k.source) k.setup count (arms_in one.ran)) ∥₁) first one.machine,
+              IsMachineWithTable (r.remaining k.source) k.setup (o.contents k.output) (o.contents one.output) count
+              (arms_in one.ran)) ∥₁) first one.machine,
+          others,
+        )) all sources given len is
+
+    threads_kept : AreThreads setup (map end_of all) (map ran_of all)
+    threads_kept =
+        at_each (λ all sources given. AreThreads setup (map end_of all) (map ran_of all)) tt
+        (λ one x y rest xs ys first others. (
+          subst (λ (k : Case R W). ∥ AreThreadsOf k.setup one.end one.ran ∥₁) first one.threads,
           others,
         )) all sources given len is
 
@@ -143,7 +154,15 @@ module _ {R W : Type 0} {r : reads.Ghosts R} {o : outputs.Ghosts W} (setup : Set
           verdict = verdict;
         }
 
-        pub report_of_machine : AreOfMachine r.remaining setup sources report.ends.items (arms_of report)
-        report_of_machine =
-            subst (λ es. AreOfMachine r.remaining setup sources es (arms_of report)) (sym ends)
-            (subst (λ rs. AreOfMachine r.remaining setup sources (map end_of all) (map arms_in rs)) (sym by) of_machine)
+        pub report_of_machine : report.outputs.items ≡ map output_of all
+            → AreOfMachine r o setup sources given report.outputs.items report.ends.items (arms_of report)
+        report_of_machine wrote =
+            subst (λ ws. AreOfMachine r o setup sources given ws report.ends.items (arms_of report)) (sym wrote)
+            (subst (λ es. AreOfMachine r o setup sources given (map output_of all) es (arms_of report)) (sym ends)
+            (subst (λ rs. AreOfMachine r o setup sources given (map output_of all) (map end_of all) (map arms_in rs))
+            (sym by) of_machine))
+
+        pub report_of_threads : AreThreads setup report.ends.items report.ran.items
+        report_of_threads =
+            subst (λ es. AreThreads setup es report.ran.items) (sym ends)
+            (subst (λ rs. AreThreads setup (map end_of all) rs) (sym by) threads_kept)

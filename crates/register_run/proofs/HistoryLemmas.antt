@@ -19,13 +19,13 @@ use Rattle.striped_lanes.specs.Places.{table_rows}
 use Rattle.striped_lanes.specs.Schedules.{run}
 use Rattle.striped_lanes.proofs.OneByOneLemmas.{all_entries, all_popped, all_rows, one_by_one}
 use Rattle.striped_lanes.proofs.PartLemmas.{part}
-use Rattle.register_run.specs.Arms.{HasPassedOn, HavePassedOn, arm_setup, feeding_lane}
+use Rattle.register_run.specs.Arms.{AnyTook, HasPassedOn, HavePassedOn, arm_setup, feeding_lane}
 use Rattle.register_run.specs.Carried.{WereDealt, dealt}
-use Rattle.register_run.specs.Histories.{HaveHistories, IsOfMachine}
+use Rattle.register_run.specs.Histories.{Carries, HaveHistories}
 use Rattle.register_run.specs.Passages.{AreOfLanes, HasSent}
 use Rattle.register_run.specs.Worlds.{World}
 use Rattle.register_run.specs.declared.arms.Arm.{Arm}
-use Rattle.register_run.proofs.ArmLemmas.{and_left}
+use Rattle.register_run.proofs.ArmLemmas.{and_left, took_dealt}
 
 -- what is dealt by numbers is what is dealt by places
 dealt_part : (w : World) (j k : ℕ) (entries : List Numbered) → AreNumberedFrom (k + 1) entries
@@ -75,29 +75,32 @@ some_room setup =
     let least = leb-true 1 setup.ring (and_left (nat_le 1 setup.ring) (nat_le setup.ring largest_ring) setup.rings) in
     omega (arith, least)
 
-staff : (setup : Setup) (arms : List Arm) → map arm_setup arms ≡ replicate setup.stripes setup
+pub staff : (setup : Setup) (arms : List Arm) → map arm_setup arms ≡ replicate setup.stripes setup
     → length arms ≡ setup.stripes
 staff setup arms staffed =
     sym (length-map arms arm_setup) ∙ ap length staffed ∙ length-replicate setup.stripes setup
 
 -- threads that ended with a count
 pub joined_of_machine : (text : Option (List ℕ)) (setup : Setup) (arms : List Arm) (closed : List (Closed Entry))
-    (outcome : Result ℕ Cause) (ended told : Bool) → beq ended told ≡ true → told ≡ is_ok outcome
+    (n : ℕ) (outcome : Result ℕ Cause) (ended told : Bool) → beq ended told ≡ true → told ≡ is_ok outcome
     → map arm_setup arms ≡ replicate setup.stripes setup → AreOfLanes (map feeding_lane arms) closed
-    → ∥ HasSent text (format_of setup) outcome closed ∥₁ → HavePassedOn ended arms closed
-    → IfOk outcome (λ count. ∥ IsOfMachine text setup count arms ∥₁)
-joined_of_machine text setup arms closed (Err cause) ended told same is staffed from sent on = tt
-joined_of_machine text setup arms closed (Ok count) true told same is staffed from sent on =
-    ∥∥₁_map sent (λ (given, so, deals). record {
-      given = given;
-      closed = closed;
-      counted = sym so.all.0;
-      numbered = so.numbered;
-      entries = so.all.1;
-      staffed = staffed;
-      lanes = from;
-      schedule = of_machine given setup.stripes setup.ring arms closed (some_room setup) (staff setup arms staffed)
-          so.numbered on deals;
-    })
-joined_of_machine text setup arms closed (Ok count) false true same is staffed from sent on = cc
-joined_of_machine text setup arms closed (Ok count) false false same is staffed from sent on = cc
+    → ∥ HasSent text (format_of setup) (record { count = n; outcome = outcome }) closed ∥₁ → HavePassedOn ended arms closed
+    → IfOk outcome (λ count. ∥ Carries text setup count arms (AnyTook arms) ∥₁)
+joined_of_machine text setup arms closed n (Err cause) ended told same is staffed from sent on = tt
+joined_of_machine text setup arms closed n (Ok count) true told same is staffed from sent on =
+    ∥∥₁_map sent (λ (given, so, deals). (
+      record {
+        given = given;
+        closed = closed;
+        counted = sym so.all.0;
+        numbered = so.numbered;
+        entries = so.all.1;
+        staffed = staffed;
+        lanes = from;
+        schedule = of_machine given setup.stripes setup.ring arms closed (some_room setup) (staff setup arms staffed)
+            so.numbered on deals;
+      },
+      took_dealt given true arms closed deals on,
+    ))
+joined_of_machine text setup arms closed n (Ok count) false true same is staffed from sent on = cc
+joined_of_machine text setup arms closed n (Ok count) false false same is staffed from sent on = cc

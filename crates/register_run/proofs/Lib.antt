@@ -7,6 +7,7 @@
 --   TableLemmas, StationLemmas, SettledLemmas: what is known of one source and its output; the fields of `IsWhole` and
 --     `IsBroken`.
 --   HeadlineLemmas: from there to the clauses `report` and `machine` of `run` and `run_gated`.
+--   ThreadLemmas: that each source had an arm for each stripe, with lanes of the setup's ring; the clause `threads`.
 --   ScheduleLemmas: the law `every_schedule`, from that of the machine in striped_lanes.
 pub mod ArmLemmas
 pub mod CarriedLemmas
@@ -22,5 +23,6 @@ pub mod PassageLemmas
 pub mod SettledLemmas
 pub mod StationLemmas
 pub mod TableLemmas
+pub mod ThreadLemmas
 pub mod ScheduleLemmas
 pub mod HistoryLemmas

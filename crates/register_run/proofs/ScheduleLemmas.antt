@@ -1,18 +1,19 @@
 -- The law of the machine, for the worlds of texts: their entries are numbered from 1, and their rows as their entries.
 use Rattle.std.proofs.Common.{◌≡◌, ◌+◌, ◌*◌, ◌≤◌, ℕ, List, [], ◌∷◌, Bool, true, false, length, map, refl}
-use Rattle.std.specs.Prelude.{if◌then◌else◌, nat_lt}
+use Rattle.std.specs.Prelude.{Option, if◌then◌else◌, nat_lt}
 use Rattle.date_texts.specs.declared.calendar.Target.{Target}
 use Rattle.striped_lanes.specs.Machine.{Actor, start}
 use Rattle.striped_lanes.specs.Places.{AreNumberedFrom, ArePoppedInOrder, KeepNumbers}
 use Rattle.striped_lanes.specs.Schedules.{AtMostChange, run, standing}
 use Rattle.striped_lanes.proofs.NumberLemmas.{numbered_front}
+use Rattle.striped_lanes.proofs.EndLemmas as ends
 use Rattle.striped_lanes.proofs.ScheduleLemmas as machine
 use Rattle.register_records.specs.Entries.{Fields, Format, HasFirstEntries, Numbered, body_of, entries_from}
 use Rattle.register_records.specs.Entries.{record_limit}
 use Rattle.register_records.specs.Outcomes.{AreRowsOf}
 use Rattle.register_records.specs.Seals.{entry_records}
 use Rattle.register_records.specs.declared.setups.Form.{Form}
-use Rattle.register_run.specs.EveryScheduleLaw.{EachStandsOnce, GoesOn, IsWorldOf}
+use Rattle.register_run.specs.EveryScheduleLaw.{EachStandsOnce, Ends, GoesOn, IsWorldOf}
 use Rattle.register_run.specs.Worlds.{World, numbers}
 
 numbered_if : (b : Bool) (k : ℕ) (x : Numbered) (entries : List Numbered) → x.number ≡ k
@@ -29,17 +30,18 @@ entries_numbered form k (r ∷ records) =
     numbered_if (nat_lt k record_limit) (k + 1) (record { number = k + 1; body = body_of form r })
     (entries_from form (k + 1) records) refl (entries_numbered form (k + 1) records)
 
-first_entries_numbered : (format : Format) (text : List ℕ) (entries : List Numbered)
+first_entries_numbered : (format : Format) (text : Option (List ℕ)) (entries : List Numbered)
     → HasFirstEntries format text entries → AreNumberedFrom numbers 1 entries
-first_entries_numbered format text entries (records, rest, has, are) =
-    numbered_front numbers 1 entries rest (rw are at (entries_numbered format.form 0 (entry_records format.form records)))
+first_entries_numbered format text entries (rest, (records, has, are)) =
+    numbered_front numbers 1 entries rest
+    (rw (← are) at (entries_numbered format.form 0 (entry_records format.form records)))
 
 rows_keep_numbers : (targets : List Target) (w : World) (entries : List Numbered)
     → AreRowsOf targets entries (map w.row_of entries) → KeepNumbers numbers w entries
 rows_keep_numbers targets w [] h = tt
 rows_keep_numbers targets w (x ∷ entries) h = (h.0.number, rows_keep_numbers targets w entries h.1)
 
-module _ (format : Format) (targets : List Target) (text : List ℕ) (w : World) (schedule : List Actor)
+module _ (format : Format) (targets : List Target) (text : Option (List ℕ)) (w : World) (schedule : List Actor)
     (h : IsWorldOf format targets text w) where
   numbered : AreNumberedFrom numbers 1 w.entries
   numbered = first_entries_numbered format text w.entries h.entries
@@ -61,3 +63,6 @@ module _ (format : Format) (targets : List Target) (text : List ℕ) (w : World)
 
   pub next_goes_on : GoesOn w (run w schedule start)
   next_goes_on = machine.next_goes_on numbers w h.some_converters h.some_room numbered same_numbers schedule
+
+  pub all_ends : Ends w schedule (run w schedule start)
+  all_ends = ends.ends numbers w h.some_converters h.some_room numbered same_numbers schedule

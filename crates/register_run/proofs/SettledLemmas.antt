@@ -5,6 +5,7 @@ use Rattle.std.specs.Prelude.{Err, IfErr, IfOk, IfSome, Ok, Result}
 use Rattle.std.specs.Option.{is_some}
 use Rattle.std.specs.List.{Contains, range_with_len}
 use Rattle.std.specs.Io.KnownBytes.{Appends, append_known}
+use Rattle.std.proofs.lemmas.Bool.{cases_eq}
 use Rattle.std.proofs.lemmas.List.{length-map}
 use Rattle.std.proofs.lemmas.List.Elements.{All-contains, All-from_recursion, Contains-append_right}
 use Rattle.std.proofs.Props.{props}
@@ -19,18 +20,24 @@ use Rattle.register_records.specs.declared.sources.Note.{Note}
 use Rattle.register_records.specs.declared.sources.SourceEnd.{SourceEnd}
 use Rattle.register_records.specs.declared.sources.SourceEnd.TheVariants as end
 use Rattle.register_records.specs.declared.writing.RowWriter.{RowWriter}
-use Rattle.register_records.specs.Entries.{AreNumberedFrom, HasEntries, HasFirstEntries, HasNoHeader}
-use Rattle.register_records.specs.Entries.{HasTooMany, IsNotSealed, Numbered}
+use Rattle.register_records.specs.Entries.{AreNumberedFrom, HasAllEntries, HasEntries, HasFirstEntries, HasNoHeader}
+use Rattle.register_records.specs.Entries.{HasTooMany, IsNotSealed, Numbered, record_limit}
 use Rattle.register_records.specs.Outcomes.{AreRowsOf, IsRowOf}
 use Rattle.register_records.specs.Seen.{entry_seen}
-use Rattle.register_records.specs.Sources.{ArePartOfTable, Gains, IfBroken, IfWhole, IsTableOf, cause_number}
+use Rattle.register_records.specs.Sources.{ArePartOfTable, Gains, IfBroken, IfWhole, IsFrontOfTable, IsTableOf}
+use Rattle.register_records.specs.Sources.{cause_number}
 use Rattle.register_records.specs.Tables.{Layout, table_text}
 use Rattle.register_records.specs.Views.{format_of, layout_of, row_seen, row_targets, waiting_in}
+use Rattle.register_records.proofs.SomeRecordsLemmas.{front_of_some}
+use Rattle.register_run.specs.declared.arms.Arm.{Arm}
+use Rattle.register_run.specs.declared.reading.Sent.{Sent}
 use Rattle.register_run.specs.declared.settling.Course.{Course}
 use Rattle.register_run.specs.declared.settling.Course.TheVariants as course
+use Rattle.register_run.specs.declared.settling.Met.{Met}
 use Rattle.register_run.specs.declared.tables.Table.{Table}
 use Rattle.register_run.specs.Courses.{Differs, IsLowest, IsMet, fault_of, is_of_table, is_sunk}
-use Rattle.register_run.specs.Headline.{IsSettled, causes_of_reading}
+use Rattle.register_run.specs.Headline.{IsAllOfTable, IsSettled, causes_of_reading}
+use Rattle.register_run.specs.Histories.{Carries, IsMachineWithTable}
 use Rattle.register_run.specs.Passages.{HasPassed, IsGiven, IsNotSunk, IsOfGiven, is_of_reading, tells_of_text}
 use Rattle.register_run.specs.TablesWritten.{AllSent, Holds, Stands, entries_seen, rows_seen, waiting_of}
 use Rattle.register_run.proofs.FrontLemmas.{first_of_first, front_all, rows_front}
@@ -113,53 +120,60 @@ low cause.BadHeader e = cc
 low cause.TooManyRecords e = cc
 low cause.NotSealed e = cc
 
-module _ (passed : Result ℕ Cause) (fault : Option Cause) (headed : Bool) (count : ℕ) (c : Cause)
-    (of_table : IfSome fault (λ f. is_of_table f ≡ true)) where
+module _ (met : Met) (c : Cause) (of_table : IfSome met.fault (λ f. is_of_table f ≡ true)) where
   -- a cause that no table gives is the answer of the threads
-  met_by_threads : is_of_table c ≡ false → IsMet passed fault headed count c → passed ≡ Err c
+  met_by_threads : is_of_table c ≡ false → IsMet met c → met.sent.outcome ≡ Err c
   met_by_threads other (inl told) = told
   met_by_threads other (inr (inl broke)) =
       absurd (let k = subst (λ f. IfSome f (λ d. is_of_table d ≡ true)) broke of_table in cc)
   met_by_threads other (inr (inr differs)) = absurd (let k = ap is_of_table differs.0 in cc)
 
-  sink_met : IsNotSunk passed → IsMet passed fault headed count c → c ≡ cause.SinkFault → fault ≡ Some cause.SinkFault
+  sink_met : IsNotSunk met.sent.outcome → IsMet met c → c ≡ cause.SinkFault → met.fault ≡ Some cause.SinkFault
   sink_met dry (inl told) e = absurd (subst IsNotSunk told dry e)
   sink_met dry (inr (inl broke)) e = broke ∙ ap Some e
   sink_met dry (inr (inr differs)) e = absurd (let k = differs.0 in cc)
 
-  module _ (lowest : IsLowest (IsMet passed fault headed count) c) (reading : is_of_reading c ≡ true) where
+  module _ (lowest : IsLowest (IsMet met) c) (reading : is_of_reading c ≡ true) where
     not_of_table : (d : Cause) → is_of_table d ≡ true → cause_number c ≤ cause_number d → ⊥
     not_of_table d of below = let a = high c reading in let b = low d of in omega (arith, a, b, below)
 
-    none_broke : (f : Option Cause) → fault ≡ f → f ≡ None
+    none_broke : (f : Option Cause) → met.fault ≡ f → f ≡ None
     none_broke None e = refl
     none_broke (Some d) e = absurd (not_of_table d
         (subst (λ f. IfSome f (λ d. is_of_table d ≡ true)) e of_table) (lowest.1 d (inr (inl e))))
 
-    reading_met : (passed ≡ Err c) × (fault ≡ None) × (headed ≡ true → count ≢ 0)
-    reading_met =
-        let told = met_by_threads (not_true (is_of_table c) (λ of. not_of_table c of (omega arith))) lowest.0 in
-        let none = none_broke fault refl in (
-          told,
-          none,
-          λ head zero.
-              let differs = subst (λ p. Differs p headed count) (sym told) (head, zero) in
-              not_of_table cause.Unconfirmed refl (lowest.1 cause.Unconfirmed (inr (inr (refl, none, differs)))),
-        )
+    read_told : met.sent.outcome ≡ Err c
+    read_told = met_by_threads (not_true (is_of_table c) (λ of. not_of_table c of (omega arith))) lowest.0
+
+    unmet : Differs (Err c) met.sent.count met.headed met.rows → ⊥
+    unmet differs =
+        not_of_table cause.Unconfirmed refl (lowest.1 cause.Unconfirmed (inr (inr (
+          refl,
+          none_broke met.fault refl,
+          subst (λ p. Differs p met.sent.count met.headed met.rows) (sym read_told) differs,
+        ))))
+
+    all_written : met.rows ≡ met.sent.count
+    all_written = elim (cases_eq met.rows met.sent.count) [ inl e ↦ e | inr n ↦ absurd (unmet (inl n)) ]
+
+    reading_met : (met.sent.outcome ≡ Err c) × (met.fault ≡ None) × (met.headed ≡ true → met.rows ≢ 0)
+        × (met.rows ≡ met.sent.count)
+    reading_met = (read_told, none_broke met.fault refl, λ head zero. unmet (inr (head, zero)), all_written)
 
 -- cause 2 is the answer of the threads
-pub thread_told : (passed : Result ℕ Cause) (fault : Option Cause) (headed : Bool) (count : ℕ)
-    → IfSome fault (λ f. is_of_table f ≡ true) → (e : SourceEnd)
-    → IfBroken e (IsLowest (IsMet passed fault headed count)) → e ≡ end.Broken cause.NoThread
-    → passed ≡ Err cause.NoThread
-thread_told passed fault headed count of_table e lowest is =
-    met_by_threads passed fault headed count cause.NoThread of_table refl
-    (subst (λ b. IfBroken b (IsLowest (IsMet passed fault headed count))) is lowest).0
+pub thread_told : (met : Met) → IfSome met.fault (λ f. is_of_table f ≡ true) → (e : SourceEnd)
+    → IfBroken e (IsLowest (IsMet met)) → e ≡ end.Broken cause.NoThread → met.sent.outcome ≡ Err cause.NoThread
+thread_told met of_table e lowest is =
+    met_by_threads met cause.NoThread of_table refl (subst (λ b. IfBroken b (IsLowest (IsMet met))) is lowest).0
 
 module _ {W : Type 0} (o : outputs.Ghosts W) (text : Option (List ℕ)) (table : Table W o) (rows : List Row)
-    (passed : Result ℕ Cause) (holds : Holds table rows) (sent : AllSent table)
+    (passed : Sent) (holds : Holds table rows) (sent : AllSent table)
     (has : HasPassed text (format_of table.setup) passed (λ row. Contains rows row)) (headed : Bool)
     (is_headed : headed ≡ is_some table.writer) where
+  -- what was met of the source
+  abbrev met : Met
+  met = record { sent = passed; fault = fault_of table.course; headed = headed; rows = table.rows }
+
   entries_len : length (entries_seen rows) ≡ table.rows
   entries_len = length-map rows (λ (row : Row). entry_seen row.entry) ∙ holds.counted
 
@@ -191,10 +205,7 @@ module _ {W : Type 0} (o : outputs.Ghosts W) (text : Option (List ℕ)) (table :
   )
   in_order_so true b dry are = (
     table_text (layout_of table.setup) (rows_seen rows),
-    inr (
-      length (rows_seen rows),
-      record { entries = entries_seen rows; rows = rows_seen rows; table = table_is are; counted = refl; first = tt },
-    ),
+    inr (length (rows_seen rows), front_of_some (layout_of table.setup) rows holds.numbered are),
     (written dry b).0,
   )
 
@@ -211,7 +222,7 @@ module _ {W : Type 0} (o : outputs.Ghosts W) (text : Option (List ℕ)) (table :
         let n = ap length (sym taken_front.1 ∙ e) in let l = entries_len in
         omega (arith, length-append (entries_seen rows) taken_front.0)
 
-    first_so : table.rows ≢ 0 → IfSome text (λ t. HasFirstEntries (format_of table.setup) t (entries_seen rows))
+    first_so : table.rows ≢ 0 → HasFirstEntries (format_of table.setup) text (entries_seen rows)
     first_so some = elim is.first [
       | inl e ↦ absurd (some (none_given e))
       | inr f ↦ first_of_first (format_of table.setup) text given (entries_seen rows) taken_front.0 taken_front.1 f
@@ -241,13 +252,57 @@ module _ {W : Type 0} (o : outputs.Ghosts W) (text : Option (List ℕ)) (table :
       (written dry b).0,
     )
 
+  -- rows were written behind a heading
+  headed_so : (b : Bool) → is_some table.writer ≡ b → is_sunk table.course ≡ false → table.rows ≢ 0
+      → is_some table.writer ≡ true
+  headed_so true b dry some = b
+  headed_so false b dry some =
+      absurd (some (let none : length rows ≡ 0 = ap length (unwritten dry b).1 in let h = holds.counted in omega arith))
+
+  -- as many rows were written as there may be
+  most_so : length rows ≡ record_limit → is_sunk table.course ≡ false
+      → HasFirstEntries (format_of table.setup) text (entries_seen rows)
+      → AreRowsOf (layout_of table.setup).targets (entries_seen rows) (rows_seen rows)
+      → Gains (o.contents table.given.value) (o.contents table.output)
+      (IsFrontOfTable (layout_of table.setup) text record_limit)
+  most_so most dry first are =
+      let some : table.rows ≢ 0 = λ zero. let h = holds.counted in omega (arith, most, h, zero) in (
+        table_text (layout_of table.setup) (rows_seen rows),
+        record {
+          entries = entries_seen rows;
+          rows = rows_seen rows;
+          table = table_is are;
+          counted = sym most ∙ sym (length-map rows row_seen);
+          first = first;
+        },
+        (written dry (headed_so (is_some table.writer) refl dry some)).0,
+      )
+
+  -- the rows of all entries were written
+  all_so : (b : Bool) → is_some table.writer ≡ b → is_sunk table.course ≡ false
+      → HasAllEntries (format_of table.setup) text (entries_seen rows)
+      → AreRowsOf (layout_of table.setup).targets (entries_seen rows) (rows_seen rows)
+      → Gains (o.contents table.given.value) (o.contents table.output) (IsAllOfTable (layout_of table.setup) text)
+  all_so false b dry all are = (
+    [],
+    inl (refl, subst (λ rs. HasAllEntries (format_of table.setup) text (entries_seen rs)) (unwritten dry b).1 all),
+    appends_nothing (o.contents table.given.value) (o.contents table.output)
+        (ap o.contents (unwritten dry b).0),
+  )
+  all_so true b dry all are = (
+    table_text (layout_of table.setup) (rows_seen rows),
+    inr (record { entries = entries_seen rows; rows = rows_seen rows; table = table_is are; all = all }),
+    (written dry b).0,
+  )
+
   reading_so : (c : Cause) → is_of_reading c ≡ true
-      → (passed ≡ Err c) × (fault_of table.course ≡ None) × (headed ≡ true → table.rows ≢ 0)
+      → (passed.outcome ≡ Err c) × (fault_of table.course ≡ None) × (headed ≡ true → table.rows ≢ 0)
+      × (table.rows ≡ passed.count)
       → ∥ IsSettled o (layout_of table.setup) text table.given.value table.output
       (end.Broken c) ∥₁
   reading_so c reading fact =
       let dry = faultless table.course fact.1 in
-      let told : tells_of_text passed ≡ true = ap tells_of_text fact.0 ∙ reading in
+      let told : tells_of_text passed.outcome ≡ true = ap tells_of_text fact.0 ∙ reading in
       ∥∥₁_elim (has.rows told) ∥∥₁_prop
       (λ (given, is, all). ∥∥₁_map (rows_are (layout_of table.setup).targets rows holds.targets) (λ are.
       let bad =
@@ -255,15 +310,29 @@ module _ {W : Type 0} (o : outputs.Ghosts W) (text : Option (List ℕ)) (table :
       → (given ≡ []) × IfSome text (λ t. HasNoHeader (format_of table.setup) t))) fact.0 is.bad_header in
       let many =
       subst (λ p. IfErr p (λ d. d ≡ cause.TooManyRecords
-      → IfSome text (λ t. HasTooMany (format_of table.setup) t))) fact.0 is.too_many in
+      → (length given ≡ record_limit) × IfSome text (λ t. HasTooMany (format_of table.setup) t))) fact.0 is.too_many in
       let unsealed =
       subst (λ p. IfErr p (λ d. d ≡ cause.NotSealed
-      → (table.setup.form ≡ Sealed)
-      × IfSome text (λ t. IsNotSealed (format_of table.setup) t))) fact.0 is.not_sealed in record {
+      → (table.setup.form ≡ Sealed) × IfSome text (λ t. IsNotSealed (format_of table.setup) t)
+      × HasAllEntries (format_of table.setup) text given)) fact.0 is.not_sealed in
+      let front = taken_front given is all in
+      let long : length given ≡ table.rows = is.counted told ∙ sym fact.3 in
+      let same : given ≡ entries_seen rows =
+      front_all given (entries_seen rows) front.0 front.1 (long ∙ sym entries_len) in record {
         part = λ e. part_so given is all (is_some table.writer) refl dry fact.2 are;
         bad_header = λ e. (bad e).1;
-        too_many = many;
-        not_sealed = unsealed;
+        too_many = λ e.
+            let most : table.rows ≡ record_limit = sym long ∙ (many e).0 in (
+              (many e).1,
+              most_so (holds.counted ∙ most) dry (first_so given is all (λ zero. omega (arith, most, zero))) are,
+            );
+        not_sealed = λ e.
+            let u = unsealed e in (
+              u.0,
+              u.1,
+              all_so (is_some table.writer) refl dry
+                  (subst (λ es. HasAllEntries (format_of table.setup) text es) same u.2) are,
+            );
         in_order = λ good. in_order_so (is_some table.writer) refl dry are;
         sink = λ e. absurd (let k : is_of_reading c ≡ false = ap is_of_reading e in cc);
         kept = λ e. table.good dry;
@@ -284,7 +353,8 @@ module _ {W : Type 0} (o : outputs.Ghosts W) (text : Option (List ℕ)) (table :
   })
 
   broken_so : (b : Bool) (c : Cause) → is_of_reading c ≡ b
-      → (is_of_reading c ≡ true → (passed ≡ Err c) × (fault_of table.course ≡ None) × (headed ≡ true → table.rows ≢ 0))
+      → (is_of_reading c ≡ true → (passed.outcome ≡ Err c) × (fault_of table.course ≡ None)
+      × (headed ≡ true → table.rows ≢ 0) × (table.rows ≡ passed.count))
       → (c ≡ cause.SinkFault → fault_of table.course ≡ Some cause.SinkFault)
       → ∥ IsSettled o (layout_of table.setup) text table.given.value table.output
       (end.Broken c) ∥₁
@@ -293,14 +363,14 @@ module _ {W : Type 0} (o : outputs.Ghosts W) (text : Option (List ℕ)) (table :
 
   -- a source with another header has no table
   pub headless : (e : SourceEnd)
-      → IfBroken e (IsLowest (IsMet passed (fault_of table.course) headed table.rows))
+      → IfBroken e (IsLowest (IsMet met))
       → e ≡ end.Broken cause.BadHeader → (is_some table.writer ≡ false) × (is_sunk table.course ≡ false)
   headless (end.Whole count refused journal) lowest is = absurd (cc)
   headless (end.Broken c) lowest is =
       let same : c ≡ cause.BadHeader = cc in
       let fact =
-      reading_met passed (fault_of table.course) headed table.rows c table.of_table lowest (ap is_of_reading same) in
-      let told : tells_of_text passed ≡ true = ap tells_of_text fact.0 ∙ ap is_of_reading same in (
+      reading_met met c table.of_table lowest (ap is_of_reading same) in
+      let told : tells_of_text passed.outcome ≡ true = ap tells_of_text fact.0 ∙ ap is_of_reading same in (
         not_true (is_some table.writer) (λ some. ∥∥₁_elim (has.rows told) (Prim.hlevel props) (λ (given, so, all).
             let bad =
             subst (λ p. IfErr p (λ d. d ≡ cause.BadHeader
@@ -310,23 +380,22 @@ module _ {W : Type 0} (o : outputs.Ghosts W) (text : Option (List ℕ)) (table :
       )
 
   pub settled : (e : SourceEnd)
-      → IfWhole e (λ count refused notes. (passed ≡ Ok count) × (fault_of table.course ≡ None) × (headed ≡ true)
+      → IfWhole e (λ count refused notes. (passed.outcome ≡ Ok count) × (fault_of table.course ≡ None) × (headed ≡ true)
       × (count ≡ table.rows) × (refused ≡ length notes) × (notes ≡ table.journal.items))
-      → IfBroken e (IsLowest (IsMet passed (fault_of table.course) headed table.rows))
+      → IfBroken e (IsLowest (IsMet met))
       → ∥ IsSettled o
       (layout_of table.setup) text table.given.value table.output e ∥₁
   settled (end.Broken c) whole lowest =
-      let fault = fault_of table.course in
-      broken_so (is_of_reading c) c refl (reading_met passed fault headed table.rows c table.of_table lowest)
-      (sink_met passed fault headed table.rows c table.of_table has.not_sunk lowest.0)
+      broken_so (is_of_reading c) c refl (reading_met met c table.of_table lowest)
+      (sink_met met c table.of_table has.not_sunk lowest.0)
   settled (end.Whole count refused journal) whole lowest =
       let dry = faultless table.course whole.1 in
-      let told : tells_of_text passed ≡ true = ap tells_of_text whole.0 in
+      let told : tells_of_text passed.outcome ≡ true = ap tells_of_text whole.0 in
       ∥∥₁_elim (has.rows told) ∥∥₁_prop
       (λ (given, is, all). ∥∥₁_map (rows_are (layout_of table.setup).targets rows holds.targets) (λ are.
       let ended =
       subst (λ p. IfOk p (λ n. (n ≡ length given)
-      × IfSome text (λ t. HasEntries (format_of table.setup) t given))) whole.0 is.all in
+      × HasEntries (format_of table.setup) text given)) whole.0 is.all in
       let front = taken_front given is all in
       let len : length given ≡ length (entries_seen rows) = sym ended.0 ∙ whole.3 ∙ sym entries_len in
       let same = front_all given (entries_seen rows) front.0 front.1 len in
@@ -340,7 +409,7 @@ module _ {W : Type 0} (o : outputs.Ghosts W) (text : Option (List ℕ)) (table :
             counted = whole.3 ∙ sym holds.counted ∙ sym (length-map rows row_seen);
             noted = whole.5 ∙ holds.noted;
             refused_counted = whole.4;
-            accepted = subst (λ g. IfSome text (λ t. HasEntries (format_of table.setup) t g)) same ended.1;
+            accepted = subst (λ g. HasEntries (format_of table.setup) text g) same ended.1;
           },
           bytes.0,
         );
@@ -348,12 +417,28 @@ module _ {W : Type 0} (o : outputs.Ghosts W) (text : Option (List ℕ)) (table :
         good = table.good dry;
       }))
 
--- what holds of the answer of the threads holds of the count of a source that is whole
-pub whole_counts : (P : ℕ → Type 0) (passed : Result ℕ Cause) (fault : Option Cause) (headed : Bool) (rows : ℕ)
-    (journal : List Note) (e : SourceEnd)
-    → IfWhole e (λ count refused notes. (passed ≡ Ok count) × (fault ≡ None) × (headed ≡ true)
-    × (count ≡ rows) × (refused ≡ length notes) × (notes ≡ journal))
-    → IfOk passed (λ count. ∥ P count ∥₁) → ∥ IfWhole e (λ count refused notes. P count) ∥₁
-whole_counts P passed fault headed rows journal (end.Whole count refused notes) is h =
-    subst (λ r. IfOk r (λ n. ∥ P n ∥₁)) is.0 h
-whole_counts P passed fault headed rows journal (end.Broken c) is h = ∣ tt ∣₁
+  -- the table of a source that is whole is that of the machine's entries
+  pub with_table : (arms : List Arm)
+      → IfOk passed.outcome (λ count. ∥ Carries text table.setup count arms (λ row. Contains rows row) ∥₁) → (e : SourceEnd)
+      → IfWhole e (λ count refused notes. (passed.outcome ≡ Ok count) × (fault_of table.course ≡ None) × (headed ≡ true)
+      × (count ≡ table.rows) × (refused ≡ length notes) × (notes ≡ table.journal.items))
+      → ∥ IfWhole e (λ count refused notes.
+      IsMachineWithTable text table.setup (o.contents table.given.value) (o.contents table.output) count arms) ∥₁
+  with_table arms carries (end.Broken c) whole = ∣ tt ∣₁
+  with_table arms carries (end.Whole count refused journal) whole =
+      let carried =
+      subst (λ p. IfOk p (λ n. ∥ Carries text table.setup n arms (λ row. Contains rows row) ∥₁)) whole.0 carries in
+      ∥∥₁_elim carried ∥∥₁_prop
+      (λ (machine, all). ∥∥₁_map (rows_are (layout_of table.setup).targets rows holds.targets) (λ are.
+      let front = rows_front machine.given rows machine.numbered holds.numbered all in
+      let len : length machine.given ≡ length (entries_seen rows) = machine.counted ∙ whole.3 ∙ sym entries_len in
+      let same = front_all machine.given (entries_seen rows) front.0 front.1 len in (
+        machine,
+        rows_seen rows,
+        (
+          table_text (layout_of table.setup) (rows_seen rows),
+          subst (λ es. IsTableOf (layout_of table.setup) es (rows_seen rows)
+              (table_text (layout_of table.setup) (rows_seen rows))) (sym same) (table_is are),
+          (written (faultless table.course whole.1) (sym is_headed ∙ whole.2)).0,
+        ),
+      )))

@@ -1,10 +1,11 @@
--- How far a table goes on, and for which cause a source breaks off. No public contract cites this file.
-use Rattle.std.specs.Prelude.{◌≡◌, ◌≤◌, ◌⊎◌, ℕ, Bool, false, true, Option, None, Some, Result, Ok, Err}
+-- How far a table goes on, and for which cause a source breaks off.
+use Rattle.std.specs.Prelude.{◌≡◌, ◌≢◌, ◌≤◌, ◌⊎◌, ℕ, Bool, false, true, Option, None, Some, Result, Ok, Err}
 use Rattle.register_records.specs.Sources.{cause_number}
 use Rattle.register_records.specs.declared.sources.Cause.{Cause}
 use Rattle.register_records.specs.declared.sources.Cause.TheVariants as cause
 use Rattle.register_run.specs.declared.settling.Course.{Course}
 use Rattle.register_run.specs.declared.settling.Course.TheVariants as course
+use Rattle.register_run.specs.declared.settling.Met.{Met}
 
 -- the output failed
 abbrev pub is_sunk : Course → Bool
@@ -25,16 +26,17 @@ is_of_table cause.Unconfirmed = true
 is_of_table cause.SinkFault = true
 is_of_table cause = false
 
--- what was written is not what the threads answered: not all rows with the heading, or the heading without a row though
--- they gave up
-abbrev pub Differs : Result ℕ Cause → Bool → ℕ → Type 0
-Differs (Ok count) headed rows = (headed ≡ true) × (rows ≡ count) → ⊥
-Differs (Err c) headed rows = (headed ≡ true) × (rows ≡ 0)
+-- what was written is not what the threads answered: not all rows with the heading; or where they gave up, not the rows
+-- of all entries that were read until then, or the heading without a row
+abbrev pub Differs : Result ℕ Cause → ℕ → Bool → ℕ → Type 0
+Differs (Ok count) read headed rows = (headed ≡ true) × (rows ≡ count) → ⊥
+Differs (Err c) read headed rows = (rows ≢ read) ⊎ ((headed ≡ true) × (rows ≡ 0))
 
 -- a source has met this cause: its threads answered it, its table broke off for it, or the table did not and differs
-abbrev pub IsMet : Result ℕ Cause → Option Cause → Bool → ℕ → Cause → Type 0
-IsMet passed fault headed rows c =
-    (passed ≡ Err c) ⊎ (fault ≡ Some c) ⊎ ((c ≡ cause.Unconfirmed) × (fault ≡ None) × Differs passed headed rows)
+abbrev pub IsMet : Met → Cause → Type 0
+IsMet met c =
+    (met.sent.outcome ≡ Err c) ⊎ (met.fault ≡ Some c)
+    ⊎ ((c ≡ cause.Unconfirmed) × (met.fault ≡ None) × Differs met.sent.outcome met.sent.count met.headed met.rows)
 
 -- the lowest of these causes
 abbrev pub IsLowest : (Cause → Type 0) → Cause → Type 0

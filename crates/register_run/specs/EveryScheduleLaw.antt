@@ -1,9 +1,9 @@
 -- The law of every schedule: what holds of the machine's state after any schedule.
-use Rattle.std.specs.Prelude.{ℕ, ◌≤◌, List}
+use Rattle.std.specs.Prelude.{◌≡◌, ◌*◌, ℕ, ◌≤◌, List, Option, length}
 use Rattle.striped_lanes.specs.Machine.{Actor, start}
 use Rattle.striped_lanes.specs.Places as places
 use Rattle.striped_lanes.specs.Places.{table_rows}
-use Rattle.striped_lanes.specs.Schedules.{run}
+use Rattle.striped_lanes.specs.Schedules.{HasRounds, run}
 use Rattle.date_texts.specs.declared.calendar.Target.{Target}
 use Rattle.register_records.specs.Entries.{Format, HasFirstEntries}
 use Rattle.register_records.specs.Outcomes.{AreRowsOf}
@@ -17,16 +17,20 @@ EachStandsOnce w s = places.EachStandsOnce numbers w s
 abbrev pub GoesOn : World → State → Type 0
 GoesOn w s = places.GoesOn numbers w s
 
--- a world of a text: its entries, or the first of them, and the row of each of them; there is a converter at least,
--- and a lane holds an item at least
-pub record IsWorldOf (format : Format) (targets : List Target) (text : List ℕ) (w : World) : Type 0 where
+-- a world of a text, which may be unknown: its entries, or the first of them, and the row of each of them; there is a
+-- converter at least, and a lane holds an item at least
+pub record IsWorldOf (format : Format) (targets : List Target) (text : Option (List ℕ)) (w : World) : Type 0 where
   pub entries : HasFirstEntries format text w.entries
   pub rows : AreRowsOf targets w.entries (table_rows w)
   pub some_converters : 1 ≤ w.converters
   pub some_room : 1 ≤ w.ring
 
+-- after 4 n rounds, where there are n entries, all rows are popped
+abbrev pub Ends : World → List Actor → State → Type 0
+Ends w schedule s = HasRounds w (4 * length w.entries) schedule → s.popped ≡ table_rows w
+
 -- what holds after every schedule, in every world of every text: of the world, the schedule and the state after it
 abbrev pub AfterEverySchedule : (World → List Actor → State → Type 0) → Type 0
 AfterEverySchedule Holds =
-    (format : Format) (targets : List Target) (text : List ℕ) (w : World) (schedule : List Actor)
+    (format : Format) (targets : List Target) (text : Option (List ℕ)) (w : World) (schedule : List Actor)
     → IsWorldOf format targets text w → Holds w schedule (run w schedule start)

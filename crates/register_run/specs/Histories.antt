@@ -1,16 +1,20 @@
 -- That the lanes of a source carried what goes over the lanes of the machine of striped lanes.
-use Rattle.std.specs.Prelude.{◌≡◌, ◌+◌, ⊤, ℕ, List, [], ◌∷◌, IfSome, Option, length, map, replicate}
+use Rattle.std.specs.Prelude.{◌≡◌, ◌+◌, ⊤, ℕ, List, [], ◌∷◌, Option, length, map, replicate}
 use Rattle.lane_rings.specs.declared.sender.Closed.{Closed}
 use Rattle.lane_rings.specs.Lane.{HasConfirmation, all_sent, taken}
+use Rattle.std.specs.declared.io.traits.Read as reads
 use Rattle.register_records.specs.Entries.{AreNumberedFrom, HasEntries, Numbered}
-use Rattle.register_records.specs.Sources.{IfWhole}
-use Rattle.register_records.specs.Views.{format_of}
+use Rattle.register_records.specs.Outcomes.{TableRow}
+use Rattle.register_records.specs.Sources.{Gains, IfWhole, IsTableOf}
+use Rattle.register_records.specs.Views.{format_of, layout_of}
+use Rattle.register_records.specs.declared.outputs.Output as outputs
 use Rattle.register_records.specs.declared.entries.Entry.{Entry}
+use Rattle.register_records.specs.declared.rows.Row.{Row}
 use Rattle.register_records.specs.declared.setups.Setup.{Setup}
 use Rattle.register_records.specs.declared.sources.SourceEnd.{SourceEnd}
 use Rattle.register_run.specs.Arms.{arm_setup, feeding_lane}
 use Rattle.register_run.specs.Carried.{carried, rows_carried}
-use Rattle.register_run.specs.Passages.{AreOfLanes}
+use Rattle.register_run.specs.Passages.{AreOfLanes, IsOfGiven}
 use Rattle.register_run.specs.Worlds.{World}
 use Rattle.striped_lanes.specs.Histories.{entries_over, rows_over}
 use Rattle.striped_lanes.specs.Machine.{Actor, start}
@@ -37,18 +41,30 @@ pub record IsOfMachine (text : Option (List ℕ)) (setup : Setup) (count : ℕ) 
   pub closed : List (Closed Entry)
   pub counted : length given ≡ count
   pub numbered : AreNumberedFrom 1 given
-  pub entries : IfSome text (λ t. HasEntries (format_of setup) t given)
+  pub entries : HasEntries (format_of setup) text given
   pub staffed : map arm_setup arms ≡ replicate setup.stripes setup
   pub lanes : AreOfLanes (map feeding_lane arms) closed
   pub schedule : (w : World) → w.entries ≡ given → w.converters ≡ setup.stripes → w.ring ≡ setup.ring
       → (schedule : List Actor) × ((run w schedule start).popped ≡ table_rows w)
       × HaveHistories w schedule 0 arms closed
 
--- there are arms for each source, and where it is whole, they are of the machine
-abbrev pub AreOfMachine : {R : Type 0} → (R → Option (List ℕ)) → Setup → List R → List SourceEnd → List (List Arm)
-    → Type 0
-AreOfMachine remaining setup [] [] [] = ⊤
-AreOfMachine remaining setup (source ∷ sources) (end ∷ ends) (arms ∷ rest) =
-    ∥ IfWhole end (λ count refused journal. IsOfMachine (remaining source) setup count arms) ∥₁
-    × AreOfMachine remaining setup sources ends rest
-AreOfMachine remaining setup sources ends all = ⊥
+-- the same, and each row that was taken is of one of its entries
+abbrev pub Carries : Option (List ℕ) → Setup → ℕ → List Arm → (Row → Type 0) → Type 0
+Carries text setup count arms took =
+    (machine : IsOfMachine text setup count arms) × ((row : Row) → took row → IsOfGiven machine.given row)
+
+-- the machine, and the output has gained the table of its entries
+abbrev pub IsMachineWithTable : Option (List ℕ) → Setup → Option (List ℕ) → Option (List ℕ) → ℕ → List Arm → Type 0
+IsMachineWithTable text setup old new count arms =
+    (machine : IsOfMachine text setup count arms) × (rows : List TableRow)
+    × Gains old new (IsTableOf (layout_of setup) machine.given rows)
+
+-- there are arms for each source, and where it is whole, they are of the machine, with its table
+abbrev pub AreOfMachine : {R W : Type 0} → reads.Ghosts R → outputs.Ghosts W → Setup → List R → List W → List W
+    → List SourceEnd → List (List Arm) → Type 0
+AreOfMachine r o setup [] [] [] [] [] = ⊤
+AreOfMachine r o setup (source ∷ sources) (before ∷ given) (after ∷ written) (end ∷ ends) (arms ∷ rest) =
+    ∥ IfWhole end (λ count refused journal.
+    IsMachineWithTable (r.remaining source) setup (o.contents before) (o.contents after) count arms) ∥₁
+    × AreOfMachine r o setup sources given written ends rest
+AreOfMachine r o setup sources given written ends all = ⊥

@@ -9,6 +9,7 @@ pub mod Written
 pub mod Headline
 pub mod Cases
 pub mod Stations
+pub mod Threads
 pub mod Reports
 pub mod Worlds
 pub mod EveryScheduleLaw

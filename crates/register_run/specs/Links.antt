@@ -1,10 +1,21 @@
 -- What the writer sees of a link. No public contract cites this file.
-use Rattle.std.specs.Prelude.{◌<◌, length}
+use Rattle.std.specs.Prelude.{◌≡◌, ◌<◌, ◌⊎◌, ℕ, List, [], Err, Result, length, map, replicate}
 use Rattle.register_records.specs.declared.rows.Row.{Row}
 use Rattle.register_records.specs.declared.setups.Setup.{Setup}
+use Rattle.register_records.specs.declared.sources.Cause.{Cause}
+use Rattle.register_records.specs.declared.sources.Cause.TheVariants as cause
 use Rattle.register_run.specs.declared.links.Link.{Link}
-use Rattle.register_run.specs.Arms.{AnyTook}
+use Rattle.register_run.specs.Arms.{AnyTook, arm_setup}
+use Rattle.register_run.specs.Passages.{HasStarted}
+use Rattle.register_run.specs.declared.arms.Arm.{Arm}
 use Rattle.register_run.specs.Popped.{HasPopped, IsRowNextAt}
+
+-- the arms of a source whose threads answered so: as many as the setup has stripes, each started by it; or none, where
+-- the threads did not start
+abbrev pub AreStaffed : Setup → Result ℕ Cause → List Arm → Type 0
+AreStaffed setup outcome arms =
+    ((map arm_setup arms ≡ replicate setup.stripes setup) × HasStarted outcome)
+    ⊎ ((arms ≡ []) × ((outcome ≡ Err cause.NoMemory) ⊎ (outcome ≡ Err cause.NoThread)))
 
 module _ {R : Type 0} where
   -- the source that the link was started on

@@ -1,6 +1,6 @@
 //! A converter with its two lanes, as the writer has it, and what a link does with all of them.
 
-ghost use Rattle.std.specs.Prelude.{◌≡◌, ◌<◌, ◌+◌, [], IfOk, IfSome, map, vec_len};
+ghost use Rattle.std.specs.Prelude.{◌≡◌, ◌<◌, ◌+◌, [], Err, IfErr, IfOk, IfSome, Ok, map, vec_len};
 ghost use Rattle.lane_rings.specs.Lane.{lane_capacity, receiver_lane, sender_lane, sent, taken};
 
 use crate::converting::{Converting, convert_entries};
@@ -62,6 +62,21 @@ impl StartFault {
     }
 }
 
+/// The thread that was started.
+///
+/// # Errors
+///
+/// `NoThread` where it was not.
+pub(crate) fn started<H: Drop, E: Drop>(thread: Result<H, E>) -> Result<H, StartFault>
+    ensures ok { IfOk result (λ handle. thread ≡ Ok handle) }
+    ensures no_thread { IfErr thread (λ _. result ≡ Err StartFault.NoThread) }
+{
+    match thread {
+        Ok(handle) => Ok(handle),
+        Err(_) => Err(StartFault::NoThread),
+    }
+}
+
 /// A converter, the lane that it feeds and the one that feeds it.
 #[derive(Drop)]
 pub(crate) struct Arm {
@@ -120,9 +135,7 @@ impl Arm {
                 ensures { IsConverting (receiver_lane entries) (sender_lane row_sender) result }
             { convert_entries(rt, gate, setup, entries, row_sender) },
         );
-        let Ok(worker) = worker else {
-            return Err(StartFault::NoThread);
-        };
+        let worker = started(worker)?;
         let arm = Arm {
             worker,
             rows,

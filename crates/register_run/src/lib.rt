@@ -21,5 +21,5 @@ mod tables;
 mod turns;
 
 pub use gates::{Gate, Open};
-pub use reports::{Report, RunFault, RunFaultKind, Verdict};
+pub use reports::{Ran, Report, RunFault, RunFaultKind, Verdict};
 pub use running::{MAX_SOURCES, run, run_gated};

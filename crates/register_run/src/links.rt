@@ -7,15 +7,15 @@ ghost use Rattle.lane_rings.specs.Lane.{sender_lane, sent};
 ghost use Rattle.register_records.specs.Views.{format_of};
 ghost use Rattle.register_records.specs.declared.sources.Cause.TheVariants as cause;
 ghost use Rattle.register_run.specs.Arms.{AnyTook, IsReaderOf, arm_setup, feeding_lane, start_fault_cause};
-ghost use Rattle.register_run.specs.Histories.{IsOfMachine};
+ghost use Rattle.register_run.specs.Histories.{Carries};
 ghost use Rattle.register_run.specs.Passages.{HasPassed, HasStarted, IsReading};
 ghost use Rattle.register_run.specs.Popped.{AreOpen, IsInTurn, popped};
 ghost use Rattle.register_run.specs.Worlds.{World};
 ghost use Rattle.striped_lanes.specs.Machine.{turn as turn_in};
 
-use crate::arms::{Arm, Found, StartFault};
+use crate::arms::{Arm, Found, StartFault, started};
 use crate::gates::Gate;
-use crate::reading::{ReaderTask, Reading, read_source};
+use crate::reading::{ReaderTask, Reading, Sent, read_source, stopped_after};
 use crate::starting::{Host, Starting};
 use crate::turns::turn_behind;
 use lane_rings::Sender;
@@ -41,18 +41,17 @@ pub(crate) struct Link<R: Read> {
     ghost unstarted: { IfErr reader (λ _. arms.items ≡ []) } by { Prim.hlevel props },
 }
 
-/// What the threads of a source leave: its arms as they were joined, and the number of its entries, or why it is not
-/// known that all of them have passed.
+/// What the threads of a source leave: its arms as they were joined, how many entries were read, and that number again
+/// where they are all, or why it is not known that all of them have passed.
 #[derive(Drop)]
 pub(crate) struct Passage<R> {
     pub(crate) source: Snapshot<R>,
     pub(crate) arms: Snapshot<Vec<Arm>>,
-    pub(crate) outcome: Result<u32, Cause>,
-    pub ghost unstarted: { outcome ≡ Err cause.NoThread → arms.value.items ≡ [] },
+    pub(crate) sent: Sent,
 }
 
 impl<R: Read + Drop> Link<R> {
-    ghost use Rattle.register_run.specs.Links.{HasGiven, IsNext, Passed, started_by, started_on};
+    ghost use Rattle.register_run.specs.Links.{AreStaffed, HasGiven, IsNext, Passed, started_by, started_on};
 
     /// Starts the threads of a source. Where they do not start, the source is dropped and the link has the cause.
     pub(crate) fn start<'s, 'e, T: Host, G: Gate + Sync>(
@@ -151,12 +150,11 @@ impl<R: Read + Drop> Link<R> {
     /// Joins the threads and confirms all lanes.
     pub(crate) fn finish(self, rt: &impl Threads) -> Passage<R>
         ensures source { result.source.value ≡ started_on self }
-        ensures passed { HasPassed (R.remaining (started_on self)) (format_of (started_by self)) result.outcome
+        ensures passed { HasPassed (R.remaining (started_on self)) (format_of (started_by self)) result.sent
             (Passed self) }
-        ensures machine { IfOk result.outcome (λ count.
-            ∥ IsOfMachine (R.remaining (started_on self)) (started_by self) count result.arms.value.items ∥₁) }
-        ensures started { IfOk self.reader (λ _. HasStarted result.outcome) }
-        ensures not_started { IfErr self.reader (λ fault. result.outcome ≡ Err (start_fault_cause fault)) }
+        ensures machine { IfOk result.sent.outcome (λ count.
+            ∥ Carries (R.remaining (started_on self)) (started_by self) count result.arms.value.items (Passed self) ∥₁) }
+        ensures staffed { AreStaffed (started_by self) result.sent.outcome result.arms.value.items }
     {
         let Link {
             source,
@@ -167,14 +165,14 @@ impl<R: Read + Drop> Link<R> {
             stopped: _,
         } = self;
         let joined = Snapshot::of(&arms);
-        let outcome = match reader {
+        let sent = match reader {
             Ok(reader) => join_threads(rt, reader, arms),
-            Err(fault) => Err(fault.cause()),
+            Err(fault) => stopped_after(0, fault.cause()),
         };
         Passage {
             source,
             arms: joined,
-            outcome,
+            sent,
         }
     }
 }
@@ -210,44 +208,40 @@ fn start_threads<'s, 'e, T: Host, R: Read + Send + Drop + 'e, G: Gate + Sync>(
                 (map sender_lane senders.items) result }
         { read_source(rt, alloc, source, setup, senders, closed) },
     );
-    match reader {
+    // Where it did not start, the senders went with its closure, which lets the converters end.
+    match started(reader) {
         Ok(reader) => Ok((reader, arms)),
-        Err(refused) => {
-            // With the closure go the senders, which lets the converters end.
-            drop(refused);
+        Err(fault) => {
             Arm::call_off_all(rt, arms);
-            Err(StartFault::NoThread)
+            Err(fault)
         }
     }
 }
 
-/// Joins the threads of a source and confirms all lanes. The answer is the number of entries of the source.
-///
-/// # Errors
-///
-/// The lowest of the causes that were met: those of reading, and `Unconfirmed` where a lane is not confirmed, or where
-/// the lanes ended otherwise than the reader did.
+/// Joins the threads of a source and confirms all lanes. The answer is what the reader has sent, with the lowest of the
+/// causes that were met: those of reading, and `Unconfirmed` where a lane is not confirmed, or where the lanes ended
+/// otherwise than the reader did.
 fn join_threads<R: Read + Drop>(
     rt: &impl Threads,
     reader: PromisedHandle<Reading, ReaderTask<R>>,
     arms: Vec<Arm>,
-) -> Result<u32, Cause>
+) -> Sent
     requires { IsReaderOf reader.promise.source.value reader.promise.setup.value arms.items reader.promise }
     ensures passed { HasPassed (R.remaining reader.promise.source.value) (format_of reader.promise.setup.value) result
         (AnyTook arms.items) }
-    ensures machine { IfOk result (λ count. ∥ IsOfMachine (R.remaining reader.promise.source.value)
-        reader.promise.setup.value count arms.items ∥₁) }
-    ensures started { HasStarted result }
+    ensures machine { IfOk result.outcome (λ count. ∥ Carries (R.remaining reader.promise.source.value)
+        reader.promise.setup.value count arms.items (AnyTook arms.items) ∥₁) }
+    ensures started { HasStarted result.outcome }
 {
-    let Reading { closed, outcome } = reader.join(rt);
+    let Reading { closed, sent } = reader.join(rt);
     match Arm::join_all(rt, arms, closed) {
         Ok(ended) => {
-            if ended == outcome.is_ok() {
-                return outcome;
+            if ended == sent.outcome.is_ok() {
+                return sent;
             }
-            Err(unconfirmed_or_lower(outcome))
+            stopped_after(sent.count, unconfirmed_or_lower(sent.outcome))
         }
-        Err(_) => Err(unconfirmed_or_lower(outcome)),
+        Err(_) => stopped_after(sent.count, unconfirmed_or_lower(sent.outcome)),
     }
 }
 

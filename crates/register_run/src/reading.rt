@@ -1,6 +1,6 @@
 //! The work of the thread that reads a source.
 
-ghost use Rattle.std.specs.Prelude.{◌≡◌, ◌<◌, ◌≤◌, [], All, map, vec_capacity, vec_len};
+ghost use Rattle.std.specs.Prelude.{◌≡◌, ◌<◌, ◌≤◌, ◌+◌, ◌/◌, ◌%◌, [], All, Err, map, vec_capacity, vec_len};
 ghost use Rattle.std.specs.List.{AllZip};
 ghost use Rattle.lane_rings.specs.Lane.{sender_lane, sent};
 ghost use Rattle.register_records.specs.Views.{format_of};
@@ -17,12 +17,18 @@ use std::sync::Wait;
 use std::thread::Promise;
 use std::time::{Clock, CpuClock};
 
-/// What a reader hands back: what is left of its ends of the lanes, and the number of entries that it sent, or why it
-/// stopped.
+/// How many entries of a source were read, and that number again where they are all, or why no more were read.
+#[derive(Clone, Copy)]
+pub(crate) struct Sent {
+    pub(crate) count: u32,
+    pub(crate) outcome: Result<u32, Cause>,
+}
+
+/// What a reader hands back: what is left of its ends of the lanes, and what it has sent.
 #[derive(Drop)]
 pub(crate) struct Reading {
     pub(crate) closed: Vec<Closed<Entry>>,
-    pub(crate) outcome: Result<u32, Cause>,
+    pub(crate) sent: Sent,
 }
 
 /// What a reader was started with.
@@ -54,9 +60,19 @@ pub(crate) fn read_source<R: Read + Drop>(
     ensures { IsReading (R.remaining source) (format_of setup.now) (map sender_lane senders.items) result }
 {
     let mut senders = senders;
-    let outcome = send_entries(rt, alloc, source, setup, &mut senders);
-    let closed = close_all(rt, senders, closed, outcome);
-    Reading { closed, outcome }
+    let sent = send_entries(rt, alloc, source, setup, &mut senders);
+    let closed = close_all(rt, senders, closed, sent.outcome);
+    Reading { closed, sent }
+}
+
+/// A reader that stopped after so many entries for this cause.
+pub(crate) fn stopped_after(count: u32, cause: Cause) -> Sent
+    ensures { (result.count ≡ count) × (result.outcome ≡ Err cause) }
+{
+    Sent {
+        count,
+        outcome: Err(cause),
+    }
 }
 
 /// The cause that a fault of reading is.
@@ -69,42 +85,43 @@ fn cause_of(fault: EntryFault) -> Cause
     }
 }
 
-/// Sends each entry of a source, the first to the first converter, the next to the next one, and so on by turns. The
-/// answer is the number of entries.
-///
-/// # Errors
-///
-/// The cause of the fault of reading that was met, and `Unconfirmed` where a converter is gone.
+/// Sends each entry of a source, the first to the first converter, the next to the next one, and so on by turns. It
+/// stops for the cause of the fault of reading that was met, and for `Unconfirmed` where a converter is gone.
 fn send_entries<R: Read + Drop>(
     rt: &(impl Wait + Clock + CpuClock),
     alloc: Global,
     source: R,
     setup: &Setup,
     senders: &mut Vec<Sender<Entry>>,
-) -> Result<u32, Cause>
+) -> Sent
     requires some { 0 < vec_len senders.old }
     requires fresh { All (λ s. sent s ≡ []) senders.old.items }
     ensures lanes { map sender_lane senders.new.items ≡ map sender_lane senders.old.items }
-    ensures not_sunk { IsNotSunk result }
-    ensures started { HasStarted result }
+    ensures not_sunk { IsNotSunk result.outcome }
+    ensures started { HasStarted result.outcome }
     ensures sends { ∥ Sends (R.remaining source) (format_of setup.now) result senders.new.items ∥₁ }
 {
     let mut entries = match EntryReader::open(alloc, source, setup) {
         Ok(entries) => entries,
-        Err(fault) => return Err(cause_of(fault)),
+        Err(fault) => return stopped_after(0, cause_of(fault)),
     };
     let mut count = 0;
     for _ in rt.forever() {
         let entry = match entries.next() {
             Ok(Some(entry)) => entry,
-            Ok(None) => return Ok(count),
-            Err(fault) => return Err(cause_of(fault)),
+            Ok(None) => {
+                return Sent {
+                    count,
+                    outcome: Ok(count),
+                };
+            }
+            Err(fault) => return stopped_after(count, cause_of(fault)),
         };
         count = entry.number();
         let turn = turn_after((count - 1) as usize, senders.len());
         let sender = &mut senders[turn];
         if sender.send_copy(rt, &entry).is_err() {
-            return Err(Cause::Unconfirmed);
+            return stopped_after(count, Cause::Unconfirmed);
         }
     }
     unreachable!()
@@ -139,6 +156,8 @@ fn close_all(
 /// How many of so many entries go to the converter with this turn, from 0, among so many converters.
 fn share_of(count: u32, turn: usize, stripes: usize) -> u64
     requires { 0 < stripes }
+    ensures one_more { turn < count % stripes → result ≡ count / stripes + 1 }
+    ensures no_more { count % stripes ≤ turn → result ≡ count / stripes }
 {
     let count = count as usize;
     let one_more = turn < count % stripes;

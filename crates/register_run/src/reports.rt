@@ -3,6 +3,7 @@
 ghost use Rattle.std.specs.Prelude.{◌≡◌};
 
 use crate::arms::Arm;
+use crate::settling::Met;
 use register_records::{Setup, SourceEnd};
 use std::snapshot::Snapshot;
 
@@ -21,15 +22,18 @@ pub struct Report<W> {
     pub outputs: Vec<W>,
     pub ends: Vec<SourceEnd>,
     pub verdict: Verdict,
-    // How the threads of each source ran: only clauses read it.
-    pub(crate) ran: Vec<Ran>,
+    /// How the threads of each source ran, in the order of the sources. Only clauses read it.
+    pub ran: Vec<Ran>,
 }
 
-/// The setup that the threads of a source were started by, and its arms as they were joined. It takes no memory.
+/// How the threads of a source ran: the setup that they were started by, and its converters with their lanes as they
+/// were joined. Only clauses read it, and it takes no memory.
 #[derive(Drop)]
-pub(crate) struct Ran {
+pub struct Ran {
     pub(crate) setup: Snapshot<Setup>,
     pub(crate) arms: Snapshot<Vec<Arm>>,
+    // What its threads and its table met.
+    pub(crate) met: Snapshot<Met>,
 }
 
 /// Why a run did not begin: the first of these that applies.

@@ -7,6 +7,7 @@ ghost use Rattle.register_run.specs.Cases.{cases, end_of, ended_case, output_of,
 ghost use Rattle.register_run.specs.Histories.{AreOfMachine};
 ghost use Rattle.register_run.specs.Reports.{IsReport, arms_of};
 ghost use Rattle.register_run.specs.Stations.{case_of};
+ghost use Rattle.register_run.specs.Threads.{AreThreads};
 
 use crate::gates::{Gate, Open};
 use crate::reports::{Ran, Report, RunFault, RunFaultKind, Verdict};
@@ -220,7 +221,9 @@ fn run_all<'s, 'e, T: Host, R: Read + Send + Drop + 'e, W: Output + Drop, G: Gat
     requires { (vec_len sources ≡ lists.count) × (vec_len outputs ≡ lists.count) }
     ensures report { IsReport R.Read W.Output
         by.now.setup.now sources.items outputs.items result }
-    ensures machine { AreOfMachine R.remaining by.now.setup.now sources.items result.ends.items (arms_of result) }
+    ensures machine { AreOfMachine R.Read W.Output by.now.setup.now sources.items outputs.items result.outputs.items
+        result.ends.items (arms_of result) }
+    ensures threads { AreThreads by.now.setup.now result.ends.items result.ran.items }
 {
     let Lists {
         count: _,
@@ -251,7 +254,9 @@ fn run_in_scope<T: Host, R: Read + Send + Drop, W: Output + Drop, G: Gate + Sync
     requires { (vec_len sources ≡ lists.count) × (vec_len outputs ≡ lists.count) }
     ensures report { IsReport R.Read W.Output
         setup.now sources.items outputs.items result }
-    ensures machine { AreOfMachine R.remaining setup.now sources.items result.ends.items (arms_of result) }
+    ensures machine { AreOfMachine R.Read W.Output setup.now sources.items outputs.items result.outputs.items
+        result.ends.items (arms_of result) }
+    ensures threads { AreThreads setup.now result.ends.items result.ran.items }
 {
     let patience = patience_for(rt, sources.len());
     thread::scope(
@@ -261,7 +266,9 @@ fn run_in_scope<T: Host, R: Read + Send + Drop, W: Output + Drop, G: Gate + Sync
             requires { (vec_len sources ≡ lists.count) × (vec_len outputs ≡ lists.count) }
             ensures { IsReport R.Read W.Output
                 setup.entry.now sources.items outputs.items result
-                × AreOfMachine R.remaining setup.entry.now sources.items result.ends.items (arms_of result) }
+                × AreOfMachine R.Read W.Output setup.entry.now sources.items outputs.items result.outputs.items
+                result.ends.items (arms_of result)
+                × AreThreads setup.entry.now result.ends.items result.ran.items }
         {
             let by = Starting {
                 scope,
@@ -308,16 +315,21 @@ pub fn run_gated<
         setup.now sources.items outputs.items r) }
 
     // The lanes of a source that is whole carried just what the lanes of the machine of striped lanes carry in some
-    // schedule with the entries of its text, for which `laws::every_schedule` says what holds.
+    // schedule with the entries of its text, for which `laws::every_schedule` says what holds; and its table is that of
+    // these entries.
     ensures machine { IfOk result (λ r.
-        AreOfMachine R.remaining setup.now sources.items r.ends.items (arms_of r)) }
+        AreOfMachine R.Read W.Output setup.now sources.items outputs.items r.outputs.items r.ends.items (arms_of r)) }
+
+    // However a source ended, there is an arm for each stripe of the setup, and both its lanes have the setup's ring. No
+    // arm there is only where threads did not start, and that is cause 1 or 2; with cause 2 there is none.
+    ensures threads { IfOk result (λ r. AreThreads setup.now r.ends.items r.ran.items) }
 
     // A run that did not begin.
     ensures unchanged { IfErr result (λ e. (e.sources ≡ sources) × (e.outputs ≡ outputs)) }
     ensures too_many_sources { IsErrAnd result (λ e. e.kind ≡ RunFaultKind.TooManySources)
-        ↔ (MAX_SOURCES < vec_len sources) }
+        ↔ (32 < vec_len sources) }
     ensures output_count { IsErrAnd result (λ e. e.kind ≡ RunFaultKind.OutputCount)
-        ↔ ((vec_len sources ≤ MAX_SOURCES) × (vec_len outputs ≢ vec_len sources)) }
+        ↔ ((vec_len sources ≤ 32) × (vec_len outputs ≢ vec_len sources)) }
 {
     let count = sources.len();
     if count > MAX_SOURCES {
@@ -363,16 +375,21 @@ pub fn run<T: Threads + Wait + Clock + CpuClock + Sync, R: Read + Send + Drop, W
         setup.now sources.items outputs.items r) }
 
     // The lanes of a source that is whole carried just what the lanes of the machine of striped lanes carry in some
-    // schedule with the entries of its text, for which `laws::every_schedule` says what holds.
+    // schedule with the entries of its text, for which `laws::every_schedule` says what holds; and its table is that of
+    // these entries.
     ensures machine { IfOk result (λ r.
-        AreOfMachine R.remaining setup.now sources.items r.ends.items (arms_of r)) }
+        AreOfMachine R.Read W.Output setup.now sources.items outputs.items r.outputs.items r.ends.items (arms_of r)) }
+
+    // However a source ended, there is an arm for each stripe of the setup, and both its lanes have the setup's ring. No
+    // arm there is only where threads did not start, and that is cause 1 or 2; with cause 2 there is none.
+    ensures threads { IfOk result (λ r. AreThreads setup.now r.ends.items r.ran.items) }
 
     // A run that did not begin.
     ensures unchanged { IfErr result (λ e. (e.sources ≡ sources) × (e.outputs ≡ outputs)) }
     ensures too_many_sources { IsErrAnd result (λ e. e.kind ≡ RunFaultKind.TooManySources)
-        ↔ (MAX_SOURCES < vec_len sources) }
+        ↔ (32 < vec_len sources) }
     ensures output_count { IsErrAnd result (λ e. e.kind ≡ RunFaultKind.OutputCount)
-        ↔ ((vec_len sources ≤ MAX_SOURCES) × (vec_len outputs ≢ vec_len sources)) }
+        ↔ ((vec_len sources ≤ 32) × (vec_len outputs ≢ vec_len sources)) }
 {
     run_gated(rt, alloc, sources, outputs, setup, &Open)
 }

@@ -7,8 +7,10 @@ ghost use Rattle.register_records.specs.declared.sources.Cause.TheVariants as ca
 ghost use Rattle.register_records.specs.declared.sources.SourceEnd.TheVariants as ended;
 ghost use Rattle.register_run.specs.Courses.{IsLowest, IsMet, fault_of};
 ghost use Rattle.register_run.specs.Headline.{IsSettled};
-ghost use Rattle.register_run.specs.Histories.{IsOfMachine};
+ghost use Rattle.register_run.specs.Histories.{IsMachineWithTable};
+ghost use Rattle.register_run.specs.Threads.{AreThreadsOf};
 
+use crate::reading::Sent;
 use crate::reports::Ran;
 use register_records::{Cause, Note, Output, SourceEnd};
 use std::io::Read;
@@ -24,12 +26,12 @@ pub(crate) struct Settled<R: Read, W: Output> {
     pub(crate) end: SourceEnd,
     pub ghost marked: { W.own_mark output ≡ W.own_mark given.value },
     pub ghost untouched: { end ≡ ended.Broken cause.BadHeader → output ≡ given.value },
-    // Cause 2 comes only where the threads did not start.
-    pub ghost unstarted: { end ≡ ended.Broken cause.NoThread → ran.arms.value.items ≡ [] },
+    pub ghost threads: { ∥ AreThreadsOf ran.setup.value end ran ∥₁ },
     pub ghost settled: { ∥ IsSettled W.Output (layout_of ran.setup.value)
         (R.remaining source.value) given.value output end ∥₁ },
     pub ghost machine: { ∥ IfWhole end (λ count refused journal.
-        IsOfMachine (R.remaining source.value) ran.setup.value count ran.arms.value.items) ∥₁ },
+        IsMachineWithTable (R.remaining source.value) ran.setup.value (W.contents given.value) (W.contents output) count
+        ran.arms.value.items) ∥₁ },
 }
 
 /// How far the table of a source goes on.
@@ -45,7 +47,7 @@ pub(crate) enum Course {
 
 impl Course {
     /// Why no more is added.
-    fn fault(self) -> Option<Cause>
+    pub(crate) fn fault(self) -> Option<Cause>
         ensures { result ≡ fault_of self }
     {
         match self {
@@ -53,6 +55,16 @@ impl Course {
             Course::Halted(cause) | Course::Sunk(cause) => Some(cause),
         }
     }
+}
+
+/// What was met of a source: what its threads have sent, and of its table why no more was added, whether the heading
+/// was written, and how many rows were.
+#[derive(Clone, Copy)]
+pub(crate) struct Met {
+    pub(crate) sent: Sent,
+    pub(crate) fault: Option<Cause>,
+    pub(crate) headed: bool,
+    pub(crate) rows: u32,
 }
 
 /// The lower of two causes, which is the one that is told.
@@ -67,24 +79,22 @@ pub(crate) fn lower(one: Cause, other: Cause) -> Cause
     }
 }
 
-/// How a source ended: by what its threads answered, by how far its table went on, and by what was written: whether the
-/// heading was, how many rows, and their journal.
-pub(crate) fn end_of_source(
-    passed: Result<u32, Cause>,
-    course: Course,
-    headed: bool,
-    rows: u32,
-    journal: Vec<Note>,
-) -> SourceEnd
-    requires few { vec_len journal ≤ rows }
-    ensures whole { IfWhole result (λ count refused notes. (passed ≡ Ok count) × (fault_of course ≡ None)
-        × (headed ≡ true)
-        × (count ≡ rows)
+/// How a source ended: by what was met of it, and by the journal of the rows that were written.
+pub(crate) fn end_of_source(met: Met, journal: Vec<Note>) -> SourceEnd
+    requires few { vec_len journal ≤ met.rows }
+    ensures whole { IfWhole result (λ count refused notes. (met.sent.outcome ≡ Ok count) × (met.fault ≡ None)
+        × (met.headed ≡ true)
+        × (count ≡ met.rows)
         × (refused ≡ length notes) × (notes ≡ journal.items)) }
-    ensures broken { IfBroken result (IsLowest (IsMet passed (fault_of course) headed rows)) }
+    ensures broken { IfBroken result (IsLowest (IsMet met)) }
 {
-    let fault = course.fault();
-    match passed {
+    let Met {
+        sent,
+        fault,
+        headed,
+        rows,
+    } = met;
+    match sent.outcome {
         Ok(count) => match fault {
             None => {
                 if headed && rows == count {
@@ -101,8 +111,9 @@ pub(crate) fn end_of_source(
         },
         Err(cause) => match fault {
             None => {
-                // A reader that gave up has sent no end, so no heading was written but before a row.
-                if headed && rows == 0 {
+                // A reader that gave up has sent no end, so no heading was written but before a row; and all that it
+                // had sent by then is written.
+                if rows != sent.count || (headed && rows == 0) {
                     return broken(lower(cause, Cause::Unconfirmed));
                 }
                 broken(cause)

@@ -12,7 +12,7 @@ ghost use Rattle.register_run.specs.Courses.{fault_of, is_of_table, is_sunk};
 
 use crate::links::Passage;
 use crate::reports::Ran;
-use crate::settling::{Course, Settled, end_of_source};
+use crate::settling::{Course, Met, Settled, end_of_source};
 use register_records::laws::tables_grow;
 use register_records::{Cause, MOST_WAITING, Note, Output, Row, RowFault, RowWriter, Setup};
 use std::alloc::Global;
@@ -48,7 +48,7 @@ impl<W: Output + Drop> Table<W> {
     ghost use Rattle.register_records.specs.Views.{row_targets, targets_of};
     ghost use Rattle.register_records.specs.declared.rows.Row.{Row};
     ghost use Rattle.std.specs.Prelude.{IfOk};
-    ghost use Rattle.register_run.specs.Histories.{IsOfMachine};
+    ghost use Rattle.register_run.specs.Links.{AreStaffed};
     ghost use Rattle.register_run.specs.TablesWritten.{AllSent, Holds, made_by, made_for};
     ghost use Rattle.register_run.specs.Written.{Concludes};
 
@@ -142,12 +142,13 @@ impl<W: Output + Drop> Table<W> {
         self.rows = row.entry().number();
     }
 
-    /// Writes the lines that wait in one call, where the output has not failed.
+    /// Writes the lines that wait in one call, where the output has not failed. A cause that was met before stays.
     pub(crate) fn send(&mut self)
         ensures output { made_for self.new ≡ made_for self.old }
         ensures setup { made_by self.new ≡ made_by self.old }
         ensures rows { (rows : List Row) → Holds self.old rows → Holds self.new rows }
         ensures sent { AllSent self.new }
+        ensures met { IfSome (fault_of self.old.course) (λ c. fault_of self.new.course ≡ Some c) }
     {
         if let Course::Sunk(_) = self.course {
             return;
@@ -168,18 +169,14 @@ impl<W: Output + Drop> Table<W> {
 
     /// What is left of the source, once its lines are written.
     pub(crate) fn conclude<R: Read + Drop>(self, passage: Passage<R>) -> Settled<R, W>
-        requires passed { ∥ Concludes (R.remaining passage.source.value) self passage.outcome ∥₁ }
-        requires machine { IfOk passage.outcome (λ count. ∥ IsOfMachine (R.remaining passage.source.value)
-            (made_by self) count passage.arms.value.items ∥₁) }
+        requires passed { ∥ Concludes (R.remaining passage.source.value) self passage.sent
+            passage.arms.value.items ∥₁ }
+        requires staffed { AreStaffed (made_by self) passage.sent.outcome passage.arms.value.items }
         ensures source { result.source.value ≡ passage.source.value }
         ensures output { result.given.value ≡ made_for self }
         ensures setup { result.ran.setup.value ≡ made_by self }
     {
-        let Passage {
-            source,
-            arms,
-            outcome,
-        } = passage;
+        let Passage { source, arms, sent } = passage;
         let mut table = self;
         table.send();
         let Table {
@@ -193,11 +190,21 @@ impl<W: Output + Drop> Table<W> {
             course,
         } = table;
         let setup = Snapshot::of(&setup);
-        let end = end_of_source(outcome, course, writer.is_some(), rows, journal);
+        let met = Met {
+            sent,
+            fault: course.fault(),
+            headed: writer.is_some(),
+            rows,
+        };
+        let end = end_of_source(met, journal);
         Settled {
             source,
             given,
-            ran: Ran { setup, arms },
+            ran: Ran {
+                setup,
+                arms,
+                met: Snapshot::of(&met),
+            },
             output,
             end,
         }

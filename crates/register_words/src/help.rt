@@ -56,8 +56,8 @@ Options:
     --delimiter WORD  what stands between two fields, in text and table:
                       comma, semicolon or tab. Without it: comma.
     --sealed          break off where records were lost: the last line is
-                      END,N, with the number N of the records; write it
-                      after the export from a spreadsheet. The header is
+                      END,N, or END;N with semicolons, for N records; write
+                      it after the export from a spreadsheet. The header is
                       id,calendar,date,note, and the table has a column
                       note. Without it: no note and no such line.
     --summary         report on standard error, for each whole table, its
@@ -86,11 +86,11 @@ cause 4 its last line may be cut. Causes:
     4  the table could not be written
     5  the register could not be read
     6  the header is missing or is not id,calendar,date (with --sealed
-       id,calendar,date,note); nothing is written. It may be another
-       delimiter, UTF-16, a title line or more columns.
+       id,calendar,date,note): other names or order, more columns, another
+       delimiter, UTF-16, a title line; nothing is written
     7  there are more than 1,000,000 records; the first 1,000,000 are there
-    8  with --sealed: the last line is not END,N with the right number, or
-       is missing; the records before it are there
+    8  with --sealed: the last line is not END,N with the right number and
+       the delimiter, or is missing; the records before it are there
 
 Example: the text
 

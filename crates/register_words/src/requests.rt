@@ -27,7 +27,7 @@ use std::alloc::{AllocError, Global};
 pub const MAX_FILES: usize = 32;
 
 /// The version of the program.
-pub const VERSION: &str = "1.0.0";
+pub const VERSION: &str = "1.1.0";
 
 /// A conversion that the words ask for.
 #[derive(Drop)]

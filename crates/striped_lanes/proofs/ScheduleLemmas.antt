@@ -12,13 +12,13 @@ use Rattle.striped_lanes.proofs.StateLemmas.{few_standing, popped_in_order, prog
 use Rattle.striped_lanes.proofs.TotalLemmas.{total_zero}
 
 -- a schedule keeps the invariant, and takes entries forward by a place with each act that changes something
-record Went {E R : Type 0} (w : World E R) (schedule : List Actor) (s : State E R) : Type 0 where
+pub record Went {E R : Type 0} (w : World E R) (schedule : List Actor) (s : State E R) : Type 0 where
   pub kept : Kept w (run w schedule s)
   pub count : ℕ
   pub changes : HasChanges w schedule s count
   pub further : progress w (run w schedule s) ≡ progress w s + count
 
-went : {E R : Type 0} (w : World E R) → 0 < w.converters → (schedule : List Actor) (s : State E R) → Kept w s
+pub went : {E R : Type 0} (w : World E R) → 0 < w.converters → (schedule : List Actor) (s : State E R) → Kept w s
     → Went w schedule s
 went w h [] s v = record { kept = v; count = 0; changes = at_end; further = omega arith }
 went w h (a ∷ schedule) s v =
@@ -41,7 +41,7 @@ went w h (a ∷ schedule) s v =
           }
     ]
 
-kept_at_start : {E R : Type 0} (w : World E R) → Kept w start
+pub kept_at_start : {E R : Type 0} (w : World E R) → Kept w start
 kept_at_start w =
     record {
       done = [];

@@ -1,6 +1,7 @@
 -- Schedules: any list of actors, each of which acts once where it stands in the list.
-use Rattle.std.specs.Prelude.{◌≡◌, ◌≢◌, ℕ, zero, suc, ◌+◌, ◌≤◌, List, [], ◌∷◌, length, option_to_list}
-use Rattle.striped_lanes.specs.Machine.{World, Stripe, State, Actor, act, start}
+use Rattle.std.specs.Prelude.{◌≡◌, ◌≢◌, ⊤, ℕ, zero, suc, ◌+◌, ◌<◌, ◌≤◌, List, [], ◌∷◌, ◌++◌, Contains, length}
+use Rattle.std.specs.Prelude.{option_to_list}
+use Rattle.striped_lanes.specs.Machine.{World, Stripe, State, Actor, Reader, Converter, Writer, act, start}
 
 -- the state after a schedule
 abbrev pub run : {E R : Type 0} → World E R → List Actor → State E R → State E R
@@ -34,3 +35,15 @@ standing_in stripe = length stripe.entry_lane + length (option_to_list stripe.ha
 
 abbrev pub standing : {E R : Type 0} → World E R → State E R → ℕ
 standing w s = total w.converters (λ i. standing_in (s.stripes i))
+
+-- a round: each actor acts in it, once or more
+pub record IsRound {E R : Type 0} (w : World E R) (round : List Actor) : Type 0 where
+  pub reader : Contains round Reader
+  pub converters : (i : ℕ) → i < w.converters → Contains round (Converter i)
+  pub writer : Contains round Writer
+
+-- a schedule has so many rounds, one behind the other, whatever follows them
+abbrev pub HasRounds : {E R : Type 0} → World E R → ℕ → List Actor → Type 0
+HasRounds w zero schedule = ⊤
+HasRounds w (suc n) schedule =
+    (round : List Actor) × (rest : List Actor) × (schedule ≡ round ++ rest) × IsRound w round × HasRounds w n rest

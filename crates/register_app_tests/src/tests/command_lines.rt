@@ -19,7 +19,7 @@ const EVERY_TARGET: &[u8] = b"\
     0990-09-17,5343-07-19,11.18.3.9.18,,1582-10-N3,11 Tzec,13 Etznab,\n";
 
 /// The page that tells the version.
-const VERSION: &[u8] = b"register 1.0.0\n";
+const VERSION: &[u8] = b"register 1.1.0\n";
 
 /// A command line that is taken.
 const TAKEN: TextCase = TextCase {

@@ -73,9 +73,11 @@ fn holds_one_row(rt: &(impl Files + AllocGlobal), name: &str) -> bool {
     }
 }
 
-/// A text that stands where a table comes to stand.
-const OLDER_TEXT: &[u8] =
-    b"an older and longer text that stands where the table comes to stand, and more\n";
+/// A text that stands where a table comes to stand. It is longer than the table, so that a tail of it would show.
+const OLDER_TEXT: &[u8] = b"\
+    row,id,calendar,date,rd,weekday,gregorian,refusal\n\
+    1,older,gregorian,1700-02-28,620606,Sunday,1700-02-28,\n\
+    2,older,gregorian,1700-03-01,620607,Monday,1700-03-01,\n";
 
 /// Whether a file on disk gets its table, and what stood in the table's file is gone.
 fn gets_one_table<T: Threads + Wait + Clock + CpuClock + Sync + Files + AllocGlobal>(

@@ -119,6 +119,7 @@ pub fn hear<
         status,
         output,
         outputs,
+        ran: _,
     } = answered(
         rt,
         alloc,

@@ -31,6 +31,13 @@ impl Counts {
             made: AtomicU32::new(0),
         }
     }
+
+    /// Whether nothing was read, opened or made.
+    fn are_none(&self) -> bool {
+        self.reads.load(Ordering::SeqCst) == 0
+            && self.opened.load(Ordering::SeqCst) == 0
+            && self.made.load(Ordering::SeqCst) == 0
+    }
 }
 
 /// A text without bytes that counts how often it is read.
@@ -252,16 +259,28 @@ const FOR_HELP: [&[&str]; 6] = [
     &["a", "a", "--help"],
 ];
 
-/// Whether these words get help, and nothing is told.
+/// What these words give over a text and files that count.
+fn hear_counted<'a>(
+    rt: &(impl Threads + Wait + Clock + CpuClock + Sync),
+    alloc: Global,
+    words: &[&str],
+    counts: &'a Counts,
+) -> Result<Heard<Vec<u8>, Vec<u8>>, AllocError> {
+    let files = CountedFiles { alloc, counts };
+    hear_in_memory(rt, alloc, words, CountedText { counts }, &files)
+}
+
+/// Whether these words get help, with nothing told, read, opened or made.
 fn get_help(
     rt: &(impl Threads + Wait + Clock + CpuClock + Sync),
     alloc: Global,
     words: &[&str],
 ) -> bool {
-    let Ok(heard) = hear_broken(rt, alloc, words, Vec::new(alloc)) else {
+    let counts = Counts::none();
+    let Ok(heard) = hear_counted(rt, alloc, words, &counts) else {
         return false;
     };
-    heard.is_answer(0, HELP.as_bytes(), b"")
+    heard.is_answer(0, HELP.as_bytes(), b"") && counts.are_none()
 }
 
 #[test]

@@ -68,7 +68,7 @@ const SHOWN: [Shown; 7] = [
     },
     Shown {
         target: "a\tb\rc\nd",
-        line: "register: unknown target: a\\u{9}b\\u{d}c\nd\n",
+        line: "register: unknown target: a\\u{9}b\\u{d}c\\u{a}d\n",
     },
     Shown {
         target: "Père עברית 日本 \u{2028}",

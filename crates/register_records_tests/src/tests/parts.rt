@@ -1,9 +1,11 @@
 //! Setups, entries, rows, cells and lines that wait.
 
 use super::{GREGORIAN, ISO, JULIAN, ROMAN, fields_of, plain, row_of};
+use arrayvec::ArrayString;
 use date_texts::{Refusal, Target};
 use register_records::{
-    Body, Cause, Entry, EntryFault, Form, PlainOutput, Row, RowFault, RowWriter, Setup,
+    Body, Cause, Entry, EntryFault, Form, LINE_ROOM, MOST_WAITING, PlainOutput, Row, RowFault,
+    RowWriter, Setup,
 };
 use std::alloc::Global;
 use std::mem::size_of;
@@ -80,8 +82,36 @@ fn rows_tell_their_parts_and_are_small(rt: HostRuntime) -> Result<(), Fail> {
     Ok(())
 }
 
+/// The id, the calendar's name and the date of a body, and whether it may hold them.
+static BODIES: [([&str; 3], bool); 4] = [
+    (
+        [
+            "0123456789012345678901234567890123456789",
+            "0123456789012345",
+            "01234567890123456789012345678901",
+        ],
+        true,
+    ),
+    (["01234567890123456789012345678901234567890", "", ""], false),
+    (["", "01234567890123456", ""], false),
+    (["", "", "012345678901234567890123456789012"], false),
+];
+
+/// The body of these texts, if it may hold them.
+fn body_of([id, calendar, date]: [&str; 3]) -> Option<Body> {
+    Some(Body::Fields {
+        id: ArrayString::from(id).ok()?,
+        calendar: ArrayString::from(calendar).ok()?,
+        date: ArrayString::from(date).ok()?,
+        note: ArrayString::new(),
+    })
+}
+
 #[test]
 fn entries_have_their_limits_and_faults_their_causes(rt: HostRuntime) {
+    for (texts, fits) in &BODIES {
+        assert!(rt; body_of(*texts).is_some() == *fits, "at {:?}", texts[2]);
+    }
     for (number, refusal) in [
         (0, Refusal::NotUtf8),
         (1_000_001, Refusal::NotUtf8),
@@ -139,5 +169,6 @@ fn makes_four_lines(alloc: Global) -> Result<bool, Fail> {
 #[test]
 fn lines_wait_until_they_are_sent(rt: HostRuntime) -> Result<(), Fail> {
     assert!(rt; makes_four_lines(rt.alloc())?);
+    assert!(rt; MOST_WAITING == 16_384 && LINE_ROOM == 1024);
     Ok(())
 }

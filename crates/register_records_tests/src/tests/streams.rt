@@ -7,18 +7,33 @@ use std::io;
 use std::io::{ErrorKind, Read, Write};
 use std::test::Fail;
 
-/// Gives and takes a byte at each second call, and is interrupted at the others.
+/// Gives and takes a byte at each fourth call, and is interrupted at the others.
 #[derive(Drop)]
 struct Nervous<'a> {
     rest: &'a [u8],
     bytes: Vec<u8>,
-    interrupted: bool,
+    interruptions: u8,
+}
+
+impl Nervous<'_> {
+    /// Whether this call is interrupted.
+    fn is_interrupted(&mut self) -> bool {
+        match self.interruptions.checked_sub(1) {
+            Some(fewer) => {
+                self.interruptions = fewer;
+                true
+            }
+            None => {
+                self.interruptions = 3;
+                false
+            }
+        }
+    }
 }
 
 impl Read for Nervous<'_> {
     fn read(&mut self, buf: &mut [u8]) -> io::Result<usize> {
-        self.interrupted = !self.interrupted;
-        if self.interrupted {
+        if self.is_interrupted() {
             return Err(io::Error::from(ErrorKind::Interrupted));
         }
         match (self.rest.split_first(), buf.first_mut()) {
@@ -34,8 +49,7 @@ impl Read for Nervous<'_> {
 
 impl Write for Nervous<'_> {
     fn write(&mut self, buf: &[u8]) -> io::Result<usize> {
-        self.interrupted = !self.interrupted;
-        if self.interrupted {
+        if self.is_interrupted() {
             return Err(io::Error::from(ErrorKind::Interrupted));
         }
         let Some(byte) = buf.first() else {
@@ -55,7 +69,7 @@ fn stream_of(alloc: Global, text: &str) -> Nervous<'_> {
     Nervous {
         rest: text.as_bytes(),
         bytes: Vec::new(alloc),
-        interrupted: false,
+        interruptions: 3,
     }
 }
 

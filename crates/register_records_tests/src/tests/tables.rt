@@ -16,7 +16,7 @@ struct Case {
     notes: &'static str,
 }
 
-static CASES: [Case; 14] = [
+static CASES: [Case; 15] = [
     Case {
         targets: &[GREGORIAN, JULIAN],
         delimiter: b',',
@@ -59,6 +59,20 @@ a,b,c,d|8,,,,,,1
 END,1|9,,,,,,1
 ",
         notes: "1:1 2:2 3:3 4:4 5:5 6:6 7:6 8:1 9:1 ",
+    },
+    Case {
+        targets: &[],
+        delimiter: b',',
+        form: Form::Plain,
+        lines: "\
+id,calendar,date|row,id,calendar,date,rd,weekday,refusal
+0123456789012345678901234567890123456789,gregorian       ,1970-01-01                      |\
+1,0123456789012345678901234567890123456789,gregorian       ,1970-01-01                      ,719163,Thursday,
+01234567890123456789012345678901234567890,gregorian,1970-01-01|2,,,,,,2
+c,gregorian        ,1970-01-01|3,,,,,,2
+d,gregorian,1970-01-01                       |4,,,,,,2
+",
+        notes: "2:2 3:2 4:2 ",
     },
     Case {
         targets: &[],

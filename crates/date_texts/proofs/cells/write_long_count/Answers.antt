@@ -1,5 +1,8 @@
-use Rattle.std.proofs.Common.{arith, refl}
+use Rattle.std.proofs.Common.{◌≡◌, ◌≤◌, ℤ, arith, length, refl}
+use Rattle.maya_calendars.specs.LongCounts.{IsLongCount, long_day}
+use Rattle.maya_calendars.specs.declared.long_count.LongCount.{LongCount}
 use Rattle.date_texts.specs.Cells.{on_date, no_date}
+use Rattle.date_texts.specs.Laws.{CellsAreShort}
 use Rattle.date_texts.specs.declared.calendar.Calendar.TheVariants.{Longcount}
 use Rattle.date_texts.specs.declared.calendar.Target.TheVariants.{Date as DateTarget}
 use Rattle.date_texts.specs.declared.date.Date.TheVariants.{Long}
@@ -7,12 +10,25 @@ use Rattle.date_texts.specs.DateText.{canonical_text}
 use Rattle.date_texts.proofs.CellLemmas.{since_first_in}
 use Rattle.date_texts.proofs.cells.write_long_count.Goals as goal
 
+short_text : CellsAreShort → (n : ℤ) (count : LongCount) → IsLongCount count → long_day count ≡ n
+    → length (canonical_text (Long count)) ≤ 16
+short_text law n count is day =
+    law (DateTarget Longcount) n (canonical_text (Long count)) (on_date (Long count) refl is day refl)
+
 pub put_long-requires : goal.put_long-requires
 put_long-requires c =
-    let found = c.in-Some.ensures.value in
-    let short = c.cells_are_short.ensures (DateTarget Longcount) c.args.day.number
-    (canonical_text (Long c.in-Some.count)) (on_date (Long c.in-Some.count) refl found.0 found.1 refl) in
-    omega (arith, short, c.told-places)
+    let (is, day) = c.in-Some.ensures.value in
+    omega (arith, short_text c.cells_are_short.ensures _ c.in-Some.count is day, c.requires)
+
+pub overflow_cast-result : goal.overflow_cast-result
+overflow_cast-result c =
+    let (is, day) = c.in-Some.ensures.value in
+    omega (arith, short_text c.cells_are_short.ensures _ c.in-Some.count is day, c.put_long.ensures.follows)
+
+pub returns-in-Some-clause-few : goal.returns-in-Some-clause-few
+returns-in-Some-clause-few c =
+    let (is, day) = c.in-Some.ensures.value in
+    omega (arith, short_text c.cells_are_short.ensures _ c.in-Some.count is day, c.put_long.ensures.follows)
 
 pub returns-in-Some-clause-value : goal.returns-in-Some-clause-value
 returns-in-Some-clause-value c =

@@ -5,6 +5,7 @@ use Rattle.std.proofs.lemmas.List.{length-map}
 use Rattle.std.specs.String.{string_bytes}
 use Rattle.register_words.specs.Requests.{MeanJust, help, table, task_of, version}
 use Rattle.register_words.specs.Faults.{fault_told}
+use Rattle.register_app.proofs.FileLemmas.{none_missing}
 use Rattle.register_app.proofs.RefusedLemmas.{is_refused, is_wrong, never_refused}
 use Rattle.register_app.proofs.answering.answer.Goals as goal
 
@@ -121,13 +122,16 @@ returns-then-is_empty-clause-told g c = λ high good.
 
 pub returns-else-is_empty-clause-told : goal.returns-else-is_empty-clause-told
 returns-else-is_empty-clause-told g c = λ high good.
+    let words = map string_bytes c.args.words.now in
+    let just : MeanJust words (table (task_of c.in-Ok-Convert.job)) = search (rules, c.in-Ok-Convert.ensures.asked) in
     c.convert_files.ensures.told (at_most_three c.convert_files.result.status high c.convert_files.ensures.statuses) good
-    (map string_bytes c.args.words.now)
+    words just
 
 pub returns-in-Err-clause-told : goal.returns-in-Err-clause-told
 returns-in-Err-clause-told g c = λ high good.
     let words = map string_bytes c.args.words.now in
-    c.refuse.ensures.told words (is_wrong words (fault_told c.in-Err.fault) c.in-Err.ensures.refused) good
+    c.refuse.ensures.told words (is_wrong words (fault_told c.in-Err.fault) c.in-Err.ensures.refused)
+    (none_missing words c.in-Err.fault c.in-Err.ensures.memory) good
 
 pub returns-else-is_empty-clause-unwritten : goal.returns-else-is_empty-clause-unwritten
 returns-else-is_empty-clause-unwritten g c = λ three.

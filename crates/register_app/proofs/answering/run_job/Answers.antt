@@ -1,20 +1,53 @@
 -- A run that began has a report, and what was told is that.
-use Rattle.std.proofs.Common.{arith, refl}
+use Rattle.std.proofs.Common.{◌≡◌, ℕ, List, arith, false, refl}
+use Rattle.std.specs.Prelude.{◌↔◌}
+use Rattle.std.specs.Io.KnownBytes.{Appends}
+use Rattle.std.specs.declared.io.traits.Read as reads
+use Rattle.register_records.specs.declared.outputs.Output as outputs
+use Rattle.register_records.specs.declared.setups.Setup.{Setup}
+use Rattle.register_run.specs.Histories.{AreOfMachine}
+use Rattle.register_run.specs.Reports.{IsReport, arms_of}
+use Rattle.register_run.specs.Threads.{AreThreads}
+use Rattle.register_run.specs.declared.reports.Report.{Report}
+use Rattle.register_run.specs.declared.reports.Verdict.TheVariants.{Complete}
 use Rattle.register_run.proofs.HeadlineLemmas.{lengths_of}
 use Rattle.register_words.specs.declared.request_faults.RequestFault.TheVariants as request_fault
+use Rattle.register_app.specs.Answers.{IsConverted, IsSetupOf}
+use Rattle.register_app.specs.Reports.{lines_from}
+use Rattle.register_words.specs.Requests.{Task}
 use Rattle.register_app.proofs.answering.run_job.Goals as goal
 
+-- a run whose setup is the task's
+converted : {R W E : Type 0} (r : reads.Ghosts R) (o : outputs.Ghosts W) (e : outputs.Ghosts E) (task : Task)
+    (status : ℕ) (sources : List R) (given : List W) (before after : E) (setup : Setup) (report : Report W)
+    → IsReport r o setup sources given report
+    → AreOfMachine r o setup sources given report.outputs.items report.ends.items (arms_of report)
+    → AreThreads setup report.ends.items report.ran.items → IsSetupOf task setup
+    → ((status ≡ 0) ↔ (report.verdict ≡ Complete))
+    → (e.has_failed after ≡ false
+    → Appends (e.contents before) (e.contents after) (lines_from task.summary 1 report.ends.items))
+    → (status ≡ 0 → task.summary ≡ false → after ≡ before)
+    → IsConverted r o e task status sources given report.outputs.items report.ran.items before after
+converted r o e task status sources given before after setup report settled machine threads asked complete lines quiet =
+    record {
+      setup = setup;
+      asked = asked;
+      report = report;
+      settled = settled;
+      machine = machine;
+      threads = threads;
+      outputs = refl;
+      ran_so = refl;
+      complete = complete;
+      lines = lines;
+      quiet = quiet;
+    }
+
 pub returns-in-Ok-clause-converted : goal.returns-in-Ok-clause-converted
-returns-in-Ok-clause-converted g c = λ begun. record {
-  setup = c.args.job.now.setup;
-  asked = (refl, refl, refl);
-  report = c.in-Ok.report;
-  settled = c.in-Ok.ensures.report;
-  outputs = refl;
-  complete = c.tell_report-status.ensures.complete;
-  lines = c.tell_report-status.ensures.lines;
-  quiet = c.tell_report-status.ensures.quiet;
-}
+returns-in-Ok-clause-converted g c = λ begun.
+    converted _ _ _ _ _ _ _ _ _ _ c.in-Ok.report c.in-Ok.ensures.report c.in-Ok.ensures.machine
+    c.in-Ok.ensures.threads (refl, refl, refl) c.tell_report-status.ensures.complete
+    c.tell_report-status.ensures.lines c.tell_report-status.ensures.quiet
 
 pub returns-in-Ok-clause-len : goal.returns-in-Ok-clause-len
 returns-in-Ok-clause-len g c =
@@ -28,5 +61,6 @@ returns-in-Err-clause-told g c = λ three good words. record {
   error = request_fault.OutOfMemory;
   status_told = refl;
   fault = tt;
+  file = tt;
   line = c.tell_out_of_memory.ensures.told good;
 }

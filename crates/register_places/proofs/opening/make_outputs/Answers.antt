@@ -62,3 +62,11 @@ returns-clause-apart g c =
     all_pairs (λ file later. g.P.Places.are_apart c.args.places.now (file ++ codes ".out.csv")
     (later ++ codes ".out.csv")) (map (λ f. f.now) c.args.files.now) c.files.file-index c.files.invariant.3
     (omega (arith, c.files-test.false, c.files.auto.file-index-end, length-map c.args.files.now (λ f. f.now)))
+
+pub returns-in_default-make-clause-named : goal.returns-in_default-make-clause-named
+returns-in_default-make-clause-named g c =
+    (c.files.file-index, value_at (λ f. f.now) c.args.files.now c.files.file-index _ c.files-test.true)
+
+pub returns-then-is_taken-clause-named : goal.returns-then-is_taken-clause-named
+returns-then-is_taken-clause-named g c =
+    (c.files.file-index, value_at (λ f. f.now) c.args.files.now c.files.file-index _ c.files-test.true)

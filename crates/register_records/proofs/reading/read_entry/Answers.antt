@@ -4,7 +4,7 @@ use Rattle.register_records.specs.ReadingState.{IsNoSeal}
 use Rattle.register_records.specs.declared.setups.Form.TheVariants.{Sealed}
 use Rattle.register_records.proofs.StepLemmas.{entry_left, found, found_none, no_seal_left, other_no_seal}
 use Rattle.register_records.proofs.StepLemmas.{plain_no_seal}
-use Rattle.register_records.proofs.StepLemmas.{seal_lacks, told_on}
+use Rattle.register_records.proofs.StepLemmas.{seal_ends, seal_lacks, told_on}
 use Rattle.register_records.proofs.reading.read_entry.Goals as goal
 use Rattle.register_records.proofs.reading.read_entry.Goals.{else-eq-via-else-eq, else-eq-via-then-eq+else-is_seal}
 
@@ -18,6 +18,15 @@ returns-in-Sealed-clause-not_sealed g c _ =
       no_seal_left _ c.args.form c.args.count c.in-Sealed.is
           (found_none _ _ _ _ c.in_ok-read_record.ensures.reads none),
     )
+
+pub returns-then-is_seal-clause-ends : goal.returns-then-is_seal-clause-ends
+returns-then-is_seal-clause-ends g c _ =
+    let some : c.in_ok-read_record.field-0 ≡ true = search rules in
+    let first = found _ _ _ _ c.in_ok-read_record.ensures.reads some in
+    let sealed : c.args.form ≡ Sealed = search rules in
+    let is = sym c.is_seal.ensures ∙ c.if-is_seal.true in
+    seal_ends _ _ c.args.form c.args.count _ sealed first is c.in_ok-read_behind_seal.ensures.agrees
+    c.in_ok-read_behind_seal.ensures.last
 
 pub returns-in_err-read_behind_seal-clause-not_sealed : goal.returns-in_err-read_behind_seal-clause-not_sealed
 returns-in_err-read_behind_seal-clause-not_sealed g c =

@@ -1,6 +1,7 @@
 use Rattle.std.proofs.Common.{◌≡◌, refl, sym, arith, length, rules}
-use Rattle.register_records.specs.Entries.{HasTooMany}
-use Rattle.register_records.proofs.ProgressLemmas.{finish, first_rows, front, start, told_of}
+use Rattle.std.specs.Prelude.{IfSome}
+use Rattle.register_records.specs.Entries.{HasTooMany, IsNotSealed}
+use Rattle.register_records.proofs.ProgressLemmas.{all_rows, finish, first_rows, front, start, told_of}
 use Rattle.register_records.proofs.sources.convert_entries.Goals as goal
 
 pub entries-init : goal.entries-init
@@ -35,8 +36,18 @@ pub returns-in-Err-clause-too_many : goal.returns-in-Err-clause-too_many
 returns-in-Err-clause-too_many g c begun heading is =
     let inv = c.entries.invariant in
     let past = c.in-Err.ensures.many is in (
-      told_of HasTooMany _ _ _ _ inv.text refl past.1,
+      told_of (λ format text. IfSome text (λ t. HasTooMany format t)) _ _ _ _ inv.text refl past.1,
       rw (c.in-Err.ensures.kept (λ sunk. cc (is, sunk)))
           (first_rows _ _ _ _ _ _ _ _ _ (inv.come begun heading) inv.text inv.ready.1 c.entries.entries.first
           (sym past.0)),
+    )
+
+pub returns-in-Err-clause-not_sealed : goal.returns-in-Err-clause-not_sealed
+returns-in-Err-clause-not_sealed g c begun heading is =
+    let inv = c.entries.invariant in
+    let lacks = c.in-Err.ensures.not_sealed is in (
+      lacks.0,
+      told_of (λ format text. IfSome text (λ t. IsNotSealed format t)) _ _ _ _ inv.text refl lacks.1,
+      rw (c.in-Err.ensures.kept (λ sunk. cc (is, sunk)))
+          (all_rows _ _ _ _ _ _ _ _ _ (inv.come begun heading) inv.text refl refl lacks.2),
     )

@@ -1,15 +1,20 @@
-use Rattle.std.proofs.Common.{◌≡◌, ◌∙◌, ℕ, List, ap, false, refl, rules, subst, sym, true}
+use Rattle.std.proofs.Common.{◌≡◌, ◌∙◌, ℕ, List, Option, ap, false, refl, rules, subst, sym, true}
+use Rattle.std.specs.Prelude.{IfSome}
+use Rattle.std.proofs.Math.Logic.{∥∥₁_map}
 use Rattle.std.specs.Io.KnownBytes.{Appends}
 use Rattle.date_texts.specs.declared.calendar.Target.{Target}
 use Rattle.register_records.specs.Answers.{cells_of}
-use Rattle.register_records.specs.Entries.{Format, HasEntries}
+use Rattle.register_records.specs.Entries.{Format, HasAllEntries, HasEntries, IsNotSealed}
 use Rattle.register_records.specs.Outcomes.{AreCells, IsRowOf}
 use Rattle.register_records.specs.Seen.{entry_seen, outcome_seen, row_made}
 use Rattle.register_records.specs.ShortLists.{items_in}
 use Rattle.register_records.specs.Tables.{row_line}
 use Rattle.register_records.specs.Views.{format_of, given_of, layout_of, targets_of, writes_by}
-use Rattle.register_records.proofs.ProgressLemmas.{step, told_of}
+use Rattle.register_records.proofs.ProgressLemmas.{only_not_sealed, step, told_of}
 use Rattle.register_records.proofs.sources.convert_next.Goals as goal
+
+pub renew-requires-clause-cells : goal.renew-requires-clause-cells
+renew-requires-clause-cells g c = ∥∥₁_map c.args.row.now.is_row (λ is. is.cells)
 
 pub returns-in-Ok-false-clause-end : goal.returns-in-Ok-false-clause-end
 returns-in-Ok-false-clause-end g c _ =
@@ -18,7 +23,7 @@ returns-in-Ok-false-clause-end g c _ =
     let kept = (rw none at c.in-Ok-false.ensures.ends) refl in (
       refl,
       refl,
-      told_of (λ (format : Format) (text : List ℕ). HasEntries format text (given_of c.args.entries.now)) _ _ _ _
+      told_of (λ (format : Format) (text : Option (List ℕ)). HasEntries format text (given_of c.args.entries.now)) _ _ _ _
           c.read_next-answer.ensures.text.0 (c.read_next-answer.ensures.text.1 ∙ c.requires.ready.1)
           (rw kept.1 at all),
     )
@@ -31,7 +36,7 @@ returns-in-Ok-clause-row g c begun come =
     let setup = c.args.setup.now in
     let outcome = c.day_of_body-outcome.result in
     let row = row_made c.read_next-answer.new.entry outcome
-    (cells_of (items_in c.target_list-row.result.items) outcome c.set.new.self) in
+    (cells_of (items_in c.target_list-row.result.items) outcome c.renew.new.self) in
     let same_line :
     row_line (record { format = writes_by c.args.writer.now; targets = items_in c.target_list-row.result.items }) row
     ≡ row_line (layout_of setup) row
@@ -48,7 +53,19 @@ returns-in-Ok-clause-row g c begun come =
       body = refl;
       outcome = rw (← c.body.ensures.value) c.day_of_body-outcome.ensures;
       cells = subst (λ (ts : List Target). AreCells (targets_of setup) (outcome_seen outcome)
-          (cells_of ts outcome c.set.new.self)) (sym c.target_list-row.ensures)
-          (rw c.targets.ensures.value at c.set.ensures.cells);
+          (cells_of ts outcome c.renew.new.self)) (sym c.target_list-row.ensures) c.renew.ensures.cells;
     } in
     rw (gives, c.in-Ok.ensures.noted) (step _ _ _ _ _ _ _ _ come number.0 is line)
+
+pub returns-in-Err-clause-not_sealed : goal.returns-in-Err-clause-not_sealed
+returns-in-Err-clause-not_sealed g c is =
+    let fault = only_not_sealed _ _ (sym c.cause.ensures ∙ c.certain_cause.ensures) is in
+    let lacks = c.in-Err.ensures.not_sealed fault in
+    let same = c.read_next-answer.ensures.text in
+    let by = same.1 ∙ c.requires.ready.1 in (
+      sym (ap (λ (format : Format). format.form) by) ∙ lacks.0,
+      told_of (λ (format : Format) (text : Option (List ℕ)). IfSome text (λ t. IsNotSealed format t)) _ _ _ _ same.0 by
+          lacks.1,
+      told_of (λ (format : Format) (text : Option (List ℕ)). HasAllEntries format text (given_of c.args.entries.now))
+          _ _ _ _ same.0 by (rw c.in-Err.ensures.kept at (c.in-Err.ensures.above fault)),
+    )

@@ -19,3 +19,7 @@ returns-clause-part g c =
 pub returns-clause-too_many : goal.returns-clause-too_many
 returns-clause-too_many g c =
     rw c.in-Ok.ensures.text.0 at (c.convert_entries.ensures.too_many _ c.in-Ok-open.ensures.ok)
+
+pub returns-clause-not_sealed : goal.returns-clause-not_sealed
+returns-clause-not_sealed g c =
+    rw c.in-Ok.ensures.text.0 at (c.convert_entries.ensures.not_sealed _ c.in-Ok-open.ensures.ok)

@@ -15,3 +15,6 @@ returns-clause-few_standing c = ScheduleLemmas.few_stand
 
 pub returns-clause-goes_on : goal.returns-clause-goes_on
 returns-clause-goes_on c = ScheduleLemmas.next_goes_on
+
+pub returns-clause-ends : goal.returns-clause-ends
+returns-clause-ends c = ScheduleLemmas.all_ends

@@ -17,7 +17,7 @@ returns-in-Err-clause-sends g c =
     let is =
     given_none (g.R.Read.remaining c.args.source)
     (format_of c.args.setup.now) c.in-Err.fault c.cause_of.result c.cause_of.ensures c.in-Err.ensures.bad
-    c.in-Err.ensures.never.0 c.in-Err.ensures.never.2 in
+    c.in-Err.ensures.never.0 c.in-Err.ensures.never.2 c.stopped_after.result c.stopped_after.ensures in
     ∣ ([], is, λ w many. dealt_none w 0 c.args.senders.now.items c.requires.fresh) ∣₁
 
 pub returns-in-Ok-None-clause-sends : goal.returns-in-Ok-None-clause-sends
@@ -38,7 +38,8 @@ returns-in-Err-next-clause-sends g c =
     (given_of new) (given_of c.loop.entries) c.in-Err-next.ensures.kept inv.numbered new.first c.loop.senders.items
     inv.deals
     c.in-Err-next.fault _ c.cause_of-in-Err-next.ensures c.in-Err-next.ensures.no_header
-    (λ e. (c.in-Err-next.ensures.many e).1) c.in-Err-next.ensures.not_sealed
+    c.in-Err-next.ensures.many c.in-Err-next.ensures.not_sealed c.in-Err-next.ensures.above
+    c.stopped_after-in-Err-next.result (c.stopped_after-in-Err-next.ensures.0 ∙ inv.count) c.stopped_after-in-Err-next.ensures.1
 
 pub returns-then-is_err-clause-lanes : goal.returns-then-is_err-clause-lanes
 returns-then-is_err-clause-lanes g c =
@@ -57,6 +58,7 @@ returns-then-is_err-clause-sends g c =
     c.send_copy.result c.index_mut-sender.ensures.value (sym c.is_err.ensures.value ∙ c.if-is_err.true)
     c.send_copy.ensures.gone
     (inv.deals w (many ∙ length-set items at c.send_copy.new.self)))
+    c.stopped_after-then-is_err.result c.stopped_after-then-is_err.ensures.1
 
 pub loop-preserved : goal.loop-preserved
 loop-preserved g c =

@@ -6,6 +6,9 @@ returns-clause-report g c = c.run_gated.ensures.report
 pub returns-clause-machine : goal.returns-clause-machine
 returns-clause-machine g c = c.run_gated.ensures.machine
 
+pub returns-clause-threads : goal.returns-clause-threads
+returns-clause-threads g c = c.run_gated.ensures.threads
+
 pub returns-clause-unchanged : goal.returns-clause-unchanged
 returns-clause-unchanged g c = c.run_gated.ensures.unchanged
 

@@ -1,5 +1,5 @@
 use Rattle.std.proofs.Common.{◌≡◌, ◌∙◌, arith, length}
-use Rattle.register_run.proofs.HeadlineLemmas.{report_of, report_of_machine}
+use Rattle.register_run.proofs.HeadlineLemmas.{report_of, report_of_machine, report_of_threads}
 use Rattle.register_run.proofs.running.run_all.Goals as goal
 
 pub returns : goal.returns
@@ -13,5 +13,6 @@ returns g c =
     let told = c.report.ensures in record {
       report = report_of setup settled sources outputs same is c.report.result told.ends told.ran told.outputs
           told.verdict;
-      machine = report_of_machine setup settled sources outputs same is c.report.result told.ends told.ran;
+      machine = report_of_machine setup settled sources outputs same is c.report.result told.ends told.ran told.outputs;
+      threads = report_of_threads setup settled sources outputs same is c.report.result told.ends told.ran;
     }

@@ -5,3 +5,6 @@ returns-clause-report g c = c.run_in_scope.ensures.report
 
 pub returns-clause-machine : goal.returns-clause-machine
 returns-clause-machine g c = c.run_in_scope.ensures.machine
+
+pub returns-clause-threads : goal.returns-clause-threads
+returns-clause-threads g c = c.run_in_scope.ensures.threads

@@ -8,7 +8,7 @@ pub returns-clause-value : goal.returns-clause-value
 returns-clause-value c =
     let self = c.args.self.now in
     let n = c.write_field-len.result in
-    let room = c.write_field-len.new.cell in
+    let room = c.write_field-len.new.room in
     let is = c.write_field-len.ensures.value in
     let all : length room ≡ 16 = search rules in (
       take n room,
@@ -16,20 +16,18 @@ returns-clause-value c =
       (grown self.delimiter (take n room) (answer_bytes self) _
           (plain_field c.cells_are_plain.ensures self.delimiter self.separated (outcome_seen c.args.outcome)
           c.args.target (take n room) is) self.plain
-          (rw c.copy_from_slice.ensures.after
           (put_cell self.places room self.len self.delimiter _ n (search rules)
-          (omega (arith, c.write_field-len.ensures.few, all))))).fields,
+          (omega (arith, c.write_field-len.ensures.few, all)))).fields,
     )
 
 pub invariant_of-self-clause-plain : goal.invariant_of-self-clause-plain
 invariant_of-self-clause-plain c =
     let self = c.args.self.now in
     let n = c.write_field-len.result in
-    let room = c.write_field-len.new.cell in
+    let room = c.write_field-len.new.room in
     let all : length room ≡ 16 = search rules in
     (grown self.delimiter (take n room) (answer_bytes self) _
     (plain_field c.cells_are_plain.ensures self.delimiter self.separated (outcome_seen c.args.outcome) c.args.target
     (take n room) c.write_field-len.ensures.value) self.plain
-    (rw c.copy_from_slice.ensures.after
     (put_cell self.places room self.len self.delimiter _ n (search rules)
-    (omega (arith, c.write_field-len.ensures.few, all))))).plain
+    (omega (arith, c.write_field-len.ensures.few, all)))).plain

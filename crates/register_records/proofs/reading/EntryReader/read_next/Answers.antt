@@ -5,8 +5,8 @@ use Rattle.register_records.specs.ReadingState.{records_left}
 use Rattle.register_records.specs.Retrying.{inner_remaining}
 use Rattle.register_records.specs.ReadingState.{entries_shown, format_by}
 use Rattle.register_records.specs.Views.{given_of}
-use Rattle.register_records.proofs.GivenLemmas.{may_all, may_end, may_ended, may_fail, may_first, may_lack, may_many}
-use Rattle.register_records.proofs.GivenLemmas.{may_more, shown_length}
+use Rattle.register_records.proofs.GivenLemmas.{may_above, may_all, may_end, may_ended, may_fail, may_first, may_lack}
+use Rattle.register_records.proofs.GivenLemmas.{may_many, may_more, shown_length}
 use Rattle.register_records.proofs.reading.EntryReader.read_next.Goals as goal
 
 pub returns-in-Ended-clause-all : goal.returns-in-Ended-clause-all
@@ -105,3 +105,13 @@ returns-in-Err-clause-not_sealed g c =
           (given_of self) self.stands c.in-Open.is c.len-count.result counted
           (rw (shown_length self.given.items) self.few) lacks.1,
     ))
+
+pub returns-in-Err-clause-above : goal.returns-in-Err-clause-above
+returns-in-Err-clause-above g c =
+    rw c.in-Err.is (λ e.
+    let self = c.args.self.now in
+    let lacks = (rw c.in-Err.is at c.read_entry-answer.ensures.not_sealed) e in
+    may_above (g.R.Read.remaining self.source.value) (format_by self.delimiter self.form) self.state
+    (records_left (inner_remaining g.R.Read.remaining) self.records)
+    (given_of self) self.stands c.in-Open.is c.len-count.result
+    (omega (arith, c.len-count.ensures, shown_length self.given.items)) lacks.1)

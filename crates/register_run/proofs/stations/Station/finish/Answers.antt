@@ -1,8 +1,8 @@
 use Rattle.std.proofs.Common.{subst, sym}
 use Rattle.register_records.specs.Views.{format_of}
 use Rattle.std.specs.Prelude.{IfOk}
-use Rattle.register_run.specs.Histories.{IsOfMachine}
-use Rattle.register_run.specs.Links.{Passed, started_by}
+use Rattle.register_run.specs.Histories.{Carries}
+use Rattle.register_run.specs.Links.{AreStaffed, Passed, started_by}
 use Rattle.register_run.specs.Passages.{HasPassed}
 use Rattle.register_run.proofs.StationLemmas.{concludes}
 use Rattle.register_run.proofs.stations.Station.finish.Goals as goal
@@ -11,13 +11,11 @@ pub conclude-requires : goal.conclude-requires
 conclude-requires g c =
     let s = c.args.self in let ends = c.finish.ensures in let p = c.finish.result in record {
       passed =
-          concludes s.link s.table (g.R.Read.remaining p.source.value) p.outcome s.by_one_setup
-          (subst (λ r. HasPassed (g.R.Read.remaining r) (format_of (started_by s.link)) p.outcome (Passed s.link))
-          (sym ends.source) ends.passed) s.wrote;
-      machine =
-          subst (λ r. IfOk p.outcome (λ count.
-          ∥ IsOfMachine (g.R.Read.remaining r) s.table.setup count p.arms.value.items ∥₁)) (sym ends.source)
-          (subst (λ t. IfOk p.outcome (λ count.
-          ∥ IsOfMachine (g.R.Read.remaining s.link.source.value) t count p.arms.value.items ∥₁)) s.by_one_setup
-          ends.machine);
+          concludes s.link s.table (g.R.Read.remaining p.source.value) p.sent p.arms.value.items s.by_one_setup
+          (subst (λ r. HasPassed (g.R.Read.remaining r) (format_of (started_by s.link)) p.sent (Passed s.link))
+          (sym ends.source) ends.passed)
+          (subst (λ r. IfOk p.sent.outcome (λ count.
+          ∥ Carries (g.R.Read.remaining r) (started_by s.link) count p.arms.value.items (Passed s.link) ∥₁))
+          (sym ends.source) ends.machine) s.wrote;
+      staffed = subst (λ t. AreStaffed t p.sent.outcome p.arms.value.items) s.by_one_setup ends.staffed;
     }

@@ -1,44 +1,72 @@
-use Rattle.std.proofs.Common.{◌∙◌, sym, subst}
+use Rattle.std.proofs.Common.{◌≡◌, ◌∙◌, Option, ap, length, sym, subst, true}
 use Rattle.std.specs.List.{Contains}
+use Rattle.std.specs.Prelude.{IfOk, None, Ok}
 use Rattle.std.proofs.Props.{props}
 use Rattle.std.proofs.Math.Logic.{∥∥₁_elim, ∥∥₁_prop}
-use Rattle.register_records.specs.Sources.{IfWhole}
+use Rattle.register_records.specs.Sources.{IfBroken, IfWhole}
 use Rattle.register_records.specs.Views.{format_of, layout_of}
-use Rattle.register_run.specs.Courses.{fault_of}
+use Rattle.register_records.specs.declared.sources.Cause.{Cause}
+use Rattle.register_run.specs.Courses.{IsLowest, IsMet, fault_of}
+use Rattle.register_run.specs.declared.settling.Met.{Met}
 use Rattle.register_run.specs.Headline.{IsSettled}
-use Rattle.register_run.specs.Histories.{IsOfMachine}
+use Rattle.register_run.specs.Histories.{Carries, IsMachineWithTable}
 use Rattle.register_run.specs.Passages.{HasPassed}
-use Rattle.register_run.proofs.SettledLemmas.{headless, settled, thread_told, whole_counts}
+use Rattle.register_run.specs.Threads.{AreThreadsOf}
+use Rattle.register_run.proofs.SettledLemmas.{headless, settled, with_table}
+use Rattle.register_run.proofs.ThreadLemmas.{threads_of}
 use Rattle.register_run.proofs.tables.Table.conclude.Goals as goal
 
 pub invariant_of-result : goal.invariant_of-result
 invariant_of-result g c =
     let table = c.send.new.self in
     let text = g.R.Read.remaining c.args.passage.source.value in
-    let ends = c.end_of_source-end.ensures in record {
+    let ends = c.end_of_source-end.ensures in
+    let fault = c.fault.ensures in
+    let end = c.end_of_source-end.result in
+    let sent = c.args.passage.sent in
+    let met_of : Option Cause → Met =
+    λ f. record { sent = sent; fault = f; headed = c.is_some.result; rows = table.rows } in
+    let whole =
+    subst (λ f. IfWhole end (λ count refused notes. (sent.outcome ≡ Ok count) × (f ≡ None) × (c.is_some.result ≡ true)
+    × (count ≡ table.rows) × (refused ≡ length notes) × (notes ≡ table.journal.items))) fault ends.whole in
+    let broken =
+    subst (λ f. IfBroken end (IsLowest (IsMet (met_of f)))) fault ends.broken in record {
       marked = table.marked;
       untouched = λ bad.
-          let h = ∥∥₁_elim c.requires.passed (Prim.hlevel props) (λ (rows, holds, has).
-          headless g.W.Output text table rows c.args.passage.outcome (c.send.ensures.rows rows holds) c.send.ensures.sent
-          (subst (λ s. HasPassed text (format_of s) c.args.passage.outcome (λ row. Contains rows row))
+          let h = ∥∥₁_elim c.requires.passed (Prim.hlevel props) (λ (rows, holds, has, carries).
+          headless g.W.Output text table rows c.args.passage.sent (c.send.ensures.rows rows holds) c.send.ensures.sent
+          (subst (λ s. HasPassed text (format_of s) c.args.passage.sent (λ row. Contains rows row))
           (sym c.send.ensures.setup) has)
-          c.is_some.result c.is_some.ensures c.end_of_source-end.result ends.broken bad) in
+          c.is_some.result c.is_some.ensures end broken bad) in
           table.untouched h.0 h.1;
-      unstarted = λ is. c.args.passage.unstarted
-          (thread_told c.args.passage.outcome (fault_of table.course) c.is_some.result table.rows table.of_table
-          c.end_of_source-end.result ends.broken is);
-      settled = ∥∥₁_elim c.requires.passed ∥∥₁_prop (λ (rows, holds, has).
+      threads =
+          subst (λ s. ∥ AreThreadsOf s c.end_of_source-end.result (record {
+            setup = c.of-setup.result;
+            arms = c.args.passage.arms;
+            met = c.of.result;
+          }) ∥₁) (sym (c.of-setup.ensures ∙ c.send.ensures.setup))
+          ∣ threads_of c.args.self.setup (met_of (fault_of table.course)) table.journal.items table.of_table (record {
+            setup = c.of-setup.result;
+            arms = c.args.passage.arms;
+            met = c.of.result;
+          }) end (c.of.ensures ∙ ap met_of fault) c.requires.staffed whole broken ∣₁;
+      settled = ∥∥₁_elim c.requires.passed ∥∥₁_prop (λ (rows, holds, has, carries).
           subst (λ s. ∥ IsSettled g.W.Output
           (layout_of s) text table.given.value table.output c.end_of_source-end.result ∥₁) (sym c.of-setup.ensures)
-          (settled g.W.Output text table rows c.args.passage.outcome (c.send.ensures.rows rows holds) c.send.ensures.sent
-          (subst (λ s. HasPassed text (format_of s) c.args.passage.outcome (λ row. Contains rows row))
+          (settled g.W.Output text table rows c.args.passage.sent (c.send.ensures.rows rows holds) c.send.ensures.sent
+          (subst (λ s. HasPassed text (format_of s) c.args.passage.sent (λ row. Contains rows row))
           (sym c.send.ensures.setup) has)
-          c.is_some.result c.is_some.ensures c.end_of_source-end.result ends.whole ends.broken));
-      machine =
+          c.is_some.result c.is_some.ensures end whole broken));
+      machine = ∥∥₁_elim c.requires.passed ∥∥₁_prop (λ (rows, holds, has, carries).
           subst (λ s. ∥ IfWhole c.end_of_source-end.result (λ count refused notes.
-          IsOfMachine text s count c.args.passage.arms.value.items) ∥₁)
-          (sym (c.of-setup.ensures ∙ c.send.ensures.setup))
-          (whole_counts (λ count. IsOfMachine text c.args.self.setup count c.args.passage.arms.value.items)
-          c.args.passage.outcome (fault_of table.course) c.is_some.result table.rows table.journal.items c.end_of_source-end.result
-          ends.whole c.requires.machine);
+          IsMachineWithTable text s (g.W.Output.contents table.given.value) (g.W.Output.contents table.output) count
+          c.args.passage.arms.value.items) ∥₁) (sym c.of-setup.ensures)
+          (with_table g.W.Output text table rows c.args.passage.sent (c.send.ensures.rows rows holds) c.send.ensures.sent
+          (subst (λ s. HasPassed text (format_of s) c.args.passage.sent (λ row. Contains rows row))
+          (sym c.send.ensures.setup) has)
+          c.is_some.result c.is_some.ensures c.args.passage.arms.value.items
+          (subst (λ s. IfOk sent.outcome (λ count.
+          ∥ Carries text s count c.args.passage.arms.value.items (λ row. Contains rows row) ∥₁))
+          (sym c.send.ensures.setup) carries)
+          end whole));
     }

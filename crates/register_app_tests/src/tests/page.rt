@@ -1,0 +1,73 @@
+//! What the page of help says of options that are not given.
+
+use crate::tests::helpers::words_of;
+use register_records::Setup;
+use register_words::{HELP, Request, read_request};
+use std::alloc::{AllocError, Global};
+use std::test::Fail;
+
+/// What the page says that an option is where it is not given: `comma` of "Without it: comma."
+fn told_without<'a>(page: &'a str, option: &str) -> Option<&'a str> {
+    let (_, of_option) = page.split_once(option)?;
+    let (_, told) = of_option.split_once("Without it: ")?;
+    let (value, _) = told.split_once('.')?;
+    Some(value)
+}
+
+/// The names of all targets that the page has, as one list of them is given.
+fn told_targets(alloc: Global) -> Result<String, AllocError> {
+    let mut list = String::new(alloc);
+    let Some((_, from_names)) = HELP.split_once("separated by commas:\n") else {
+        return Ok(list);
+    };
+    let Some((names, _)) = from_names.split_once(';') else {
+        return Ok(list);
+    };
+    for line in names.lines() {
+        list.push_str(line.trim())?;
+    }
+    Ok(list)
+}
+
+/// What these words ask for, where they ask for tables.
+fn asked_by(alloc: Global, words: &[&str]) -> Result<Option<Setup>, AllocError> {
+    let words = words_of(alloc, words)?;
+    match read_request(alloc, words.as_slice()) {
+        Ok(Request::Convert(job)) => Ok(Some(job.setup)),
+        _ => Ok(None),
+    }
+}
+
+/// Whether two conversions are asked for alike.
+fn are_alike(one: &Setup, other: &Setup) -> bool {
+    one.targets() == other.targets()
+        && one.ring() == other.ring()
+        && one.delimiter() == other.delimiter()
+        && one.stripes() == other.stripes()
+        && one.form() == other.form()
+}
+
+/// Whether an option with this value asks for the same as no option.
+fn is_usual(alloc: Global, option: &str, value: &str) -> Result<bool, AllocError> {
+    let usual = asked_by(alloc, &[])?;
+    let asked = asked_by(alloc, &[option, value])?;
+    match (usual, asked) {
+        (Some(usual), Some(asked)) => Ok(are_alike(&usual, &asked)),
+        _ => Ok(false),
+    }
+}
+
+#[test]
+fn the_page_says_what_holds_without_an_option(rt: HostRuntime) -> Result<(), Fail> {
+    for option in ["--delimiter", "--ring", "--stripes"] {
+        let value = told_without(HELP, option).unwrap_or("nothing");
+        assert!(rt; is_usual(rt.alloc(), option, value)?, "{option}: {value}");
+    }
+    assert_eq!(rt; told_without(HELP, "--to"), Some("all"));
+    let targets = told_targets(rt.alloc())?;
+    assert!(rt;
+        is_usual(rt.alloc(), "--to", targets.as_str())?,
+        "{targets}"
+    );
+    Ok(())
+}

@@ -1,0 +1,235 @@
+-- Rows whose entries are numbered from 1 are the first rows of some records.
+use Rattle.std.proofs.Common.{◌≡◌, ◌∙◌, ◌+◌, ◌≤◌, ℕ, List, [], ◌∷◌, ◌++◌, Bool, true, false, ap, arith, length, map, refl, sym}
+use Rattle.std.proofs.lemmas.List.{append-nil, length-map}
+use Rattle.std.proofs.lemmas.Bool.Decides.{nat_tests}
+use Rattle.std.specs.Str.{chars, is_utf8}
+use Rattle.std.specs.List.{range_with_len}
+use Rattle.std.specs.Prelude.{◌&&◌, ℤ, ⊤, Err, None, Ok, Result, nat_le, nat_lt, replicate}
+use Rattle.date_texts.specs.declared.calendar.Target.{Target}
+use Rattle.date_texts.specs.declared.refusal.Refusal.{Refusal}
+use Rattle.date_texts.specs.declared.refusal.Refusal.TheVariants as refusal
+use Rattle.register_records.specs.Entries.{AreNumberedFrom, HasFirstEntries, Numbered, are_fit, are_short, are_utf8}
+use Rattle.register_records.specs.Entries.{body_of, entries_from, record_limit}
+use Rattle.register_records.specs.Outcomes.{AreRowsOf, IsOutcome, TableRow, accepted, no_date_text}
+use Rattle.register_records.specs.Outcomes.{no_such_date, out_of_range, refused, unknown_calendar}
+use Rattle.register_records.specs.Records.{Fields, Texts}
+use Rattle.register_records.specs.Seals.{before_seal, entry_records, is_seal}
+use Rattle.register_records.specs.Seen.{entry_seen}
+use Rattle.register_records.specs.Sources.{IsFrontOfTable}
+use Rattle.register_records.specs.TableColumns.{answer_texts, entry_field, entry_order, row_fields}
+use Rattle.register_records.specs.Lines.{line_text}
+use Rattle.register_records.specs.Tables.{Layout, heading_line, lines_text, row_line, table_text}
+use Rattle.register_records.specs.Views.{row_seen}
+use Rattle.register_records.specs.declared.rows.Row.{Row}
+use Rattle.register_records.specs.declared.setups.Form.{Form}
+use Rattle.register_records.specs.declared.setups.Form.TheVariants.{Plain, Sealed}
+use Rattle.register_records.proofs.FieldLemmas.{no_bytes}
+use Rattle.register_records.proofs.LineLemmas.{fields_in_parts}
+
+-- a body without the note for which a plain form has no place, and so an entry and a row
+abbrev placed : Form → Result Texts Refusal → Result Texts Refusal
+placed Plain (Ok t) = Ok (record { id = t.id; calendar = t.calendar; date = t.date; note = [] })
+placed Plain (Err r) = Err r
+placed Sealed body = body
+
+abbrev placed_entry : Form → Numbered → Numbered
+placed_entry form entry = record { number = entry.number; body = placed form entry.body }
+
+abbrev placed_row : Form → TableRow → TableRow
+placed_row form row =
+    record { number = row.number; body = placed form row.body; outcome = row.outcome; cells = row.cells }
+
+-- a record of that body
+abbrev of_texts : Form → Texts → Fields
+of_texts Plain t = t.id ∷ t.calendar ∷ t.date ∷ []
+of_texts Sealed t = t.id ∷ t.calendar ∷ t.date ∷ t.note ∷ []
+
+abbrev of_id : Form → List ℕ → Fields
+of_id form id = of_texts form (record { id = id; calendar = []; date = []; note = [] })
+
+abbrev record_of : Form → Result Texts Refusal → Fields
+record_of form (Ok t) = of_texts form t
+record_of form (Err refusal.FieldTooLong) = of_id form (replicate 41 0)
+record_of form (Err refusal.NotUtf8) = of_id form (255 ∷ [])
+record_of form (Err r) = []
+
+abbrev records_of : Form → List Numbered → List Fields
+records_of form entries = map (λ (entry : Numbered). record_of form entry.body) entries
+
+left_of : (a b : Bool) → (a && b) ≡ true → a ≡ true
+left_of true b h = refl
+left_of false b h = h
+
+right_of : (a b : Bool) → (a && b) ≡ true → b ≡ true
+right_of true b h = h
+right_of false b h = cc
+
+last_of : (a b : Bool) → (a && b) ≡ true → (a && true) ≡ true
+last_of true b h = refl
+last_of false b h = h
+
+-- FF stands in no text
+no_text : is_utf8 (255 ∷ []) ≡ false
+unfolding is_utf8 chars
+no_text = refl
+
+body_made : (form : Form) (body : Result Texts Refusal) → are_fit body ≡ true
+    → body_of form (record_of form body) ≡ placed form body
+body_made Plain (Ok t) fit =
+    let short : are_short (record { id = t.id; calendar = t.calendar; date = t.date; note = [] }) ≡ true =
+    last_of (nat_le (length t.id) 40 && nat_le (length t.calendar) 16 && nat_le (length t.date) 32)
+    (nat_le (length t.note) 80) (left_of (are_short t) (are_utf8 t) fit) in
+    let text : are_utf8 (record { id = t.id; calendar = t.calendar; date = t.date; note = [] }) ≡ true =
+    rw no_bytes (last_of (is_utf8 t.id && is_utf8 t.calendar && is_utf8 t.date) (is_utf8 t.note)
+    (right_of (are_short t) (are_utf8 t) fit)) in
+    rw (short, text) refl
+body_made Sealed (Ok t) fit =
+    let short = left_of (are_short t) (are_utf8 t) fit in
+    let text = right_of (are_short t) (are_utf8 t) fit in
+    rw (short, text) refl
+body_made Plain (Err refusal.FieldCount) fit = refl
+body_made Plain (Err refusal.FieldTooLong) fit = refl
+body_made Plain (Err refusal.NotUtf8) fit = rw no_text refl
+body_made Plain (Err r) fit = cc
+body_made Sealed (Err refusal.FieldCount) fit = refl
+body_made Sealed (Err refusal.FieldTooLong) fit = refl
+body_made Sealed (Err refusal.NotUtf8) fit = rw no_text refl
+body_made Sealed (Err r) fit = cc
+
+no_seal : (body : Result Texts Refusal) → is_seal (record_of Sealed body) ≡ false
+no_seal (Ok t) = refl
+no_seal (Err refusal.FieldTooLong) = refl
+no_seal (Err refusal.NotUtf8) = refl
+no_seal (Err r) = refl
+
+all_before : (entries : List Numbered) → before_seal (records_of Sealed entries) ≡ records_of Sealed entries
+unfolding before_seal
+all_before [] = refl
+all_before (entry ∷ entries) = rw (no_seal entry.body, all_before entries) refl
+
+all_records : (form : Form) (entries : List Numbered)
+    → entry_records form (records_of form entries) ≡ records_of form entries
+all_records Plain entries = refl
+all_records Sealed entries = all_before entries
+
+-- entries as the type of an entry has them
+abbrev AreFit : List Numbered → Type 0
+AreFit [] = ⊤
+AreFit (entry ∷ entries) = (entry.number ≤ record_limit) × (are_fit entry.body ≡ true) × AreFit entries
+
+rows_fit : (rows : List Row) → AreFit (map (λ (row : Row). entry_seen row.entry) rows)
+rows_fit [] = tt
+rows_fit (row ∷ rows) = (row.entry.limited, row.entry.fit, rows_fit rows)
+
+entry_made : (n m : ℕ) (a b : Result Texts Refusal) → n ≡ m → a ≡ b
+    → ◌≡◌ {A = Numbered} (record { number = n; body = a }) (record { number = m; body = b })
+entry_made n m a b e f = rw (e, f) refl
+
+entries_made : (form : Form) (k : ℕ) (entries : List Numbered) → AreNumberedFrom (k + 1) entries → AreFit entries
+    → entries_from form k (records_of form entries) ≡ map (placed_entry form) entries
+unfolding entries_from
+entries_made form k [] numbered fit = refl
+entries_made form k (entry ∷ entries) numbered fit =
+    let below : nat_lt k record_limit ≡ true = grind (arith, nat_tests, numbered.0, fit.0) in
+    let first = entry_made (k + 1) entry.number _ _ (sym numbered.0) (body_made form entry.body fit.1) in
+    let more = entries_made form (k + 1) entries numbered.1 fit.2 in
+    rw below (cc (first, more))
+
+some_records : (layout : Layout) (entries : List Numbered) → AreNumberedFrom 1 entries → AreFit entries
+    → HasFirstEntries layout.format None (map (placed_entry layout.format.form) entries)
+some_records layout entries numbered fit = (
+  [],
+  (
+    records_of layout.format.form entries,
+    tt,
+    append-nil _ ∙ sym (ap (entries_from layout.format.form 0) (all_records layout.format.form entries)
+        ∙ entries_made layout.format.form 0 entries numbered fit),
+  ),
+)
+
+-- the rows of those entries
+outcome_placed : (body : Result Texts Refusal) (outcome : Result ℤ Refusal) → IsOutcome body outcome
+    → IsOutcome (placed Plain body) outcome
+outcome_placed body outcome (refused {r = r}) = refused
+outcome_placed body outcome (unknown_calendar {t = t} none) = unknown_calendar none
+outcome_placed body outcome (no_date_text {t = t} calendar named none) = no_date_text calendar named none
+outcome_placed body outcome (no_such_date {t = t} calendar date says none) =
+    no_such_date calendar date (record { named = says.named; dated = says.dated }) none
+outcome_placed body outcome (out_of_range {t = t} calendar date says is out) =
+    out_of_range calendar date (record { named = says.named; dated = says.dated }) is out
+outcome_placed body outcome (accepted {t = t} calendar date says is within) =
+    accepted calendar date (record { named = says.named; dated = says.dated }) is within
+
+of_form : (form : Form) (body : Result Texts Refusal) (outcome : Result ℤ Refusal) → IsOutcome body outcome
+    → IsOutcome (placed form body) outcome
+of_form Plain body outcome is = outcome_placed body outcome is
+of_form Sealed body outcome is = is
+
+rows_placed : (form : Form) (targets : List Target) (entries : List Numbered) (rows : List TableRow)
+    → AreRowsOf targets entries rows
+    → AreRowsOf targets (map (placed_entry form) entries) (map (placed_row form) rows)
+rows_placed form targets [] [] are = tt
+rows_placed form targets [] (row ∷ rows) are = are
+rows_placed form targets (entry ∷ entries) [] are = are
+rows_placed form targets (entry ∷ entries) (row ∷ rows) are = (
+  record {
+    number = are.0.number;
+    body = ap (placed form) are.0.body;
+    outcome = of_form form entry.body row.outcome are.0.outcome;
+    cells = are.0.cells;
+  },
+  rows_placed form targets entries rows are.1,
+)
+
+-- they have the lines that the rows have
+entry_placed : (n : ℕ) (body : Result Texts Refusal) (outcome : Result ℤ Refusal) (cells : List (List ℕ))
+    → map (entry_field (placed_row Plain (record { number = n; body = body; outcome = outcome; cells = cells })))
+    (entry_order Plain)
+    ≡ map (entry_field (record { number = n; body = body; outcome = outcome; cells = cells })) (entry_order Plain)
+entry_placed n (Ok t) outcome cells = refl
+entry_placed n (Err r) outcome cells = refl
+
+fields_placed : (form : Form) (targets : List Target) (row : TableRow)
+    → row_fields form targets (placed_row form row) ≡ row_fields form targets row
+fields_placed Plain targets row =
+    fields_in_parts Plain targets (placed_row Plain row)
+    ∙ (ap (λ (fields : List (List ℕ)). fields ++ answer_texts targets row.outcome row.cells)
+    (entry_placed row.number row.body row.outcome row.cells)
+    ∙ sym (fields_in_parts Plain targets row))
+fields_placed Sealed targets row = refl
+
+lines_placed : (layout : Layout) (rows : List TableRow)
+    → lines_text layout (map (placed_row layout.format.form) rows) ≡ lines_text layout rows
+unfolding lines_text
+lines_placed layout [] = refl
+lines_placed layout (row ∷ rows) =
+    let first : row_line layout (placed_row layout.format.form row) ≡ row_line layout row =
+    ap (line_text layout.format.delimiter) (fields_placed layout.format.form layout.targets row) in
+    rw (first, lines_placed layout rows) refl
+
+numbers_placed : (form : Form) (j : ℕ) (entries : List Numbered) → AreNumberedFrom j entries
+    → map (λ (entry : Numbered). entry.number) (map (placed_entry form) entries)
+    ≡ range_with_len j (length (map (placed_entry form) entries))
+numbers_placed form j [] numbered = refl
+numbers_placed form j (entry ∷ entries) numbered =
+    let rest = numbers_placed form (j + 1) entries numbered.1 in cc (numbered.0, rest)
+
+-- rows are the first rows of some records, by what an entry may hold
+pub front_of_some : (layout : Layout) (rows : List Row)
+    → AreNumberedFrom 1 (map (λ (row : Row). entry_seen row.entry) rows)
+    → AreRowsOf layout.targets (map (λ (row : Row). entry_seen row.entry) rows) (map row_seen rows)
+    → IsFrontOfTable layout None (length (map row_seen rows)) (table_text layout (map row_seen rows))
+front_of_some layout rows numbered are =
+    let form = layout.format.form in
+    let entries = map (λ (row : Row). entry_seen row.entry) rows in
+    record {
+      entries = map (placed_entry form) entries;
+      rows = map (placed_row form) (map row_seen rows);
+      table = record {
+        numbered = numbers_placed form 1 entries numbered;
+        converted = rows_placed form layout.targets entries (map row_seen rows) are;
+        written = ap (λ (lines : List ℕ). heading_line layout ++ lines) (sym (lines_placed layout (map row_seen rows)));
+      };
+      counted = sym (length-map (map row_seen rows) (placed_row form));
+      first = some_records layout entries numbered (rows_fit rows);
+    }

@@ -1,0 +1,5 @@
+use Rattle.std.proofs.Math.Logic.{∥∥₁_map}
+use Rattle.register_records.proofs.rows.Row.renew.Goals as goal
+
+pub renew-requires-clause-cells : goal.renew-requires-clause-cells
+renew-requires-clause-cells c = ∥∥₁_map c.args.self.now.is_row (λ is. is.cells)

@@ -1,0 +1,91 @@
+-- What is known of the threads of a source, by how it ended.
+use Rattle.std.proofs.Common.{◌≡◌, ◌≢◌, ◌⊎◌, ◌∙◌, ◌≤◌, ◌<◌, ℕ, zero, suc, List, [], ◌∷◌, Option, Some, ap, arith}
+use Rattle.std.proofs.Common.{inl, inr, length, map, refl, replicate, subst, sym, true, Bool}
+use Rattle.std.specs.Prelude.{All, Err, IfSome, None, Ok, Result, nat_le}
+use Rattle.std.proofs.lemmas.Bool.{leb-true}
+use Rattle.std.proofs.lemmas.List.Elements.{All-cons}
+use Rattle.register_records.specs.Sources.{IfBroken, IfWhole, cause_number}
+use Rattle.register_records.specs.SetupRules.{most_stripes}
+use Rattle.register_records.specs.declared.setups.Setup.{Setup}
+use Rattle.register_records.specs.declared.sources.Cause.{Cause}
+use Rattle.register_records.specs.declared.sources.Cause.TheVariants as cause
+use Rattle.register_records.specs.declared.sources.Note.{Note}
+use Rattle.register_records.specs.declared.sources.SourceEnd.{SourceEnd}
+use Rattle.register_records.specs.declared.sources.SourceEnd.TheVariants as end
+use Rattle.register_run.specs.Arms.{arm_setup}
+use Rattle.register_run.specs.Courses.{IsLowest, IsMet, is_of_table}
+use Rattle.register_run.specs.Links.{AreStaffed}
+use Rattle.register_run.specs.Passages.{HasStarted}
+use Rattle.register_run.specs.Threads.{AreThreadsOf, HasRing}
+use Rattle.register_run.specs.declared.arms.Arm.{Arm}
+use Rattle.register_run.specs.declared.reports.Ran.{Ran}
+use Rattle.register_run.specs.declared.settling.Met.{Met}
+use Rattle.register_run.proofs.ArmLemmas.{and_left}
+use Rattle.register_run.proofs.HistoryLemmas.{staff}
+use Rattle.register_run.proofs.SettledLemmas.{thread_told}
+
+some_stripe : (setup : Setup) → 0 < setup.stripes
+some_stripe setup =
+    let least = leb-true 1 setup.stripes
+    (and_left (nat_le 1 setup.stripes) (nat_le setup.stripes most_stripes) setup.striped) in
+    omega (arith, least)
+
+-- arms that were started by a setup have its ring
+rings_of : (setup : Setup) (arms : List Arm) (n : ℕ) → map arm_setup arms ≡ replicate n setup
+    → All (HasRing setup.ring) arms
+rings_of setup [] n is = λ k d below. absurd (omega (arith, below))
+rings_of setup (arm ∷ arms) zero is = absurd (cc)
+rings_of setup (arm ∷ arms) (suc n) is =
+    let first : arm_setup arm ≡ setup = cc in let others : map arm_setup arms ≡ replicate n setup = cc in
+    let ring : arm.setup.value.ring ≡ setup.ring = ap (λ (s : Setup). s.ring) first in
+    All-cons (HasRing setup.ring) arm arms (arm.room ∙ ring, arm.room_for_rows ∙ ring) (rings_of setup arms n others)
+
+-- the lowest of causes of which one is 1 or 2
+lowest_two : (c : Cause) → cause_number c ≤ 2 → (c ≡ cause.NoMemory) ⊎ (c ≡ cause.NoThread)
+lowest_two cause.NoMemory low = inl refl
+lowest_two cause.NoThread low = inr refl
+lowest_two cause.Unconfirmed low = absurd (omega (arith, low))
+lowest_two cause.SinkFault low = absurd (omega (arith, low))
+lowest_two cause.ReadFault low = absurd (omega (arith, low))
+lowest_two cause.BadHeader low = absurd (omega (arith, low))
+lowest_two cause.TooManyRecords low = absurd (omega (arith, low))
+lowest_two cause.NotSealed low = absurd (omega (arith, low))
+
+module _ (setup : Setup) (met : Met) (journal : List Note) (of_table : IfSome met.fault (λ f. is_of_table f ≡ true))
+  where
+    low_end : (e : SourceEnd) (c : Cause) → cause_number c ≤ 2 → met.sent.outcome ≡ Err c
+        → IfWhole e (λ count refused notes. (met.sent.outcome ≡ Ok count) × (met.fault ≡ None) × (met.headed ≡ true)
+        × (count ≡ met.rows) × (refused ≡ length notes) × (notes ≡ journal))
+        → IfBroken e (IsLowest (IsMet met))
+        → (e ≡ end.Broken cause.NoMemory) ⊎ (e ≡ end.Broken cause.NoThread)
+    low_end (end.Whole count refused notes) c low told whole lowest = absurd (let ok = whole.0 in cc)
+    low_end (end.Broken b) c low told whole lowest =
+        let below = lowest.1 c (inl told) in
+        elim (lowest_two b (omega (arith, below, low))) [
+          | inl e ↦ inl (ap (λ x. end.Broken x) e)
+          | inr e ↦ inr (ap (λ x. end.Broken x) e)
+        ]
+
+    pub threads_of : (ran : Ran) (e : SourceEnd) → ran.met.value ≡ met
+        → AreStaffed setup met.sent.outcome ran.arms.value.items
+        → IfWhole e (λ count refused notes. (met.sent.outcome ≡ Ok count) × (met.fault ≡ None) × (met.headed ≡ true)
+        × (count ≡ met.rows) × (refused ≡ length notes) × (notes ≡ journal))
+        → IfBroken e (IsLowest (IsMet met)) → AreThreadsOf setup e ran
+    threads_of ran e is_met (inl (staffed, started)) whole lowest = record {
+      stripes = λ some. staff setup ran.arms.value.items staffed;
+      rings = rings_of setup ran.arms.value.items setup.stripes staffed;
+      none = λ none. absurd (let long = staff setup ran.arms.value.items staffed in let some = some_stripe setup in
+          let zero : length ran.arms.value.items ≡ 0 = ap length none in omega (arith, long, some, zero));
+      unstarted = λ is. absurd (subst HasStarted (thread_told met of_table e lowest is) started refl);
+      lowest = subst (λ m. IfBroken e (IsLowest (IsMet m))) (sym is_met) lowest;
+    }
+    threads_of ran e is_met (inr (none, why)) whole lowest = record {
+      stripes = λ some. absurd (some none);
+      rings = subst (All (HasRing setup.ring)) (sym none) (λ k d below. absurd (omega (arith, below)));
+      none = λ is. elim why [
+        | inl told ↦ low_end e cause.NoMemory (omega arith) told whole lowest
+        | inr told ↦ low_end e cause.NoThread (omega arith) told whole lowest
+      ];
+      unstarted = λ is. none;
+      lowest = subst (λ m. IfBroken e (IsLowest (IsMet m))) (sym is_met) lowest;
+    }

@@ -1,0 +1,68 @@
+-- What has become of a text and of the room for its table.
+use Rattle.std.specs.Prelude.{◌≡◌, ◌≢◌, ◌==◌, ◌≤◌, ℕ, Bool, true, false, List, [], length, Some, Result, Ok, Err}
+use Rattle.std.specs.List.{count_by}
+use Rattle.date_texts.specs.Refusals.{refusal_number}
+use Rattle.date_texts.specs.declared.refusal.Refusal.{Refusal}
+use Rattle.register_records.specs.Entries.{HasNoHeader, HasTooMany, IsNotSealed, record_limit}
+use Rattle.register_records.specs.SetupRules.{NamesTwice, is_delimiter}
+use Rattle.register_records.specs.Sources.{ArePartOfTable, IfBroken, IfWhole, IsFrontOfTable, IsTableOfAll}
+use Rattle.register_records.specs.Sources.{IsWholeTable}
+use Rattle.register_records.specs.Tables.{Layout}
+use Rattle.register_records.specs.declared.setups.Form.TheVariants.{Sealed}
+use Rattle.register_records.specs.declared.sources.Cause.TheVariants as cause
+use Rattle.register_records.specs.declared.sources.Note.{Note}
+use Rattle.register_records.specs.declared.sources.SourceEnd.{SourceEnd}
+use Rattle.register_records.specs.declared.sources.SourceEnd.TheVariants as end
+use Rattle.register_page.specs.Requests.{goes_beyond, layout_by, targets_at}
+use Rattle.register_page.specs.Rooms.{Puts}
+use Rattle.register_page.specs.declared.converting.Converted.{Converted}
+use Rattle.register_page.specs.declared.requests.Fault.{Fault}
+use Rattle.register_page.specs.declared.requests.Fault.TheVariants as fault
+
+-- how many of the refused rows have this refusal
+abbrev pub refused_with : List Note → Refusal → ℕ
+refused_with journal refusal =
+    count_by (λ (note : Note). refusal_number note.refusal == refusal_number refusal) journal
+
+-- the refused rows of a source that ended whole
+abbrev pub journal_in : SourceEnd → List Note
+journal_in (end.Whole rows refused journal) = journal.items
+journal_in (end.Broken cause) = []
+
+-- what is known to be a table, or a front of one, of the bytes that were made: nothing of them where the output failed,
+-- which is that memory ran out for it
+abbrev pub sound_part : SourceEnd → List ℕ → List ℕ
+sound_part (end.Broken cause.SinkFault) made = []
+sound_part other made = made
+
+-- the text was converted as it ended, and its table, or what was made of it, was put to the front of the room
+pub record IsConverted (layout : Layout) (text old new : List ℕ) (it : Converted) : Type 0 where
+  -- the whole table
+  pub whole : IfWhole it.end (λ rows refused journal. ∥ Puts old new it.length
+      (IsWholeTable layout (Some text) rows refused journal) ∥₁)
+  pub numbers : IfWhole it.end (λ rows refused journal.
+      (rows ≤ record_limit) × (refused ≤ rows) × (refused ≡ length journal))
+  -- where the conversion broke off, nothing or a front of the table
+  pub part : IfBroken it.end (λ c. ∥ Puts old new it.length (ArePartOfTable layout (Some text)) ∥₁)
+  pub no_memory : IfBroken it.end (λ c. c ≡ cause.SinkFault → (it.length ≡ 0) × (new ≡ old))
+  pub bad_header : IfBroken it.end (λ c. c ≡ cause.BadHeader
+      → HasNoHeader layout.format text × (it.length ≡ 0) × (new ≡ old))
+  pub too_many : IfBroken it.end (λ c. c ≡ cause.TooManyRecords → ∥ HasTooMany layout.format text ∥₁
+      × ∥ Puts old new it.length (IsFrontOfTable layout (Some text) record_limit) ∥₁)
+  pub not_sealed : IfBroken it.end (λ c. c ≡ cause.NotSealed
+      → (layout.format.form ≡ Sealed) × ∥ IsNotSealed layout.format text ∥₁
+      × ∥ Puts old new it.length (IsTableOfAll layout (Some text)) ∥₁)
+  pub never : IfBroken it.end (λ c. (c ≢ cause.NoThread) × (c ≢ cause.Unconfirmed))
+
+-- what is answered to what was asked: the first fault that it has, with the room as it was, or the conversion
+abbrev pub IsAnswer : List ℕ → ℕ → Bool → List ℕ → List ℕ → List ℕ → Result Converted Fault → Type 0
+IsAnswer columns delimiter sealed text old new (Err fault.NoSuchColumn) =
+    (goes_beyond columns ≡ true) × (new ≡ old)
+IsAnswer columns delimiter sealed text old new (Err fault.ColumnTwice) =
+    (goes_beyond columns ≡ false) × NamesTwice (targets_at columns) × (new ≡ old)
+IsAnswer columns delimiter sealed text old new (Err fault.Delimiter) =
+    (goes_beyond columns ≡ false) × ¬ (NamesTwice (targets_at columns)) × (is_delimiter delimiter ≡ false)
+    × (new ≡ old)
+IsAnswer columns delimiter sealed text old new (Ok it) =
+    (goes_beyond columns ≡ false) × ¬ (NamesTwice (targets_at columns)) × (is_delimiter delimiter ≡ true)
+    × IsConverted (layout_by columns delimiter sealed) text old new it

@@ -1,0 +1,33 @@
+-- What is asked of a table.
+use Rattle.std.specs.Prelude.{ℕ, Bool, List, nat_le, map, get_or, if◌then◌else◌}
+use Rattle.std.specs.List.{list_any}
+use Rattle.date_texts.specs.Calendars.{all_targets}
+use Rattle.date_texts.specs.declared.calendar.Target.{Target}
+use Rattle.date_texts.specs.declared.calendar.Target.TheVariants.{Tzolkin}
+use Rattle.register_records.specs.Tables.{Layout}
+use Rattle.register_records.specs.declared.setups.Form.{Form}
+use Rattle.register_records.specs.declared.setups.Form.TheVariants.{Plain, Sealed}
+use Rattle.register_page.specs.declared.requests.Fault.{Fault}
+use Rattle.register_page.specs.declared.requests.Fault.TheVariants.{ColumnTwice, Delimiter, NoSuchColumn}
+
+-- one of these places, from 0, has none of the fourteen targets
+abbrev pub goes_beyond : List ℕ → Bool
+goes_beyond columns = list_any (λ place. nat_le 14 place) columns
+
+-- the targets at these places of the list of all
+abbrev pub targets_at : List ℕ → List Target
+targets_at columns = map (λ place. get_or all_targets place Tzolkin) columns
+
+abbrev pub form_by : Bool → Form
+form_by sealed = if sealed then Sealed else Plain
+
+-- the table that is asked for by these columns, this byte between two fields, and whether the register has seals
+abbrev pub layout_by : List ℕ → ℕ → Bool → Layout
+layout_by columns delimiter sealed =
+    record { format = record { delimiter = delimiter; form = form_by sealed }; targets = targets_at columns }
+
+-- the number of a fault
+abbrev pub fault_number : Fault → ℕ
+fault_number NoSuchColumn = 1
+fault_number ColumnTwice = 2
+fault_number Delimiter = 3

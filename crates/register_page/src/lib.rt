@@ -1,0 +1,10 @@
+//! A register in memory, converted into memory that the caller lends: `register` for a page, with no file and no thread.
+#![tactic(auto)]
+
+mod converting;
+mod requests;
+mod rooms;
+
+pub use converting::{Converted, convert_text};
+pub use requests::Fault;
+pub use rooms::put;

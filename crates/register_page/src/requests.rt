@@ -1,0 +1,106 @@
+//! What is asked of a table.
+
+ghost use Rattle.std.specs.Prelude.{◌≡◌, ◌<◌, ◌≤◌, get_or, true, false, length, take, IfOk, IfErr};
+ghost use Rattle.date_texts.specs.Calendars.{all_targets};
+ghost use Rattle.register_records.specs.SetupRules.{NamesTwice, is_delimiter};
+ghost use Rattle.register_records.specs.Views.{layout_of};
+ghost use Rattle.register_page.specs.Requests.{form_by, goes_beyond, layout_by, targets_at};
+
+use date_texts::laws::{default_targets, few_targets};
+use date_texts::{MAX_TARGETS, Target};
+use register_records::{Form, Setup, SetupFault};
+
+/// Why nothing is converted: the first of these that applies.
+#[derive(Clone, Copy, PartialEq, Eq, Debug)]
+pub enum Fault {
+    /// A column has a place above 13.
+    NoSuchColumn,
+    /// A column is named twice.
+    ColumnTwice,
+    /// The delimiter is no comma, semicolon or tab.
+    Delimiter,
+}
+
+impl Fault {
+    ghost use Rattle.register_page.specs.Requests.{fault_number};
+
+    /// The number of the fault, from 1 for `NoSuchColumn` to 3 for `Delimiter`.
+    pub fn number(&self) -> u8
+        ensures { result ≡ fault_number self.now }
+    {
+        match self {
+            Fault::NoSuchColumn => 1,
+            Fault::ColumnTwice => 2,
+            Fault::Delimiter => 3,
+        }
+    }
+}
+
+/// The form of a register that has seals, or of one that has none.
+fn form_of(sealed: bool) -> Form
+    ensures { result ≡ form_by sealed }
+{
+    if sealed { Form::Sealed } else { Form::Plain }
+}
+
+/// Whether a column has no target.
+fn goes_beyond_all(columns: &[u8]) -> bool
+    ensures { result ≡ goes_beyond columns.now }
+{
+    columns.iter().any(|column| *column as usize >= MAX_TARGETS)
+}
+
+/// The target of a column.
+fn target_at(column: u8) -> Target
+    requires { column < 14 }
+    ensures { result ≡ get_or all_targets column Target.Tzolkin }
+{
+    default_targets();
+    Target::ALL[column as usize]
+}
+
+/// More targets than there are: of so many, two are the same.
+const TOO_MANY: usize = MAX_TARGETS + 1;
+
+/// Sets the first targets to those of the columns, as far as there is room, and says how many they are.
+fn set_targets(targets: &mut [Target; TOO_MANY], columns: &[u8]) -> usize
+    requires { goes_beyond columns.now ≡ false }
+    ensures few { result ≤ 15 }
+    ensures value { take result targets.new ≡ targets_at (take 15 columns.now) }
+{
+    let count = usize::min(columns.len(), TOO_MANY);
+    'columns: for i in 0..count {
+        targets[i] = target_at(columns[i]);
+    }
+    count
+}
+
+/// The setup of the table with these columns.
+///
+/// # Errors
+///
+/// The first fault that applies.
+pub(crate) fn setup_for(columns: &[u8], delimiter: u8, sealed: bool) -> Result<Setup, Fault>
+    ensures value { IfOk result (λ s. layout_of s ≡ layout_by columns.now delimiter sealed) }
+    ensures good { IfOk result (λ s. (goes_beyond columns.now ≡ false) × (¬ (NamesTwice (targets_at columns.now)))
+        × (is_delimiter delimiter ≡ true)) }
+    ensures none { IfErr result (λ f. f ≡ Fault.NoSuchColumn → goes_beyond columns.now ≡ true) }
+    ensures twice { IfErr result (λ f. f ≡ Fault.ColumnTwice
+        → (goes_beyond columns.now ≡ false) × NamesTwice (targets_at columns.now)) }
+    ensures delimiter { IfErr result (λ f. f ≡ Fault.Delimiter
+        → (goes_beyond columns.now ≡ false) × (¬ (NamesTwice (targets_at columns.now)))
+        × (is_delimiter delimiter ≡ false)) }
+{
+    if goes_beyond_all(columns) {
+        return Err(Fault::NoSuchColumn);
+    }
+    few_targets();
+    let mut targets = [Target::Tzolkin; TOO_MANY];
+    let count = set_targets(&mut targets, columns);
+    match Setup::new(&targets[..count], 1, delimiter, 1, form_of(sealed)) {
+        Ok(setup) => Ok(setup),
+        Err(SetupFault::TargetTwice) => Err(Fault::ColumnTwice),
+        Err(SetupFault::Delimiter) => Err(Fault::Delimiter),
+        Err(SetupFault::RingSize | SetupFault::Stripes) => unreachable!(),
+    }
+}

@@ -1,0 +1,33 @@
+-- What the numbers of a sheet's reports say.
+use Rattle.std.specs.Prelude.{◌≡◌, ◌⊎◌, ℕ, List, map, length}
+use Rattle.std.specs.List.{concat}
+use Rattle.register_records.specs.Entries.{Fields}
+use Rattle.register_page.specs.Rooms.{with_front}
+use Rattle.register_sheets.specs.Sheets.{all_chosen, widest}
+use Rattle.register_page_exports.specs.declared.sheets.PickReport.{PickReport}
+
+-- this text was put to the front of the room, and its length is told
+abbrev pub PutsText : List ℕ → List ℕ → List ℕ → ℕ → Type 0
+PutsText text old new told = (told ≡ length text) × (new ≡ with_front text old)
+
+-- the fields at these places of these records were put to the front of the rooms, and their numbers are told
+pub record PutsFields (places : List ℕ) (records : List Fields) (bytes_old bytes_new : List ℕ)
+    (lengths_old lengths_new : List ℕ) (report : PickReport)
+    : Type 0 where
+  pub bytes : bytes_new ≡ with_front (concat (all_chosen places records)) bytes_old
+  pub lengths : lengths_new ≡ with_front (map length (all_chosen places records)) lengths_old
+  pub length_is : report.length ≡ length (concat (all_chosen places records))
+  pub fields_are : report.fields ≡ length (map length (all_chosen places records))
+  pub records_are : report.records ≡ length records
+  pub widest_is : report.widest ≡ widest records
+
+-- nothing was put, and no number told but why
+pub record PutsNothing (bytes_old bytes_new : List ℕ) (lengths_old lengths_new : List ℕ) (report : PickReport)
+    : Type 0 where
+  pub why : (report.ending ≡ 1) ⊎ (report.ending ≡ 2)
+  pub bytes : bytes_new ≡ bytes_old
+  pub lengths : lengths_new ≡ lengths_old
+  pub length_is : report.length ≡ 0
+  pub fields_are : report.fields ≡ 0
+  pub records_are : report.records ≡ 0
+  pub widest_is : report.widest ≡ 0

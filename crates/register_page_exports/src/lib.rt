@@ -1,0 +1,124 @@
+//! What a page calls. A page lends all memory, and reads what a call reports.
+#![tactic(auto)]
+
+ghost use Rattle.std.specs.Prelude.{Err, Ok, Result};
+ghost use Rattle.register_page.specs.Conversions.{IsAnswer, journal_in};
+ghost use Rattle.register_page.specs.declared.converting.Converted.{Converted};
+ghost use Rattle.register_page.specs.declared.requests.Fault.{Fault};
+ghost use Rattle.register_page_exports.specs.Reports.{AreCounts, Reports, ReportsEnd};
+
+pub mod sheets;
+
+use date_texts::Refusal;
+use register_page::{Converted, Fault, convert_text};
+use register_records::SourceEnd;
+use std::alloc::Global;
+
+/// How many rows were refused with each refusal.
+#[repr(C)]
+#[derive(Clone, Copy)]
+pub struct Counts {
+    pub field_count: usize,
+    pub field_too_long: usize,
+    pub not_utf8: usize,
+    pub unknown_calendar: usize,
+    pub date_text: usize,
+    pub no_such_date: usize,
+    pub out_of_range: usize,
+}
+
+/// How a conversion ended. A number that tells nothing is 0.
+#[repr(C)]
+#[derive(Clone, Copy)]
+pub struct Report {
+    /// 0: the table is whole. 1 to 8: it broke off for the cause of this number. 9 to 11: no such column, a column named
+    /// twice, and no such delimiter.
+    pub ending: usize,
+    /// How many bytes were made. Where they are more than the room, it is as it was.
+    pub length: usize,
+    /// Of a whole table its rows, how many of them are refused, and for what.
+    pub rows: usize,
+    pub refused: usize,
+    pub refused_with: Counts,
+}
+
+/// Counts the refused rows by their refusals.
+fn counts_of(converted: &Converted) -> Counts
+    ensures { AreCounts result (journal_in converted.now.end) }
+{
+    Counts {
+        field_count: converted.refused_with(Refusal::FieldCount),
+        field_too_long: converted.refused_with(Refusal::FieldTooLong),
+        not_utf8: converted.refused_with(Refusal::NotUtf8),
+        unknown_calendar: converted.refused_with(Refusal::UnknownCalendar),
+        date_text: converted.refused_with(Refusal::DateText),
+        no_such_date: converted.refused_with(Refusal::NoSuchDate),
+        out_of_range: converted.refused_with(Refusal::OutOfRange),
+    }
+}
+
+/// The report of a conversion.
+fn report_of(converted: &Converted) -> Report
+    ensures { ReportsEnd result converted.now.end converted.now.length }
+{
+    let length = converted.length;
+    let refused_with = counts_of(converted);
+    match &converted.end {
+        SourceEnd::Whole { rows, refused, .. } => Report {
+            ending: 0,
+            length,
+            rows: *rows as usize,
+            refused: *refused as usize,
+            refused_with,
+        },
+        SourceEnd::Broken { cause } => Report {
+            ending: cause.number() as usize,
+            length,
+            rows: 0,
+            refused: 0,
+            refused_with,
+        },
+    }
+}
+
+/// The report of a fault.
+fn report_of_fault(fault: Fault) -> Report
+    ensures { Reports result (Err fault) }
+{
+    Report {
+        ending: 8 + fault.number() as usize,
+        length: 0,
+        rows: 0,
+        refused: 0,
+        refused_with: Counts {
+            field_count: 0,
+            field_too_long: 0,
+            not_utf8: 0,
+            unknown_calendar: 0,
+            date_text: 0,
+            no_such_date: 0,
+            out_of_range: 0,
+        },
+    }
+}
+
+/// Converts the register `text`, and puts its table to the front of `room`: [`convert_text`], with a report.
+#[unsafe(no_mangle)]
+pub extern "C" fn register_convert(
+    alloc: Global,
+    text: &[u8],
+    columns: &[u8],
+    delimiter: u8,
+    sealed: bool,
+    room: &mut [u8],
+    report: &mut Report,
+)
+    // The report is that of an answer to what was asked, with the room as the answer says.
+    ensures { (answer : Result Converted Fault) × Reports report.new answer
+        × IsAnswer columns.now delimiter sealed text.now room.old room.new answer }
+{
+    *report = match convert_text(alloc, text, columns, delimiter, sealed, room) {
+        Ok(converted) => report_of(&converted),
+        Err(fault) => report_of_fault(fault),
+    };
+}

@@ -1,0 +1,7 @@
+-- Which file serves which public clause:
+--   LineLemmas: that lines are the text of their fields, for `write` and `join`. ListLemmas: what is left of a list of
+--     fields, for both.
+--   SheetLemmas: `pick`, and that records come one after the other, for `join`.
+pub mod ListLemmas
+pub mod LineLemmas
+pub mod SheetLemmas

@@ -1,0 +1,58 @@
+-- Records that are picked, grouped and joined, one after the other.
+use Rattle.std.proofs.Common.{◌≡◌, ◌<◌, ◌+◌, ◌∙◌, ℕ, zero, suc, List, [], ◌∷◌, ◌++◌, take, map, length, get_or, refl}
+use Rattle.std.proofs.Common.{sym, arith, append_assoc, append-nil}
+use Rattle.std.specs.Prelude.{max, Option, Some, None, IsSome, IfSome}
+use Rattle.std.specs.List.{concat}
+use Rattle.std.proofs.lemmas.List.{flat_map_more, map-append, take_more}
+use Rattle.std.proofs.lemmas.List.Folds.{concat-append}
+use Rattle.csv.specs.Records.{field_at}
+use Rattle.register_records.specs.Entries.{Fields}
+use Rattle.register_records.specs.ReadingState.{TakesFirst}
+use Rattle.register_sheets.specs.Reading.{left_in}
+use Rattle.register_sheets.specs.Sheets.{all_chosen, chosen, widest}
+
+-- a field that a record has not
+pub absent : (fields : List (List ℕ)) (place : ℕ) → field_at fields place ≡ None → get_or fields place [] ≡ []
+unfolding field_at
+absent [] place e = refl
+absent (f ∷ fields) zero e = cc
+absent (f ∷ fields) (suc place) e = absent fields place e
+
+-- one more place
+pub one_chosen : (places : List ℕ) (fields : Fields) (i : ℕ) → i < length places
+    → chosen (take (i + 1) places) fields
+    ≡ chosen (take i places) fields ++ get_or fields (get_or places i 0) [] ∷ []
+one_chosen places fields i lt =
+    rw (take_more places i 0 lt) (map-append _ (take i places) (get_or places i 0 ∷ []))
+
+pub one_more_bytes : (old now new : List ℕ) (fields : List (List ℕ)) (field : List ℕ) → now ≡ old ++ concat fields
+    → new ≡ now ++ field → new ≡ old ++ concat (fields ++ field ∷ [])
+one_more_bytes old now new fields field h e =
+    e ∙ rw (h, concat-append fields (field ∷ []), append-nil field) (append_assoc old (concat fields) field)
+
+pub one_more_length : (old now new : List ℕ) (fields : List (List ℕ)) (field : List ℕ)
+    → now ≡ old ++ map length fields → new ≡ now ++ length field ∷ []
+    → new ≡ old ++ map length (fields ++ field ∷ [])
+one_more_length old now new fields field h e =
+    e ∙ rw (h, map-append length fields (field ∷ [])) (append_assoc old (map length fields) (length field ∷ []))
+
+-- one more record
+pub all_more_chosen : (places : List ℕ) (records : List Fields) (fields : Fields)
+    → all_chosen places (records ++ fields ∷ []) ≡ all_chosen places records ++ chosen places fields
+all_more_chosen places records fields = sym (flat_map_more (chosen places) [] records fields)
+
+pub widest_more : (records : List Fields) (fields : Fields)
+    → widest (records ++ fields ∷ []) ≡ max (widest records) (length fields)
+widest_more [] fields = omega arith
+widest_more (first ∷ records) fields = rw (widest_more records fields) (omega arith)
+
+-- the first of what is left, and the end
+pub first_left : (old new : Option (List Fields)) (fields : Fields) → IsSome old → TakesFirst old new fields
+    → left_in old ≡ fields ∷ left_in new
+first_left None new fields some takes = cc some
+first_left (Some left) None fields some takes = absurd takes
+first_left (Some left) (Some rest) fields some takes = takes
+
+pub none_left : (old : Option (List Fields)) → IfSome old (λ left. left ≡ []) → left_in old ≡ []
+none_left None none = refl
+none_left (Some left) none = none

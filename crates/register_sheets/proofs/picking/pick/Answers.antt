@@ -1,0 +1,23 @@
+use Rattle.std.proofs.Common.{◌≡◌, ◌∙◌, ◌-◌, ◌+◌, [], ◌∷◌, ◌++◌, suc, append_assoc, ap, arith}
+use Rattle.std.proofs.Common.{length-append, rules, true}
+use Rattle.std.specs.Prelude.{Ok}
+use Rattle.csv.specs.Records.{fields_of}
+use Rattle.register_sheets.proofs.picking.pick.Goals as goal
+
+pub records-preserved : goal.records-preserved
+records-preserved c =
+    let (done, picked, counted, rest) = c.records.invariant.done in
+    let yes : c.in_ok-read_next.field-0 ≡ true = search rules in
+    let found = c.read_next.ensures.found (c.in_ok-read_next.was ∙ ap Ok yes) in
+    let fields = fields_of c.read_next.new.record in
+    let step : c.args.most - c.records.counter ≡ suc (c.args.most - (c.records.counter + 1)) =
+    omega (arith, c.records-test.true) in
+    record {
+      reading = c.read_next.ensures.reading (c.in_ok-read_next.was ∙ ap Ok yes);
+      done = (
+        done ++ fields ∷ [],
+        c.in_ok-add.ensures done picked,
+        length-append done (fields ∷ []) ∙ ap (λ n. n + 1) counted,
+        append_assoc done (fields ∷ []) _ ∙ rw (found, step) at rest,
+      );
+    }

@@ -1,0 +1,46 @@
+-- Records of a sheet, and the text of records.
+use Rattle.std.specs.Prelude.{◌≡◌, ◌++◌, ◌-◌, ℕ, zero, suc, List, [], ◌∷◌, length, map, max, take, drop, get_or}
+use Rattle.std.specs.Prelude.{replicate}
+use Rattle.std.specs.List.{concat, flat_map}
+use Rattle.register_records.specs.Entries.{Fields}
+use Rattle.register_records.specs.Lines.{line_text}
+use Rattle.register_sheets.specs.declared.picking.Picked.{Picked}
+
+-- the fields of a record at these places, from 0; one that it has not is empty
+abbrev pub chosen : List ℕ → Fields → Fields
+chosen places fields = map (λ place. get_or fields place []) places
+
+-- those of each record
+abbrev pub all_chosen : List ℕ → List Fields → Fields
+all_chosen places records = flat_map (chosen places) records
+
+-- the most fields of a record
+abbrev pub widest : List Fields → ℕ
+widest [] = 0
+widest (fields ∷ records) = max (length fields) (widest records)
+
+-- the fields at these places of these records were picked, and the records counted
+pub record IsPicked (places : List ℕ) (picked : Picked) (records : List Fields) : Type 0 where
+  pub bytes : picked.bytes.items ≡ concat (all_chosen places records)
+  pub lengths : picked.lengths.items ≡ map length (all_chosen places records)
+  pub counted : picked.records ≡ length records
+  pub wide : picked.widest ≡ widest records
+
+-- the first groups of so many fields
+abbrev pub groups : ℕ → ℕ → List (List ℕ) → List Fields
+groups zero width fields = []
+groups (suc count) width fields = take width fields ∷ groups count width (drop width fields)
+
+-- a record with empty fields behind its own, up to so many
+abbrev pub filled : ℕ → Fields → Fields
+filled count fields = fields ++ replicate (count - length fields) []
+
+-- the records, and behind each the next so many of the fields
+abbrev pub joined : ℕ → ℕ → List Fields → List (List ℕ) → List Fields
+joined fill width [] fields = []
+joined fill width (own ∷ records) fields =
+    (filled fill own ++ take width fields) ∷ joined fill width records (drop width fields)
+
+-- the text of records
+abbrev pub records_text : ℕ → List Fields → List ℕ
+records_text delimiter records = flat_map (line_text delimiter) records

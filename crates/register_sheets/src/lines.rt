@@ -1,0 +1,67 @@
+//! Lines of fields, as csv's writer writes them.
+
+ghost use Rattle.std.specs.Prelude.{◌≡◌, ◌∷◌, [], ℕ, List, IfOk, OnOk, replicate};
+ghost use Rattle.register_sheets.specs.LineViews.{Begins, EndsLine, GainsFields};
+
+use csv::{Writer, WriterBuilder};
+use std::alloc::{AllocError, Global};
+
+/// Lines, and the fields so far of one more behind them.
+#[derive(Drop)]
+pub(crate) struct Lines {
+    writer: Writer<Vec<u8>>,
+}
+
+impl Lines {
+    /// No line yet. This byte will stand between two fields.
+    pub fn new(alloc: Global, delimiter: u8) -> Lines
+        ensures { Begins delimiter [] [] result }
+    {
+        let writer = WriterBuilder::new()
+            .delimiter(delimiter)
+            .flexible(true)
+            .from_writer(Vec::new(alloc));
+        Lines { writer }
+    }
+
+    /// Appends one more field, quoted where it must be.
+    pub fn push(&mut self, field: &[u8]) -> Result<(), AllocError>
+        ensures { OnOk result (GainsFields (field.now ∷ []) self.old self.new) }
+    {
+        match self.writer.write_field(field) {
+            Ok(()) => Ok(()),
+            Err(_) => Err(AllocError),
+        }
+    }
+
+    /// Appends empty fields, so many.
+    pub fn push_empty(&mut self, count: usize) -> Result<(), AllocError>
+        ensures { OnOk result (GainsFields (replicate count []) self.old self.new) }
+    {
+        'fields: for _ in 0..count {
+            self.push(b"")?;
+        }
+        Ok(())
+    }
+
+    /// Ends the line.
+    pub fn end(&mut self) -> Result<(), AllocError>
+        ensures { OnOk result (EndsLine self.old self.new) }
+    {
+        match self.writer.end_record() {
+            Ok(()) => Ok(()),
+            Err(_) => Err(AllocError),
+        }
+    }
+
+    /// The text of the lines.
+    pub fn into_text(self) -> Result<Vec<u8>, AllocError>
+        ensures { (delimiter : ℕ) (before : List ℕ) → Begins delimiter before [] self
+            → IfOk result (λ text. text.items ≡ before) }
+    {
+        match self.writer.into_inner() {
+            Ok(text) => Ok(text),
+            Err(_) => Err(AllocError),
+        }
+    }
+}

@@ -1,0 +1,47 @@
+//! The text of records.
+
+ghost use Rattle.std.specs.Prelude.{◌≡◌, ◌≢◌, length, IfOk, IfErr};
+ghost use Rattle.std.specs.Int.{div_ceil};
+ghost use Rattle.register_sheets.specs.Fields.{fields_by};
+ghost use Rattle.register_sheets.specs.Sheets.{groups, records_text};
+
+use crate::field_lists::FieldsLeft;
+use crate::lines::Lines;
+use crate::reading::SheetFault;
+use std::alloc::Global;
+
+/// The CSV text of records of `width` fields each: of the fields of these `lengths` in `bytes`, in order; the last record
+/// has what is left. `delimiter` stands between two fields, and each line ends with a line feed.
+///
+/// # Errors
+///
+/// `NoWidth` exactly where the width is 0, and `OutOfMemory`.
+///
+/// # Examples
+///
+/// ```
+/// let text = write(rt.alloc(), b"a,bc\"d", &[3, 0, 3], 2, b',')?;
+/// assert!(rt; text.as_slice() == b"\"a,b\",\n\"c\"\"d\"\n".as_slice());
+/// ```
+pub fn write(
+    alloc: Global,
+    bytes: &[u8],
+    lengths: &[u32],
+    width: usize,
+    delimiter: u8,
+) -> Result<Vec<u8>, SheetFault>
+    ensures text { IfOk result (λ text. (width ≢ 0) × (text.items ≡ records_text delimiter
+        (groups (div_ceil (length lengths.now) width) width (fields_by lengths.now bytes.now)))) }
+    ensures width { IfErr result (λ e. e ≡ SheetFault.NoWidth → width ≡ 0) }
+{
+    if width == 0 {
+        return Err(SheetFault::NoWidth);
+    }
+    let mut fields = FieldsLeft::new(bytes, lengths);
+    let mut lines = Lines::new(alloc, delimiter);
+    'groups: for _ in 0..lengths.len().div_ceil(width) {
+        fields.push_next(width, &mut lines)?;
+        lines.end()?;
+    }
+    Ok(lines.into_text()?)
+}

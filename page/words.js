@@ -1,0 +1,256 @@
+// All words of the page, in one language: for another, this file is the one to write anew. Between ` stand words of a
+// register, as they are typed. The reasons and causes are those of the documents, which page/try-words compares.
+
+'use strict';
+
+const WORDS = {
+  lang: 'en',
+  title: 'register: historical dates from calendar to calendar',
+  name: 'register',
+  about: 'Converts historical dates from calendar to calendar: one, or a whole register. Nothing that you type or ' +
+    'choose leaves this machine.',
+  proved: 'What is proved: the table of a register is made by a program that was proved before it was compiled. ' +
+    'Trusted, and not proved: the compiler for another target, linker and lowering, the heap, the browser’s ' +
+    'engine, and the script of this page. How a sheet is cut is its user’s choice.',
+  noScript: 'This page needs JavaScript and WebAssembly, which are switched off here.',
+  noModule: (why) => `The converter could not be started in this browser: ${why}`,
+  parts: 'Parts of this page',
+
+  // ---- One date ----
+  oneDate: 'One date',
+  calendar: 'Calendar',
+  date: 'Date',
+  waits: 'Type a date, and its day comes here in all calendars.',
+  weekday: 'Weekday',
+  dayNumber: 'Day number',
+  dayNumberIs: '1 is Monday, 1 January of the Gregorian year 1',
+  isDay: (weekday, number) => `${weekday}, day number ${number}`,
+  isNoDay: (reason) => `No day: ${reason}.`,
+  noCell: 'before its first day',
+  calendars: {
+    gregorian: 'Gregorian', iso: 'ISO week', julian: 'Julian', coptic: 'Coptic', ethiopic: 'Ethiopic',
+    egyptian: 'Egyptian', armenian: 'Armenian', islamic: 'Islamic', hebrew: 'Hebrew', longcount: 'Mayan long count',
+    french: 'French Republican', roman: 'Roman', haab: 'Haab', tzolkin: 'Tzolkin',
+  },
+  forms: {
+    gregorian: 'Year, month, day: `1699-11-30`. The year 0 is 1 BC.',
+    iso: 'Year, week, weekday from 1 for Monday: `1945-W46-1`.',
+    julian: 'Year, month, day: `1699-11-30`. Every year begins on 1 January; `-44-3-15` is in 44 BC, and there is no ' +
+      'year 0.',
+    coptic: 'Year of the Martyrs, month, day: `1661-3-3`.',
+    ethiopic: 'Year, month, day: `1938-3-3`.',
+    egyptian: 'Year, month, day: `2694-7-10`.',
+    armenian: 'Year, month, day: `1395-4-5`.',
+    islamic: 'Year, month, day: `1364-12-6`. Months: 1 Muharram, 2 Safar, 3 Rabi I, 4 Rabi II, 5 Jumada I, ' +
+      '6 Jumada II, 7 Rajab, 8 Shaban, 9 Ramadan, 10 Shawwal, 11 Dhu al-Qada, 12 Dhu al-Hijja. By arithmetic: an ' +
+      'observed moon may differ by a day or two.',
+    hebrew: 'Year, month, day: `5706-9-7`. Months: 1 Nisan, 2 Iyyar, 3 Sivan, 4 Tammuz, 5 Av, 6 Elul, 7 Tishri, ' +
+      '8 Marheshvan, 9 Kislev, 10 Tevet, 11 Shevat, 12 Adar; in a leap year 12 Adar I, 13 Adar II. The year begins ' +
+      'with month 7.',
+    longcount: 'Baktun, katun, tun, uinal, kin: `12.16.11.16.9`.',
+    french: 'Year, month, day: `8-2-18`. Months: 1 Vendémiaire, 2 Brumaire, 3 Frimaire, 4 Nivôse, 5 Pluviôse, ' +
+      '6 Ventôse, 7 Germinal, 8 Floréal, 9 Prairial, 10 Messidor, 11 Thermidor, 12 Fructidor, 13 the extra days. ' +
+      'Days of the years 4, 8 and 12 come out one day early: the leap years here are 4, 8 and 12, and those of the ' +
+      'time were 3, 7 and 11.',
+    roman: 'Year and month of the Kalends (K), Nones (N) or Ides (I), and the days up to it, it counted too: ' +
+      '`1945-11-K3` is 30 October. `1944-3-K6B` is 25 February of a leap year. Both are Julian.',
+  },
+
+  // ---- A register ----
+  register: 'A register',
+  registerIs: 'A CSV file in UTF-8 with the header `id,calendar,date`, and in each further record an id of your own, ' +
+    'the name of a calendar, and a date. Another kind of table is a sheet: see below.',
+  chooseRegisters: 'Registers',
+  dropRegisters: 'Choose one or more files, or drop them on this page.',
+  delimiter: 'Between two fields stands',
+  comma: 'a comma',
+  semicolon: 'a semicolon',
+  tab: 'a tab',
+  sealed: 'The registers are sealed',
+  sealedIs: 'They have the header `id,calendar,date,note`, and end with the line `END,N` for their N records. One ' +
+    'that lost records breaks off.',
+  columns: 'Columns of the table',
+  columnsIs: 'They come in the order in which you tick them.',
+  all: 'All',
+  none: 'None',
+  order: (names) => `In this order: ${names.join(', ')}.`,
+  noColumns: 'No columns but those of day number and weekday.',
+  convert: 'Convert',
+  stop: 'Stop',
+  tables: 'Tables',
+  nothingChosen: 'Choose a register first.',
+  chosen: (name, size) => `${name}, ${size}`,
+  bytes: (n) => {
+    const [size, unit] = n < 1e3 ? [n, n === 1 ? 'byte' : 'bytes'] : n < 1e6 ? [n / 1e3, 'KB'] : [n / 1e6, 'MB'];
+    return `${size < 10 && n >= 1e3 ? size.toFixed(1) : Math.round(size)} ${unit}`;
+  },
+  number: (n) => n.toLocaleString('en'),
+  progress: 'Progress',
+  converting: (done, all, seconds) => `${done} of ${all} converted, after ${seconds} s.`,
+  waiting: 'Waits for its turn.',
+  running: (seconds) => `Is being converted, ${seconds} s so far.`,
+  stopped: 'Stopped.',
+  stoppedAfter: (done) => `Stopped. ${done === 0 ? 'Nothing was converted.' : `${done} converted before.`}`,
+  endedOne: (name, words) => `${name}: ${words}`,
+  ended: (whole, broken) => [whole && `${whole} converted to the end`, broken && `${broken} broke off`]
+    .filter(Boolean).join(', ') + '.',
+  rows: (n) => (n === 1 ? '1 row' : `${WORDS.number(n)} rows`),
+  refused: (n) => (n === 0 ? 'none refused' : `${WORDS.number(n)} refused`),
+  whole: (rows, refused) => `${WORDS.rows(rows)}, ${WORDS.refused(refused)}.`,
+  countsCaption: 'Refused records, by the reason',
+  countsNumber: 'Refusal',
+  countsRecords: 'Records',
+  countsReason: 'The record is refused because',
+  countsAdvice: 'What to do',
+  firstRows: (n) => (n === 1 ? 'The first row' : `The first ${n} rows`),
+  allRows: 'All rows',
+  refusedRows: (n, all) => {
+    if (n < all) return `The first ${n} refused rows`;
+    return n === 1 ? 'The refused row' : `The ${n} refused rows`;
+  },
+  reason: (number, reason) => `${number}: ${reason}`,
+  save: (name) => `Save ${name}`,
+  savePart: (name) => `Save the part that there is, ${name}`,
+  brokeOff: (cause, words) => `Broke off, cause ${cause}: ${words}.`,
+  has: (words) => `The table has ${words}.`,
+  hasNothing: 'There is no table.',
+  notDone: (words) => `Not converted: ${words}.`,
+  tooLarge: 'the file has over 1 GB, more than a page can hold; split it, or use the program `register`',
+  noMemory: 'memory ran out; close other pages or programs and try again, or split the file',
+  noReading: 'the file could not be read; is it a folder, or was it moved or changed? Choose it again',
+  fault: (why) => `the page failed (${why})`,
+
+  // The reason of each refusal, from 1, and what to do on this page.
+  refusals: [
+    'it has not three fields; in a sealed register, not four',
+    'its id is over 40 bytes, its calendar over 16, its date over 32 or its note over 80; `é` and a Hebrew letter ' +
+      'have 2 bytes',
+    'a field is not UTF-8',
+    'no calendar has the name',
+    'the date is not written as its calendar wants it',
+    'the calendar has no such date',
+    'the day is before 1 January -9999 or after 31 December 9999, Gregorian',
+  ],
+  advice: [
+    'Put quotes round a field with a comma; or take the file in as a sheet, and choose its columns',
+    'Give short ids, and keep what is longer in the sheet',
+    'Save the register as CSV UTF-8; or take it in as a sheet, in its encoding',
+    'Write one of the calendars of “One date”; a sheet can give each name a calendar',
+    'Write year, month and day, as `1700-02-29`; a sheet can have the day first',
+    'Look at the original: a slip, or a date of another calendar',
+    'Look at the original: a slip in the year',
+  ],
+
+  // Why a register broke off, by the cause; what its table has; and what to do on this page.
+  causes: {
+    1: 'it ran out of memory',
+    4: 'the table could not be written, as on a full disk',
+    5: 'the register could not be read',
+    6: 'the header is missing or is not `id,calendar,date` (of a sealed register, `id,calendar,date,note`): columns ' +
+      'have other names or another order, there are more of them, the delimiter is another one, a title stands above ' +
+      'them, or the text is UTF-16',
+    7: 'it has more than 1,000,000 records',
+    8: 'it has no line `END,N` with its own delimiter, or only one like `END,N,,` that came from a spreadsheet; or the first one has ' +
+      'another number than its records, or is not the last line',
+  },
+  causeAdvice: {
+    1: 'Close other pages or programs and try again, or split the register.',
+    4: 'The table needs more memory than there is: choose fewer columns, or split the register.',
+    5: 'Choose it again.',
+    6: 'Does another sign stand between its fields? Choose it above. Has it other columns, a title line or another ' +
+      'encoding? Take it in as a sheet, below. A workbook (.xlsx, .ods) is saved as CSV UTF-8 first.',
+    7: 'Split it, each part with the header.',
+    8: 'Compare it with the original: records may be lost. Where none are, write the seal anew as the last line.',
+  },
+  // What was asked wrongly, which the form does not let happen.
+  faults: {
+    9: 'there is no such column',
+    10: 'a column is named twice',
+    11: 'the delimiter is no comma, semicolon or tab',
+  },
+
+  // ---- From a sheet ----
+  sheet: 'From a sheet',
+  sheetIs: 'A table of your own, saved as CSV or text, whose first line has the names of its columns. You choose ' +
+    'what its columns are. The page makes a register of them, converts it, and gives you the sheet back with the ' +
+    'columns that you want behind its own. What is chosen here is not proved: look at the register that the page ' +
+    'shows.',
+  chooseSheet: 'Sheet',
+  dropSheet: 'Choose one file.',
+  encoding: 'Encoding',
+  encodingIs: 'Are letters with accents wrong below? Choose another.',
+  encodings: {
+    'utf-8': 'UTF-8',
+    'windows-1252': 'Western Europe (Windows-1252)',
+    'windows-1250': 'Central Europe (Windows-1250)',
+    'iso-8859-2': 'Central Europe (ISO 8859-2)',
+    'iso-8859-15': 'Western Europe (ISO 8859-15)',
+    'macintosh': 'Western Europe (Macintosh)',
+    'utf-16le': 'UTF-16 (“Unicode text”)',
+    'utf-16be': 'UTF-16, big end first',
+    'windows-1251': 'Cyrillic (Windows-1251)',
+    'koi8-r': 'Cyrillic (KOI8-R)',
+    'koi8-u': 'Cyrillic (KOI8-U)',
+    'ibm866': 'Cyrillic (DOS 866)',
+    'iso-8859-5': 'Cyrillic (ISO 8859-5)',
+    'x-mac-cyrillic': 'Cyrillic (Macintosh)',
+    'windows-1253': 'Greek (Windows-1253)',
+    'iso-8859-7': 'Greek (ISO 8859-7)',
+    'windows-1254': 'Turkish (Windows-1254)',
+    'windows-1255': 'Hebrew (Windows-1255)',
+    'iso-8859-8': 'Hebrew (ISO 8859-8)',
+    'windows-1256': 'Arabic (Windows-1256)',
+    'iso-8859-6': 'Arabic (ISO 8859-6)',
+    'windows-1257': 'Baltic (Windows-1257)',
+    'iso-8859-4': 'Baltic (ISO 8859-4)',
+    'windows-1258': 'Vietnamese (Windows-1258)',
+    'iso-8859-3': 'Southern Europe (ISO 8859-3)',
+    'iso-8859-10': 'Nordic (ISO 8859-10)',
+    'iso-8859-13': 'Baltic (ISO 8859-13)',
+    'iso-8859-14': 'Celtic (ISO 8859-14)',
+    'iso-8859-16': 'Romanian (ISO 8859-16)',
+    'windows-874': 'Thai (Windows-874)',
+    'shift_jis': 'Japanese (Shift JIS)',
+    'euc-jp': 'Japanese (EUC-JP)',
+    'gb18030': 'Chinese (GB 18030)',
+    'big5': 'Chinese (Big5)',
+    'euc-kr': 'Korean (EUC-KR)',
+  },
+  notEncoded: (name) => `the file is not written in ${name}: choose another encoding`,
+  sheetRows: (n) => `The sheet, first ${n === 1 ? 'record' : `${n} records`}`,
+  sheetHas: (n, width) => `${WORDS.records(n)} of ${width} ${width === 1 ? 'column' : 'columns'} under the names.`,
+  oneColumn: 'Does another sign stand between its fields? Choose it above.',
+  emptySheet: 'it is empty',
+  whichColumns: 'Which columns are these?',
+  idColumn: 'Id',
+  calendarColumn: 'Calendar',
+  dateColumn: 'Date',
+  column: (number, name) => (name === '' ? `column ${number}` : name),
+  choose: 'Choose',
+  rowNumber: 'the number of the record',
+  ofColumn: 'As the column says',
+  ofAll: 'One for all',
+  dayOrder: 'Dates are written',
+  yearFirst: 'year first, as `1699-11-30`, `1699/11/30` or `1699.11.30`',
+  dayFirst: 'day first, as `30.11.1699`, `30/11/1699` or `30-11-1699`',
+  dayOrderIs: 'A date that is not three such numbers stays as it is written.',
+  unknownNames: 'Names that no calendar has',
+  unknownNamesIs: 'Choose the calendar of each, or leave it, and its records are refused.',
+  records: (n) => `${WORDS.number(n)} ${n === 1 ? 'record' : 'records'}`,
+  unknownName: (name, n) => `${name === '' ? '(empty)' : name}, in ${WORDS.records(n)}`,
+  tooManyNames: (n) => `${WORDS.number(n)} more names are not shown: is this the column with the calendars?`,
+  leave: 'leave it',
+  behind: 'Columns to be put behind those of the sheet',
+  behindIs: 'They come in the order in which you tick them; behind them the refusal, which is empty where the date ' +
+    'was converted.',
+  noneBehind: 'No columns but the refusal.',
+  registerRows: (n) => `The register that is made, first ${n === 1 ? 'record' : `${n} records`}`,
+  chooseThree: 'Choose the columns of id, calendar and date.',
+  sheetReading: 'The sheet is being read.',
+  sheetConverting: 'The sheet is being converted.',
+  sheetSaved: 'Each record is in its line, in UTF-8 with a byte order mark, as spreadsheets want it.',
+  sheetJoined: (n) => `The sheet with its dates, first ${n === 1 ? 'record' : `${n} records`}`,
+  saveRegister: (name) => `Save the register, ${name}`,
+  sheetSuffix: '.dates.csv',
+  registerSuffix: '.register.csv',
+};

@@ -2,9 +2,10 @@ records <- data.frame(
   id = c("007", "NA", "C-6"), calendar = c("julian", "gregorian", "french"),
   date = c("1700-02-29", "1700-02-29", "2-4-15")
 )
-write.csv(records, "records.csv", row.names = FALSE, fileEncoding = "UTF-8")
-stopifnot(system2("./register", c("--to", "gregorian", "records.csv")) == 0)
-table <- read.csv("records.csv.out.csv", colClasses = "character", na.strings = NULL, fileEncoding = "UTF-8")
+register <- tempfile(fileext = ".csv")
+write.csv(records, register, row.names = FALSE, fileEncoding = "UTF-8")
+stopifnot(system2("./register", c("--to", "gregorian", register)) == 0)
+table <- read.csv(paste0(register, ".out.csv"), colClasses = "character", na.strings = NULL, fileEncoding = "UTF-8")
 dates <- table[table$refusal == "", ]
 dates$rd <- as.integer(dates$rd)
 refused <- table[table$refusal != "", ]

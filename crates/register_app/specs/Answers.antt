@@ -3,7 +3,7 @@ use Rattle.std.specs.Prelude.{◌≡◌, ◌≢◌, ◌⊎◌, ◌↔◌, ℕ, L
 use Rattle.std.specs.Io.KnownBytes.{Appends}
 use Rattle.std.specs.declared.io.traits.Read as reads
 use Rattle.register_run.specs.Histories.{AreOfMachine}
-use Rattle.register_run.specs.Reports.{IsReport, arms_of}
+use Rattle.register_run.specs.Reports.{IsReport, stripes_of}
 use Rattle.register_run.specs.Threads.{AreThreads}
 use Rattle.register_run.specs.declared.reports.Ran.{Ran}
 use Rattle.register_run.specs.declared.reports.Report.{Report}
@@ -50,7 +50,7 @@ pub record IsConverted {R W E : Type 0} (r : reads.Ghosts R) (o : outputs.Ghosts
     pub asked : IsSetupOf task setup
     pub report : Report W
     pub settled : IsReport r o setup sources given report
-    pub machine : AreOfMachine r o setup sources given report.outputs.items report.ends.items (arms_of report)
+    pub machine : AreOfMachine r o setup sources given report.outputs.items report.ends.items (stripes_of report)
     pub threads : AreThreads setup report.ends.items report.ran.items
     pub outputs : written ≡ report.outputs.items
     pub ran_so : ran ≡ report.ran.items

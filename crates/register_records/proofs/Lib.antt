@@ -2,7 +2,7 @@
 --   RecordsLeftLemmas, FieldLemmas, HeaderLemmas, SealLemmas, EntryStepLemmas, StepLemmas: `gives`, `number` and `all`
 --     of `EntryReader::next`. GivenLemmas: what it has given.
 --   CellLemmas, OutcomeLemmas: that a row is the row of its entry, for `convert`.
---   AnswerLemmas, LineLemmas, BareLemmas: that a line is the fields of its row, for `put`, `add` and `open` of
+--   RowTailLemmas, LineLemmas, BareLemmas: that a line is the fields of its row, for `put`, `add` and `open` of
 --   `RowWriter`.
 --   TargetNumberLemmas: `is_for` of `Row`.
 --   ProgressLemmas: `whole`, `numbers`, `part` and `not_sealed` of `convert_source`, and the law `tables_grow`.
@@ -19,7 +19,7 @@ pub mod StepLemmas
 pub mod CellLemmas
 pub mod BareLemmas
 pub mod LineLemmas
-pub mod AnswerLemmas
+pub mod RowTailLemmas
 pub mod OutcomeLemmas
 pub mod TargetNumberLemmas
 pub mod ProgressLemmas

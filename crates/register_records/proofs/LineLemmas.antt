@@ -24,7 +24,7 @@ use Rattle.date_texts.specs.Cells.{is_plain}
 use Rattle.date_texts.specs.Calendars.{target_name}
 use Rattle.date_texts.specs.declared.calendar.Target.{Target}
 use Rattle.register_records.specs.Columns.{Column, cell_columns}
-use Rattle.register_records.specs.TableColumns.{answer_field, answer_order, answer_texts, answered, column_name}
+use Rattle.register_records.specs.TableColumns.{tail_field, tail_order, tail_texts, answered, column_name}
 use Rattle.register_records.specs.TableColumns.{column_names, entry_field, entry_order, heading, row_fields}
 use Rattle.register_records.specs.Outcomes.{TableRow}
 use Rattle.register_records.specs.declared.setups.Form.{Form}
@@ -208,7 +208,7 @@ last_name ts last =
     ∙ ap (λ (names : List (List ℕ)). names ++ last.name ∷ []) (name_columns 0 ts)
 
 pub heading_names : (form : Form) (ts : List Target)
-    → heading form ts ≡ map column_name (entry_order form) ++ flat_map (column_names ts) answer_order
+    → heading form ts ≡ map column_name (entry_order form) ++ flat_map (column_names ts) tail_order
 heading_names Plain ts =
     ap (λ (names : List (List ℕ)). map column_name (entry_order Plain)
     ++ (column_name DayNumber ∷ column_name Weekday ∷ names)) (last_name ts _)
@@ -220,7 +220,7 @@ pub two_names : (form : Form) (ts : List Target) → 2 ≤ length (heading form 
 two_names Plain ts = omega arith
 two_names Sealed ts = omega arith
 
--- what stands in the columns of an answer tells nothing of the entry
+-- what stands in the columns of a tail tells nothing of the entry
 cell_fields : (row : TableRow) (place : ℕ) (ts : List Target) (last : Column) (field : List ℕ) → last.field row ≡ field
     → last.field (answered row.outcome row.cells) ≡ field
     → map (λ (column : Column). column.field row) (cell_columns place ts ++ last ∷ [])
@@ -230,12 +230,12 @@ cell_fields row place (t ∷ ts) last field a b =
     ap (λ (fields : List (List ℕ)). get_or row.cells place [] ∷ fields) (cell_fields row (place + 1) ts last field a b)
 
 pub fields_in_parts : (form : Form) (ts : List Target) (row : TableRow)
-    → row_fields form ts row ≡ map (entry_field row) (entry_order form) ++ answer_texts ts row.outcome row.cells
+    → row_fields form ts row ≡ map (entry_field row) (entry_order form) ++ tail_texts ts row.outcome row.cells
 fields_in_parts Plain ts row =
     ap (λ (fields : List (List ℕ)). map (entry_field row) (entry_order Plain)
-    ++ (answer_field row.outcome DayNumber ∷ answer_field row.outcome Weekday ∷ fields))
+    ++ (tail_field row.outcome DayNumber ∷ tail_field row.outcome Weekday ∷ fields))
     (cell_fields row 0 ts _ _ refl refl)
 fields_in_parts Sealed ts row =
     ap (λ (fields : List (List ℕ)). map (entry_field row) (entry_order Sealed)
-    ++ (answer_field row.outcome DayNumber ∷ answer_field row.outcome Weekday ∷ fields))
+    ++ (tail_field row.outcome DayNumber ∷ tail_field row.outcome Weekday ∷ fields))
     (cell_fields row 0 ts _ _ refl refl)

@@ -17,7 +17,7 @@ use Rattle.date_texts.specs.declared.date.Date.{Date}
 use Rattle.date_texts.specs.declared.refusal.Refusal.{Refusal}
 use Rattle.date_texts.specs.declared.refusal.Refusal.TheVariants as refusal
 use Rattle.date_texts.specs.Laws.{OneCalendar, OneCell, OneDateText}
-use Rattle.register_records.proofs.AnswerLemmas.{one_beside, one_cells}
+use Rattle.register_records.proofs.RowTailLemmas.{one_beside, one_cells}
 
 module _ (one_calendar : OneCalendar) (one_date_text : OneDateText) (one_cell : OneCell) where
   -- a text says one date at most

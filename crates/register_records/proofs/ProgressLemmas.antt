@@ -21,7 +21,7 @@ use Rattle.register_records.specs.declared.sources.Cause.TheVariants as cause
 use Rattle.register_records.specs.declared.sources.Note.{Note}
 use Rattle.register_records.specs.declared.writing.RowFault.{RowFault}
 use Rattle.register_records.specs.declared.writing.RowFault.TheVariants as row
-use Rattle.register_records.proofs.AnswerLemmas.{one_more_beside}
+use Rattle.register_records.proofs.RowTailLemmas.{one_more_beside}
 
 -- one more at the end
 numbered_last : (j : ℕ) (entries : List Numbered) (x : Numbered)

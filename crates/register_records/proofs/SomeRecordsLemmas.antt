@@ -16,7 +16,7 @@ use Rattle.register_records.specs.Records.{Fields, Texts}
 use Rattle.register_records.specs.Seals.{before_seal, entry_records, is_seal}
 use Rattle.register_records.specs.Seen.{entry_seen}
 use Rattle.register_records.specs.Sources.{IsFrontOfTable}
-use Rattle.register_records.specs.TableColumns.{answer_texts, entry_field, entry_order, row_fields}
+use Rattle.register_records.specs.TableColumns.{tail_texts, entry_field, entry_order, row_fields}
 use Rattle.register_records.specs.Lines.{line_text}
 use Rattle.register_records.specs.Tables.{Layout, heading_line, lines_text, row_line, table_text}
 use Rattle.register_records.specs.Views.{row_seen}
@@ -193,7 +193,7 @@ fields_placed : (form : Form) (targets : List Target) (row : TableRow)
     → row_fields form targets (placed_row form row) ≡ row_fields form targets row
 fields_placed Plain targets row =
     fields_in_parts Plain targets (placed_row Plain row)
-    ∙ (ap (λ (fields : List (List ℕ)). fields ++ answer_texts targets row.outcome row.cells)
+    ∙ (ap (λ (fields : List (List ℕ)). fields ++ tail_texts targets row.outcome row.cells)
     (entry_placed row.number row.body row.outcome row.cells)
     ∙ sym (fields_in_parts Plain targets row))
 fields_placed Sealed targets row = refl

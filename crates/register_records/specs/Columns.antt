@@ -43,7 +43,7 @@ cell_columns place (target ∷ targets) =
     column (target_name target) (λ row. get_or row.cells place []) ∷ cell_columns (place + 1) targets
 
 -- the columns of a table, in order: the number of an entry and its texts, which a record that was refused before has
--- not; and its answer: the day, which a refused row has not, and the refusal
+-- not; and its tail: the day, which a refused row has not, and the refusal
 abbrev pub columns : Layout → List Column
 columns layout =
     column (codes "row") (λ row. decimal row.number)

@@ -5,7 +5,7 @@ use Rattle.csv.specs.declared.writer.WriterBuilder.{WriterBuilder}
 use Rattle.date_texts.specs.declared.calendar.TheConstants.{MAX_TARGETS}
 use Rattle.date_texts.specs.declared.cells.TheConstants.{MAX_CELL}
 use Rattle.register_records.specs.declared.entries.TheConstants.{CALENDAR_LIMIT, DATE_LIMIT, ID_LIMIT, NOTE_LIMIT}
-use Rattle.register_records.specs.declared.answers.TheConstants.{DAY_LIMIT, REFUSAL_LIMIT}
+use Rattle.register_records.specs.declared.row_tails.TheConstants.{DAY_LIMIT, REFUSAL_LIMIT}
 use Rattle.register_records.specs.declared.table_columns.TableColumn.{TableColumn}
 use Rattle.register_records.specs.declared.table_columns.TableColumn.TheVariants.{Calendar, Cells, Date, DayNumber, Id}
 use Rattle.register_records.specs.declared.table_columns.TableColumn.TheVariants.{Note, Number, Refusal, Weekday}

@@ -30,9 +30,9 @@ abbrev pub has_stopped : WriterState → Bool
 has_stopped writer.Open = false
 has_stopped other = true
 
-abbrev pub has_sunk : WriterState → Bool
-has_sunk writer.Sunk = true
-has_sunk other = false
+abbrev pub output_failed : WriterState → Bool
+output_failed writer.OutputFailed = true
+output_failed other = false
 
 -- the entry as a text has it
 abbrev pub entry_seen : Entry → Numbered

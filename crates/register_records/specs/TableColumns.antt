@@ -19,13 +19,13 @@ use Rattle.register_records.specs.declared.table_columns.TableColumn.TheVariants
 abbrev pub column_order : List TableColumn
 column_order = Number ∷ Id ∷ Calendar ∷ Date ∷ Note ∷ DayNumber ∷ Weekday ∷ Cells ∷ RefusalColumn ∷ []
 
--- those of an entry, and those of an answer
+-- those of an entry, and those of a tail
 abbrev pub entry_order : Form → List TableColumn
 entry_order Plain = take 4 column_order
 entry_order Sealed = take 5 column_order
 
-abbrev pub answer_order : List TableColumn
-answer_order = drop 5 column_order
+abbrev pub tail_order : List TableColumn
+tail_order = drop 5 column_order
 
 -- a layout of this form, whatever its delimiter; the heading, and the fields of a row
 abbrev pub laid_out : Form → List Target → Layout
@@ -69,24 +69,24 @@ entry_field row c = (column_at (take 5 (columns (laid_out Sealed []))) (column_p
 abbrev pub answered : Result ℤ Refusal → List (List ℕ) → TableRow
 answered outcome cells = record { number = 0; body = Err FieldCount; outcome = outcome; cells = cells }
 
--- what stands in the columns of an answer: it is the same in each such row
-abbrev pub answer_texts : List Target → Result ℤ Refusal → List (List ℕ) → List (List ℕ)
-answer_texts targets outcome cells =
+-- what stands in the columns of a tail: it is the same in each such row
+abbrev pub tail_texts : List Target → Result ℤ Refusal → List (List ℕ) → List (List ℕ)
+tail_texts targets outcome cells =
     map (λ (c : Column). c.field (answered outcome cells)) (drop 4 (columns (laid_out Plain targets)))
 
 -- what stands in one that has no cells
-abbrev pub answer_field : Result ℤ Refusal → TableColumn → List ℕ
-answer_field outcome c = (column_at (columns (laid_out Sealed [])) (column_place c)).field (answered outcome [])
+abbrev pub tail_field : Result ℤ Refusal → TableColumn → List ℕ
+tail_field outcome c = (column_at (columns (laid_out Sealed [])) (column_place c)).field (answered outcome [])
 
 -- what stands in the column of a target: on a day its cell, and else nothing
 abbrev pub IsCellField : Result ℤ Refusal → Target → List ℕ → Type 0
 IsCellField (Ok n) target field = IsCell target n field
 IsCellField (Err r) target field = field ≡ []
 
--- these are the fields of a column of an answer; the others have none in it
+-- these are the fields of a column of a tail; the others have none in it
 abbrev pub AreFields : List Target → Result ℤ Refusal → TableColumn → List (List ℕ) → Type 0
 AreFields targets outcome Cells fields = AllZip (IsCellField outcome) targets fields
-AreFields targets outcome DayNumber fields = fields ≡ answer_field outcome DayNumber ∷ []
-AreFields targets outcome Weekday fields = fields ≡ answer_field outcome Weekday ∷ []
-AreFields targets outcome RefusalColumn fields = fields ≡ answer_field outcome RefusalColumn ∷ []
+AreFields targets outcome DayNumber fields = fields ≡ tail_field outcome DayNumber ∷ []
+AreFields targets outcome Weekday fields = fields ≡ tail_field outcome Weekday ∷ []
+AreFields targets outcome RefusalColumn fields = fields ≡ tail_field outcome RefusalColumn ∷ []
 AreFields targets outcome c fields = fields ≡ []

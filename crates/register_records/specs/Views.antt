@@ -3,12 +3,12 @@ use Rattle.std.specs.Prelude.{Bool, ℕ, List, Option, map}
 use Rattle.std.specs.declared.snapshot.Snapshot.{Snapshot}
 use Rattle.std.specs.declared.io.traits.Read.{Ghosts}
 use Rattle.date_texts.specs.declared.calendar.Target.{Target}
-use Rattle.register_records.specs.Answers.{cells_of}
+use Rattle.register_records.specs.RowTails.{cells_of}
 use Rattle.register_records.specs.Entries.{Format, Numbered}
 use Rattle.register_records.specs.Outcomes.{TableRow}
-use Rattle.register_records.specs.Seen.{entry_seen, has_ended, has_failed, has_stopped, has_sunk, row_made}
+use Rattle.register_records.specs.Seen.{entry_seen, has_ended, has_failed, has_stopped, output_failed, row_made}
 use Rattle.register_records.specs.ShortLists.{items_in}
-use Rattle.register_records.specs.TableColumns.{answer_texts}
+use Rattle.register_records.specs.TableColumns.{tail_texts}
 use Rattle.register_records.specs.Tables.{Layout, row_line}
 use Rattle.register_records.specs.declared.entries.Entry.{Entry}
 use Rattle.register_records.specs.declared.reading.EntryReader.{EntryReader}
@@ -51,11 +51,11 @@ abbrev pub row_targets : Row → List Target
 row_targets row = items_in row.targets.items
 
 abbrev pub row_seen : Row → TableRow
-row_seen row = row_made row.entry row.outcome (cells_of (row_targets row) row.outcome row.answer)
+row_seen row = row_made row.entry row.outcome (cells_of (row_targets row) row.outcome row.tail)
 
--- the fields of its answer
-abbrev pub answer_fields : Row → List (List ℕ)
-answer_fields row = answer_texts (row_targets row) (row_seen row).outcome (row_seen row).cells
+-- the fields of its tail
+abbrev pub tail_fields : Row → List (List ℕ)
+tail_fields row = tail_texts (row_targets row) (row_seen row).outcome (row_seen row).cells
 
 -- how a writer writes lines
 abbrev pub writes_by : RowWriter → Format
@@ -65,8 +65,8 @@ writes_by w = record { delimiter = w.lines.delimiter; form = w.form }
 abbrev pub writer_failed : RowWriter → Bool
 writer_failed w = has_stopped w.state
 
-abbrev pub writer_sunk : RowWriter → Bool
-writer_sunk w = has_sunk w.state
+abbrev pub output_failed_in : RowWriter → Bool
+output_failed_in w = output_failed w.state
 
 -- the bytes of the lines that wait to be sent
 abbrev pub waiting_in : RowWriter → List ℕ

@@ -8,14 +8,13 @@
 //! number of the entries. A text without it was cut off.
 #![tactic(auto)]
 
-mod answers;
 mod causes;
 mod cell_texts;
 mod converting;
 mod csv_lines;
 mod entries;
 pub mod faults;
-mod handing_on;
+mod flush_tokens;
 mod header;
 pub mod laws;
 mod outputs;
@@ -23,6 +22,7 @@ mod reading;
 mod record_fields;
 mod retrying;
 mod row_lines;
+mod row_tails;
 mod rows;
 mod seals;
 mod setups;

@@ -5,9 +5,9 @@ ghost use Rattle.std.specs.Prelude.{IfSome, OnErr, is_err};
 ghost use Rattle.std.specs.Io.KnownBytes.{Appends, Keeps};
 ghost use Rattle.std.specs.Option.{is_some};
 ghost use Rattle.std.proofs.Props.{props};
-ghost use Rattle.register_records.specs.Outputs.{took_none};
+ghost use Rattle.register_records.specs.Outputs.{offer_failed};
 
-use crate::handing_on::{HandedOn, hand_on};
+use crate::flush_tokens::{FlushToken, flush_with_token};
 use std::io::{ErrorKind, Write};
 
 /// An output did not take bytes, or did not hand them on.
@@ -39,7 +39,7 @@ pub trait Output {
     fn offer(&mut self, bytes: &[u8]) -> Result<usize, OutputFault>
         ensures bound { IfOk result (λ k. k ≤ length bytes.now) }
         ensures bytes { IfOk result (λ k. Appends (contents self.old) (contents self.new) (take k bytes.now)) }
-        ensures fails { has_failed self.new ≡ (has_failed self.old || took_none result bytes.now) }
+        ensures fails { has_failed self.new ≡ (has_failed self.old || offer_failed result bytes.now) }
         ensures mark { own_mark self.new ≡ own_mark self.old };
 
     /// Hands on what was taken, and takes nothing.
@@ -87,7 +87,7 @@ pub struct PlainOutput<W> {
     inner: W,
     failed: bool,
     // There is one where the writer was flushed and took nothing since.
-    handed_on: Option<HandedOn<W>>,
+    handed_on: Option<FlushToken<W>>,
     mark: u32,
     ghost of_writer: { IfSome handed_on (λ h. h.writer.value ≡ inner) } by { Prim.hlevel props },
 }
@@ -147,7 +147,7 @@ impl<W: Write> Output for PlainOutput<W> {
 
     fn flush_out(&mut self) -> Result<(), OutputFault> {
         self.handed_on = None;
-        match hand_on(&mut self.inner) {
+        match flush_with_token(&mut self.inner) {
             Ok(handed_on) => {
                 self.handed_on = Some(handed_on);
                 Ok(())

@@ -8,14 +8,14 @@ ghost use Rattle.register_records.specs.LineViews.{line_capacity, line_delimiter
 ghost use Rattle.register_records.specs.Lines.{line_text};
 ghost use Rattle.register_records.specs.TableColumns.{column_name, column_names, entry_field, entry_order};
 ghost use Rattle.register_records.specs.TableColumns.{heading, row_fields};
-ghost use Rattle.register_records.specs.Views.{answer_fields, row_seen, row_targets};
-ghost use Rattle.register_records.specs.declared.answers.TheConstants.{ANSWER_ROOM};
+ghost use Rattle.register_records.specs.Views.{tail_fields, row_seen, row_targets};
+ghost use Rattle.register_records.specs.declared.row_tails.TheConstants.{TAIL_ROOM};
 ghost use Rattle.register_records.specs.declared.row_lines.TheConstants.{LINE_ROOM};
 
 use crate::csv_lines::Lines;
 use crate::rows::Row;
 use crate::setups::Form;
-use crate::table_columns::{TableColumn, answer_columns, entry_columns};
+use crate::table_columns::{TableColumn, entry_columns, tail_columns};
 use date_texts::Target;
 use itoa::Buffer;
 use std::alloc::AllocError;
@@ -74,7 +74,7 @@ pub(crate) fn make_heading(
     ensures capacity { line_capacity lines.old ≤ line_capacity lines.new }
 {
     begin_heading(lines, form)?;
-    'columns: for column in answer_columns() {
+    'columns: for column in tail_columns() {
         push_names(lines, *column, targets)?;
     }
     lines.end()?;
@@ -104,17 +104,17 @@ fn begin_line(lines: &mut Lines, form: Form, row: &Row) -> Result<(), AllocError
 
 /// Appends the fields of a row behind those of its entry: they are copied as they were written for a table with this
 /// delimiter, and written anew for another.
-fn push_answer(lines: &mut Lines, row: &Row) -> Result<(), AllocError>
-    ensures value { OnOk result (GainsFields (answer_fields row.now) lines.old lines.new) }
+fn push_tail(lines: &mut Lines, row: &Row) -> Result<(), AllocError>
+    ensures value { OnOk result (GainsFields (tail_fields row.now) lines.old lines.new) }
     ensures kept { line_delimiter lines.new ≡ line_delimiter lines.old }
-    ensures room { line_len lines.old + ANSWER_ROOM ≤ line_capacity lines.old → IsOk result }
-    ensures grows { OnOk result (line_len lines.new ≤ line_len lines.old + ANSWER_ROOM) }
+    ensures room { line_len lines.old + TAIL_ROOM ≤ line_capacity lines.old → IsOk result }
+    ensures grows { OnOk result (line_len lines.new ≤ line_len lines.old + TAIL_ROOM) }
     ensures capacity { line_capacity lines.old ≤ line_capacity lines.new }
 {
-    if row.answer().delimiter() == lines.delimiter() {
-        lines.extend(row.answer().as_slice())
+    if row.tail().delimiter() == lines.delimiter() {
+        lines.extend(row.tail().as_slice())
     } else {
-        lines.extend(row.answer_with(lines.delimiter()).as_slice())
+        lines.extend(row.tail_with(lines.delimiter()).as_slice())
     }
 }
 
@@ -129,7 +129,7 @@ pub(crate) fn make_row(lines: &mut Lines, form: Form, row: &Row) -> Result<(), A
     ensures capacity { line_capacity lines.old ≤ line_capacity lines.new }
 {
     begin_line(lines, form, row)?;
-    push_answer(lines, row)?;
+    push_tail(lines, row)?;
     lines.end()?;
     Ok(())
 }

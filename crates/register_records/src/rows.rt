@@ -1,17 +1,17 @@
 //! The row of an entry.
 
 ghost use Rattle.std.specs.Prelude.{◌≡◌, ◌≤◌, length, map};
-ghost use Rattle.register_records.specs.Answers.{cells_of, fields_of};
+ghost use Rattle.register_records.specs.RowTails.{cells_of, fields_of};
 ghost use Rattle.register_records.specs.CellTexts.{cell_bytes};
 ghost use Rattle.register_records.specs.Outcomes.{IsRowOf};
 ghost use Rattle.register_records.specs.ShortLists.{items_in};
 ghost use Rattle.register_records.specs.Seen.{entry_seen, outcome_seen, row_made};
-ghost use Rattle.register_records.specs.TableColumns.{answer_texts};
+ghost use Rattle.register_records.specs.TableColumns.{tail_texts};
 
-use crate::answers::Answer;
 use crate::cell_texts::CellText;
 use crate::converting::{day_of_body, make_cells};
 use crate::entries::Entry;
+use crate::row_tails::RowTail;
 use crate::setups::Setup;
 use crate::short_lists::ShortList;
 use crate::sources::Note;
@@ -28,11 +28,11 @@ pub struct Row {
     pub(crate) entry: Entry,
     pub(crate) outcome: Result<Day, Refusal>,
     pub(crate) targets: TargetList,
-    pub(crate) answer: Answer,
+    pub(crate) tail: RowTail,
     pub ghost is_row: { ∥ IsRowOf (items_in targets.items) (entry_seen entry)
-        (row_made entry outcome (cells_of (items_in targets.items) outcome answer)) ∥₁ },
-    ghost written: { fields_of answer ≡ answer_texts (items_in targets.items) (outcome_seen outcome)
-        (cells_of (items_in targets.items) outcome answer) },
+        (row_made entry outcome (cells_of (items_in targets.items) outcome tail)) ∥₁ },
+    ghost written: { fields_of tail ≡ tail_texts (items_in targets.items) (outcome_seen outcome)
+        (cells_of (items_in targets.items) outcome tail) },
 }
 
 impl Row {
@@ -41,7 +41,7 @@ impl Row {
     ghost use Rattle.register_records.specs.Entries.{body_seen};
     ghost use Rattle.register_records.specs.SetupRules.{is_delimiter};
     ghost use Rattle.register_records.specs.Tables.{refusal_notes};
-    ghost use Rattle.register_records.specs.Views.{answer_fields, row_seen, row_targets, targets_of};
+    ghost use Rattle.register_records.specs.Views.{tail_fields, row_seen, row_targets, targets_of};
 
     /// A row before any entry was converted: that of an entry without texts, for no target.
     pub fn blank() -> Row
@@ -55,9 +55,9 @@ impl Row {
             entry,
             outcome,
             targets: TargetList::new(&[]),
-            answer: Answer::new(b','),
+            tail: RowTail::new(b','),
         };
-        row.answer.set(&[], outcome, b',');
+        row.tail.set(&[], outcome, b',');
         row
     }
 
@@ -69,8 +69,7 @@ impl Row {
         ensures row { IsRowOf (targets_of setup.now) (entry_seen entry.now) (row_seen self.new) }
     {
         let outcome = day_of_body(entry.body());
-        self.answer
-            .renew(&self.targets, self.outcome, setup, outcome);
+        self.tail.renew(&self.targets, self.outcome, setup, outcome);
         self.entry = *entry;
         self.outcome = outcome;
         self.targets = setup.target_list();
@@ -109,24 +108,24 @@ impl Row {
         cells
     }
 
-    /// The fields of the row behind those of its entry, as a table with its answer's delimiter has them.
-    pub(crate) fn answer(&self) -> &Answer
-        ensures { result.now ≡ self.now.answer }
+    /// The fields of the row behind those of its entry, as a table with its tail's delimiter has them.
+    pub(crate) fn tail(&self) -> &RowTail
+        ensures { result.now ≡ self.now.tail }
     {
-        &self.answer
+        &self.tail
     }
 
     /// The same for a table with another delimiter, written anew.
     #[inline(never)]
-    pub(crate) fn answer_with(&self, delimiter: u8) -> Answer
+    pub(crate) fn tail_with(&self, delimiter: u8) -> RowTail
         requires { is_delimiter delimiter ≡ true }
-        ensures value { fields_of result ≡ answer_fields self.now }
+        ensures value { fields_of result ≡ tail_fields self.now }
         ensures delimiter { result.delimiter ≡ delimiter }
     {
         one_cell();
-        let mut answer = Answer::new(delimiter);
-        answer.set(self.targets(), self.outcome, delimiter);
-        answer
+        let mut tail = RowTail::new(delimiter);
+        tail.set(self.targets(), self.outcome, delimiter);
+        tail
     }
 
     /// Whether the row was made for the setup's targets.

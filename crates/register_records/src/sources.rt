@@ -184,7 +184,7 @@ fn convert_next<R: Read + Drop, W: Output>(
     let answer = entries.read_next(&mut row.entry);
     // Whatever was read, also at the end, a row is by its type that of its entry.
     let outcome = day_of_body(row.entry.body());
-    row.answer.renew(&row.targets, row.outcome, setup, outcome);
+    row.tail.renew(&row.targets, row.outcome, setup, outcome);
     row.outcome = outcome;
     row.targets = setup.target_list();
     match answer {

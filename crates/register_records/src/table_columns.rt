@@ -4,7 +4,7 @@
 ghost use Rattle.std.specs.Prelude.{◌≡◌, ◌≤◌, ℕ, length};
 ghost use Rattle.std.specs.Fmt.{decimal};
 ghost use Rattle.register_records.specs.LineRoom.{column_limit};
-ghost use Rattle.register_records.specs.TableColumns.{answer_order, column_name, entry_field, entry_order};
+ghost use Rattle.register_records.specs.TableColumns.{tail_order, column_name, entry_field, entry_order};
 ghost use Rattle.register_records.specs.Views.{row_seen};
 
 use crate::entries::Body;
@@ -26,7 +26,7 @@ pub(crate) enum TableColumn {
     Refusal,
 }
 
-/// The columns of a table, in order: those of an entry, and behind them those of its answer.
+/// The columns of a table, in order: those of an entry, and behind them those of its tail.
 const COLUMNS: [TableColumn; 9] = [
     TableColumn::Number,
     TableColumn::Id,
@@ -53,9 +53,9 @@ pub(crate) fn entry_columns(form: Form) -> &'static [TableColumn]
     }
 }
 
-/// The columns that a table has of an answer, in order.
-pub(crate) fn answer_columns() -> &'static [TableColumn]
-    ensures { result.now ≡ answer_order }
+/// The columns that a table has of a tail, in order.
+pub(crate) fn tail_columns() -> &'static [TableColumn]
+    ensures { result.now ≡ tail_order }
 {
     &COLUMNS[ENTRY_COLUMNS..]
 }
@@ -78,7 +78,7 @@ impl TableColumn {
         }
     }
 
-    /// What the column shows of the entry of a row; nothing for a column of the answer, or where the body was refused.
+    /// What the column shows of the entry of a row; nothing for a column of the tail, or where the body was refused.
     /// `number` is the row's number in decimal.
     #[inline(always)]
     pub fn field<'a>(self, number: &'a str, row: &'a Row) -> &'a str

@@ -18,12 +18,12 @@ use Rattle.lane_rings.specs.declared.sender.Closed.{Closed}
 use Rattle.register_records.specs.Seen.{entry_seen}
 use Rattle.register_records.specs.declared.entries.Entry.{Entry}
 use Rattle.register_records.specs.declared.rows.Row.{Row}
-use Rattle.register_run.specs.Arms.{HasPassedOn, StartWithRow}
+use Rattle.register_run.specs.Stripes.{HasPassedOn, StartWithRow}
 use Rattle.register_run.specs.Carried.{AreOfAllTaken, AreOfTaken, HasEnd, carried, row_entries, rows_carried}
-use Rattle.register_run.specs.Passages.{IsConverting}
-use Rattle.register_run.specs.declared.arms.Arm.{Arm}
+use Rattle.register_run.specs.JoinedThreads.{IsConverting}
+use Rattle.register_run.specs.declared.stripes.Stripe.{Stripe}
 use Rattle.register_run.specs.declared.converting.Converting.{Converting}
-use Rattle.register_run.proofs.PassageLemmas.{took_next}
+use Rattle.register_run.proofs.JoinedThreadsLemmas.{took_next}
 
 module _ {T : Type 0} where
   -- one more item is an entry
@@ -145,32 +145,32 @@ row_taken old new (item.Stop ∷ seen) rest starts is one = absurd starts
 
 -- with both lanes of a converter confirmed, its rows are those of the first entries that were sent, and of all of them
 -- where they end with an end
-module _ (from into : Lane) (arm : Arm) (fed : Closed Entry) (converting : Converting)
+module _ (from into : Lane) (stripe : Stripe) (fed : Closed Entry) (converting : Converting)
     (keeps : IsConverting from into converting) (first : IsWhole fed converting.entries)
-    (second : IsWhole converting.closed arm.rows) (none : waiting arm.rows ≡ []) where
-  all_passed : HasEnd (taken arm.rows) → rows_carried (taken arm.rows) ≡ carried (all_sent fed)
+    (second : IsWhole converting.closed stripe.rows) (none : waiting stripe.rows ≡ []) where
+  all_passed : HasEnd (taken stripe.rows) → rows_carried (taken stripe.rows) ≡ carried (all_sent fed)
   all_passed ends =
       ap (λ (l : List (Item Row)). rows_carried l) (sym second.equal)
       ∙ ap (λ (l : List Entry). map entry_seen l)
       (keeps.all second.confirmed (subst (λ l. HasEnd l) (sym second.equal) ends))
       ∙ ap (λ (l : List (Item Entry)). carried l) (sym first.equal)
 
-  first_passed : IsPrefix (rows_carried (taken arm.rows)) (carried (all_sent fed))
+  first_passed : IsPrefix (rows_carried (taken stripe.rows)) (carried (all_sent fed))
   first_passed =
-      subst (λ l. IsPrefix (rows_carried (taken arm.rows)) (carried l)) (sym first.equal)
+      subst (λ l. IsPrefix (rows_carried (taken stripe.rows)) (carried l)) (sym first.equal)
       (subst (λ l. IsPrefix (rows_carried l) (carried (taken converting.entries))) second.equal
       (map_prefix entry_seen (row_entries (all_sent converting.closed)) (entries_in (taken converting.entries))
       (keeps.rows second.confirmed)))
 
-  ends_so : (items : List (Item Row)) (ended : Option ℕ) (count : ℕ) → items ≡ taken arm.rows
+  ends_so : (items : List (Item Row)) (ended : Option ℕ) (count : ℕ) → items ≡ taken stripe.rows
       → MatchOption ended (last_mark items ≡ Some Stopped) (λ n. last_mark items ≡ Some (Counted n))
-      → option_eq eqb ended (Some count) ≡ true → HasEnd (taken arm.rows)
+      → option_eq eqb ended (Some count) ≡ true → HasEnd (taken stripe.rows)
   ends_so items None count same mark is = cc
   ends_so items (Some n) count same mark is = (n, ap (λ (l : List (Item Row)). last_mark l) (sym same) ∙ mark)
 
-  pub passed_on : (items : List (Item Row)) (ended : Option ℕ) (count : ℕ) (b : Bool) → items ≡ taken arm.rows
+  pub passed_on : (items : List (Item Row)) (ended : Option ℕ) (count : ℕ) (b : Bool) → items ≡ taken stripe.rows
       → MatchOption ended (last_mark items ≡ Some Stopped) (λ n. last_mark items ≡ Some (Counted n))
-      → b ≡ option_eq eqb ended (Some count) → HasPassedOn b arm fed
+      → b ≡ option_eq eqb ended (Some count) → HasPassedOn b stripe fed
   passed_on items ended count b same mark is = record {
     confirmed = first.confirmed;
     first = first_passed;

@@ -5,7 +5,7 @@ use Rattle.std.specs.List.{Contains}
 use Rattle.register_records.specs.Entries.{AreNumberedFrom, Format, HasFirstEntries, Numbered}
 use Rattle.register_records.specs.Seen.{entry_seen}
 use Rattle.register_records.specs.declared.rows.Row.{Row}
-use Rattle.register_run.specs.Passages.{IsOfGiven}
+use Rattle.register_run.specs.JoinedThreads.{IsOfGiven}
 use Rattle.register_run.specs.TablesWritten.{entries_seen}
 
 later : (k : ℕ) (ys : List Numbered) (z : Numbered) → AreNumberedFrom k ys → Contains ys z → k ≤ z.number

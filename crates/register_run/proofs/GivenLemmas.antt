@@ -14,8 +14,8 @@ use Rattle.register_records.specs.declared.entries.Entry.{Entry}
 use Rattle.register_records.specs.declared.rows.Row.{Row}
 use Rattle.register_run.specs.Carried.{AreDealt}
 use Rattle.register_run.specs.Worlds.{World}
-use Rattle.register_run.specs.Passages.{HasPassed, IsCauseOf, IsGiven, IsNotSunk, IsOfThreads, Sends, is_of_reading}
-use Rattle.register_run.specs.Passages.{tells_of_text}
+use Rattle.register_run.specs.JoinedThreads.{HasPassed, IsCauseOf, IsGiven, HasGoodOutput, IsOfThreads, Sends, is_of_reading}
+use Rattle.register_run.specs.JoinedThreads.{tells_of_text}
 use Rattle.register_run.specs.declared.reading.Sent.{Sent}
 
 pub numbered_more : (k : ℕ) (given : List Numbered) (n : Numbered) → AreNumberedFrom k given
@@ -184,6 +184,6 @@ of_threads c (inr e) = (ap is_of_reading e, λ s. cc)
 pub passed_not : (text : Option (List ℕ)) (d : Format) (sent : Sent) (c : Cause) (took : Row → Type 0)
     → sent.outcome ≡ Err c → IsOfThreads c → HasPassed text d sent took
 passed_not text d sent c took why is = record {
-  not_sunk = subst IsNotSunk (sym why) is.1;
+  output_good = subst HasGoodOutput (sym why) is.1;
   rows = λ told. absurd (let k = is.0 in let t : is_of_reading c ≡ true = sym (ap tells_of_text why) ∙ told in cc);
 }

@@ -11,44 +11,44 @@ use Rattle.register_records.specs.declared.sources.SourceEnd.{SourceEnd}
 use Rattle.register_records.specs.declared.sources.SourceEnd.TheVariants as end
 use Rattle.register_records.specs.Sources.{IfWhole, is_whole_end}
 use Rattle.register_records.specs.Views.{layout_of}
-use Rattle.register_run.specs.declared.arms.Arm.{Arm}
+use Rattle.register_run.specs.declared.stripes.Stripe.{Stripe}
 use Rattle.register_run.specs.declared.reports.Ran.{Ran}
 use Rattle.register_run.specs.declared.reports.Report.{Report}
 use Rattle.register_run.specs.declared.reports.Verdict.TheVariants.{Complete}
-use Rattle.register_run.specs.declared.settling.Settled.{Settled}
-use Rattle.register_run.specs.declared.stations.Station.{Station}
+use Rattle.register_run.specs.declared.ended_sources.EndedSource.{EndedSource}
+use Rattle.register_run.specs.declared.running_sources.RunningSource.{RunningSource}
 use Rattle.register_run.specs.Cases.{Case, case, cases, end_of, ended_case, output_of, ran_of}
-use Rattle.register_run.specs.Headline.{AtEachPlace, IsSettled}
+use Rattle.register_run.specs.Headline.{AtEachPlace, IsEndOfSource}
 use Rattle.register_run.specs.Histories.{AreOfMachine, IsMachineWithTable}
-use Rattle.register_run.specs.Reports.{IsReport, arms_of}
-use Rattle.register_run.specs.Stations.{case_of}
+use Rattle.register_run.specs.Reports.{IsReport, stripes_of}
+use Rattle.register_run.specs.RunningSources.{case_of}
 use Rattle.register_run.specs.Threads.{AreThreads, AreThreadsOf}
 
 module _ {R W : Type 0} {o : outputs.Ghosts W} where
-  -- one more station
-  pub start_more : (setup : Setup) (all : List (Case R W)) (stations new : List (Station R W o))
-      (station : Station R W o) (left rest : List R) (outs more : List W) (source : R) (output : W)
-      → new ≡ stations ++ station ∷ [] → case_of station ≡ case source output setup → left ≡ source ∷ rest
+  -- one more running_source
+  pub start_more : (setup : Setup) (all : List (Case R W)) (running_sources new : List (RunningSource R W o))
+      (running_source : RunningSource R W o) (left rest : List R) (outs more : List W) (source : R) (output : W)
+      → new ≡ running_sources ++ running_source ∷ [] → case_of running_source ≡ case source output setup → left ≡ source ∷ rest
       → outs ≡ output ∷ more
-      → map case_of stations ++ cases setup left outs ≡ all → map case_of new ++ cases setup rest more ≡ all
-  start_more setup all stations new station left rest outs more source output n s l m h =
+      → map case_of running_sources ++ cases setup left outs ≡ all → map case_of new ++ cases setup rest more ≡ all
+  start_more setup all running_sources new running_source left rest outs more source output n s l m h =
       ap (λ xs. map case_of xs ++ cases setup rest more) n
-      ∙ ap (λ xs. xs ++ cases setup rest more) (map-append case_of stations (station ∷ []))
-      ∙ append_assoc (map case_of stations) (case_of station ∷ []) (cases setup rest more)
-      ∙ ap (λ x. map case_of stations ++ (x ∷ cases setup rest more)) s
-      ∙ ap (λ xs. map case_of stations ++ cases setup xs (output ∷ more)) (sym l)
-      ∙ ap (λ ys. map case_of stations ++ cases setup left ys) (sym m) ∙ h
+      ∙ ap (λ xs. xs ++ cases setup rest more) (map-append case_of running_sources (running_source ∷ []))
+      ∙ append_assoc (map case_of running_sources) (case_of running_source ∷ []) (cases setup rest more)
+      ∙ ap (λ x. map case_of running_sources ++ (x ∷ cases setup rest more)) s
+      ∙ ap (λ xs. map case_of running_sources ++ cases setup xs (output ∷ more)) (sym l)
+      ∙ ap (λ ys. map case_of running_sources ++ cases setup left ys) (sym m) ∙ h
 
-  pub start_end : (setup : Setup) (all : List (Case R W)) (stations : List (Station R W o)) (left : List R)
+  pub start_end : (setup : Setup) (all : List (Case R W)) (running_sources : List (RunningSource R W o)) (left : List R)
       (outs : List W) → length left ≡ 0
-      → map case_of stations ++ cases setup left outs ≡ all → map case_of stations ≡ all
-  start_end setup all stations [] outs e h = sym (append-nil (map case_of stations)) ∙ h
-  start_end setup all stations (source ∷ left) outs e h = absurd (omega arith)
+      → map case_of running_sources ++ cases setup left outs ≡ all → map case_of running_sources ≡ all
+  start_end setup all running_sources [] outs e h = sym (append-nil (map case_of running_sources)) ∙ h
+  start_end setup all running_sources (source ∷ left) outs e h = absurd (omega arith)
 
   pub start_begin : (setup : Setup) (left sources : List R) (outs outputs : List W) → left ≡ sources → outs ≡ outputs
-      → (stations : List (Station R W o)) → stations ≡ []
-      → map case_of stations ++ cases setup left outs ≡ cases setup sources outputs
-  start_begin setup left sources outs outputs l m stations n =
+      → (running_sources : List (RunningSource R W o)) → running_sources ≡ []
+      → map case_of running_sources ++ cases setup left outs ≡ cases setup sources outputs
+  start_begin setup left sources outs outputs l m running_sources n =
       ap (λ xs. map case_of xs ++ cases setup left outs) n ∙ ap (λ xs. cases setup xs outs) l
       ∙ ap (λ ys. cases setup sources ys) m
 
@@ -56,7 +56,7 @@ module _ {R W : Type 0} {o : outputs.Ghosts W} where
 abbrev pub Known : {R W : Type 0} → reads.Ghosts R → outputs.Ghosts W → Setup → R → W → W → SourceEnd → Type 0
 Known r o setup source before after e =
     (e ≡ end.Broken cause.BadHeader → after ≡ before)
-    × ∥ IsSettled o (layout_of setup) (r.remaining source) before after e ∥₁
+    × ∥ IsEndOfSource o (layout_of setup) (r.remaining source) before after e ∥₁
 
 -- so many outputs are handed back as were handed in, and so many ends as sources
 pub lengths_of : {R W : Type 0} (Holds : R → W → W → SourceEnd → Type 0) (sources : List R) (given written : List W)
@@ -72,16 +72,16 @@ lengths_of Holds (r ∷ rs) (g ∷ gs) (w ∷ ws) [] h = absurd h
 lengths_of Holds (r ∷ rs) (g ∷ gs) (w ∷ ws) (e ∷ es) h =
     let more = lengths_of Holds rs gs ws es h.1 in (ap suc more.0, ap suc more.1)
 
-abbrev arms_in : Ran → List Arm
-arms_in ran = ran.arms.value.items
+abbrev stripes_in : Ran → List Stripe
+stripes_in ran = ran.stripes.value.items
 
 module _ {R W : Type 0} {r : reads.Ghosts R} {o : outputs.Ghosts W} (setup : Setup) where
   -- what holds of no source, and of one more where it holds of the others, holds of all
-  at_each : (P : List (Settled R W r o) → List R → List W → Type 0) → P [] [] []
-      → ((one : Settled R W r o) (source : R) (before : W) (all : List (Settled R W r o)) (sources : List R)
+  at_each : (P : List (EndedSource R W r o) → List R → List W → Type 0) → P [] [] []
+      → ((one : EndedSource R W r o) (source : R) (before : W) (all : List (EndedSource R W r o)) (sources : List R)
       (given : List W) → ended_case one ≡ case source before setup → P all sources given
       → P (one ∷ all) (source ∷ sources) (before ∷ given))
-      → (all : List (Settled R W r o)) (sources : List R) (given : List W) → length sources ≡ length given
+      → (all : List (EndedSource R W r o)) (sources : List R) (given : List W) → length sources ≡ length given
       → map ended_case all ≡ cases setup sources given → P all sources given
   at_each P none more [] [] [] len is = none
   at_each P none more [] [] (y ∷ ys) len is = absurd (omega arith)
@@ -93,7 +93,7 @@ module _ {R W : Type 0} {r : reads.Ghosts R} {o : outputs.Ghosts W} (setup : Set
       let first : ended_case one ≡ case x y setup = cc in let others : map ended_case rest ≡ cases setup xs ys = cc in
       more one x y rest xs ys first (at_each P none more rest xs ys (omega arith) others)
 
-  module _ (all : List (Settled R W r o)) (sources : List R) (given : List W) (len : length sources ≡ length given)
+  module _ (all : List (EndedSource R W r o)) (sources : List R) (given : List W) (len : length sources ≡ length given)
       (is : map ended_case all ≡ cases setup sources given) where
     places : AtEachPlace (Known r o setup) sources given (map output_of all) (map end_of all)
     places =
@@ -101,7 +101,7 @@ module _ {R W : Type 0} {r : reads.Ghosts R} {o : outputs.Ghosts W} (setup : Set
         tt
         (λ one x y rest xs ys first others. (
           subst (λ (k : Case R W). Known r o k.setup k.source k.output one.output one.end) first
-              (one.untouched, one.settled),
+              (one.untouched, one.ended_source),
           others,
         )) all sources given len is
 
@@ -122,14 +122,14 @@ module _ {R W : Type 0} {r : reads.Ghosts R} {o : outputs.Ghosts W} (setup : Set
         ∙ ap (λ ss. setup ∷ ss) others) all sources given len is
 
     pub of_machine : AreOfMachine r o setup sources given (map output_of all) (map end_of all)
-        (map arms_in (map ran_of all))
+        (map stripes_in (map ran_of all))
     of_machine =
         at_each (λ all sources given.
-        AreOfMachine r o setup sources given (map output_of all) (map end_of all) (map arms_in (map ran_of all))) tt
+        AreOfMachine r o setup sources given (map output_of all) (map end_of all) (map stripes_in (map ran_of all))) tt
         (λ one x y rest xs ys first others. (
           subst (λ (k : Case R W). ∥ IfWhole one.end (λ count refused journal.
               IsMachineWithTable (r.remaining k.source) k.setup (o.contents k.output) (o.contents one.output) count
-              (arms_in one.ran)) ∥₁) first one.machine,
+              (stripes_in one.ran)) ∥₁) first one.machine,
           others,
         )) all sources given len is
 
@@ -155,11 +155,11 @@ module _ {R W : Type 0} {r : reads.Ghosts R} {o : outputs.Ghosts W} (setup : Set
         }
 
         pub report_of_machine : report.outputs.items ≡ map output_of all
-            → AreOfMachine r o setup sources given report.outputs.items report.ends.items (arms_of report)
+            → AreOfMachine r o setup sources given report.outputs.items report.ends.items (stripes_of report)
         report_of_machine wrote =
-            subst (λ ws. AreOfMachine r o setup sources given ws report.ends.items (arms_of report)) (sym wrote)
-            (subst (λ es. AreOfMachine r o setup sources given (map output_of all) es (arms_of report)) (sym ends)
-            (subst (λ rs. AreOfMachine r o setup sources given (map output_of all) (map end_of all) (map arms_in rs))
+            subst (λ ws. AreOfMachine r o setup sources given ws report.ends.items (stripes_of report)) (sym wrote)
+            (subst (λ es. AreOfMachine r o setup sources given (map output_of all) es (stripes_of report)) (sym ends)
+            (subst (λ rs. AreOfMachine r o setup sources given (map output_of all) (map end_of all) (map stripes_in rs))
             (sym by) of_machine))
 
         pub report_of_threads : AreThreads setup report.ends.items report.ran.items

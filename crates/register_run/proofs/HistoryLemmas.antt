@@ -19,13 +19,13 @@ use Rattle.striped_lanes.specs.Places.{table_rows}
 use Rattle.striped_lanes.specs.Schedules.{run}
 use Rattle.striped_lanes.proofs.OneByOneLemmas.{all_entries, all_popped, all_rows, one_by_one}
 use Rattle.striped_lanes.proofs.PartLemmas.{part}
-use Rattle.register_run.specs.Arms.{AnyTook, HasPassedOn, HavePassedOn, arm_setup, feeding_lane}
+use Rattle.register_run.specs.Stripes.{AnyTook, HasPassedOn, HavePassedOn, stripe_setup, feeding_lane}
 use Rattle.register_run.specs.Carried.{WereDealt, dealt}
 use Rattle.register_run.specs.Histories.{Carries, HaveHistories}
-use Rattle.register_run.specs.Passages.{AreOfLanes, HasSent}
+use Rattle.register_run.specs.JoinedThreads.{AreOfLanes, HasSent}
 use Rattle.register_run.specs.Worlds.{World}
-use Rattle.register_run.specs.declared.arms.Arm.{Arm}
-use Rattle.register_run.proofs.ArmLemmas.{and_left, took_dealt}
+use Rattle.register_run.specs.declared.stripes.Stripe.{Stripe}
+use Rattle.register_run.proofs.StripeLemmas.{and_left, took_dealt}
 
 -- what is dealt by numbers is what is dealt by places
 dealt_part : (w : World) (j k : ℕ) (entries : List Numbered) → AreNumberedFrom (k + 1) entries
@@ -36,38 +36,38 @@ dealt_part w j k (e ∷ entries) numbered =
     ap (λ (n : ℕ). if turn w n == j then e ∷ dealt w j entries else dealt w j entries) place
     ∙ ap (λ (l : List Numbered). if turn w k == j then e ∷ l else l) (dealt_part w j (k + 1) entries numbered.1)
 
--- arms whose lanes carried what was dealt have the histories of a schedule with which that goes over the lanes
-have_histories : (w : World) (schedule : List Actor) (given : List Numbered) (i : ℕ) (arms : List Arm)
+-- stripes whose lanes carried what was dealt have the histories of a schedule with which that goes over the lanes
+have_histories : (w : World) (schedule : List Actor) (given : List Numbered) (i : ℕ) (stripes : List Stripe)
     (closed : List (Closed Entry)) → ((j : ℕ) → entries_over w j schedule start ≡ dealt w j given)
     → ((j : ℕ) → rows_over w j schedule start ≡ map w.row_of (dealt w j given))
-    → HavePassedOn true arms closed → WereDealt w i given closed → HaveHistories w schedule i arms closed
+    → HavePassedOn true stripes closed → WereDealt w i given closed → HaveHistories w schedule i stripes closed
 have_histories w schedule given i [] [] es rs on deals = tt
 have_histories w schedule given i [] (c ∷ closed) es rs on deals = on
-have_histories w schedule given i (arm ∷ arms) [] es rs on deals = on
-have_histories w schedule given i (arm ∷ arms) (c ∷ closed) es rs on deals =
+have_histories w schedule given i (stripe ∷ stripes) [] es rs on deals = on
+have_histories w schedule given i (stripe ∷ stripes) (c ∷ closed) es rs on deals =
     let sure = on.0.confirmed in (
       sure,
       deals.0 sure ∙ sym (es i),
       ap (λ (l : List Numbered). map w.row_of l) (on.0.all refl ∙ deals.0 sure) ∙ sym (rs i),
-      have_histories w schedule given (i + 1) arms closed es rs on.1 deals.1,
+      have_histories w schedule given (i + 1) stripes closed es rs on.1 deals.1,
     )
 
--- the lanes of arms that passed all on have the histories of the machine's lanes in a schedule
-of_machine : (given : List Numbered) (stripes ring : ℕ) (arms : List Arm) (closed : List (Closed Entry)) → 0 < ring
-    → length arms ≡ stripes → AreNumberedFrom 1 given → HavePassedOn true arms closed
+-- the lanes of stripes that passed all on have the histories of the machine's lanes in a schedule
+of_machine : (given : List Numbered) (stripes ring : ℕ) (stripes : List Stripe) (closed : List (Closed Entry)) → 0 < ring
+    → length stripes ≡ stripes → AreNumberedFrom 1 given → HavePassedOn true stripes closed
     → ((w : World) → w.converters ≡ length closed → WereDealt w 0 given closed)
     → (w : World) → w.entries ≡ given → w.converters ≡ stripes → w.ring ≡ ring
-    → (schedule : List Actor) × ((run w schedule start).popped ≡ table_rows w) × HaveHistories w schedule 0 arms closed
-of_machine given stripes ring arms closed some staffed numbered on deals w is many size =
+    → (schedule : List Actor) × ((run w schedule start).popped ≡ table_rows w) × HaveHistories w schedule 0 stripes closed
+of_machine given stripes ring stripes closed some staffed numbered on deals w is many size =
     let room : nat_lt 0 w.ring ≡ true = lt-ltb 0 w.ring (omega (arith, some, size)) in
     let schedule = one_by_one w 0 given in (
       schedule,
       all_popped w room given [] 0 [] is refl refl ∙ ap (map w.row_of) (sym is),
-      have_histories w schedule given 0 arms closed
+      have_histories w schedule given 0 stripes closed
           (λ j. all_entries w room given [] 0 [] is refl refl j ∙ sym (dealt_part w j 0 given numbered))
           (λ j. all_rows w room given [] 0 [] is refl refl j
           ∙ ap (λ (l : List Numbered). map w.row_of l) (sym (dealt_part w j 0 given numbered)))
-          on (deals w (many ∙ sym staffed ∙ sym (AllZip-long (HasPassedOn true) arms closed on))),
+          on (deals w (many ∙ sym staffed ∙ sym (AllZip-long (HasPassedOn true) stripes closed on))),
     )
 
 some_room : (setup : Setup) → 0 < setup.ring
@@ -75,19 +75,19 @@ some_room setup =
     let least = leb-true 1 setup.ring (and_left (nat_le 1 setup.ring) (nat_le setup.ring largest_ring) setup.rings) in
     omega (arith, least)
 
-pub staff : (setup : Setup) (arms : List Arm) → map arm_setup arms ≡ replicate setup.stripes setup
-    → length arms ≡ setup.stripes
-staff setup arms staffed =
-    sym (length-map arms arm_setup) ∙ ap length staffed ∙ length-replicate setup.stripes setup
+pub staff : (setup : Setup) (stripes : List Stripe) → map stripe_setup stripes ≡ replicate setup.stripes setup
+    → length stripes ≡ setup.stripes
+staff setup stripes staffed =
+    sym (length-map stripes stripe_setup) ∙ ap length staffed ∙ length-replicate setup.stripes setup
 
 -- threads that ended with a count
-pub joined_of_machine : (text : Option (List ℕ)) (setup : Setup) (arms : List Arm) (closed : List (Closed Entry))
+pub joined_of_machine : (text : Option (List ℕ)) (setup : Setup) (stripes : List Stripe) (closed : List (Closed Entry))
     (n : ℕ) (outcome : Result ℕ Cause) (ended told : Bool) → beq ended told ≡ true → told ≡ is_ok outcome
-    → map arm_setup arms ≡ replicate setup.stripes setup → AreOfLanes (map feeding_lane arms) closed
-    → ∥ HasSent text (format_of setup) (record { count = n; outcome = outcome }) closed ∥₁ → HavePassedOn ended arms closed
-    → IfOk outcome (λ count. ∥ Carries text setup count arms (AnyTook arms) ∥₁)
-joined_of_machine text setup arms closed n (Err cause) ended told same is staffed from sent on = tt
-joined_of_machine text setup arms closed n (Ok count) true told same is staffed from sent on =
+    → map stripe_setup stripes ≡ replicate setup.stripes setup → AreOfLanes (map feeding_lane stripes) closed
+    → ∥ HasSent text (format_of setup) (record { count = n; outcome = outcome }) closed ∥₁ → HavePassedOn ended stripes closed
+    → IfOk outcome (λ count. ∥ Carries text setup count stripes (AnyTook stripes) ∥₁)
+joined_of_machine text setup stripes closed n (Err cause) ended told same is staffed from sent on = tt
+joined_of_machine text setup stripes closed n (Ok count) true told same is staffed from sent on =
     ∥∥₁_map sent (λ (given, so, deals). (
       record {
         given = given;
@@ -97,10 +97,10 @@ joined_of_machine text setup arms closed n (Ok count) true told same is staffed 
         entries = so.all.1;
         staffed = staffed;
         lanes = from;
-        schedule = of_machine given setup.stripes setup.ring arms closed (some_room setup) (staff setup arms staffed)
+        schedule = of_machine given setup.stripes setup.ring stripes closed (some_room setup) (staff setup stripes staffed)
             so.numbered on deals;
       },
-      took_dealt given true arms closed deals on,
+      took_dealt given true stripes closed deals on,
     ))
-joined_of_machine text setup arms closed n (Ok count) false true same is staffed from sent on = cc
-joined_of_machine text setup arms closed n (Ok count) false false same is staffed from sent on = cc
+joined_of_machine text setup stripes closed n (Ok count) false true same is staffed from sent on = cc
+joined_of_machine text setup stripes closed n (Ok count) false false same is staffed from sent on = cc

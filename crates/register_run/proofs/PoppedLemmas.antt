@@ -1,4 +1,4 @@
--- How many rows were popped, as one of the arms is looked at or gives a row.
+-- How many rows were popped, as one of the stripes is looked at or gives a row.
 use Rattle.std.proofs.Common.{◌≡◌, ◌∙◌, ◌+◌, ◌<◌, ℕ, zero, suc, List, [], ◌∷◌, ◌++◌, ap, arith, get_or, length, set}
 use Rattle.std.proofs.Common.{subst, sym}
 use Rattle.std.proofs.Common.{true}
@@ -12,63 +12,63 @@ use Rattle.lane_rings.specs.Items.{entries_in}
 use Rattle.lane_rings.specs.Lane.{taken}
 use Rattle.lane_rings.specs.declared.item.Item.{Item}
 use Rattle.register_records.specs.declared.rows.Row.{Row}
-use Rattle.register_run.specs.Arms.{IsRowNext}
+use Rattle.register_run.specs.Stripes.{IsRowNext}
 use Rattle.striped_lanes.specs.Machine.{turn}
 use Rattle.register_run.specs.Worlds.{World}
 use Rattle.register_run.specs.Popped.{AreOpen, HasLooked, HasLookedAt, HasPopped, IsInTurn}
 use Rattle.register_run.specs.Popped.{popped, popped_from}
-use Rattle.register_run.specs.declared.arms.Found.{Found}
-use Rattle.register_run.specs.declared.arms.Arm.{Arm}
+use Rattle.register_run.specs.declared.stripes.Found.{Found}
+use Rattle.register_run.specs.declared.stripes.Stripe.{Stripe}
 
-abbrev IsOpen : Arm → Type 0
-IsOpen arm = arm.«open» ≡ true
+abbrev IsOpen : Stripe → Type 0
+IsOpen stripe = stripe.«open» ≡ true
 
--- where all are open with another arm in this one's place, and this one is, they all are
-opened : (arms : List Arm) (at : ℕ) (new d : Arm) → IsOpen (get_or arms at d) → AreOpen (set arms at new) → AreOpen arms
+-- where all are open with another stripe in this one's place, and this one is, they all are
+opened : (stripes : List Stripe) (at : ℕ) (new d : Stripe) → IsOpen (get_or stripes at d) → AreOpen (set stripes at new) → AreOpen stripes
 opened [] at new d so all = all
-opened (arm ∷ rest) zero new d so all = All-cons IsOpen arm rest so (All-tail IsOpen new rest all)
-opened (arm ∷ rest) (suc at) new d so all =
-    All-cons IsOpen arm rest (All-head IsOpen arm (set rest at new) all)
-    (opened rest at new d so (All-tail IsOpen arm (set rest at new) all))
+opened (stripe ∷ rest) zero new d so all = All-cons IsOpen stripe rest so (All-tail IsOpen new rest all)
+opened (stripe ∷ rest) (suc at) new d so all =
+    All-cons IsOpen stripe rest (All-head IsOpen stripe (set rest at new) all)
+    (opened rest at new d so (All-tail IsOpen stripe (set rest at new) all))
 
-module _ (arms : List Arm) (at : ℕ) (new old : Arm) (within : at < length arms) (is : old ≡ get_or arms at old) where
-  new_open : AreOpen (set arms at new) → IsOpen new
+module _ (stripes : List Stripe) (at : ℕ) (new old : Stripe) (within : at < length stripes) (is : old ≡ get_or stripes at old) where
+  new_open : AreOpen (set stripes at new) → IsOpen new
   new_open all =
-      subst IsOpen (get_or-set_same arms at new old within)
-      (all at old (let long = length-set arms at new in omega (arith, within, long)))
+      subst IsOpen (get_or-set_same stripes at new old within)
+      (all at old (let long = length-set stripes at new in omega (arith, within, long)))
 
-  were_open : IsOpen old → AreOpen (set arms at new) → AreOpen arms
-  were_open so all = opened arms at new old (subst IsOpen is so) all
+  were_open : IsOpen old → AreOpen (set stripes at new) → AreOpen stripes
+  were_open so all = opened stripes at new old (subst IsOpen is so) all
 
-  popped_more : (n : ℕ) → popped_from new ≡ popped_from old + n → popped (set arms at new) ≡ popped arms + n
+  popped_more : (n : ℕ) → popped_from new ≡ popped_from old + n → popped (set stripes at new) ≡ popped stripes + n
   popped_more n gains =
-      let sums = sum_by-set popped_from arms at new old within in
-      let here : popped_from (get_or arms at old) ≡ popped_from old = ap popped_from (sym is) in
+      let sums = sum_by-set popped_from stripes at new old within in
+      let here : popped_from (get_or stripes at old) ≡ popped_from old = ap popped_from (sym is) in
       omega (arith, sums, here, gains)
 
-  -- the arm was looked at
-  pub looked_at : (found : Found) → HasLooked old new found → HasLookedAt at arms (set arms at new) found
+  -- the stripe was looked at
+  pub looked_at : (found : Found) → HasLooked old new found → HasLookedAt at stripes (set stripes at new) found
   looked_at found looked = record {
-    row = λ e d. subst IsRowNext (sym (get_or-set_same arms at new d within)) (looked.row e);
+    row = λ e d. subst IsRowNext (sym (get_or-set_same stripes at new d within)) (looked.row e);
     ended = λ e all. absurd (let a = new_open all in let b = looked.ended e in cc);
     same = λ all.
         let (was, none) = looked.same (new_open all) in
         (were_open was all, let more = popped_more 0 (omega (arith, none)) in omega (arith, more));
   }
 
-  -- the arm gave a row
-  pub popped_at : new.«open» ≡ old.«open» → popped_from new ≡ popped_from old + 1 → HasPopped arms (set arms at new)
+  -- the stripe gave a row
+  pub popped_at : new.«open» ≡ old.«open» → popped_from new ≡ popped_from old + 1 → HasPopped stripes (set stripes at new)
   popped_at same one = (λ all. were_open (sym same ∙ new_open all) all, popped_more 1 one)
 
-one_of : (arms : List Arm) → 0 < length arms → Arm
+one_of : (stripes : List Stripe) → 0 < length stripes → Stripe
 one_of [] some = absurd (omega arith)
-one_of (arm ∷ rest) some = arm
+one_of (stripe ∷ rest) some = stripe
 
 -- after a row the turn goes on
-pub in_turn_popped : (old new : List Arm) (at next : ℕ) → HasPopped old new → length new ≡ length old
+pub in_turn_popped : (old new : List Stripe) (at next : ℕ) → HasPopped old new → length new ≡ length old
     → at < length old → IsInTurn old at
-    → ((w : World) (k : ℕ) (arm : Arm) → w.converters ≡ length new → at ≡ turn w k
-    → slice_get new (turn w (k + 1)) ≡ Some arm → arm.«open» ≡ true → next ≡ turn w (k + 1))
+    → ((w : World) (k : ℕ) (stripe : Stripe) → w.converters ≡ length new → at ≡ turn w k
+    → slice_get new (turn w (k + 1)) ≡ Some stripe → stripe.«open» ≡ true → next ≡ turn w (k + 1))
     → IsInTurn new next
 in_turn_popped old new at next has long within turns goes all w many =
     let (were, one) = has in
@@ -80,10 +80,10 @@ in_turn_popped old new at next has long within turns goes all w many =
     (slice_get-get_or new (turn w (k + 1)) d there) (all (turn w (k + 1)) d there)
     ∙ ap (turn w) (sym one)
 
--- one more arm, from which no row was popped
-pub unpopped_more : (arms new : List Arm) (arm : Arm) → new ≡ arms ++ arm ∷ [] → taken arm.rows ≡ [] → popped arms ≡ 0
+-- one more stripe, from which no row was popped
+pub unpopped_more : (stripes new : List Stripe) (stripe : Stripe) → new ≡ stripes ++ stripe ∷ [] → taken stripe.rows ≡ [] → popped stripes ≡ 0
     → popped new ≡ 0
-unpopped_more arms new arm is none before =
-    let none' : popped_from arm ≡ 0 = ap (λ (l : List (Item Row)). length (entries_in l)) none in
-    let sums = sum_by-append popped_from arms (arm ∷ []) in
+unpopped_more stripes new stripe is none before =
+    let none' : popped_from stripe ≡ 0 = ap (λ (l : List (Item Row)). length (entries_in l)) none in
+    let sums = sum_by-append popped_from stripes (stripe ∷ []) in
     ap popped is ∙ omega (arith, sums, none', before)

@@ -18,7 +18,7 @@ use Rattle.register_records.specs.Tables.{Layout, heading_line, journal_of, line
 use Rattle.register_records.specs.Views.{line_of, row_seen, row_targets, waiting_in, writes_by}
 use Rattle.register_run.specs.TablesWritten.{Stands, entries_seen, rows_seen}
 use Rattle.register_run.proofs.GivenLemmas.{numbered_more}
-use Rattle.register_run.proofs.PassageLemmas.{only}
+use Rattle.register_run.proofs.JoinedThreadsLemmas.{only}
 
 -- known bytes, and bytes that wait behind them
 appends_heading : (given output new : Option (List ℕ)) (pending heading lines : List ℕ) → output ≡ given

@@ -12,17 +12,17 @@ use Rattle.register_records.specs.declared.sources.Cause.TheVariants as cause
 use Rattle.register_records.specs.declared.sources.Note.{Note}
 use Rattle.register_records.specs.declared.sources.SourceEnd.{SourceEnd}
 use Rattle.register_records.specs.declared.sources.SourceEnd.TheVariants as end
-use Rattle.register_run.specs.Arms.{arm_setup}
+use Rattle.register_run.specs.Stripes.{stripe_setup}
 use Rattle.register_run.specs.Courses.{IsLowest, IsMet, is_of_table}
-use Rattle.register_run.specs.Links.{AreStaffed}
-use Rattle.register_run.specs.Passages.{HasStarted}
+use Rattle.register_run.specs.SourceThreads.{AreStaffed}
+use Rattle.register_run.specs.JoinedThreads.{HasStarted}
 use Rattle.register_run.specs.Threads.{AreThreadsOf, HasRing}
-use Rattle.register_run.specs.declared.arms.Arm.{Arm}
+use Rattle.register_run.specs.declared.stripes.Stripe.{Stripe}
 use Rattle.register_run.specs.declared.reports.Ran.{Ran}
-use Rattle.register_run.specs.declared.settling.Met.{Met}
-use Rattle.register_run.proofs.ArmLemmas.{and_left}
+use Rattle.register_run.specs.declared.ended_sources.Met.{Met}
+use Rattle.register_run.proofs.StripeLemmas.{and_left}
 use Rattle.register_run.proofs.HistoryLemmas.{staff}
-use Rattle.register_run.proofs.SettledLemmas.{thread_told}
+use Rattle.register_run.proofs.EndedSourceLemmas.{thread_told}
 
 some_stripe : (setup : Setup) → 0 < setup.stripes
 some_stripe setup =
@@ -30,15 +30,15 @@ some_stripe setup =
     (and_left (nat_le 1 setup.stripes) (nat_le setup.stripes most_stripes) setup.striped) in
     omega (arith, least)
 
--- arms that were started by a setup have its ring
-rings_of : (setup : Setup) (arms : List Arm) (n : ℕ) → map arm_setup arms ≡ replicate n setup
-    → All (HasRing setup.ring) arms
+-- stripes that were started by a setup have its ring
+rings_of : (setup : Setup) (stripes : List Stripe) (n : ℕ) → map stripe_setup stripes ≡ replicate n setup
+    → All (HasRing setup.ring) stripes
 rings_of setup [] n is = λ k d below. absurd (omega (arith, below))
-rings_of setup (arm ∷ arms) zero is = absurd (cc)
-rings_of setup (arm ∷ arms) (suc n) is =
-    let first : arm_setup arm ≡ setup = cc in let others : map arm_setup arms ≡ replicate n setup = cc in
-    let ring : arm.setup.value.ring ≡ setup.ring = ap (λ (s : Setup). s.ring) first in
-    All-cons (HasRing setup.ring) arm arms (arm.room ∙ ring, arm.room_for_rows ∙ ring) (rings_of setup arms n others)
+rings_of setup (stripe ∷ stripes) zero is = absurd (cc)
+rings_of setup (stripe ∷ stripes) (suc n) is =
+    let first : stripe_setup stripe ≡ setup = cc in let others : map stripe_setup stripes ≡ replicate n setup = cc in
+    let ring : stripe.setup.value.ring ≡ setup.ring = ap (λ (s : Setup). s.ring) first in
+    All-cons (HasRing setup.ring) stripe stripes (stripe.room ∙ ring, stripe.room_for_rows ∙ ring) (rings_of setup stripes n others)
 
 -- the lowest of causes of which one is 1 or 2
 lowest_two : (c : Cause) → cause_number c ≤ 2 → (c ≡ cause.NoMemory) ⊎ (c ≡ cause.NoThread)
@@ -67,15 +67,15 @@ module _ (setup : Setup) (met : Met) (journal : List Note) (of_table : IfSome me
         ]
 
     pub threads_of : (ran : Ran) (e : SourceEnd) → ran.met.value ≡ met
-        → AreStaffed setup met.sent.outcome ran.arms.value.items
+        → AreStaffed setup met.sent.outcome ran.stripes.value.items
         → IfWhole e (λ count refused notes. (met.sent.outcome ≡ Ok count) × (met.fault ≡ None) × (met.headed ≡ true)
         × (count ≡ met.rows) × (refused ≡ length notes) × (notes ≡ journal))
         → IfBroken e (IsLowest (IsMet met)) → AreThreadsOf setup e ran
     threads_of ran e is_met (inl (staffed, started)) whole lowest = record {
-      stripes = λ some. staff setup ran.arms.value.items staffed;
-      rings = rings_of setup ran.arms.value.items setup.stripes staffed;
-      none = λ none. absurd (let long = staff setup ran.arms.value.items staffed in let some = some_stripe setup in
-          let zero : length ran.arms.value.items ≡ 0 = ap length none in omega (arith, long, some, zero));
+      stripes = λ some. staff setup ran.stripes.value.items staffed;
+      rings = rings_of setup ran.stripes.value.items setup.stripes staffed;
+      none = λ none. absurd (let long = staff setup ran.stripes.value.items staffed in let some = some_stripe setup in
+          let zero : length ran.stripes.value.items ≡ 0 = ap length none in omega (arith, long, some, zero));
       unstarted = λ is. absurd (subst HasStarted (thread_told met of_table e lowest is) started refl);
       lowest = subst (λ m. IfBroken e (IsLowest (IsMet m))) (sym is_met) lowest;
     }

@@ -5,7 +5,7 @@ use Rattle.register_records.specs.declared.outputs.Output as outputs
 use Rattle.register_records.specs.declared.setups.Setup.{Setup}
 use Rattle.register_records.specs.declared.sources.SourceEnd.{SourceEnd}
 use Rattle.register_run.specs.declared.reports.Ran.{Ran}
-use Rattle.register_run.specs.declared.settling.Settled.{Settled}
+use Rattle.register_run.specs.declared.ended_sources.EndedSource.{EndedSource}
 
 pub record Case (R W : Type 0) : Type 0 where
   pub source : R
@@ -23,15 +23,15 @@ cases setup (source ∷ sources) (output ∷ outputs) = case source output setup
 
 module _ {R W : Type 0} {r : reads.Ghosts R} {o : outputs.Ghosts W} where
   -- what a source that has ended was made of
-  abbrev pub ended_case : Settled R W r o → Case R W
+  abbrev pub ended_case : EndedSource R W r o → Case R W
   ended_case s = case s.source.value s.given.value s.ran.setup.value
 
   -- how its threads ran, its output and its end
-  abbrev pub ran_of : Settled R W r o → Ran
+  abbrev pub ran_of : EndedSource R W r o → Ran
   ran_of s = s.ran
 
-  abbrev pub output_of : Settled R W r o → W
+  abbrev pub output_of : EndedSource R W r o → W
   output_of s = s.output
 
-  abbrev pub end_of : Settled R W r o → SourceEnd
+  abbrev pub end_of : EndedSource R W r o → SourceEnd
   end_of s = s.end

@@ -3,21 +3,21 @@ use Rattle.std.specs.Prelude.{◌≡◌, ◌≢◌, ◌≤◌, ◌⊎◌, ℕ, B
 use Rattle.register_records.specs.Sources.{cause_number}
 use Rattle.register_records.specs.declared.sources.Cause.{Cause}
 use Rattle.register_records.specs.declared.sources.Cause.TheVariants as cause
-use Rattle.register_run.specs.declared.settling.Course.{Course}
-use Rattle.register_run.specs.declared.settling.Course.TheVariants as course
-use Rattle.register_run.specs.declared.settling.Met.{Met}
+use Rattle.register_run.specs.declared.ended_sources.Course.{Course}
+use Rattle.register_run.specs.declared.ended_sources.Course.TheVariants as course
+use Rattle.register_run.specs.declared.ended_sources.Met.{Met}
 
 -- the output failed
-abbrev pub is_sunk : Course → Bool
-is_sunk course.Open = false
-is_sunk (course.Halted c) = false
-is_sunk (course.Sunk c) = true
+abbrev pub is_output_failed : Course → Bool
+is_output_failed course.Open = false
+is_output_failed (course.Halted c) = false
+is_output_failed (course.OutputFailed c) = true
 
 -- why no more is written
 abbrev pub fault_of : Course → Option Cause
 fault_of course.Open = None
 fault_of (course.Halted c) = Some c
-fault_of (course.Sunk c) = Some c
+fault_of (course.OutputFailed c) = Some c
 
 -- a table breaks off for this cause
 abbrev pub is_of_table : Cause → Bool

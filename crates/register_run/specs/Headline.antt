@@ -52,6 +52,6 @@ module _ {W : Type 0} (o : outputs.Ghosts W) (layout : Layout) (text : Option (L
     pub sink : c ≡ cause.SinkFault → o.has_failed written ≡ true
 
   -- the source has ended so
-  abbrev pub IsSettled : SourceEnd → Type 0
-  IsSettled (ended.Whole rows refused journal) = IsWhole rows refused journal.items
-  IsSettled (ended.Broken c) = IsBroken c
+  abbrev pub IsEndOfSource : SourceEnd → Type 0
+  IsEndOfSource (ended.Whole rows refused journal) = IsWhole rows refused journal.items
+  IsEndOfSource (ended.Broken c) = IsBroken c

@@ -11,8 +11,8 @@ use Rattle.register_records.specs.Outcomes.{TableRow}
 use Rattle.register_records.specs.Seen.{entry_seen}
 use Rattle.register_records.specs.Tables.{Layout, journal_of, table_text}
 use Rattle.register_records.specs.Views.{layout_of, row_seen, row_targets, targets_of, waiting_in, writes_by}
-use Rattle.register_run.specs.Courses.{is_sunk}
-use Rattle.register_run.specs.declared.tables.Table.{Table}
+use Rattle.register_run.specs.Courses.{is_output_failed}
+use Rattle.register_run.specs.declared.table_writers.TableWriter.{Table}
 
 -- rows as a table has them, and their entries as a text has them
 abbrev pub rows_seen : List Row → List TableRow
@@ -36,20 +36,20 @@ Stands o layout given output (Some w) rows =
 
 module _ {W : Type 0} {o : outputs.Ghosts W} where
   -- the output as it was handed in, and the setup
-  abbrev pub made_for : Table W o → W
+  abbrev pub made_for : TableWriter W o → W
   made_for table = table.given.value
 
-  abbrev pub made_by : Table W o → Setup
+  abbrev pub made_by : TableWriter W o → Setup
   made_by table = table.setup
 
   -- no line waits, unless the output failed
-  abbrev pub AllSent : Table W o → Type 0
-  AllSent table = is_sunk table.course ≡ false → waiting_of table.writer ≡ []
+  abbrev pub AllSent : TableWriter W o → Type 0
+  AllSent table = is_output_failed table.course ≡ false → waiting_of table.writer ≡ []
 
   -- these rows were added, in the order of their numbers, from 1: their lines were written or wait, unless the output
   -- failed, and the journal is theirs
-  pub record Holds (table : Table W o) (rows : List Row) : Type 0 where
-    pub stands : is_sunk table.course ≡ false
+  pub record Holds (table : TableWriter W o) (rows : List Row) : Type 0 where
+    pub stands : is_output_failed table.course ≡ false
         → Stands o (layout_of table.setup) table.given.value table.output table.writer rows
     pub numbered : AreNumberedFrom 1 (entries_seen rows)
     pub counted : length rows ≡ table.rows

@@ -7,23 +7,23 @@ use Rattle.register_records.specs.declared.setups.Setup.{Setup}
 use Rattle.register_records.specs.declared.sources.Cause.TheVariants as cause
 use Rattle.register_records.specs.declared.sources.SourceEnd.{SourceEnd}
 use Rattle.register_records.specs.declared.sources.SourceEnd.TheVariants as ended
-use Rattle.register_run.specs.Arms.{feeding_lane}
+use Rattle.register_run.specs.Stripes.{feeding_lane}
 use Rattle.register_run.specs.Courses.{IsLowest, IsMet}
-use Rattle.register_run.specs.declared.arms.Arm.{Arm}
+use Rattle.register_run.specs.declared.stripes.Stripe.{Stripe}
 use Rattle.register_run.specs.declared.reports.Ran.{Ran}
 
--- both lanes of an arm, that of its entries and that of its rows, hold as many items as a ring of this size
-abbrev pub HasRing : ℕ → Arm → Type 0
-HasRing ring arm = (lane_capacity (feeding_lane arm) ≡ ring) × (lane_capacity (receiver_lane arm.rows) ≡ ring)
+-- both lanes of an stripe, that of its entries and that of its rows, hold as many items as a ring of this size
+abbrev pub HasRing : ℕ → Stripe → Type 0
+HasRing ring stripe = (lane_capacity (feeding_lane stripe) ≡ ring) × (lane_capacity (receiver_lane stripe.rows) ≡ ring)
 
--- the threads of a source that ended so: an arm for each stripe of the setup, with lanes of its ring. There is none
+-- the threads of a source that ended so: an stripe for each stripe of the setup, with lanes of its ring. There is none
 -- only where threads did not start, which is cause 1 or 2; and with cause 2 there is none. A source that is broken tells
 -- the lowest of the causes that its threads and its table met
 pub record AreThreadsOf (setup : Setup) (end : SourceEnd) (ran : Ran) : Type 0 where
-  pub stripes : ran.arms.value.items ≢ [] → length ran.arms.value.items ≡ setup.stripes
-  pub rings : All (HasRing setup.ring) ran.arms.value.items
-  pub none : ran.arms.value.items ≡ [] → (end ≡ ended.Broken cause.NoMemory) ⊎ (end ≡ ended.Broken cause.NoThread)
-  pub unstarted : end ≡ ended.Broken cause.NoThread → ran.arms.value.items ≡ []
+  pub stripes : ran.stripes.value.items ≢ [] → length ran.stripes.value.items ≡ setup.stripes
+  pub rings : All (HasRing setup.ring) ran.stripes.value.items
+  pub none : ran.stripes.value.items ≡ [] → (end ≡ ended.Broken cause.NoMemory) ⊎ (end ≡ ended.Broken cause.NoThread)
+  pub unstarted : end ≡ ended.Broken cause.NoThread → ran.stripes.value.items ≡ []
   pub lowest : IfBroken end (IsLowest (IsMet ran.met.value))
 
 -- the same of the threads of each source

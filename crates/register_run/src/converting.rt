@@ -2,7 +2,7 @@
 
 ghost use Rattle.std.specs.Prelude.{◌≡◌, []};
 ghost use Rattle.lane_rings.specs.Lane.{receiver_lane, sender_lane, sent, taken};
-ghost use Rattle.register_run.specs.Passages.{IsConverting};
+ghost use Rattle.register_run.specs.JoinedThreads.{IsConverting};
 
 use crate::gates::Gate;
 use lane_rings::{Closed, Item, Receiver, Sender};

@@ -6,18 +6,18 @@
 //! is confirmed, and only then is a source called whole. [`run`] converts a list of sources.
 #![tactic(auto)]
 
-mod arms;
 mod converting;
+mod ended_sources;
 mod gates;
 pub mod laws;
-mod links;
 mod reading;
 mod reports;
 mod running;
-mod settling;
+mod running_sources;
+mod source_threads;
 mod starting;
-mod stations;
-mod tables;
+mod stripes;
+mod table_writers;
 mod turns;
 
 pub use gates::{Gate, Open};

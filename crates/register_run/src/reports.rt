@@ -2,8 +2,8 @@
 
 ghost use Rattle.std.specs.Prelude.{◌≡◌};
 
-use crate::arms::Arm;
-use crate::settling::Met;
+use crate::ended_sources::Met;
+use crate::stripes::Stripe;
 use register_records::{Setup, SourceEnd};
 use std::snapshot::Snapshot;
 
@@ -31,7 +31,7 @@ pub struct Report<W> {
 #[derive(Drop)]
 pub struct Ran {
     pub(crate) setup: Snapshot<Setup>,
-    pub(crate) arms: Snapshot<Vec<Arm>>,
+    pub(crate) stripes: Snapshot<Vec<Stripe>>,
     // What its threads and its table met.
     pub(crate) met: Snapshot<Met>,
 }

@@ -5,15 +5,15 @@ ghost use Rattle.std.specs.Prelude.{vec_capacity, vec_len};
 ghost use Rattle.register_records.specs.Sources.{is_whole_end};
 ghost use Rattle.register_run.specs.Cases.{cases, end_of, ended_case, output_of, ran_of};
 ghost use Rattle.register_run.specs.Histories.{AreOfMachine};
-ghost use Rattle.register_run.specs.Reports.{IsReport, arms_of};
-ghost use Rattle.register_run.specs.Stations.{case_of};
+ghost use Rattle.register_run.specs.Reports.{IsReport, stripes_of};
+ghost use Rattle.register_run.specs.RunningSources.{case_of};
 ghost use Rattle.register_run.specs.Threads.{AreThreads};
 
+use crate::ended_sources::EndedSource;
 use crate::gates::{Gate, Open};
 use crate::reports::{Ran, Report, RunFault, RunFaultKind, Verdict};
-use crate::settling::Settled;
-use crate::starting::{Host, Starting};
-use crate::stations::Station;
+use crate::running_sources::RunningSource;
+use crate::starting::{Host, RunContext};
 use lane_rings::Patience;
 use register_records::{Output, Setup, SourceEnd};
 use std::alloc::{AllocError, Global};
@@ -36,37 +36,39 @@ fn patience_for(rt: &impl Threads, sources: usize) -> Patience {
 
 /// Starts the threads of each source.
 fn start_all<'s, 'e, T: Host, R: Read + Send + Drop + 'e, W: Output + Drop, G: Gate + Sync>(
-    by: &Starting<'s, 'e, T, G>,
+    by: &RunContext<'s, 'e, T, G>,
     sources: Vec<R>,
     outputs: Vec<W>,
-    stations: Vec<Station<R, W>>,
-) -> Vec<Station<R, W>>
+    running_sources: Vec<RunningSource<R, W>>,
+) -> Vec<RunningSource<R, W>>
     requires same { vec_len sources ≡ vec_len outputs }
-    requires room { vec_len sources ≤ vec_capacity stations }
-    requires none { stations.items ≡ [] }
+    requires room { vec_len sources ≤ vec_capacity running_sources }
+    requires none { running_sources.items ≡ [] }
     ensures len { vec_len result ≡ vec_len sources }
     ensures cases { map case_of result.items ≡ cases by.now.setup.now sources.items outputs.items }
 {
-    let mut stations = stations;
+    let mut running_sources = running_sources;
     let mut rest = outputs.into_iter();
     for source in sources {
         let Some(output) = rest.next() else {
             unreachable!()
         };
-        stations.push_reserved(Station::start(by, source, output));
+        running_sources.push_reserved(RunningSource::start(by, source, output));
     }
-    stations
+    running_sources
 }
 
 /// Visits each source once. The answer is whether there was an item at one of them.
-fn visit_all<R: Read + Drop, W: Output + Drop>(stations: &mut Vec<Station<R, W>>) -> bool
-    ensures len { vec_len stations.new ≡ vec_len stations.old }
-    ensures cases { map case_of stations.new.items ≡ map case_of stations.old.items }
+fn visit_all<R: Read + Drop, W: Output + Drop>(
+    running_sources: &mut Vec<RunningSource<R, W>>,
+) -> bool
+    ensures len { vec_len running_sources.new ≡ vec_len running_sources.old }
+    ensures cases { map case_of running_sources.new.items ≡ map case_of running_sources.old.items }
 {
     let mut moved = false;
-    for i in 0..stations.len() {
-        let station = &mut stations[i];
-        if station.visit() {
+    for i in 0..running_sources.len() {
+        let running_source = &mut running_sources[i];
+        if running_source.visit() {
             moved = true;
         }
     }
@@ -77,17 +79,20 @@ fn visit_all<R: Read + Drop, W: Output + Drop>(stations: &mut Vec<Station<R, W>>
 fn visit_until_ended<R: Read + Drop, W: Output + Drop>(
     rt: &(impl Wait + Clock + CpuClock),
     patience: Patience,
-    stations: &mut Vec<Station<R, W>>,
+    running_sources: &mut Vec<RunningSource<R, W>>,
 )
-    ensures len { vec_len stations.new ≡ vec_len stations.old }
-    ensures cases { map case_of stations.new.items ≡ map case_of stations.old.items }
+    ensures len { vec_len running_sources.new ≡ vec_len running_sources.old }
+    ensures cases { map case_of running_sources.new.items ≡ map case_of running_sources.old.items }
 {
     let mut patience = patience;
     for _ in rt.forever() {
-        if !stations.iter().any(|station| station.is_open()) {
+        if !running_sources
+            .iter()
+            .any(|running_source| running_source.is_open())
+        {
             break;
         }
-        if visit_all(stations) {
+        if visit_all(running_sources) {
             patience.renew();
         } else {
             patience.rest(rt);
@@ -96,43 +101,43 @@ fn visit_until_ended<R: Read + Drop, W: Output + Drop>(
 }
 
 /// Joins the threads of each source and settles how it ended.
-fn settle_all<R: Read + Drop, W: Output + Drop>(
+fn end_all<R: Read + Drop, W: Output + Drop>(
     rt: &impl Threads,
-    stations: Vec<Station<R, W>>,
-    settled: Vec<Settled<R, W>>,
-) -> Vec<Settled<R, W>>
-    requires room { vec_len stations ≤ vec_capacity settled }
-    requires none { settled.items ≡ [] }
-    ensures len { vec_len result ≡ vec_len stations }
-    ensures cases { map ended_case result.items ≡ map case_of stations.items }
+    running_sources: Vec<RunningSource<R, W>>,
+    ended_source: Vec<EndedSource<R, W>>,
+) -> Vec<EndedSource<R, W>>
+    requires room { vec_len running_sources ≤ vec_capacity ended_source }
+    requires none { ended_source.items ≡ [] }
+    ensures len { vec_len result ≡ vec_len running_sources }
+    ensures cases { map ended_case result.items ≡ map case_of running_sources.items }
 {
-    let mut settled = settled;
-    for station in stations {
-        settled.push_reserved(station.finish(rt));
+    let mut ended_source = ended_source;
+    for running_source in running_sources {
+        ended_source.push_reserved(running_source.finish(rt));
     }
-    settled
+    ended_source
 }
 
 /// The outputs and the ends, in the order of the sources.
 fn report<R: Read + Drop, W: Output + Drop>(
-    settled: Vec<Settled<R, W>>,
+    ended_source: Vec<EndedSource<R, W>>,
     outputs: Vec<W>,
     ends: Vec<SourceEnd>,
     ran: Vec<Ran>,
 ) -> Report<W>
-    requires room { (vec_len settled ≤ vec_capacity outputs) × (vec_len settled ≤ vec_capacity ends)
-        × (vec_len settled ≤ vec_capacity ran) }
+    requires room { (vec_len ended_source ≤ vec_capacity outputs) × (vec_len ended_source ≤ vec_capacity ends)
+        × (vec_len ended_source ≤ vec_capacity ran) }
     requires none { (outputs.items ≡ []) × (ends.items ≡ []) × (ran.items ≡ []) }
-    ensures outputs { result.outputs.items ≡ map output_of settled.items }
-    ensures ends { result.ends.items ≡ map end_of settled.items }
-    ensures ran { result.ran.items ≡ map ran_of settled.items }
+    ensures outputs { result.outputs.items ≡ map output_of ended_source.items }
+    ensures ends { result.ends.items ≡ map end_of ended_source.items }
+    ensures ran { result.ran.items ≡ map ran_of ended_source.items }
     ensures verdict { (result.verdict ≡ Verdict.Complete) ↔ All (λ e. is_whole_end e ≡ true) result.ends.items }
 {
     let mut outputs = outputs;
     let mut ends = ends;
     let mut ran = ran;
-    for one in settled {
-        let Settled {
+    for one in ended_source {
+        let EndedSource {
             source: _,
             given: _,
             ran: one_ran,
@@ -167,14 +172,14 @@ fn verdict_of(ends: &[SourceEnd]) -> Verdict
 #[derive(Drop)]
 struct Lists<R: Read, W: Output> {
     count: usize,
-    stations: Vec<Station<R, W>>,
-    settled: Vec<Settled<R, W>>,
+    running_sources: Vec<RunningSource<R, W>>,
+    ended_source: Vec<EndedSource<R, W>>,
     outputs: Vec<W>,
     ends: Vec<SourceEnd>,
     ran: Vec<Ran>,
-    ghost empty: { (stations.items ≡ []) × (settled.items ≡ []) × (outputs.items ≡ []) × (ends.items ≡ [])
+    ghost empty: { (running_sources.items ≡ []) × (ended_source.items ≡ []) × (outputs.items ≡ []) × (ends.items ≡ [])
         × (ran.items ≡ []) },
-    ghost room: { (count ≤ vec_capacity stations) × (count ≤ vec_capacity settled) × (count ≤ vec_capacity outputs)
+    ghost room: { (count ≤ vec_capacity running_sources) × (count ≤ vec_capacity ended_source) × (count ≤ vec_capacity outputs)
         × (count ≤ vec_capacity ends) × (count ≤ vec_capacity ran) },
 }
 
@@ -185,15 +190,15 @@ fn make_lists<R: Read + Drop, W: Output + Drop>(
 ) -> Result<Lists<R, W>, AllocError>
     ensures { IfOk result (λ l. l.count ≡ count) }
 {
-    let stations = Vec::with_capacity(alloc, count)?;
-    let settled = Vec::with_capacity(alloc, count)?;
+    let running_sources = Vec::with_capacity(alloc, count)?;
+    let ended_source = Vec::with_capacity(alloc, count)?;
     let outputs = Vec::with_capacity(alloc, count)?;
     let ends = Vec::with_capacity(alloc, count)?;
     let ran = Vec::with_capacity(alloc, count)?;
     Ok(Lists {
         count,
-        stations,
-        settled,
+        running_sources,
+        ended_source,
         outputs,
         ends,
         ran,
@@ -213,7 +218,7 @@ fn hand_back<R, W>(kind: RunFaultKind, sources: Vec<R>, outputs: Vec<W>) -> RunF
 
 /// The run, inside the scope of its threads.
 fn run_all<'s, 'e, T: Host, R: Read + Send + Drop + 'e, W: Output + Drop, G: Gate + Sync>(
-    by: &Starting<'s, 'e, T, G>,
+    by: &RunContext<'s, 'e, T, G>,
     sources: Vec<R>,
     outputs: Vec<W>,
     lists: Lists<R, W>,
@@ -222,23 +227,23 @@ fn run_all<'s, 'e, T: Host, R: Read + Send + Drop + 'e, W: Output + Drop, G: Gat
     ensures report { IsReport R.Read W.Output
         by.now.setup.now sources.items outputs.items result }
     ensures machine { AreOfMachine R.Read W.Output by.now.setup.now sources.items outputs.items result.outputs.items
-        result.ends.items (arms_of result) }
+        result.ends.items (stripes_of result) }
     ensures threads { AreThreads by.now.setup.now result.ends.items result.ran.items }
 {
     let Lists {
         count: _,
-        stations,
-        settled,
+        running_sources,
+        ended_source,
         outputs: written,
         ends,
         ran,
     } = lists;
-    let mut stations = start_all(by, sources, outputs, stations);
+    let mut running_sources = start_all(by, sources, outputs, running_sources);
     // This thread is two lanes further than the readers.
-    let patience = by.patience.a_lane_further().a_lane_further();
-    visit_until_ended(by.rt, patience, &mut stations);
-    let settled = settle_all(by.rt, stations, settled);
-    report(settled, written, ends, ran)
+    let patience = by.patience.one_lane_downstream().one_lane_downstream();
+    visit_until_ended(by.rt, patience, &mut running_sources);
+    let ended_source = end_all(by.rt, running_sources, ended_source);
+    report(ended_source, written, ends, ran)
 }
 
 /// The run, with threads that end before it answers.
@@ -255,7 +260,7 @@ fn run_in_scope<T: Host, R: Read + Send + Drop, W: Output + Drop, G: Gate + Sync
     ensures report { IsReport R.Read W.Output
         setup.now sources.items outputs.items result }
     ensures machine { AreOfMachine R.Read W.Output setup.now sources.items outputs.items result.outputs.items
-        result.ends.items (arms_of result) }
+        result.ends.items (stripes_of result) }
     ensures threads { AreThreads setup.now result.ends.items result.ran.items }
 {
     let patience = patience_for(rt, sources.len());
@@ -267,10 +272,10 @@ fn run_in_scope<T: Host, R: Read + Send + Drop, W: Output + Drop, G: Gate + Sync
             ensures { IsReport R.Read W.Output
                 setup.entry.now sources.items outputs.items result
                 × AreOfMachine R.Read W.Output setup.entry.now sources.items outputs.items result.outputs.items
-                result.ends.items (arms_of result)
+                result.ends.items (stripes_of result)
                 × AreThreads setup.entry.now result.ends.items result.ran.items }
         {
-            let by = Starting {
+            let by = RunContext {
                 scope,
                 rt,
                 gate,
@@ -318,10 +323,10 @@ pub fn run_gated<
     // schedule with the entries of its text, for which `laws::every_schedule` says what holds; and its table is that of
     // these entries.
     ensures machine { IfOk result (λ r.
-        AreOfMachine R.Read W.Output setup.now sources.items outputs.items r.outputs.items r.ends.items (arms_of r)) }
+        AreOfMachine R.Read W.Output setup.now sources.items outputs.items r.outputs.items r.ends.items (stripes_of r)) }
 
-    // However a source ended, there is an arm for each stripe of the setup, and both its lanes have the setup's ring. No
-    // arm there is only where threads did not start, and that is cause 1 or 2; with cause 2 there is none.
+    // However a source ended, there is an stripe for each stripe of the setup, and both its lanes have the setup's ring. No
+    // stripe there is only where threads did not start, and that is cause 1 or 2; with cause 2 there is none.
     ensures threads { IfOk result (λ r. AreThreads setup.now r.ends.items r.ran.items) }
 
     // A run that did not begin.
@@ -378,10 +383,10 @@ pub fn run<T: Threads + Wait + Clock + CpuClock + Sync, R: Read + Send + Drop, W
     // schedule with the entries of its text, for which `laws::every_schedule` says what holds; and its table is that of
     // these entries.
     ensures machine { IfOk result (λ r.
-        AreOfMachine R.Read W.Output setup.now sources.items outputs.items r.outputs.items r.ends.items (arms_of r)) }
+        AreOfMachine R.Read W.Output setup.now sources.items outputs.items r.outputs.items r.ends.items (stripes_of r)) }
 
-    // However a source ended, there is an arm for each stripe of the setup, and both its lanes have the setup's ring. No
-    // arm there is only where threads did not start, and that is cause 1 or 2; with cause 2 there is none.
+    // However a source ended, there is an stripe for each stripe of the setup, and both its lanes have the setup's ring. No
+    // stripe there is only where threads did not start, and that is cause 1 or 2; with cause 2 there is none.
     ensures threads { IfOk result (λ r. AreThreads setup.now r.ends.items r.ran.items) }
 
     // A run that did not begin.

@@ -14,7 +14,7 @@ impl<T: Threads + Wait + Clock + CpuClock + Sync> Host for T {}
 
 /// What all threads of a run are started with. `patience` is that of a reader.
 #[derive(Drop)]
-pub(crate) struct Starting<'s, 'e, T, G> {
+pub(crate) struct RunContext<'s, 'e, T, G> {
     pub(crate) scope: &'s Scope<'s, &'e ()>,
     pub(crate) rt: &'e T,
     pub(crate) gate: &'e G,

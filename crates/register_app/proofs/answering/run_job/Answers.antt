@@ -6,7 +6,7 @@ use Rattle.std.specs.declared.io.traits.Read as reads
 use Rattle.register_records.specs.declared.outputs.Output as outputs
 use Rattle.register_records.specs.declared.setups.Setup.{Setup}
 use Rattle.register_run.specs.Histories.{AreOfMachine}
-use Rattle.register_run.specs.Reports.{IsReport, arms_of}
+use Rattle.register_run.specs.Reports.{IsReport, stripes_of}
 use Rattle.register_run.specs.Threads.{AreThreads}
 use Rattle.register_run.specs.declared.reports.Report.{Report}
 use Rattle.register_run.specs.declared.reports.Verdict.TheVariants.{Complete}
@@ -21,7 +21,7 @@ use Rattle.register_app.proofs.answering.run_job.Goals as goal
 converted : {R W E : Type 0} (r : reads.Ghosts R) (o : outputs.Ghosts W) (e : outputs.Ghosts E) (task : Task)
     (status : ℕ) (sources : List R) (given : List W) (before after : E) (setup : Setup) (report : Report W)
     → IsReport r o setup sources given report
-    → AreOfMachine r o setup sources given report.outputs.items report.ends.items (arms_of report)
+    → AreOfMachine r o setup sources given report.outputs.items report.ends.items (stripes_of report)
     → AreThreads setup report.ends.items report.ran.items → IsSetupOf task setup
     → ((status ≡ 0) ↔ (report.verdict ≡ Complete))
     → (e.has_failed after ≡ false

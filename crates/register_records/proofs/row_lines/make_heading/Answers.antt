@@ -1,7 +1,7 @@
 use Rattle.std.proofs.Common.{◌≡◌, ◌++◌, ◌∙◌, List, ap, append-nil, arith, map, sym, take}
 use Rattle.std.specs.List.{flat_map}
 use Rattle.std.proofs.lemmas.List.{take_all}
-use Rattle.register_records.specs.TableColumns.{answer_order, column_name, column_names, entry_order, heading}
+use Rattle.register_records.specs.TableColumns.{tail_order, column_name, column_names, entry_order, heading}
 use Rattle.register_records.specs.LineViews.{line_bytes, line_delimiter}
 use Rattle.register_records.specs.declared.table_columns.TableColumn.{TableColumn}
 use Rattle.register_records.proofs.LineLemmas.{heading_names, one_column, same_body, same_line, some_columns}
@@ -20,14 +20,14 @@ columns-init c = record {
 pub columns-preserved : goal.columns-preserved
 columns-preserved c =
     let inv = c.columns.invariant in
-    let items = c.answer_columns-column-items.ensures in
+    let items = c.tail_columns-column-items.ensures in
     let names = column_names c.args.targets.now in
     let entries = map column_name (entry_order c.args.form) in
     let before = line_bytes c.args.lines.now in
-    let first = flat_map names (take c.columns.column-index answer_order) in
+    let first = flat_map names (take c.columns.column-index tail_order) in
     record {
       begun =
-          one_column names (line_delimiter c.push_names.new.lines) before entries answer_order _ _ _
+          one_column names (line_delimiter c.push_names.new.lines) before entries tail_order _ _ _
           (rw items at c.columns-test.true)
           (rw items at (c.in_ok-push_names.ensures.value before (entries ++ first)
           (some_fields entries first (some_columns c.args.form column_name)) inv.begun));
@@ -40,10 +40,10 @@ returns-clause-value c =
     let inv = c.columns.invariant in
     let names = column_names c.args.targets.now in
     let entries = map column_name (entry_order c.args.form) in
-    let fields = entries ++ flat_map names (take c.columns.column-index answer_order) in
+    let fields = entries ++ flat_map names (take c.columns.column-index tail_order) in
     let before = line_bytes c.args.lines.now in
-    let all = take_all c.columns.column-index answer_order
-    (rw c.answer_columns-column-items.ensures at c.columns-test.false) in
+    let all = take_all c.columns.column-index tail_order
+    (rw c.tail_columns-column-items.ensures at c.columns-test.false) in
     let whole : fields ≡ heading c.args.form c.args.targets.now =
     ap (λ (columns : List TableColumn). entries ++ flat_map names columns) all
     ∙ sym (heading_names c.args.form c.args.targets.now) in

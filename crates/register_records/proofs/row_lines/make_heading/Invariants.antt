@@ -1,6 +1,6 @@
 use Rattle.std.proofs.Common.{◌≡◌, ◌≤◌, ◌++◌, map, take}
 use Rattle.std.specs.List.{flat_map}
-use Rattle.register_records.specs.TableColumns.{answer_order, column_name, column_names, entry_order}
+use Rattle.register_records.specs.TableColumns.{tail_order, column_name, column_names, entry_order}
 use Rattle.register_records.specs.LineViews.{Begins, line_bytes, line_capacity, line_delimiter}
 use Rattle.register_records.proofs.row_lines.make_heading.Given as goal
 
@@ -8,7 +8,7 @@ abbrev pub invariant-columns : goal.invariant-columns
 invariant-columns l =
     record {
       begun : Begins (line_bytes l.fn.lines) (map column_name (entry_order l.fn.form)
-          ++ flat_map (column_names l.targets) (take l.column-index answer_order)) l.lines;
+          ++ flat_map (column_names l.targets) (take l.column-index tail_order)) l.lines;
       kept : line_delimiter l.lines ≡ line_delimiter l.fn.lines;
       capacity : line_capacity l.fn.lines ≤ line_capacity l.lines;
     }

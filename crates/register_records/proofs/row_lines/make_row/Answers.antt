@@ -1,5 +1,5 @@
 use Rattle.std.proofs.Common.{◌∙◌, ◌++◌, map, sym}
-use Rattle.register_records.specs.TableColumns.{answer_texts, entry_field, entry_order, row_fields}
+use Rattle.register_records.specs.TableColumns.{tail_texts, entry_field, entry_order, row_fields}
 use Rattle.register_records.specs.LineViews.{line_bytes}
 use Rattle.register_records.specs.Views.{row_seen, row_targets}
 use Rattle.register_records.proofs.LineLemmas.{fields_in_parts, same_line, some_columns, two_of}
@@ -11,10 +11,10 @@ returns-clause-value c =
     let before = line_bytes c.args.lines.now in
     let entry = map (entry_field row) (entry_order c.args.form) in
     let targets = row_targets c.args.row.now in
-    let fields = entry ++ answer_texts targets row.outcome row.cells in
+    let fields = entry ++ tail_texts targets row.outcome row.cells in
     let all =
-    c.in_ok-push_answer.ensures.value before entry (some_columns c.args.form (entry_field row))
+    c.in_ok-push_tail.ensures.value before entry (some_columns c.args.form (entry_field row))
     c.in_ok-begin_line.ensures.value in
     same_line _ _ before fields (row_fields c.args.form targets row) _
-    (c.in_ok-push_answer.ensures.kept ∙ c.in_ok-begin_line.ensures.kept) (sym (fields_in_parts c.args.form targets row))
+    (c.in_ok-push_tail.ensures.kept ∙ c.in_ok-begin_line.ensures.kept) (sym (fields_in_parts c.args.form targets row))
     (c.in_ok-end.ensures.value before fields (two_of entry _ _ _) all)

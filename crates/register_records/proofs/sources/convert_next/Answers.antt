@@ -3,7 +3,7 @@ use Rattle.std.specs.Prelude.{IfSome}
 use Rattle.std.proofs.Math.Logic.{∥∥₁_map}
 use Rattle.std.specs.Io.KnownBytes.{Appends}
 use Rattle.date_texts.specs.declared.calendar.Target.{Target}
-use Rattle.register_records.specs.Answers.{cells_of}
+use Rattle.register_records.specs.RowTails.{cells_of}
 use Rattle.register_records.specs.Entries.{Format, HasAllEntries, HasEntries, IsNotSealed}
 use Rattle.register_records.specs.Outcomes.{AreCells, IsRowOf}
 use Rattle.register_records.specs.Seen.{entry_seen, outcome_seen, row_made}

@@ -4,7 +4,7 @@ use Rattle.lane_rings.specs.declared.item.Item.TheVariants as item
 use Rattle.lane_rings.specs.Lane.{all_sent, sent, taken, waiting}
 use Rattle.register_run.proofs.CarriedLemmas.{all_ended, first_ended, first_of_all, none_taken, row_left, row_sent}
 use Rattle.register_run.proofs.ConvertingLemmas.{mark_taken, stops}
-use Rattle.register_run.proofs.PassageLemmas.{took_next}
+use Rattle.register_run.proofs.JoinedThreadsLemmas.{took_next}
 use Rattle.register_run.proofs.converting.convert_entries.Goals as goal
 
 pub loop-init : goal.loop-init

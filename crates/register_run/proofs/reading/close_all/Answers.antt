@@ -1,7 +1,7 @@
 use Rattle.std.proofs.Common.{◌∙◌, rules, sym}
 use Rattle.std.specs.Vec.Iter.{into_iter_items}
 use Rattle.register_run.specs.Carried.{HasEnded}
-use Rattle.register_run.proofs.ArmLemmas.{zip_begin, zip_end, zip_more}
+use Rattle.register_run.proofs.StripeLemmas.{zip_begin, zip_end, zip_more}
 use Rattle.register_run.proofs.reading.close_all.Goals as goal
 
 pub loop-sender-init : goal.loop-sender-init

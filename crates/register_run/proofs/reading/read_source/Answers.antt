@@ -2,8 +2,8 @@ use Rattle.std.proofs.Common.{◌∙◌, subst}
 use Rattle.std.proofs.Math.Logic.{∥∥₁_map}
 use Rattle.std.proofs.lemmas.Slice.Zip.{AllZip-long}
 use Rattle.register_run.specs.Carried.{HasEnded}
-use Rattle.register_run.specs.Passages.{AreOfLanes}
-use Rattle.register_run.proofs.ArmLemmas.{ended_lanes}
+use Rattle.register_run.specs.JoinedThreads.{AreOfLanes}
+use Rattle.register_run.proofs.StripeLemmas.{ended_lanes}
 use Rattle.register_run.proofs.DealtLemmas.{dealt_ended}
 use Rattle.register_run.proofs.reading.read_source.Goals as goal
 
@@ -23,6 +23,6 @@ returns g c =
             λ w many.
                 dealt_ended w 0 given senders closed ends (deals w (many ∙ AllZip-long HasEnded senders closed ends)),
           ));
-      not_sunk = c.send_entries-sent.ensures.not_sunk;
+      output_good = c.send_entries-sent.ensures.output_good;
       started = c.send_entries-sent.ensures.started;
     }

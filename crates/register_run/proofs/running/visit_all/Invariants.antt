@@ -1,10 +1,10 @@
 use Rattle.std.proofs.Common.{◌≡◌, map, vec_len}
-use Rattle.register_run.specs.Stations.{case_of}
+use Rattle.register_run.specs.RunningSources.{case_of}
 use Rattle.register_run.proofs.running.visit_all.Given as goal
 
 abbrev pub invariant-loop-i : goal.invariant-loop-i
 invariant-loop-i g l = record {
-  end : vec_len l.stations ≡ l.i-end;
-  len : vec_len l.stations ≡ vec_len l.initial.stations;
-  cases : map case_of l.stations.items ≡ map case_of l.initial.stations.items;
+  end : vec_len l.running_sources ≡ l.i-end;
+  len : vec_len l.running_sources ≡ vec_len l.initial.running_sources;
+  cases : map case_of l.running_sources.items ≡ map case_of l.initial.running_sources.items;
 }

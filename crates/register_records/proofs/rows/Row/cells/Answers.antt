@@ -1,6 +1,6 @@
 use Rattle.std.proofs.Math.Logic.{∥∥₁_elim}
 use Rattle.std.proofs.Props.{props}
-use Rattle.register_records.proofs.AnswerLemmas.{one_cells}
+use Rattle.register_records.proofs.RowTailLemmas.{one_cells}
 use Rattle.register_records.proofs.rows.Row.cells.Goals as goal
 
 pub returns-clause-value : goal.returns-clause-value

@@ -1,0 +1,317 @@
+-- The fields of a tail, while they are appended, and the cells among them.
+use Rattle.std.proofs.Common.{◌≡◌, ◌<◌, ◌≤◌, ◌+◌, ◌++◌, ℕ, List, [], ◌∷◌, true, false, refl, sym, ap, ◌∙◌}
+use Rattle.std.proofs.Common.{add-one, arith, append-nil, drop, drop-cons, get_or, length, length-drop}
+use Rattle.std.proofs.Common.{map, subst}
+use Rattle.std.proofs.Common.{set, take}
+use Rattle.std.specs.Prelude.{◌==◌, ℤ, pos, negsuc, zero, suc, Bool, IsTrue, nat_le, cond, Ok, Err, Result}
+use Rattle.std.specs.Fmt.{decimal, signed_decimal}
+use Rattle.std.specs.List.{AllZip, flat_map, list_all, onto_first, slice_split}
+use Rattle.std.proofs.lemmas.Bool.{or_parts}
+use Rattle.std.proofs.lemmas.Bool.Decides.{nat_tests}
+use Rattle.std.proofs.lemmas.Fmt.{length-decimal-le, length_signed_le}
+use Rattle.std.proofs.lemmas.Int.{ints}
+use Rattle.std.proofs.lemmas.List.{at_drop_more, map-append, take_all, take_at}
+use Rattle.std.proofs.lemmas.List.Splits.{length-slice_split}
+use Rattle.std.proofs.Math.Logic.{∥∥₁_elim}
+use Rattle.std.proofs.Props.{props}
+use borrow.Rule.Slice.PartMut.{put_mid}
+use Rattle.csv.specs.Writing.{fields_text, needs_byte, needs_quotes}
+use Rattle.day_numbers.specs.Days.{IsDayNumber, weekday_names}
+use Rattle.day_numbers.specs.Numbered.{words}
+use Rattle.day_numbers.proofs.NameLemmas.{each_name}
+use Rattle.day_numbers.specs.declared.day.Day.{Day}
+use Rattle.date_texts.specs.Cells.{IsCell, is_plain}
+use Rattle.date_texts.specs.Refusals.{refusal_number}
+use Rattle.date_texts.specs.declared.calendar.Target.{Target}
+use Rattle.date_texts.specs.declared.refusal.Refusal.{Refusal}
+use Rattle.date_texts.specs.declared.refusal.Refusal.TheVariants as refused
+use Rattle.date_texts.specs.Laws.{CellsArePlain, OneCell}
+use Rattle.register_records.specs.RowTails.{cells_of, fields_of}
+use Rattle.register_records.specs.Columns.{Column, cell_columns}
+use Rattle.register_records.specs.TableColumns.{AreFields, IsCellField, tail_field, tail_order, tail_texts}
+use Rattle.register_records.specs.TableColumns.{answered}
+use Rattle.register_records.specs.LineRoom.{columns_room, plain_room, writing}
+use Rattle.register_records.specs.Lines.{fields_behind}
+use Rattle.register_records.specs.Outcomes.{AreCells}
+use Rattle.register_records.specs.Seen.{outcome_seen}
+use Rattle.register_records.specs.SetupRules.{is_delimiter}
+use Rattle.register_records.specs.declared.row_tails.RowTail.{RowTail}
+use Rattle.register_records.specs.declared.row_tails.TheConstants.{TAIL_ROOM}
+use Rattle.register_records.specs.declared.table_columns.TableColumn.{TableColumn}
+use Rattle.register_records.specs.declared.table_columns.TableColumn.TheVariants.{DayNumber, Weekday}
+use Rattle.register_records.specs.declared.table_columns.TableColumn.TheVariants.{Refusal as RefusalColumn}
+use Rattle.register_records.proofs.EveryTableLemmas.{has_cells}
+use Rattle.register_records.proofs.LineLemmas.{more_fields_text, plain_bytes, plain_text, put_after}
+
+-- the bytes of fields behind delimiters
+abbrev pub text : ℕ → List (List ℕ) → List ℕ
+text d fields = fields_text (writing d) fields
+
+-- of one that needs no quotes
+one_field : (d : ℕ) (field : List ℕ) → needs_quotes (writing d) field ≡ false → text d (field ∷ []) ≡ d ∷ field
+unfolding fields_text
+one_field d field h = rw (plain_text d field h) (ap (λ (t : List ℕ). d ∷ t) (append-nil field))
+
+-- a delimiter cuts
+abbrev cuts : ℕ → ℕ → Bool
+cuts d b = b == d
+
+plain_byte_stays : (d b : ℕ) → needs_byte (writing d) b ≡ false → cuts d b ≡ false
+plain_byte_stays d b h = grind (arith, nat_tests)
+
+same_byte_cuts : (d : ℕ) → cuts d d ≡ true
+same_byte_cuts d = grind (arith, nat_tests)
+
+-- a field that needs no quotes is not cut
+plain_is_whole : (d : ℕ) (field : List ℕ) → needs_quotes (writing d) field ≡ false
+    → slice_split (cuts d) field ≡ field ∷ []
+plain_is_whole d [] h = refl
+plain_is_whole d (b ∷ field) h =
+    let both = or_parts (needs_byte (writing d) b) (needs_quotes (writing d) field) h in
+    rw (plain_byte_stays d b both.0, plain_is_whole d field both.1) refl
+
+-- one more part at the end
+part_behind : (b : ℕ) (parts : List (List ℕ)) (field : List ℕ) → 1 ≤ length parts
+    → onto_first b (parts ++ field ∷ []) ≡ onto_first b parts ++ field ∷ []
+part_behind b [] field some = absurd (omega arith)
+part_behind b (part ∷ parts) field some = refl
+
+part_after_first : (parts : List (List ℕ)) (field : List ℕ) → 1 ≤ length parts
+    → drop 1 (parts ++ field ∷ []) ≡ drop 1 parts ++ field ∷ []
+part_after_first [] field some = absurd (omega arith)
+part_after_first (part ∷ parts) field some = refl
+
+some_parts : (d : ℕ) (bytes : List ℕ) → 1 ≤ length (slice_split (cuts d) bytes)
+some_parts d bytes = omega (arith, length-slice_split (cuts d) bytes)
+
+one_more_part : (d : ℕ) (bytes field : List ℕ) → needs_quotes (writing d) field ≡ false
+    → slice_split (cuts d) (bytes ++ d ∷ field) ≡ slice_split (cuts d) bytes ++ field ∷ []
+one_more_part d [] field h = rw (same_byte_cuts d, plain_is_whole d field h) refl
+one_more_part d (b ∷ bytes) field h =
+    rw (one_more_part d bytes field h) (
+    elim (cuts d b) as (λ v. cond v ([] ∷ (slice_split (cuts d) bytes ++ field ∷ []))
+    (onto_first b (slice_split (cuts d) bytes ++ field ∷ []))
+    ≡ cond v ([] ∷ slice_split (cuts d) bytes) (onto_first b (slice_split (cuts d) bytes)) ++ field ∷ [])
+    [ true ↦ refl | false ↦ part_behind b (slice_split (cuts d) bytes) field (some_parts d bytes) ]
+    )
+
+-- the fields of some bytes, and of one more behind them
+pub record Grown (d : ℕ) (field old new : List ℕ) : Type 0 where
+  pub fields : fields_behind d new ≡ fields_behind d old ++ field ∷ []
+  pub plain : new ≡ text d (fields_behind d new)
+
+pub grown : (d : ℕ) (field old new : List ℕ) → needs_quotes (writing d) field ≡ false
+    → old ≡ text d (fields_behind d old) → new ≡ old ++ d ∷ field → Grown d field old new
+grown d field old new h before is =
+    let fields : fields_behind d new ≡ fields_behind d old ++ field ∷ [] =
+    ap (fields_behind d) is ∙ ap (drop 1) (one_more_part d old field h)
+    ∙ part_after_first (slice_split (cuts d) old) field (some_parts d old) in
+    let bytes : new ≡ text d (fields_behind d old) ++ text d (field ∷ []) =
+    is ∙ ap (λ (t : List ℕ). t ++ d ∷ field) before
+    ∙ ap (λ (t : List ℕ). text d (fields_behind d old) ++ t) (sym (one_field d field h)) in
+    record {
+      fields = fields;
+      plain = bytes ∙ sym (more_fields_text d (fields_behind d old) (field ∷ [])) ∙ ap (text d) (sym fields);
+    }
+
+-- a field that is put behind a delimiter
+pub put_field : (places field : List ℕ) (at d k : ℕ) → at < length places
+    → take (at + 1 + length field) (put_mid (at + 1) k (set places at d) field) ≡ take at places ++ d ∷ field
+put_field places field at d k lt =
+    put_after places field at d k (length field) lt (omega arith)
+    ∙ ap (λ (t : List ℕ). take at places ++ d ∷ t) (take_all (length field) field (omega arith))
+
+-- one that is put behind a delimiter in the room of a cell
+pub put_cell : (places room : List ℕ) (at d k n : ℕ) → at < length places → n ≤ length room
+    → take (at + (1 + n)) (put_mid (at + 1) k (set places at d) room) ≡ take at places ++ d ∷ take n room
+put_cell places room at d k n lt few =
+    let same : at + (1 + n) ≡ at + 1 + n = omega arith in
+    rw same (put_after places room at d k n lt few)
+
+-- a day number has eight bytes at most, and a refusal's one
+pub day_length : (z : ℤ) → IsDayNumber z → length (signed_decimal z) ≤ 8
+day_length (pos n) r = length_signed_le 7 (pos n) (omega (arith, ints, r.0, r.1)) (omega (arith, ints, r.0, r.1))
+day_length (negsuc n) r = length_signed_le 7 (negsuc n) (omega (arith, ints, r.0, r.1)) (omega (arith, ints, r.0, r.1))
+
+refusal_below : (r : Refusal) → refusal_number r < 10
+refusal_below refused.FieldCount = omega arith
+refusal_below refused.FieldTooLong = omega arith
+refusal_below refused.NotUtf8 = omega arith
+refusal_below refused.UnknownCalendar = omega arith
+refusal_below refused.DateText = omega arith
+refusal_below refused.NoSuchDate = omega arith
+refusal_below refused.OutOfRange = omega arith
+
+pub refusal_length : (r : Refusal) → length (decimal (refusal_number r)) ≤ 1
+refusal_length r =
+    let below = refusal_below r in
+    length-decimal-le 1 (refusal_number r) (omega arith) (omega (arith, below)) (omega (arith, below))
+
+-- the name of a weekday has nine, and needs no quotes
+abbrev is_short : List ℕ → Bool
+is_short name = nat_le (length name) 9
+
+short_length : (name : List ℕ) → IsTrue (is_short name) → length name ≤ 9
+short_length name h = grind (arith, nat_tests)
+
+pub weekday_length : (number : ℕ) → length (get_or weekday_names number []) ≤ 9
+unfolding words
+weekday_length number = short_length _ (each_name is_short weekday_names number refl refl)
+
+pub plain_weekday : (d : ℕ) → is_delimiter d ≡ true → (number : ℕ)
+    → needs_quotes (writing d) (get_or weekday_names number []) ≡ false
+unfolding words
+plain_weekday d h number = plain_bytes d h _ (each_name (list_all is_plain) weekday_names number refl refl)
+
+-- one more that stands beside one more
+pub one_more_beside : {A B : Type 0} (R : A → B → Type 0) (xs : List A) (ys : List B) (x : A) (y : B) → AllZip R xs ys
+    → R x y → AllZip R (xs ++ x ∷ []) (ys ++ y ∷ [])
+one_more_beside R [] [] x y all h = (h, tt)
+one_more_beside R [] (z ∷ ys) x y all h = absurd all
+one_more_beside R (w ∷ xs) [] x y all h = absurd all
+one_more_beside R (w ∷ xs) (z ∷ ys) x y all h = (all.0, one_more_beside R xs ys x y all.1 h)
+
+-- the field of a target needs no quotes
+pub plain_field : CellsArePlain → (d : ℕ) → is_delimiter d ≡ true → (o : Result ℤ Refusal) (t : Target) (field : List ℕ)
+    → IsCellField o t field → needs_quotes (writing d) field ≡ false
+plain_field law d h (Ok n) t field is = plain_bytes d h field (law t n field is)
+plain_field law d h (Err r) t field is = rw is refl
+
+-- what stands in the columns of the cells: on a day the cells, and else nothing
+day_cells : (n : ℤ) (place : ℕ) (all : List (List ℕ)) (ts : List Target) (cells : List (List ℕ))
+    → drop place all ≡ cells → AreCells ts (Ok n) cells
+    → map (λ (c : Column). c.field (answered (Ok n) all)) (cell_columns place ts) ≡ cells
+day_cells n place all [] [] e a = refl
+day_cells n place all [] (x ∷ cells) e a = absurd a
+day_cells n place all (t ∷ ts) [] e a = absurd a
+day_cells n place all (t ∷ ts) (x ∷ cells) e a =
+    let lt : place < length all = omega (arith, length-drop place all, ap length e) in
+    let split : drop place all ≡ get_or all place [] ∷ drop (place + 1) all = rw (add-one, drop-cons all place [])
+    refl in
+    let first : get_or all place [] ≡ x = cc (split, e) in
+    let rest : drop (place + 1) all ≡ cells = cc (split, e) in
+    let more = day_cells n (place + 1) all ts cells rest a.1 in
+    cc (first, more)
+
+nothing_at : (place : ℕ) → get_or {A = List ℕ} [] place [] ≡ []
+nothing_at zero = refl
+nothing_at (suc place) = refl
+
+no_cells : (r : Refusal) (place : ℕ) (ts : List Target) (fields : List (List ℕ))
+    → AllZip (IsCellField (Err r)) ts fields
+    → map (λ (c : Column). c.field (answered (Err r) [])) (cell_columns place ts) ≡ fields
+no_cells r place [] [] a = refl
+no_cells r place [] (x ∷ fields) a = absurd a
+no_cells r place (t ∷ ts) [] a = absurd a
+no_cells r place (t ∷ ts) (x ∷ fields) a =
+    let more = no_cells r (place + 1) ts fields a.1 in
+    let none = nothing_at place in
+    let nothing : x ≡ [] = a.0 in
+    cc (more, nothing)
+
+-- there is room for the columns that are left
+pub room_left : (columns : List TableColumn) (i : ℕ) (e : TableColumn) (old new : ℕ) → i < length columns
+    → new ≤ old + plain_room (get_or columns i e) → old + columns_room plain_room (drop i columns) ≤ TAIL_ROOM
+    → new + columns_room plain_room (drop (i + 1) columns) ≤ TAIL_ROOM
+room_left columns i e old new lt grows room =
+    let split : columns_room plain_room (drop i columns)
+    ≡ plain_room (get_or columns i e) + columns_room plain_room (drop (i + 1) columns) =
+    at_drop_more (columns_room plain_room) columns i e lt in
+    omega arith
+
+-- as many stand beside a list as it has items
+as_many : {A B : Type 0} (R : A → B → Type 0) (xs : List A) (ys : List B) → AllZip R xs ys → length ys ≡ length xs
+as_many R [] [] all = refl
+as_many R [] (y ∷ ys) all = absurd all
+as_many R (x ∷ xs) [] all = absurd all
+as_many R (x ∷ xs) (y ∷ ys) all = ap suc (as_many R xs ys all.1)
+
+-- the fields of all columns of a tail: the cells stand among them
+pub record AreWhole (ts : List Target) (o : Result Day Refusal) (made fields : List (List ℕ)) : Type 0 where
+  pub cells : AreCells ts (outcome_seen o) made
+  pub written : fields ≡ tail_texts ts (outcome_seen o) made
+
+all_columns : (ts : List Target) (o : Result ℤ Refusal) (cells fields : List (List ℕ))
+    → map (λ (c : Column). c.field (answered o cells)) (cell_columns 0 ts) ≡ fields
+    → tail_field o DayNumber ∷ tail_field o Weekday ∷ (fields ++ tail_field o RefusalColumn ∷ [])
+    ≡ tail_texts ts o cells
+all_columns ts o cells fields e =
+    ap (λ (t : List (List ℕ)). tail_field o DayNumber ∷ tail_field o Weekday ∷ t)
+    (ap (λ (t : List (List ℕ)). t ++ tail_field o RefusalColumn ∷ []) (sym e)
+    ∙ sym (map-append (λ (c : Column). c.field (answered o cells)) (cell_columns 0 ts) _))
+
+pub whole_tail : (ts : List Target) (o : Result Day Refusal) (parts : List (List (List ℕ))) (tail : RowTail)
+    → AllZip (AreFields ts (outcome_seen o)) tail_order parts → fields_of tail ≡ flat_map (λ part. part) parts
+    → AreWhole ts o (cells_of ts o tail) (fields_of tail)
+whole_tail ts o [] tail all is = absurd all
+whole_tail ts o (a ∷ []) tail all is = absurd all.1
+whole_tail ts o (a ∷ b ∷ []) tail all is = absurd all.1.1
+whole_tail ts o (a ∷ b ∷ c ∷ []) tail all is = absurd all.1.1.1
+whole_tail ts (Ok day) (a ∷ b ∷ c ∷ d ∷ []) tail all is =
+    let whole = rw (all.0, all.1.0, all.1.1.1.0) at is in
+    let same : cells_of ts (Ok day) tail ≡ c =
+    ap (λ (fields : List (List ℕ)). take (length ts) (drop 2 fields)) whole
+    ∙ take_at c _ (length ts) (as_many (IsCellField (Ok day.number)) ts c all.1.1.0) in
+    record {
+      cells = subst (λ (cells : List (List ℕ)). AreCells ts (Ok day.number) cells) (sym same) all.1.1.0;
+      written = whole ∙ all_columns ts (Ok day.number) c c (day_cells day.number 0 c ts c refl all.1.1.0)
+          ∙ ap (tail_texts ts (Ok day.number)) (sym same);
+    }
+whole_tail ts (Err r) (a ∷ b ∷ c ∷ d ∷ []) tail all is =
+    let whole = rw (all.0, all.1.0, all.1.1.1.0) at is in
+    record { cells = refl; written = whole ∙ all_columns ts (Err r) [] c (no_cells r 0 ts c all.1.1.0) }
+whole_tail ts o (a ∷ b ∷ c ∷ d ∷ e ∷ rest) tail all is = absurd all.1.1.1.1
+
+-- where one thing can stand beside each item of a list, one list can stand beside it
+pub one_beside : {A B : Type 0} (R : A → B → Type 0) → ((x : A) (y z : B) → R x y → R x z → y ≡ z)
+    → (xs : List A) (ys zs : List B) → AllZip R xs ys → AllZip R xs zs → ys ≡ zs
+one_beside R one [] [] [] a b = refl
+one_beside R one [] [] (z ∷ zs) a b = absurd b
+one_beside R one [] (y ∷ ys) zs a b = absurd a
+one_beside R one (x ∷ xs) [] zs a b = absurd a
+one_beside R one (x ∷ xs) (y ∷ ys) [] a b = absurd b
+one_beside R one (x ∷ xs) (y ∷ ys) (z ∷ zs) a b =
+    let first = one x y z a.0 b.0 in
+    let rest = one_beside R one xs ys zs a.1 b.1 in
+    cc
+
+-- a row has one list of cells
+pub one_cells : OneCell → (o : Result ℤ Refusal) (ts : List Target) (xs ys : List (List ℕ)) → AreCells ts o xs
+    → AreCells ts o ys → xs ≡ ys
+one_cells law (Err r) ts xs ys a b = a ∙ sym b
+one_cells law (Ok n) ts xs ys a b = one_beside (λ t cell. IsCell t n cell) (λ t x y. law t n x y) ts xs ys a b
+
+-- the cells of one outcome are those of the other, which is the same
+pub cells_of_same : (ts : List Target) (o p : Result Day Refusal) (tail : RowTail) → outcome_seen o ≡ outcome_seen p
+    → cells_of ts o tail ≡ cells_of ts p tail
+cells_of_same ts (Ok d) (Ok e) tail same = refl
+cells_of_same ts (Ok d) (Err r) tail same = absurd (cc)
+cells_of_same ts (Err r) (Ok d) tail same = absurd (cc)
+cells_of_same ts (Err r) (Err s) tail same = refl
+
+-- a tail of an outcome for some targets is that of the same outcome for the same targets
+pub record Stands (ts : List Target) (o : Result Day Refusal) (tail : RowTail) : Type 0 where
+  pub cells : AreCells ts (outcome_seen o) (cells_of ts o tail)
+  pub written : fields_of tail ≡ tail_texts ts (outcome_seen o) (cells_of ts o tail)
+
+-- what is only said of its cells is known of them, since they are the only ones
+known_cells : OneCell → (ts : List Target) (o : Result ℤ Refusal) (cells : List (List ℕ)) → ∥ AreCells ts o cells ∥₁
+    → AreCells ts o cells
+known_cells law ts o cells said =
+    let (known, are) = has_cells ts o in
+    let same : known ≡ cells =
+    ∥∥₁_elim said (Prim.hlevel props) (λ is. one_cells law o ts known cells are is) in
+    subst (λ (xs : List (List ℕ)). AreCells ts o xs) same are
+
+pub stands : OneCell → (ts us : List Target) (o p : Result Day Refusal) (tail : RowTail)
+    → ∥ AreCells ts (outcome_seen o) (cells_of ts o tail) ∥₁
+    → fields_of tail ≡ tail_texts ts (outcome_seen o) (cells_of ts o tail)
+    → ts ≡ us → outcome_seen o ≡ outcome_seen p → Stands us p tail
+stands law ts us o p tail said written targets same =
+    let cells = cells_of_same ts o p tail same in
+    let for_same : Stands ts p tail = record {
+      cells = rw (← cells, ← same) (known_cells law ts (outcome_seen o) (cells_of ts o tail) said);
+      written = written ∙ ap (λ (xs : List (List ℕ)). tail_texts ts (outcome_seen o) xs) cells
+          ∙ ap (λ (x : Result ℤ Refusal). tail_texts ts x (cells_of ts p tail)) same;
+    } in
+    subst (λ (list : List Target). Stands list p tail) targets for_same

@@ -1,7 +1,0 @@
-use Rattle.std.proofs.Common.{refl}
-use Rattle.csv.specs.Writing.{fields_text}
-use Rattle.register_records.proofs.answers.Answer.clear.Goals as goal
-
-pub invariant_of-self-clause-plain : goal.invariant_of-self-clause-plain
-unfolding fields_text
-invariant_of-self-clause-plain c = refl

@@ -1,0 +1,248 @@
+//! The tail of a row as its line has it: the day, its weekday and its cells, or the refusal.
+//!
+//! It is written once, where the row is converted, so that the thread that writes tables copies it as it is.
+
+ghost use Rattle.std.specs.Prelude.{◌≡◌, ◌≤◌, ◌+◌, ◌*◌, ◌++◌, ◌∷◌, [], List, ℕ, true, false, length, take};
+ghost use Rattle.std.specs.List.{AllZip};
+ghost use Rattle.csv.specs.Writing.{fields_text, needs_quotes};
+ghost use Rattle.date_texts.specs.declared.calendar.TheConstants.{MAX_TARGETS};
+ghost use Rattle.date_texts.specs.declared.cells.TheConstants.{MAX_CELL};
+ghost use Rattle.register_records.specs.LineRoom.{plain_room, writing};
+ghost use Rattle.register_records.specs.Lines.{fields_behind};
+ghost use Rattle.register_records.specs.Outcomes.{AreCells};
+ghost use Rattle.register_records.specs.Seen.{outcome_seen};
+ghost use Rattle.register_records.specs.SetupRules.{is_delimiter};
+ghost use Rattle.register_records.specs.TableColumns.{AreFields, IsCellField, tail_texts};
+ghost use Rattle.register_records.specs.declared.row_tails.TheConstants.{TAIL_ROOM, CELL_ROOM};
+
+use crate::setups::Setup;
+use crate::table_columns::{TableColumn, tail_columns};
+use crate::target_lists::TargetList;
+use date_texts::laws::{cells_are_plain, one_cell};
+use date_texts::{MAX_CELL, MAX_TARGETS, Refusal, Target, write_cell_within};
+use day_numbers::Day;
+use itoa::Buffer;
+
+/// The most bytes of a column of the day: the longest name of a weekday has nine, a day number eight.
+const DAY_LIMIT: usize = 9;
+
+/// The digits of a refusal's number.
+const REFUSAL_LIMIT: usize = 1;
+
+/// Room for a cell behind its delimiter.
+const CELL_ROOM: usize = 1 + MAX_CELL;
+
+/// Room for the longest tail: the number of the day and its weekday, the cells of all targets, and the refusal, each
+/// behind a delimiter.
+pub(crate) const TAIL_ROOM: usize = 2 * (1 + DAY_LIMIT)
+    + MAX_TARGETS * CELL_ROOM
+    + (1 + REFUSAL_LIMIT);
+
+/// The fields of a tail, each behind a delimiter. None of them needs quotes.
+#[derive(Clone, Copy)]
+pub(crate) struct RowTail {
+    places: [u8; TAIL_ROOM],
+    len: u16,
+    delimiter: u8,
+    ghost held: { len ≤ TAIL_ROOM },
+    ghost separated: { is_delimiter delimiter ≡ true },
+    ghost plain: { take len places ≡ fields_text (writing delimiter) (fields_behind delimiter (take len places)) },
+}
+
+/// Writes what stands in the column of a target, which is nothing for a refused row, to the front of a cell's room, and
+/// says how many bytes it has.
+#[inline(always)]
+fn write_field(room: &mut [u8], target: Target, outcome: Result<Day, Refusal>) -> u8
+    requires { MAX_CELL ≤ length room.old }
+    ensures few { result ≤ MAX_CELL }
+    ensures value { IsCellField (outcome_seen outcome) target (take result room.new) }
+{
+    match outcome {
+        Ok(day) => match write_cell_within(room, target, day) {
+            Some(count) => count,
+            None => unreachable!(),
+        },
+        Err(_) => 0,
+    }
+}
+
+/// Whether two outcomes are one.
+fn is_same(outcome: Result<Day, Refusal>, other: Result<Day, Refusal>) -> bool
+    ensures { result ≡ true → outcome_seen outcome ≡ outcome_seen other }
+{
+    match (outcome, other) {
+        (Ok(day), Ok(other)) => day.number() == other.number(),
+        (Err(refusal), Err(other)) => refusal == other,
+        _ => false,
+    }
+}
+
+impl RowTail {
+    ghost use Rattle.register_records.specs.RowTails.{cells_of, fields_of};
+    ghost use Rattle.register_records.specs.ShortLists.{items_in};
+    ghost use Rattle.register_records.specs.Views.{targets_of};
+
+    /// The tail of no field.
+    pub fn new(delimiter: u8) -> RowTail
+        requires { is_delimiter delimiter ≡ true }
+    {
+        RowTail {
+            places: [0; TAIL_ROOM],
+            len: 0,
+            delimiter,
+        }
+    }
+
+    /// The byte before each field.
+    pub fn delimiter(&self) -> u8
+        ensures { result ≡ self.now.delimiter }
+    {
+        self.delimiter
+    }
+
+    /// The bytes.
+    pub fn as_slice(&self) -> &[u8]
+        ensures value { result.now ≡ fields_text (writing self.now.delimiter) (fields_of self.now) }
+        ensures short { length result.now ≤ TAIL_ROOM }
+    {
+        &self.places[..self.len as usize]
+    }
+
+    /// Lets the fields go.
+    fn clear(&mut self, delimiter: u8)
+        requires { is_delimiter delimiter ≡ true }
+        ensures none { fields_of self.new ≡ [] }
+        ensures len { self.new.len ≡ 0 }
+        ensures delimiter { self.new.delimiter ≡ delimiter }
+    {
+        self.len = 0;
+        self.delimiter = delimiter;
+    }
+
+    /// Appends a field that needs no quotes.
+    fn push(&mut self, field: &[u8])
+        requires plain { needs_quotes (writing self.old.delimiter) field.now ≡ false }
+        requires room { self.old.len + (1 + length field.now) ≤ TAIL_ROOM }
+        ensures value { fields_of self.new ≡ fields_of self.old ++ field.now ∷ [] }
+        ensures len { self.new.len ≡ self.old.len + (1 + length field.now) }
+        ensures delimiter { self.new.delimiter ≡ self.old.delimiter }
+    {
+        let at = self.len as usize;
+        let end = at + 1 + field.len();
+        self.places[at] = self.delimiter;
+        self.places[at + 1..end].copy_from_slice(field);
+        self.len = end as u16;
+    }
+
+    /// Appends what stands in the column of a target, written where it stays. What lies behind its text is written over
+    /// by the next field.
+    #[inline(always)]
+    fn push_cell(&mut self, target: Target, outcome: Result<Day, Refusal>)
+        requires { self.old.len + CELL_ROOM ≤ TAIL_ROOM }
+        ensures value { (cell : List ℕ) × IsCellField (outcome_seen outcome) target cell
+            × (fields_of self.new ≡ fields_of self.old ++ cell ∷ []) }
+        ensures grows { self.new.len ≤ self.old.len + CELL_ROOM }
+        ensures delimiter { self.new.delimiter ≡ self.old.delimiter }
+    {
+        cells_are_plain();
+        let at = self.len as usize;
+        self.places[at] = self.delimiter;
+        let room = &mut self.places[at + 1..at + 1 + MAX_CELL];
+        let len = write_field(room, target, outcome);
+        self.len += 1 + len as u16;
+    }
+
+    /// Appends the cells, which a refused row has not.
+    fn push_cells(&mut self, targets: &[Target], outcome: Result<Day, Refusal>)
+        requires few { length targets.now ≤ MAX_TARGETS }
+        requires room { self.old.len + plain_room TableColumn.Cells ≤ TAIL_ROOM }
+        ensures value { (cells : List (List ℕ)) × AllZip (IsCellField (outcome_seen outcome)) targets.now cells
+            × (fields_of self.new ≡ fields_of self.old ++ cells) }
+        ensures grows { self.new.len ≤ self.old.len + plain_room TableColumn.Cells }
+        ensures delimiter { self.new.delimiter ≡ self.old.delimiter }
+    {
+        'cells: for target in targets {
+            self.push_cell(*target, outcome);
+        }
+    }
+
+    /// Appends what stands in a column of a tail. A refused row has no day, and an accepted one no refusal.
+    fn push_column(
+        &mut self,
+        column: TableColumn,
+        targets: &[Target],
+        outcome: Result<Day, Refusal>,
+    )
+        requires few { length targets.now ≤ MAX_TARGETS }
+        requires room { self.old.len + plain_room column ≤ TAIL_ROOM }
+        ensures value { (fields : List (List ℕ)) × AreFields targets.now (outcome_seen outcome) column fields
+            × (fields_of self.new ≡ fields_of self.old ++ fields) }
+        ensures grows { self.new.len ≤ self.old.len + plain_room column }
+        ensures delimiter { self.new.delimiter ≡ self.old.delimiter }
+    {
+        match (column, outcome) {
+            (TableColumn::DayNumber, Ok(day)) => {
+                self.push(Buffer::new().format(day.number()).as_bytes());
+            }
+            (TableColumn::Weekday, Ok(day)) => self.push(day.weekday().name().as_bytes()),
+            (TableColumn::Cells, _) => self.push_cells(targets, outcome),
+            (TableColumn::Refusal, Err(refusal)) => {
+                self.push(Buffer::new().format(refusal.number()).as_bytes());
+            }
+            (TableColumn::DayNumber | TableColumn::Weekday, Err(_))
+            | (TableColumn::Refusal, Ok(_)) => self.push(b""),
+            (
+                TableColumn::Number
+                | TableColumn::Id
+                | TableColumn::Calendar
+                | TableColumn::Date
+                | TableColumn::Note,
+                _,
+            ) => (),
+        }
+    }
+
+    /// Makes this the tail of an outcome, for a table of these targets with this delimiter, where it lies: a tail
+    /// is large.
+    #[inline(never)]
+    pub fn set(&mut self, targets: &[Target], outcome: Result<Day, Refusal>, delimiter: u8)
+        requires few { length targets.now ≤ MAX_TARGETS }
+        requires separated { is_delimiter delimiter ≡ true }
+        ensures cells { AreCells targets.now (outcome_seen outcome) (cells_of targets.now outcome self.new) }
+        ensures written { fields_of self.new
+            ≡ tail_texts targets.now (outcome_seen outcome) (cells_of targets.now outcome self.new) }
+        ensures delimiter { self.new.delimiter ≡ delimiter }
+    {
+        self.clear(delimiter);
+        'columns: for column in tail_columns() {
+            self.push_column(*column, targets, outcome);
+        }
+    }
+
+    /// Makes this, the tail of an outcome for some targets, that of the next outcome for the setup's. Where these are the
+    /// same it stands, as for a second entry on a day in a register in order of time.
+    #[inline(always)]
+    pub fn renew(
+        &mut self,
+        targets: &TargetList,
+        outcome: Result<Day, Refusal>,
+        setup: &Setup,
+        next: Result<Day, Refusal>,
+    )
+        requires cells { ∥ AreCells (items_in targets.now.items) (outcome_seen outcome)
+            (cells_of (items_in targets.now.items) outcome self.old) ∥₁ }
+        requires written { fields_of self.old ≡ tail_texts (items_in targets.now.items) (outcome_seen outcome)
+            (cells_of (items_in targets.now.items) outcome self.old) }
+        ensures cells { AreCells (targets_of setup.now) (outcome_seen next)
+            (cells_of (targets_of setup.now) next self.new) }
+        ensures written { fields_of self.new ≡ tail_texts (targets_of setup.now) (outcome_seen next)
+            (cells_of (targets_of setup.now) next self.new) }
+    {
+        one_cell();
+        let same_targets = targets.is_same(&setup.target_list());
+        if same_targets && is_same(outcome, next) && self.delimiter == setup.delimiter() {
+            return;
+        }
+        self.set(setup.targets(), next, setup.delimiter());
+    }
+}

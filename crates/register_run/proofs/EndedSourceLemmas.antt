@@ -1,0 +1,444 @@
+-- What is known of a source that has ended.
+use Rattle.std.proofs.Common.{◌≡◌, ◌≢◌, ◌∙◌, ap, refl, sym, subst, ℕ, List, [], ◌∷◌, ◌++◌, length, Option, None, Some}
+use Rattle.std.proofs.Common.{◌≤◌, inl, inr, arith, append-nil, length-append, map, ◌+◌, true, false, Bool}
+use Rattle.std.specs.Prelude.{Err, IfErr, IfOk, IfSome, Ok, Result}
+use Rattle.std.specs.Option.{is_some}
+use Rattle.std.specs.List.{Contains, range_with_len}
+use Rattle.std.specs.Io.KnownBytes.{Appends, append_known}
+use Rattle.std.proofs.lemmas.Bool.{cases_eq}
+use Rattle.std.proofs.lemmas.List.{length-map}
+use Rattle.std.proofs.lemmas.List.Elements.{All-contains, All-from_recursion, Contains-append_right}
+use Rattle.std.proofs.Props.{props}
+use Rattle.std.proofs.Math.Logic.{∥∥₁_elim, ∥∥₁_map, ∥∥₁_prop}
+use Rattle.date_texts.specs.declared.calendar.Target.{Target}
+use Rattle.register_records.specs.declared.outputs.Output as outputs
+use Rattle.register_records.specs.declared.rows.Row.{Row}
+use Rattle.register_records.specs.declared.setups.Form.TheVariants.{Sealed}
+use Rattle.register_records.specs.declared.sources.Cause.{Cause}
+use Rattle.register_records.specs.declared.sources.Cause.TheVariants as cause
+use Rattle.register_records.specs.declared.sources.Note.{Note}
+use Rattle.register_records.specs.declared.sources.SourceEnd.{SourceEnd}
+use Rattle.register_records.specs.declared.sources.SourceEnd.TheVariants as end
+use Rattle.register_records.specs.declared.writing.RowWriter.{RowWriter}
+use Rattle.register_records.specs.Entries.{AreNumberedFrom, HasAllEntries, HasEntries, HasFirstEntries, HasNoHeader}
+use Rattle.register_records.specs.Entries.{HasTooMany, IsNotSealed, Numbered, record_limit}
+use Rattle.register_records.specs.Outcomes.{AreRowsOf, IsRowOf}
+use Rattle.register_records.specs.Seen.{entry_seen}
+use Rattle.register_records.specs.Sources.{ArePartOfTable, Gains, IfBroken, IfWhole, IsFrontOfTable, IsTableOf}
+use Rattle.register_records.specs.Sources.{cause_number}
+use Rattle.register_records.specs.Tables.{Layout, table_text}
+use Rattle.register_records.specs.Views.{format_of, layout_of, row_seen, row_targets, waiting_in}
+use Rattle.register_records.proofs.SomeRecordsLemmas.{front_of_some}
+use Rattle.register_run.specs.declared.stripes.Stripe.{Stripe}
+use Rattle.register_run.specs.declared.reading.Sent.{Sent}
+use Rattle.register_run.specs.declared.ended_sources.Course.{Course}
+use Rattle.register_run.specs.declared.ended_sources.Course.TheVariants as course
+use Rattle.register_run.specs.declared.ended_sources.Met.{Met}
+use Rattle.register_run.specs.declared.table_writers.TableWriter.{Table}
+use Rattle.register_run.specs.Courses.{Differs, IsLowest, IsMet, fault_of, is_of_table, is_output_failed}
+use Rattle.register_run.specs.Headline.{IsAllOfTable, IsEndOfSource, causes_of_reading}
+use Rattle.register_run.specs.Histories.{Carries, IsMachineWithTable}
+use Rattle.register_run.specs.JoinedThreads.{HasPassed, IsGiven, HasGoodOutput, IsOfGiven, is_of_reading, tells_of_text}
+use Rattle.register_run.specs.TablesWritten.{AllSent, Holds, Stands, entries_seen, rows_seen, waiting_of}
+use Rattle.register_run.proofs.FrontLemmas.{first_of_first, front_all, rows_front}
+
+-- rows that were made for these targets are the rows of their entries
+pub rows_are : (targets : List Target) (rows : List Row) → ((row : Row) → Contains rows row → row_targets row ≡ targets)
+    → ∥ AreRowsOf targets (entries_seen rows) (rows_seen rows) ∥₁
+rows_are targets [] all = ∣ tt ∣₁
+rows_are targets (row ∷ rest) all =
+    ∥∥₁_elim row.is_row ∥∥₁_prop (λ is.
+    ∥∥₁_map (rows_are targets rest (λ r c. all r (Contains-append_right (row ∷ []) rest r c)))
+    (λ more. (
+      subst (λ ts. IsRowOf ts (entry_seen row.entry) (row_seen row)) (all row (0, omega arith, refl)) is,
+      more,
+    )))
+
+-- entries that are numbered in order have these numbers
+numbers_are : (k : ℕ) (entries : List Numbered) → AreNumberedFrom k entries
+    → map (λ (entry : Numbered). entry.number) entries ≡ range_with_len k (length entries)
+numbers_are k [] numbered = refl
+numbers_are k (entry ∷ entries) numbered = let rest = numbers_are (k + 1) entries numbered.1 in cc (numbered.0, rest)
+
+appends_nothing : (given output : Option (List ℕ)) → output ≡ given → Appends given output []
+appends_nothing None output e = tt
+appends_nothing (Some xs) output e = subst (λ o. Appends (Some xs) o []) (sym e) (sym (append-nil xs))
+
+appends_waited : (given output : Option (List ℕ)) (pending table : List ℕ) → pending ≡ []
+    → Appends given (append_known output pending) table → Appends given output table
+appends_waited None output pending table e h = tt
+appends_waited (Some xs) None pending table e h = h
+appends_waited (Some xs) (Some ys) pending table e h = sym (append-nil ys) ∙ ap (λ p. ys ++ p) (sym e) ∙ h
+
+faultless : (c : Course) → fault_of c ≡ None → is_output_failed c ≡ false
+faultless course.Open e = refl
+faultless (course.Halted c) e = refl
+faultless (course.OutputFailed c) e = cc
+
+listed : (c : Cause) → Contains causes_of_reading c → is_of_reading c ≡ true
+listed c h =
+    let each = λ (d : Cause). is_of_reading d ≡ true in
+    All-contains each causes_of_reading c
+    (All-from_recursion each causes_of_reading (refl, (refl, (refl, (refl, tt))))) h
+
+not_true : (b : Bool) → (b ≡ true → ⊥) → b ≡ false
+not_true true h = absurd (h refl)
+not_true false h = refl
+
+nothing_so : {W : Type 0} (o : outputs.Ghosts W) (layout : Layout) (given output : W) (w : Option RowWriter)
+    (rows : List Row) → is_some w ≡ false → Stands o layout given output w rows → (output ≡ given) × (rows ≡ [])
+nothing_so o layout given output None rows e h = h
+nothing_so o layout given output (Some w) rows e h = absurd (cc)
+
+table_so : {W : Type 0} (o : outputs.Ghosts W) (layout : Layout) (given output : W) (w : Option RowWriter)
+    (rows : List Row) → is_some w ≡ true → waiting_of w ≡ [] → Stands o layout given output w rows
+    → Appends (o.contents given) (o.contents output) (table_text layout (rows_seen rows)) × (o.is_flushed output ≡ true)
+table_so o layout given output None rows e none h = absurd (cc)
+table_so o layout given output (Some w) rows e none h = (
+  appends_waited (o.contents given) (o.contents output) (waiting_in w) (table_text layout (rows_seen rows)) none h.0,
+  h.1,
+)
+
+-- the causes of reading are higher than those of a table
+high : (c : Cause) → is_of_reading c ≡ true → 5 ≤ cause_number c
+high cause.NoMemory e = cc
+high cause.NoThread e = cc
+high cause.Unconfirmed e = cc
+high cause.SinkFault e = cc
+high cause.ReadFault e = omega arith
+high cause.BadHeader e = omega arith
+high cause.TooManyRecords e = omega arith
+high cause.NotSealed e = omega arith
+
+low : (c : Cause) → is_of_table c ≡ true → cause_number c ≤ 4
+low cause.NoMemory e = omega arith
+low cause.NoThread e = cc
+low cause.Unconfirmed e = omega arith
+low cause.SinkFault e = omega arith
+low cause.ReadFault e = cc
+low cause.BadHeader e = cc
+low cause.TooManyRecords e = cc
+low cause.NotSealed e = cc
+
+module _ (met : Met) (c : Cause) (of_table : IfSome met.fault (λ f. is_of_table f ≡ true)) where
+  -- a cause that no table gives is the answer of the threads
+  met_by_threads : is_of_table c ≡ false → IsMet met c → met.sent.outcome ≡ Err c
+  met_by_threads other (inl told) = told
+  met_by_threads other (inr (inl broke)) =
+      absurd (let k = subst (λ f. IfSome f (λ d. is_of_table d ≡ true)) broke of_table in cc)
+  met_by_threads other (inr (inr differs)) = absurd (let k = ap is_of_table differs.0 in cc)
+
+  sink_met : HasGoodOutput met.sent.outcome → IsMet met c → c ≡ cause.SinkFault → met.fault ≡ Some cause.SinkFault
+  sink_met dry (inl told) e = absurd (subst HasGoodOutput told dry e)
+  sink_met dry (inr (inl broke)) e = broke ∙ ap Some e
+  sink_met dry (inr (inr differs)) e = absurd (let k = differs.0 in cc)
+
+  module _ (lowest : IsLowest (IsMet met) c) (reading : is_of_reading c ≡ true) where
+    not_of_table : (d : Cause) → is_of_table d ≡ true → cause_number c ≤ cause_number d → ⊥
+    not_of_table d of below = let a = high c reading in let b = low d of in omega (arith, a, b, below)
+
+    none_broke : (f : Option Cause) → met.fault ≡ f → f ≡ None
+    none_broke None e = refl
+    none_broke (Some d) e = absurd (not_of_table d
+        (subst (λ f. IfSome f (λ d. is_of_table d ≡ true)) e of_table) (lowest.1 d (inr (inl e))))
+
+    read_told : met.sent.outcome ≡ Err c
+    read_told = met_by_threads (not_true (is_of_table c) (λ of. not_of_table c of (omega arith))) lowest.0
+
+    unmet : Differs (Err c) met.sent.count met.headed met.rows → ⊥
+    unmet differs =
+        not_of_table cause.Unconfirmed refl (lowest.1 cause.Unconfirmed (inr (inr (
+          refl,
+          none_broke met.fault refl,
+          subst (λ p. Differs p met.sent.count met.headed met.rows) (sym read_told) differs,
+        ))))
+
+    all_written : met.rows ≡ met.sent.count
+    all_written = elim (cases_eq met.rows met.sent.count) [ inl e ↦ e | inr n ↦ absurd (unmet (inl n)) ]
+
+    reading_met : (met.sent.outcome ≡ Err c) × (met.fault ≡ None) × (met.headed ≡ true → met.rows ≢ 0)
+        × (met.rows ≡ met.sent.count)
+    reading_met = (read_told, none_broke met.fault refl, λ head zero. unmet (inr (head, zero)), all_written)
+
+-- cause 2 is the answer of the threads
+pub thread_told : (met : Met) → IfSome met.fault (λ f. is_of_table f ≡ true) → (e : SourceEnd)
+    → IfBroken e (IsLowest (IsMet met)) → e ≡ end.Broken cause.NoThread → met.sent.outcome ≡ Err cause.NoThread
+thread_told met of_table e lowest is =
+    met_by_threads met cause.NoThread of_table refl (subst (λ b. IfBroken b (IsLowest (IsMet met))) is lowest).0
+
+module _ {W : Type 0} (o : outputs.Ghosts W) (text : Option (List ℕ)) (table : TableWriter W o) (rows : List Row)
+    (passed : Sent) (holds : Holds table rows) (sent : AllSent table)
+    (has : HasPassed text (format_of table.setup) passed (λ row. Contains rows row)) (headed : Bool)
+    (is_headed : headed ≡ is_some table.writer) where
+  -- what was met of the source
+  abbrev met : Met
+  met = record { sent = passed; fault = fault_of table.course; headed = headed; rows = table.rows }
+
+  entries_len : length (entries_seen rows) ≡ table.rows
+  entries_len = length-map rows (λ (row : Row). entry_seen row.entry) ∙ holds.counted
+
+  table_is : AreRowsOf (layout_of table.setup).targets (entries_seen rows) (rows_seen rows)
+      → IsTableOf (layout_of table.setup) (entries_seen rows) (rows_seen rows)
+      (table_text (layout_of table.setup) (rows_seen rows))
+  table_is are = record { numbered = numbers_are 1 (entries_seen rows) holds.numbered; converted = are; written = refl }
+
+  unwritten : is_output_failed table.course ≡ false → is_some table.writer ≡ false
+      → (table.output ≡ table.given.value) × (rows ≡ [])
+  unwritten dry none =
+      nothing_so o (layout_of table.setup) table.given.value table.output table.writer rows none (holds.stands dry)
+
+  written : is_output_failed table.course ≡ false → is_some table.writer ≡ true
+      → Appends (o.contents table.given.value) (o.contents table.output)
+      (table_text (layout_of table.setup) (rows_seen rows)) × (o.is_flushed table.output ≡ true)
+  written dry some =
+      table_so o (layout_of table.setup) table.given.value table.output table.writer rows some (sent dry)
+      (holds.stands dry)
+
+  in_order_so : (b : Bool) → is_some table.writer ≡ b → is_output_failed table.course ≡ false
+      → AreRowsOf (layout_of table.setup).targets (entries_seen rows) (rows_seen rows)
+      → Gains (o.contents table.given.value) (o.contents table.output) (ArePartOfTable (layout_of table.setup) None)
+  in_order_so false b dry are = (
+    [],
+    inl refl,
+    appends_nothing (o.contents table.given.value) (o.contents table.output)
+        (ap o.contents (unwritten dry b).0),
+  )
+  in_order_so true b dry are = (
+    table_text (layout_of table.setup) (rows_seen rows),
+    inr (length (rows_seen rows), front_of_some (layout_of table.setup) rows holds.numbered are),
+    (written dry b).0,
+  )
+
+  not_failed : o.has_failed table.output ≡ false → is_output_failed table.course ≡ false
+  not_failed good = not_true (is_output_failed table.course) (λ s. let f = table.failed s in absurd (cc))
+
+  module _ (given : List Numbered) (is : IsGiven text (format_of table.setup) passed given)
+      (all : (row : Row) → Contains rows row → IsOfGiven given row) where
+    taken_front : (rest : List Numbered) × (given ≡ entries_seen rows ++ rest)
+    taken_front = rows_front given rows is.numbered holds.numbered all
+
+    none_given : given ≡ [] → table.rows ≡ 0
+    none_given e =
+        let n = ap length (sym taken_front.1 ∙ e) in let l = entries_len in
+        omega (arith, length-append (entries_seen rows) taken_front.0)
+
+    first_so : table.rows ≢ 0 → HasFirstEntries (format_of table.setup) text (entries_seen rows)
+    first_so some = elim is.first [
+      | inl e ↦ absurd (some (none_given e))
+      | inr f ↦ first_of_first (format_of table.setup) text given (entries_seen rows) taken_front.0 taken_front.1 f
+    ]
+
+    part_so : (b : Bool) → is_some table.writer ≡ b → is_output_failed table.course ≡ false → (headed ≡ true → table.rows ≢ 0)
+        → AreRowsOf (layout_of table.setup).targets (entries_seen rows) (rows_seen rows)
+        → Gains (o.contents table.given.value) (o.contents table.output) (ArePartOfTable (layout_of table.setup) text)
+    part_so false b dry some are = (
+      [],
+      inl refl,
+      appends_nothing (o.contents table.given.value) (o.contents table.output)
+          (ap o.contents (unwritten dry b).0),
+    )
+    part_so true b dry some are = (
+      table_text (layout_of table.setup) (rows_seen rows),
+      inr (
+        length (rows_seen rows),
+        record {
+          entries = entries_seen rows;
+          rows = rows_seen rows;
+          table = table_is are;
+          counted = refl;
+          first = first_so (some (is_headed ∙ b));
+        },
+      ),
+      (written dry b).0,
+    )
+
+  -- rows were written behind a heading
+  headed_so : (b : Bool) → is_some table.writer ≡ b → is_output_failed table.course ≡ false → table.rows ≢ 0
+      → is_some table.writer ≡ true
+  headed_so true b dry some = b
+  headed_so false b dry some =
+      absurd (some (let none : length rows ≡ 0 = ap length (unwritten dry b).1 in let h = holds.counted in omega arith))
+
+  -- as many rows were written as there may be
+  most_so : length rows ≡ record_limit → is_output_failed table.course ≡ false
+      → HasFirstEntries (format_of table.setup) text (entries_seen rows)
+      → AreRowsOf (layout_of table.setup).targets (entries_seen rows) (rows_seen rows)
+      → Gains (o.contents table.given.value) (o.contents table.output)
+      (IsFrontOfTable (layout_of table.setup) text record_limit)
+  most_so most dry first are =
+      let some : table.rows ≢ 0 = λ zero. let h = holds.counted in omega (arith, most, h, zero) in (
+        table_text (layout_of table.setup) (rows_seen rows),
+        record {
+          entries = entries_seen rows;
+          rows = rows_seen rows;
+          table = table_is are;
+          counted = sym most ∙ sym (length-map rows row_seen);
+          first = first;
+        },
+        (written dry (headed_so (is_some table.writer) refl dry some)).0,
+      )
+
+  -- the rows of all entries were written
+  all_so : (b : Bool) → is_some table.writer ≡ b → is_output_failed table.course ≡ false
+      → HasAllEntries (format_of table.setup) text (entries_seen rows)
+      → AreRowsOf (layout_of table.setup).targets (entries_seen rows) (rows_seen rows)
+      → Gains (o.contents table.given.value) (o.contents table.output) (IsAllOfTable (layout_of table.setup) text)
+  all_so false b dry all are = (
+    [],
+    inl (refl, subst (λ rs. HasAllEntries (format_of table.setup) text (entries_seen rs)) (unwritten dry b).1 all),
+    appends_nothing (o.contents table.given.value) (o.contents table.output)
+        (ap o.contents (unwritten dry b).0),
+  )
+  all_so true b dry all are = (
+    table_text (layout_of table.setup) (rows_seen rows),
+    inr (record { entries = entries_seen rows; rows = rows_seen rows; table = table_is are; all = all }),
+    (written dry b).0,
+  )
+
+  reading_so : (c : Cause) → is_of_reading c ≡ true
+      → (passed.outcome ≡ Err c) × (fault_of table.course ≡ None) × (headed ≡ true → table.rows ≢ 0)
+      × (table.rows ≡ passed.count)
+      → ∥ IsEndOfSource o (layout_of table.setup) text table.given.value table.output
+      (end.Broken c) ∥₁
+  reading_so c reading fact =
+      let dry = faultless table.course fact.1 in
+      let told : tells_of_text passed.outcome ≡ true = ap tells_of_text fact.0 ∙ reading in
+      ∥∥₁_elim (has.rows told) ∥∥₁_prop
+      (λ (given, is, all). ∥∥₁_map (rows_are (layout_of table.setup).targets rows holds.targets) (λ are.
+      let bad =
+      subst (λ p. IfErr p (λ d. d ≡ cause.BadHeader
+      → (given ≡ []) × IfSome text (λ t. HasNoHeader (format_of table.setup) t))) fact.0 is.bad_header in
+      let many =
+      subst (λ p. IfErr p (λ d. d ≡ cause.TooManyRecords
+      → (length given ≡ record_limit) × IfSome text (λ t. HasTooMany (format_of table.setup) t))) fact.0 is.too_many in
+      let unsealed =
+      subst (λ p. IfErr p (λ d. d ≡ cause.NotSealed
+      → (table.setup.form ≡ Sealed) × IfSome text (λ t. IsNotSealed (format_of table.setup) t)
+      × HasAllEntries (format_of table.setup) text given)) fact.0 is.not_sealed in
+      let front = taken_front given is all in
+      let long : length given ≡ table.rows = is.counted told ∙ sym fact.3 in
+      let same : given ≡ entries_seen rows =
+      front_all given (entries_seen rows) front.0 front.1 (long ∙ sym entries_len) in record {
+        part = λ e. part_so given is all (is_some table.writer) refl dry fact.2 are;
+        bad_header = λ e. (bad e).1;
+        too_many = λ e.
+            let most : table.rows ≡ record_limit = sym long ∙ (many e).0 in (
+              (many e).1,
+              most_so (holds.counted ∙ most) dry (first_so given is all (λ zero. omega (arith, most, zero))) are,
+            );
+        not_sealed = λ e.
+            let u = unsealed e in (
+              u.0,
+              u.1,
+              all_so (is_some table.writer) refl dry
+                  (subst (λ es. HasAllEntries (format_of table.setup) text es) same u.2) are,
+            );
+        in_order = λ good. in_order_so (is_some table.writer) refl dry are;
+        sink = λ e. absurd (let k : is_of_reading c ≡ false = ap is_of_reading e in cc);
+        kept = λ e. table.good dry;
+      }))
+
+  threads_so : (c : Cause) → is_of_reading c ≡ false
+      → (c ≡ cause.SinkFault → fault_of table.course ≡ Some cause.SinkFault)
+      → ∥ IsEndOfSource o (layout_of table.setup) text table.given.value table.output
+      (end.Broken c) ∥₁
+  threads_so c other sink = ∥∥₁_map (rows_are (layout_of table.setup).targets rows holds.targets) (λ are. record {
+    part = λ e. absurd (let k = listed c e in cc);
+    bad_header = λ e. absurd (let k : is_of_reading c ≡ true = ap is_of_reading e in cc);
+    too_many = λ e. absurd (let k : is_of_reading c ≡ true = ap is_of_reading e in cc);
+    not_sealed = λ e. absurd (let k : is_of_reading c ≡ true = ap is_of_reading e in cc);
+    in_order = λ good. in_order_so (is_some table.writer) refl (not_failed good) are;
+    sink = λ e. table.failed (table.sink_told (sink e));
+    kept = λ e. absurd (let k = listed c e in cc);
+  })
+
+  broken_so : (b : Bool) (c : Cause) → is_of_reading c ≡ b
+      → (is_of_reading c ≡ true → (passed.outcome ≡ Err c) × (fault_of table.course ≡ None)
+      × (headed ≡ true → table.rows ≢ 0) × (table.rows ≡ passed.count))
+      → (c ≡ cause.SinkFault → fault_of table.course ≡ Some cause.SinkFault)
+      → ∥ IsEndOfSource o (layout_of table.setup) text table.given.value table.output
+      (end.Broken c) ∥₁
+  broken_so true c b reading sink = reading_so c b (reading b)
+  broken_so false c b reading sink = threads_so c b sink
+
+  -- a source with another header has no table
+  pub headless : (e : SourceEnd)
+      → IfBroken e (IsLowest (IsMet met))
+      → e ≡ end.Broken cause.BadHeader → (is_some table.writer ≡ false) × (is_output_failed table.course ≡ false)
+  headless (end.Whole count refused journal) lowest is = absurd (cc)
+  headless (end.Broken c) lowest is =
+      let same : c ≡ cause.BadHeader = cc in
+      let fact =
+      reading_met met c table.of_table lowest (ap is_of_reading same) in
+      let told : tells_of_text passed.outcome ≡ true = ap tells_of_text fact.0 ∙ ap is_of_reading same in (
+        not_true (is_some table.writer) (λ some. ∥∥₁_elim (has.rows told) (Prim.hlevel props) (λ (given, so, all).
+            let bad =
+            subst (λ p. IfErr p (λ d. d ≡ cause.BadHeader
+            → (given ≡ []) × IfSome text (λ t. HasNoHeader (format_of table.setup) t))) fact.0 so.bad_header in
+            fact.2 (is_headed ∙ some) (none_given given so all (bad same).0))),
+        faultless table.course fact.1,
+      )
+
+  pub ended_source : (e : SourceEnd)
+      → IfWhole e (λ count refused notes. (passed.outcome ≡ Ok count) × (fault_of table.course ≡ None) × (headed ≡ true)
+      × (count ≡ table.rows) × (refused ≡ length notes) × (notes ≡ table.journal.items))
+      → IfBroken e (IsLowest (IsMet met))
+      → ∥ IsEndOfSource o
+      (layout_of table.setup) text table.given.value table.output e ∥₁
+  ended_source (end.Broken c) whole lowest =
+      broken_so (is_of_reading c) c refl (reading_met met c table.of_table lowest)
+      (sink_met met c table.of_table has.output_good lowest.0)
+  ended_source (end.Whole count refused journal) whole lowest =
+      let dry = faultless table.course whole.1 in
+      let told : tells_of_text passed.outcome ≡ true = ap tells_of_text whole.0 in
+      ∥∥₁_elim (has.rows told) ∥∥₁_prop
+      (λ (given, is, all). ∥∥₁_map (rows_are (layout_of table.setup).targets rows holds.targets) (λ are.
+      let ended =
+      subst (λ p. IfOk p (λ n. (n ≡ length given)
+      × HasEntries (format_of table.setup) text given)) whole.0 is.all in
+      let front = taken_front given is all in
+      let len : length given ≡ length (entries_seen rows) = sym ended.0 ∙ whole.3 ∙ sym entries_len in
+      let same = front_all given (entries_seen rows) front.0 front.1 len in
+      let bytes = written dry (sym is_headed ∙ whole.2) in record {
+        table = (
+          table_text (layout_of table.setup) (rows_seen rows),
+          record {
+            entries = entries_seen rows;
+            rows = rows_seen rows;
+            table = table_is are;
+            counted = whole.3 ∙ sym holds.counted ∙ sym (length-map rows row_seen);
+            noted = whole.5 ∙ holds.noted;
+            refused_counted = whole.4;
+            accepted = subst (λ g. HasEntries (format_of table.setup) text g) same ended.1;
+          },
+          bytes.0,
+        );
+        flushed = bytes.1;
+        good = table.good dry;
+      }))
+
+  -- the table of a source that is whole is that of the machine's entries
+  pub with_table : (stripes : List Stripe)
+      → IfOk passed.outcome (λ count. ∥ Carries text table.setup count stripes (λ row. Contains rows row) ∥₁) → (e : SourceEnd)
+      → IfWhole e (λ count refused notes. (passed.outcome ≡ Ok count) × (fault_of table.course ≡ None) × (headed ≡ true)
+      × (count ≡ table.rows) × (refused ≡ length notes) × (notes ≡ table.journal.items))
+      → ∥ IfWhole e (λ count refused notes.
+      IsMachineWithTable text table.setup (o.contents table.given.value) (o.contents table.output) count stripes) ∥₁
+  with_table stripes carries (end.Broken c) whole = ∣ tt ∣₁
+  with_table stripes carries (end.Whole count refused journal) whole =
+      let carried =
+      subst (λ p. IfOk p (λ n. ∥ Carries text table.setup n stripes (λ row. Contains rows row) ∥₁)) whole.0 carries in
+      ∥∥₁_elim carried ∥∥₁_prop
+      (λ (machine, all). ∥∥₁_map (rows_are (layout_of table.setup).targets rows holds.targets) (λ are.
+      let front = rows_front machine.given rows machine.numbered holds.numbered all in
+      let len : length machine.given ≡ length (entries_seen rows) = machine.counted ∙ whole.3 ∙ sym entries_len in
+      let same = front_all machine.given (entries_seen rows) front.0 front.1 len in (
+        machine,
+        rows_seen rows,
+        (
+          table_text (layout_of table.setup) (rows_seen rows),
+          subst (λ es. IsTableOf (layout_of table.setup) es (rows_seen rows)
+              (table_text (layout_of table.setup) (rows_seen rows))) (sym same) (table_is are),
+          (written (faultless table.course whole.1) (sym is_headed ∙ whole.2)).0,
+        ),
+      )))

@@ -1,5 +1,0 @@
-use Rattle.std.proofs.Common.{◌<◌, length}
-use Rattle.register_run.proofs.links.next_open.Given as goal
-
-abbrev pub invariant-loop : goal.invariant-loop
-invariant-loop l = l.next < length l.arms

@@ -1,0 +1,6 @@
+use Rattle.std.proofs.Common.{◌≡◌}
+use Rattle.register_run.specs.RunningSources.{case_of}
+use Rattle.register_run.proofs.running_sources.RunningSource.visit.Given as goal
+
+abbrev pub invariant-loop : goal.invariant-loop
+invariant-loop g l = case_of l.self ≡ case_of l.initial.self

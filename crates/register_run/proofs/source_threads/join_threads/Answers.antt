@@ -1,0 +1,39 @@
+use Rattle.std.proofs.Common.{subst, sym}
+use Rattle.std.proofs.Math.Logic.{∥∥₁_map}
+use Rattle.register_run.proofs.StripeLemmas.{took_dealt}
+use Rattle.register_run.specs.JoinedThreads.{AreOfLanes}
+use Rattle.register_run.proofs.GivenLemmas.{of_threads, passed_not}
+use Rattle.register_run.proofs.HistoryLemmas.{joined_of_machine}
+use Rattle.register_run.proofs.source_threads.join_threads.Goals as goal
+
+pub returns-then-ended-is_ok-clause-passed : goal.returns-then-ended-is_ok-clause-passed
+returns-then-ended-is_ok-clause-passed g c = record {
+  output_good = c.join-closed.ensures.output_good;
+  rows = λ told. ∥∥₁_map c.join-closed.ensures.entries (λ (given, is, deals). (
+    given,
+    is,
+    took_dealt given c.in-Ok.ended c.args.stripes.items c.join-closed.result.closed.items deals c.in-Ok.ensures,
+  ));
+}
+
+pub returns-else-ended-is_ok-clause-passed : goal.returns-else-ended-is_ok-clause-passed
+returns-else-ended-is_ok-clause-passed g c =
+    let sent = c.stopped_after.ensures in
+    passed_not _ _ c.stopped_after.result c.unconfirmed_or_lower.result _ sent.1
+    (of_threads c.unconfirmed_or_lower.result c.unconfirmed_or_lower.ensures.either)
+
+pub returns-in-Err-clause-passed : goal.returns-in-Err-clause-passed
+returns-in-Err-clause-passed g c =
+    let sent = c.stopped_after-in-Err.ensures in
+    passed_not _ _ c.stopped_after-in-Err.result c.unconfirmed_or_lower-in-Err.result _ sent.1
+    (of_threads c.unconfirmed_or_lower-in-Err.result c.unconfirmed_or_lower-in-Err.ensures.either)
+
+pub returns-then-ended-is_ok-clause-machine : goal.returns-then-ended-is_ok-clause-machine
+returns-then-ended-is_ok-clause-machine g c =
+    let closed = c.join-closed.result.closed.items in
+    let task = c.args.reader.promise in
+    joined_of_machine (g.R.Read.remaining task.source.value) task.setup.value c.args.stripes.items closed
+    c.join-closed.result.sent.count c.join-closed.result.sent.outcome
+    c.in-Ok.ended c.is_ok.result c.if-ended-is_ok.true c.is_ok.ensures.value c.requires.3
+    (subst (λ l. AreOfLanes l closed) (sym c.requires.2) c.join-closed.ensures.from)
+    c.join-closed.ensures.entries c.in-Ok.ensures

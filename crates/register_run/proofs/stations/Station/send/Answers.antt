@@ -1,9 +1,0 @@
-use Rattle.std.proofs.Common.{◌∙◌, sym}
-use Rattle.register_run.proofs.StationLemmas.{wrote_same}
-use Rattle.register_run.proofs.stations.Station.send.Goals as goal
-
-pub invariant_of-self : goal.invariant_of-self
-invariant_of-self g c = let s = c.args.self.now in record {
-  by_one_setup = s.by_one_setup ∙ sym c.send.ensures.setup;
-  wrote = wrote_same s.link s.link s.table c.send.new.self (λ row took. took) c.send.ensures.rows s.wrote;
-}

@@ -1,6 +1,0 @@
-use Rattle.std.proofs.Common.{◌≡◌}
-use Rattle.register_run.specs.Stations.{case_of}
-use Rattle.register_run.proofs.stations.Station.visit.Given as goal
-
-abbrev pub invariant-loop : goal.invariant-loop
-invariant-loop g l = case_of l.self ≡ case_of l.initial.self

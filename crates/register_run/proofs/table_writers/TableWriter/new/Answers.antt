@@ -1,0 +1,25 @@
+use Rattle.std.proofs.Common.{◌∙◌, ap, arith, refl, sym}
+use Rattle.register_run.proofs.TableLemmas.{no_notes}
+use Rattle.register_run.proofs.table_writers.TableWriter.new.Goals as goal
+
+pub invariant_of-result : goal.invariant_of-result
+invariant_of-result g c = record {
+  marked = ap g.W.Output.own_mark (sym c.of.ensures);
+  failed = λ e. cc;
+  good = λ e. ap g.W.Output.has_failed (sym c.of.ensures);
+  afloat = λ e. tt;
+  untouched = λ e d. sym c.of.ensures;
+  sink_told = λ e. cc;
+  of_table = tt;
+  limited = omega arith;
+  few_refused = omega arith;
+}
+
+pub returns-clause-empty : goal.returns-clause-empty
+returns-clause-empty g c = record {
+  stands = λ dry. (sym c.of.ensures, refl);
+  numbered = tt;
+  counted = refl;
+  targets = λ row h. absurd (omega (arith, h.1));
+  noted = c.new.ensures.items ∙ sym no_notes;
+}

@@ -1,0 +1,116 @@
+-- What the threads of a source owe, by the lanes that they were given.
+use Rattle.std.specs.Prelude.{◌≡◌, ◌⊎◌, ⊤, ℕ, List, [], ◌∷◌, length, Option, Some, IfSome, MatchOption, Result, Ok}
+use Rattle.std.specs.Prelude.{Err, IfOk, IfErr, Bool, true, false}
+use Rattle.std.specs.List.{Contains}
+use Rattle.lane_rings.specs.declared.sender.Sender.{Sender}
+use Rattle.lane_rings.specs.declared.sender.Closed.{Closed}
+use Rattle.lane_rings.specs.Lane.{Lane, HasConfirmation, all_sent, closed_lane, receiver_lane, taken}
+use Rattle.register_records.specs.Causes.{entry_fault_cause}
+use Rattle.register_records.specs.Entries.{AreNumberedFrom, Format, HasAllEntries, HasEntries, HasFirstEntries}
+use Rattle.register_records.specs.Entries.{HasNoHeader, HasTooMany, IsNotSealed, Numbered, record_limit}
+use Rattle.register_records.specs.Seen.{entry_seen}
+use Rattle.register_records.specs.declared.entries.Entry.{Entry}
+use Rattle.register_records.specs.declared.reading.EntryFault.{EntryFault}
+use Rattle.register_records.specs.declared.rows.Row.{Row}
+use Rattle.register_records.specs.declared.setups.Form.TheVariants.{Sealed}
+use Rattle.register_records.specs.declared.sources.Cause.{Cause}
+use Rattle.register_records.specs.declared.sources.Cause.TheVariants as cause
+use Rattle.register_run.specs.Carried.{AreDealt, AreOfAllTaken, AreOfTaken, HasEnd, WereDealt}
+use Rattle.register_run.specs.Worlds.{World}
+use Rattle.register_run.specs.declared.reading.Reading.{Reading}
+use Rattle.register_run.specs.declared.reading.Sent.{Sent}
+use Rattle.register_run.specs.declared.converting.Converting.{Converting}
+
+-- what is left of a sender is that of this lane
+abbrev pub IsOfLane : {T : Type 0} → Lane → Closed T → Type 0
+IsOfLane lane c = HasConfirmation c → closed_lane c ≡ Some lane
+
+-- what is left of these senders is that of these lanes, in order
+abbrev pub AreOfLanes : List Lane → List (Closed Entry) → Type 0
+AreOfLanes [] [] = ⊤
+AreOfLanes [] (c ∷ closed) = ⊥
+AreOfLanes (lane ∷ lanes) [] = ⊥
+AreOfLanes (lane ∷ lanes) (c ∷ closed) = IsOfLane lane c × AreOfLanes lanes closed
+
+-- the reader alone gives this cause
+abbrev pub is_of_reading : Cause → Bool
+is_of_reading cause.ReadFault = true
+is_of_reading cause.BadHeader = true
+is_of_reading cause.TooManyRecords = true
+is_of_reading cause.NotSealed = true
+is_of_reading cause = false
+
+-- the answer of a source's threads speaks of its text
+abbrev pub tells_of_text : Result ℕ Cause → Bool
+tells_of_text (Ok count) = true
+tells_of_text (Err c) = is_of_reading c
+
+-- the entries that a reader gave of a text, by what it has sent: their count, and that it is that of all, or a cause
+pub record IsGiven (text : Option (List ℕ)) (format : Format) (sent : Sent) (given : List Numbered) : Type 0 where
+  pub counted : tells_of_text sent.outcome ≡ true → length given ≡ sent.count
+  pub numbered : AreNumberedFrom 1 given
+  pub first : (given ≡ []) ⊎ HasFirstEntries format text given
+  pub all : IfOk sent.outcome (λ n. (n ≡ length given) × HasEntries format text given)
+  pub bad_header : IfErr sent.outcome (λ c. c ≡ cause.BadHeader → (given ≡ []) × IfSome text (λ t. HasNoHeader format t))
+  pub too_many : IfErr sent.outcome (λ c. c ≡ cause.TooManyRecords
+      → (length given ≡ record_limit) × IfSome text (λ t. HasTooMany format t))
+  pub not_sealed : IfErr sent.outcome (λ c. c ≡ cause.NotSealed
+      → (format.form ≡ Sealed) × IfSome text (λ t. IsNotSealed format t) × HasAllEntries format text given)
+
+-- the output is not the cause
+abbrev pub HasGoodOutput : Result ℕ Cause → Type 0
+HasGoodOutput outcome = IfErr outcome (λ c. c ≡ cause.SinkFault → ⊥)
+
+-- nor is a thread that did not start
+abbrev pub HasStarted : Result ℕ Cause → Type 0
+HasStarted outcome = IfErr outcome (λ c. c ≡ cause.NoThread → ⊥)
+
+-- the cause that a fault of reading entries is
+abbrev pub IsCauseOf : EntryFault → Cause → Type 0
+IsCauseOf fault c = MatchOption (entry_fault_cause fault) (c ≡ cause.Unconfirmed) (λ is. c ≡ is)
+
+-- a reader gave entries of the text, and the machine of as many stripes as there are senders deals them so
+abbrev pub Sends : Option (List ℕ) → Format → Sent → List (Sender Entry) → Type 0
+Sends text format sent senders =
+    (given : List Numbered) × IsGiven text format sent given
+    × ((w : World) → w.converters ≡ length senders → AreDealt w 0 given senders)
+
+-- the same, of lanes that were ended
+abbrev pub HasSent : Option (List ℕ) → Format → Sent → List (Closed Entry) → Type 0
+HasSent text format sent closed =
+    (given : List Numbered) × IsGiven text format sent given
+    × ((w : World) → w.converters ≡ length closed → WereDealt w 0 given closed)
+
+-- a reader of this text, which was given the senders of these lanes, may answer so
+pub record IsReading (text : Option (List ℕ)) (format : Format) (lanes : List Lane) (r : Reading) : Type 0 where
+  pub from : AreOfLanes lanes r.closed.items
+  pub entries : ∥ HasSent text format r.sent r.closed.items ∥₁
+  pub output_good : HasGoodOutput r.sent.outcome
+  pub started : HasStarted r.sent.outcome
+
+-- a converter which was given these two lanes may answer so: its rows are those of the first entries that it took, and
+-- of all of them where it ended their lane with an `End`
+pub record IsConverting (from into : Lane) (r : Converting) : Type 0 where
+  pub handed : receiver_lane r.entries ≡ from
+  pub closed : IsOfLane into r.closed
+  pub rows : HasConfirmation r.closed → AreOfTaken (taken r.entries) (all_sent r.closed)
+  pub all : HasConfirmation r.closed → HasEnd (all_sent r.closed) → AreOfAllTaken (taken r.entries) (all_sent r.closed)
+
+-- neither the reader nor the output gives this cause
+abbrev pub IsOfThreads : Cause → Type 0
+IsOfThreads c = (is_of_reading c ≡ false) × (c ≡ cause.SinkFault → ⊥)
+
+-- the row is of one of these entries
+abbrev pub IsOfGiven : List Numbered → Row → Type 0
+IsOfGiven given row = Contains given (entry_seen row.entry)
+
+-- each row that was taken is of an entry that the reader gave
+abbrev pub Passes : Option (List ℕ) → Format → Sent → (Row → Type 0) → Type 0
+Passes text format sent took =
+    (given : List Numbered) × IsGiven text format sent given × ((row : Row) → took row → IsOfGiven given row)
+
+-- the threads of a source have ended with this answer: where it speaks of the text, all that the reader
+-- sent has passed on
+pub record HasPassed (text : Option (List ℕ)) (format : Format) (sent : Sent) (took : Row → Type 0) : Type 0 where
+  pub output_good : HasGoodOutput sent.outcome
+  pub rows : tells_of_text sent.outcome ≡ true → ∥ Passes text format sent took ∥₁

@@ -1,0 +1,135 @@
+//! A source's place at the thread that writes.
+
+ghost use Rattle.std.specs.Prelude.{◌≡◌};
+ghost use Rattle.register_run.specs.SourceThreads.{HasGiven, IsNext, started_by};
+ghost use Rattle.register_run.specs.TablesWritten.{made_by};
+ghost use Rattle.register_run.specs.Written.{Wrote};
+
+use crate::ended_sources::EndedSource;
+use crate::gates::Gate;
+use crate::source_threads::SourceThreads;
+use crate::starting::{Host, RunContext};
+use crate::stripes::Found;
+use crate::table_writers::TableWriter;
+use register_records::Output;
+use std::io::Read;
+use std::thread::Threads;
+
+/// How many items are taken at most before a source's lines are written and the next source has its turn.
+const MOST_AT_ONCE: u32 = 1024;
+
+/// The threads of a source, and its table.
+#[derive(Drop)]
+pub(crate) struct RunningSource<R: Read, W: Output> {
+    threads: SourceThreads<R>,
+    table: TableWriter<W>,
+    // Whether items may still come.
+    open: bool,
+    ghost by_one_setup: { started_by threads ≡ made_by table },
+    ghost wrote: { ∥ Wrote threads table ∥₁ },
+}
+
+impl<R: Read + Drop, W: Output + Drop> RunningSource<R, W> {
+    ghost use Rattle.register_run.specs.Cases.{case, ended_case};
+    ghost use Rattle.register_run.specs.RunningSources.{case_of};
+
+    /// Starts the threads of a source.
+    pub(crate) fn start<'s, 'e, T: Host, G: Gate + Sync>(
+        by: &RunContext<'s, 'e, T, G>,
+        source: R,
+        output: W,
+    ) -> RunningSource<R, W>
+    where
+        R: Send + 'e,
+        ensures { case_of result ≡ case source output by.now.setup.now }
+    {
+        let table = TableWriter::new(by.alloc, output, by.setup);
+        RunningSource {
+            threads: SourceThreads::start(by, source),
+            table,
+            open: true,
+        }
+    }
+
+    /// Whether items may still come.
+    pub(crate) fn is_open(&self) -> bool {
+        self.open
+    }
+
+    /// Takes the rows that are there now and writes them in one call. The answer is whether there was an item.
+    pub(crate) fn visit(&mut self) -> bool
+        ensures { case_of self.new ≡ case_of self.old }
+    {
+        let mut moved = false;
+        for _ in 0..MOST_AT_ONCE {
+            if !self.step() {
+                break;
+            }
+            moved = true;
+            if self.table.is_full() {
+                break;
+            }
+        }
+        self.send();
+        moved
+    }
+
+    /// Takes one item, where one is there now, and adds it to the table if it is a row.
+    fn step(&mut self) -> bool
+        ensures { case_of self.new ≡ case_of self.old }
+    {
+        if !self.open {
+            return false;
+        }
+        match self.threads.look() {
+            Found::Nothing => return false,
+            Found::Row => self.take_row(),
+            Found::Other => {}
+            Found::End => {
+                self.open = false;
+                self.table.write_heading();
+            }
+            Found::Stop => self.open = false,
+        }
+        true
+    }
+
+    /// Adds the row that a look found to the table from where it lies in its lane, and then takes it.
+    fn take_row(&mut self)
+        requires { IsNext self.old.threads }
+        ensures case { case_of self.new ≡ case_of self.old }
+        ensures given { HasGiven self.old.threads self.new.threads }
+    {
+        self.add_row();
+        self.threads.pass();
+    }
+
+    /// Adds the row that a look found to the table, unless it came after a stop.
+    fn add_row(&mut self)
+        ensures case { case_of self.new ≡ case_of self.old }
+        ensures threads { self.new.threads ≡ self.old.threads }
+    {
+        if let Some(row) = self.threads.row() {
+            self.table.add(row);
+        }
+    }
+
+    /// Writes the lines that wait.
+    fn send(&mut self)
+        ensures { case_of self.new ≡ case_of self.old }
+    {
+        self.table.send();
+    }
+
+    /// Joins the threads and settles how the source ended.
+    pub(crate) fn finish(self, rt: &impl Threads) -> EndedSource<R, W>
+        ensures { ended_case result ≡ case_of self }
+    {
+        let RunningSource {
+            threads,
+            table,
+            open: _,
+        } = self;
+        table.conclude(threads.finish(rt))
+    }
+}

@@ -1,0 +1,322 @@
+//! The threads of a source, as the writer has them.
+
+ghost use Rattle.std.specs.Prelude.{◌≡◌, ◌≢◌, ◌↔◌, ◌⊎◌, ◌<◌, ◌≤◌, ◌+◌, [], ℕ, Some, slice_get, All, Err, IfErr, IfOk};
+ghost use Rattle.std.specs.Prelude.{IfSome, length, map, replicate, true, vec_capacity, vec_len};
+ghost use Rattle.std.proofs.Props.{props};
+ghost use Rattle.lane_rings.specs.Lane.{sender_lane, sent};
+ghost use Rattle.register_records.specs.Views.{format_of};
+ghost use Rattle.register_records.specs.declared.sources.Cause.TheVariants as cause;
+ghost use Rattle.register_run.specs.Stripes.{AnyTook, IsReaderOf, stripe_setup, feeding_lane, start_fault_cause};
+ghost use Rattle.register_run.specs.Histories.{Carries};
+ghost use Rattle.register_run.specs.JoinedThreads.{HasPassed, HasStarted, IsReading};
+ghost use Rattle.register_run.specs.Popped.{AreOpen, IsInTurn, popped};
+ghost use Rattle.register_run.specs.Worlds.{World};
+ghost use Rattle.striped_lanes.specs.Machine.{turn as turn_in};
+
+use crate::gates::Gate;
+use crate::reading::{ReaderTask, Reading, Sent, read_source, stopped_after};
+use crate::starting::{Host, RunContext};
+use crate::stripes::{Found, StartFault, Stripe, started};
+use crate::turns::turn_behind;
+use lane_rings::Sender;
+use register_records::{Cause, Entry, Row, Setup};
+use std::io::Read;
+use std::snapshot::Snapshot;
+use std::thread::{PromisedHandle, Threads};
+
+/// A reader and its stripes, or why there are none.
+#[derive(Drop)]
+pub(crate) struct SourceThreads<R: Read> {
+    source: Snapshot<R>,
+    setup: Snapshot<Setup>,
+    reader: Result<PromisedHandle<Reading, ReaderTask<R>>, StartFault>,
+    stripes: Vec<Stripe>,
+    // The stripe that is next.
+    turn: usize,
+    // A lane ended with a stop.
+    stopped: bool,
+    ghost reads: { IfOk reader (λ r. IsReaderOf source.value setup.value stripes.items r.promise) } by { Prim.hlevel props },
+    ghost by_turns: { IsInTurn stripes.items turn },
+    // Where the threads did not start, there is no stripe.
+    ghost unstarted: { IfErr reader (λ _. stripes.items ≡ []) } by { Prim.hlevel props },
+}
+
+/// What the threads of a source leave: its stripes as they were joined, how many entries were read, and that number again
+/// where they are all, or why it is not known that all of them have passed.
+#[derive(Drop)]
+pub(crate) struct JoinedThreads<R> {
+    pub(crate) source: Snapshot<R>,
+    pub(crate) stripes: Snapshot<Vec<Stripe>>,
+    pub(crate) sent: Sent,
+}
+
+impl<R: Read + Drop> SourceThreads<R> {
+    ghost use Rattle.register_run.specs.SourceThreads.{AreStaffed, HasGiven, IsNext, Passed, started_by, started_on};
+
+    /// Starts the threads of a source. Where they do not start, the source is dropped and the threads has the cause.
+    pub(crate) fn start<'s, 'e, T: Host, G: Gate + Sync>(
+        by: &RunContext<'s, 'e, T, G>,
+        source: R,
+    ) -> SourceThreads<R>
+    where
+        R: Send + 'e,
+        ensures source { started_on result ≡ source }
+        ensures setup { started_by result ≡ by.now.setup.now }
+    {
+        let was = Snapshot::of(&source);
+        let setup = Snapshot::of(by.setup);
+        match start_threads(by, source) {
+            Ok((reader, stripes)) => SourceThreads {
+                source: was,
+                setup,
+                reader: Ok(reader),
+                stripes,
+                turn: 0,
+                stopped: false,
+            },
+            Err(fault) => SourceThreads {
+                source: was,
+                setup,
+                reader: Err(fault),
+                stripes: Vec::new(by.alloc),
+                turn: 0,
+                stopped: true,
+            },
+        }
+    }
+
+    /// Looks into the lane that has the turn. Lanes that have ended have no turn, and a source with no threads has
+    /// stopped.
+    pub(crate) fn look(&mut self) -> Found
+        ensures source { started_on self.new ≡ started_on self.old }
+        ensures setup { started_by self.new ≡ started_by self.old }
+        ensures kept { (row : Row) → Passed self.old row → Passed self.new row }
+        ensures row { result ≡ Found.Row → IsNext self.new }
+    {
+        if self.turn >= self.stripes.len() {
+            return Found::Stop;
+        }
+        match Stripe::look_at(&mut self.stripes, self.turn) {
+            Found::End => self.end_of_lane(false),
+            Found::Stop => self.end_of_lane(true),
+            found => found,
+        }
+    }
+
+    /// The row that a look found, unless it came after a stop.
+    pub(crate) fn row(&self) -> Option<&Row>
+        ensures { IfSome result (λ row. Passed self.now row.now) }
+    {
+        if self.stopped || self.turn >= self.stripes.len() {
+            return None;
+        }
+        Stripe::row_at(&self.stripes, self.turn)
+    }
+
+    /// Takes the row that a look found, and gives the turn on.
+    pub(crate) fn pass(&mut self)
+        requires { IsNext self.old }
+        ensures source { started_on self.new ≡ started_on self.old }
+        ensures setup { started_by self.new ≡ started_by self.old }
+        ensures kept { (row : Row) → Passed self.old row → Passed self.new row }
+        ensures given { HasGiven self.old self.new }
+        ensures stopped { self.new.stopped ≡ self.old.stopped }
+    {
+        Stripe::pass_at(&mut self.stripes, self.turn);
+        self.turn = next_open(&self.stripes, self.turn);
+    }
+
+    /// A lane has ended, by a stop or by an end. With the last one the source has. The turn goes to the next stripe whose
+    /// lane has not ended, if there is one.
+    fn end_of_lane(&mut self, by_stop: bool) -> Found
+        requires ended { AreOpen self.old.stripes.items → ⊥ }
+        requires within { self.old.turn < vec_len self.old.stripes }
+        ensures row { result ≢ Found.Row }
+        ensures source { started_on self.new ≡ started_on self.old }
+        ensures setup { started_by self.new ≡ started_by self.old }
+        ensures stripes { self.new.stripes ≡ self.old.stripes }
+    {
+        self.turn = next_open(&self.stripes, self.turn);
+        self.stopped = self.stopped || by_stop;
+        if self.stripes.iter().any(|stripe| stripe.is_open()) {
+            Found::Other
+        } else if self.stopped {
+            Found::Stop
+        } else {
+            Found::End
+        }
+    }
+
+    /// Joins the threads and confirms all lanes.
+    pub(crate) fn finish(self, rt: &impl Threads) -> JoinedThreads<R>
+        ensures source { result.source.value ≡ started_on self }
+        ensures passed { HasPassed (R.remaining (started_on self)) (format_of (started_by self)) result.sent
+            (Passed self) }
+        ensures machine { IfOk result.sent.outcome (λ count.
+            ∥ Carries (R.remaining (started_on self)) (started_by self) count result.stripes.value.items (Passed self) ∥₁) }
+        ensures staffed { AreStaffed (started_by self) result.sent.outcome result.stripes.value.items }
+    {
+        let SourceThreads {
+            source,
+            setup: _,
+            reader,
+            stripes,
+            turn: _,
+            stopped: _,
+        } = self;
+        let joined = Snapshot::of(&stripes);
+        let sent = match reader {
+            Ok(reader) => join_threads(rt, reader, stripes),
+            Err(fault) => stopped_after(0, fault.cause()),
+        };
+        JoinedThreads {
+            source,
+            stripes: joined,
+            sent,
+        }
+    }
+}
+
+/// Starts the converters of a source and then its reader. What was not started is dropped.
+///
+/// # Errors
+///
+/// `NoMemory` where a list or a lane is refused its memory, and `NoThread` where a thread does not start.
+fn start_threads<'s, 'e, T: Host, R: Read + Send + Drop + 'e, G: Gate + Sync>(
+    by: &RunContext<'s, 'e, T, G>,
+    source: R,
+) -> Result<(PromisedHandle<Reading, ReaderTask<R>>, Vec<Stripe>), StartFault>
+    ensures reads { IfOk result (λ t. IsReaderOf source by.now.setup.now t.1.items t.0.promise) }
+    ensures unpopped { IfOk result (λ t. popped t.1.items ≡ 0) }
+{
+    let (rt, alloc, setup) = (by.rt, by.alloc, by.setup);
+    let Ok(closed) = Vec::with_capacity(alloc, setup.stripes()) else {
+        return Err(StartFault::NoMemory);
+    };
+    let Fan { stripes, senders } = Fan::start(by)?;
+    let task = ReaderTask {
+        source: Snapshot::of(&source),
+        setup: Snapshot::of(setup),
+        senders: Snapshot::of(&senders),
+    };
+    let reader = by.scope.spawn_with(
+        task,
+        move || -> Reading
+            requires { (0 < vec_len senders) × (vec_len senders ≤ vec_capacity closed) × (closed.items ≡ [])
+                × All (λ s. sent s ≡ []) senders.items }
+            ensures { IsReading (R.remaining source) (format_of setup.entry.now)
+                (map sender_lane senders.items) result }
+        { read_source(rt, alloc, source, setup, senders, closed) },
+    );
+    // Where it did not start, the senders went with its closure, which lets the converters end.
+    match started(reader) {
+        Ok(reader) => Ok((reader, stripes)),
+        Err(fault) => {
+            Stripe::call_off_all(rt, stripes);
+            Err(fault)
+        }
+    }
+}
+
+/// Joins the threads of a source and confirms all lanes. The answer is what the reader has sent, with the lowest of the
+/// causes that were met: those of reading, and `Unconfirmed` where a lane is not confirmed, or where the lanes ended
+/// otherwise than the reader did.
+fn join_threads<R: Read + Drop>(
+    rt: &impl Threads,
+    reader: PromisedHandle<Reading, ReaderTask<R>>,
+    stripes: Vec<Stripe>,
+) -> Sent
+    requires { IsReaderOf reader.promise.source.value reader.promise.setup.value stripes.items reader.promise }
+    ensures passed { HasPassed (R.remaining reader.promise.source.value) (format_of reader.promise.setup.value) result
+        (AnyTook stripes.items) }
+    ensures machine { IfOk result.outcome (λ count. ∥ Carries (R.remaining reader.promise.source.value)
+        reader.promise.setup.value count stripes.items (AnyTook stripes.items) ∥₁) }
+    ensures started { HasStarted result.outcome }
+{
+    let Reading { closed, sent } = reader.join(rt);
+    match Stripe::join_all(rt, stripes, closed) {
+        Ok(ended) => {
+            if ended == sent.outcome.is_ok() {
+                return sent;
+            }
+            stopped_after(sent.count, unconfirmed_or_lower(sent.outcome))
+        }
+        Err(_) => stopped_after(sent.count, unconfirmed_or_lower(sent.outcome)),
+    }
+}
+
+/// The next stripe after the one at `turn`, going round, whose lane has not ended. Where all have, any. Where the lane of
+/// the stripe that is next has not ended, it is the one that has the turn in the machine.
+fn next_open(stripes: &[Stripe], turn: usize) -> usize
+    requires { turn < length stripes.now }
+    ensures below { result < length stripes.now }
+    ensures machine { (w : World) (k : ℕ) (stripe : Stripe) → w.converters ≡ length stripes.now → turn ≡ turn_in w k
+        → slice_get stripes.now (turn_in w (k + 1)) ≡ Some stripe → stripe.«open» ≡ true → result ≡ turn_in w (k + 1) }
+{
+    let first = turn_behind(turn, stripes.len());
+    if stripes[first].is_open() {
+        return first;
+    }
+    let mut next = first;
+    for _ in 1..stripes.len() {
+        next = turn_behind(next, stripes.len());
+        if stripes[next].is_open() {
+            break;
+        }
+    }
+    next
+}
+
+/// `Unconfirmed`, unless the reader met a lower cause.
+fn unconfirmed_or_lower(outcome: Result<u32, Cause>) -> Cause
+    ensures either { (result ≡ Cause.NoMemory) ⊎ (result ≡ Cause.Unconfirmed) }
+    ensures lower { (result ≡ Cause.NoMemory) ↔ (outcome ≡ Err Cause.NoMemory) }
+{
+    match outcome {
+        Err(Cause::NoMemory) => Cause::NoMemory,
+        _ => Cause::Unconfirmed,
+    }
+}
+
+/// The stripes of a source, and the senders that feed them.
+struct Fan {
+    stripes: Vec<Stripe>,
+    senders: Vec<Sender<Entry>>,
+}
+
+impl Fan {
+    /// Starts the converters of a source.
+    fn start<'s, 'e, T: Host, G: Gate + Sync>(
+        by: &RunContext<'s, 'e, T, G>,
+    ) -> Result<Fan, StartFault>
+        ensures fed { IfOk result (λ f. map feeding_lane f.stripes.items ≡ map sender_lane f.senders.items) }
+        ensures count { IfOk result (λ f. (vec_len f.senders ≡ by.now.setup.now.stripes)
+            × (vec_len f.stripes ≡ by.now.setup.now.stripes)) }
+        ensures fresh { IfOk result (λ f. All (λ s. sent s ≡ []) f.senders.items) }
+        ensures setups { IfOk result (λ f. map stripe_setup f.stripes.items
+            ≡ replicate by.now.setup.now.stripes by.now.setup.now) }
+        ensures unpopped { IfOk result (λ f. popped f.stripes.items ≡ 0) }
+    {
+        let stripes = by.setup.stripes();
+        let Ok(mut stripes) = Vec::with_capacity(by.alloc, stripes) else {
+            return Err(StartFault::NoMemory);
+        };
+        let Ok(mut senders) = Vec::with_capacity(by.alloc, stripes) else {
+            return Err(StartFault::NoMemory);
+        };
+        for _ in 0..stripes {
+            match Stripe::start(by) {
+                Ok((sender, stripe)) => {
+                    senders.push_reserved(sender);
+                    stripes.push_reserved(stripe);
+                }
+                Err(cause) => {
+                    drop(senders);
+                    Stripe::call_off_all(by.rt, stripes);
+                    return Err(cause);
+                }
+            }
+        }
+        Ok(Fan { stripes, senders })
+    }
+}

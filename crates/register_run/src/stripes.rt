@@ -1,0 +1,340 @@
+//! A converter with its two lanes, as the writer has it, and what a threads does with all of them.
+
+ghost use Rattle.std.specs.Prelude.{◌≡◌, ◌<◌, ◌+◌, [], Err, IfErr, IfOk, IfSome, Ok, map, vec_len};
+ghost use Rattle.lane_rings.specs.Lane.{lane_capacity, receiver_lane, sender_lane, sent, taken};
+
+use crate::converting::{Converting, convert_entries};
+use crate::gates::Gate;
+use crate::starting::{Host, RunContext};
+use lane_rings::{Closed, Item, Receiver, Sender, Unconfirmed, patient_lane};
+use register_records::{Cause, Entry, Row, Setup};
+use std::snapshot::Snapshot;
+use std::thread::{Promise, PromisedHandle, Threads};
+
+/// The lanes that a converter was started with.
+#[derive(Drop)]
+pub(crate) struct ConverterLanes {
+    pub(crate) entries: Snapshot<Receiver<Entry>>,
+    pub(crate) rows: Snapshot<Sender<Row>>,
+}
+
+impl Promise<Converting> for ConverterLanes {
+    ghost use Rattle.register_run.specs.JoinedThreads.{IsConverting};
+
+    ghost kept_by = { λ p r. IsConverting (receiver_lane p.entries.value) (sender_lane p.rows.value) r };
+}
+
+/// What a look into the lanes of a source found.
+#[derive(Clone, Copy)]
+pub(crate) enum Found {
+    /// Nothing is there now.
+    Nothing,
+    /// A row is next.
+    Row,
+    /// A lane ended and others did not.
+    Other,
+    /// The last lane ended, and each with an end. Of one stripe: its lane did.
+    End,
+    /// The last lane ended, and not each with an end. Of one stripe: its lane ended with a stop.
+    Stop,
+}
+
+/// Why the threads of a source did not start.
+#[derive(Clone, Copy)]
+pub(crate) enum StartFault {
+    /// A list or a lane was refused its memory.
+    NoMemory,
+    /// A thread did not start.
+    NoThread,
+}
+
+impl StartFault {
+    ghost use Rattle.register_run.specs.Stripes.{start_fault_cause};
+
+    /// The cause that the fault is.
+    pub(crate) fn cause(self) -> Cause
+        ensures { result ≡ start_fault_cause self }
+    {
+        match self {
+            StartFault::NoMemory => Cause::NoMemory,
+            StartFault::NoThread => Cause::NoThread,
+        }
+    }
+}
+
+/// The thread that was started.
+///
+/// # Errors
+///
+/// `NoThread` where it was not.
+pub(crate) fn started<H: Drop, E: Drop>(thread: Result<H, E>) -> Result<H, StartFault>
+    ensures ok { IfOk result (λ handle. thread ≡ Ok handle) }
+    ensures no_thread { IfErr thread (λ _. result ≡ Err StartFault.NoThread) }
+{
+    match thread {
+        Ok(handle) => Ok(handle),
+        Err(_) => Err(StartFault::NoThread),
+    }
+}
+
+/// A converter, the lane that it feeds and the one that feeds it.
+#[derive(Drop)]
+pub(crate) struct Stripe {
+    worker: PromisedHandle<Converting, ConverterLanes>,
+    rows: Receiver<Row>,
+    feeding: Snapshot<Sender<Entry>>,
+    // What the converter was started by.
+    setup: Snapshot<Setup>,
+    // How many rows were taken.
+    count: u64,
+    // Whether items may still come.
+    open: bool,
+    ghost fed: { sender_lane feeding.value ≡ receiver_lane worker.promise.entries.value },
+    ghost paired: { sender_lane worker.promise.rows.value ≡ receiver_lane rows },
+    // Each of the two lanes has room for as many items as the setup's ring.
+    ghost room: { lane_capacity (sender_lane feeding.value) ≡ setup.value.ring },
+    ghost room_for_rows: { lane_capacity (receiver_lane rows) ≡ setup.value.ring },
+}
+
+impl Stripe {
+    ghost use Rattle.register_run.specs.Stripes.{StripeTook, HasPassedOn, IsRowNext, IsSameStripe, stripe_setup, feeding_lane};
+    ghost use Rattle.register_run.specs.JoinedThreads.{IsConverting, IsOfLane};
+    ghost use Rattle.register_run.specs.Popped.{HasLooked, popped_from};
+
+    /// Starts a converter, and gives the sender that feeds it.
+    ///
+    /// # Errors
+    ///
+    /// `NoMemory` where a lane is refused its memory, and `NoThread` where the thread does not start.
+    pub(crate) fn start<'s, 'e, T: Host, G: Gate + Sync>(
+        by: &RunContext<'s, 'e, T, G>,
+    ) -> Result<(Sender<Entry>, Stripe), StartFault>
+        ensures lane { IfOk result (λ r. feeding_lane r.1 ≡ sender_lane r.0) }
+        ensures fresh { IfOk result (λ r. sent r.0 ≡ []) }
+        ensures untaken { IfOk result (λ r. taken r.1.rows ≡ []) }
+        ensures setup { IfOk result (λ r. stripe_setup r.1 ≡ by.now.setup.now) }
+    {
+        let (rt, gate, setup) = (by.rt, by.gate, by.setup);
+        let Ok((sender, entries)) = patient_lane::<Entry>(by.alloc, setup.ring(), by.patience)
+        else {
+            return Err(StartFault::NoMemory);
+        };
+        let further = by.patience.one_lane_downstream();
+        let Ok((row_sender, rows)) = patient_lane::<Row>(by.alloc, setup.ring(), further) else {
+            return Err(StartFault::NoMemory);
+        };
+        let feeding = Snapshot::of(&sender);
+        let lanes = ConverterLanes {
+            entries: Snapshot::of(&entries),
+            rows: Snapshot::of(&row_sender),
+        };
+        let worker = by.scope.spawn_with(
+            lanes,
+            move || -> Converting
+                requires { (sent row_sender ≡ []) × (taken entries ≡ []) }
+                ensures { IsConverting (receiver_lane entries) (sender_lane row_sender) result }
+            { convert_entries(rt, gate, setup, entries, row_sender) },
+        );
+        let worker = started(worker)?;
+        let stripe = Stripe {
+            worker,
+            rows,
+            feeding,
+            setup: Snapshot::of(setup),
+            count: 0,
+            open: true,
+        };
+        Ok((sender, stripe))
+    }
+
+    /// Whether items may still come.
+    pub(crate) fn is_open(&self) -> bool
+        ensures { result ≡ self.now.«open» }
+    {
+        self.open
+    }
+
+    /// Looks for the next item. A row is left where it is until it is passed; an end and a stop are taken. A converter
+    /// that is gone counts as one that stopped.
+    pub(crate) fn look(&mut self) -> Found
+        ensures same { IsSameStripe self.old self.new }
+        ensures looked { HasLooked self.old self.new result }
+    {
+        match self.rows.look() {
+            Ok(true) => self.take_found(),
+            Ok(false) => Found::Nothing,
+            Err(_) => {
+                self.open = false;
+                Found::Stop
+            }
+        }
+    }
+
+    /// What is next, after a look. An end and a stop are taken.
+    #[tactic(auto, using(crate::proofs::JoinedThreadsLemmas::same_seen), unfolding(crate::specs::Stripes::StripeTook))]
+    fn take_found(&mut self) -> Found
+        ensures same { IsSameStripe self.old self.new }
+        ensures looked { HasLooked self.old self.new result }
+    {
+        match self.rows.next() {
+            None => Found::Nothing,
+            Some(Item::Entry(_)) => Found::Row,
+            Some(Item::End(_)) => {
+                self.rows.pass();
+                self.open = false;
+                Found::End
+            }
+            Some(Item::Stop) => {
+                self.rows.pass();
+                self.open = false;
+                Found::Stop
+            }
+        }
+    }
+
+    /// The row that a look found, where it lies.
+    #[tactic(auto, using(crate::proofs::JoinedThreadsLemmas::seen_next), unfolding(crate::specs::Stripes::StripeTook))]
+    pub(crate) fn row(&self) -> Option<&Row>
+        ensures { IfSome result (λ row. StripeTook self.now row.now) }
+    {
+        match self.rows.next() {
+            Some(Item::Entry(row)) => Some(row),
+            _ => None,
+        }
+    }
+
+    /// Takes the row that a look found.
+    #[tactic(auto, using(crate::proofs::JoinedThreadsLemmas::same_seen), unfolding(crate::specs::Stripes::StripeTook))]
+    pub(crate) fn pass(&mut self)
+        requires { IsRowNext self.old }
+        ensures same { IsSameStripe self.old self.new }
+        ensures still { self.new.«open» ≡ self.old.«open» }
+        ensures one { popped_from self.new ≡ popped_from self.old + 1 }
+    {
+        self.rows.pass();
+        self.count = self.count.saturating_add(1);
+    }
+
+    /// Joins the thread and confirms both lanes. `closed` is what is left of the sender that fed the converter. The
+    /// answer is whether the second lane ended with the number of the rows that were taken from it.
+    ///
+    /// # Errors
+    ///
+    /// `Unconfirmed` where one of the lanes is not confirmed.
+    pub(crate) fn finish(
+        self,
+        rt: &impl Threads,
+        closed: Closed<Entry>,
+    ) -> Result<bool, Unconfirmed>
+        requires { IsOfLane (feeding_lane self) closed }
+        ensures passed { IfOk result (λ ended. HasPassedOn ended self closed) }
+    {
+        let Stripe {
+            worker,
+            rows,
+            feeding: _,
+            setup: _,
+            count,
+            open: _,
+        } = self;
+        let Converting {
+            entries,
+            closed: rows_closed,
+        } = worker.join(rt);
+        entries.confirm(closed)?;
+        let confirmed = rows.confirm(rows_closed)?;
+        Ok(confirmed.ended() == Some(count))
+    }
+
+    /// Joins the thread of a converter that was never fed.
+    pub(crate) fn call_off(self, rt: &impl Threads) {
+        let Stripe {
+            worker,
+            rows: _,
+            feeding: _,
+            setup: _,
+            count: _,
+            open: _,
+        } = self;
+        drop(worker.join(rt));
+    }
+}
+
+// What a threads does with all its stripes.
+impl Stripe {
+    ghost use Rattle.register_run.specs.Stripes.{AnyTook, AreSameStripes, HavePassedOn, feeding_lane};
+    ghost use Rattle.register_run.specs.JoinedThreads.{AreOfLanes};
+    ghost use Rattle.register_run.specs.Popped.{HasLookedAt, HasPopped, IsRowNextAt};
+
+    /// Joins the threads of all stripes and confirms all lanes. `closed` is what is left of the senders that fed them. The
+    /// answer is whether each lane ended with the number of the rows that were taken from it.
+    ///
+    /// # Errors
+    ///
+    /// `Unconfirmed` where one of the lanes is not confirmed. All threads are joined all the same.
+    pub(crate) fn join_all(
+        rt: &impl Threads,
+        stripes: Vec<Stripe>,
+        closed: Vec<Closed<Entry>>,
+    ) -> Result<bool, Unconfirmed>
+        requires { AreOfLanes (map feeding_lane stripes.items) closed.items }
+        ensures { IfOk result (λ ended. HavePassedOn ended stripes.items closed.items) }
+    {
+        let mut confirmed = true;
+        let mut ended = true;
+        let mut rest = closed.into_iter();
+        for stripe in stripes {
+            let Some(one) = rest.next() else {
+                unreachable!()
+            };
+            match stripe.finish(rt, one) {
+                Ok(counted) => ended &= counted,
+                Err(_) => confirmed = false,
+            }
+        }
+        if confirmed {
+            Ok(ended)
+        } else {
+            Err(Unconfirmed)
+        }
+    }
+
+    /// Looks at one stripe.
+    pub(crate) fn look_at(stripes: &mut Vec<Stripe>, at: usize) -> Found
+        requires { at < vec_len stripes.old }
+        ensures len { vec_len stripes.new ≡ vec_len stripes.old }
+        ensures same { AreSameStripes stripes.old.items stripes.new.items }
+        ensures looked { HasLookedAt at stripes.old.items stripes.new.items result }
+    {
+        let stripe = &mut stripes[at];
+        stripe.look()
+    }
+
+    /// The row that a look at one stripe found.
+    pub(crate) fn row_at(stripes: &Vec<Stripe>, at: usize) -> Option<&Row>
+        requires { at < vec_len stripes.now }
+        ensures { IfSome result (λ row. AnyTook stripes.now.items row.now) }
+    {
+        let stripe = &stripes[at];
+        stripe.row()
+    }
+
+    /// Takes the row that a look at one stripe found.
+    pub(crate) fn pass_at(stripes: &mut Vec<Stripe>, at: usize)
+        requires within { at < vec_len stripes.old }
+        requires row { IsRowNextAt stripes.old.items at }
+        ensures len { vec_len stripes.new ≡ vec_len stripes.old }
+        ensures same { AreSameStripes stripes.old.items stripes.new.items }
+        ensures popped { HasPopped stripes.old.items stripes.new.items }
+    {
+        let stripe = &mut stripes[at];
+        stripe.pass();
+    }
+
+    /// Joins the threads of stripes that were never fed.
+    pub(crate) fn call_off_all(rt: &impl Threads, stripes: Vec<Stripe>) {
+        for stripe in stripes {
+            stripe.call_off(rt);
+        }
+    }
+}

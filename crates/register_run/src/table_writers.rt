@@ -1,0 +1,231 @@
+//! The table of a source, as far as it was written.
+
+ghost use Rattle.std.specs.Prelude.{◌≡◌, ◌+◌, ◌<◌, ◌≤◌, ◌⊎◌, [], ◌∷◌, ◌++◌, None, Some, IfSome, true, false};
+ghost use Rattle.std.specs.Prelude.{vec_capacity, vec_len};
+ghost use Rattle.std.specs.Option.{is_some};
+ghost use Rattle.std.proofs.Props.{props};
+ghost use Rattle.register_records.specs.Entries.{record_limit};
+ghost use Rattle.register_records.specs.Tables.{refusal_notes};
+ghost use Rattle.register_records.specs.Views.{row_seen, output_failed_in};
+ghost use Rattle.register_records.specs.declared.sources.Cause.TheVariants as cause;
+ghost use Rattle.register_run.specs.Courses.{fault_of, is_of_table, is_output_failed};
+
+use crate::ended_sources::{Course, EndedSource, Met, end_of_source};
+use crate::reports::Ran;
+use crate::source_threads::JoinedThreads;
+use register_records::laws::tables_grow;
+use register_records::{Cause, MOST_WAITING, Note, Output, Row, RowFault, RowWriter, Setup};
+use std::alloc::Global;
+use std::io::Read;
+use std::snapshot::Snapshot;
+
+/// An output and what was written to it: the heading, and the lines of the rows that were taken so far, of which some
+/// may wait to be written together.
+#[derive(Drop)]
+pub(crate) struct TableWriter<W: Output> {
+    alloc: Global,
+    setup: Setup,
+    given: Snapshot<W>,
+    output: W,
+    // There is one once the heading was written.
+    writer: Option<RowWriter>,
+    journal: Vec<Note>,
+    rows: u32,
+    course: Course,
+    ghost marked: { W.own_mark output ≡ W.own_mark given.value },
+    ghost failed: { is_output_failed course ≡ true → W.has_failed output ≡ true },
+    ghost good: { is_output_failed course ≡ false → W.has_failed output ≡ W.has_failed given.value },
+    ghost afloat: { is_output_failed course ≡ false → IfSome writer (λ w. output_failed_in w ≡ false) } by { Prim.hlevel props },
+    ghost untouched: { is_some writer ≡ false → is_output_failed course ≡ false → output ≡ given.value },
+    ghost sink_told: { fault_of course ≡ Some cause.SinkFault → is_output_failed course ≡ true },
+    ghost of_table: { IfSome (fault_of course) (λ c. is_of_table c ≡ true) } by { Prim.hlevel props },
+    ghost limited: { rows ≤ record_limit },
+    ghost few_refused: { vec_len journal ≤ rows },
+}
+
+impl<W: Output + Drop> TableWriter<W> {
+    ghost use Rattle.std.specs.Prelude.{List};
+    ghost use Rattle.register_records.specs.Views.{row_targets, targets_of};
+    ghost use Rattle.register_records.specs.declared.rows.Row.{Row};
+    ghost use Rattle.std.specs.Prelude.{IfOk};
+    ghost use Rattle.register_run.specs.SourceThreads.{AreStaffed};
+    ghost use Rattle.register_run.specs.TablesWritten.{AllSent, Holds, made_by, made_for};
+    ghost use Rattle.register_run.specs.Written.{Concludes};
+
+    /// The table of a source before its heading.
+    pub(crate) fn new(alloc: Global, output: W, setup: &Setup) -> TableWriter<W>
+        ensures output { made_for result ≡ output }
+        ensures setup { made_by result ≡ setup.now }
+        ensures empty { Holds result [] }
+    {
+        TableWriter {
+            alloc,
+            setup: *setup,
+            given: Snapshot::of(&output),
+            output,
+            writer: None,
+            journal: Vec::new(alloc),
+            rows: 0,
+            course: Course::Open,
+        }
+    }
+
+    /// Whether so many lines wait that they are to be written. Until then a row takes no memory for its line.
+    pub(crate) fn is_full(&self) -> bool {
+        match &self.writer {
+            Some(writer) => writer.pending_len() >= MOST_WAITING,
+            None => false,
+        }
+    }
+
+    /// Adds a row that was taken, where no fault was met: its line waits to be sent. A row with another number than the
+    /// next one or with other targets is `Unconfirmed`, and after a fault nothing is added.
+    pub(crate) fn add(&mut self, row: &Row)
+        ensures output { made_for self.new ≡ made_for self.old }
+        ensures setup { made_by self.new ≡ made_by self.old }
+        ensures rows { (rows : List Row) → Holds self.old rows
+            → Holds self.new rows ⊎ Holds self.new (rows ++ row.now ∷ []) }
+    {
+        self.write_heading();
+        let Course::Open = self.course else {
+            return;
+        };
+        if row.entry().number() != self.rows + 1 || !row.is_for(&self.setup) {
+            self.course = Course::Halted(Cause::Unconfirmed);
+            return;
+        }
+        self.append(row);
+    }
+
+    /// Writes the heading, where that was not done and no fault was met.
+    pub(crate) fn write_heading(&mut self)
+        ensures output { made_for self.new ≡ made_for self.old }
+        ensures setup { made_by self.new ≡ made_by self.old }
+        ensures rows { (rows : List Row) → Holds self.old rows → Holds self.new rows }
+    {
+        let Course::Open = self.course else {
+            return;
+        };
+        if self.writer.is_some() {
+            return;
+        }
+        match RowWriter::open(self.alloc, &mut self.output, &self.setup) {
+            Ok(writer) => self.writer = Some(writer),
+            Err(RowFault::WriteFault) => self.course = Course::OutputFailed(Cause::SinkFault),
+            Err(_) => self.course = Course::Halted(Cause::NoMemory),
+        }
+    }
+
+    /// Appends the line of the next row to those that wait, and its note to the journal.
+    fn append(&mut self, row: &Row)
+        requires afloat { is_output_failed self.old.course ≡ false }
+        requires number { row.now.entry.number ≡ self.old.rows + 1 }
+        requires targets { row_targets row.now ≡ targets_of (made_by self.old) }
+        ensures output { made_for self.new ≡ made_for self.old }
+        ensures setup { made_by self.new ≡ made_by self.old }
+        ensures rows { (rows : List Row) → Holds self.old rows
+            → Holds self.new rows ⊎ Holds self.new (rows ++ row.now ∷ []) }
+    {
+        tables_grow();
+        let Some(writer) = &mut self.writer else {
+            return;
+        };
+        let Ok(()) = self.journal.reserve(1) else {
+            self.course = Course::Halted(Cause::NoMemory);
+            return;
+        };
+        let Ok(()) = writer.add(row) else {
+            self.course = Course::Halted(Cause::NoMemory);
+            return;
+        };
+        push_refusal(&mut self.journal, row);
+        self.rows = row.entry().number();
+    }
+
+    /// Writes the lines that wait in one call, where the output has not failed. A cause that was met before stays.
+    pub(crate) fn send(&mut self)
+        ensures output { made_for self.new ≡ made_for self.old }
+        ensures setup { made_by self.new ≡ made_by self.old }
+        ensures rows { (rows : List Row) → Holds self.old rows → Holds self.new rows }
+        ensures sent { AllSent self.new }
+        ensures met { IfSome (fault_of self.old.course) (λ c. fault_of self.new.course ≡ Some c) }
+    {
+        if let Course::OutputFailed(_) = self.course {
+            return;
+        }
+        let Some(writer) = &mut self.writer else {
+            return;
+        };
+        if writer.pending_len() == 0 {
+            return;
+        }
+        if writer.send(&mut self.output).is_err() {
+            self.course = match self.course {
+                Course::Open => Course::OutputFailed(Cause::SinkFault),
+                Course::Halted(cause) | Course::OutputFailed(cause) => Course::OutputFailed(cause),
+            };
+        }
+    }
+
+    /// What is left of the source, once its lines are written.
+    pub(crate) fn conclude<R: Read + Drop>(
+        self,
+        joined_threads: JoinedThreads<R>,
+    ) -> EndedSource<R, W>
+        requires passed { ∥ Concludes (R.remaining joined_threads.source.value) self joined_threads.sent
+            joined_threads.stripes.value.items ∥₁ }
+        requires staffed { AreStaffed (made_by self) joined_threads.sent.outcome joined_threads.stripes.value.items }
+        ensures source { result.source.value ≡ joined_threads.source.value }
+        ensures output { result.given.value ≡ made_for self }
+        ensures setup { result.ran.setup.value ≡ made_by self }
+    {
+        let JoinedThreads {
+            source,
+            stripes,
+            sent,
+        } = joined_threads;
+        let mut table = self;
+        table.send();
+        let TableWriter {
+            alloc: _,
+            setup,
+            given,
+            output,
+            writer,
+            journal,
+            rows,
+            course,
+        } = table;
+        let setup = Snapshot::of(&setup);
+        let met = Met {
+            sent,
+            fault: course.fault(),
+            headed: writer.is_some(),
+            rows,
+        };
+        let end = end_of_source(met, journal);
+        EndedSource {
+            source,
+            given,
+            ran: Ran {
+                setup,
+                stripes,
+                met: Snapshot::of(&met),
+            },
+            output,
+            end,
+        }
+    }
+}
+
+/// Notes a row that was refused, in a journal with room for it.
+fn push_refusal(journal: &mut Vec<Note>, row: &Row)
+    requires { vec_len journal.old < vec_capacity journal.old }
+    ensures items { journal.new.items
+        ≡ journal.old.items ++ refusal_notes (row_seen row.now).number (row_seen row.now).outcome }
+    ensures len { vec_len journal.new ≤ vec_len journal.old + 1 }
+{
+    let Ok(()) = row.push_refusal(journal) else {
+        unreachable!();
+    };
+}

@@ -9,7 +9,7 @@ pub mod Lines
 pub mod Columns
 pub mod TableColumns
 pub mod Tables
-pub mod Answers
+pub mod RowTails
 pub mod Sources
 pub mod Causes
 pub mod SetupRules

@@ -1,4 +1,4 @@
--- What a clause sees of an `RowTail`. No public contract cites this file, but for the cells of a row.
+-- What a clause sees of a `RowTail`. No public contract cites this file, but for the cells of a row.
 use Rattle.std.specs.Prelude.{ℕ, List, [], drop, length, take, Result, Ok, Err}
 use Rattle.day_numbers.specs.declared.day.Day.{Day}
 use Rattle.date_texts.specs.declared.calendar.Target.{Target}

@@ -8,7 +8,7 @@ ghost use Rattle.register_records.specs.LineViews.{line_capacity, line_delimiter
 ghost use Rattle.register_records.specs.Lines.{line_text};
 ghost use Rattle.register_records.specs.TableColumns.{column_name, column_names, entry_field, entry_order};
 ghost use Rattle.register_records.specs.TableColumns.{heading, row_fields};
-ghost use Rattle.register_records.specs.Views.{tail_fields, row_seen, row_targets};
+ghost use Rattle.register_records.specs.Views.{row_seen, row_targets, tail_fields};
 ghost use Rattle.register_records.specs.declared.row_tails.TheConstants.{TAIL_ROOM};
 ghost use Rattle.register_records.specs.declared.row_lines.TheConstants.{LINE_ROOM};
 

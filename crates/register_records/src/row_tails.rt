@@ -13,7 +13,7 @@ ghost use Rattle.register_records.specs.Outcomes.{AreCells};
 ghost use Rattle.register_records.specs.Seen.{outcome_seen};
 ghost use Rattle.register_records.specs.SetupRules.{is_delimiter};
 ghost use Rattle.register_records.specs.TableColumns.{AreFields, IsCellField, tail_texts};
-ghost use Rattle.register_records.specs.declared.row_tails.TheConstants.{TAIL_ROOM, CELL_ROOM};
+ghost use Rattle.register_records.specs.declared.row_tails.TheConstants.{CELL_ROOM, TAIL_ROOM};
 
 use crate::setups::Setup;
 use crate::table_columns::{TableColumn, tail_columns};

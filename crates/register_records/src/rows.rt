@@ -41,7 +41,7 @@ impl Row {
     ghost use Rattle.register_records.specs.Entries.{body_seen};
     ghost use Rattle.register_records.specs.SetupRules.{is_delimiter};
     ghost use Rattle.register_records.specs.Tables.{refusal_notes};
-    ghost use Rattle.register_records.specs.Views.{tail_fields, row_seen, row_targets, targets_of};
+    ghost use Rattle.register_records.specs.Views.{row_seen, row_targets, tail_fields, targets_of};
 
     /// A row before any entry was converted: that of an entry without texts, for no target.
     pub fn blank() -> Row

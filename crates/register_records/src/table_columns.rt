@@ -4,7 +4,7 @@
 ghost use Rattle.std.specs.Prelude.{◌≡◌, ◌≤◌, ℕ, length};
 ghost use Rattle.std.specs.Fmt.{decimal};
 ghost use Rattle.register_records.specs.LineRoom.{column_limit};
-ghost use Rattle.register_records.specs.TableColumns.{tail_order, column_name, entry_field, entry_order};
+ghost use Rattle.register_records.specs.TableColumns.{column_name, entry_field, entry_order, tail_order};
 ghost use Rattle.register_records.specs.Views.{row_seen};
 
 use crate::entries::Body;

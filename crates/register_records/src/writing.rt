@@ -58,7 +58,7 @@ pub struct RowWriter {
 impl RowWriter {
     ghost use Rattle.register_records.specs.Tables.{heading_line};
     ghost use Rattle.register_records.specs.Views.{format_of, layout_of, line_of};
-    ghost use Rattle.register_records.specs.Views.{waiting_in, writer_failed, output_failed_in, writes_by};
+    ghost use Rattle.register_records.specs.Views.{output_failed_in, waiting_in, writer_failed, writes_by};
 
     /// Writes the heading and flushes it.
     ///

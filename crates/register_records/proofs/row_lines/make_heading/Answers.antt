@@ -1,7 +1,7 @@
 use Rattle.std.proofs.Common.{◌≡◌, ◌++◌, ◌∙◌, List, ap, append-nil, arith, map, sym, take}
 use Rattle.std.specs.List.{flat_map}
 use Rattle.std.proofs.lemmas.List.{take_all}
-use Rattle.register_records.specs.TableColumns.{tail_order, column_name, column_names, entry_order, heading}
+use Rattle.register_records.specs.TableColumns.{column_name, column_names, entry_order, heading, tail_order}
 use Rattle.register_records.specs.LineViews.{line_bytes, line_delimiter}
 use Rattle.register_records.specs.declared.table_columns.TableColumn.{TableColumn}
 use Rattle.register_records.proofs.LineLemmas.{heading_names, one_column, same_body, same_line, some_columns}

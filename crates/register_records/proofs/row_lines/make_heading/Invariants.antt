@@ -1,6 +1,6 @@
 use Rattle.std.proofs.Common.{◌≡◌, ◌≤◌, ◌++◌, map, take}
 use Rattle.std.specs.List.{flat_map}
-use Rattle.register_records.specs.TableColumns.{tail_order, column_name, column_names, entry_order}
+use Rattle.register_records.specs.TableColumns.{column_name, column_names, entry_order, tail_order}
 use Rattle.register_records.specs.LineViews.{Begins, line_bytes, line_capacity, line_delimiter}
 use Rattle.register_records.proofs.row_lines.make_heading.Given as goal
 

@@ -58,7 +58,7 @@ pub fn patient_lane<T: Drop>(
         Receiver {
             consumer,
             last: None,
-            patience: patience.a_lane_further(),
+            patience: patience.one_lane_downstream(),
         },
     ))
 }

@@ -123,7 +123,7 @@ impl Patience {
     }
 
     /// For a thread that is one lane further from the reader.
-    pub fn a_lane_further(self) -> Patience {
+    pub fn one_lane_downstream(self) -> Patience {
         Patience {
             nap: self.nap.saturating_add(self.longer),
             ..self

@@ -234,8 +234,8 @@ fn naps_grow_beside_others_that_stay(rt: HostRuntime) {
 // The naps of the reader's thread and of those one and two lanes further.
 fn naps_by_lane(sources: usize, processors: usize) -> [u64; 3] {
     let reader = Patience::for_run(sources, processors);
-    let converter = reader.a_lane_further();
-    [reader, converter, converter.a_lane_further()].map(|patience| {
+    let converter = reader.one_lane_downstream();
+    [reader, converter, converter.one_lane_downstream()].map(|patience| {
         let mut patience = patience;
         StepClock::of_long_yields(Step::Forward(1))
             .rest_anew(&mut patience, 3)

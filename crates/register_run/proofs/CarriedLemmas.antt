@@ -23,7 +23,7 @@ use Rattle.register_run.specs.Carried.{AreOfAllTaken, AreOfTaken, HasEnd, carrie
 use Rattle.register_run.specs.JoinedThreads.{IsConverting}
 use Rattle.register_run.specs.declared.stripes.Stripe.{Stripe}
 use Rattle.register_run.specs.declared.converting.Converting.{Converting}
-use Rattle.register_run.proofs.JoinedThreadsLemmas.{took_next}
+use Rattle.register_run.proofs.ItemLemmas.{took_next}
 
 module _ {T : Type 0} where
   -- one more item is an entry

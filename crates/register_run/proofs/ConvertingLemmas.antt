@@ -14,7 +14,7 @@ use Rattle.register_records.specs.declared.rows.Row.{Row}
 use Rattle.register_run.specs.Carried.{AreOfTaken}
 use Rattle.register_run.specs.JoinedThreads.{IsConverting}
 use Rattle.register_run.proofs.CarriedLemmas.{first_ended, no_more, stop_is_no_end}
-use Rattle.register_run.proofs.JoinedThreadsLemmas.{took_next}
+use Rattle.register_run.proofs.ItemLemmas.{took_next}
 
 -- where the item that was taken is no entry, no more entries were
 pub mark_taken : (old waited seen new rest : List (Item Entry)) (mark : Item Entry) → entries_in (mark ∷ []) ≡ []

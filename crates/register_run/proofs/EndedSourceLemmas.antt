@@ -34,11 +34,11 @@ use Rattle.register_run.specs.declared.reading.Sent.{Sent}
 use Rattle.register_run.specs.declared.ended_sources.Course.{Course}
 use Rattle.register_run.specs.declared.ended_sources.Course.TheVariants as course
 use Rattle.register_run.specs.declared.ended_sources.Met.{Met}
-use Rattle.register_run.specs.declared.table_writers.TableWriter.{Table}
-use Rattle.register_run.specs.Courses.{Differs, IsLowest, IsMet, fault_of, is_of_table, is_output_failed}
-use Rattle.register_run.specs.Headline.{IsAllOfTable, IsEndOfSource, causes_of_reading}
+use Rattle.register_run.specs.declared.table_writers.TableWriter.{TableWriter}
+use Rattle.register_run.specs.Courses.{Differs, IsLowest, IsMet, fault_of, is_of_table, output_failed}
+use Rattle.register_run.specs.Headline.{IsAllOfTable, IsSourceEnd, causes_of_reading}
 use Rattle.register_run.specs.Histories.{Carries, IsMachineWithTable}
-use Rattle.register_run.specs.JoinedThreads.{HasPassed, IsGiven, HasGoodOutput, IsOfGiven, is_of_reading, tells_of_text}
+use Rattle.register_run.specs.JoinedThreads.{HasGoodOutput, HasPassed, IsGiven, IsOfGiven, is_of_reading, tells_of_text}
 use Rattle.register_run.specs.TablesWritten.{AllSent, Holds, Stands, entries_seen, rows_seen, waiting_of}
 use Rattle.register_run.proofs.FrontLemmas.{first_of_first, front_all, rows_front}
 
@@ -70,7 +70,7 @@ appends_waited None output pending table e h = tt
 appends_waited (Some xs) None pending table e h = h
 appends_waited (Some xs) (Some ys) pending table e h = sym (append-nil ys) ∙ ap (λ p. ys ++ p) (sym e) ∙ h
 
-faultless : (c : Course) → fault_of c ≡ None → is_output_failed c ≡ false
+faultless : (c : Course) → fault_of c ≡ None → output_failed c ≡ false
 faultless course.Open e = refl
 faultless (course.Halted c) e = refl
 faultless (course.OutputFailed c) e = cc
@@ -182,19 +182,19 @@ module _ {W : Type 0} (o : outputs.Ghosts W) (text : Option (List ℕ)) (table :
       (table_text (layout_of table.setup) (rows_seen rows))
   table_is are = record { numbered = numbers_are 1 (entries_seen rows) holds.numbered; converted = are; written = refl }
 
-  unwritten : is_output_failed table.course ≡ false → is_some table.writer ≡ false
+  unwritten : output_failed table.course ≡ false → is_some table.writer ≡ false
       → (table.output ≡ table.given.value) × (rows ≡ [])
   unwritten dry none =
       nothing_so o (layout_of table.setup) table.given.value table.output table.writer rows none (holds.stands dry)
 
-  written : is_output_failed table.course ≡ false → is_some table.writer ≡ true
+  written : output_failed table.course ≡ false → is_some table.writer ≡ true
       → Appends (o.contents table.given.value) (o.contents table.output)
       (table_text (layout_of table.setup) (rows_seen rows)) × (o.is_flushed table.output ≡ true)
   written dry some =
       table_so o (layout_of table.setup) table.given.value table.output table.writer rows some (sent dry)
       (holds.stands dry)
 
-  in_order_so : (b : Bool) → is_some table.writer ≡ b → is_output_failed table.course ≡ false
+  in_order_so : (b : Bool) → is_some table.writer ≡ b → output_failed table.course ≡ false
       → AreRowsOf (layout_of table.setup).targets (entries_seen rows) (rows_seen rows)
       → Gains (o.contents table.given.value) (o.contents table.output) (ArePartOfTable (layout_of table.setup) None)
   in_order_so false b dry are = (
@@ -209,8 +209,8 @@ module _ {W : Type 0} (o : outputs.Ghosts W) (text : Option (List ℕ)) (table :
     (written dry b).0,
   )
 
-  not_failed : o.has_failed table.output ≡ false → is_output_failed table.course ≡ false
-  not_failed good = not_true (is_output_failed table.course) (λ s. let f = table.failed s in absurd (cc))
+  not_failed : o.has_failed table.output ≡ false → output_failed table.course ≡ false
+  not_failed good = not_true (output_failed table.course) (λ s. let f = table.failed s in absurd (cc))
 
   module _ (given : List Numbered) (is : IsGiven text (format_of table.setup) passed given)
       (all : (row : Row) → Contains rows row → IsOfGiven given row) where
@@ -228,7 +228,8 @@ module _ {W : Type 0} (o : outputs.Ghosts W) (text : Option (List ℕ)) (table :
       | inr f ↦ first_of_first (format_of table.setup) text given (entries_seen rows) taken_front.0 taken_front.1 f
     ]
 
-    part_so : (b : Bool) → is_some table.writer ≡ b → is_output_failed table.course ≡ false → (headed ≡ true → table.rows ≢ 0)
+    part_so : (b : Bool) → is_some table.writer ≡ b → output_failed table.course ≡ false
+        → (headed ≡ true → table.rows ≢ 0)
         → AreRowsOf (layout_of table.setup).targets (entries_seen rows) (rows_seen rows)
         → Gains (o.contents table.given.value) (o.contents table.output) (ArePartOfTable (layout_of table.setup) text)
     part_so false b dry some are = (
@@ -253,14 +254,14 @@ module _ {W : Type 0} (o : outputs.Ghosts W) (text : Option (List ℕ)) (table :
     )
 
   -- rows were written behind a heading
-  headed_so : (b : Bool) → is_some table.writer ≡ b → is_output_failed table.course ≡ false → table.rows ≢ 0
+  headed_so : (b : Bool) → is_some table.writer ≡ b → output_failed table.course ≡ false → table.rows ≢ 0
       → is_some table.writer ≡ true
   headed_so true b dry some = b
   headed_so false b dry some =
       absurd (some (let none : length rows ≡ 0 = ap length (unwritten dry b).1 in let h = holds.counted in omega arith))
 
   -- as many rows were written as there may be
-  most_so : length rows ≡ record_limit → is_output_failed table.course ≡ false
+  most_so : length rows ≡ record_limit → output_failed table.course ≡ false
       → HasFirstEntries (format_of table.setup) text (entries_seen rows)
       → AreRowsOf (layout_of table.setup).targets (entries_seen rows) (rows_seen rows)
       → Gains (o.contents table.given.value) (o.contents table.output)
@@ -279,7 +280,7 @@ module _ {W : Type 0} (o : outputs.Ghosts W) (text : Option (List ℕ)) (table :
       )
 
   -- the rows of all entries were written
-  all_so : (b : Bool) → is_some table.writer ≡ b → is_output_failed table.course ≡ false
+  all_so : (b : Bool) → is_some table.writer ≡ b → output_failed table.course ≡ false
       → HasAllEntries (format_of table.setup) text (entries_seen rows)
       → AreRowsOf (layout_of table.setup).targets (entries_seen rows) (rows_seen rows)
       → Gains (o.contents table.given.value) (o.contents table.output) (IsAllOfTable (layout_of table.setup) text)
@@ -298,7 +299,7 @@ module _ {W : Type 0} (o : outputs.Ghosts W) (text : Option (List ℕ)) (table :
   reading_so : (c : Cause) → is_of_reading c ≡ true
       → (passed.outcome ≡ Err c) × (fault_of table.course ≡ None) × (headed ≡ true → table.rows ≢ 0)
       × (table.rows ≡ passed.count)
-      → ∥ IsEndOfSource o (layout_of table.setup) text table.given.value table.output
+      → ∥ IsSourceEnd o (layout_of table.setup) text table.given.value table.output
       (end.Broken c) ∥₁
   reading_so c reading fact =
       let dry = faultless table.course fact.1 in
@@ -340,7 +341,7 @@ module _ {W : Type 0} (o : outputs.Ghosts W) (text : Option (List ℕ)) (table :
 
   threads_so : (c : Cause) → is_of_reading c ≡ false
       → (c ≡ cause.SinkFault → fault_of table.course ≡ Some cause.SinkFault)
-      → ∥ IsEndOfSource o (layout_of table.setup) text table.given.value table.output
+      → ∥ IsSourceEnd o (layout_of table.setup) text table.given.value table.output
       (end.Broken c) ∥₁
   threads_so c other sink = ∥∥₁_map (rows_are (layout_of table.setup).targets rows holds.targets) (λ are. record {
     part = λ e. absurd (let k = listed c e in cc);
@@ -356,7 +357,7 @@ module _ {W : Type 0} (o : outputs.Ghosts W) (text : Option (List ℕ)) (table :
       → (is_of_reading c ≡ true → (passed.outcome ≡ Err c) × (fault_of table.course ≡ None)
       × (headed ≡ true → table.rows ≢ 0) × (table.rows ≡ passed.count))
       → (c ≡ cause.SinkFault → fault_of table.course ≡ Some cause.SinkFault)
-      → ∥ IsEndOfSource o (layout_of table.setup) text table.given.value table.output
+      → ∥ IsSourceEnd o (layout_of table.setup) text table.given.value table.output
       (end.Broken c) ∥₁
   broken_so true c b reading sink = reading_so c b (reading b)
   broken_so false c b reading sink = threads_so c b sink
@@ -364,7 +365,7 @@ module _ {W : Type 0} (o : outputs.Ghosts W) (text : Option (List ℕ)) (table :
   -- a source with another header has no table
   pub headless : (e : SourceEnd)
       → IfBroken e (IsLowest (IsMet met))
-      → e ≡ end.Broken cause.BadHeader → (is_some table.writer ≡ false) × (is_output_failed table.course ≡ false)
+      → e ≡ end.Broken cause.BadHeader → (is_some table.writer ≡ false) × (output_failed table.course ≡ false)
   headless (end.Whole count refused journal) lowest is = absurd (cc)
   headless (end.Broken c) lowest is =
       let same : c ≡ cause.BadHeader = cc in
@@ -379,16 +380,16 @@ module _ {W : Type 0} (o : outputs.Ghosts W) (text : Option (List ℕ)) (table :
         faultless table.course fact.1,
       )
 
-  pub ended_source : (e : SourceEnd)
+  pub source_end : (e : SourceEnd)
       → IfWhole e (λ count refused notes. (passed.outcome ≡ Ok count) × (fault_of table.course ≡ None) × (headed ≡ true)
       × (count ≡ table.rows) × (refused ≡ length notes) × (notes ≡ table.journal.items))
       → IfBroken e (IsLowest (IsMet met))
-      → ∥ IsEndOfSource o
+      → ∥ IsSourceEnd o
       (layout_of table.setup) text table.given.value table.output e ∥₁
-  ended_source (end.Broken c) whole lowest =
+  source_end (end.Broken c) whole lowest =
       broken_so (is_of_reading c) c refl (reading_met met c table.of_table lowest)
       (sink_met met c table.of_table has.output_good lowest.0)
-  ended_source (end.Whole count refused journal) whole lowest =
+  source_end (end.Whole count refused journal) whole lowest =
       let dry = faultless table.course whole.1 in
       let told : tells_of_text passed.outcome ≡ true = ap tells_of_text whole.0 in
       ∥∥₁_elim (has.rows told) ∥∥₁_prop
@@ -419,7 +420,8 @@ module _ {W : Type 0} (o : outputs.Ghosts W) (text : Option (List ℕ)) (table :
 
   -- the table of a source that is whole is that of the machine's entries
   pub with_table : (stripes : List Stripe)
-      → IfOk passed.outcome (λ count. ∥ Carries text table.setup count stripes (λ row. Contains rows row) ∥₁) → (e : SourceEnd)
+      → IfOk passed.outcome (λ count. ∥ Carries text table.setup count stripes (λ row. Contains rows row) ∥₁)
+      → (e : SourceEnd)
       → IfWhole e (λ count refused notes. (passed.outcome ≡ Ok count) × (fault_of table.course ≡ None) × (headed ≡ true)
       × (count ≡ table.rows) × (refused ≡ length notes) × (notes ≡ table.journal.items))
       → ∥ IfWhole e (λ count refused notes.

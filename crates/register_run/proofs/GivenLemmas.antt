@@ -1,5 +1,6 @@
 -- What a reader gave of a text, by how it ended.
-use Rattle.std.proofs.Common.{◌≡◌, ◌⊎◌, ◌∙◌, ap, subst, sym, refl, true, ℕ, ◌+◌, List, [], ◌∷◌, ◌++◌, length, Option, inl, inr, arith}
+use Rattle.std.proofs.Common.{◌≡◌, ◌⊎◌, ◌∙◌, ap, subst, sym, refl, true, ℕ, ◌+◌, List, [], ◌∷◌, ◌++◌, length}
+use Rattle.std.proofs.Common.{Option, inl, inr, arith}
 use Rattle.std.specs.Prelude.{Err, IfSome, Ok, Result}
 use Rattle.std.proofs.Math.Logic.{∥∥₁_elim, ∥∥₁_map, ∥∥₁_prop}
 use Rattle.register_records.specs.Entries.{AreNumberedFrom, Format, HasAllEntries, HasEntries, HasFirstEntries}
@@ -14,7 +15,8 @@ use Rattle.register_records.specs.declared.entries.Entry.{Entry}
 use Rattle.register_records.specs.declared.rows.Row.{Row}
 use Rattle.register_run.specs.Carried.{AreDealt}
 use Rattle.register_run.specs.Worlds.{World}
-use Rattle.register_run.specs.JoinedThreads.{HasPassed, IsCauseOf, IsGiven, HasGoodOutput, IsOfThreads, Sends, is_of_reading}
+use Rattle.register_run.specs.JoinedThreads.{HasGoodOutput, HasPassed, IsCauseOf, IsGiven, IsOfThreads, Sends}
+use Rattle.register_run.specs.JoinedThreads.{is_of_reading}
 use Rattle.register_run.specs.JoinedThreads.{tells_of_text}
 use Rattle.register_run.specs.declared.reading.Sent.{Sent}
 

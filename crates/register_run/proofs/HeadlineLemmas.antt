@@ -18,17 +18,18 @@ use Rattle.register_run.specs.declared.reports.Verdict.TheVariants.{Complete}
 use Rattle.register_run.specs.declared.ended_sources.EndedSource.{EndedSource}
 use Rattle.register_run.specs.declared.running_sources.RunningSource.{RunningSource}
 use Rattle.register_run.specs.Cases.{Case, case, cases, end_of, ended_case, output_of, ran_of}
-use Rattle.register_run.specs.Headline.{AtEachPlace, IsEndOfSource}
+use Rattle.register_run.specs.Headline.{AtEachPlace, IsSourceEnd}
 use Rattle.register_run.specs.Histories.{AreOfMachine, IsMachineWithTable}
 use Rattle.register_run.specs.Reports.{IsReport, stripes_of}
 use Rattle.register_run.specs.RunningSources.{case_of}
 use Rattle.register_run.specs.Threads.{AreThreads, AreThreadsOf}
 
 module _ {R W : Type 0} {o : outputs.Ghosts W} where
-  -- one more running_source
+  -- one more running source
   pub start_more : (setup : Setup) (all : List (Case R W)) (running_sources new : List (RunningSource R W o))
       (running_source : RunningSource R W o) (left rest : List R) (outs more : List W) (source : R) (output : W)
-      → new ≡ running_sources ++ running_source ∷ [] → case_of running_source ≡ case source output setup → left ≡ source ∷ rest
+      → new ≡ running_sources ++ running_source ∷ [] → case_of running_source ≡ case source output setup
+      → left ≡ source ∷ rest
       → outs ≡ output ∷ more
       → map case_of running_sources ++ cases setup left outs ≡ all → map case_of new ++ cases setup rest more ≡ all
   start_more setup all running_sources new running_source left rest outs more source output n s l m h =
@@ -56,7 +57,7 @@ module _ {R W : Type 0} {o : outputs.Ghosts W} where
 abbrev pub Known : {R W : Type 0} → reads.Ghosts R → outputs.Ghosts W → Setup → R → W → W → SourceEnd → Type 0
 Known r o setup source before after e =
     (e ≡ end.Broken cause.BadHeader → after ≡ before)
-    × ∥ IsEndOfSource o (layout_of setup) (r.remaining source) before after e ∥₁
+    × ∥ IsSourceEnd o (layout_of setup) (r.remaining source) before after e ∥₁
 
 -- so many outputs are handed back as were handed in, and so many ends as sources
 pub lengths_of : {R W : Type 0} (Holds : R → W → W → SourceEnd → Type 0) (sources : List R) (given written : List W)
@@ -101,7 +102,7 @@ module _ {R W : Type 0} {r : reads.Ghosts R} {o : outputs.Ghosts W} (setup : Set
         tt
         (λ one x y rest xs ys first others. (
           subst (λ (k : Case R W). Known r o k.setup k.source k.output one.output one.end) first
-              (one.untouched, one.ended_source),
+              (one.untouched, one.source_end),
           others,
         )) all sources given len is
 

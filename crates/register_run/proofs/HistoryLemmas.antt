@@ -1,7 +1,8 @@
 -- Lanes that carried what the machine deals have the histories of the machine's lanes.
 use Rattle.std.proofs.Common.{◌≡◌, ◌∙◌, ◌+◌, ◌-◌, ◌<◌, ℕ, List, [], ◌∷◌, true, false, ap, arith, map, refl, sym}
 use mathlib.Core.Bool.{beq}
-use Rattle.std.specs.Prelude.{◌==◌, Bool, Err, IfOk, Ok, Option, Result, if◌then◌else◌, is_ok, length, nat_le, nat_lt, replicate}
+use Rattle.std.specs.Prelude.{◌==◌, Bool, Err, IfOk, Ok, Option, Result, if◌then◌else◌, is_ok, length, nat_le}
+use Rattle.std.specs.Prelude.{nat_lt, replicate}
 use Rattle.std.proofs.Math.Logic.{∥∥₁_map}
 use Rattle.std.proofs.lemmas.Bool.{leb-true, lt-ltb}
 use Rattle.std.proofs.lemmas.List.{length-map, length-replicate}
@@ -19,7 +20,7 @@ use Rattle.striped_lanes.specs.Places.{table_rows}
 use Rattle.striped_lanes.specs.Schedules.{run}
 use Rattle.striped_lanes.proofs.OneByOneLemmas.{all_entries, all_popped, all_rows, one_by_one}
 use Rattle.striped_lanes.proofs.PartLemmas.{part}
-use Rattle.register_run.specs.Stripes.{AnyTook, HasPassedOn, HavePassedOn, stripe_setup, feeding_lane}
+use Rattle.register_run.specs.Stripes.{AnyTook, HasPassedOn, HavePassedOn, feeding_lane, stripe_setup}
 use Rattle.register_run.specs.Carried.{WereDealt, dealt}
 use Rattle.register_run.specs.Histories.{Carries, HaveHistories}
 use Rattle.register_run.specs.JoinedThreads.{AreOfLanes, HasSent}
@@ -53,12 +54,13 @@ have_histories w schedule given i (stripe ∷ stripes) (c ∷ closed) es rs on d
     )
 
 -- the lanes of stripes that passed all on have the histories of the machine's lanes in a schedule
-of_machine : (given : List Numbered) (stripes ring : ℕ) (stripes : List Stripe) (closed : List (Closed Entry)) → 0 < ring
-    → length stripes ≡ stripes → AreNumberedFrom 1 given → HavePassedOn true stripes closed
+of_machine : (given : List Numbered) (count ring : ℕ) (stripes : List Stripe) (closed : List (Closed Entry)) → 0 < ring
+    → length stripes ≡ count → AreNumberedFrom 1 given → HavePassedOn true stripes closed
     → ((w : World) → w.converters ≡ length closed → WereDealt w 0 given closed)
-    → (w : World) → w.entries ≡ given → w.converters ≡ stripes → w.ring ≡ ring
-    → (schedule : List Actor) × ((run w schedule start).popped ≡ table_rows w) × HaveHistories w schedule 0 stripes closed
-of_machine given stripes ring stripes closed some staffed numbered on deals w is many size =
+    → (w : World) → w.entries ≡ given → w.converters ≡ count → w.ring ≡ ring
+    → (schedule : List Actor) × ((run w schedule start).popped ≡ table_rows w)
+    × HaveHistories w schedule 0 stripes closed
+of_machine given count ring stripes closed some staffed numbered on deals w is many size =
     let room : nat_lt 0 w.ring ≡ true = lt-ltb 0 w.ring (omega (arith, some, size)) in
     let schedule = one_by_one w 0 given in (
       schedule,
@@ -84,7 +86,8 @@ staff setup stripes staffed =
 pub joined_of_machine : (text : Option (List ℕ)) (setup : Setup) (stripes : List Stripe) (closed : List (Closed Entry))
     (n : ℕ) (outcome : Result ℕ Cause) (ended told : Bool) → beq ended told ≡ true → told ≡ is_ok outcome
     → map stripe_setup stripes ≡ replicate setup.stripes setup → AreOfLanes (map feeding_lane stripes) closed
-    → ∥ HasSent text (format_of setup) (record { count = n; outcome = outcome }) closed ∥₁ → HavePassedOn ended stripes closed
+    → ∥ HasSent text (format_of setup) (record { count = n; outcome = outcome }) closed ∥₁
+    → HavePassedOn ended stripes closed
     → IfOk outcome (λ count. ∥ Carries text setup count stripes (AnyTook stripes) ∥₁)
 joined_of_machine text setup stripes closed n (Err cause) ended told same is staffed from sent on = tt
 joined_of_machine text setup stripes closed n (Ok count) true told same is staffed from sent on =
@@ -97,7 +100,8 @@ joined_of_machine text setup stripes closed n (Ok count) true told same is staff
         entries = so.all.1;
         staffed = staffed;
         lanes = from;
-        schedule = of_machine given setup.stripes setup.ring stripes closed (some_room setup) (staff setup stripes staffed)
+        schedule = of_machine given setup.stripes setup.ring stripes closed (some_room setup)
+            (staff setup stripes staffed)
             so.numbered on deals;
       },
       took_dealt given true stripes closed deals on,

@@ -1,13 +1,14 @@
 -- Which file serves which public clause:
---   StripeLemmas, SourceThreadsLemmas, JoinedThreadsLemmas, GivenLemmas, FrontLemmas, MoveLemmas: that the rows that were taken from a
---     source's lanes are those of its entries; the fields `table` and `part` of `report`.
+--   StripeLemmas, SourceThreadsLemmas, ItemLemmas, GivenLemmas, FrontLemmas, MoveLemmas: that the rows that were taken
+--     from a source's lanes are those of its entries; the fields `table` and `part` of `report`.
 --   CarriedLemmas, ConvertingLemmas, DealtLemmas, PoppedLemmas: that each lane carries what the machine deals to its
---     stripe, in order, and that the writer goes by the machine's turns. HistoryLemmas, upon these: that some schedule of
---     the machine has the histories of these lanes; the clause `machine`.
---   TableLemmas, RunningSourceLemmas, EndedSourceLemmas: what is known of one source and its output; the fields of `IsWhole` and
---     `IsBroken`.
+--     stripe, in order, and that the writer goes by the machine's turns. HistoryLemmas, upon these: that some schedule
+--     of the machine has the histories of these lanes; the clause `machine`.
+--   TableLemmas, RunningSourceLemmas, EndedSourceLemmas: what is known of one source and its output; the fields of
+--     `IsWhole` and `IsBroken`.
 --   HeadlineLemmas: from there to the clauses `report` and `machine` of `run` and `run_gated`.
---   ThreadLemmas: that each source had an stripe for each stripe, with lanes of the setup's ring; the clause `threads`.
+--   ThreadLemmas: that each source had as many stripes as its setup, with lanes of the setup's ring; the clause
+--     `threads`.
 --   ScheduleLemmas: the law `every_schedule`, from that of the machine in striped_lanes.
 pub mod StripeLemmas
 pub mod CarriedLemmas
@@ -19,7 +20,7 @@ pub mod FrontLemmas
 pub mod GivenLemmas
 pub mod MoveLemmas
 pub mod HeadlineLemmas
-pub mod JoinedThreadsLemmas
+pub mod ItemLemmas
 pub mod EndedSourceLemmas
 pub mod RunningSourceLemmas
 pub mod TableLemmas

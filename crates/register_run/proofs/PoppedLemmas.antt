@@ -24,14 +24,16 @@ abbrev IsOpen : Stripe → Type 0
 IsOpen stripe = stripe.«open» ≡ true
 
 -- where all are open with another stripe in this one's place, and this one is, they all are
-opened : (stripes : List Stripe) (at : ℕ) (new d : Stripe) → IsOpen (get_or stripes at d) → AreOpen (set stripes at new) → AreOpen stripes
+opened : (stripes : List Stripe) (at : ℕ) (new d : Stripe) → IsOpen (get_or stripes at d)
+    → AreOpen (set stripes at new) → AreOpen stripes
 opened [] at new d so all = all
 opened (stripe ∷ rest) zero new d so all = All-cons IsOpen stripe rest so (All-tail IsOpen new rest all)
 opened (stripe ∷ rest) (suc at) new d so all =
     All-cons IsOpen stripe rest (All-head IsOpen stripe (set rest at new) all)
     (opened rest at new d so (All-tail IsOpen stripe (set rest at new) all))
 
-module _ (stripes : List Stripe) (at : ℕ) (new old : Stripe) (within : at < length stripes) (is : old ≡ get_or stripes at old) where
+module _ (stripes : List Stripe) (at : ℕ) (new old : Stripe) (within : at < length stripes)
+    (is : old ≡ get_or stripes at old) where
   new_open : AreOpen (set stripes at new) → IsOpen new
   new_open all =
       subst IsOpen (get_or-set_same stripes at new old within)
@@ -57,7 +59,8 @@ module _ (stripes : List Stripe) (at : ℕ) (new old : Stripe) (within : at < le
   }
 
   -- the stripe gave a row
-  pub popped_at : new.«open» ≡ old.«open» → popped_from new ≡ popped_from old + 1 → HasPopped stripes (set stripes at new)
+  pub popped_at : new.«open» ≡ old.«open» → popped_from new ≡ popped_from old + 1
+      → HasPopped stripes (set stripes at new)
   popped_at same one = (λ all. were_open (sym same ∙ new_open all) all, popped_more 1 one)
 
 one_of : (stripes : List Stripe) → 0 < length stripes → Stripe
@@ -81,7 +84,8 @@ in_turn_popped old new at next has long within turns goes all w many =
     ∙ ap (turn w) (sym one)
 
 -- one more stripe, from which no row was popped
-pub unpopped_more : (stripes new : List Stripe) (stripe : Stripe) → new ≡ stripes ++ stripe ∷ [] → taken stripe.rows ≡ [] → popped stripes ≡ 0
+pub unpopped_more : (stripes new : List Stripe) (stripe : Stripe) → new ≡ stripes ++ stripe ∷ []
+    → taken stripe.rows ≡ [] → popped stripes ≡ 0
     → popped new ≡ 0
 unpopped_more stripes new stripe is none before =
     let none' : popped_from stripe ≡ 0 = ap (λ (l : List (Item Row)). length (entries_in l)) none in

@@ -9,7 +9,7 @@ use Rattle.register_records.specs.Views.{format_of}
 use Rattle.register_run.specs.declared.stripes.Stripe.{Stripe}
 use Rattle.register_run.specs.declared.source_threads.SourceThreads.{SourceThreads}
 use Rattle.register_run.specs.declared.reading.Sent.{Sent}
-use Rattle.register_run.specs.declared.table_writers.TableWriter.{Table}
+use Rattle.register_run.specs.declared.table_writers.TableWriter.{TableWriter}
 use Rattle.register_run.specs.Histories.{Carries}
 use Rattle.register_run.specs.SourceThreads.{Passed, started_by}
 use Rattle.register_run.specs.JoinedThreads.{HasPassed}
@@ -25,14 +25,16 @@ if_ok (Err c) P Q f h = tt
 
 module _ {R W : Type 0} {o : outputs.Ghosts W} where
   -- more was taken, and the same rows are written
-  pub wrote_same : (threads new : SourceThreads R) (table after : TableWriter W o) → ((row : Row) → Passed threads row → Passed new row)
+  pub wrote_same : (threads new : SourceThreads R) (table after : TableWriter W o)
+      → ((row : Row) → Passed threads row → Passed new row)
       → ((rows : List Row) → Holds table rows → Holds after rows)
       → ∥ Wrote threads table ∥₁ → ∥ Wrote new after ∥₁
   wrote_same threads new table after kept holds h =
       ∥∥₁_map h (λ (rows, is, took). (rows, holds rows is, λ row c. kept row (took row c)))
 
   -- a row was taken, and added to the table if it is the next one
-  pub wrote_row : (threads new : SourceThreads R) (table after : TableWriter W o) (row : Row) → ((r : Row) → Passed threads r → Passed new r)
+  pub wrote_row : (threads new : SourceThreads R) (table after : TableWriter W o) (row : Row)
+      → ((r : Row) → Passed threads r → Passed new r)
       → Passed new row
       → ((rows : List Row) → Holds table rows → Holds after rows ⊎ Holds after (rows ++ row ∷ []))
       → ∥ Wrote threads table ∥₁ → ∥ Wrote new after ∥₁
@@ -42,10 +44,12 @@ module _ {R W : Type 0} {o : outputs.Ghosts W} where
   ])
 
   -- the threads have ended
-  pub concludes : (threads : SourceThreads R) (table : TableWriter W o) (text : Option (List ℕ)) (sent : Sent) (stripes : List Stripe)
+  pub concludes : (threads : SourceThreads R) (table : TableWriter W o) (text : Option (List ℕ)) (sent : Sent)
+      (stripes : List Stripe)
       → started_by threads ≡ made_by table
       → HasPassed text (format_of (started_by threads)) sent (Passed threads)
-      → IfOk sent.outcome (λ count. ∥ Carries text (started_by threads) count stripes (Passed threads) ∥₁) → ∥ Wrote threads table ∥₁
+      → IfOk sent.outcome (λ count. ∥ Carries text (started_by threads) count stripes (Passed threads) ∥₁)
+      → ∥ Wrote threads table ∥₁
       → ∥ Concludes text table sent stripes ∥₁
   concludes threads table text sent stripes same has carries h = ∥∥₁_map h (λ (rows, is, took).
       let has' = subst (λ s. HasPassed text (format_of s) sent (Passed threads)) same has in

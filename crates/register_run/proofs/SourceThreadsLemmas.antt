@@ -6,7 +6,7 @@ use Rattle.register_records.specs.declared.rows.Row.{Row}
 use Rattle.register_records.specs.declared.setups.Setup.{Setup}
 use Rattle.register_records.specs.declared.sources.Cause.{Cause}
 use Rattle.register_records.specs.declared.sources.Cause.TheVariants as cause
-use Rattle.register_run.specs.Stripes.{IsReaderOf, stripe_setup, start_fault_cause}
+use Rattle.register_run.specs.Stripes.{IsReaderOf, start_fault_cause, stripe_setup}
 use Rattle.register_run.specs.SourceThreads.{AreStaffed}
 use Rattle.register_run.specs.JoinedThreads.{HasPassed, HasStarted}
 use Rattle.register_run.specs.declared.stripes.Stripe.{Stripe}
@@ -31,12 +31,14 @@ pub of_threads : {R : Type 0} (source : R) (setup : Setup) (stripes : List Strip
 of_threads source setup stripes task h P p = subst (λ s. P source s) h.1 (subst (λ r. P r task.setup.value) h.0 p)
 
 -- the stripes of threads that have started, and of threads that did not
-pub staffed : (setup : Setup) (stripes joined : List Stripe) (told outcome : Result ℕ Cause) → joined ≡ stripes → outcome ≡ told
+pub staffed : (setup : Setup) (stripes joined : List Stripe) (told outcome : Result ℕ Cause) → joined ≡ stripes
+    → outcome ≡ told
     → map stripe_setup stripes ≡ replicate setup.stripes setup → HasStarted told → AreStaffed setup outcome joined
 staffed setup stripes joined told outcome same is by started =
     inl (ap (λ (l : List Stripe). map stripe_setup l) same ∙ by, subst HasStarted (sym is) started)
 
-pub unstaffed : (setup : Setup) (stripes joined : List Stripe) (f : StartFault) (outcome : Result ℕ Cause) → joined ≡ stripes
+pub unstaffed : (setup : Setup) (stripes joined : List Stripe) (f : StartFault) (outcome : Result ℕ Cause)
+    → joined ≡ stripes
     → outcome ≡ Err (start_fault_cause f) → stripes ≡ [] → AreStaffed setup outcome joined
 unstaffed setup stripes joined fault.NoMemory outcome same is none = inr (same ∙ none, inl is)
 unstaffed setup stripes joined fault.NoThread outcome same is none = inr (same ∙ none, inr is)

@@ -15,7 +15,8 @@ use Rattle.register_records.specs.Seen.{entry_seen}
 use Rattle.register_records.specs.declared.entries.Entry.{Entry}
 use Rattle.register_records.specs.declared.rows.Row.{Row}
 use Rattle.register_run.specs.declared.stripes.Stripe.{Stripe}
-use Rattle.register_run.specs.Stripes.{AnyTook, AreSameStripes, StripeTook, HasPassedOn, HavePassedOn, IsSameStripe, stripe_setup}
+use Rattle.register_run.specs.Stripes.{AnyTook, AreSameStripes, HasPassedOn, HavePassedOn, IsSameStripe, StripeTook}
+use Rattle.register_run.specs.Stripes.{stripe_setup}
 use Rattle.register_run.specs.Stripes.{feeding_lane}
 use Rattle.register_run.specs.Carried.{HasEnded, WereDealt, carried, dealt, row_entries, rows_carried}
 use Rattle.register_run.specs.Worlds.{World}
@@ -23,7 +24,8 @@ use Rattle.register_run.specs.JoinedThreads.{AreOfLanes, IsOfGiven}
 use Rattle.register_run.proofs.CarriedLemmas.{entry_within, map_within, prefix_within}
 use Rattle.register_run.proofs.DealtLemmas.{dealt_within}
 
-pub any_set : (stripes : List Stripe) (i : ℕ) (new d : Stripe) (row : Row) → (StripeTook (get_or stripes i d) row → StripeTook new row)
+pub any_set : (stripes : List Stripe) (i : ℕ) (new d : Stripe) (row : Row)
+    → (StripeTook (get_or stripes i d) row → StripeTook new row)
     → AnyTook stripes row → AnyTook (set stripes i new) row
 any_set [] i new d row kept h = h
 any_set (stripe ∷ rest) zero new d row kept (inl a) = inl (kept a)
@@ -32,7 +34,8 @@ any_set (stripe ∷ rest) (suc i) new d row kept (inl a) = inl a
 any_set (stripe ∷ rest) (suc i) new d row kept (inr b) = inr (any_set rest i new d row kept b)
 
 -- one stripe was called where it stands among others
-pub same_stripes : (stripes : List Stripe) (at : ℕ) (new was : Stripe) → was ≡ get_or stripes at was → IsSameStripe was new
+pub same_stripes : (stripes : List Stripe) (at : ℕ) (new was : Stripe) → was ≡ get_or stripes at was
+    → IsSameStripe was new
     → AreSameStripes stripes (set stripes at new)
 same_stripes stripes at new was here same = record {
   lanes = map-set_same feeding_lane stripes at new was (same.lane ∙ ap feeding_lane here);
@@ -41,13 +44,15 @@ same_stripes stripes at new was here same = record {
       (λ a. same.kept row (subst (λ x. StripeTook x row) (sym here) a)) h;
 }
 
-pub any_here : (stripes : List Stripe) (i : ℕ) (d : Stripe) (row : Row) → i < length stripes → StripeTook (get_or stripes i d) row
+pub any_here : (stripes : List Stripe) (i : ℕ) (d : Stripe) (row : Row) → i < length stripes
+    → StripeTook (get_or stripes i d) row
     → AnyTook stripes row
 any_here [] i d row below h = absurd (omega arith)
 any_here (stripe ∷ rest) zero d row below h = inl h
 any_here (stripe ∷ rest) (suc i) d row below h = inr (any_here rest i d row (omega arith) h)
 
-pub some_here : {B : Type 0} (stripes : List Stripe) (i : ℕ) (d : Stripe) (found : Option B) (row_of : B → Row) → i < length stripes
+pub some_here : {B : Type 0} (stripes : List Stripe) (i : ℕ) (d : Stripe) (found : Option B) (row_of : B → Row)
+    → i < length stripes
     → IfSome found (λ b. StripeTook (get_or stripes i d) (row_of b)) → IfSome found (λ b. AnyTook stripes (row_of b))
 some_here stripes i d None row_of below h = tt
 some_here stripes i d (Some b) row_of below h = any_here stripes i d (row_of b) below h
@@ -84,8 +89,10 @@ ended_lanes [] (c ∷ closed) h = h
 ended_lanes (s ∷ senders) [] h = h
 ended_lanes (s ∷ senders) (c ∷ closed) h = (h.0.lane, ended_lanes senders closed h.1)
 
-pub from_tail : (stripes : List Stripe) (stripe : Stripe) (rest : List Stripe) (closed : List (Closed Entry)) (one : Closed Entry)
-    (more : List (Closed Entry)) → stripes ≡ stripe ∷ rest → closed ≡ one ∷ more → AreOfLanes (map feeding_lane stripes) closed
+pub from_tail : (stripes : List Stripe) (stripe : Stripe) (rest : List Stripe) (closed : List (Closed Entry))
+    (one : Closed Entry)
+    (more : List (Closed Entry)) → stripes ≡ stripe ∷ rest → closed ≡ one ∷ more
+    → AreOfLanes (map feeding_lane stripes) closed
     → AreOfLanes (map feeding_lane rest) more
 from_tail stripes stripe rest closed one more e f h =
     (subst (λ c. AreOfLanes (map feeding_lane (stripe ∷ rest)) c) f
@@ -114,7 +121,8 @@ for_less a b stripe one fewer h = record {
   none_waits = h.none_waits;
 }
 
-pub more_passed : (stripes left : List Stripe) (stripe : Stripe) (rest : List Stripe) (closed left' : List (Closed Entry))
+pub more_passed : (stripes left : List Stripe) (stripe : Stripe) (rest : List Stripe)
+    (closed left' : List (Closed Entry))
     (one : Closed Entry) (rest' : List (Closed Entry)) (a : Bool) → left ≡ stripe ∷ rest → left' ≡ one ∷ rest'
     → HasPassedOn a stripe one → (b : Bool) → (b ≡ true → a ≡ true)
     → (HavePassedOn b left left' → HavePassedOn b stripes closed)
@@ -140,7 +148,8 @@ took_one given w i b stripe closed row on deals took =
     (subst (λ l. Contains (taken stripe.rows ++ l) (item.Entry row)) on.none_waits took) in
     let made : Contains (rows_carried (taken stripe.rows)) (entry_seen row.entry) =
     map_within entry_seen (row_entries (taken stripe.rows)) row.entry
-    (map_within (λ (r : Row). r.entry) (entries_in (taken stripe.rows)) row (entry_within (taken stripe.rows) row took')) in
+    (map_within (λ (r : Row). r.entry) (entries_in (taken stripe.rows)) row
+    (entry_within (taken stripe.rows) row took')) in
     let sent' = prefix_within (rows_carried (taken stripe.rows)) (carried (all_sent closed)) (entry_seen row.entry)
     on.first
     made in

@@ -14,11 +14,12 @@ use Rattle.register_records.specs.declared.writing.RowWriter.{RowWriter}
 use Rattle.register_records.specs.Entries.{AreNumberedFrom}
 use Rattle.register_records.specs.Laws.{TablesGrow}
 use Rattle.register_records.specs.Seen.{entry_seen}
-use Rattle.register_records.specs.Tables.{Layout, heading_line, journal_of, lines_text, refusal_notes, row_line, table_text}
+use Rattle.register_records.specs.Tables.{Layout, heading_line, journal_of, lines_text, refusal_notes, row_line}
+use Rattle.register_records.specs.Tables.{table_text}
 use Rattle.register_records.specs.Views.{line_of, row_seen, row_targets, waiting_in, writes_by}
 use Rattle.register_run.specs.TablesWritten.{Stands, entries_seen, rows_seen}
 use Rattle.register_run.proofs.GivenLemmas.{numbered_more}
-use Rattle.register_run.proofs.JoinedThreadsLemmas.{only}
+use Rattle.register_run.proofs.ItemLemmas.{only}
 
 -- known bytes, and bytes that wait behind them
 appends_heading : (given output new : Option (List ℕ)) (pending heading lines : List ℕ) → output ≡ given

@@ -38,7 +38,8 @@ rings_of setup (stripe ∷ stripes) zero is = absurd (cc)
 rings_of setup (stripe ∷ stripes) (suc n) is =
     let first : stripe_setup stripe ≡ setup = cc in let others : map stripe_setup stripes ≡ replicate n setup = cc in
     let ring : stripe.setup.value.ring ≡ setup.ring = ap (λ (s : Setup). s.ring) first in
-    All-cons (HasRing setup.ring) stripe stripes (stripe.room ∙ ring, stripe.room_for_rows ∙ ring) (rings_of setup stripes n others)
+    All-cons (HasRing setup.ring) stripe stripes (stripe.room ∙ ring, stripe.room_for_rows ∙ ring)
+    (rings_of setup stripes n others)
 
 -- the lowest of causes of which one is 1 or 2
 lowest_two : (c : Cause) → cause_number c ≤ 2 → (c ≡ cause.NoMemory) ⊎ (c ≡ cause.NoThread)

@@ -8,10 +8,10 @@ use Rattle.register_run.specs.declared.ended_sources.Course.TheVariants as cours
 use Rattle.register_run.specs.declared.ended_sources.Met.{Met}
 
 -- the output failed
-abbrev pub is_output_failed : Course → Bool
-is_output_failed course.Open = false
-is_output_failed (course.Halted c) = false
-is_output_failed (course.OutputFailed c) = true
+abbrev pub output_failed : Course → Bool
+output_failed course.Open = false
+output_failed (course.Halted c) = false
+output_failed (course.OutputFailed c) = true
 
 -- why no more is written
 abbrev pub fault_of : Course → Option Cause

@@ -48,10 +48,11 @@ module _ {W : Type 0} (o : outputs.Ghosts W) (layout : Layout) (text : Option (L
         × Gains (o.contents given) (o.contents written) (IsFrontOfTable layout text record_limit)
     pub not_sealed : c ≡ cause.NotSealed → (layout.format.form ≡ Sealed) × IfSome text (IsNotSealed layout.format)
         × Gains (o.contents given) (o.contents written) (IsAllOfTable layout text)
-    pub in_order : o.has_failed written ≡ false → Gains (o.contents given) (o.contents written) (ArePartOfTable layout None)
+    pub in_order : o.has_failed written ≡ false
+        → Gains (o.contents given) (o.contents written) (ArePartOfTable layout None)
     pub sink : c ≡ cause.SinkFault → o.has_failed written ≡ true
 
   -- the source has ended so
-  abbrev pub IsEndOfSource : SourceEnd → Type 0
-  IsEndOfSource (ended.Whole rows refused journal) = IsWhole rows refused journal.items
-  IsEndOfSource (ended.Broken c) = IsBroken c
+  abbrev pub IsSourceEnd : SourceEnd → Type 0
+  IsSourceEnd (ended.Whole rows refused journal) = IsWhole rows refused journal.items
+  IsSourceEnd (ended.Broken c) = IsBroken c

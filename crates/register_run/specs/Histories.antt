@@ -12,7 +12,7 @@ use Rattle.register_records.specs.declared.entries.Entry.{Entry}
 use Rattle.register_records.specs.declared.rows.Row.{Row}
 use Rattle.register_records.specs.declared.setups.Setup.{Setup}
 use Rattle.register_records.specs.declared.sources.SourceEnd.{SourceEnd}
-use Rattle.register_run.specs.Stripes.{stripe_setup, feeding_lane}
+use Rattle.register_run.specs.Stripes.{feeding_lane, stripe_setup}
 use Rattle.register_run.specs.Carried.{carried, rows_carried}
 use Rattle.register_run.specs.JoinedThreads.{AreOfLanes, IsOfGiven}
 use Rattle.register_run.specs.Worlds.{World}
@@ -22,9 +22,9 @@ use Rattle.striped_lanes.specs.Places.{table_rows}
 use Rattle.striped_lanes.specs.Schedules.{run}
 use Rattle.register_run.specs.declared.stripes.Stripe.{Stripe}
 
--- these stripes, the first of which is stripe i, have the histories of the machine's lanes in a schedule: their lanes of
--- entries, of which this is left, carried its entries, and the rows that were taken from them are of the entries of its
--- rows
+-- these stripes, the first of which is stripe i, have the histories of the machine's lanes in a schedule: their lanes
+-- of entries, of which this is left, carried its entries, and the rows that were taken from them are of the entries of
+-- its rows
 abbrev pub HaveHistories : World → List Actor → ℕ → List Stripe → List (Closed Entry) → Type 0
 HaveHistories w schedule i [] [] = ⊤
 HaveHistories w schedule i [] (c ∷ closed) = ⊥

@@ -51,7 +51,8 @@ pub record IsGiven (text : Option (List ℕ)) (format : Format) (sent : Sent) (g
   pub numbered : AreNumberedFrom 1 given
   pub first : (given ≡ []) ⊎ HasFirstEntries format text given
   pub all : IfOk sent.outcome (λ n. (n ≡ length given) × HasEntries format text given)
-  pub bad_header : IfErr sent.outcome (λ c. c ≡ cause.BadHeader → (given ≡ []) × IfSome text (λ t. HasNoHeader format t))
+  pub bad_header : IfErr sent.outcome (λ c. c ≡ cause.BadHeader → (given ≡ [])
+      × IfSome text (λ t. HasNoHeader format t))
   pub too_many : IfErr sent.outcome (λ c. c ≡ cause.TooManyRecords
       → (length given ≡ record_limit) × IfSome text (λ t. HasTooMany format t))
   pub not_sealed : IfErr sent.outcome (λ c. c ≡ cause.NotSealed

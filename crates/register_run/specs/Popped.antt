@@ -9,7 +9,7 @@ use Rattle.register_run.specs.declared.stripes.Found.{Found}
 use Rattle.register_run.specs.declared.stripes.Found.TheVariants as look
 use Rattle.register_run.specs.declared.stripes.Stripe.{Stripe}
 
--- how many rows were popped from an stripe, and from all of these
+-- how many rows were popped from a stripe, and from all of these
 abbrev pub popped_from : Stripe → ℕ
 popped_from stripe = length (entries_in (taken stripe.rows))
 
@@ -20,7 +20,8 @@ popped stripes = sum_by popped_from stripes
 abbrev pub AreOpen : List Stripe → Type 0
 AreOpen stripes = All (λ (stripe : Stripe). stripe.«open» ≡ true) stripes
 
--- as long as no lane has ended, the next stripe is the one that has the machine's turn after so many rows as were popped
+-- as long as no lane has ended, the next stripe is the one that has the machine's turn after so many rows as were
+-- popped
 abbrev pub IsInTurn : List Stripe → ℕ → Type 0
 IsInTurn stripes at = AreOpen stripes → (w : World) → w.converters ≡ length stripes → at ≡ turn w (popped stripes)
 
@@ -36,7 +37,7 @@ is_end look.Other = false
 is_end look.End = true
 is_end look.Stop = true
 
--- what a look at an stripe does: it pops no row, unless the lane has ended
+-- what a look at a stripe does: it pops no row, unless the lane has ended
 pub record HasLooked (old new : Stripe) (found : Found) : Type 0 where
   pub row : found ≡ look.Row → IsRowNext new
   pub ended : is_end found ≡ true → new.«open» ≡ false

@@ -12,7 +12,7 @@ use Rattle.register_run.specs.declared.reports.Report.{Report}
 use Rattle.register_run.specs.declared.reports.RunFaultKind.{RunFaultKind}
 use Rattle.register_run.specs.declared.reports.RunFaultKind.TheVariants.{NoMemory, OutputCount, TooManySources}
 use Rattle.register_run.specs.declared.reports.Verdict.TheVariants.{Complete}
-use Rattle.register_run.specs.Headline.{AtEachPlace, IsEndOfSource}
+use Rattle.register_run.specs.Headline.{AtEachPlace, IsSourceEnd}
 
 -- the number of a fault
 abbrev pub run_fault_number : RunFaultKind → ℕ
@@ -29,7 +29,7 @@ stripes_of report = map (λ ran. ran.stripes.value.items) report.ran.items
 pub record IsReport {R W : Type 0} (r : reads.Ghosts R) (o : outputs.Ghosts W) (setup : Setup)
     (sources : List R) (given : List W) (report : Report W) : Type 0 where
   pub places : AtEachPlace (λ source before after end. (end ≡ ended.Broken cause.BadHeader → after ≡ before)
-      × ∥ IsEndOfSource o (layout_of setup) (r.remaining source) before after end ∥₁)
+      × ∥ IsSourceEnd o (layout_of setup) (r.remaining source) before after end ∥₁)
       sources given report.outputs.items report.ends.items
   pub marks : map o.own_mark report.outputs.items ≡ map o.own_mark given
   pub by_setup : map (λ ran. ran.setup.value) report.ran.items ≡ map (λ source. setup) sources

@@ -1,4 +1,4 @@
--- What a running_source keeps. No public contract cites this file.
+-- What a running source keeps. No public contract cites this file.
 use Rattle.register_records.specs.declared.outputs.Output as outputs
 use Rattle.register_run.specs.declared.running_sources.RunningSource.{RunningSource}
 use Rattle.register_run.specs.Cases.{Case, case}

@@ -1,4 +1,4 @@
--- What the writer sees of a threads. No public contract cites this file.
+-- What the writer sees of the threads of a source. No public contract cites this file.
 use Rattle.std.specs.Prelude.{◌≡◌, ◌<◌, ◌⊎◌, ℕ, List, [], Err, Result, length, map, replicate}
 use Rattle.register_records.specs.declared.rows.Row.{Row}
 use Rattle.register_records.specs.declared.setups.Setup.{Setup}
@@ -10,7 +10,7 @@ use Rattle.register_run.specs.JoinedThreads.{HasStarted}
 use Rattle.register_run.specs.declared.stripes.Stripe.{Stripe}
 use Rattle.register_run.specs.Popped.{HasPopped, IsRowNextAt}
 
--- the stripes of a source whose threads answered so: as many as the setup has stripes, each started by it; or none, where
+-- the stripes of a source whose threads ended so: as many as the setup has stripes, each started by it; or none, where
 -- the threads did not start
 abbrev pub AreStaffed : Setup → Result ℕ Cause → List Stripe → Type 0
 AreStaffed setup outcome stripes =
@@ -18,11 +18,11 @@ AreStaffed setup outcome stripes =
     ⊎ ((stripes ≡ []) × ((outcome ≡ Err cause.NoMemory) ⊎ (outcome ≡ Err cause.NoThread)))
 
 module _ {R : Type 0} where
-  -- the source that the threads was started on
+  -- the source that the threads were started on
   abbrev pub started_on : SourceThreads R → R
   started_on threads = threads.source.value
 
-  -- the setup that it was started by
+  -- the setup that they were started by
   abbrev pub started_by : SourceThreads R → Setup
   started_by threads = threads.setup.value
 

@@ -1,4 +1,4 @@
--- What a threads sees of its stripes.
+-- What is known of the stripes of a source.
 use Rattle.std.specs.Prelude.{◌≡◌, ◌⊎◌, ⊤, List, [], ◌∷◌, ◌++◌, Bool, map, replicate, true}
 use Rattle.std.specs.List.{AllZip, Contains}
 use mathlib.Core.List.{IsPrefix}
@@ -30,8 +30,8 @@ abbrev pub start_fault_cause : StartFault → Cause
 start_fault_cause fault.NoMemory = cause.NoMemory
 start_fault_cause fault.NoThread = cause.NoThread
 
--- a reader with this task reads this source by this setup, and its senders feed these stripes, of which there are as many
--- as the setup has stripes, each started by it
+-- a reader with this task reads this source by this setup, and its senders feed these stripes, of which there are as
+-- many as the setup has stripes, each started by it
 abbrev pub IsReaderOf : {R : Type 0} → R → Setup → List Stripe → ReaderTask R → Type 0
 IsReaderOf source setup stripes task =
     (task.source.value ≡ source) × (task.setup.value ≡ setup)
@@ -70,9 +70,9 @@ StartWithRow (item.Stop ∷ items) = ⊥
 abbrev pub IsRowNext : Stripe → Type 0
 IsRowNext stripe = StartWithRow (waiting stripe.rows)
 
--- both lanes of an stripe are confirmed, and this is what is left of the sender that fed it: the rows that were taken are
--- those of the first entries that were sent, in order, and of all of them where their lane ended with the number of the
--- rows that were taken; none waits
+-- both lanes of a stripe are confirmed, and this is what is left of the sender that fed it: the rows that were taken
+-- are those of the first entries that were sent, in order, and of all of them where their lane ended with the number of
+-- the rows that were taken; none waits
 pub record HasPassedOn (ended : Bool) (stripe : Stripe) (closed : Closed Entry) : Type 0 where
   pub confirmed : HasConfirmation closed
   pub first : IsPrefix (rows_carried (taken stripe.rows)) (carried (all_sent closed))

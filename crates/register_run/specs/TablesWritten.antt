@@ -11,8 +11,8 @@ use Rattle.register_records.specs.Outcomes.{TableRow}
 use Rattle.register_records.specs.Seen.{entry_seen}
 use Rattle.register_records.specs.Tables.{Layout, journal_of, table_text}
 use Rattle.register_records.specs.Views.{layout_of, row_seen, row_targets, targets_of, waiting_in, writes_by}
-use Rattle.register_run.specs.Courses.{is_output_failed}
-use Rattle.register_run.specs.declared.table_writers.TableWriter.{Table}
+use Rattle.register_run.specs.Courses.{output_failed}
+use Rattle.register_run.specs.declared.table_writers.TableWriter.{TableWriter}
 
 -- rows as a table has them, and their entries as a text has them
 abbrev pub rows_seen : List Row → List TableRow
@@ -44,12 +44,12 @@ module _ {W : Type 0} {o : outputs.Ghosts W} where
 
   -- no line waits, unless the output failed
   abbrev pub AllSent : TableWriter W o → Type 0
-  AllSent table = is_output_failed table.course ≡ false → waiting_of table.writer ≡ []
+  AllSent table = output_failed table.course ≡ false → waiting_of table.writer ≡ []
 
   -- these rows were added, in the order of their numbers, from 1: their lines were written or wait, unless the output
   -- failed, and the journal is theirs
   pub record Holds (table : TableWriter W o) (rows : List Row) : Type 0 where
-    pub stands : is_output_failed table.course ≡ false
+    pub stands : output_failed table.course ≡ false
         → Stands o (layout_of table.setup) table.given.value table.output table.writer rows
     pub numbered : AreNumberedFrom 1 (entries_seen rows)
     pub counted : length rows ≡ table.rows

@@ -12,13 +12,13 @@ use Rattle.register_run.specs.Courses.{IsLowest, IsMet}
 use Rattle.register_run.specs.declared.stripes.Stripe.{Stripe}
 use Rattle.register_run.specs.declared.reports.Ran.{Ran}
 
--- both lanes of an stripe, that of its entries and that of its rows, hold as many items as a ring of this size
+-- both lanes of a stripe, that of its entries and that of its rows, hold as many items as a ring of this size
 abbrev pub HasRing : ℕ → Stripe → Type 0
 HasRing ring stripe = (lane_capacity (feeding_lane stripe) ≡ ring) × (lane_capacity (receiver_lane stripe.rows) ≡ ring)
 
--- the threads of a source that ended so: an stripe for each stripe of the setup, with lanes of its ring. There is none
--- only where threads did not start, which is cause 1 or 2; and with cause 2 there is none. A source that is broken tells
--- the lowest of the causes that its threads and its table met
+-- the threads of a source that ended so: as many stripes as the setup has, with lanes of its ring. There is none only
+-- where threads did not start, which is cause 1 or 2; and with cause 2 there is none. A source that is broken tells the
+-- lowest of the causes that its threads and its table met
 pub record AreThreadsOf (setup : Setup) (end : SourceEnd) (ran : Ran) : Type 0 where
   pub stripes : ran.stripes.value.items ≢ [] → length ran.stripes.value.items ≡ setup.stripes
   pub rings : All (HasRing setup.ring) ran.stripes.value.items

@@ -7,7 +7,7 @@ use Rattle.register_records.specs.Views.{format_of}
 use Rattle.register_run.specs.declared.stripes.Stripe.{Stripe}
 use Rattle.register_run.specs.declared.source_threads.SourceThreads.{SourceThreads}
 use Rattle.register_run.specs.declared.reading.Sent.{Sent}
-use Rattle.register_run.specs.declared.table_writers.TableWriter.{Table}
+use Rattle.register_run.specs.declared.table_writers.TableWriter.{TableWriter}
 use Rattle.register_run.specs.Histories.{Carries}
 use Rattle.register_run.specs.SourceThreads.{Passed}
 use Rattle.register_run.specs.JoinedThreads.{HasPassed}

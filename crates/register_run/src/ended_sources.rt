@@ -6,7 +6,7 @@ ghost use Rattle.register_records.specs.Views.{layout_of};
 ghost use Rattle.register_records.specs.declared.sources.Cause.TheVariants as cause;
 ghost use Rattle.register_records.specs.declared.sources.SourceEnd.TheVariants as ended;
 ghost use Rattle.register_run.specs.Courses.{IsLowest, IsMet, fault_of};
-ghost use Rattle.register_run.specs.Headline.{IsEndOfSource};
+ghost use Rattle.register_run.specs.Headline.{IsSourceEnd};
 ghost use Rattle.register_run.specs.Histories.{IsMachineWithTable};
 ghost use Rattle.register_run.specs.Threads.{AreThreadsOf};
 
@@ -27,7 +27,7 @@ pub(crate) struct EndedSource<R: Read, W: Output> {
     pub ghost marked: { W.own_mark output ≡ W.own_mark given.value },
     pub ghost untouched: { end ≡ ended.Broken cause.BadHeader → output ≡ given.value },
     pub ghost threads: { ∥ AreThreadsOf ran.setup.value end ran ∥₁ },
-    pub ghost ended_source: { ∥ IsEndOfSource W.Output (layout_of ran.setup.value)
+    pub ghost source_end: { ∥ IsSourceEnd W.Output (layout_of ran.setup.value)
         (R.remaining source.value) given.value output end ∥₁ },
     pub ghost machine: { ∥ IfWhole end (λ count refused journal.
         IsMachineWithTable (R.remaining source.value) ran.setup.value (W.contents given.value) (W.contents output) count

@@ -100,43 +100,43 @@ fn visit_until_ended<R: Read + Drop, W: Output + Drop>(
     }
 }
 
-/// Joins the threads of each source and settles how it ended.
-fn end_all<R: Read + Drop, W: Output + Drop>(
+/// Joins the threads of each source and decides how it ended.
+fn finish_all<R: Read + Drop, W: Output + Drop>(
     rt: &impl Threads,
     running_sources: Vec<RunningSource<R, W>>,
-    ended_source: Vec<EndedSource<R, W>>,
+    ended_sources: Vec<EndedSource<R, W>>,
 ) -> Vec<EndedSource<R, W>>
-    requires room { vec_len running_sources ≤ vec_capacity ended_source }
-    requires none { ended_source.items ≡ [] }
+    requires room { vec_len running_sources ≤ vec_capacity ended_sources }
+    requires none { ended_sources.items ≡ [] }
     ensures len { vec_len result ≡ vec_len running_sources }
     ensures cases { map ended_case result.items ≡ map case_of running_sources.items }
 {
-    let mut ended_source = ended_source;
+    let mut ended_sources = ended_sources;
     for running_source in running_sources {
-        ended_source.push_reserved(running_source.finish(rt));
+        ended_sources.push_reserved(running_source.finish(rt));
     }
-    ended_source
+    ended_sources
 }
 
 /// The outputs and the ends, in the order of the sources.
 fn report<R: Read + Drop, W: Output + Drop>(
-    ended_source: Vec<EndedSource<R, W>>,
+    ended_sources: Vec<EndedSource<R, W>>,
     outputs: Vec<W>,
     ends: Vec<SourceEnd>,
     ran: Vec<Ran>,
 ) -> Report<W>
-    requires room { (vec_len ended_source ≤ vec_capacity outputs) × (vec_len ended_source ≤ vec_capacity ends)
-        × (vec_len ended_source ≤ vec_capacity ran) }
+    requires room { (vec_len ended_sources ≤ vec_capacity outputs) × (vec_len ended_sources ≤ vec_capacity ends)
+        × (vec_len ended_sources ≤ vec_capacity ran) }
     requires none { (outputs.items ≡ []) × (ends.items ≡ []) × (ran.items ≡ []) }
-    ensures outputs { result.outputs.items ≡ map output_of ended_source.items }
-    ensures ends { result.ends.items ≡ map end_of ended_source.items }
-    ensures ran { result.ran.items ≡ map ran_of ended_source.items }
+    ensures outputs { result.outputs.items ≡ map output_of ended_sources.items }
+    ensures ends { result.ends.items ≡ map end_of ended_sources.items }
+    ensures ran { result.ran.items ≡ map ran_of ended_sources.items }
     ensures verdict { (result.verdict ≡ Verdict.Complete) ↔ All (λ e. is_whole_end e ≡ true) result.ends.items }
 {
     let mut outputs = outputs;
     let mut ends = ends;
     let mut ran = ran;
-    for one in ended_source {
+    for one in ended_sources {
         let EndedSource {
             source: _,
             given: _,
@@ -173,14 +173,14 @@ fn verdict_of(ends: &[SourceEnd]) -> Verdict
 struct Lists<R: Read, W: Output> {
     count: usize,
     running_sources: Vec<RunningSource<R, W>>,
-    ended_source: Vec<EndedSource<R, W>>,
+    ended_sources: Vec<EndedSource<R, W>>,
     outputs: Vec<W>,
     ends: Vec<SourceEnd>,
     ran: Vec<Ran>,
-    ghost empty: { (running_sources.items ≡ []) × (ended_source.items ≡ []) × (outputs.items ≡ []) × (ends.items ≡ [])
+    ghost empty: { (running_sources.items ≡ []) × (ended_sources.items ≡ []) × (outputs.items ≡ []) × (ends.items ≡ [])
         × (ran.items ≡ []) },
-    ghost room: { (count ≤ vec_capacity running_sources) × (count ≤ vec_capacity ended_source) × (count ≤ vec_capacity outputs)
-        × (count ≤ vec_capacity ends) × (count ≤ vec_capacity ran) },
+    ghost room: { (count ≤ vec_capacity running_sources) × (count ≤ vec_capacity ended_sources)
+        × (count ≤ vec_capacity outputs) × (count ≤ vec_capacity ends) × (count ≤ vec_capacity ran) },
 }
 
 /// Makes the lists, with room for so many sources.
@@ -191,14 +191,14 @@ fn make_lists<R: Read + Drop, W: Output + Drop>(
     ensures { IfOk result (λ l. l.count ≡ count) }
 {
     let running_sources = Vec::with_capacity(alloc, count)?;
-    let ended_source = Vec::with_capacity(alloc, count)?;
+    let ended_sources = Vec::with_capacity(alloc, count)?;
     let outputs = Vec::with_capacity(alloc, count)?;
     let ends = Vec::with_capacity(alloc, count)?;
     let ran = Vec::with_capacity(alloc, count)?;
     Ok(Lists {
         count,
         running_sources,
-        ended_source,
+        ended_sources,
         outputs,
         ends,
         ran,
@@ -233,7 +233,7 @@ fn run_all<'s, 'e, T: Host, R: Read + Send + Drop + 'e, W: Output + Drop, G: Gat
     let Lists {
         count: _,
         running_sources,
-        ended_source,
+        ended_sources,
         outputs: written,
         ends,
         ran,
@@ -242,8 +242,8 @@ fn run_all<'s, 'e, T: Host, R: Read + Send + Drop + 'e, W: Output + Drop, G: Gat
     // This thread is two lanes further than the readers.
     let patience = by.patience.one_lane_downstream().one_lane_downstream();
     visit_until_ended(by.rt, patience, &mut running_sources);
-    let ended_source = end_all(by.rt, running_sources, ended_source);
-    report(ended_source, written, ends, ran)
+    let ended_sources = finish_all(by.rt, running_sources, ended_sources);
+    report(ended_sources, written, ends, ran)
 }
 
 /// The run, with threads that end before it answers.
@@ -323,10 +323,11 @@ pub fn run_gated<
     // schedule with the entries of its text, for which `laws::every_schedule` says what holds; and its table is that of
     // these entries.
     ensures machine { IfOk result (λ r.
-        AreOfMachine R.Read W.Output setup.now sources.items outputs.items r.outputs.items r.ends.items (stripes_of r)) }
+        AreOfMachine R.Read W.Output setup.now sources.items outputs.items r.outputs.items r.ends.items
+        (stripes_of r)) }
 
-    // However a source ended, there is an stripe for each stripe of the setup, and both its lanes have the setup's ring. No
-    // stripe there is only where threads did not start, and that is cause 1 or 2; with cause 2 there is none.
+    // However a source ended, it had as many stripes as the setup says, and both lanes of each had the setup's ring. It
+    // had none only where threads did not start, and that is cause 1 or 2; with cause 2 it had none.
     ensures threads { IfOk result (λ r. AreThreads setup.now r.ends.items r.ran.items) }
 
     // A run that did not begin.
@@ -383,10 +384,11 @@ pub fn run<T: Threads + Wait + Clock + CpuClock + Sync, R: Read + Send + Drop, W
     // schedule with the entries of its text, for which `laws::every_schedule` says what holds; and its table is that of
     // these entries.
     ensures machine { IfOk result (λ r.
-        AreOfMachine R.Read W.Output setup.now sources.items outputs.items r.outputs.items r.ends.items (stripes_of r)) }
+        AreOfMachine R.Read W.Output setup.now sources.items outputs.items r.outputs.items r.ends.items
+        (stripes_of r)) }
 
-    // However a source ended, there is an stripe for each stripe of the setup, and both its lanes have the setup's ring. No
-    // stripe there is only where threads did not start, and that is cause 1 or 2; with cause 2 there is none.
+    // However a source ended, it had as many stripes as the setup says, and both lanes of each had the setup's ring. It
+    // had none only where threads did not start, and that is cause 1 or 2; with cause 2 it had none.
     ensures threads { IfOk result (λ r. AreThreads setup.now r.ends.items r.ran.items) }
 
     // A run that did not begin.

@@ -121,7 +121,7 @@ impl<R: Read + Drop, W: Output + Drop> RunningSource<R, W> {
         self.table.send();
     }
 
-    /// Joins the threads and settles how the source ended.
+    /// Joins the threads and decides how the source ended.
     pub(crate) fn finish(self, rt: &impl Threads) -> EndedSource<R, W>
         ensures { ended_case result ≡ case_of self }
     {

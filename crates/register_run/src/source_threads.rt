@@ -6,7 +6,7 @@ ghost use Rattle.std.proofs.Props.{props};
 ghost use Rattle.lane_rings.specs.Lane.{sender_lane, sent};
 ghost use Rattle.register_records.specs.Views.{format_of};
 ghost use Rattle.register_records.specs.declared.sources.Cause.TheVariants as cause;
-ghost use Rattle.register_run.specs.Stripes.{AnyTook, IsReaderOf, stripe_setup, feeding_lane, start_fault_cause};
+ghost use Rattle.register_run.specs.Stripes.{AnyTook, IsReaderOf, feeding_lane, start_fault_cause, stripe_setup};
 ghost use Rattle.register_run.specs.Histories.{Carries};
 ghost use Rattle.register_run.specs.JoinedThreads.{HasPassed, HasStarted, IsReading};
 ghost use Rattle.register_run.specs.Popped.{AreOpen, IsInTurn, popped};
@@ -35,14 +35,15 @@ pub(crate) struct SourceThreads<R: Read> {
     turn: usize,
     // A lane ended with a stop.
     stopped: bool,
-    ghost reads: { IfOk reader (λ r. IsReaderOf source.value setup.value stripes.items r.promise) } by { Prim.hlevel props },
+    ghost reads: { IfOk reader (λ r. IsReaderOf source.value setup.value stripes.items r.promise) }
+        by { Prim.hlevel props },
     ghost by_turns: { IsInTurn stripes.items turn },
     // Where the threads did not start, there is no stripe.
     ghost unstarted: { IfErr reader (λ _. stripes.items ≡ []) } by { Prim.hlevel props },
 }
 
-/// What the threads of a source leave: its stripes as they were joined, how many entries were read, and that number again
-/// where they are all, or why it is not known that all of them have passed.
+/// What the threads of a source leave: its stripes as they were joined, how many entries were read, and that number
+/// again where they are all, or why it is not known that all of them have passed.
 #[derive(Drop)]
 pub(crate) struct JoinedThreads<R> {
     pub(crate) source: Snapshot<R>,
@@ -53,7 +54,7 @@ pub(crate) struct JoinedThreads<R> {
 impl<R: Read + Drop> SourceThreads<R> {
     ghost use Rattle.register_run.specs.SourceThreads.{AreStaffed, HasGiven, IsNext, Passed, started_by, started_on};
 
-    /// Starts the threads of a source. Where they do not start, the source is dropped and the threads has the cause.
+    /// Starts the threads of a source. Where they do not start, the source is dropped and the cause is kept.
     pub(crate) fn start<'s, 'e, T: Host, G: Gate + Sync>(
         by: &RunContext<'s, 'e, T, G>,
         source: R,
@@ -126,7 +127,7 @@ impl<R: Read + Drop> SourceThreads<R> {
         self.turn = next_open(&self.stripes, self.turn);
     }
 
-    /// A lane has ended, by a stop or by an end. With the last one the source has. The turn goes to the next stripe whose
+    /// A lane has ended, by a stop or by an end; the last one ends the source. The turn goes to the next stripe whose
     /// lane has not ended, if there is one.
     fn end_of_lane(&mut self, by_stop: bool) -> Found
         requires ended { AreOpen self.old.stripes.items → ⊥ }
@@ -152,8 +153,8 @@ impl<R: Read + Drop> SourceThreads<R> {
         ensures source { result.source.value ≡ started_on self }
         ensures passed { HasPassed (R.remaining (started_on self)) (format_of (started_by self)) result.sent
             (Passed self) }
-        ensures machine { IfOk result.sent.outcome (λ count.
-            ∥ Carries (R.remaining (started_on self)) (started_by self) count result.stripes.value.items (Passed self) ∥₁) }
+        ensures machine { IfOk result.sent.outcome (λ count. ∥ Carries (R.remaining (started_on self)) (started_by self)
+            count result.stripes.value.items (Passed self) ∥₁) }
         ensures staffed { AreStaffed (started_by self) result.sent.outcome result.stripes.value.items }
     {
         let SourceThreads {
@@ -245,8 +246,8 @@ fn join_threads<R: Read + Drop>(
     }
 }
 
-/// The next stripe after the one at `turn`, going round, whose lane has not ended. Where all have, any. Where the lane of
-/// the stripe that is next has not ended, it is the one that has the turn in the machine.
+/// The next stripe after the one at `turn`, going round, whose lane has not ended. Where all have, any. Where the lane
+/// of the stripe that is next has not ended, it is the one that has the turn in the machine.
 fn next_open(stripes: &[Stripe], turn: usize) -> usize
     requires { turn < length stripes.now }
     ensures below { result < length stripes.now }
@@ -297,14 +298,14 @@ impl Fan {
             ≡ replicate by.now.setup.now.stripes by.now.setup.now) }
         ensures unpopped { IfOk result (λ f. popped f.stripes.items ≡ 0) }
     {
-        let stripes = by.setup.stripes();
-        let Ok(mut stripes) = Vec::with_capacity(by.alloc, stripes) else {
+        let count = by.setup.stripes();
+        let Ok(mut stripes) = Vec::with_capacity(by.alloc, count) else {
             return Err(StartFault::NoMemory);
         };
-        let Ok(mut senders) = Vec::with_capacity(by.alloc, stripes) else {
+        let Ok(mut senders) = Vec::with_capacity(by.alloc, count) else {
             return Err(StartFault::NoMemory);
         };
-        for _ in 0..stripes {
+        for _ in 0..count {
             match Stripe::start(by) {
                 Ok((sender, stripe)) => {
                     senders.push_reserved(sender);

@@ -1,4 +1,4 @@
-//! A converter with its two lanes, as the writer has it, and what a threads does with all of them.
+//! A stripe: a converter with its two lanes, as the writer has it.
 
 ghost use Rattle.std.specs.Prelude.{◌≡◌, ◌<◌, ◌+◌, [], Err, IfErr, IfOk, IfSome, Ok, map, vec_len};
 ghost use Rattle.lane_rings.specs.Lane.{lane_capacity, receiver_lane, sender_lane, sent, taken};
@@ -97,7 +97,8 @@ pub(crate) struct Stripe {
 }
 
 impl Stripe {
-    ghost use Rattle.register_run.specs.Stripes.{StripeTook, HasPassedOn, IsRowNext, IsSameStripe, stripe_setup, feeding_lane};
+    ghost use Rattle.register_run.specs.Stripes.{HasPassedOn, IsRowNext, IsSameStripe, StripeTook, feeding_lane};
+    ghost use Rattle.register_run.specs.Stripes.{stripe_setup};
     ghost use Rattle.register_run.specs.JoinedThreads.{IsConverting, IsOfLane};
     ghost use Rattle.register_run.specs.Popped.{HasLooked, popped_from};
 
@@ -171,7 +172,7 @@ impl Stripe {
     }
 
     /// What is next, after a look. An end and a stop are taken.
-    #[tactic(auto, using(crate::proofs::JoinedThreadsLemmas::same_seen), unfolding(crate::specs::Stripes::StripeTook))]
+    #[tactic(auto, using(crate::proofs::ItemLemmas::same_seen), unfolding(crate::specs::Stripes::StripeTook))]
     fn take_found(&mut self) -> Found
         ensures same { IsSameStripe self.old self.new }
         ensures looked { HasLooked self.old self.new result }
@@ -193,7 +194,7 @@ impl Stripe {
     }
 
     /// The row that a look found, where it lies.
-    #[tactic(auto, using(crate::proofs::JoinedThreadsLemmas::seen_next), unfolding(crate::specs::Stripes::StripeTook))]
+    #[tactic(auto, using(crate::proofs::ItemLemmas::seen_next), unfolding(crate::specs::Stripes::StripeTook))]
     pub(crate) fn row(&self) -> Option<&Row>
         ensures { IfSome result (λ row. StripeTook self.now row.now) }
     {
@@ -204,7 +205,7 @@ impl Stripe {
     }
 
     /// Takes the row that a look found.
-    #[tactic(auto, using(crate::proofs::JoinedThreadsLemmas::same_seen), unfolding(crate::specs::Stripes::StripeTook))]
+    #[tactic(auto, using(crate::proofs::ItemLemmas::same_seen), unfolding(crate::specs::Stripes::StripeTook))]
     pub(crate) fn pass(&mut self)
         requires { IsRowNext self.old }
         ensures same { IsSameStripe self.old self.new }
@@ -260,14 +261,14 @@ impl Stripe {
     }
 }
 
-// What a threads does with all its stripes.
+// All stripes of a source.
 impl Stripe {
     ghost use Rattle.register_run.specs.Stripes.{AnyTook, AreSameStripes, HavePassedOn, feeding_lane};
     ghost use Rattle.register_run.specs.JoinedThreads.{AreOfLanes};
     ghost use Rattle.register_run.specs.Popped.{HasLookedAt, HasPopped, IsRowNextAt};
 
-    /// Joins the threads of all stripes and confirms all lanes. `closed` is what is left of the senders that fed them. The
-    /// answer is whether each lane ended with the number of the rows that were taken from it.
+    /// Joins the threads of all stripes and confirms all lanes. `closed` is what is left of the senders that fed them.
+    /// The answer is whether each lane ended with the number of the rows that were taken from it.
     ///
     /// # Errors
     ///

@@ -8,7 +8,7 @@ ghost use Rattle.register_records.specs.Entries.{record_limit};
 ghost use Rattle.register_records.specs.Tables.{refusal_notes};
 ghost use Rattle.register_records.specs.Views.{row_seen, output_failed_in};
 ghost use Rattle.register_records.specs.declared.sources.Cause.TheVariants as cause;
-ghost use Rattle.register_run.specs.Courses.{fault_of, is_of_table, is_output_failed};
+ghost use Rattle.register_run.specs.Courses.{fault_of, is_of_table, output_failed};
 
 use crate::ended_sources::{Course, EndedSource, Met, end_of_source};
 use crate::reports::Ran;
@@ -33,11 +33,12 @@ pub(crate) struct TableWriter<W: Output> {
     rows: u32,
     course: Course,
     ghost marked: { W.own_mark output ≡ W.own_mark given.value },
-    ghost failed: { is_output_failed course ≡ true → W.has_failed output ≡ true },
-    ghost good: { is_output_failed course ≡ false → W.has_failed output ≡ W.has_failed given.value },
-    ghost afloat: { is_output_failed course ≡ false → IfSome writer (λ w. output_failed_in w ≡ false) } by { Prim.hlevel props },
-    ghost untouched: { is_some writer ≡ false → is_output_failed course ≡ false → output ≡ given.value },
-    ghost sink_told: { fault_of course ≡ Some cause.SinkFault → is_output_failed course ≡ true },
+    ghost failed: { output_failed course ≡ true → W.has_failed output ≡ true },
+    ghost good: { output_failed course ≡ false → W.has_failed output ≡ W.has_failed given.value },
+    ghost afloat: { output_failed course ≡ false → IfSome writer (λ w. output_failed_in w ≡ false) }
+        by { Prim.hlevel props },
+    ghost untouched: { is_some writer ≡ false → output_failed course ≡ false → output ≡ given.value },
+    ghost sink_told: { fault_of course ≡ Some cause.SinkFault → output_failed course ≡ true },
     ghost of_table: { IfSome (fault_of course) (λ c. is_of_table c ≡ true) } by { Prim.hlevel props },
     ghost limited: { rows ≤ record_limit },
     ghost few_refused: { vec_len journal ≤ rows },
@@ -118,7 +119,7 @@ impl<W: Output + Drop> TableWriter<W> {
 
     /// Appends the line of the next row to those that wait, and its note to the journal.
     fn append(&mut self, row: &Row)
-        requires afloat { is_output_failed self.old.course ≡ false }
+        requires afloat { output_failed self.old.course ≡ false }
         requires number { row.now.entry.number ≡ self.old.rows + 1 }
         requires targets { row_targets row.now ≡ targets_of (made_by self.old) }
         ensures output { made_for self.new ≡ made_for self.old }
@@ -168,14 +169,11 @@ impl<W: Output + Drop> TableWriter<W> {
     }
 
     /// What is left of the source, once its lines are written.
-    pub(crate) fn conclude<R: Read + Drop>(
-        self,
-        joined_threads: JoinedThreads<R>,
-    ) -> EndedSource<R, W>
-        requires passed { ∥ Concludes (R.remaining joined_threads.source.value) self joined_threads.sent
-            joined_threads.stripes.value.items ∥₁ }
-        requires staffed { AreStaffed (made_by self) joined_threads.sent.outcome joined_threads.stripes.value.items }
-        ensures source { result.source.value ≡ joined_threads.source.value }
+    pub(crate) fn conclude<R: Read + Drop>(self, joined: JoinedThreads<R>) -> EndedSource<R, W>
+        requires passed { ∥ Concludes (R.remaining joined.source.value) self joined.sent
+            joined.stripes.value.items ∥₁ }
+        requires staffed { AreStaffed (made_by self) joined.sent.outcome joined.stripes.value.items }
+        ensures source { result.source.value ≡ joined.source.value }
         ensures output { result.given.value ≡ made_for self }
         ensures setup { result.ran.setup.value ≡ made_by self }
     {
@@ -183,7 +181,7 @@ impl<W: Output + Drop> TableWriter<W> {
             source,
             stripes,
             sent,
-        } = joined_threads;
+        } = joined;
         let mut table = self;
         table.send();
         let TableWriter {

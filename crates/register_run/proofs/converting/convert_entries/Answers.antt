@@ -4,7 +4,7 @@ use Rattle.lane_rings.specs.declared.item.Item.TheVariants as item
 use Rattle.lane_rings.specs.Lane.{all_sent, sent, taken, waiting}
 use Rattle.register_run.proofs.CarriedLemmas.{all_ended, first_ended, first_of_all, none_taken, row_left, row_sent}
 use Rattle.register_run.proofs.ConvertingLemmas.{mark_taken, stops}
-use Rattle.register_run.proofs.JoinedThreadsLemmas.{took_next}
+use Rattle.register_run.proofs.ItemLemmas.{took_next}
 use Rattle.register_run.proofs.converting.convert_entries.Goals as goal
 
 pub loop-init : goal.loop-init
@@ -65,9 +65,11 @@ returns-in-Some-End g c =
     c.pass-in-Some-End.ensures.taken c.pass-in-Some-End.ensures.one in record {
       handed = c.pass-in-Some-End.ensures.lane ∙ c.wait.ensures.lane ∙ c.loop.invariant.from;
       closed = λ sure. closed.ensures.lane sure ∙ ap (λ l. Some l) c.loop.invariant.into;
-      rows = λ sure. first_ended (taken c.loop.entries) (taken new) (sent rows) (all_sent closed.result) (item.End count)
+      rows = λ sure. first_ended (taken c.loop.entries) (taken new) (sent rows) (all_sent closed.result)
+          (item.End count)
           same refl (closed.ensures.sent sure) c.loop.invariant.rows;
-      all = λ sure ends. all_ended (taken c.loop.entries) (taken new) (sent rows) (all_sent closed.result) (item.End count)
+      all = λ sure ends. all_ended (taken c.loop.entries) (taken new) (sent rows) (all_sent closed.result)
+          (item.End count)
           same refl (closed.ensures.sent sure) (c.loop.invariant.all c.if-gone.false);
     }
 

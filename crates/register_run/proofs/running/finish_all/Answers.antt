@@ -2,14 +2,15 @@ use Rattle.std.proofs.Common.{◌∙◌, rules, sym}
 use Rattle.register_run.specs.Cases.{ended_case}
 use Rattle.register_run.specs.RunningSources.{case_of}
 use Rattle.register_run.proofs.MoveLemmas.{all_made, made_more}
-use Rattle.register_run.proofs.running.end_all.Goals as goal
+use Rattle.register_run.proofs.running.finish_all.Goals as goal
 
 pub loop-running_source-preserved : goal.loop-running_source-preserved
 loop-running_source-preserved g c = record {
   room = search rules;
   len = search rules;
   cases =
-      made_more ended_case case_of _ c.loop-running_source.ended_source.items c.push_reserved.new.self.items c.finish.result _ _
+      made_more ended_case case_of _ c.loop-running_source.ended_sources.items c.push_reserved.new.self.items
+      c.finish.result _ _
       c.in-Some.running_source c.push_reserved.ensures.items c.finish.ensures c.in-Some.ensures.steps.0
       c.loop-running_source.invariant.cases;
 }

@@ -2,12 +2,12 @@ use Rattle.std.proofs.Common.{◌≡◌, ◌+◌, ◌≤◌, ◌++◌, map, vec_
 use Rattle.std.specs.Vec.Iter.{into_iter_items, into_iter_len}
 use Rattle.register_run.specs.Cases.{ended_case}
 use Rattle.register_run.specs.RunningSources.{case_of}
-use Rattle.register_run.proofs.running.end_all.Given as goal
+use Rattle.register_run.proofs.running.finish_all.Given as goal
 
 abbrev pub invariant-loop-running_source : goal.invariant-loop-running_source
 invariant-loop-running_source g l = record {
-  room : vec_len l.ended_source + into_iter_len l.running_source-iterator ≤ vec_capacity l.ended_source;
-  len : vec_len l.ended_source + into_iter_len l.running_source-iterator ≡ vec_len l.fn.running_sources;
-  cases : map ended_case l.ended_source.items ++ map case_of (into_iter_items l.running_source-iterator)
+  room : vec_len l.ended_sources + into_iter_len l.running_source-iterator ≤ vec_capacity l.ended_sources;
+  len : vec_len l.ended_sources + into_iter_len l.running_source-iterator ≡ vec_len l.fn.running_sources;
+  cases : map ended_case l.ended_sources.items ++ map case_of (into_iter_items l.running_source-iterator)
       ≡ map case_of l.fn.running_sources.items;
 }

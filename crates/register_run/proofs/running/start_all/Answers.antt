@@ -16,7 +16,8 @@ pub loop-source-preserved : goal.loop-source-preserved
 loop-source-preserved g c = record {
   counts = search rules;
   cases =
-      start_more c.args.by.now.setup.now _ c.loop-source.running_sources.items c.push_reserved.new.self.items c.start.result _ _ _ _
+      start_more c.args.by.now.setup.now _ c.loop-source.running_sources.items c.push_reserved.new.self.items
+      c.start.result _ _ _ _
       c.in-Some.source c.in-Some-next.output
       c.push_reserved.ensures.items c.start.ensures c.in-Some.ensures.steps.0 c.in-Some-next.ensures.items
       c.loop-source.invariant.cases;
@@ -24,5 +25,6 @@ loop-source-preserved g c = record {
 
 pub returns-clause-cases : goal.returns-clause-cases
 returns-clause-cases g c =
-    start_end c.args.by.now.setup.now _ c.loop-source.running_sources.items (into_iter_items c.loop-source.source-iterator) _
+    start_end c.args.by.now.setup.now _ c.loop-source.running_sources.items
+    (into_iter_items c.loop-source.source-iterator) _
     (sym c.loop-source.source-iterator.rest.ok.0 ∙ c.in-None.ensures.steps.0) c.loop-source.invariant.cases

@@ -23,7 +23,8 @@ invariant_of-self-in-Other g c = let s = c.args.self.now in record {
 pub invariant_of-self-in-End : goal.invariant_of-self-in-End
 invariant_of-self-in-End g c = let s = c.args.self.now in record {
   by_one_setup = c.look.ensures.setup ∙ s.by_one_setup ∙ sym c.write_heading.ensures.setup;
-  wrote = wrote_same s.threads c.look.new.self s.table c.write_heading.new.self c.look.ensures.kept c.write_heading.ensures.rows s.wrote;
+  wrote = wrote_same s.threads c.look.new.self s.table c.write_heading.new.self c.look.ensures.kept
+      c.write_heading.ensures.rows s.wrote;
 }
 
 pub invariant_of-self-in-Stop : goal.invariant_of-self-in-Stop

@@ -1,6 +1,6 @@
 use Rattle.std.proofs.Common.{◌≡◌, [], rules}
 use Rattle.lane_rings.specs.Lane.{sender_lane, sent, taken}
-use Rattle.register_run.specs.Stripes.{stripe_setup, feeding_lane}
+use Rattle.register_run.specs.Stripes.{feeding_lane, stripe_setup}
 use Rattle.register_run.proofs.MoveLemmas.{all_more, both_more, each_more}
 use Rattle.register_run.proofs.PoppedLemmas.{unpopped_more}
 use Rattle.register_run.proofs.source_threads.Fan.start.Goals as goal

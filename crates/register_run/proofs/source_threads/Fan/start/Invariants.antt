@@ -1,14 +1,14 @@
 use Rattle.std.proofs.Common.{◌≡◌, ◌≤◌, map, replicate, vec_len, vec_capacity, []}
 use Rattle.std.specs.Prelude.{All}
 use Rattle.lane_rings.specs.Lane.{sender_lane, sent}
-use Rattle.register_run.specs.Stripes.{stripe_setup, feeding_lane}
+use Rattle.register_run.specs.Stripes.{feeding_lane, stripe_setup}
 use Rattle.register_run.specs.Popped.{popped}
 use Rattle.register_run.proofs.source_threads.Fan.start.Given as goal
 
 abbrev pub invariant-loop : goal.invariant-loop
 invariant-loop g l = record {
-  stripes : (vec_len l.stripes ≡ l.counter) × (l.stripes ≤ vec_capacity l.stripes);
-  senders : (vec_len l.senders ≡ l.counter) × (l.stripes ≤ vec_capacity l.senders);
+  stripes : (vec_len l.stripes ≡ l.counter) × (l.count ≤ vec_capacity l.stripes);
+  senders : (vec_len l.senders ≡ l.counter) × (l.count ≤ vec_capacity l.senders);
   fed : map feeding_lane l.stripes.items ≡ map sender_lane l.senders.items;
   setups : map stripe_setup l.stripes.items ≡ replicate l.counter l.by.setup.now;
   fresh : All (λ s. sent s ≡ []) l.senders.items;

@@ -7,7 +7,7 @@ use Rattle.register_run.specs.JoinedThreads.{HasPassed}
 use Rattle.register_run.specs.declared.reading.Sent.{Sent}
 use Rattle.register_run.proofs.SourceThreadsLemmas.{not_started, of_threads, staffed, unstaffed}
 use Rattle.register_run.proofs.source_threads.SourceThreads.finish.Goals as goal
-use Rattle.register_run.proofs.source_threads.SourceThreads.finish.Goals.{in-Ok, in-Err}
+use Rattle.register_run.proofs.source_threads.SourceThreads.finish.Goals.{in-Err, in-Ok}
 
 pub returns-clause-passed : goal.returns-clause-passed
 returns-clause-passed g c =
@@ -30,7 +30,8 @@ returns-clause-staffed g c =
     let s = c.args.self in
     elim c.match-reader.branch [
       | in-Ok w ↦
-          staffed s.setup.value s.stripes.items _ w.join_threads-sent.result.outcome _ (ap (λ v. v.items) c.of-joined.ensures)
+          staffed s.setup.value s.stripes.items _ w.join_threads-sent.result.outcome _
+          (ap (λ v. v.items) c.of-joined.ensures)
           (ap (λ (x : Sent). x.outcome) w.sent-is) (rw w.in-Ok.is at s.reads).3 w.join_threads-sent.ensures.started
       | in-Err w ↦
           unstaffed s.setup.value s.stripes.items _ w.in-Err.fault _ (ap (λ v. v.items) c.of-joined.ensures)

@@ -10,7 +10,8 @@ loop-stripe-init g c =
     let stripes = c.into_iter-stripe-iterator.ensures.into_iter_gives.0 in
     let closed = c.into_iter-rest.ensures.rest in
     record {
-      from = subst (λ l. AreOfLanes (map feeding_lane (into_iter_items c.into_iter-stripe-iterator.result)) l) (sym closed)
+      from = subst (λ l. AreOfLanes (map feeding_lane (into_iter_items c.into_iter-stripe-iterator.result)) l)
+          (sym closed)
           (subst (λ l. AreOfLanes (map feeding_lane l) c.args.closed.items) (sym stripes) c.requires);
       passed = λ fine b fewer. begin_passed c.args.stripes.items _ c.args.closed.items _ stripes closed b;
     }
@@ -22,7 +23,8 @@ loop-stripe-preserved-in-Ok g c =
     let closed = c.in-Some-next.ensures.items in
     record {
       from = from_tail _ _ _ _ c.in-Some-next.one _ stripes closed inv.from;
-      passed = λ fine b fewer. more_passed c.args.stripes.items _ c.in-Some.stripe _ c.args.closed.items _ c.in-Some-next.one
+      passed = λ fine b fewer. more_passed c.args.stripes.items _ c.in-Some.stripe _ c.args.closed.items _
+          c.in-Some-next.one
           _ c.in-Ok.counted stripes closed c.in-Ok.ensures.passed b
           (λ e. and_right c.loop-stripe.ended c.in-Ok.counted (fewer e))
           (inv.passed fine b (λ e. and_left c.loop-stripe.ended c.in-Ok.counted (fewer e)));

@@ -2,7 +2,7 @@ use Rattle.lane_rings.specs.Lane.{taken, waiting}
 use Rattle.lane_rings.specs.declared.item.Item.TheVariants as item
 use Rattle.std.proofs.Common.{rules}
 use Rattle.register_run.specs.Stripes.{StripeTook}
-use Rattle.register_run.proofs.JoinedThreadsLemmas.{seen_kept}
+use Rattle.register_run.proofs.ItemLemmas.{seen_kept}
 use Rattle.register_run.proofs.stripes.Stripe.look.Goals as goal
 
 pub returns-in-Ok-true-clause-same : goal.returns-in-Ok-true-clause-same

@@ -5,7 +5,8 @@ use Rattle.register_run.proofs.stripes.Stripe.look_at.Goals as goal
 
 pub returns-clause-same : goal.returns-clause-same
 returns-clause-same c =
-    same_stripes c.args.stripes.now.items c.args.at c.look.new.self c.index_mut-stripe.result.now c.index_mut-stripe.ensures.value
+    same_stripes c.args.stripes.now.items c.args.at c.look.new.self c.index_mut-stripe.result.now
+    c.index_mut-stripe.ensures.value
     c.look.ensures.same
 
 pub returns-clause-looked : goal.returns-clause-looked

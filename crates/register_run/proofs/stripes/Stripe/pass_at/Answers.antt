@@ -6,7 +6,8 @@ use Rattle.register_run.proofs.stripes.Stripe.pass_at.Goals as goal
 
 pub returns-clause-same : goal.returns-clause-same
 returns-clause-same c =
-    same_stripes c.args.stripes.now.items c.args.at c.pass.new.self c.index_mut-stripe.result.now c.index_mut-stripe.ensures.value
+    same_stripes c.args.stripes.now.items c.args.at c.pass.new.self c.index_mut-stripe.result.now
+    c.index_mut-stripe.ensures.value
     c.pass.ensures.same
 
 pub pass-requires : goal.pass-requires

@@ -31,8 +31,8 @@ use Rattle.register_records.specs.Views.{format_of, layout_of, row_seen, row_tar
 use Rattle.register_records.proofs.SomeRecordsLemmas.{front_of_some}
 use Rattle.register_run.specs.declared.stripes.Stripe.{Stripe}
 use Rattle.register_run.specs.declared.reading.Sent.{Sent}
-use Rattle.register_run.specs.declared.ended_sources.Course.{Course}
-use Rattle.register_run.specs.declared.ended_sources.Course.TheVariants as course
+use Rattle.register_run.specs.declared.table_writers.Course.{Course}
+use Rattle.register_run.specs.declared.table_writers.Course.TheVariants as course
 use Rattle.register_run.specs.declared.ended_sources.Met.{Met}
 use Rattle.register_run.specs.declared.table_writers.TableWriter.{TableWriter}
 use Rattle.register_run.specs.Courses.{Differs, IsLowest, IsMet, fault_of, is_of_table, output_failed}

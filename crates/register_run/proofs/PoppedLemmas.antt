@@ -17,7 +17,7 @@ use Rattle.striped_lanes.specs.Machine.{turn}
 use Rattle.register_run.specs.Worlds.{World}
 use Rattle.register_run.specs.Popped.{AreOpen, HasLooked, HasLookedAt, HasPopped, IsInTurn}
 use Rattle.register_run.specs.Popped.{popped, popped_from}
-use Rattle.register_run.specs.declared.stripes.Found.{Found}
+use Rattle.register_run.specs.declared.stripes.Look.{Look}
 use Rattle.register_run.specs.declared.stripes.Stripe.{Stripe}
 
 abbrev IsOpen : Stripe → Type 0
@@ -49,7 +49,7 @@ module _ (stripes : List Stripe) (at : ℕ) (new old : Stripe) (within : at < le
       omega (arith, sums, here, gains)
 
   -- the stripe was looked at
-  pub looked_at : (found : Found) → HasLooked old new found → HasLookedAt at stripes (set stripes at new) found
+  pub looked_at : (found : Look) → HasLooked old new found → HasLookedAt at stripes (set stripes at new) found
   looked_at found looked = record {
     row = λ e d. subst IsRowNext (sym (get_or-set_same stripes at new d within)) (looked.row e);
     ended = λ e all. absurd (let a = new_open all in let b = looked.ended e in cc);

@@ -3,8 +3,8 @@ use Rattle.std.specs.Prelude.{◌≡◌, ◌≢◌, ◌≤◌, ◌⊎◌, ℕ, B
 use Rattle.register_records.specs.Sources.{cause_number}
 use Rattle.register_records.specs.declared.sources.Cause.{Cause}
 use Rattle.register_records.specs.declared.sources.Cause.TheVariants as cause
-use Rattle.register_run.specs.declared.ended_sources.Course.{Course}
-use Rattle.register_run.specs.declared.ended_sources.Course.TheVariants as course
+use Rattle.register_run.specs.declared.table_writers.Course.{Course}
+use Rattle.register_run.specs.declared.table_writers.Course.TheVariants as course
 use Rattle.register_run.specs.declared.ended_sources.Met.{Met}
 
 -- the output failed

@@ -5,8 +5,8 @@ use Rattle.lane_rings.specs.Lane.{taken}
 use Rattle.register_run.specs.Stripes.{IsRowNext}
 use Rattle.striped_lanes.specs.Machine.{turn}
 use Rattle.register_run.specs.Worlds.{World}
-use Rattle.register_run.specs.declared.stripes.Found.{Found}
-use Rattle.register_run.specs.declared.stripes.Found.TheVariants as look
+use Rattle.register_run.specs.declared.stripes.Look.{Look}
+use Rattle.register_run.specs.declared.stripes.Look.TheVariants as look
 use Rattle.register_run.specs.declared.stripes.Stripe.{Stripe}
 
 -- how many rows were popped from a stripe, and from all of these
@@ -30,21 +30,20 @@ abbrev pub IsRowNextAt : List Stripe → ℕ → Type 0
 IsRowNextAt stripes at = (stripe : Stripe) → IsRowNext (get_or stripes at stripe)
 
 -- what was found is the end of a lane
-abbrev pub is_end : Found → Bool
+abbrev pub is_end : Look → Bool
 is_end look.Nothing = false
 is_end look.Row = false
-is_end look.Other = false
 is_end look.End = true
 is_end look.Stop = true
 
 -- what a look at a stripe does: it pops no row, unless the lane has ended
-pub record HasLooked (old new : Stripe) (found : Found) : Type 0 where
+pub record HasLooked (old new : Stripe) (found : Look) : Type 0 where
   pub row : found ≡ look.Row → IsRowNext new
   pub ended : is_end found ≡ true → new.«open» ≡ false
   pub same : new.«open» ≡ true → (old.«open» ≡ true) × (popped_from new ≡ popped_from old)
 
 -- the same of the stripe with this number among these
-pub record HasLookedAt (at : ℕ) (old new : List Stripe) (found : Found) : Type 0 where
+pub record HasLookedAt (at : ℕ) (old new : List Stripe) (found : Look) : Type 0 where
   pub row : found ≡ look.Row → IsRowNextAt new at
   pub ended : is_end found ≡ true → AreOpen new → ⊥
   pub same : AreOpen new → AreOpen old × (popped new ≡ popped old)

@@ -5,7 +5,7 @@ ghost use Rattle.register_records.specs.Sources.{IfBroken, IfWhole, cause_number
 ghost use Rattle.register_records.specs.Views.{layout_of};
 ghost use Rattle.register_records.specs.declared.sources.Cause.TheVariants as cause;
 ghost use Rattle.register_records.specs.declared.sources.SourceEnd.TheVariants as ended;
-ghost use Rattle.register_run.specs.Courses.{IsLowest, IsMet, fault_of};
+ghost use Rattle.register_run.specs.Courses.{IsLowest, IsMet};
 ghost use Rattle.register_run.specs.Headline.{IsSourceEnd};
 ghost use Rattle.register_run.specs.Histories.{IsMachineWithTable};
 ghost use Rattle.register_run.specs.Threads.{AreThreadsOf};
@@ -32,29 +32,6 @@ pub(crate) struct EndedSource<R: Read, W: Output> {
     pub ghost machine: { ∥ IfWhole end (λ count refused journal.
         IsMachineWithTable (R.remaining source.value) ran.setup.value (W.contents given.value) (W.contents output) count
         ran.stripes.value.items) ∥₁ },
-}
-
-/// How far the table of a source goes on.
-#[derive(Clone, Copy)]
-pub(crate) enum Course {
-    /// Rows are added.
-    Open,
-    /// No more is added, for this cause. The output has not failed.
-    Halted(Cause),
-    /// The output has failed. This cause is told, the first that was met.
-    OutputFailed(Cause),
-}
-
-impl Course {
-    /// Why no more is added.
-    pub(crate) fn fault(self) -> Option<Cause>
-        ensures { result ≡ fault_of self }
-    {
-        match self {
-            Course::Open => None,
-            Course::Halted(cause) | Course::OutputFailed(cause) => Some(cause),
-        }
-    }
 }
 
 /// What was met of a source: what its threads have sent, and of its table why no more was added, whether the heading

@@ -15,7 +15,6 @@ mod reports;
 mod running;
 mod running_sources;
 mod source_threads;
-mod starting;
 mod stripes;
 mod table_writers;
 mod turns;

@@ -13,7 +13,6 @@ use crate::ended_sources::EndedSource;
 use crate::gates::{Gate, Open};
 use crate::reports::{Ran, Report, RunFault, RunFaultKind, Verdict};
 use crate::running_sources::RunningSource;
-use crate::starting::{Host, RunContext};
 use lane_rings::Patience;
 use register_records::{Output, Setup, SourceEnd};
 use std::alloc::{AllocError, Global};
@@ -21,11 +20,27 @@ use std::io::Read;
 use std::num::NonZeroUsize;
 use std::sync::Wait;
 use std::thread;
-use std::thread::Threads;
+use std::thread::{Scope, Threads};
 use std::time::{Clock, CpuClock};
 
 /// The most sources of a run.
 pub const MAX_SOURCES: usize = 32;
+
+/// The runtime of a run: it starts threads, waits and tells the time, in each of them.
+pub(crate) trait Host: Threads + Wait + Clock + CpuClock + Sync {}
+
+impl<T: Threads + Wait + Clock + CpuClock + Sync> Host for T {}
+
+/// What all threads of a run are started with. `patience` is that of a reader.
+#[derive(Drop)]
+pub(crate) struct RunContext<'s, 'e, T, G> {
+    pub(crate) scope: &'s Scope<'s, &'e ()>,
+    pub(crate) rt: &'e T,
+    pub(crate) gate: &'e G,
+    pub(crate) alloc: Global,
+    pub(crate) patience: Patience,
+    pub(crate) setup: &'e Setup,
+}
 
 /// The patience of the readers of a run with so many sources. Where the system does not tell how many processors there
 /// are, it is that for one: of that one a run that is alone has its share on any machine.
@@ -36,7 +51,7 @@ fn patience_for(rt: &impl Threads, sources: usize) -> Patience {
 
 /// Starts the threads of each source.
 fn start_all<'s, 'e, T: Host, R: Read + Send + Drop + 'e, W: Output + Drop, G: Gate + Sync>(
-    by: &RunContext<'s, 'e, T, G>,
+    context: &RunContext<'s, 'e, T, G>,
     sources: Vec<R>,
     outputs: Vec<W>,
     running_sources: Vec<RunningSource<R, W>>,
@@ -45,7 +60,7 @@ fn start_all<'s, 'e, T: Host, R: Read + Send + Drop + 'e, W: Output + Drop, G: G
     requires room { vec_len sources ≤ vec_capacity running_sources }
     requires none { running_sources.items ≡ [] }
     ensures len { vec_len result ≡ vec_len sources }
-    ensures cases { map case_of result.items ≡ cases by.now.setup.now sources.items outputs.items }
+    ensures cases { map case_of result.items ≡ cases context.now.setup.now sources.items outputs.items }
 {
     let mut running_sources = running_sources;
     let mut rest = outputs.into_iter();
@@ -53,7 +68,7 @@ fn start_all<'s, 'e, T: Host, R: Read + Send + Drop + 'e, W: Output + Drop, G: G
         let Some(output) = rest.next() else {
             unreachable!()
         };
-        running_sources.push_reserved(RunningSource::start(by, source, output));
+        running_sources.push_reserved(RunningSource::start(context, source, output));
     }
     running_sources
 }
@@ -218,17 +233,18 @@ fn hand_back<R, W>(kind: RunFaultKind, sources: Vec<R>, outputs: Vec<W>) -> RunF
 
 /// The run, inside the scope of its threads.
 fn run_all<'s, 'e, T: Host, R: Read + Send + Drop + 'e, W: Output + Drop, G: Gate + Sync>(
-    by: &RunContext<'s, 'e, T, G>,
+    context: &RunContext<'s, 'e, T, G>,
     sources: Vec<R>,
     outputs: Vec<W>,
     lists: Lists<R, W>,
 ) -> Report<W>
     requires { (vec_len sources ≡ lists.count) × (vec_len outputs ≡ lists.count) }
     ensures report { IsReport R.Read W.Output
-        by.now.setup.now sources.items outputs.items result }
-    ensures machine { AreOfMachine R.Read W.Output by.now.setup.now sources.items outputs.items result.outputs.items
+        context.now.setup.now sources.items outputs.items result }
+    ensures machine { AreOfMachine R.Read W.Output context.now.setup.now sources.items outputs.items
+        result.outputs.items
         result.ends.items (stripes_of result) }
-    ensures threads { AreThreads by.now.setup.now result.ends.items result.ran.items }
+    ensures threads { AreThreads context.now.setup.now result.ends.items result.ran.items }
 {
     let Lists {
         count: _,
@@ -238,11 +254,11 @@ fn run_all<'s, 'e, T: Host, R: Read + Send + Drop + 'e, W: Output + Drop, G: Gat
         ends,
         ran,
     } = lists;
-    let mut running_sources = start_all(by, sources, outputs, running_sources);
+    let mut running_sources = start_all(context, sources, outputs, running_sources);
     // This thread is two lanes further than the readers.
-    let patience = by.patience.one_lane_downstream().one_lane_downstream();
-    visit_until_ended(by.rt, patience, &mut running_sources);
-    let ended_sources = finish_all(by.rt, running_sources, ended_sources);
+    let patience = context.patience.one_lane_downstream().one_lane_downstream();
+    visit_until_ended(context.rt, patience, &mut running_sources);
+    let ended_sources = finish_all(context.rt, running_sources, ended_sources);
     report(ended_sources, written, ends, ran)
 }
 
@@ -275,7 +291,7 @@ fn run_in_scope<T: Host, R: Read + Send + Drop, W: Output + Drop, G: Gate + Sync
                 result.ends.items (stripes_of result)
                 × AreThreads setup.entry.now result.ends.items result.ran.items }
         {
-            let by = RunContext {
+            let context = RunContext {
                 scope,
                 rt,
                 gate,
@@ -283,7 +299,7 @@ fn run_in_scope<T: Host, R: Read + Send + Drop, W: Output + Drop, G: Gate + Sync
                 patience,
                 setup,
             };
-            run_all(&by, sources, outputs, lists)
+            run_all(&context, sources, outputs, lists)
         },
     )
 }

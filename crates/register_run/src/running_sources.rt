@@ -7,9 +7,8 @@ ghost use Rattle.register_run.specs.Written.{Wrote};
 
 use crate::ended_sources::EndedSource;
 use crate::gates::Gate;
-use crate::source_threads::SourceThreads;
-use crate::starting::{Host, RunContext};
-use crate::stripes::Found;
+use crate::running::{Host, RunContext};
+use crate::source_threads::{Found, SourceThreads};
 use crate::table_writers::TableWriter;
 use register_records::Output;
 use std::io::Read;
@@ -35,17 +34,17 @@ impl<R: Read + Drop, W: Output + Drop> RunningSource<R, W> {
 
     /// Starts the threads of a source.
     pub(crate) fn start<'s, 'e, T: Host, G: Gate + Sync>(
-        by: &RunContext<'s, 'e, T, G>,
+        context: &RunContext<'s, 'e, T, G>,
         source: R,
         output: W,
     ) -> RunningSource<R, W>
     where
         R: Send + 'e,
-        ensures { case_of result ≡ case source output by.now.setup.now }
+        ensures { case_of result ≡ case source output context.now.setup.now }
     {
-        let table = TableWriter::new(by.alloc, output, by.setup);
+        let table = TableWriter::new(context.alloc, output, context.setup);
         RunningSource {
-            threads: SourceThreads::start(by, source),
+            threads: SourceThreads::start(context, source),
             table,
             open: true,
         }
@@ -84,7 +83,7 @@ impl<R: Read + Drop, W: Output + Drop> RunningSource<R, W> {
         match self.threads.look() {
             Found::Nothing => return false,
             Found::Row => self.take_row(),
-            Found::Other => {}
+            Found::LaneEnded => {}
             Found::End => {
                 self.open = false;
                 self.table.write_heading();

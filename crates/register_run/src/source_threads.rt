@@ -15,14 +15,29 @@ ghost use Rattle.striped_lanes.specs.Machine.{turn as turn_in};
 
 use crate::gates::Gate;
 use crate::reading::{ReaderTask, Reading, Sent, read_source, stopped_after};
-use crate::starting::{Host, RunContext};
-use crate::stripes::{Found, StartFault, Stripe, started};
+use crate::running::{Host, RunContext};
+use crate::stripes::{Look, StartFault, Stripe, started};
 use crate::turns::turn_behind;
 use lane_rings::Sender;
 use register_records::{Cause, Entry, Row, Setup};
 use std::io::Read;
 use std::snapshot::Snapshot;
 use std::thread::{PromisedHandle, Threads};
+
+/// What a look at a source found.
+#[derive(Clone, Copy)]
+pub(crate) enum Found {
+    /// Nothing is there now.
+    Nothing,
+    /// A row is next.
+    Row,
+    /// A lane ended, and the source goes on.
+    LaneEnded,
+    /// The last lane ended, and each with an end.
+    End,
+    /// The last lane ended, and not each with an end.
+    Stop,
+}
 
 /// A reader and its stripes, or why there are none.
 #[derive(Drop)]
@@ -35,8 +50,8 @@ pub(crate) struct SourceThreads<R: Read> {
     turn: usize,
     // A lane ended with a stop.
     stopped: bool,
-    ghost reads: { IfOk reader (λ r. IsReaderOf source.value setup.value stripes.items r.promise) }
-        by { Prim.hlevel props },
+    ghost reads: { IfOk reader (λ r.
+        IsReaderOf source.value setup.value stripes.items r.promise) } by { Prim.hlevel props },
     ghost by_turns: { IsInTurn stripes.items turn },
     // Where the threads did not start, there is no stripe.
     ghost unstarted: { IfErr reader (λ _. stripes.items ≡ []) } by { Prim.hlevel props },
@@ -56,17 +71,17 @@ impl<R: Read + Drop> SourceThreads<R> {
 
     /// Starts the threads of a source. Where they do not start, the source is dropped and the cause is kept.
     pub(crate) fn start<'s, 'e, T: Host, G: Gate + Sync>(
-        by: &RunContext<'s, 'e, T, G>,
+        context: &RunContext<'s, 'e, T, G>,
         source: R,
     ) -> SourceThreads<R>
     where
         R: Send + 'e,
         ensures source { started_on result ≡ source }
-        ensures setup { started_by result ≡ by.now.setup.now }
+        ensures setup { started_by result ≡ context.now.setup.now }
     {
         let was = Snapshot::of(&source);
-        let setup = Snapshot::of(by.setup);
-        match start_threads(by, source) {
+        let setup = Snapshot::of(context.setup);
+        match start_threads(context, source) {
             Ok((reader, stripes)) => SourceThreads {
                 source: was,
                 setup,
@@ -79,7 +94,7 @@ impl<R: Read + Drop> SourceThreads<R> {
                 source: was,
                 setup,
                 reader: Err(fault),
-                stripes: Vec::new(by.alloc),
+                stripes: Vec::new(context.alloc),
                 turn: 0,
                 stopped: true,
             },
@@ -98,9 +113,10 @@ impl<R: Read + Drop> SourceThreads<R> {
             return Found::Stop;
         }
         match Stripe::look_at(&mut self.stripes, self.turn) {
-            Found::End => self.end_of_lane(false),
-            Found::Stop => self.end_of_lane(true),
-            found => found,
+            Look::Nothing => Found::Nothing,
+            Look::Row => Found::Row,
+            Look::End => self.end_of_lane(false),
+            Look::Stop => self.end_of_lane(true),
         }
     }
 
@@ -140,7 +156,7 @@ impl<R: Read + Drop> SourceThreads<R> {
         self.turn = next_open(&self.stripes, self.turn);
         self.stopped = self.stopped || by_stop;
         if self.stripes.iter().any(|stripe| stripe.is_open()) {
-            Found::Other
+            Found::LaneEnded
         } else if self.stopped {
             Found::Stop
         } else {
@@ -184,23 +200,23 @@ impl<R: Read + Drop> SourceThreads<R> {
 ///
 /// `NoMemory` where a list or a lane is refused its memory, and `NoThread` where a thread does not start.
 fn start_threads<'s, 'e, T: Host, R: Read + Send + Drop + 'e, G: Gate + Sync>(
-    by: &RunContext<'s, 'e, T, G>,
+    context: &RunContext<'s, 'e, T, G>,
     source: R,
 ) -> Result<(PromisedHandle<Reading, ReaderTask<R>>, Vec<Stripe>), StartFault>
-    ensures reads { IfOk result (λ t. IsReaderOf source by.now.setup.now t.1.items t.0.promise) }
+    ensures reads { IfOk result (λ t. IsReaderOf source context.now.setup.now t.1.items t.0.promise) }
     ensures unpopped { IfOk result (λ t. popped t.1.items ≡ 0) }
 {
-    let (rt, alloc, setup) = (by.rt, by.alloc, by.setup);
+    let (rt, alloc, setup) = (context.rt, context.alloc, context.setup);
     let Ok(closed) = Vec::with_capacity(alloc, setup.stripes()) else {
         return Err(StartFault::NoMemory);
     };
-    let Fan { stripes, senders } = Fan::start(by)?;
+    let Fan { stripes, senders } = Fan::start(context)?;
     let task = ReaderTask {
         source: Snapshot::of(&source),
         setup: Snapshot::of(setup),
         senders: Snapshot::of(&senders),
     };
-    let reader = by.scope.spawn_with(
+    let reader = context.scope.spawn_with(
         task,
         move || -> Reading
             requires { (0 < vec_len senders) × (vec_len senders ≤ vec_capacity closed) × (closed.items ≡ [])
@@ -288,32 +304,32 @@ struct Fan {
 impl Fan {
     /// Starts the converters of a source.
     fn start<'s, 'e, T: Host, G: Gate + Sync>(
-        by: &RunContext<'s, 'e, T, G>,
+        context: &RunContext<'s, 'e, T, G>,
     ) -> Result<Fan, StartFault>
         ensures fed { IfOk result (λ f. map feeding_lane f.stripes.items ≡ map sender_lane f.senders.items) }
-        ensures count { IfOk result (λ f. (vec_len f.senders ≡ by.now.setup.now.stripes)
-            × (vec_len f.stripes ≡ by.now.setup.now.stripes)) }
+        ensures count { IfOk result (λ f. (vec_len f.senders ≡ context.now.setup.now.stripes)
+            × (vec_len f.stripes ≡ context.now.setup.now.stripes)) }
         ensures fresh { IfOk result (λ f. All (λ s. sent s ≡ []) f.senders.items) }
         ensures setups { IfOk result (λ f. map stripe_setup f.stripes.items
-            ≡ replicate by.now.setup.now.stripes by.now.setup.now) }
+            ≡ replicate context.now.setup.now.stripes context.now.setup.now) }
         ensures unpopped { IfOk result (λ f. popped f.stripes.items ≡ 0) }
     {
-        let count = by.setup.stripes();
-        let Ok(mut stripes) = Vec::with_capacity(by.alloc, count) else {
+        let count = context.setup.stripes();
+        let Ok(mut stripes) = Vec::with_capacity(context.alloc, count) else {
             return Err(StartFault::NoMemory);
         };
-        let Ok(mut senders) = Vec::with_capacity(by.alloc, count) else {
+        let Ok(mut senders) = Vec::with_capacity(context.alloc, count) else {
             return Err(StartFault::NoMemory);
         };
         for _ in 0..count {
-            match Stripe::start(by) {
+            match Stripe::start(context) {
                 Ok((sender, stripe)) => {
                     senders.push_reserved(sender);
                     stripes.push_reserved(stripe);
                 }
                 Err(cause) => {
                     drop(senders);
-                    Stripe::call_off_all(by.rt, stripes);
+                    Stripe::call_off_all(context.rt, stripes);
                     return Err(cause);
                 }
             }

@@ -5,7 +5,7 @@ ghost use Rattle.lane_rings.specs.Lane.{lane_capacity, receiver_lane, sender_lan
 
 use crate::converting::{Converting, convert_entries};
 use crate::gates::Gate;
-use crate::starting::{Host, RunContext};
+use crate::running::{Host, RunContext};
 use lane_rings::{Closed, Item, Receiver, Sender, Unconfirmed, patient_lane};
 use register_records::{Cause, Entry, Row, Setup};
 use std::snapshot::Snapshot;
@@ -24,18 +24,16 @@ impl Promise<Converting> for ConverterLanes {
     ghost kept_by = { λ p r. IsConverting (receiver_lane p.entries.value) (sender_lane p.rows.value) r };
 }
 
-/// What a look into the lanes of a source found.
+/// What a look into the lane of a stripe found.
 #[derive(Clone, Copy)]
-pub(crate) enum Found {
+pub(crate) enum Look {
     /// Nothing is there now.
     Nothing,
     /// A row is next.
     Row,
-    /// A lane ended and others did not.
-    Other,
-    /// The last lane ended, and each with an end. Of one stripe: its lane did.
+    /// The lane ended with an end.
     End,
-    /// The last lane ended, and not each with an end. Of one stripe: its lane ended with a stop.
+    /// The lane ended with a stop.
     Stop,
 }
 
@@ -108,20 +106,24 @@ impl Stripe {
     ///
     /// `NoMemory` where a lane is refused its memory, and `NoThread` where the thread does not start.
     pub(crate) fn start<'s, 'e, T: Host, G: Gate + Sync>(
-        by: &RunContext<'s, 'e, T, G>,
+        context: &RunContext<'s, 'e, T, G>,
     ) -> Result<(Sender<Entry>, Stripe), StartFault>
         ensures lane { IfOk result (λ r. feeding_lane r.1 ≡ sender_lane r.0) }
         ensures fresh { IfOk result (λ r. sent r.0 ≡ []) }
         ensures untaken { IfOk result (λ r. taken r.1.rows ≡ []) }
-        ensures setup { IfOk result (λ r. stripe_setup r.1 ≡ by.now.setup.now) }
+        ensures setup { IfOk result (λ r. stripe_setup r.1 ≡ context.now.setup.now) }
     {
-        let (rt, gate, setup) = (by.rt, by.gate, by.setup);
-        let Ok((sender, entries)) = patient_lane::<Entry>(by.alloc, setup.ring(), by.patience)
-        else {
+        let (rt, gate, setup) = (context.rt, context.gate, context.setup);
+        let Ok((sender, entries)) = patient_lane::<Entry>(
+            context.alloc,
+            setup.ring(),
+            context.patience,
+        ) else {
             return Err(StartFault::NoMemory);
         };
-        let further = by.patience.one_lane_downstream();
-        let Ok((row_sender, rows)) = patient_lane::<Row>(by.alloc, setup.ring(), further) else {
+        let further = context.patience.one_lane_downstream();
+        let Ok((row_sender, rows)) = patient_lane::<Row>(context.alloc, setup.ring(), further)
+        else {
             return Err(StartFault::NoMemory);
         };
         let feeding = Snapshot::of(&sender);
@@ -129,7 +131,7 @@ impl Stripe {
             entries: Snapshot::of(&entries),
             rows: Snapshot::of(&row_sender),
         };
-        let worker = by.scope.spawn_with(
+        let worker = context.scope.spawn_with(
             lanes,
             move || -> Converting
                 requires { (sent row_sender ≡ []) × (taken entries ≡ []) }
@@ -157,38 +159,38 @@ impl Stripe {
 
     /// Looks for the next item. A row is left where it is until it is passed; an end and a stop are taken. A converter
     /// that is gone counts as one that stopped.
-    pub(crate) fn look(&mut self) -> Found
+    pub(crate) fn look(&mut self) -> Look
         ensures same { IsSameStripe self.old self.new }
         ensures looked { HasLooked self.old self.new result }
     {
         match self.rows.look() {
             Ok(true) => self.take_found(),
-            Ok(false) => Found::Nothing,
+            Ok(false) => Look::Nothing,
             Err(_) => {
                 self.open = false;
-                Found::Stop
+                Look::Stop
             }
         }
     }
 
     /// What is next, after a look. An end and a stop are taken.
     #[tactic(auto, using(crate::proofs::ItemLemmas::same_seen), unfolding(crate::specs::Stripes::StripeTook))]
-    fn take_found(&mut self) -> Found
+    fn take_found(&mut self) -> Look
         ensures same { IsSameStripe self.old self.new }
         ensures looked { HasLooked self.old self.new result }
     {
         match self.rows.next() {
-            None => Found::Nothing,
-            Some(Item::Entry(_)) => Found::Row,
+            None => Look::Nothing,
+            Some(Item::Entry(_)) => Look::Row,
             Some(Item::End(_)) => {
                 self.rows.pass();
                 self.open = false;
-                Found::End
+                Look::End
             }
             Some(Item::Stop) => {
                 self.rows.pass();
                 self.open = false;
-                Found::Stop
+                Look::Stop
             }
         }
     }
@@ -301,7 +303,7 @@ impl Stripe {
     }
 
     /// Looks at one stripe.
-    pub(crate) fn look_at(stripes: &mut Vec<Stripe>, at: usize) -> Found
+    pub(crate) fn look_at(stripes: &mut Vec<Stripe>, at: usize) -> Look
         requires { at < vec_len stripes.old }
         ensures len { vec_len stripes.new ≡ vec_len stripes.old }
         ensures same { AreSameStripes stripes.old.items stripes.new.items }

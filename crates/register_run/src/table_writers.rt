@@ -10,7 +10,7 @@ ghost use Rattle.register_records.specs.Views.{row_seen, output_failed_in};
 ghost use Rattle.register_records.specs.declared.sources.Cause.TheVariants as cause;
 ghost use Rattle.register_run.specs.Courses.{fault_of, is_of_table, output_failed};
 
-use crate::ended_sources::{Course, EndedSource, Met, end_of_source};
+use crate::ended_sources::{EndedSource, Met, end_of_source};
 use crate::reports::Ran;
 use crate::source_threads::JoinedThreads;
 use register_records::laws::tables_grow;
@@ -18,6 +18,29 @@ use register_records::{Cause, MOST_WAITING, Note, Output, Row, RowFault, RowWrit
 use std::alloc::Global;
 use std::io::Read;
 use std::snapshot::Snapshot;
+
+/// How far the table of a source goes on.
+#[derive(Clone, Copy)]
+pub(crate) enum Course {
+    /// Rows are added.
+    Open,
+    /// No more is added, for this cause. The output has not failed.
+    Halted(Cause),
+    /// The output has failed. This cause is told, the first that was met.
+    OutputFailed(Cause),
+}
+
+impl Course {
+    /// Why no more is added.
+    pub(crate) fn fault(self) -> Option<Cause>
+        ensures { result ≡ fault_of self }
+    {
+        match self {
+            Course::Open => None,
+            Course::Halted(cause) | Course::OutputFailed(cause) => Some(cause),
+        }
+    }
+}
 
 /// An output and what was written to it: the heading, and the lines of the rows that were taken so far, of which some
 /// may wait to be written together.
@@ -35,8 +58,8 @@ pub(crate) struct TableWriter<W: Output> {
     ghost marked: { W.own_mark output ≡ W.own_mark given.value },
     ghost failed: { output_failed course ≡ true → W.has_failed output ≡ true },
     ghost good: { output_failed course ≡ false → W.has_failed output ≡ W.has_failed given.value },
-    ghost afloat: { output_failed course ≡ false → IfSome writer (λ w. output_failed_in w ≡ false) }
-        by { Prim.hlevel props },
+    ghost afloat: { output_failed course ≡ false
+        → IfSome writer (λ w. output_failed_in w ≡ false) } by { Prim.hlevel props },
     ghost untouched: { is_some writer ≡ false → output_failed course ≡ false → output ≡ given.value },
     ghost sink_told: { fault_of course ≡ Some cause.SinkFault → output_failed course ≡ true },
     ghost of_table: { IfSome (fault_of course) (λ c. is_of_table c ≡ true) } by { Prim.hlevel props },

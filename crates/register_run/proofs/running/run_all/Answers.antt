@@ -4,7 +4,7 @@ use Rattle.register_run.proofs.running.run_all.Goals as goal
 
 pub returns : goal.returns
 returns g c =
-    let setup = c.args.by.now.setup.now in let ended_sources = c.finish_all-ended_sources.result.items in
+    let setup = c.args.context.now.setup.now in let ended_sources = c.finish_all-ended_sources.result.items in
     let sources = c.args.sources.items in let outputs = c.args.outputs.items in
     let same : length sources ≡ length outputs =
     (let a = c.args.sources.ok.0 in let b = c.args.outputs.ok.0 in let p = c.requires.0 in let q = c.requires.1 in

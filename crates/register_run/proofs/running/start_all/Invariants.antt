@@ -9,7 +9,7 @@ invariant-loop-source g l = record {
   counts : (vec_len l.running_sources + into_iter_len l.source-iterator ≤ vec_capacity l.running_sources)
       × (vec_len l.running_sources + into_iter_len l.source-iterator ≡ vec_len l.fn.sources)
       × (into_iter_len l.source-iterator ≡ into_iter_len l.rest);
-  cases : map case_of l.running_sources.items ++ cases l.by.setup.now (into_iter_items l.source-iterator)
+  cases : map case_of l.running_sources.items ++ cases l.context.setup.now (into_iter_items l.source-iterator)
       (into_iter_items l.rest)
-      ≡ cases l.by.setup.now l.fn.sources.items l.fn.outputs.items;
+      ≡ cases l.context.setup.now l.fn.sources.items l.fn.outputs.items;
 }

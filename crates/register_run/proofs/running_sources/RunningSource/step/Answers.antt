@@ -14,8 +14,8 @@ invariant_of-self-in-Row g c = let s = c.args.self.now in record {
   wrote = wrote_same s.threads c.look.new.self s.table s.table c.look.ensures.kept (λ rows h. h) s.wrote;
 }
 
-pub invariant_of-self-in-Other : goal.invariant_of-self-in-Other
-invariant_of-self-in-Other g c = let s = c.args.self.now in record {
+pub invariant_of-self-in-LaneEnded : goal.invariant_of-self-in-LaneEnded
+invariant_of-self-in-LaneEnded g c = let s = c.args.self.now in record {
   by_one_setup = c.look.ensures.setup ∙ s.by_one_setup;
   wrote = wrote_same s.threads c.look.new.self s.table s.table c.look.ensures.kept (λ rows h. h) s.wrote;
 }

@@ -10,7 +10,7 @@ invariant-loop g l = record {
   stripes : (vec_len l.stripes ≡ l.counter) × (l.count ≤ vec_capacity l.stripes);
   senders : (vec_len l.senders ≡ l.counter) × (l.count ≤ vec_capacity l.senders);
   fed : map feeding_lane l.stripes.items ≡ map sender_lane l.senders.items;
-  setups : map stripe_setup l.stripes.items ≡ replicate l.counter l.by.setup.now;
+  setups : map stripe_setup l.stripes.items ≡ replicate l.counter l.context.setup.now;
   fresh : All (λ s. sent s ≡ []) l.senders.items;
   unpopped : popped l.stripes.items ≡ 0;
 }

@@ -15,6 +15,7 @@ mod reports;
 mod running;
 mod running_sources;
 mod source_threads;
+mod stripe_lists;
 mod stripes;
 mod table_writers;
 mod turns;

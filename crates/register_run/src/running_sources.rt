@@ -1,7 +1,7 @@
 //! A source's place at the thread that writes.
 
 ghost use Rattle.std.specs.Prelude.{◌≡◌};
-ghost use Rattle.register_run.specs.SourceThreads.{HasGiven, IsNext, started_by};
+ghost use Rattle.register_run.specs.SourceThreads.{started_by};
 ghost use Rattle.register_run.specs.TablesWritten.{made_by};
 ghost use Rattle.register_run.specs.Written.{Wrote};
 
@@ -69,7 +69,7 @@ impl<R: Read + Drop, W: Output + Drop> RunningSource<R, W> {
                 break;
             }
         }
-        self.send();
+        self.table.send();
         moved
     }
 
@@ -82,7 +82,10 @@ impl<R: Read + Drop, W: Output + Drop> RunningSource<R, W> {
         }
         match self.threads.look() {
             Found::Nothing => return false,
-            Found::Row => self.take_row(),
+            Found::Row => {
+                self.add_row();
+                self.threads.pass();
+            }
             Found::LaneEnded => {}
             Found::End => {
                 self.open = false;
@@ -93,17 +96,7 @@ impl<R: Read + Drop, W: Output + Drop> RunningSource<R, W> {
         true
     }
 
-    /// Adds the row that a look found to the table from where it lies in its lane, and then takes it.
-    fn take_row(&mut self)
-        requires { IsNext self.old.threads }
-        ensures case { case_of self.new ≡ case_of self.old }
-        ensures given { HasGiven self.old.threads self.new.threads }
-    {
-        self.add_row();
-        self.threads.pass();
-    }
-
-    /// Adds the row that a look found to the table, unless it came after a stop.
+    /// Adds the row that a look found to the table from where it lies in its lane, unless it came after a stop.
     fn add_row(&mut self)
         ensures case { case_of self.new ≡ case_of self.old }
         ensures threads { self.new.threads ≡ self.old.threads }
@@ -111,13 +104,6 @@ impl<R: Read + Drop, W: Output + Drop> RunningSource<R, W> {
         if let Some(row) = self.threads.row() {
             self.table.add(row);
         }
-    }
-
-    /// Writes the lines that wait.
-    fn send(&mut self)
-        ensures { case_of self.new ≡ case_of self.old }
-    {
-        self.table.send();
     }
 
     /// Joins the threads and decides how the source ended.

@@ -16,10 +16,12 @@ ghost use Rattle.striped_lanes.specs.Machine.{turn as turn_in};
 use crate::gates::Gate;
 use crate::reading::{ReaderTask, Reading, Sent, read_source, stopped_after};
 use crate::running::{Host, RunContext};
+use crate::stripe_lists::{
+    call_off_stripes, join_stripes, look_at, pass_at, row_at, start_stripes,
+};
 use crate::stripes::{Look, StartFault, Stripe, started};
 use crate::turns::turn_behind;
-use lane_rings::Sender;
-use register_records::{Cause, Entry, Row, Setup};
+use register_records::{Cause, Row, Setup};
 use std::io::Read;
 use std::snapshot::Snapshot;
 use std::thread::{PromisedHandle, Threads};
@@ -112,7 +114,7 @@ impl<R: Read + Drop> SourceThreads<R> {
         if self.turn >= self.stripes.len() {
             return Found::Stop;
         }
-        match Stripe::look_at(&mut self.stripes, self.turn) {
+        match look_at(&mut self.stripes, self.turn) {
             Look::Nothing => Found::Nothing,
             Look::Row => Found::Row,
             Look::End => self.end_of_lane(false),
@@ -127,7 +129,7 @@ impl<R: Read + Drop> SourceThreads<R> {
         if self.stopped || self.turn >= self.stripes.len() {
             return None;
         }
-        Stripe::row_at(&self.stripes, self.turn)
+        row_at(&self.stripes, self.turn)
     }
 
     /// Takes the row that a look found, and gives the turn on.
@@ -139,7 +141,7 @@ impl<R: Read + Drop> SourceThreads<R> {
         ensures given { HasGiven self.old self.new }
         ensures stopped { self.new.stopped ≡ self.old.stopped }
     {
-        Stripe::pass_at(&mut self.stripes, self.turn);
+        pass_at(&mut self.stripes, self.turn);
         self.turn = next_open(&self.stripes, self.turn);
     }
 
@@ -210,7 +212,7 @@ fn start_threads<'s, 'e, T: Host, R: Read + Send + Drop + 'e, G: Gate + Sync>(
     let Ok(closed) = Vec::with_capacity(alloc, setup.stripes()) else {
         return Err(StartFault::NoMemory);
     };
-    let Fan { stripes, senders } = Fan::start(context)?;
+    let (senders, stripes) = start_stripes(context)?;
     let task = ReaderTask {
         source: Snapshot::of(&source),
         setup: Snapshot::of(setup),
@@ -229,7 +231,7 @@ fn start_threads<'s, 'e, T: Host, R: Read + Send + Drop + 'e, G: Gate + Sync>(
     match started(reader) {
         Ok(reader) => Ok((reader, stripes)),
         Err(fault) => {
-            Stripe::call_off_all(rt, stripes);
+            call_off_stripes(rt, stripes);
             Err(fault)
         }
     }
@@ -251,7 +253,7 @@ fn join_threads<R: Read + Drop>(
     ensures started { HasStarted result.outcome }
 {
     let Reading { closed, sent } = reader.join(rt);
-    match Stripe::join_all(rt, stripes, closed) {
+    match join_stripes(rt, stripes, closed) {
         Ok(ended) => {
             if ended == sent.outcome.is_ok() {
                 return sent;
@@ -292,48 +294,5 @@ fn unconfirmed_or_lower(outcome: Result<u32, Cause>) -> Cause
     match outcome {
         Err(Cause::NoMemory) => Cause::NoMemory,
         _ => Cause::Unconfirmed,
-    }
-}
-
-/// The stripes of a source, and the senders that feed them.
-struct Fan {
-    stripes: Vec<Stripe>,
-    senders: Vec<Sender<Entry>>,
-}
-
-impl Fan {
-    /// Starts the converters of a source.
-    fn start<'s, 'e, T: Host, G: Gate + Sync>(
-        context: &RunContext<'s, 'e, T, G>,
-    ) -> Result<Fan, StartFault>
-        ensures fed { IfOk result (λ f. map feeding_lane f.stripes.items ≡ map sender_lane f.senders.items) }
-        ensures count { IfOk result (λ f. (vec_len f.senders ≡ context.now.setup.now.stripes)
-            × (vec_len f.stripes ≡ context.now.setup.now.stripes)) }
-        ensures fresh { IfOk result (λ f. All (λ s. sent s ≡ []) f.senders.items) }
-        ensures setups { IfOk result (λ f. map stripe_setup f.stripes.items
-            ≡ replicate context.now.setup.now.stripes context.now.setup.now) }
-        ensures unpopped { IfOk result (λ f. popped f.stripes.items ≡ 0) }
-    {
-        let count = context.setup.stripes();
-        let Ok(mut stripes) = Vec::with_capacity(context.alloc, count) else {
-            return Err(StartFault::NoMemory);
-        };
-        let Ok(mut senders) = Vec::with_capacity(context.alloc, count) else {
-            return Err(StartFault::NoMemory);
-        };
-        for _ in 0..count {
-            match Stripe::start(context) {
-                Ok((sender, stripe)) => {
-                    senders.push_reserved(sender);
-                    stripes.push_reserved(stripe);
-                }
-                Err(cause) => {
-                    drop(senders);
-                    Stripe::call_off_all(context.rt, stripes);
-                    return Err(cause);
-                }
-            }
-        }
-        Ok(Fan { stripes, senders })
     }
 }

@@ -3,7 +3,7 @@ use Rattle.std.specs.Prelude.{All}
 use Rattle.lane_rings.specs.Lane.{sender_lane, sent}
 use Rattle.register_run.specs.Stripes.{feeding_lane, stripe_setup}
 use Rattle.register_run.specs.Popped.{popped}
-use Rattle.register_run.proofs.source_threads.Fan.start.Given as goal
+use Rattle.register_run.proofs.stripe_lists.start_stripes.Given as goal
 
 abbrev pub invariant-loop : goal.invariant-loop
 invariant-loop g l = record {

@@ -3,7 +3,7 @@ use Rattle.std.specs.Vec.Iter.{into_iter_items}
 use Rattle.register_run.specs.Stripes.{feeding_lane}
 use Rattle.register_run.specs.JoinedThreads.{AreOfLanes}
 use Rattle.register_run.proofs.StripeLemmas.{and_left, and_right, begin_passed, end_passed, from_tail, more_passed}
-use Rattle.register_run.proofs.stripes.Stripe.join_all.Goals as goal
+use Rattle.register_run.proofs.stripe_lists.join_stripes.Goals as goal
 
 pub loop-stripe-init : goal.loop-stripe-init
 loop-stripe-init g c =

@@ -3,7 +3,7 @@ use Rattle.std.specs.Prelude.{Bool}
 use Rattle.std.specs.Vec.Iter.{into_iter_items}
 use Rattle.register_run.specs.Stripes.{HavePassedOn, feeding_lane}
 use Rattle.register_run.specs.JoinedThreads.{AreOfLanes}
-use Rattle.register_run.proofs.stripes.Stripe.join_all.Given as goal
+use Rattle.register_run.proofs.stripe_lists.join_stripes.Given as goal
 
 abbrev pub invariant-loop-stripe : goal.invariant-loop-stripe
 invariant-loop-stripe g l =

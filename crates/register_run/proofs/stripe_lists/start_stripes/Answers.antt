@@ -3,7 +3,7 @@ use Rattle.lane_rings.specs.Lane.{sender_lane, sent, taken}
 use Rattle.register_run.specs.Stripes.{feeding_lane, stripe_setup}
 use Rattle.register_run.proofs.MoveLemmas.{all_more, both_more, each_more}
 use Rattle.register_run.proofs.PoppedLemmas.{unpopped_more}
-use Rattle.register_run.proofs.source_threads.Fan.start.Goals as goal
+use Rattle.register_run.proofs.stripe_lists.start_stripes.Goals as goal
 
 pub loop-preserved : goal.loop-preserved
 loop-preserved g c =

@@ -20,7 +20,7 @@ use Rattle.register_run.specs.declared.running_sources.RunningSource.{RunningSou
 use Rattle.register_run.specs.Cases.{Case, case, cases, end_of, ended_case, output_of, ran_of}
 use Rattle.register_run.specs.Headline.{AtEachPlace, IsSourceEnd}
 use Rattle.register_run.specs.Histories.{AreOfMachine, IsMachineWithTable}
-use Rattle.register_run.specs.Reports.{IsReport, stripes_of}
+use Rattle.register_run.specs.Reports.{IsReport, IsReportOfMachine, IsReportOfThreads, stripes_of}
 use Rattle.register_run.specs.RunningSources.{case_of}
 use Rattle.register_run.specs.Threads.{AreThreads, AreThreadsOf}
 
@@ -155,15 +155,14 @@ module _ {R W : Type 0} {r : reads.Ghosts R} {o : outputs.Ghosts W} (setup : Set
           verdict = verdict;
         }
 
-        pub report_of_machine : report.outputs.items ≡ map output_of all
-            → AreOfMachine r o setup sources given report.outputs.items report.ends.items (stripes_of report)
+        pub report_of_machine : report.outputs.items ≡ map output_of all → IsReportOfMachine r o setup sources given report
         report_of_machine wrote =
             subst (λ ws. AreOfMachine r o setup sources given ws report.ends.items (stripes_of report)) (sym wrote)
             (subst (λ es. AreOfMachine r o setup sources given (map output_of all) es (stripes_of report)) (sym ends)
             (subst (λ rs. AreOfMachine r o setup sources given (map output_of all) (map end_of all) (map stripes_in rs))
             (sym by) of_machine))
 
-        pub report_of_threads : AreThreads setup report.ends.items report.ran.items
+        pub report_of_threads : IsReportOfThreads setup report
         report_of_threads =
             subst (λ es. AreThreads setup es report.ran.items) (sym ends)
             (subst (λ rs. AreThreads setup (map end_of all) rs) (sym by) threads_kept)

@@ -1,13 +1,11 @@
 //! The run over a list of sources.
 
-ghost use Rattle.std.specs.Prelude.{◌≡◌, ◌≢◌, ◌<◌, ◌≤◌, ◌↔◌, [], All, IfErr, IfOk, IsErrAnd, map, true};
+ghost use Rattle.std.specs.Prelude.{◌≡◌, ◌≢◌, ◌<◌, ◌≤◌, ◌↔◌, [], All, IfErr, IfOk, map, true};
 ghost use Rattle.std.specs.Prelude.{vec_capacity, vec_len};
 ghost use Rattle.register_records.specs.Sources.{is_whole_end};
 ghost use Rattle.register_run.specs.Cases.{cases, end_of, ended_case, output_of, ran_of};
-ghost use Rattle.register_run.specs.Histories.{AreOfMachine};
-ghost use Rattle.register_run.specs.Reports.{IsReport, stripes_of};
+ghost use Rattle.register_run.specs.Reports.{HandsBack, IsRefusedAs, IsReport, IsReportOfMachine, IsReportOfThreads};
 ghost use Rattle.register_run.specs.RunningSources.{case_of};
-ghost use Rattle.register_run.specs.Threads.{AreThreads};
 
 use crate::ended_sources::EndedSource;
 use crate::gates::{Gate, Open};
@@ -222,7 +220,7 @@ fn make_lists<R: Read + Drop, W: Output + Drop>(
 
 /// Hands the lists back with a fault.
 fn hand_back<R, W>(kind: RunFaultKind, sources: Vec<R>, outputs: Vec<W>) -> RunFault<R, W>
-    ensures { (result.kind ≡ kind) × (result.sources ≡ sources) × (result.outputs ≡ outputs) }
+    ensures { (result.kind ≡ kind) × HandsBack sources outputs result }
 {
     RunFault {
         kind,
@@ -239,12 +237,9 @@ fn run_all<'s, 'e, T: Host, R: Read + Send + Drop + 'e, W: Output + Drop, G: Gat
     lists: Lists<R, W>,
 ) -> Report<W>
     requires { (vec_len sources ≡ lists.count) × (vec_len outputs ≡ lists.count) }
-    ensures report { IsReport R.Read W.Output
-        context.now.setup.now sources.items outputs.items result }
-    ensures machine { AreOfMachine R.Read W.Output context.now.setup.now sources.items outputs.items
-        result.outputs.items
-        result.ends.items (stripes_of result) }
-    ensures threads { AreThreads context.now.setup.now result.ends.items result.ran.items }
+    ensures report { IsReport R.Read W.Output context.now.setup.now sources.items outputs.items result }
+    ensures machine { IsReportOfMachine R.Read W.Output context.now.setup.now sources.items outputs.items result }
+    ensures threads { IsReportOfThreads context.now.setup.now result }
 {
     let Lists {
         count: _,
@@ -262,7 +257,7 @@ fn run_all<'s, 'e, T: Host, R: Read + Send + Drop + 'e, W: Output + Drop, G: Gat
     report(ended_sources, written, ends, ran)
 }
 
-/// The run, with threads that end before it answers.
+/// The run, with threads that end before it returns.
 fn run_in_scope<T: Host, R: Read + Send + Drop, W: Output + Drop, G: Gate + Sync>(
     rt: &T,
     gate: &G,
@@ -273,11 +268,9 @@ fn run_in_scope<T: Host, R: Read + Send + Drop, W: Output + Drop, G: Gate + Sync
     lists: Lists<R, W>,
 ) -> Report<W>
     requires { (vec_len sources ≡ lists.count) × (vec_len outputs ≡ lists.count) }
-    ensures report { IsReport R.Read W.Output
-        setup.now sources.items outputs.items result }
-    ensures machine { AreOfMachine R.Read W.Output setup.now sources.items outputs.items result.outputs.items
-        result.ends.items (stripes_of result) }
-    ensures threads { AreThreads setup.now result.ends.items result.ran.items }
+    ensures report { IsReport R.Read W.Output setup.now sources.items outputs.items result }
+    ensures machine { IsReportOfMachine R.Read W.Output setup.now sources.items outputs.items result }
+    ensures threads { IsReportOfThreads setup.now result }
 {
     let patience = patience_for(rt, sources.len());
     thread::scope(
@@ -285,11 +278,9 @@ fn run_in_scope<T: Host, R: Read + Send + Drop, W: Output + Drop, G: Gate + Sync
         rt,
         move |scope| -> Report<W>
             requires { (vec_len sources ≡ lists.count) × (vec_len outputs ≡ lists.count) }
-            ensures { IsReport R.Read W.Output
-                setup.entry.now sources.items outputs.items result
-                × AreOfMachine R.Read W.Output setup.entry.now sources.items outputs.items result.outputs.items
-                result.ends.items (stripes_of result)
-                × AreThreads setup.entry.now result.ends.items result.ran.items }
+            ensures { IsReport R.Read W.Output setup.entry.now sources.items outputs.items result
+                × IsReportOfMachine R.Read W.Output setup.entry.now sources.items outputs.items result
+                × IsReportOfThreads setup.entry.now result }
         {
             let context = RunContext {
                 scope,
@@ -330,27 +321,13 @@ pub fn run_gated<
     setup: &Setup,
     gate: &G,
 ) -> Result<Report<W>, RunFault<R, W>>
-    // The headline, as `run` says it.
-    ensures report { IfOk result (λ r.
-        IsReport R.Read W.Output
-        setup.now sources.items outputs.items r) }
-
-    // The lanes of a source that is whole carried just what the lanes of the machine of striped lanes carry in some
-    // schedule with the entries of its text, for which `laws::every_schedule` says what holds; and its table is that of
-    // these entries.
-    ensures machine { IfOk result (λ r.
-        AreOfMachine R.Read W.Output setup.now sources.items outputs.items r.outputs.items r.ends.items
-        (stripes_of r)) }
-
-    // However a source ended, it had as many stripes as the setup says, and both lanes of each had the setup's ring. It
-    // had none only where threads did not start, and that is cause 1 or 2; with cause 2 it had none.
-    ensures threads { IfOk result (λ r. AreThreads setup.now r.ends.items r.ran.items) }
-
-    // A run that did not begin.
-    ensures unchanged { IfErr result (λ e. (e.sources ≡ sources) × (e.outputs ≡ outputs)) }
-    ensures too_many_sources { IsErrAnd result (λ e. e.kind ≡ RunFaultKind.TooManySources)
-        ↔ (32 < vec_len sources) }
-    ensures output_count { IsErrAnd result (λ e. e.kind ≡ RunFaultKind.OutputCount)
+    // `run` says of each clause what it means.
+    ensures report { IfOk result (IsReport R.Read W.Output setup.now sources.items outputs.items) }
+    ensures machine { IfOk result (IsReportOfMachine R.Read W.Output setup.now sources.items outputs.items) }
+    ensures threads { IfOk result (IsReportOfThreads setup.now) }
+    ensures unchanged { IfErr result (HandsBack sources outputs) }
+    ensures too_many_sources { IsRefusedAs RunFaultKind.TooManySources result ↔ (32 < vec_len sources) }
+    ensures output_count { IsRefusedAs RunFaultKind.OutputCount result
         ↔ ((vec_len sources ≤ 32) × (vec_len outputs ≢ vec_len sources)) }
 {
     let count = sources.len();
@@ -391,27 +368,22 @@ pub fn run<T: Threads + Wait + Clock + CpuClock + Sync, R: Read + Send + Drop, W
 ) -> Result<Report<W>, RunFault<R, W>>
     // The headline. A source that is whole has its table in its output: the output there has gained exactly the table
     // of the source's text, and nothing else. The run is complete exactly where every source is whole, and every other
-    // source is told with its cause. A field of `IsReport`, `IsWhole` and `IsBroken` says each part of this.
-    ensures report { IfOk result (λ r.
-        IsReport R.Read W.Output
-        setup.now sources.items outputs.items r) }
+    // source is reported with its cause. A field of `IsReport`, `IsWhole` and `IsBroken` says each part of this.
+    ensures report { IfOk result (IsReport R.Read W.Output setup.now sources.items outputs.items) }
 
     // The lanes of a source that is whole carried just what the lanes of the machine of striped lanes carry in some
     // schedule with the entries of its text, for which `laws::every_schedule` says what holds; and its table is that of
     // these entries.
-    ensures machine { IfOk result (λ r.
-        AreOfMachine R.Read W.Output setup.now sources.items outputs.items r.outputs.items r.ends.items
-        (stripes_of r)) }
+    ensures machine { IfOk result (IsReportOfMachine R.Read W.Output setup.now sources.items outputs.items) }
 
     // However a source ended, it had as many stripes as the setup says, and both lanes of each had the setup's ring. It
     // had none only where threads did not start, and that is cause 1 or 2; with cause 2 it had none.
-    ensures threads { IfOk result (λ r. AreThreads setup.now r.ends.items r.ran.items) }
+    ensures threads { IfOk result (IsReportOfThreads setup.now) }
 
     // A run that did not begin.
-    ensures unchanged { IfErr result (λ e. (e.sources ≡ sources) × (e.outputs ≡ outputs)) }
-    ensures too_many_sources { IsErrAnd result (λ e. e.kind ≡ RunFaultKind.TooManySources)
-        ↔ (32 < vec_len sources) }
-    ensures output_count { IsErrAnd result (λ e. e.kind ≡ RunFaultKind.OutputCount)
+    ensures unchanged { IfErr result (HandsBack sources outputs) }
+    ensures too_many_sources { IsRefusedAs RunFaultKind.TooManySources result ↔ (32 < vec_len sources) }
+    ensures output_count { IsRefusedAs RunFaultKind.OutputCount result
         ↔ ((vec_len sources ≤ 32) × (vec_len outputs ≢ vec_len sources)) }
 {
     run_gated(rt, alloc, sources, outputs, setup, &Open)

@@ -1,6 +1,6 @@
 //! An entry, and how it is made of a record.
 
-ghost use Rattle.std.specs.Prelude.{◌≡◌, ◌≤◌, ◌↔◌, [], length, IfSome, IsSome, IsTrue, Ok};
+ghost use Rattle.std.specs.Prelude.{◌≡◌, ◌≤◌, ◌↔◌, [], length, IfSome, IsAscii, IsSome, IsTrue, Ok};
 ghost use Rattle.std.specs.Prelude.{true, false};
 ghost use Rattle.std.specs.List.{list_any};
 ghost use Rattle.std.specs.Str.{is_utf8};
@@ -8,7 +8,7 @@ ghost use Rattle.csv.specs.Records.{fields_of};
 ghost use Rattle.register_records.specs.BareTexts.{has_special, is_special_byte};
 ghost use Rattle.register_records.specs.Entries.{are_fit, body_of, body_seen, may_hold, record_limit};
 
-use crate::record_fields::fields_in;
+use crate::record_fields::RecordFields;
 use crate::setups::Form;
 use arrayvec::ArrayString;
 use csv::ByteRecord;
@@ -171,21 +171,29 @@ fn is_allowed(body: &Body) -> bool
     }
 }
 
+/// Whether a field is UTF-8. One that is known to be ASCII is not looked at.
+#[inline(always)]
+fn is_text(field: &[u8], is_ascii: bool) -> bool
+    requires { is_ascii ≡ true → IsAscii field.now }
+    ensures { result ≡ is_utf8 field.now }
+{
+    is_ascii || str::from_utf8(field).is_ok()
+}
+
 /// Copies a field to a text, where it is UTF-8, and says whether it is.
 #[inline(always)]
-fn copy_text<const N: usize>(copy: &mut ArrayString<N>, field: &[u8]) -> bool
+fn copy_text<const N: usize>(copy: &mut ArrayString<N>, field: &[u8], is_ascii: bool) -> bool
     requires fits { length field.now ≤ N }
+    requires ascii { is_ascii ≡ true → IsAscii field.now }
     ensures is_text { result ≡ is_utf8 field.now }
     ensures copied { result ≡ true → copy.new.bytes ≡ field.now }
 {
-    match str::from_utf8(field) {
-        Ok(text) => {
-            copy.clear();
-            copy.push_str(text);
-            true
-        }
-        Err(_) => false,
+    let is_text = is_text(field, is_ascii);
+    if is_text {
+        copy.clear();
+        copy.push_str(unsafe { str::from_utf8_unchecked(field) });
     }
+    is_text
 }
 
 impl Body {
@@ -207,7 +215,7 @@ impl Body {
         ensures value { body_seen self.new ≡ body_of form (fields_of csv_record.now) }
         ensures held { IsTrue (may_hold self.new) }
     {
-        let Some(fields) = fields_in(csv_record, form) else {
+        let Some(fields) = RecordFields::of(csv_record, form) else {
             *self = Body::Refused(Refusal::FieldCount);
             return;
         };
@@ -228,10 +236,10 @@ impl Body {
             date,
             note,
         } = self
-            && !(copy_text(id, fields.id)
-                && copy_text(calendar, fields.calendar)
-                && copy_text(date, fields.date)
-                && copy_text(note, fields.note))
+            && !(copy_text(id, fields.id, fields.is_ascii)
+                && copy_text(calendar, fields.calendar, fields.is_ascii)
+                && copy_text(date, fields.date, fields.is_ascii)
+                && copy_text(note, fields.note, fields.is_ascii))
         {
             *self = Body::Refused(Refusal::NotUtf8);
         }

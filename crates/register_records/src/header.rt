@@ -7,7 +7,7 @@ ghost use Rattle.csv.specs.Records.{fields_of};
 ghost use Rattle.register_records.specs.Headers.{IsHeader};
 ghost use Rattle.date_texts.specs.Names.{IsNamed};
 
-use crate::record_fields::{RecordFields, fields_in};
+use crate::record_fields::RecordFields;
 use crate::setups::Form;
 use csv::ByteRecord;
 use date_texts::trimmed;
@@ -40,8 +40,9 @@ pub(crate) fn is_header(csv_record: &ByteRecord, form: Form) -> bool
             calendar,
             date,
             note,
+            ..
         },
-    ) = fields_in(csv_record, form)
+    ) = RecordFields::of(csv_record, form)
     else {
         return false;
     };

@@ -38,7 +38,8 @@ use Rattle.register_run.specs.declared.table_writers.TableWriter.{TableWriter}
 use Rattle.register_run.specs.Courses.{Differs, IsLowest, IsMet, fault_of, is_of_table, output_failed}
 use Rattle.register_run.specs.Headline.{IsAllOfTable, IsSourceEnd, causes_of_reading}
 use Rattle.register_run.specs.Histories.{Carries, IsMachineWithTable}
-use Rattle.register_run.specs.JoinedThreads.{HasGoodOutput, HasPassed, IsGiven, IsOfGiven, is_of_reading, tells_of_text}
+use Rattle.register_run.specs.JoinedThreads.{HasGoodOutput, HasPassed, IsGiven, IsOfGiven, is_of_reading}
+use Rattle.register_run.specs.JoinedThreads.{speaks_of_text}
 use Rattle.register_run.specs.TablesWritten.{AllSent, Holds, Stands, entries_seen, rows_seen, waiting_of}
 use Rattle.register_run.proofs.FrontLemmas.{first_of_first, front_all, rows_front}
 
@@ -121,17 +122,17 @@ low cause.TooManyRecords e = cc
 low cause.NotSealed e = cc
 
 module _ (met : Met) (c : Cause) (of_table : IfSome met.fault (λ f. is_of_table f ≡ true)) where
-  -- a cause that no table gives is the answer of the threads
+  -- a cause that no table gives is the outcome of the threads
   met_by_threads : is_of_table c ≡ false → IsMet met c → met.sent.outcome ≡ Err c
-  met_by_threads other (inl told) = told
+  met_by_threads other (inl speaks) = speaks
   met_by_threads other (inr (inl broke)) =
       absurd (let k = subst (λ f. IfSome f (λ d. is_of_table d ≡ true)) broke of_table in cc)
   met_by_threads other (inr (inr differs)) = absurd (let k = ap is_of_table differs.0 in cc)
 
   sink_met : HasGoodOutput met.sent.outcome → IsMet met c → c ≡ cause.SinkFault → met.fault ≡ Some cause.SinkFault
-  sink_met dry (inl told) e = absurd (subst HasGoodOutput told dry e)
-  sink_met dry (inr (inl broke)) e = broke ∙ ap Some e
-  sink_met dry (inr (inr differs)) e = absurd (let k = differs.0 in cc)
+  sink_met good (inl speaks) e = absurd (subst HasGoodOutput speaks good e)
+  sink_met good (inr (inl broke)) e = broke ∙ ap Some e
+  sink_met good (inr (inr differs)) e = absurd (let k = differs.0 in cc)
 
   module _ (lowest : IsLowest (IsMet met) c) (reading : is_of_reading c ≡ true) where
     not_of_table : (d : Cause) → is_of_table d ≡ true → cause_number c ≤ cause_number d → ⊥
@@ -142,15 +143,15 @@ module _ (met : Met) (c : Cause) (of_table : IfSome met.fault (λ f. is_of_table
     none_broke (Some d) e = absurd (not_of_table d
         (subst (λ f. IfSome f (λ d. is_of_table d ≡ true)) e of_table) (lowest.1 d (inr (inl e))))
 
-    read_told : met.sent.outcome ≡ Err c
-    read_told = met_by_threads (not_true (is_of_table c) (λ of. not_of_table c of (omega arith))) lowest.0
+    read_outcome : met.sent.outcome ≡ Err c
+    read_outcome = met_by_threads (not_true (is_of_table c) (λ of. not_of_table c of (omega arith))) lowest.0
 
     unmet : Differs (Err c) met.sent.count met.headed met.rows → ⊥
     unmet differs =
         not_of_table cause.Unconfirmed refl (lowest.1 cause.Unconfirmed (inr (inr (
           refl,
           none_broke met.fault refl,
-          subst (λ p. Differs p met.sent.count met.headed met.rows) (sym read_told) differs,
+          subst (λ p. Differs p met.sent.count met.headed met.rows) (sym read_outcome) differs,
         ))))
 
     all_written : met.rows ≡ met.sent.count
@@ -158,12 +159,12 @@ module _ (met : Met) (c : Cause) (of_table : IfSome met.fault (λ f. is_of_table
 
     reading_met : (met.sent.outcome ≡ Err c) × (met.fault ≡ None) × (met.headed ≡ true → met.rows ≢ 0)
         × (met.rows ≡ met.sent.count)
-    reading_met = (read_told, none_broke met.fault refl, λ head zero. unmet (inr (head, zero)), all_written)
+    reading_met = (read_outcome, none_broke met.fault refl, λ head zero. unmet (inr (head, zero)), all_written)
 
--- cause 2 is the answer of the threads
-pub thread_told : (met : Met) → IfSome met.fault (λ f. is_of_table f ≡ true) → (e : SourceEnd)
+-- cause 2 is the outcome of the threads
+pub thread_outcome : (met : Met) → IfSome met.fault (λ f. is_of_table f ≡ true) → (e : SourceEnd)
     → IfBroken e (IsLowest (IsMet met)) → e ≡ end.Broken cause.NoThread → met.sent.outcome ≡ Err cause.NoThread
-thread_told met of_table e lowest is =
+thread_outcome met of_table e lowest is =
     met_by_threads met cause.NoThread of_table refl (subst (λ b. IfBroken b (IsLowest (IsMet met))) is lowest).0
 
 module _ {W : Type 0} (o : outputs.Ghosts W) (text : Option (List ℕ)) (table : TableWriter W o) (rows : List Row)
@@ -184,29 +185,29 @@ module _ {W : Type 0} (o : outputs.Ghosts W) (text : Option (List ℕ)) (table :
 
   unwritten : output_failed table.course ≡ false → is_some table.writer ≡ false
       → (table.output ≡ table.given.value) × (rows ≡ [])
-  unwritten dry none =
-      nothing_so o (layout_of table.setup) table.given.value table.output table.writer rows none (holds.stands dry)
+  unwritten good none =
+      nothing_so o (layout_of table.setup) table.given.value table.output table.writer rows none (holds.stands good)
 
   written : output_failed table.course ≡ false → is_some table.writer ≡ true
       → Appends (o.contents table.given.value) (o.contents table.output)
       (table_text (layout_of table.setup) (rows_seen rows)) × (o.is_flushed table.output ≡ true)
-  written dry some =
-      table_so o (layout_of table.setup) table.given.value table.output table.writer rows some (sent dry)
-      (holds.stands dry)
+  written good some =
+      table_so o (layout_of table.setup) table.given.value table.output table.writer rows some (sent good)
+      (holds.stands good)
 
   in_order_so : (b : Bool) → is_some table.writer ≡ b → output_failed table.course ≡ false
       → AreRowsOf (layout_of table.setup).targets (entries_seen rows) (rows_seen rows)
       → Gains (o.contents table.given.value) (o.contents table.output) (ArePartOfTable (layout_of table.setup) None)
-  in_order_so false b dry are = (
+  in_order_so false b good are = (
     [],
     inl refl,
     appends_nothing (o.contents table.given.value) (o.contents table.output)
-        (ap o.contents (unwritten dry b).0),
+        (ap o.contents (unwritten good b).0),
   )
-  in_order_so true b dry are = (
+  in_order_so true b good are = (
     table_text (layout_of table.setup) (rows_seen rows),
     inr (length (rows_seen rows), front_of_some (layout_of table.setup) rows holds.numbered are),
-    (written dry b).0,
+    (written good b).0,
   )
 
   not_failed : o.has_failed table.output ≡ false → output_failed table.course ≡ false
@@ -232,13 +233,13 @@ module _ {W : Type 0} (o : outputs.Ghosts W) (text : Option (List ℕ)) (table :
         → (headed ≡ true → table.rows ≢ 0)
         → AreRowsOf (layout_of table.setup).targets (entries_seen rows) (rows_seen rows)
         → Gains (o.contents table.given.value) (o.contents table.output) (ArePartOfTable (layout_of table.setup) text)
-    part_so false b dry some are = (
+    part_so false b good some are = (
       [],
       inl refl,
       appends_nothing (o.contents table.given.value) (o.contents table.output)
-          (ap o.contents (unwritten dry b).0),
+          (ap o.contents (unwritten good b).0),
     )
-    part_so true b dry some are = (
+    part_so true b good some are = (
       table_text (layout_of table.setup) (rows_seen rows),
       inr (
         length (rows_seen rows),
@@ -250,15 +251,16 @@ module _ {W : Type 0} (o : outputs.Ghosts W) (text : Option (List ℕ)) (table :
           first = first_so (some (is_headed ∙ b));
         },
       ),
-      (written dry b).0,
+      (written good b).0,
     )
 
   -- rows were written behind a heading
   headed_so : (b : Bool) → is_some table.writer ≡ b → output_failed table.course ≡ false → table.rows ≢ 0
       → is_some table.writer ≡ true
-  headed_so true b dry some = b
-  headed_so false b dry some =
-      absurd (some (let none : length rows ≡ 0 = ap length (unwritten dry b).1 in let h = holds.counted in omega arith))
+  headed_so true b good some = b
+  headed_so false b good some =
+      absurd (some (let none : length rows ≡ 0 = ap length (unwritten good b).1 in let h = holds.counted in
+      omega arith))
 
   -- as many rows were written as there may be
   most_so : length rows ≡ record_limit → output_failed table.course ≡ false
@@ -266,7 +268,7 @@ module _ {W : Type 0} (o : outputs.Ghosts W) (text : Option (List ℕ)) (table :
       → AreRowsOf (layout_of table.setup).targets (entries_seen rows) (rows_seen rows)
       → Gains (o.contents table.given.value) (o.contents table.output)
       (IsFrontOfTable (layout_of table.setup) text record_limit)
-  most_so most dry first are =
+  most_so most good first are =
       let some : table.rows ≢ 0 = λ zero. let h = holds.counted in omega (arith, most, h, zero) in (
         table_text (layout_of table.setup) (rows_seen rows),
         record {
@@ -276,7 +278,7 @@ module _ {W : Type 0} (o : outputs.Ghosts W) (text : Option (List ℕ)) (table :
           counted = sym most ∙ sym (length-map rows row_seen);
           first = first;
         },
-        (written dry (headed_so (is_some table.writer) refl dry some)).0,
+        (written good (headed_so (is_some table.writer) refl good some)).0,
       )
 
   -- the rows of all entries were written
@@ -284,16 +286,16 @@ module _ {W : Type 0} (o : outputs.Ghosts W) (text : Option (List ℕ)) (table :
       → HasAllEntries (format_of table.setup) text (entries_seen rows)
       → AreRowsOf (layout_of table.setup).targets (entries_seen rows) (rows_seen rows)
       → Gains (o.contents table.given.value) (o.contents table.output) (IsAllOfTable (layout_of table.setup) text)
-  all_so false b dry all are = (
+  all_so false b good all are = (
     [],
-    inl (refl, subst (λ rs. HasAllEntries (format_of table.setup) text (entries_seen rs)) (unwritten dry b).1 all),
+    inl (refl, subst (λ rs. HasAllEntries (format_of table.setup) text (entries_seen rs)) (unwritten good b).1 all),
     appends_nothing (o.contents table.given.value) (o.contents table.output)
-        (ap o.contents (unwritten dry b).0),
+        (ap o.contents (unwritten good b).0),
   )
-  all_so true b dry all are = (
+  all_so true b good all are = (
     table_text (layout_of table.setup) (rows_seen rows),
     inr (record { entries = entries_seen rows; rows = rows_seen rows; table = table_is are; all = all }),
-    (written dry b).0,
+    (written good b).0,
   )
 
   reading_so : (c : Cause) → is_of_reading c ≡ true
@@ -302,9 +304,9 @@ module _ {W : Type 0} (o : outputs.Ghosts W) (text : Option (List ℕ)) (table :
       → ∥ IsSourceEnd o (layout_of table.setup) text table.given.value table.output
       (end.Broken c) ∥₁
   reading_so c reading fact =
-      let dry = faultless table.course fact.1 in
-      let told : tells_of_text passed.outcome ≡ true = ap tells_of_text fact.0 ∙ reading in
-      ∥∥₁_elim (has.rows told) ∥∥₁_prop
+      let good = faultless table.course fact.1 in
+      let speaks : speaks_of_text passed.outcome ≡ true = ap speaks_of_text fact.0 ∙ reading in
+      ∥∥₁_elim (has.rows speaks) ∥∥₁_prop
       (λ (given, is, all). ∥∥₁_map (rows_are (layout_of table.setup).targets rows holds.targets) (λ are.
       let bad =
       subst (λ p. IfErr p (λ d. d ≡ cause.BadHeader
@@ -317,26 +319,26 @@ module _ {W : Type 0} (o : outputs.Ghosts W) (text : Option (List ℕ)) (table :
       → (table.setup.form ≡ Sealed) × IfSome text (λ t. IsNotSealed (format_of table.setup) t)
       × HasAllEntries (format_of table.setup) text given)) fact.0 is.not_sealed in
       let front = taken_front given is all in
-      let long : length given ≡ table.rows = is.counted told ∙ sym fact.3 in
+      let long : length given ≡ table.rows = is.counted speaks ∙ sym fact.3 in
       let same : given ≡ entries_seen rows =
       front_all given (entries_seen rows) front.0 front.1 (long ∙ sym entries_len) in record {
-        part = λ e. part_so given is all (is_some table.writer) refl dry fact.2 are;
+        part = λ e. part_so given is all (is_some table.writer) refl good fact.2 are;
         bad_header = λ e. (bad e).1;
         too_many = λ e.
             let most : table.rows ≡ record_limit = sym long ∙ (many e).0 in (
               (many e).1,
-              most_so (holds.counted ∙ most) dry (first_so given is all (λ zero. omega (arith, most, zero))) are,
+              most_so (holds.counted ∙ most) good (first_so given is all (λ zero. omega (arith, most, zero))) are,
             );
         not_sealed = λ e.
             let u = unsealed e in (
               u.0,
               u.1,
-              all_so (is_some table.writer) refl dry
+              all_so (is_some table.writer) refl good
                   (subst (λ es. HasAllEntries (format_of table.setup) text es) same u.2) are,
             );
-        in_order = λ good. in_order_so (is_some table.writer) refl dry are;
+        in_order = λ unfailed. in_order_so (is_some table.writer) refl good are;
         sink = λ e. absurd (let k : is_of_reading c ≡ false = ap is_of_reading e in cc);
-        kept = λ e. table.good dry;
+        kept = λ e. table.good good;
       }))
 
   threads_so : (c : Cause) → is_of_reading c ≡ false
@@ -349,7 +351,7 @@ module _ {W : Type 0} (o : outputs.Ghosts W) (text : Option (List ℕ)) (table :
     too_many = λ e. absurd (let k : is_of_reading c ≡ true = ap is_of_reading e in cc);
     not_sealed = λ e. absurd (let k : is_of_reading c ≡ true = ap is_of_reading e in cc);
     in_order = λ good. in_order_so (is_some table.writer) refl (not_failed good) are;
-    sink = λ e. table.failed (table.sink_told (sink e));
+    sink = λ e. table.failed (table.sink_fault (sink e));
     kept = λ e. absurd (let k = listed c e in cc);
   })
 
@@ -371,8 +373,8 @@ module _ {W : Type 0} (o : outputs.Ghosts W) (text : Option (List ℕ)) (table :
       let same : c ≡ cause.BadHeader = cc in
       let fact =
       reading_met met c table.of_table lowest (ap is_of_reading same) in
-      let told : tells_of_text passed.outcome ≡ true = ap tells_of_text fact.0 ∙ ap is_of_reading same in (
-        not_true (is_some table.writer) (λ some. ∥∥₁_elim (has.rows told) (Prim.hlevel props) (λ (given, so, all).
+      let speaks : speaks_of_text passed.outcome ≡ true = ap speaks_of_text fact.0 ∙ ap is_of_reading same in (
+        not_true (is_some table.writer) (λ some. ∥∥₁_elim (has.rows speaks) (Prim.hlevel props) (λ (given, so, all).
             let bad =
             subst (λ p. IfErr p (λ d. d ≡ cause.BadHeader
             → (given ≡ []) × IfSome text (λ t. HasNoHeader (format_of table.setup) t))) fact.0 so.bad_header in
@@ -390,9 +392,9 @@ module _ {W : Type 0} (o : outputs.Ghosts W) (text : Option (List ℕ)) (table :
       broken_so (is_of_reading c) c refl (reading_met met c table.of_table lowest)
       (sink_met met c table.of_table has.output_good lowest.0)
   source_end (end.Whole count refused journal) whole lowest =
-      let dry = faultless table.course whole.1 in
-      let told : tells_of_text passed.outcome ≡ true = ap tells_of_text whole.0 in
-      ∥∥₁_elim (has.rows told) ∥∥₁_prop
+      let good = faultless table.course whole.1 in
+      let speaks : speaks_of_text passed.outcome ≡ true = ap speaks_of_text whole.0 in
+      ∥∥₁_elim (has.rows speaks) ∥∥₁_prop
       (λ (given, is, all). ∥∥₁_map (rows_are (layout_of table.setup).targets rows holds.targets) (λ are.
       let ended =
       subst (λ p. IfOk p (λ n. (n ≡ length given)
@@ -400,7 +402,7 @@ module _ {W : Type 0} (o : outputs.Ghosts W) (text : Option (List ℕ)) (table :
       let front = taken_front given is all in
       let len : length given ≡ length (entries_seen rows) = sym ended.0 ∙ whole.3 ∙ sym entries_len in
       let same = front_all given (entries_seen rows) front.0 front.1 len in
-      let bytes = written dry (sym is_headed ∙ whole.2) in record {
+      let bytes = written good (sym is_headed ∙ whole.2) in record {
         table = (
           table_text (layout_of table.setup) (rows_seen rows),
           record {
@@ -415,7 +417,7 @@ module _ {W : Type 0} (o : outputs.Ghosts W) (text : Option (List ℕ)) (table :
           bytes.0,
         );
         flushed = bytes.1;
-        good = table.good dry;
+        good = table.good good;
       }))
 
   -- the table of a source that is whole is that of the machine's entries

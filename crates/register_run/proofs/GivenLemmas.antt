@@ -17,7 +17,7 @@ use Rattle.register_run.specs.Carried.{AreDealt}
 use Rattle.register_run.specs.Worlds.{World}
 use Rattle.register_run.specs.JoinedThreads.{HasGoodOutput, HasPassed, IsCauseOf, IsGiven, IsOfThreads, Sends}
 use Rattle.register_run.specs.JoinedThreads.{is_of_reading}
-use Rattle.register_run.specs.JoinedThreads.{tells_of_text}
+use Rattle.register_run.specs.JoinedThreads.{speaks_of_text}
 use Rattle.register_run.specs.declared.reading.Sent.{Sent}
 
 pub numbered_more : (k : ℕ) (given : List Numbered) (n : Numbered) → AreNumberedFrom k given
@@ -182,10 +182,10 @@ pub of_threads : (c : Cause) → (c ≡ cause.NoMemory) ⊎ (c ≡ cause.Unconfi
 of_threads c (inl e) = (ap is_of_reading e, λ s. cc)
 of_threads c (inr e) = (ap is_of_reading e, λ s. cc)
 
--- an answer that does not speak of the text says nothing
+-- an outcome that does not speak of the text says nothing
 pub passed_not : (text : Option (List ℕ)) (d : Format) (sent : Sent) (c : Cause) (took : Row → Type 0)
     → sent.outcome ≡ Err c → IsOfThreads c → HasPassed text d sent took
 passed_not text d sent c took why is = record {
   output_good = subst HasGoodOutput (sym why) is.1;
-  rows = λ told. absurd (let k = is.0 in let t : is_of_reading c ≡ true = sym (ap tells_of_text why) ∙ told in cc);
+  rows = λ told. absurd (let k = is.0 in let t : is_of_reading c ≡ true = sym (ap speaks_of_text why) ∙ told in cc);
 }

@@ -155,7 +155,8 @@ module _ {R W : Type 0} {r : reads.Ghosts R} {o : outputs.Ghosts W} (setup : Set
           verdict = verdict;
         }
 
-        pub report_of_machine : report.outputs.items ≡ map output_of all → IsReportOfMachine r o setup sources given report
+        pub report_of_machine : report.outputs.items ≡ map output_of all
+            → IsReportOfMachine r o setup sources given report
         report_of_machine wrote =
             subst (λ ws. AreOfMachine r o setup sources given ws report.ends.items (stripes_of report)) (sym wrote)
             (subst (λ es. AreOfMachine r o setup sources given (map output_of all) es (stripes_of report)) (sym ends)

@@ -84,13 +84,13 @@ staff setup stripes staffed =
 
 -- threads that ended with a count
 pub joined_of_machine : (text : Option (List ℕ)) (setup : Setup) (stripes : List Stripe) (closed : List (Closed Entry))
-    (n : ℕ) (outcome : Result ℕ Cause) (ended told : Bool) → beq ended told ≡ true → told ≡ is_ok outcome
+    (n : ℕ) (outcome : Result ℕ Cause) (ended complete : Bool) → beq ended complete ≡ true → complete ≡ is_ok outcome
     → map stripe_setup stripes ≡ replicate setup.stripes setup → AreOfLanes (map feeding_lane stripes) closed
     → ∥ HasSent text (format_of setup) (record { count = n; outcome = outcome }) closed ∥₁
     → HavePassedOn ended stripes closed
     → IfOk outcome (λ count. ∥ Carries text setup count stripes (AnyTook stripes) ∥₁)
-joined_of_machine text setup stripes closed n (Err cause) ended told same is staffed from sent on = tt
-joined_of_machine text setup stripes closed n (Ok count) true told same is staffed from sent on =
+joined_of_machine text setup stripes closed n (Err cause) ended complete same is staffed from sent on = tt
+joined_of_machine text setup stripes closed n (Ok count) true complete same is staffed from sent on =
     ∥∥₁_map sent (λ (given, so, deals). (
       record {
         given = given;

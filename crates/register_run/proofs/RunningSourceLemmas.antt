@@ -17,7 +17,7 @@ use Rattle.register_run.specs.TablesWritten.{Holds, made_by}
 use Rattle.register_run.specs.Written.{Concludes, Wrote}
 use Rattle.register_run.proofs.TableLemmas.{targets_row}
 
--- what holds of the count of an answer that has one
+-- what holds of the count of an outcome that has one
 if_ok : (outcome : Result ℕ Cause) (P Q : ℕ → Type 0) → ((count : ℕ) → P count → Q count)
     → IfOk outcome (λ count. ∥ P count ∥₁) → IfOk outcome (λ count. ∥ Q count ∥₁)
 if_ok (Ok count) P Q f h = ∥∥₁_map h (f count)
@@ -59,7 +59,7 @@ module _ {R W : Type 0} {o : outputs.Ghosts W} where
         is,
         record {
           output_good = has'.output_good;
-          rows = λ told. ∥∥₁_map (has'.rows told) (λ (given, so, all). (given, so, λ row c. all row (took row c)));
+          rows = λ speaks. ∥∥₁_map (has'.rows speaks) (λ (given, so, all). (given, so, λ row c. all row (took row c)));
         },
         if_ok sent.outcome _ _ (λ count (machine, all). (machine, λ row c. all row (took row c))) carries',
       ))

@@ -31,10 +31,10 @@ pub of_threads : {R : Type 0} (source : R) (setup : Setup) (stripes : List Strip
 of_threads source setup stripes task h P p = subst (λ s. P source s) h.1 (subst (λ r. P r task.setup.value) h.0 p)
 
 -- the stripes of threads that have started, and of threads that did not
-pub staffed : (setup : Setup) (stripes joined : List Stripe) (told outcome : Result ℕ Cause) → joined ≡ stripes
-    → outcome ≡ told
-    → map stripe_setup stripes ≡ replicate setup.stripes setup → HasStarted told → AreStaffed setup outcome joined
-staffed setup stripes joined told outcome same is by started =
+pub staffed : (setup : Setup) (stripes joined : List Stripe) (sent outcome : Result ℕ Cause) → joined ≡ stripes
+    → outcome ≡ sent
+    → map stripe_setup stripes ≡ replicate setup.stripes setup → HasStarted sent → AreStaffed setup outcome joined
+staffed setup stripes joined sent outcome same is by started =
     inl (ap (λ (l : List Stripe). map stripe_setup l) same ∙ by, subst HasStarted (sym is) started)
 
 pub unstaffed : (setup : Setup) (stripes joined : List Stripe) (f : StartFault) (outcome : Result ℕ Cause)

@@ -22,7 +22,7 @@ use Rattle.register_run.specs.declared.reports.Ran.{Ran}
 use Rattle.register_run.specs.declared.ended_sources.Met.{Met}
 use Rattle.register_run.proofs.StripeLemmas.{and_left}
 use Rattle.register_run.proofs.HistoryLemmas.{staff}
-use Rattle.register_run.proofs.EndedSourceLemmas.{thread_told}
+use Rattle.register_run.proofs.EndedSourceLemmas.{thread_outcome}
 
 some_stripe : (setup : Setup) → 0 < setup.stripes
 some_stripe setup =
@@ -59,9 +59,9 @@ module _ (setup : Setup) (met : Met) (journal : List Note) (of_table : IfSome me
         × (count ≡ met.rows) × (refused ≡ length notes) × (notes ≡ journal))
         → IfBroken e (IsLowest (IsMet met))
         → (e ≡ end.Broken cause.NoMemory) ⊎ (e ≡ end.Broken cause.NoThread)
-    low_end (end.Whole count refused notes) c low told whole lowest = absurd (let ok = whole.0 in cc)
-    low_end (end.Broken b) c low told whole lowest =
-        let below = lowest.1 c (inl told) in
+    low_end (end.Whole count refused notes) c low outcome whole lowest = absurd (let ok = whole.0 in cc)
+    low_end (end.Broken b) c low outcome whole lowest =
+        let below = lowest.1 c (inl outcome) in
         elim (lowest_two b (omega (arith, below, low))) [
           | inl e ↦ inl (ap (λ x. end.Broken x) e)
           | inr e ↦ inr (ap (λ x. end.Broken x) e)
@@ -77,15 +77,15 @@ module _ (setup : Setup) (met : Met) (journal : List Note) (of_table : IfSome me
       rings = rings_of setup ran.stripes.value.items setup.stripes staffed;
       none = λ none. absurd (let long = staff setup ran.stripes.value.items staffed in let some = some_stripe setup in
           let zero : length ran.stripes.value.items ≡ 0 = ap length none in omega (arith, long, some, zero));
-      unstarted = λ is. absurd (subst HasStarted (thread_told met of_table e lowest is) started refl);
+      unstarted = λ is. absurd (subst HasStarted (thread_outcome met of_table e lowest is) started refl);
       lowest = subst (λ m. IfBroken e (IsLowest (IsMet m))) (sym is_met) lowest;
     }
     threads_of ran e is_met (inr (none, why)) whole lowest = record {
       stripes = λ some. absurd (some none);
       rings = subst (All (HasRing setup.ring)) (sym none) (λ k d below. absurd (omega (arith, below)));
       none = λ is. elim why [
-        | inl told ↦ low_end e cause.NoMemory (omega arith) told whole lowest
-        | inr told ↦ low_end e cause.NoThread (omega arith) told whole lowest
+        | inl outcome ↦ low_end e cause.NoMemory (omega arith) outcome whole lowest
+        | inr outcome ↦ low_end e cause.NoThread (omega arith) outcome whole lowest
       ];
       unstarted = λ is. none;
       lowest = subst (λ m. IfBroken e (IsLowest (IsMet m))) (sym is_met) lowest;

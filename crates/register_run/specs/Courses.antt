@@ -26,13 +26,13 @@ is_of_table cause.Unconfirmed = true
 is_of_table cause.SinkFault = true
 is_of_table cause = false
 
--- what was written is not what the threads answered: not all rows with the heading; or where they gave up, not the rows
--- of all entries that were read until then, or the heading without a row
+-- what was written is not what the threads ended with: not all rows with the heading; or where they gave up, not the
+-- rows of all entries that were read until then, or the heading without a row
 abbrev pub Differs : Result ℕ Cause → ℕ → Bool → ℕ → Type 0
 Differs (Ok count) read headed rows = (headed ≡ true) × (rows ≡ count) → ⊥
 Differs (Err c) read headed rows = (rows ≢ read) ⊎ ((headed ≡ true) × (rows ≡ 0))
 
--- a source has met this cause: its threads answered it, its table broke off for it, or the table did not and differs
+-- a source has met this cause: its threads ended with it, its table broke off for it, or the table did not and differs
 abbrev pub IsMet : Met → Cause → Type 0
 IsMet met c =
     (met.sent.outcome ≡ Err c) ⊎ (met.fault ≡ Some c)

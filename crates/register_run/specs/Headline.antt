@@ -12,8 +12,8 @@ use Rattle.register_records.specs.declared.sources.Note.{Note}
 use Rattle.register_records.specs.declared.sources.SourceEnd.{SourceEnd}
 use Rattle.register_records.specs.declared.sources.SourceEnd.TheVariants as ended
 
--- the lists have one length, and this holds at each place: of the source there, of its output as it was handed in and
--- as it is handed back, and of its end
+-- the lists have one length, and this holds at each place of the source there, its output as it was handed in and as it
+-- is handed back, and its end
 abbrev pub AtEachPlace : {R W E : Type 0} → (R → W → W → E → Type 0) → List R → List W → List W → List E → Type 0
 AtEachPlace Holds [] [] [] [] = ⊤
 AtEachPlace Holds (r ∷ rs) (g ∷ gs) (w ∷ ws) (e ∷ es) = Holds r g w e × AtEachPlace Holds rs gs ws es
@@ -28,7 +28,7 @@ abbrev pub IsAllOfTable : Layout → Option (List ℕ) → List ℕ → Type 0
 IsAllOfTable layout text bytes =
     ((bytes ≡ []) × HasAllEntries layout.format text []) ⊎ IsTableOfAll layout text bytes
 
--- of the output of a source with this text, where it tells its bytes: as it was handed in, and as it is handed back
+-- the output of a source with this text, as it was handed in and as it is handed back, where its bytes are known
 module _ {W : Type 0} (o : outputs.Ghosts W) (layout : Layout) (text : Option (List ℕ)) (given written : W) where
   -- the source is whole: the output has gained the table of the text, and nothing else; all that it took was handed on,
   -- and it has failed no more than before

@@ -40,14 +40,14 @@ is_of_reading cause.TooManyRecords = true
 is_of_reading cause.NotSealed = true
 is_of_reading cause = false
 
--- the answer of a source's threads speaks of its text
-abbrev pub tells_of_text : Result ℕ Cause → Bool
-tells_of_text (Ok count) = true
-tells_of_text (Err c) = is_of_reading c
+-- the outcome of a source's threads speaks of its text
+abbrev pub speaks_of_text : Result ℕ Cause → Bool
+speaks_of_text (Ok count) = true
+speaks_of_text (Err c) = is_of_reading c
 
 -- the entries that a reader gave of a text, by what it has sent: their count, and that it is that of all, or a cause
 pub record IsGiven (text : Option (List ℕ)) (format : Format) (sent : Sent) (given : List Numbered) : Type 0 where
-  pub counted : tells_of_text sent.outcome ≡ true → length given ≡ sent.count
+  pub counted : speaks_of_text sent.outcome ≡ true → length given ≡ sent.count
   pub numbered : AreNumberedFrom 1 given
   pub first : (given ≡ []) ⊎ HasFirstEntries format text given
   pub all : IfOk sent.outcome (λ n. (n ≡ length given) × HasEntries format text given)
@@ -82,15 +82,15 @@ HasSent text format sent closed =
     (given : List Numbered) × IsGiven text format sent given
     × ((w : World) → w.converters ≡ length closed → WereDealt w 0 given closed)
 
--- a reader of this text, which was given the senders of these lanes, may answer so
+-- a reader of this text, which was given the senders of these lanes, may return this
 pub record IsReading (text : Option (List ℕ)) (format : Format) (lanes : List Lane) (r : Reading) : Type 0 where
   pub from : AreOfLanes lanes r.closed.items
   pub entries : ∥ HasSent text format r.sent r.closed.items ∥₁
   pub output_good : HasGoodOutput r.sent.outcome
   pub started : HasStarted r.sent.outcome
 
--- a converter which was given these two lanes may answer so: its rows are those of the first entries that it took, and
--- of all of them where it ended their lane with an `End`
+-- a converter which was given these two lanes may return this: its rows are those of the first entries that it took,
+-- and of all of them where it ended their lane with an `End`
 pub record IsConverting (from into : Lane) (r : Converting) : Type 0 where
   pub handed : receiver_lane r.entries ≡ from
   pub closed : IsOfLane into r.closed
@@ -110,8 +110,8 @@ abbrev pub Passes : Option (List ℕ) → Format → Sent → (Row → Type 0) �
 Passes text format sent took =
     (given : List Numbered) × IsGiven text format sent given × ((row : Row) → took row → IsOfGiven given row)
 
--- the threads of a source have ended with this answer: where it speaks of the text, all that the reader
+-- the threads of a source have ended with this outcome: where it speaks of the text, all that the reader
 -- sent has passed on
 pub record HasPassed (text : Option (List ℕ)) (format : Format) (sent : Sent) (took : Row → Type 0) : Type 0 where
   pub output_good : HasGoodOutput sent.outcome
-  pub rows : tells_of_text sent.outcome ≡ true → ∥ Passes text format sent took ∥₁
+  pub rows : speaks_of_text sent.outcome ≡ true → ∥ Passes text format sent took ∥₁

@@ -1,4 +1,4 @@
--- What a run answers of its lists.
+-- What a run returns.
 use Rattle.std.specs.Prelude.{◌≡◌, ◌↔◌, ℕ, List, All, IsErrAnd, Result, Vec, map, true}
 use Rattle.std.specs.declared.io.traits.Read as reads
 use Rattle.register_records.specs.Sources.{is_whole_end}

@@ -17,8 +17,8 @@ abbrev pub HasRing : ℕ → Stripe → Type 0
 HasRing ring stripe = (lane_capacity (feeding_lane stripe) ≡ ring) × (lane_capacity (receiver_lane stripe.rows) ≡ ring)
 
 -- the threads of a source that ended so: as many stripes as the setup has, with lanes of its ring. There is none only
--- where threads did not start, which is cause 1 or 2; and with cause 2 there is none. A source that is broken tells the
--- lowest of the causes that its threads and its table met
+-- where threads did not start, which is cause 1 or 2; and with cause 2 there is none. A source that is broken reports
+-- the lowest of the causes that its threads and its table met
 pub record AreThreadsOf (setup : Setup) (end : SourceEnd) (ran : Ran) : Type 0 where
   pub stripes : ran.stripes.value.items ≢ [] → length ran.stripes.value.items ≡ setup.stripes
   pub rings : All (HasRing setup.ring) ran.stripes.value.items

@@ -18,7 +18,7 @@ module _ {W : Type 0} {o : outputs.Ghosts W} where
   abbrev pub Wrote : {R : Type 0} → SourceThreads R → TableWriter W o → Type 0
   Wrote threads table = (rows : List Row) × Holds table rows × ((row : Row) → Contains rows row → Passed threads row)
 
-  -- the threads of the source have ended with this answer, and the rows of the table are those that were taken from
+  -- the threads of the source have ended with this outcome, and the rows of the table are those that were taken from
   -- these stripes
   abbrev pub Concludes : Option (List ℕ) → TableWriter W o → Sent → List Stripe → Type 0
   Concludes text table sent stripes =

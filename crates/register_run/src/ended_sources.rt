@@ -44,7 +44,7 @@ pub(crate) struct Met {
     pub(crate) rows: u32,
 }
 
-/// The lower of two causes, which is the one that is told.
+/// The lower of two causes, which is the one that is reported.
 pub(crate) fn lower(one: Cause, other: Cause) -> Cause
     ensures one_of { (result ≡ one) ⊎ (result ≡ other) }
     ensures lowest { (cause_number result ≤ cause_number one) × (cause_number result ≤ cause_number other) }

@@ -1,9 +1,9 @@
 //! Many registers converted at once, each by threads of its own.
 //!
-//! A source has a reader, one to four converters and a place at the calling thread, which writes. They are joined by
-//! lanes: the reader sends the entries to the converters by turns, each converter sends on the row of each entry, and
-//! the calling thread takes the rows by the same turns and writes them. When the threads have been joined, each lane
-//! is confirmed, and only then is a source called whole. [`run`] converts a list of sources.
+//! A source has a reader and one to four converters, each on a thread of its own, and the calling thread writes. They
+//! are joined by lanes: the reader sends the entries to the converters by turns, each converter sends on the row of
+//! each entry, and the calling thread takes the rows by the same turns and writes them. When the threads have been
+//! joined, each lane is confirmed, and only then is a source called whole. [`run`] converts a list of sources.
 #![tactic(auto)]
 
 mod converting;

@@ -24,7 +24,7 @@ use std::time::{Clock, CpuClock};
 /// The most sources of a run.
 pub const MAX_SOURCES: usize = 32;
 
-/// The runtime of a run: it starts threads, waits and tells the time, in each of them.
+/// The runtime of a run: it starts threads, waits and reads the clock, in each of them.
 pub(crate) trait Host: Threads + Wait + Clock + CpuClock + Sync {}
 
 impl<T: Threads + Wait + Clock + CpuClock + Sync> Host for T {}
@@ -40,8 +40,8 @@ pub(crate) struct RunContext<'s, 'e, T, G> {
     pub(crate) setup: &'e Setup,
 }
 
-/// The patience of the readers of a run with so many sources. Where the system does not tell how many processors there
-/// are, it is that for one: of that one a run that is alone has its share on any machine.
+/// The patience of the readers of a run with so many sources. Where the system does not say how many processors there
+/// are, it is that for one processor, of which a run that is alone has its share on any machine.
 fn patience_for(rt: &impl Threads, sources: usize) -> Patience {
     let processors = thread::available_parallelism(rt).map_or(1, NonZeroUsize::get);
     Patience::for_run(sources, processors)
@@ -71,7 +71,7 @@ fn start_all<'s, 'e, T: Host, R: Read + Send + Drop + 'e, W: Output + Drop, G: G
     running_sources
 }
 
-/// Visits each source once. The answer is whether there was an item at one of them.
+/// Visits each source once. Returns whether there was an item at one of them.
 fn visit_all<R: Read + Drop, W: Output + Drop>(
     running_sources: &mut Vec<RunningSource<R, W>>,
 ) -> bool
@@ -296,7 +296,7 @@ fn run_in_scope<T: Host, R: Read + Send + Drop, W: Output + Drop, G: Gate + Sync
 }
 
 /// Converts many sources at once: each source is read on a thread of its own and converted on further ones, and this
-/// thread writes the tables, that of each source to the output at its place. `setup` says for which targets, with which
+/// thread writes the table of each source to the output at its place. `setup` says for which targets, with which
 /// delimiter, in which form, and with how many converters and how large rings for each source. Before the row of an
 /// entry is sent, its converter passes `gate`. What is promised is the same for every gate, and what [`run`] promises.
 ///
@@ -356,8 +356,8 @@ pub fn run_gated<
 /// let text = b"id,calendar,date\nx,gregorian,1970-01-01\n";
 /// let sources = Vec::from_array(rt.alloc(), [text.as_slice()])?;
 /// let outputs = Vec::from_array(rt.alloc(), [PlainOutput::new(Vec::new(rt.alloc()), 1)])?;
-/// let answer = run(&rt, rt.alloc(), sources, outputs, &setup);
-/// assert!(rt; answer.is_ok_and(|report| report.verdict == Verdict::Complete));
+/// let result = run(&rt, rt.alloc(), sources, outputs, &setup);
+/// assert!(rt; result.is_ok_and(|report| report.verdict == Verdict::Complete));
 /// ```
 pub fn run<T: Threads + Wait + Clock + CpuClock + Sync, R: Read + Send + Drop, W: Output + Drop>(
     rt: &T,

@@ -1,4 +1,4 @@
-//! A source's place at the thread that writes.
+//! A source that runs, as the thread that writes has it.
 
 ghost use Rattle.std.specs.Prelude.{◌≡◌};
 ghost use Rattle.register_run.specs.SourceThreads.{started_by};
@@ -55,7 +55,7 @@ impl<R: Read + Drop, W: Output + Drop> RunningSource<R, W> {
         self.open
     }
 
-    /// Takes the rows that are there now and writes them in one call. The answer is whether there was an item.
+    /// Takes the rows that are there now and writes them in one call. Returns whether there was an item.
     pub(crate) fn visit(&mut self) -> bool
         ensures { case_of self.new ≡ case_of self.old }
     {

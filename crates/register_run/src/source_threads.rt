@@ -237,7 +237,7 @@ fn start_threads<'s, 'e, T: Host, R: Read + Send + Drop + 'e, G: Gate + Sync>(
     }
 }
 
-/// Joins the threads of a source and confirms all lanes. The answer is what the reader has sent, with the lowest of the
+/// Joins the threads of a source and confirms all lanes. Returns what the reader has sent, with the lowest of the
 /// causes that were met: those of reading, and `Unconfirmed` where a lane is not confirmed, or where the lanes ended
 /// otherwise than the reader did.
 fn join_threads<R: Read + Drop>(

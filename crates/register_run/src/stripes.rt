@@ -218,8 +218,8 @@ impl Stripe {
         self.count = self.count.saturating_add(1);
     }
 
-    /// Joins the thread and confirms both lanes. `closed` is what is left of the sender that fed the converter. The
-    /// answer is whether the second lane ended with the number of the rows that were taken from it.
+    /// Joins the thread and confirms both lanes. `closed` is what is left of the sender that fed the converter. Returns
+    /// whether the second lane ended with the number of the rows that were taken from it.
     ///
     /// # Errors
     ///

@@ -26,7 +26,7 @@ pub(crate) enum Course {
     Open,
     /// No more is added, for this cause. The output has not failed.
     Halted(Cause),
-    /// The output has failed. This cause is told, the first that was met.
+    /// The output has failed. This cause is reported, the first that was met.
     OutputFailed(Cause),
 }
 
@@ -58,10 +58,10 @@ pub(crate) struct TableWriter<W: Output> {
     ghost marked: { W.own_mark output ≡ W.own_mark given.value },
     ghost failed: { output_failed course ≡ true → W.has_failed output ≡ true },
     ghost good: { output_failed course ≡ false → W.has_failed output ≡ W.has_failed given.value },
-    ghost afloat: { output_failed course ≡ false
+    ghost unfailed: { output_failed course ≡ false
         → IfSome writer (λ w. output_failed_in w ≡ false) } by { Prim.hlevel props },
     ghost untouched: { is_some writer ≡ false → output_failed course ≡ false → output ≡ given.value },
-    ghost sink_told: { fault_of course ≡ Some cause.SinkFault → output_failed course ≡ true },
+    ghost sink_fault: { fault_of course ≡ Some cause.SinkFault → output_failed course ≡ true },
     ghost of_table: { IfSome (fault_of course) (λ c. is_of_table c ≡ true) } by { Prim.hlevel props },
     ghost limited: { rows ≤ record_limit },
     ghost few_refused: { vec_len journal ≤ rows },
@@ -142,7 +142,7 @@ impl<W: Output + Drop> TableWriter<W> {
 
     /// Appends the line of the next row to those that wait, and its note to the journal.
     fn append(&mut self, row: &Row)
-        requires afloat { output_failed self.old.course ≡ false }
+        requires unfailed { output_failed self.old.course ≡ false }
         requires number { row.now.entry.number ≡ self.old.rows + 1 }
         requires targets { row_targets row.now ≡ targets_of (made_by self.old) }
         ensures output { made_for self.new ≡ made_for self.old }

@@ -19,7 +19,7 @@ mod lengths;
 mod schedules;
 mod sealed;
 
-/// The runtime of a run: it starts threads, waits and tells the time, in each of them.
+/// The runtime of a run: it starts threads, waits and reads the clock, in each of them.
 trait Host: Threads + Wait + Clock + CpuClock + Sync {}
 
 impl<T: Threads + Wait + Clock + CpuClock + Sync> Host for T {}
@@ -82,8 +82,8 @@ fn outputs_of(alloc: Global, count: usize) -> Result<Vec<PlainOutput<Vec<u8>>>, 
     Ok(outputs)
 }
 
-/// What `run` answers.
-fn answer_of<T: Host, R: Read + Send + Drop, W: Output + Drop>(
+/// What `run` returns.
+fn result_of_run<T: Host, R: Read + Send + Drop, W: Output + Drop>(
     rt: &T,
     alloc: Global,
     sources: Vec<R>,
@@ -101,7 +101,7 @@ fn report_of<T: Host, R: Read + Send + Drop, W: Output + Drop>(
     outputs: Vec<W>,
     setup: &Setup,
 ) -> Result<Report<W>, Fail> {
-    match answer_of(rt, alloc, sources, outputs, setup) {
+    match result_of_run(rt, alloc, sources, outputs, setup) {
         Ok(report) => Ok(report),
         Err(_) => Err(Fail::from("the run did not begin")),
     }
@@ -115,7 +115,7 @@ fn completes<T: Host, R: Read + Send + Drop, W: Output + Drop>(
     outputs: Vec<W>,
     setup: &Setup,
 ) -> bool {
-    match answer_of(rt, alloc, sources, outputs, setup) {
+    match result_of_run(rt, alloc, sources, outputs, setup) {
         Ok(report) => is_complete(&report),
         Err(_) => false,
     }
@@ -230,14 +230,14 @@ fn tables_do_not_depend_on_stripes_and_rings(rt: HostRuntime) -> Result<(), Fail
     Ok(())
 }
 
-/// What was told of a source: the number of its end's cause, or 0, and what stands in its output.
+/// What came of a source: the number of its end's cause, or 0, and what stands in its output.
 #[derive(Drop)]
-struct Told {
+struct SourceResult {
     cause: u8,
     table: Vec<u8>,
 }
 
-impl Told {
+impl SourceResult {
     /// Whether it has this cause, and its output holds these parts, one behind the other.
     fn is(&self, cause: u8, parts: &[&str]) -> bool {
         self.cause == cause && is_joined(self.table.as_slice(), parts)
@@ -256,17 +256,20 @@ fn is_joined(text: &[u8], parts: &[&str]) -> bool {
     rest.is_empty()
 }
 
-/// What a run told of its sources, in their order.
-fn told_by(alloc: Global, report: Report<PlainOutput<Vec<u8>>>) -> Result<Vec<Told>, AllocError> {
-    let mut told = Vec::new(alloc);
+/// What came of the sources of a run, in their order.
+fn results_of(
+    alloc: Global,
+    report: Report<PlainOutput<Vec<u8>>>,
+) -> Result<Vec<SourceResult>, AllocError> {
+    let mut results = Vec::new(alloc);
     let outputs = report.outputs;
     for (end, output) in report.ends.iter().zip(outputs) {
-        told.push(Told {
+        results.push(SourceResult {
             cause: cause_of(end),
             table: output.into_inner(),
         })?;
     }
-    Ok(told)
+    Ok(results)
 }
 
 const REFORM_TABLE: &str = "\
@@ -283,9 +286,9 @@ fn a_broken_source_leaves_the_other_one_alone(rt: HostRuntime) -> Result<(), Fai
     let outputs = outputs_of(rt.alloc(), 2)?;
     let report = report_of(&rt, rt.alloc(), sources, outputs, &setup)?;
     let is_incomplete = report.verdict == Verdict::Incomplete;
-    let told = told_by(rt.alloc(), report)?;
-    assert!(rt; is_incomplete && told.len() == 2);
-    for (one, (cause, table)) in told.iter().zip([(6, ""), (0, REFORM_TABLE)]) {
+    let results = results_of(rt.alloc(), report)?;
+    assert!(rt; is_incomplete && results.len() == 2);
+    for (one, (cause, table)) in results.iter().zip([(6, ""), (0, REFORM_TABLE)]) {
         assert!(rt; one.is(cause, &[table]), "at cause {cause}");
     }
     Ok(())
@@ -303,7 +306,7 @@ fn kind_of_fault(
         sources.push(b"id,calendar,date\n")?;
     }
     let outputs = outputs_of(alloc, 1)?;
-    let Err(fault) = answer_of(rt, alloc, sources, outputs, &setup) else {
+    let Err(fault) = result_of_run(rt, alloc, sources, outputs, &setup) else {
         return Ok(None);
     };
     let are_back = fault.sources.len() == count && fault.outputs.len() == 1;

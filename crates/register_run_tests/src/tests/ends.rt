@@ -1,5 +1,5 @@
-//! The ends of a lane on two threads, where one of them is slow: nothing but a dropped end is told as gone, and what
-//! was sent before the sender was dropped is taken.
+//! The ends of a lane on two threads, where one of them is slow: nothing but a dropped end is reported as gone, and
+//! what was sent before the sender was dropped is taken.
 
 use super::Host;
 use lane_rings::{Item, Receiver, Sender, lane};
@@ -85,7 +85,7 @@ fn try_items(receiver: Receiver<u32>, slow: bool) -> u32 {
     0
 }
 
-/// How many items come in order over a lane before its sender is told as gone.
+/// How many items come in order over a lane before its sender is reported as gone.
 fn count_over_lane(
     rt: &impl Host,
     alloc: Global,
@@ -117,30 +117,30 @@ fn all_that_was_sent_is_taken_before_the_sender_is_gone(rt: HostRuntime) -> Resu
     Ok(())
 }
 
-/// What a sender was told: nothing yet, that the receiver is gone once it was to be dropped, or something else.
+/// What a sender has seen: nothing yet, that the receiver is gone once it was to be dropped, or something else.
 const RIGHT: u64 = 1;
 
 const WRONG: u64 = 2;
 
-/// Sends items until the receiver is gone, and notes whether this was told of the item that was sent, and not before
+/// Sends items until the receiver is gone, and notes whether this came with the item that was sent, and not before
 /// the receiver was to be dropped.
 fn send_until_gone(
     rt: &(impl Wait + Clock + CpuClock),
     sender: Sender<u32>,
     slow: bool,
     dropping: &AtomicU64,
-    told: &AtomicU64,
+    seen: &AtomicU64,
 ) {
     let mut sender = sender;
     for item in 0..ITEMS {
         linger(slow);
         if let Err(gone) = sender.send(rt, item) {
             let right = gone.value == item && dropping.load(Ordering::SeqCst) == 1;
-            told.store(if right { RIGHT } else { WRONG }, Ordering::SeqCst);
+            seen.store(if right { RIGHT } else { WRONG }, Ordering::SeqCst);
             return;
         }
     }
-    told.store(WRONG, Ordering::SeqCst);
+    seen.store(WRONG, Ordering::SeqCst);
 }
 
 /// Takes a few items and drops the receiver.
@@ -162,27 +162,27 @@ fn take_few(
     drop(receiver);
 }
 
-/// What a sender is told whose receiver takes a few items and is dropped.
-fn told_to_sender(rt: &impl Host, alloc: Global, slow: Slow) -> Result<u64, AllocError> {
+/// What a sender sees whose receiver takes a few items and is dropped.
+fn seen_by_sender(rt: &impl Host, alloc: Global, slow: Slow) -> Result<u64, AllocError> {
     let (sender, receiver) = lane::<u32>(alloc, 2)?;
-    let (dropping, told) = (AtomicU64::new(0), AtomicU64::new(0));
-    let (dropping_seen, told_seen) = (&dropping, &told);
+    let (dropping, seen) = (AtomicU64::new(0), AtomicU64::new(0));
+    let (to_drop, to_note) = (&dropping, &seen);
     thread::scope(thread::scope_env(), rt, move |scope| {
         let started = scope.spawn(move || {
-            send_until_gone(rt, sender, slow == Slow::Sender, dropping_seen, told_seen)
+            send_until_gone(rt, sender, slow == Slow::Sender, to_drop, to_note)
         });
         if started.is_ok() {
-            take_few(rt, receiver, slow == Slow::Receiver, dropping_seen);
+            take_few(rt, receiver, slow == Slow::Receiver, to_drop);
         }
     });
-    Ok(told.load(Ordering::SeqCst))
+    Ok(seen.load(Ordering::SeqCst))
 }
 
 #[test]
 fn a_receiver_is_gone_only_when_it_is_dropped(rt: HostRuntime) -> Result<(), Fail> {
     for (slow, name) in SLOW {
-        let told = told_to_sender(&rt, rt.alloc(), slow)?;
-        assert!(rt; told == RIGHT, "{name}: {told}");
+        let seen = seen_by_sender(&rt, rt.alloc(), slow)?;
+        assert!(rt; seen == RIGHT, "{name}: {seen}");
     }
     Ok(())
 }

@@ -11,7 +11,7 @@ fn sources_become_tables(rt: HostRuntime) -> Result<(), Fail> {
     let text = b"id,calendar,date\nx,gregorian,1970-01-01\n";
     let sources = Vec::from_array(rt.alloc(), [text.as_slice()])?;
     let outputs = Vec::from_array(rt.alloc(), [PlainOutput::new(Vec::new(rt.alloc()), 1)])?;
-    let answer = run(&rt, rt.alloc(), sources, outputs, &setup);
-    assert!(rt; answer.is_ok_and(|report| report.verdict == Verdict::Complete));
+    let result = run(&rt, rt.alloc(), sources, outputs, &setup);
+    assert!(rt; result.is_ok_and(|report| report.verdict == Verdict::Complete));
     Ok(())
 }

@@ -1,7 +1,8 @@
 //! Sources and outputs that fail at each place in turn, and memory that is refused, beside sources that do not fail.
 
 use super::{
-    Host, answer_of, cause_of, is_complete, plain_setup, report_of, table_of, tables_of, text_of,
+    Host, cause_of, is_complete, plain_setup, report_of, result_of_run, table_of, tables_of,
+    text_of,
 };
 use register_records::faults::{Chunks, Sink};
 use register_records::{Output, PlainOutput, Setup, SourceEnd};
@@ -137,8 +138,8 @@ fn seen_of(
     Ok(seen)
 }
 
-/// Whether a source is broken by a fault of reading, with whole lines on its output, and with none where no read was
-/// answered.
+/// Whether a source is broken by a fault of reading, with whole lines on its output, and with none where no read
+/// succeeded.
 fn is_broken_at_read(seen: Seen, read: u32) -> bool {
     let Some(lines) = seen.lines else {
         return false;
@@ -243,9 +244,7 @@ const READ_AFTER_TEXT: u32 = 4;
 
 // A text of a header and one record is cut off after it, and its output may take nothing.
 #[test]
-fn of_a_fault_of_writing_and_one_of_reading_that_of_writing_is_told(
-    rt: HostRuntime,
-) -> Result<(), Fail> {
+fn a_fault_of_writing_is_reported_before_one_of_reading(rt: HostRuntime) -> Result<(), Fail> {
     for (stripes, write, cause) in [(1, 0, 5), (1, 1, 4), (4, 0, 5), (4, 1, 4)] {
         let faults = Faults {
             read: READ_AFTER_TEXT,
@@ -346,8 +345,8 @@ fn reader_of_records(alloc: Global, records: usize) -> Result<Chunks, AllocError
     reader_of(alloc, text.as_slice(), 0)
 }
 
-/// What a run answers where memory may be refused. Its sources and outputs take none.
-fn answer_in_need(
+/// What a run returns where memory may be refused. Its sources and outputs take none.
+fn result_in_need(
     rt: &impl Host,
     alloc: Global,
     setup: &Setup,
@@ -358,7 +357,7 @@ fn answer_in_need(
         sources.push(reader_of_records(alloc, count)?)?;
         outputs.push(Sink::new(alloc, 7, ROOM, 0, 0, ROOM)?)?;
     }
-    Ok(answer_of(rt, alloc, sources, outputs, setup))
+    Ok(result_of_run(rt, alloc, sources, outputs, setup))
 }
 
 /// Whether a run did not begin since memory ran out, and gives back its sources and its outputs, which are empty.
@@ -404,7 +403,7 @@ fn a_run_that_is_refused_memory_does_not_begin_or_breaks_one_source(rt: HostRunt
     let (Ok(setup), Ok(tables)) = (plain_setup(1, 2), tables_of(rt.alloc(), &COUNTS)) else {
         return;
     };
-    let is_right = match answer_in_need(&rt, rt.alloc(), &setup) {
+    let is_right = match result_in_need(&rt, rt.alloc(), &setup) {
         Ok(Ok(report)) => breaks_one_at_most(&report, tables.as_slice()),
         Ok(Err(fault)) => are_given_back(&fault),
         Err(_) => return,

@@ -10,7 +10,7 @@ use std::io::{Read, Write};
 use std::test::Fail;
 
 /// Texts, in which the substitute U+001A stands for the byte FF, which is nowhere in UTF-8. Each has the cause that is
-/// told, or 0, and the rows below the heading.
+/// reported, or 0, and the rows below the heading.
 const TEXTS: [(&str, u8, &str); 16] = [
     (
         "id,calendar,date\n\
@@ -93,19 +93,19 @@ fn reader_of(alloc: Global, text: &str, size: usize) -> Result<Chunks, AllocErro
 
 /// How a text ended: its cause, or 0, its rows, and its output.
 #[derive(Drop)]
-struct Told {
+struct TextResult {
     cause: u8,
     rows: u32,
     sink: Sink,
 }
 
-impl Told {
-    fn new(end: &SourceEnd, sink: Sink) -> Told {
+impl TextResult {
+    fn new(end: &SourceEnd, sink: Sink) -> TextResult {
         let rows = match end {
             SourceEnd::Whole { rows, .. } => *rows,
             SourceEnd::Broken { .. } => 0,
         };
-        Told {
+        TextResult {
             cause: cause_of(end),
             rows,
             sink,
@@ -121,7 +121,7 @@ impl Told {
     }
 
     /// Whether it is the same as another.
-    fn is_like(&self, other: &Told) -> bool {
+    fn is_like(&self, other: &TextResult) -> bool {
         self.cause == other.cause
             && self.rows == other.rows
             && self.sink.bytes() == other.sink.bytes()
@@ -134,20 +134,20 @@ fn sink_of(alloc: Global) -> Result<Sink, AllocError> {
 }
 
 /// How a text that is read in chunks of this size ends on one thread.
-fn told_by_one_thread(alloc: Global, text: &str, size: usize) -> Result<Told, Fail> {
+fn result_of_one_thread(alloc: Global, text: &str, size: usize) -> Result<TextResult, Fail> {
     let setup = plain_setup(1, 1)?;
     let mut sink = sink_of(alloc)?;
     let end = convert_source(alloc, reader_of(alloc, text, size)?, &mut sink, &setup);
-    Ok(Told::new(&end, sink))
+    Ok(TextResult::new(&end, sink))
 }
 
 /// Adds how a text, read at once and a byte at a time, ends in a run of so many stripes.
-fn tell_by_run(
+fn push_results_of_run(
     rt: &impl Host,
     alloc: Global,
     text: &str,
     stripes: usize,
-    told: &mut Vec<Told>,
+    results: &mut Vec<TextResult>,
 ) -> Result<(), Fail> {
     let setup = plain_setup(1, stripes)?;
     let mut sources = Vec::new(alloc);
@@ -159,49 +159,49 @@ fn tell_by_run(
     let report = report_of(rt, alloc, sources, outputs, &setup)?;
     let outputs = report.outputs;
     for (end, sink) in report.ends.iter().zip(outputs) {
-        told.push(Told::new(end, sink))?;
+        results.push(TextResult::new(end, sink))?;
     }
     Ok(())
 }
 
 /// How a text ends on one thread and in runs of 1 and 4 stripes, read at once and a byte at a time.
-fn told_by_all(rt: &impl Host, alloc: Global, text: &str) -> Result<Vec<Told>, Fail> {
-    let mut told = Vec::new(alloc);
+fn results_of_all(rt: &impl Host, alloc: Global, text: &str) -> Result<Vec<TextResult>, Fail> {
+    let mut results = Vec::new(alloc);
     for size in [ROOM, 1] {
-        told.push(told_by_one_thread(alloc, text, size)?)?;
+        results.push(result_of_one_thread(alloc, text, size)?)?;
     }
     for stripes in [1, 4] {
-        tell_by_run(rt, alloc, text, stripes, &mut told)?;
+        push_results_of_run(rt, alloc, text, stripes, &mut results)?;
     }
-    Ok(told)
+    Ok(results)
 }
 
-/// Whether all calls told this of a text.
-fn all_tell(told: &[Told], cause: u8, rows: &str) -> bool {
-    told.len() == 6 && told.iter().all(|one| one.is(cause, rows))
+/// Whether this came of a text in all calls.
+fn all_are(results: &[TextResult], cause: u8, rows: &str) -> bool {
+    results.len() == 6 && results.iter().all(|one| one.is(cause, rows))
 }
 
 #[test]
 fn every_call_says_the_same_of_a_hostile_text(rt: HostRuntime) -> Result<(), Fail> {
     for (text, cause, rows) in TEXTS {
-        let told = told_by_all(&rt, rt.alloc(), text)?;
-        assert!(rt; all_tell(told.as_slice(), cause, rows), "at {text:?}");
+        let results = results_of_all(&rt, rt.alloc(), text)?;
+        assert!(rt; all_are(results.as_slice(), cause, rows), "at {text:?}");
     }
     Ok(())
 }
 
-/// Whether all calls told the same.
-fn are_alike(told: &[Told]) -> bool {
-    let Some(first) = told.first() else {
+/// Whether the same came of all calls.
+fn are_alike(results: &[TextResult]) -> bool {
+    let Some(first) = results.first() else {
         return false;
     };
-    told.len() == 6 && told.iter().all(|one| one.is_like(first))
+    results.len() == 6 && results.iter().all(|one| one.is_like(first))
 }
 
 #[test]
 fn every_call_says_the_same_of_a_quote_that_is_not_closed(rt: HostRuntime) -> Result<(), Fail> {
-    let told = told_by_all(&rt, rt.alloc(), OPEN_QUOTE)?;
-    assert!(rt; are_alike(told.as_slice()));
+    let results = results_of_all(&rt, rt.alloc(), OPEN_QUOTE)?;
+    assert!(rt; are_alike(results.as_slice()));
     Ok(())
 }
 

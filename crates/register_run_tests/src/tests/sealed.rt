@@ -1,7 +1,9 @@
 //! Sealed registers: which are whole, why the others are not, and what stands in their tables. The rows are worked by
 //! hand from the calendars' rules: 5 October 1582 in the Julian calendar is day 577736, a Friday.
 
-use super::{GREGORIAN, Host, Told, is_whole_with, outputs_of, report_of, sources_of, told_by};
+use super::{
+    GREGORIAN, Host, SourceResult, is_whole_with, outputs_of, report_of, results_of, sources_of,
+};
 use date_texts::Refusal;
 use register_records::{Form, Note, PlainOutput, Setup, SourceEnd};
 use register_run::Report;
@@ -22,8 +24,8 @@ const ROWS: &str = "1,a,julian,1582-10-05,parish book,577736,Friday,1582-10-15,\
 /// The row of a third record that has not four fields.
 const THIRD_ROW: &str = "3,,,,,,,,1\n";
 
-/// What stands behind the two records, the cause that is told, 0 where the register is whole, and what stands in the
-/// table behind the two rows.
+/// What stands behind the two records, the cause that is reported, 0 where the register is whole, and what stands in
+/// the table behind the two rows.
 const ENDS: [(&str, u8, &str); 17] = [
     ("END,2\n", 0, ""),
     (" END , 02\n", 0, ""),
@@ -85,20 +87,24 @@ fn texts_with_ends(alloc: Global) -> Result<Vec<Vec<u8>>, AllocError> {
     Ok(texts)
 }
 
-/// What a run of these registers tells of them.
-fn told_of_ends(rt: &impl Host, alloc: Global, stripes: usize) -> Result<Vec<Told>, Fail> {
+/// What comes of these registers in a run.
+fn results_of_ends(
+    rt: &impl Host,
+    alloc: Global,
+    stripes: usize,
+) -> Result<Vec<SourceResult>, Fail> {
     let texts = texts_with_ends(alloc)?;
     let sources = sources_of(alloc, texts.as_slice())?;
     let report = run_sealed(rt, alloc, sources, stripes)?;
-    Ok(told_by(alloc, report)?)
+    Ok(results_of(alloc, report)?)
 }
 
 #[test]
 fn a_register_is_whole_up_to_its_seal(rt: HostRuntime) -> Result<(), Fail> {
     for stripes in [1, 4] {
-        let told = told_of_ends(&rt, rt.alloc(), stripes)?;
-        assert!(rt; told.len() == ENDS.len());
-        for (one, (behind, cause, more)) in told.iter().zip(&ENDS) {
+        let results = results_of_ends(&rt, rt.alloc(), stripes)?;
+        assert!(rt; results.len() == ENDS.len());
+        for (one, (behind, cause, more)) in results.iter().zip(&ENDS) {
             assert!(rt;
                 one.is(*cause, &[HEADING, ROWS, more]),
                 "{stripes} stripes, at {behind:?}"
@@ -115,9 +121,9 @@ fn a_register_without_entries_has_a_seal_too(rt: HostRuntime) -> Result<(), Fail
         sources.push(text.as_bytes())?;
     }
     let report = run_sealed(&rt, rt.alloc(), sources, 1)?;
-    let told = told_by(rt.alloc(), report)?;
-    assert!(rt; told.len() == EMPTY.len());
-    for (one, (text, cause, table)) in told.iter().zip(&EMPTY) {
+    let results = results_of(rt.alloc(), report)?;
+    assert!(rt; results.len() == EMPTY.len());
+    for (one, (text, cause, table)) in results.iter().zip(&EMPTY) {
         assert!(rt; one.is(*cause, &[table]), "at {text:?}");
     }
     Ok(())
@@ -164,7 +170,11 @@ fn a_fault_behind_the_seal_is_a_fault_of_reading(rt: HostRuntime) -> Result<(), 
         rest: text.as_slice(),
     })?;
     let report = run_sealed(&rt, rt.alloc(), sources, 1)?;
-    let told = told_by(rt.alloc(), report)?;
-    assert!(rt; told.first().is_some_and(|one| one.is(5, &[HEADING, ROWS])));
+    let results = results_of(rt.alloc(), report)?;
+    assert!(rt;
+        results
+            .first()
+            .is_some_and(|one| one.is(5, &[HEADING, ROWS]))
+    );
     Ok(())
 }

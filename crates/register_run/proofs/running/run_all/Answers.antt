@@ -11,10 +11,11 @@ returns g c =
     omega arith) in
     let is = c.finish_all-ended_sources.ensures.cases ∙ c.visit_until_ended.ensures.cases
     ∙ c.start_all-running_sources.ensures.cases in
-    let told = c.report.ensures in record {
-      report = report_of setup ended_sources sources outputs same is c.report.result told.ends told.ran told.outputs
-          told.verdict;
-      machine = report_of_machine setup ended_sources sources outputs same is c.report.result told.ends told.ran
-          told.outputs;
-      threads = report_of_threads setup ended_sources sources outputs same is c.report.result told.ends told.ran;
+    let reported = c.report.ensures in record {
+      report = report_of setup ended_sources sources outputs same is c.report.result reported.ends reported.ran
+          reported.outputs reported.verdict;
+      machine = report_of_machine setup ended_sources sources outputs same is c.report.result reported.ends reported.ran
+          reported.outputs;
+      threads = report_of_threads setup ended_sources sources outputs same is c.report.result reported.ends
+          reported.ran;
     }

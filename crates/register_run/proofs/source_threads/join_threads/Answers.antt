@@ -9,7 +9,7 @@ use Rattle.register_run.proofs.source_threads.join_threads.Goals as goal
 pub returns-then-ended-is_ok-clause-passed : goal.returns-then-ended-is_ok-clause-passed
 returns-then-ended-is_ok-clause-passed g c = record {
   output_good = c.join-closed.ensures.output_good;
-  rows = λ told. ∥∥₁_map c.join-closed.ensures.entries (λ (given, is, deals). (
+  rows = λ speaks. ∥∥₁_map c.join-closed.ensures.entries (λ (given, is, deals). (
     given,
     is,
     took_dealt given c.in-Ok.ended c.args.stripes.items c.join-closed.result.closed.items deals c.in-Ok.ensures,

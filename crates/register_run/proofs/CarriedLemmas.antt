@@ -90,8 +90,7 @@ first_of_all entries rows all = ([], append-nil (row_entries rows) ∙ all)
 -- one more entry was taken, and its row was sent if the writer was there
 pub row_sent : (entries all : List (Item Entry)) (rows more : List (Item Row)) (made : Row) (e : Entry)
     (r : Result (Unit {0}) (Gone (Unit {0}))) → all ≡ entries ++ item.Entry e ∷ []
-    → OnOk r (more ≡ rows ++ item.Entry made ∷ []) → OnErr r (more ≡ rows)
-    → made.entry ≡ e → AreOfAllTaken entries rows
+    → OnOk r (more ≡ rows ++ item.Entry made ∷ []) → OnErr r (more ≡ rows) → made.entry ≡ e → AreOfAllTaken entries rows
     → AreOfTaken all more × (is_err r ≡ false → AreOfAllTaken all more)
 row_sent entries all rows more made e (Ok u) is ok gone of before =
     let same : AreOfAllTaken all more =

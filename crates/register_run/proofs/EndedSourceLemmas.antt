@@ -365,8 +365,7 @@ module _ {W : Type 0} (o : outputs.Ghosts W) (text : Option (List ℕ)) (table :
   broken_so false c b reading sink = threads_so c b sink
 
   -- a source with another header has no table
-  pub headless : (e : SourceEnd)
-      → IfBroken e (IsLowest (IsMet met))
+  pub headless : (e : SourceEnd) → IfBroken e (IsLowest (IsMet met))
       → e ≡ end.Broken cause.BadHeader → (is_some table.writer ≡ false) × (output_failed table.course ≡ false)
   headless (end.Whole count refused journal) lowest is = absurd (cc)
   headless (end.Broken c) lowest is =
@@ -385,8 +384,7 @@ module _ {W : Type 0} (o : outputs.Ghosts W) (text : Option (List ℕ)) (table :
   pub source_end : (e : SourceEnd)
       → IfWhole e (λ count refused notes. (passed.outcome ≡ Ok count) × (fault_of table.course ≡ None) × (headed ≡ true)
       × (count ≡ table.rows) × (refused ≡ length notes) × (notes ≡ table.journal.items))
-      → IfBroken e (IsLowest (IsMet met))
-      → ∥ IsSourceEnd o
+      → IfBroken e (IsLowest (IsMet met)) → ∥ IsSourceEnd o
       (layout_of table.setup) text table.given.value table.output e ∥₁
   source_end (end.Broken c) whole lowest =
       broken_so (is_of_reading c) c refl (reading_met met c table.of_table lowest)

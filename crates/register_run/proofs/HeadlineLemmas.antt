@@ -17,11 +17,10 @@ use Rattle.register_run.specs.declared.reports.Report.{Report}
 use Rattle.register_run.specs.declared.reports.Verdict.TheVariants.{Complete}
 use Rattle.register_run.specs.declared.ended_sources.EndedSource.{EndedSource}
 use Rattle.register_run.specs.declared.running_sources.RunningSource.{RunningSource}
-use Rattle.register_run.specs.Cases.{Case, case, cases, end_of, ended_case, output_of, ran_of}
+use Rattle.register_run.specs.Cases.{Case, case, case_of, cases, end_of, ended_case, output_of, ran_of}
 use Rattle.register_run.specs.Headline.{AtEachPlace, IsSourceEnd}
 use Rattle.register_run.specs.Histories.{AreOfMachine, IsMachineWithTable}
 use Rattle.register_run.specs.Reports.{IsReport, IsReportOfMachine, IsReportOfThreads, stripes_of}
-use Rattle.register_run.specs.RunningSources.{case_of}
 use Rattle.register_run.specs.Threads.{AreThreads, AreThreadsOf}
 
 module _ {R W : Type 0} {o : outputs.Ghosts W} where
@@ -29,8 +28,7 @@ module _ {R W : Type 0} {o : outputs.Ghosts W} where
   pub start_more : (setup : Setup) (all : List (Case R W)) (running_sources new : List (RunningSource R W o))
       (running_source : RunningSource R W o) (left rest : List R) (outs more : List W) (source : R) (output : W)
       → new ≡ running_sources ++ running_source ∷ [] → case_of running_source ≡ case source output setup
-      → left ≡ source ∷ rest
-      → outs ≡ output ∷ more
+      → left ≡ source ∷ rest → outs ≡ output ∷ more
       → map case_of running_sources ++ cases setup left outs ≡ all → map case_of new ++ cases setup rest more ≡ all
   start_more setup all running_sources new running_source left rest outs more source output n s l m h =
       ap (λ xs. map case_of xs ++ cases setup rest more) n

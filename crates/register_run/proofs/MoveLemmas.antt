@@ -19,8 +19,7 @@ made_more f h all done new one left rest item n s l e =
 
 -- the same where what is made is the value that is seen
 pub seen_more : {Y Z : Type 0} (h : Y → Z) (all done new : List Z) (one : Z) (left rest : List Y) (item : Y)
-    → new ≡ done ++ one ∷ [] → one ≡ h item → left ≡ item ∷ rest → done ++ map h left ≡ all
-    → new ++ map h rest ≡ all
+    → new ≡ done ++ one ∷ [] → one ≡ h item → left ≡ item ∷ rest → done ++ map h left ≡ all → new ++ map h rest ≡ all
 seen_more h all done new one left rest item n s l e =
     ap (λ xs. xs ++ map h rest) n
     ∙ append_assoc done (one ∷ []) (map h rest)

@@ -71,8 +71,7 @@ one_of (stripe ∷ rest) some = stripe
 pub in_turn_popped : (old new : List Stripe) (at next : ℕ) → HasPopped old new → length new ≡ length old
     → at < length old → IsInTurn old at
     → ((w : World) (k : ℕ) (stripe : Stripe) → w.converters ≡ length new → at ≡ turn w k
-    → slice_get new (turn w (k + 1)) ≡ Some stripe → stripe.«open» ≡ true → next ≡ turn w (k + 1))
-    → IsInTurn new next
+    → slice_get new (turn w (k + 1)) ≡ Some stripe → stripe.«open» ≡ true → next ≡ turn w (k + 1)) → IsInTurn new next
 in_turn_popped old new at next has long within turns goes all w many =
     let (were, one) = has in
     let k = popped old in
@@ -85,8 +84,7 @@ in_turn_popped old new at next has long within turns goes all w many =
 
 -- one more stripe, from which no row was popped
 pub unpopped_more : (stripes new : List Stripe) (stripe : Stripe) → new ≡ stripes ++ stripe ∷ []
-    → taken stripe.rows ≡ [] → popped stripes ≡ 0
-    → popped new ≡ 0
+    → taken stripe.rows ≡ [] → popped stripes ≡ 0 → popped new ≡ 0
 unpopped_more stripes new stripe is none before =
     let none' : popped_from stripe ≡ 0 = ap (λ (l : List (Item Row)). length (entries_in l)) none in
     let sums = sum_by-append popped_from stripes (stripe ∷ []) in

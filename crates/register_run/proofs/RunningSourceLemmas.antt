@@ -26,16 +26,14 @@ if_ok (Err c) P Q f h = tt
 module _ {R W : Type 0} {o : outputs.Ghosts W} where
   -- more was taken, and the same rows are written
   pub wrote_same : (threads new : SourceThreads R) (table after : TableWriter W o)
-      → ((row : Row) → Passed threads row → Passed new row)
-      → ((rows : List Row) → Holds table rows → Holds after rows)
+      → ((row : Row) → Passed threads row → Passed new row) → ((rows : List Row) → Holds table rows → Holds after rows)
       → ∥ Wrote threads table ∥₁ → ∥ Wrote new after ∥₁
   wrote_same threads new table after kept holds h =
       ∥∥₁_map h (λ (rows, is, took). (rows, holds rows is, λ row c. kept row (took row c)))
 
   -- a row was taken, and added to the table if it is the next one
   pub wrote_row : (threads new : SourceThreads R) (table after : TableWriter W o) (row : Row)
-      → ((r : Row) → Passed threads r → Passed new r)
-      → Passed new row
+      → ((r : Row) → Passed threads r → Passed new r) → Passed new row
       → ((rows : List Row) → Holds table rows → Holds after rows ⊎ Holds after (rows ++ row ∷ []))
       → ∥ Wrote threads table ∥₁ → ∥ Wrote new after ∥₁
   wrote_row threads new table after row kept here holds h = ∥∥₁_map h (λ (rows, is, took). elim (holds rows is) [
@@ -46,11 +44,9 @@ module _ {R W : Type 0} {o : outputs.Ghosts W} where
   -- the threads have ended
   pub concludes : (threads : SourceThreads R) (table : TableWriter W o) (text : Option (List ℕ)) (sent : Sent)
       (stripes : List Stripe)
-      → started_by threads ≡ made_by table
-      → HasPassed text (format_of (started_by threads)) sent (Passed threads)
+      → started_by threads ≡ made_by table → HasPassed text (format_of (started_by threads)) sent (Passed threads)
       → IfOk sent.outcome (λ count. ∥ Carries text (started_by threads) count stripes (Passed threads) ∥₁)
-      → ∥ Wrote threads table ∥₁
-      → ∥ Concludes text table sent stripes ∥₁
+      → ∥ Wrote threads table ∥₁ → ∥ Concludes text table sent stripes ∥₁
   concludes threads table text sent stripes same has carries h = ∥∥₁_map h (λ (rows, is, took).
       let has' = subst (λ s. HasPassed text (format_of s) sent (Passed threads)) same has in
       let carries' =

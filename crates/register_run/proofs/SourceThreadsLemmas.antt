@@ -38,7 +38,6 @@ staffed setup stripes joined sent outcome same is by started =
     inl (ap (λ (l : List Stripe). map stripe_setup l) same ∙ by, subst HasStarted (sym is) started)
 
 pub unstaffed : (setup : Setup) (stripes joined : List Stripe) (f : StartFault) (outcome : Result ℕ Cause)
-    → joined ≡ stripes
-    → outcome ≡ Err (start_fault_cause f) → stripes ≡ [] → AreStaffed setup outcome joined
+    → joined ≡ stripes → outcome ≡ Err (start_fault_cause f) → stripes ≡ [] → AreStaffed setup outcome joined
 unstaffed setup stripes joined fault.NoMemory outcome same is none = inr (same ∙ none, inl is)
 unstaffed setup stripes joined fault.NoThread outcome same is none = inr (same ∙ none, inr is)

@@ -25,8 +25,7 @@ use Rattle.register_run.proofs.CarriedLemmas.{entry_within, map_within, prefix_w
 use Rattle.register_run.proofs.DealtLemmas.{dealt_within}
 
 pub any_set : (stripes : List Stripe) (i : ℕ) (new d : Stripe) (row : Row)
-    → (StripeTook (get_or stripes i d) row → StripeTook new row)
-    → AnyTook stripes row → AnyTook (set stripes i new) row
+    → (StripeTook (get_or stripes i d) row → StripeTook new row) → AnyTook stripes row → AnyTook (set stripes i new) row
 any_set [] i new d row kept h = h
 any_set (stripe ∷ rest) zero new d row kept (inl a) = inl (kept a)
 any_set (stripe ∷ rest) zero new d row kept (inr b) = inr b
@@ -35,8 +34,7 @@ any_set (stripe ∷ rest) (suc i) new d row kept (inr b) = inr (any_set rest i n
 
 -- one stripe was called where it stands among others
 pub same_stripes : (stripes : List Stripe) (at : ℕ) (new was : Stripe) → was ≡ get_or stripes at was
-    → IsSameStripe was new
-    → AreSameStripes stripes (set stripes at new)
+    → IsSameStripe was new → AreSameStripes stripes (set stripes at new)
 same_stripes stripes at new was here same = record {
   lanes = map-set_same feeding_lane stripes at new was (same.lane ∙ ap feeding_lane here);
   setups = map-set_same stripe_setup stripes at new was (same.setup ∙ ap stripe_setup here);
@@ -45,8 +43,7 @@ same_stripes stripes at new was here same = record {
 }
 
 pub any_here : (stripes : List Stripe) (i : ℕ) (d : Stripe) (row : Row) → i < length stripes
-    → StripeTook (get_or stripes i d) row
-    → AnyTook stripes row
+    → StripeTook (get_or stripes i d) row → AnyTook stripes row
 any_here [] i d row below h = absurd (omega arith)
 any_here (stripe ∷ rest) zero d row below h = inl h
 any_here (stripe ∷ rest) (suc i) d row below h = inr (any_here rest i d row (omega arith) h)
@@ -65,8 +62,7 @@ module _ {X Y : Type 0} (P : X → Y → Type 0) where
       subst (λ l. AllZip P xs (l ++ more)) (sym ey) (subst (λ l. AllZip P l more) ex h)
 
   pub zip_more : (all left : List X) (x : X) (rest : List X) (ys new : List Y) (y : Y) → left ≡ x ∷ rest
-      → new ≡ ys ++ y ∷ [] → P x y
-      → ((more : List Y) → AllZip P left more → AllZip P all (ys ++ more))
+      → new ≡ ys ++ y ∷ [] → P x y → ((more : List Y) → AllZip P left more → AllZip P all (ys ++ more))
       → (more : List Y) → AllZip P rest more → AllZip P all (new ++ more)
   zip_more all left x rest ys new y ex ey here k more h =
       subst (λ l. AllZip P all (l ++ more)) (sym ey)
@@ -92,8 +88,7 @@ ended_lanes (s ∷ senders) (c ∷ closed) h = (h.0.lane, ended_lanes senders cl
 pub from_tail : (stripes : List Stripe) (stripe : Stripe) (rest : List Stripe) (closed : List (Closed Entry))
     (one : Closed Entry)
     (more : List (Closed Entry)) → stripes ≡ stripe ∷ rest → closed ≡ one ∷ more
-    → AreOfLanes (map feeding_lane stripes) closed
-    → AreOfLanes (map feeding_lane rest) more
+    → AreOfLanes (map feeding_lane stripes) closed → AreOfLanes (map feeding_lane rest) more
 from_tail stripes stripe rest closed one more e f h =
     (subst (λ c. AreOfLanes (map feeding_lane (stripe ∷ rest)) c) f
     (subst (λ a. AreOfLanes (map feeding_lane a) closed) e h)).1

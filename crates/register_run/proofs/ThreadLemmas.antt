@@ -57,8 +57,7 @@ module _ (setup : Setup) (met : Met) (journal : List Note) (of_table : IfSome me
     low_end : (e : SourceEnd) (c : Cause) → cause_number c ≤ 2 → met.sent.outcome ≡ Err c
         → IfWhole e (λ count refused notes. (met.sent.outcome ≡ Ok count) × (met.fault ≡ None) × (met.headed ≡ true)
         × (count ≡ met.rows) × (refused ≡ length notes) × (notes ≡ journal))
-        → IfBroken e (IsLowest (IsMet met))
-        → (e ≡ end.Broken cause.NoMemory) ⊎ (e ≡ end.Broken cause.NoThread)
+        → IfBroken e (IsLowest (IsMet met)) → (e ≡ end.Broken cause.NoMemory) ⊎ (e ≡ end.Broken cause.NoThread)
     low_end (end.Whole count refused notes) c low outcome whole lowest = absurd (let ok = whole.0 in cc)
     low_end (end.Broken b) c low outcome whole lowest =
         let below = lowest.1 c (inl outcome) in

@@ -6,6 +6,9 @@ use Rattle.register_records.specs.declared.setups.Setup.{Setup}
 use Rattle.register_records.specs.declared.sources.SourceEnd.{SourceEnd}
 use Rattle.register_run.specs.declared.reports.Ran.{Ran}
 use Rattle.register_run.specs.declared.ended_sources.EndedSource.{EndedSource}
+use Rattle.register_run.specs.declared.running_sources.RunningSource.{RunningSource}
+use Rattle.register_run.specs.SourceThreads.{started_on}
+use Rattle.register_run.specs.TablesWritten.{made_by, made_for}
 
 pub record Case (R W : Type 0) : Type 0 where
   pub source : R
@@ -20,6 +23,10 @@ abbrev pub cases : {R W : Type 0} → Setup → List R → List W → List (Case
 cases setup [] outputs = []
 cases setup (source ∷ sources) [] = []
 cases setup (source ∷ sources) (output ∷ outputs) = case source output setup ∷ cases setup sources outputs
+
+-- what a source that runs was started with
+abbrev pub case_of : {R W : Type 0} {o : outputs.Ghosts W} → RunningSource R W o → Case R W
+case_of s = case (started_on s.threads) (made_for s.table) (made_by s.table)
 
 module _ {R W : Type 0} {r : reads.Ghosts R} {o : outputs.Ghosts W} where
   -- what a source that has ended was made of

@@ -8,7 +8,6 @@ pub mod TablesWritten
 pub mod Written
 pub mod Headline
 pub mod Cases
-pub mod RunningSources
 pub mod Threads
 pub mod Reports
 pub mod Worlds

@@ -1,5 +1,6 @@
 -- What a run returns.
 use Rattle.std.specs.Prelude.{◌≡◌, ◌↔◌, ℕ, List, All, IsErrAnd, Result, Vec, map, true}
+use Rattle.std.specs.declared.alloc.Global.{Global}
 use Rattle.std.specs.declared.io.traits.Read as reads
 use Rattle.register_records.specs.Sources.{is_whole_end}
 use Rattle.register_records.specs.Views.{layout_of}
@@ -51,7 +52,7 @@ IsReportOfThreads setup report = AreThreads setup report.ends.items report.ran.i
 
 module _ {R W : Type 0} where
   -- the fault hands these back
-  abbrev pub HandsBack : Vec R → Vec W → RunFault R W → Type 0
+  abbrev pub HandsBack : Vec R Global → Vec W Global → RunFault R W → Type 0
   HandsBack sources outputs fault = (fault.sources ≡ sources) × (fault.outputs ≡ outputs)
 
   -- the run did not begin, with a fault of this kind

@@ -3,9 +3,8 @@
 ghost use Rattle.std.specs.Prelude.{◌≡◌, ◌≢◌, ◌<◌, ◌≤◌, ◌↔◌, [], All, IfErr, IfOk, map, true};
 ghost use Rattle.std.specs.Prelude.{vec_capacity, vec_len};
 ghost use Rattle.register_records.specs.Sources.{is_whole_end};
-ghost use Rattle.register_run.specs.Cases.{cases, end_of, ended_case, output_of, ran_of};
+ghost use Rattle.register_run.specs.Cases.{case_of, cases, end_of, ended_case, output_of, ran_of};
 ghost use Rattle.register_run.specs.Reports.{HandsBack, IsRefusedAs, IsReport, IsReportOfMachine, IsReportOfThreads};
-ghost use Rattle.register_run.specs.RunningSources.{case_of};
 
 use crate::ended_sources::EndedSource;
 use crate::gates::{Gate, Open};
@@ -151,11 +150,10 @@ fn report<R: Read + Drop, W: Output + Drop>(
     let mut ran = ran;
     for one in ended_sources {
         let EndedSource {
-            source: _,
-            given: _,
             ran: one_ran,
             output,
             end,
+            ..
         } = one;
         outputs.push_reserved(output);
         ends.push_reserved(end);
@@ -242,12 +240,12 @@ fn run_all<'s, 'e, T: Host, R: Read + Send + Drop + 'e, W: Output + Drop, G: Gat
     ensures threads { IsReportOfThreads context.now.setup.now result }
 {
     let Lists {
-        count: _,
         running_sources,
         ended_sources,
         outputs: written,
         ends,
         ran,
+        ..
     } = lists;
     let mut running_sources = start_all(context, sources, outputs, running_sources);
     // This thread is two lanes further than the readers.

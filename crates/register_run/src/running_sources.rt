@@ -29,8 +29,7 @@ pub(crate) struct RunningSource<R: Read, W: Output> {
 }
 
 impl<R: Read + Drop, W: Output + Drop> RunningSource<R, W> {
-    ghost use Rattle.register_run.specs.Cases.{case, ended_case};
-    ghost use Rattle.register_run.specs.RunningSources.{case_of};
+    ghost use Rattle.register_run.specs.Cases.{case, case_of, ended_case};
 
     /// Starts the threads of a source.
     pub(crate) fn start<'s, 'e, T: Host, G: Gate + Sync>(
@@ -110,11 +109,7 @@ impl<R: Read + Drop, W: Output + Drop> RunningSource<R, W> {
     pub(crate) fn finish(self, rt: &impl Threads) -> EndedSource<R, W>
         ensures { ended_case result ≡ case_of self }
     {
-        let RunningSource {
-            threads,
-            table,
-            open: _,
-        } = self;
+        let RunningSource { threads, table, .. } = self;
         table.conclude(threads.finish(rt))
     }
 }

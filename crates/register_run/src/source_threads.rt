@@ -177,11 +177,9 @@ impl<R: Read + Drop> SourceThreads<R> {
     {
         let SourceThreads {
             source,
-            setup: _,
             reader,
             stripes,
-            turn: _,
-            stopped: _,
+            ..
         } = self;
         let joined = Snapshot::of(&stripes);
         let sent = match reader {
@@ -254,13 +252,8 @@ fn join_threads<R: Read + Drop>(
 {
     let Reading { closed, sent } = reader.join(rt);
     match join_stripes(rt, stripes, closed) {
-        Ok(ended) => {
-            if ended == sent.outcome.is_ok() {
-                return sent;
-            }
-            stopped_after(sent.count, unconfirmed_or_lower(sent.outcome))
-        }
-        Err(_) => stopped_after(sent.count, unconfirmed_or_lower(sent.outcome)),
+        Ok(ended) if ended == sent.outcome.is_ok() => sent,
+        _ => stopped_after(sent.count, unconfirmed_or_lower(sent.outcome)),
     }
 }
 

@@ -53,11 +53,11 @@ pub(crate) fn start_stripes<'s, 'e, T: Host, G: Gate + Sync>(
 }
 
 /// Looks at the stripe at this place.
-pub(crate) fn look_at(stripes: &mut [Stripe], at: usize) -> Look
-    requires { at < length stripes.old }
-    ensures len { length stripes.new ≡ length stripes.old }
-    ensures same { AreSameStripes stripes.old stripes.new }
-    ensures looked { HasLookedAt at stripes.old stripes.new result }
+pub(crate) fn look_at(stripes: &mut Vec<Stripe>, at: usize) -> Look
+    requires { at < vec_len stripes.old }
+    ensures len { vec_len stripes.new ≡ vec_len stripes.old }
+    ensures same { AreSameStripes stripes.old.items stripes.new.items }
+    ensures looked { HasLookedAt at stripes.old.items stripes.new.items result }
 {
     let stripe = &mut stripes[at];
     stripe.look()
@@ -73,12 +73,12 @@ pub(crate) fn row_at(stripes: &[Stripe], at: usize) -> Option<&Row>
 }
 
 /// Takes the row that a look at the stripe at this place found.
-pub(crate) fn pass_at(stripes: &mut [Stripe], at: usize)
-    requires within { at < length stripes.old }
-    requires row { IsRowNextAt stripes.old at }
-    ensures len { length stripes.new ≡ length stripes.old }
-    ensures same { AreSameStripes stripes.old stripes.new }
-    ensures popped { HasPopped stripes.old stripes.new }
+pub(crate) fn pass_at(stripes: &mut Vec<Stripe>, at: usize)
+    requires within { at < vec_len stripes.old }
+    requires row { IsRowNextAt stripes.old.items at }
+    ensures len { vec_len stripes.new ≡ vec_len stripes.old }
+    ensures same { AreSameStripes stripes.old.items stripes.new.items }
+    ensures popped { HasPopped stripes.old.items stripes.new.items }
 {
     let stripe = &mut stripes[at];
     stripe.pass();

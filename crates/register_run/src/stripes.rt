@@ -235,10 +235,8 @@ impl Stripe {
         let Stripe {
             worker,
             rows,
-            feeding: _,
-            setup: _,
             count,
-            open: _,
+            ..
         } = self;
         let Converting {
             entries,
@@ -251,14 +249,7 @@ impl Stripe {
 
     /// Joins the thread of a converter that was never fed.
     pub(crate) fn call_off(self, rt: &impl Threads) {
-        let Stripe {
-            worker,
-            rows: _,
-            feeding: _,
-            setup: _,
-            count: _,
-            open: _,
-        } = self;
+        let Stripe { worker, .. } = self;
         drop(worker.join(rt));
     }
 }

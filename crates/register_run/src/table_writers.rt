@@ -208,7 +208,6 @@ impl<W: Output + Drop> TableWriter<W> {
         let mut table = self;
         table.send();
         let TableWriter {
-            alloc: _,
             setup,
             given,
             output,
@@ -216,6 +215,7 @@ impl<W: Output + Drop> TableWriter<W> {
             journal,
             rows,
             course,
+            ..
         } = table;
         let setup = Snapshot::of(&setup);
         let met = Met {

@@ -1,6 +1,5 @@
 use Rattle.std.proofs.Common.{◌∙◌, rules, sym}
-use Rattle.register_run.specs.Cases.{ended_case}
-use Rattle.register_run.specs.RunningSources.{case_of}
+use Rattle.register_run.specs.Cases.{case_of, ended_case}
 use Rattle.register_run.proofs.MoveLemmas.{all_made, made_more}
 use Rattle.register_run.proofs.running.finish_all.Goals as goal
 

@@ -1,6 +1,6 @@
 use Rattle.std.proofs.Common.{◌∙◌, ap}
 use Rattle.std.proofs.Math.Seq.{map-set_same}
-use Rattle.register_run.specs.RunningSources.{case_of}
+use Rattle.register_run.specs.Cases.{case_of}
 use Rattle.register_run.proofs.running.visit_all.Goals as goal
 
 pub loop-i-preserved : goal.loop-i-preserved

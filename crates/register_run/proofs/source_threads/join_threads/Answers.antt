@@ -6,8 +6,8 @@ use Rattle.register_run.proofs.GivenLemmas.{of_threads, passed_not}
 use Rattle.register_run.proofs.HistoryLemmas.{joined_of_machine}
 use Rattle.register_run.proofs.source_threads.join_threads.Goals as goal
 
-pub returns-then-ended-is_ok-clause-passed : goal.returns-then-ended-is_ok-clause-passed
-returns-then-ended-is_ok-clause-passed g c = record {
+pub returns-in-Ok-clause-passed : goal.returns-in-Ok-clause-passed
+returns-in-Ok-clause-passed g c = record {
   output_good = c.join-closed.ensures.output_good;
   rows = λ speaks. ∥∥₁_map c.join-closed.ensures.entries (λ (given, is, deals). (
     given,
@@ -16,20 +16,14 @@ returns-then-ended-is_ok-clause-passed g c = record {
   ));
 }
 
-pub returns-else-ended-is_ok-clause-passed : goal.returns-else-ended-is_ok-clause-passed
-returns-else-ended-is_ok-clause-passed g c =
+pub returns-in_default-clause-passed : goal.returns-in_default-clause-passed
+returns-in_default-clause-passed g c =
     let sent = c.stopped_after.ensures in
     passed_not _ _ c.stopped_after.result c.unconfirmed_or_lower.result _ sent.1
     (of_threads c.unconfirmed_or_lower.result c.unconfirmed_or_lower.ensures.either)
 
-pub returns-in-Err-clause-passed : goal.returns-in-Err-clause-passed
-returns-in-Err-clause-passed g c =
-    let sent = c.stopped_after-in-Err.ensures in
-    passed_not _ _ c.stopped_after-in-Err.result c.unconfirmed_or_lower-in-Err.result _ sent.1
-    (of_threads c.unconfirmed_or_lower-in-Err.result c.unconfirmed_or_lower-in-Err.ensures.either)
-
-pub returns-then-ended-is_ok-clause-machine : goal.returns-then-ended-is_ok-clause-machine
-returns-then-ended-is_ok-clause-machine g c =
+pub returns-in-Ok-clause-machine : goal.returns-in-Ok-clause-machine
+returns-in-Ok-clause-machine g c =
     let closed = c.join-closed.result.closed.items in
     let task = c.args.reader.promise in
     joined_of_machine (g.R.Read.remaining task.source.value) task.setup.value c.args.stripes.items closed

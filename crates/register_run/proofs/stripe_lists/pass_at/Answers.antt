@@ -6,7 +6,7 @@ use Rattle.register_run.proofs.stripe_lists.pass_at.Goals as goal
 
 pub returns-clause-same : goal.returns-clause-same
 returns-clause-same c =
-    same_stripes c.args.stripes.now c.args.at c.pass.new.self c.index_mut-stripe.result.now
+    same_stripes c.args.stripes.now.items c.args.at c.pass.new.self c.index_mut-stripe.result.now
     c.index_mut-stripe.ensures.value
     c.pass.ensures.same
 
@@ -16,5 +16,5 @@ pass-requires c =
 
 pub returns-clause-popped : goal.returns-clause-popped
 returns-clause-popped c =
-    popped_at c.args.stripes.now c.args.at c.pass.new.self c.index_mut-stripe.result.now
+    popped_at c.args.stripes.now.items c.args.at c.pass.new.self c.index_mut-stripe.result.now
     (let b = c.requires.within in search rules) c.index_mut-stripe.ensures.value c.pass.ensures.still c.pass.ensures.one

@@ -32,3 +32,9 @@ invariant_of-self-in-Stop g c = let s = c.args.self.now in record {
   by_one_setup = c.look.ensures.setup ∙ s.by_one_setup;
   wrote = wrote_same s.threads c.look.new.self s.table s.table c.look.ensures.kept (λ rows h. h) s.wrote;
 }
+
+pub invariant_of-self-in-Row-2 : goal.invariant_of-self-in-Row-2
+invariant_of-self-in-Row-2 g c = let s = c.add_row.new.self in record {
+  by_one_setup = c.pass.ensures.setup ∙ s.by_one_setup;
+  wrote = wrote_same s.threads c.pass.new.self s.table s.table c.pass.ensures.kept (λ rows h. h) s.wrote;
+}

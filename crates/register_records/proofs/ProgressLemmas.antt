@@ -1,7 +1,6 @@
 -- How far the table of a source has come.
 use Rattle.std.proofs.Common.{◌≡◌, ◌+◌, ◌++◌, ℕ, List, [], ◌∷◌, length, map, Option, refl, sym, ap, ◌∙◌, arith}
 use Rattle.std.proofs.Common.{append_assoc, inl, inr}
-use Rattle.std.specs.Prelude.{Some}
 use Rattle.std.specs.Io.KnownBytes.{Appends}
 use Rattle.std.specs.List.{range_with_len}
 use Rattle.std.proofs.KnownBytes.{Appends-trans}
@@ -159,15 +158,15 @@ pub told_of : (Is : Format → Option (List ℕ) → Type 0) (d e : Format) (tex
     → e ≡ d → ∥ Is e told ∥₁ → ∥ Is d text ∥₁
 told_of Is d e text told a b h = rw (a, b) at h
 
--- a fault of a row that is no fault of the output
-pub only_memory : (f : RowFault) (c : Cause) → row_fault_cause f ≡ Some c → (c ≡ cause.SinkFault → ⊥)
+-- a fault of a row that is no fault of the output, nor one that an earlier call reported
+pub only_memory : (f : RowFault) (c : Cause) → c ≡ row_fault_cause f → (c ≡ cause.SinkFault → ⊥) → (f ≡ row.Failed → ⊥)
     → f ≡ row.OutOfMemory
-only_memory row.OutOfMemory c a k = refl
-only_memory row.WriteFault c a k = absurd (k cc)
-only_memory row.Failed c a k = cc
+only_memory row.OutOfMemory c a k n = refl
+only_memory row.WriteFault c a k n = absurd (k a)
+only_memory row.Failed c a k n = absurd (n refl)
 
 -- a fault of a seal
-pub only_not_sealed : (f : EntryFault) (c : Cause) → entry_fault_cause f ≡ Some c → c ≡ cause.NotSealed
+pub only_not_sealed : (f : EntryFault) (c : Cause) → c ≡ entry_fault_cause f → c ≡ cause.NotSealed
     → f ≡ entry.NotSealed
 only_not_sealed entry.OutOfMemory c a is = cc
 only_not_sealed entry.ReadFault c a is = cc

@@ -15,6 +15,7 @@ pub mod Causes
 pub mod SetupRules
 pub mod Outputs
 pub mod Views
+pub mod NextEntries
 pub mod Laws
 pub mod LineRoom
 pub mod BareTexts

@@ -7,31 +7,29 @@ use crate::reading::EntryFault;
 use crate::sources::Cause;
 use crate::writing::RowFault;
 
-impl EntryFault {
-    /// The cause that the fault is, or `None` exactly for `Failed`.
-    pub fn cause(&self) -> Option<Cause>
-        ensures { result ≡ entry_fault_cause self.now }
-    {
-        match self {
-            EntryFault::OutOfMemory => Some(Cause::NoMemory),
-            EntryFault::ReadFault => Some(Cause::ReadFault),
-            EntryFault::BadHeader => Some(Cause::BadHeader),
-            EntryFault::TooManyRecords => Some(Cause::TooManyRecords),
-            EntryFault::NotSealed => Some(Cause::NotSealed),
-            EntryFault::Failed => None,
+impl From<EntryFault> for Cause {
+    ghost from_gives = { λ fault cause. cause ≡ entry_fault_cause fault };
+
+    fn from(fault: EntryFault) -> Cause {
+        match fault {
+            EntryFault::OutOfMemory => Cause::NoMemory,
+            EntryFault::ReadFault => Cause::ReadFault,
+            EntryFault::BadHeader => Cause::BadHeader,
+            EntryFault::TooManyRecords => Cause::TooManyRecords,
+            EntryFault::NotSealed => Cause::NotSealed,
+            EntryFault::Failed => Cause::Unconfirmed,
         }
     }
 }
 
-impl RowFault {
-    /// The cause that the fault is, or `None` exactly for `Failed`.
-    pub fn cause(&self) -> Option<Cause>
-        ensures { result ≡ row_fault_cause self.now }
-    {
-        match self {
-            RowFault::OutOfMemory => Some(Cause::NoMemory),
-            RowFault::WriteFault => Some(Cause::SinkFault),
-            RowFault::Failed => None,
+impl From<RowFault> for Cause {
+    ghost from_gives = { λ fault cause. cause ≡ row_fault_cause fault };
+
+    fn from(fault: RowFault) -> Cause {
+        match fault {
+            RowFault::OutOfMemory => Cause::NoMemory,
+            RowFault::WriteFault => Cause::SinkFault,
+            RowFault::Failed => Cause::Unconfirmed,
         }
     }
 }

@@ -78,8 +78,8 @@ impl Entry {
         })
     }
 
-    /// An entry before any was read.
-    pub(crate) fn blank() -> Entry
+    /// An entry before any was read: it has the number 1 and empty texts.
+    pub fn blank() -> Entry
         ensures number { result.number ≡ 1 }
         ensures texts { body_seen result.body ≡ Ok (record { id = []; calendar = []; date = []; note = [] }) }
     {

@@ -1,7 +1,7 @@
 //! The entries of a text, in order.
 
-ghost use Rattle.std.specs.Prelude.{◌≡◌, ◌+◌, ◌++◌, ◌∷◌, [], ◌≤◌, true, false, length, OnOk, OnErr, IfOk, IfErr};
-ghost use Rattle.std.specs.Prelude.{◌≢◌, IfSome, Ok, Err, Option, None, is_err};
+ghost use Rattle.std.specs.Prelude.{◌≡◌, ◌≢◌, ◌+◌, ◌≤◌, [], true, false, length, OnOk, IfOk, IfErr, IfSome, Ok, Err};
+ghost use Rattle.std.specs.Prelude.{Option, vec_capacity};
 ghost use Rattle.csv.specs.Reading.{error_kind, has_failed, stops_reader};
 ghost use Rattle.csv.specs.Records.{fields_of};
 ghost use Rattle.register_records.specs.Entries.{HasFirstEntries, record_limit};
@@ -10,7 +10,6 @@ ghost use Rattle.register_records.specs.ReadingState.{LacksSeal, Reads, Stands};
 ghost use Rattle.register_records.specs.ReadingState.{entries_shown, fault_of, format_by, records_left};
 ghost use Rattle.register_records.specs.Retrying.{inner_remaining};
 ghost use Rattle.register_records.specs.Seals.{Agrees, is_seal as is_seal_record};
-ghost use Rattle.register_records.specs.Seen.{entry_seen};
 ghost use Rattle.register_records.specs.declared.reading.ReaderState.{ReaderState};
 
 use crate::entries::{Entry, MAX_RECORDS};
@@ -66,9 +65,10 @@ pub(crate) enum ReaderState {
 /// let setup = Setup::new(&[], 16, b',', 1, Form::Plain)?;
 /// let text = b"id,calendar,date\na,gregorian,1945-11-12\n";
 /// let mut entries = EntryReader::open(rt.alloc(), text.as_slice(), &setup)?;
-/// let entry = entries.next()?.ok_or("no entry")?;
+/// let mut entry = Entry::blank();
+/// assert!(rt; entries.read_next(&mut entry)?);
 /// assert_eq!(rt; entry.number(), 1);
-/// assert!(rt; entries.next()?.is_none());
+/// assert!(rt; !entries.read_next(&mut entry)?);
 /// ```
 #[derive(Drop)]
 pub struct EntryReader<R: Read> {
@@ -82,6 +82,7 @@ pub struct EntryReader<R: Read> {
     state: ReaderState,
     ghost live: { state ≢ ReaderState.Failed → HasBegun records },
     ghost few: { length given.items ≤ record_limit },
+    ghost room: { record_limit ≤ vec_capacity given },
     ghost stands: { ∥ Stands (format_by delimiter form) (R.remaining source.value) state
         (records_left (inner_remaining R.remaining) records) (entries_shown given.items) ∥₁ },
     // The entries given are the first of the text, and where the reader does not tell its bytes, those of some records.
@@ -166,19 +167,8 @@ fn number_after(count: u32) -> Result<u32, EntryFault>
     Ok(count + 1)
 }
 
-/// Keeps an entry behind those that were given. Where there is no memory for it, it is not kept, and the answer is
-/// `false`.
-fn keep(given: &mut Vec<Snapshot<Entry>>, entry: &Entry) -> bool
-    ensures kept { result ≡ true → entries_shown given.new.items
-        ≡ entries_shown given.old.items ++ entry_seen entry.now ∷ [] }
-    ensures len { result ≡ true → length given.new.items ≡ length given.old.items + 1 }
-    ensures lost { result ≡ false → given.new.items ≡ given.old.items }
-{
-    given.push(Snapshot::of(entry)).is_ok()
-}
-
-/// Reads the entry after so many into `entry`. The answer is `false` where the records end as the form wants it. After a
-/// seal it asks for one more record.
+/// Reads the entry after so many into `entry`. Returns `false` where the records end as the form wants it. After a seal
+/// it asks for one more record. Where no entry was read, `entry` stays as it was.
 #[inline(always)]
 fn read_entry<R: Read>(
     records: &mut Reader<Retrying<R>>,
@@ -194,6 +184,7 @@ fn read_entry<R: Read>(
         → Gives form count (records_left (inner_remaining R.remaining) records.old)
         (records_left (inner_remaining R.remaining) records.new) entry.new }
     ensures number { result ≡ Ok true → (entry.new.number ≡ count + 1) × (entry.new.number ≤ record_limit) }
+    ensures same { result ≢ Ok true → entry.new ≡ entry.old }
     ensures ends { result ≡ Ok false → Ends form count (records_left (inner_remaining R.remaining) records.old) }
     ensures many { IfErr result (λ e. e ≡ EntryFault.TooManyRecords → (count ≡ record_limit)
         × IfSome (records_left (inner_remaining R.remaining) records.old) (HasEntry form)) }
@@ -218,9 +209,9 @@ fn read_entry<R: Read>(
 }
 
 impl<R: Read + Drop> EntryReader<R> {
-    ghost use Rattle.register_records.specs.Entries.{HasAllEntries, HasEntries, HasNoHeader, HasTooMany, IsNotSealed};
-    ghost use Rattle.register_records.specs.Views.{format_of, given_of, reader_ended, reader_failed};
-    ghost use Rattle.register_records.specs.Views.{reads_by, text_of};
+    ghost use Rattle.register_records.specs.Entries.{HasNoHeader};
+    ghost use Rattle.register_records.specs.NextEntries.{ReadsNext};
+    ghost use Rattle.register_records.specs.Views.{format_of, given_of, reader_ended, reader_failed, reads_by, text_of};
     ghost use Rattle.register_records.specs.declared.reading.EntryFault.TheVariants.{Failed, NotSealed, TooManyRecords};
 
     /// Reads the header of a text: a first record of three fields that are `id`, `calendar` and `date`,
@@ -252,38 +243,38 @@ impl<R: Read + Drop> EntryReader<R> {
         if !found || !is_header(&record, setup.form()) {
             return Err(EntryFault::BadHeader);
         }
+        // Room for all entries, which takes no memory.
+        let Ok(given) = Vec::with_capacity(alloc, MAX_RECORDS as usize) else {
+            return Err(EntryFault::OutOfMemory);
+        };
         Ok(EntryReader {
             records,
             record,
             delimiter: setup.delimiter(),
             form: setup.form(),
             source,
-            given: Vec::new(alloc),
+            given,
             state: ReaderState::Open,
         })
     }
 
-    /// Reads the next entry into `entry`, and says whether there was one: `next` without a copy of the entry.
-    pub(crate) fn read_next(&mut self, entry: &mut Entry) -> Result<bool, EntryFault>
-        ensures gives { result ≡ Ok true → given_of self.new ≡ given_of self.old ++ entry_seen entry.new ∷ [] }
-        ensures number { result ≡ Ok true
-            → (entry.new.number ≡ length (given_of self.old) + 1) × (entry.new.number ≤ record_limit) }
-        ensures kept { OnErr result (given_of self.new ≡ given_of self.old) }
-        ensures text { (text_of self.new ≡ text_of self.old) × (reads_by self.new ≡ reads_by self.old) }
-        ensures all { result ≡ Ok false
-            → ∥ HasEntries (reads_by self.new) (text_of self.new) (given_of self.new) ∥₁ }
-        ensures many { IfErr result (λ e. e ≡ EntryFault.TooManyRecords → (length (given_of self.old) ≡ record_limit)
-            × ∥ IfSome (text_of self.new) (λ text. HasTooMany (reads_by self.new) text) ∥₁) }
-        ensures not_sealed { IfErr result (λ e. e ≡ EntryFault.NotSealed → ((reads_by self.new).form ≡ Form.Sealed)
-            × ∥ IfSome (text_of self.new) (λ text. IsNotSealed (reads_by self.new) text) ∥₁) }
-        ensures above { IfErr result (λ e. e ≡ EntryFault.NotSealed
-            → ∥ HasAllEntries (reads_by self.new) (text_of self.new) (given_of self.new) ∥₁) }
-        ensures ends { result ≡ Ok false → (reader_ended self.new ≡ true) × (given_of self.new ≡ given_of self.old) }
+    /// Reads the next entry into `entry`, where the one before it may lie, and says whether there was one. At the end of
+    /// the text, and again after it, there is none. Where none was read, `entry` stays as it was.
+    ///
+    /// # Errors
+    ///
+    /// `ReadFault` where the reader answered a fault, `TooManyRecords` where 1,000,000 entries were
+    /// given and one more record that is no seal stands in the text, `NotSealed` where a sealed text
+    /// ends without a seal, its first seal does not agree with the number of entries, or a record
+    /// follows it, and `OutOfMemory`. After a fault each further call answers `Failed` and reads nothing.
+    pub fn read_next(&mut self, entry: &mut Entry) -> Result<bool, EntryFault>
+        // What was given, and what each fault says of the text.
+        ensures reads { ReadsNext self.old self.new entry.new result }
+
+        // None was read: the entry stays, and at the end nothing changes any more.
+        ensures same { result ≢ Ok true → entry.new ≡ entry.old }
         ensures ended { reader_ended self.old ≡ true → (result ≡ Ok false) × (self.new ≡ self.old) }
-        ensures only_failed { reader_failed self.old ≡ false → IfErr result (λ e. e ≢ EntryFault.Failed) }
-        ensures no_header { IfErr result (λ e. e ≢ EntryFault.BadHeader) }
         ensures failed { reader_failed self.old ≡ true → (result ≡ Err EntryFault.Failed) × (self.new ≡ self.old) }
-        ensures fails { reader_failed self.new ≡ is_err result }
         ensures read_fault { IfErr result (λ e. e ≡ EntryFault.ReadFault → has_failed self.new.records ≡ true) }
     {
         match self.state {
@@ -292,60 +283,12 @@ impl<R: Read + Drop> EntryReader<R> {
             ReaderState::Failed => return Err(EntryFault::Failed),
         }
         let count = self.given.len() as u32;
-        let answer = read_entry(&mut self.records, &mut self.record, self.form, count, entry);
-        match answer {
-            Ok(true) => {
-                if !keep(&mut self.given, entry) {
-                    self.state = ReaderState::Failed;
-                    return Err(EntryFault::OutOfMemory);
-                }
-            }
+        let found = read_entry(&mut self.records, &mut self.record, self.form, count, entry);
+        match found {
+            Ok(true) => self.given.push_reserved(Snapshot::of(entry)),
             Ok(false) => self.state = ReaderState::Ended,
             Err(_) => self.state = ReaderState::Failed,
         }
-        answer
-    }
-
-    /// The next entry, or `None` at the end of the text, and again after it.
-    ///
-    /// # Errors
-    ///
-    /// `ReadFault` where the reader answered a fault, `TooManyRecords` where 1,000,000 entries were
-    /// given and one more record that is no seal stands in the text, `NotSealed` where a sealed text
-    /// ends without a seal, its first seal does not agree with the number of entries, or a record
-    /// follows it, and `OutOfMemory`. After a fault each further call answers `Failed` and reads nothing.
-    pub fn next(&mut self) -> Result<Option<Entry>, EntryFault>
-        // The entries given gain the entry, and nothing else.
-        ensures gives { IfOk result (λ o. IfSome o (λ e. given_of self.new ≡ given_of self.old ++ entry_seen e ∷ [])) }
-        ensures number { IfOk result (λ o. IfSome o (λ e.
-            (e.number ≡ length (given_of self.old) + 1) × (e.number ≤ record_limit))) }
-        ensures kept { OnErr result (given_of self.new ≡ given_of self.old) }
-        ensures text { (text_of self.new ≡ text_of self.old) × (reads_by self.new ≡ reads_by self.old) }
-
-        // At the end the entries given are all of the text, and at a seal that does not close it, all above the seal.
-        ensures all { result ≡ Ok None
-            → ∥ HasEntries (reads_by self.new) (text_of self.new) (given_of self.new) ∥₁ }
-        ensures many { IfErr result (λ e. e ≡ EntryFault.TooManyRecords → (length (given_of self.old) ≡ record_limit)
-            × ∥ IfSome (text_of self.new) (λ text. HasTooMany (reads_by self.new) text) ∥₁) }
-        ensures not_sealed { IfErr result (λ e. e ≡ EntryFault.NotSealed → ((reads_by self.new).form ≡ Form.Sealed)
-            × ∥ IfSome (text_of self.new) (λ text. IsNotSealed (reads_by self.new) text) ∥₁) }
-        ensures above { IfErr result (λ e. e ≡ EntryFault.NotSealed
-            → ∥ HasAllEntries (reads_by self.new) (text_of self.new) (given_of self.new) ∥₁) }
-
-        // None comes only at the end, gives nothing, and comes again.
-        ensures ends { result ≡ Ok None → (reader_ended self.new ≡ true) × (given_of self.new ≡ given_of self.old) }
-        ensures ended { reader_ended self.old ≡ true → (result ≡ Ok None) × (self.new ≡ self.old) }
-        ensures only_failed { reader_failed self.old ≡ false → IfErr result (λ e. e ≢ EntryFault.Failed) }
-        ensures no_header { IfErr result (λ e. e ≢ EntryFault.BadHeader) }
-        ensures failed { reader_failed self.old ≡ true → (result ≡ Err EntryFault.Failed) × (self.new ≡ self.old) }
-        ensures fails { reader_failed self.new ≡ is_err result }
-        ensures read_fault { IfErr result (λ e. e ≡ EntryFault.ReadFault → has_failed self.new.records ≡ true) }
-    {
-        let mut entry = Entry::blank();
-        match self.read_next(&mut entry) {
-            Ok(true) => Ok(Some(entry)),
-            Ok(false) => Ok(None),
-            Err(fault) => Err(fault),
-        }
+        found
     }
 }

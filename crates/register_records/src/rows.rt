@@ -1,44 +1,106 @@
-//! The row of an entry.
+//! The row of an entry, and how it is made.
 
 ghost use Rattle.std.specs.Prelude.{◌≡◌, ◌≤◌, length, map};
-ghost use Rattle.register_records.specs.RowTails.{cells_of, fields_of};
+ghost use Rattle.date_texts.specs.declared.calendar.TheConstants.{MAX_TARGETS};
 ghost use Rattle.register_records.specs.CellTexts.{cell_bytes};
-ghost use Rattle.register_records.specs.Outcomes.{IsRowOf};
+ghost use Rattle.register_records.specs.Entries.{body_seen};
+ghost use Rattle.register_records.specs.Outcomes.{AreCells, IsOutcome, IsRowOf};
+ghost use Rattle.register_records.specs.RowTails.{cells_of, fields_of};
 ghost use Rattle.register_records.specs.ShortLists.{items_in};
 ghost use Rattle.register_records.specs.Seen.{entry_seen, outcome_seen, row_made};
 ghost use Rattle.register_records.specs.TableColumns.{tail_texts};
 
 use crate::cell_texts::CellText;
-use crate::converting::{day_of_body, make_cells};
-use crate::entries::Entry;
+use crate::entries::{Body, Entry};
+use crate::reading::{EntryFault, EntryReader};
 use crate::row_tails::RowTail;
 use crate::setups::Setup;
 use crate::short_lists::ShortList;
 use crate::sources::Note;
 use crate::target_lists::TargetList;
 use date_texts::laws::one_cell;
-use date_texts::{MAX_TARGETS, Refusal, Target};
+use date_texts::{MAX_TARGETS, Refusal, Target, calendar_named, day_of_date, read_date};
 use day_numbers::Day;
 use std::alloc::AllocError;
+use std::io::Read;
 
 /// An entry converted: its day, and the cells of that day for the targets that the row was made for;
 /// or the first refusal that applies. A row always is the row of its entry.
 #[derive(Clone, Copy)]
 pub struct Row {
-    pub(crate) entry: Entry,
-    pub(crate) outcome: Result<Day, Refusal>,
-    pub(crate) targets: TargetList,
-    pub(crate) tail: RowTail,
+    entry: Entry,
+    outcome: Result<Day, Refusal>,
+    targets: TargetList,
+    tail: RowTail,
     pub ghost is_row: { ∥ IsRowOf (items_in targets.items) (entry_seen entry)
         (row_made entry outcome (cells_of (items_in targets.items) outcome tail)) ∥₁ },
     ghost written: { fields_of tail ≡ tail_texts (items_in targets.items) (outcome_seen outcome)
         (cells_of (items_in targets.items) outcome tail) },
 }
 
+/// The day of a body, or the first refusal that applies.
+fn day_of_body(body: &Body) -> Result<Day, Refusal>
+    ensures { IsOutcome (body_seen body.now) (outcome_seen result) }
+{
+    match body {
+        Body::Refused(refusal) => Err(*refusal),
+        Body::Fields { calendar, date, .. } => {
+            let Some(calendar) = calendar_named(calendar.as_str()) else {
+                return Err(Refusal::UnknownCalendar);
+            };
+            let date = match read_date(calendar, date.as_str()) {
+                Ok(date) => date,
+                Err(refusal) => return Err(refusal),
+            };
+            day_of_date(&date)
+        }
+    }
+}
+
+/// Makes a list the cells of an outcome: one for each target on a day, and none with a refusal.
+#[inline(never)]
+fn make_cells(cells: &mut ShortList<CellText>, targets: &[Target], outcome: Result<Day, Refusal>)
+    requires few { length targets.now ≤ MAX_TARGETS }
+    ensures { AreCells targets.now (outcome_seen outcome) (map cell_bytes (items_in cells.new)) }
+{
+    cells.clear();
+    let Ok(day) = outcome else {
+        return;
+    };
+    for target in targets {
+        cells.push_cell(*target, day);
+    }
+}
+
+/// Converts an entry for the setup's targets, where the outcome, the targets and the tail of the row before lie.
+#[inline(always)]
+fn reconvert(
+    entry: &Entry,
+    outcome: &mut Result<Day, Refusal>,
+    targets: &mut TargetList,
+    tail: &mut RowTail,
+    setup: &Setup,
+)
+    requires cells { ∥ AreCells (items_in targets.old.items) (outcome_seen outcome.old)
+        (cells_of (items_in targets.old.items) outcome.old tail.old) ∥₁ }
+    requires written { fields_of tail.old ≡ tail_texts (items_in targets.old.items) (outcome_seen outcome.old)
+        (cells_of (items_in targets.old.items) outcome.old tail.old) }
+    ensures targets { items_in targets.new.items ≡ items_in setup.now.targets.items }
+    ensures row { IsRowOf (items_in targets.new.items) (entry_seen entry.now)
+        (row_made entry.now outcome.new (cells_of (items_in targets.new.items) outcome.new tail.new)) }
+    ensures written { fields_of tail.new ≡ tail_texts (items_in targets.new.items) (outcome_seen outcome.new)
+        (cells_of (items_in targets.new.items) outcome.new tail.new) }
+{
+    let next = day_of_body(entry.body());
+    tail.renew(targets, *outcome, setup, next);
+    *outcome = next;
+    *targets = setup.target_list();
+}
+
 impl Row {
-    ghost use Rattle.std.specs.Prelude.{◌↔◌, ◌<◌, ◌+◌, ◌∷◌, ◌++◌, [], true, IsOk, Ok, MatchOption, OnErr, OnOk};
+    ghost use Rattle.std.specs.Prelude.{◌↔◌, ◌≢◌, ◌<◌, ◌+◌, ◌∷◌, ◌++◌, [], true, IsOk, Ok, MatchOption, OnErr, OnOk};
     ghost use Rattle.std.specs.Prelude.{vec_capacity, vec_len};
-    ghost use Rattle.register_records.specs.Entries.{body_seen};
+    ghost use Rattle.register_records.specs.NextEntries.{ReadsNext};
     ghost use Rattle.register_records.specs.SetupRules.{is_delimiter};
     ghost use Rattle.register_records.specs.Tables.{refusal_notes};
     ghost use Rattle.register_records.specs.Views.{row_seen, row_targets, tail_fields, targets_of};
@@ -61,18 +123,50 @@ impl Row {
         row
     }
 
-    /// Makes this the row of an entry for the setup's targets, where it lies, as [`convert`](crate::convert) does: a row
-    /// is large.
+    /// Makes this the row of an entry for the setup's targets, where it lies, as [`convert`](crate::convert) does: a row is
+    /// large.
     pub fn renew(&mut self, entry: &Entry, setup: &Setup)
         ensures entry { self.new.entry ≡ entry.now }
         ensures targets { row_targets self.new ≡ targets_of setup.now }
         ensures row { IsRowOf (targets_of setup.now) (entry_seen entry.now) (row_seen self.new) }
     {
-        let outcome = day_of_body(entry.body());
-        self.tail.renew(&self.targets, self.outcome, setup, outcome);
         self.entry = *entry;
-        self.outcome = outcome;
-        self.targets = setup.target_list();
+        reconvert(
+            entry,
+            &mut self.outcome,
+            &mut self.targets,
+            &mut self.tail,
+            setup,
+        );
+    }
+
+    /// Reads the next entry into this row and converts it, where the row before lay, and says whether there was one.
+    /// Where there was none, this stays the row that it was.
+    ///
+    /// # Errors
+    ///
+    /// The fault of reading.
+    pub(crate) fn read_next<R: Read + Drop>(
+        &mut self,
+        entries: &mut EntryReader<R>,
+        setup: &Setup,
+    ) -> Result<bool, EntryFault>
+        ensures reads { ReadsNext entries.old entries.new self.new.entry result }
+        ensures targets { result ≡ Ok true → row_targets self.new ≡ targets_of setup.now }
+        ensures row { result ≡ Ok true
+            → IsRowOf (targets_of setup.now) (entry_seen self.new.entry) (row_seen self.new) }
+    {
+        let found = entries.read_next(&mut self.entry);
+        if let Ok(true) = found {
+            reconvert(
+                &self.entry,
+                &mut self.outcome,
+                &mut self.targets,
+                &mut self.tail,
+                setup,
+            );
+        }
+        found
     }
 
     /// The entry.

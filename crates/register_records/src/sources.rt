@@ -1,7 +1,7 @@
 //! One source, on the caller's thread.
 
-ghost use Rattle.std.specs.Prelude.{◌≡◌, ◌≢◌, ◌≤◌, ◌⊎◌, ◌+◌, ◌++◌, ℕ, List, [], true, length, Option, None, Some};
-ghost use Rattle.std.specs.Prelude.{IfSome, IsSome, IfOk, IfErr, OnOk, Ok};
+ghost use Rattle.std.specs.Prelude.{◌≡◌, ◌≢◌, ◌≤◌, ◌⊎◌, ◌+◌, ◌++◌, ℕ, List, [], true, length, Option, None};
+ghost use Rattle.std.specs.Prelude.{IfSome, IfOk, IfErr, OnOk, Ok};
 ghost use Rattle.std.specs.Io.KnownBytes.{Appends};
 ghost use Rattle.register_records.specs.Conversions.{AreReady, ContinuesTable, IsReady};
 ghost use Rattle.register_records.specs.Entries.{HasAllEntries, HasEntries, HasNoHeader, HasTooMany, IsNotSealed};
@@ -13,7 +13,6 @@ ghost use Rattle.register_records.specs.declared.setups.Form.TheVariants.{Sealed
 ghost use Rattle.register_records.specs.Views.{format_of, given_of, layout_of, line_of, row_seen, text_of};
 ghost use Rattle.register_records.specs.Views.{writes_by};
 
-use crate::converting::day_of_body;
 use crate::outputs::Output;
 use crate::reading::EntryReader;
 use crate::rows::Row;
@@ -94,17 +93,6 @@ impl SourceEnd {
     }
 }
 
-/// The cause of a fault that has one.
-fn certain_cause(cause: Option<Cause>) -> Cause
-    requires { IsSome cause }
-    ensures { cause ≡ Some result }
-{
-    match cause {
-        Some(cause) => cause,
-        None => unreachable!(),
-    }
-}
-
 /// Notes a row that was refused, and writes the row.
 ///
 /// # Errors
@@ -132,14 +120,12 @@ fn write_row<W: Output>(
     if row.push_refusal(journal).is_err() {
         return Err(Cause::NoMemory);
     }
-    match writer.put(output, row) {
-        Ok(()) => Ok(()),
-        Err(fault) => Err(certain_cause(fault.cause())),
-    }
+    writer.put(output, row)?;
+    Ok(())
 }
 
-/// Converts the next entry and writes its row, which is made where the one before it lay. The answer is its number, or
-/// `None` at the end of the text.
+/// Converts the next entry and writes its row, which is made where the one before it lay. Returns its number, or `None`
+/// at the end of the text.
 ///
 /// # Errors
 ///
@@ -181,21 +167,11 @@ fn convert_next<R: Read + Drop, W: Output>(
     ensures never { IfErr result (λ c. (c ≢ Cause.NoThread) × (c ≢ Cause.Unconfirmed) × (c ≢ Cause.BadHeader)) }
     ensures mark { W.own_mark output.new ≡ W.own_mark output.old }
 {
-    let answer = entries.read_next(&mut row.entry);
-    // Whatever was read, also at the end, a row is by its type that of its entry.
-    let outcome = day_of_body(row.entry.body());
-    row.tail.renew(&row.targets, row.outcome, setup, outcome);
-    row.outcome = outcome;
-    row.targets = setup.target_list();
-    match answer {
-        Ok(true) => (),
-        Ok(false) => return Ok(None),
-        Err(fault) => return Err(certain_cause(fault.cause())),
+    if !row.read_next(entries, setup)? {
+        return Ok(None);
     }
-    match write_row(writer, journal, output, row) {
-        Ok(()) => Ok(Some(row.entry().number())),
-        Err(cause) => Err(cause),
-    }
+    write_row(writer, journal, output, row)?;
+    Ok(Some(row.entry().number()))
 }
 
 /// Converts each entry and writes its row, behind a heading that is written.
@@ -259,8 +235,8 @@ fn convert_entries<R: Read + Drop, W: Output>(
 /// accepted, and then the row of each record as soon as it was read. Each row is one line, made whole,
 /// offered and flushed. The conversion stops at the first fault, and what was written before it stays.
 ///
-/// The answer is `Whole` where the whole table was written, and else `Broken` with the cause of the
-/// fault; the causes `NoThread` and `Unconfirmed` are never answered.
+/// Returns `Whole` where the whole table was written, and else `Broken` with the cause of the fault, which is never
+/// `NoThread` or `Unconfirmed`.
 ///
 /// # Examples
 ///
@@ -314,7 +290,7 @@ pub fn convert_source<R: Read + Drop, W: Output>(
         Ok(entries) => entries,
         Err(fault) => {
             return SourceEnd::Broken {
-                cause: certain_cause(fault.cause()),
+                cause: Cause::from(fault),
             };
         }
     };
@@ -322,7 +298,7 @@ pub fn convert_source<R: Read + Drop, W: Output>(
         Ok(writer) => writer,
         Err(fault) => {
             return SourceEnd::Broken {
-                cause: certain_cause(fault.cause()),
+                cause: Cause::from(fault),
             };
         }
     };

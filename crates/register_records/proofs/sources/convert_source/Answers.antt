@@ -1,11 +1,10 @@
-use Rattle.std.proofs.Common.{◌∙◌, sym}
 use Rattle.csv.proofs.WriteFacts.{appends-none}
 use Rattle.register_records.proofs.ProgressLemmas.{nothing, only_memory}
 use Rattle.register_records.proofs.sources.convert_source.Goals as goal
 
 pub returns-in-Err-open-clause-part : goal.returns-in-Err-open-clause-part
 returns-in-Err-open-clause-part g c other =
-    let memory = only_memory _ _ (sym c.cause-in-Err-open.ensures ∙ c.certain_cause-in-Err-open.ensures) other in
+    let memory = only_memory _ _ c.from-in-Err-open.ensures other c.in-Err-open.ensures.never in
     rw (c.in-Err-open.ensures.memory memory) (nothing _ _ _ _ (appends-none _))
 
 pub returns-clause-whole : goal.returns-clause-whole

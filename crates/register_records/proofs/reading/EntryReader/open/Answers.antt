@@ -50,13 +50,14 @@ invariant_of-result g c =
     first_step (g.R.Read.remaining c.args.reader) (g.R.Read.remaining c.of-source.result.value)
     (records_left (inner_remaining g.R.Read.remaining) c.read_record.new.records)
     c.args.setup.now.delimiter c.delimiter-3.result c.form.result c.form-2.result
-    (entries_shown c.new-2.result.items) (fields_of c.read_record.new.csv_record)
+    (entries_shown c.in-Ok.given.items) (fields_of c.read_record.new.csv_record)
     (ap g.R.Read.remaining c.of-source.ensures) c.delimiter-3.ensures.value
-    (c.form-2.ensures ∙ sym c.form.ensures) (ap entries_shown c.new-2.ensures.items)
+    (c.form-2.ensures ∙ sym c.form.ensures) (ap entries_shown c.in-Ok.ensures.items)
     (found _ _ _ _ read c.if-not-found.false) (c.is_header.ensures.0 c.if-not-is_header.false) in
     record {
       live = λ _. c.in_ok-found.ensures.live;
-      few = rw c.new-2.ensures.items (omega arith);
+      few = rw c.in-Ok.ensures.items (omega arith);
+      room = c.in-Ok.ensures.capacity;
       stands = stands;
       first = may_first _ _ _ _ _ stands;
     }

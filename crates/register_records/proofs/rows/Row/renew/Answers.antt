@@ -1,5 +1,5 @@
 use Rattle.std.proofs.Math.Logic.{∥∥₁_map}
 use Rattle.register_records.proofs.rows.Row.renew.Goals as goal
 
-pub renew-requires-clause-cells : goal.renew-requires-clause-cells
-renew-requires-clause-cells c = ∥∥₁_map c.args.self.now.is_row (λ is. is.cells)
+pub reconvert-requires-clause-cells : goal.reconvert-requires-clause-cells
+reconvert-requires-clause-cells c = ∥∥₁_map c.args.self.now.is_row (λ is. is.cells)

@@ -3,7 +3,7 @@ use Rattle.std.specs.Prelude.{Ok}
 use Rattle.register_records.specs.Outcomes.{AreCells}
 use Rattle.register_records.specs.ShortLists.{items_in}
 use Rattle.register_records.specs.CellTexts.{cell_bytes}
-use Rattle.register_records.proofs.converting.make_cells.Given as goal
+use Rattle.register_records.proofs.rows.make_cells.Given as goal
 
 abbrev pub invariant-loop-target : goal.invariant-loop-target
 invariant-loop-target l =

@@ -1,7 +1,7 @@
 use Rattle.std.proofs.Common.{arith, ap, length, length-append}
 use Rattle.register_records.specs.declared.cell_texts.CellText.{CellText}
 use Rattle.register_records.proofs.OutcomeLemmas.{cells_more}
-use Rattle.register_records.proofs.converting.make_cells.Goals as goal
+use Rattle.register_records.proofs.rows.make_cells.Goals as goal
 
 pub loop-target-preserved : goal.loop-target-preserved
 loop-target-preserved c = record {

@@ -2,7 +2,7 @@
 //! both places.
 
 use date_texts::{Calendar, Target};
-use register_records::{EntryReader, Form, PlainOutput, Setup, SetupFault, convert_source};
+use register_records::{Entry, EntryReader, Form, PlainOutput, Setup, SetupFault, convert_source};
 use std::test::Fail;
 
 /// `Setup::new`
@@ -22,9 +22,10 @@ fn a_text_has_entries(rt: HostRuntime) -> Result<(), Fail> {
     let setup = Setup::new(&[], 16, b',', 1, Form::Plain)?;
     let text = b"id,calendar,date\na,gregorian,1945-11-12\n";
     let mut entries = EntryReader::open(rt.alloc(), text.as_slice(), &setup)?;
-    let entry = entries.next()?.ok_or("no entry")?;
+    let mut entry = Entry::blank();
+    assert!(rt; entries.read_next(&mut entry)?);
     assert_eq!(rt; entry.number(), 1);
-    assert!(rt; entries.next()?.is_none());
+    assert!(rt; !entries.read_next(&mut entry)?);
     Ok(())
 }
 

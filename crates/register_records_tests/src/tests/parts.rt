@@ -122,8 +122,8 @@ fn entries_have_their_limits_and_faults_their_causes(rt: HostRuntime) {
             "at {number}"
         );
     }
-    assert!(rt; RowFault::WriteFault.cause() == Some(Cause::SinkFault));
-    assert!(rt; EntryFault::Failed.cause().is_none());
+    assert!(rt; Cause::from(RowFault::WriteFault) == Cause::SinkFault);
+    assert!(rt; Cause::from(EntryFault::Failed) == Cause::Unconfirmed);
 }
 
 static REFUSED_LINE: &str = "1,,,,,,3\n";

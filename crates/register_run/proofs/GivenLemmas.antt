@@ -3,6 +3,7 @@ use Rattle.std.proofs.Common.{◌≡◌, ◌⊎◌, ◌∙◌, ap, subst, sym, r
 use Rattle.std.proofs.Common.{Option, inl, inr, arith}
 use Rattle.std.specs.Prelude.{Err, IfSome, Ok, Result}
 use Rattle.std.proofs.Math.Logic.{∥∥₁_elim, ∥∥₁_map, ∥∥₁_prop}
+use Rattle.register_records.specs.Causes.{entry_fault_cause}
 use Rattle.register_records.specs.Entries.{AreNumberedFrom, Format, HasAllEntries, HasEntries, HasFirstEntries}
 use Rattle.register_records.specs.Entries.{HasNoHeader, HasTooMany, IsNotSealed, Numbered, record_limit}
 use Rattle.register_records.specs.declared.reading.EntryFault.{EntryFault}
@@ -15,7 +16,7 @@ use Rattle.register_records.specs.declared.entries.Entry.{Entry}
 use Rattle.register_records.specs.declared.rows.Row.{Row}
 use Rattle.register_run.specs.Carried.{AreDealt}
 use Rattle.register_run.specs.Worlds.{World}
-use Rattle.register_run.specs.JoinedThreads.{HasGoodOutput, HasPassed, IsCauseOf, IsGiven, IsOfThreads, Sends}
+use Rattle.register_run.specs.JoinedThreads.{HasGoodOutput, HasPassed, IsGiven, IsOfThreads, Sends}
 use Rattle.register_run.specs.JoinedThreads.{is_of_reading}
 use Rattle.register_run.specs.JoinedThreads.{speaks_of_text}
 use Rattle.register_run.specs.declared.reading.Sent.{Sent}
@@ -26,7 +27,7 @@ numbered_more k [] n h e = (omega arith, tt)
 numbered_more k (first ∷ rest) n h e = (h.0, numbered_more (k + 1) rest n h.1 (omega arith))
 
 -- the cause tells the fault
-fault_told : (f : EntryFault) (c : Cause) → IsCauseOf f c
+fault_told : (f : EntryFault) (c : Cause) → c ≡ entry_fault_cause f
     → (c ≡ cause.BadHeader → f ≡ fault.BadHeader) × (c ≡ cause.TooManyRecords → f ≡ fault.TooManyRecords)
     × (c ≡ cause.NotSealed → f ≡ fault.NotSealed)
 fault_told fault.OutOfMemory c is = (λ e. cc, λ e. cc, λ e. cc)
@@ -47,7 +48,7 @@ made_so sent n outcome counted why =
 
 module _ (text : Option (List ℕ)) (format : Format) where
   -- the text was not opened
-  pub given_none : (f : EntryFault) (c : Cause) → IsCauseOf f c
+  pub given_none : (f : EntryFault) (c : Cause) → c ≡ entry_fault_cause f
       → (f ≡ fault.BadHeader → IfSome text (λ t. HasNoHeader format t)) → (f ≡ fault.TooManyRecords → ⊥)
       → (f ≡ fault.NotSealed → ⊥) → (sent : Sent) → (sent.count ≡ 0) × (sent.outcome ≡ Err c)
       → IsGiven text format sent []
@@ -62,7 +63,8 @@ module _ (text : Option (List ℕ)) (format : Format) where
         not_sealed = λ e. absurd (unsealed ((fault_told f c is).2 e));
       })
 
-  stopped_so : (f : EntryFault) (c : Cause) (given : List Numbered) → IsCauseOf f c → (f ≡ fault.BadHeader → ⊥)
+  stopped_so : (f : EntryFault) (c : Cause) (given : List Numbered) → c ≡ entry_fault_cause f
+      → (f ≡ fault.BadHeader → ⊥)
       → AreNumberedFrom 1 given
       → HasFirstEntries format text given
       → (f ≡ fault.TooManyRecords → (length given ≡ record_limit) × IfSome text (λ t. HasTooMany format t))
@@ -80,7 +82,8 @@ module _ (text : Option (List ℕ)) (format : Format) where
   }
 
   -- the reading stopped after these entries
-  pub given_stopped : (f : EntryFault) (c : Cause) (given : List Numbered) → IsCauseOf f c → (f ≡ fault.BadHeader → ⊥)
+  pub given_stopped : (f : EntryFault) (c : Cause) (given : List Numbered) → c ≡ entry_fault_cause f
+      → (f ≡ fault.BadHeader → ⊥)
       → (f ≡ fault.TooManyRecords → (length given ≡ record_limit) × ∥ IfSome text (λ t. HasTooMany format t) ∥₁)
       → (f ≡ fault.NotSealed → (format.form ≡ Sealed) × ∥ IfSome text (λ t. IsNotSealed format t) ∥₁)
       → (f ≡ fault.NotSealed → ∥ HasAllEntries format text given ∥₁)
@@ -153,7 +156,7 @@ module _ (text text' : Option (List ℕ)) (d d' : Format) (same : text' ≡ text
       (along (λ o n. ∥ HasEntries n o given ∥₁) text text' d d' same by all) in
       ∥∥₁_map (given_all text d n old count numbered first' all') (λ is. (old, is, deals))
 
-  pub sends_stopped : (f : EntryFault) (c : Cause) → IsCauseOf f c → (f ≡ fault.BadHeader → ⊥)
+  pub sends_stopped : (f : EntryFault) (c : Cause) → c ≡ entry_fault_cause f → (f ≡ fault.BadHeader → ⊥)
       → (f ≡ fault.TooManyRecords → (length old ≡ record_limit) × ∥ IfSome text' (λ t. HasTooMany d' t) ∥₁)
       → (f ≡ fault.NotSealed → (d'.form ≡ Sealed) × ∥ IfSome text' (λ t. IsNotSealed d' t) ∥₁)
       → (f ≡ fault.NotSealed → ∥ HasAllEntries d' text' given ∥₁) → (sent : Sent)

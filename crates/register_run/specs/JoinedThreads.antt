@@ -1,16 +1,14 @@
 -- What the threads of a source owe, by the lanes that they were given.
-use Rattle.std.specs.Prelude.{◌≡◌, ◌⊎◌, ⊤, ℕ, List, [], ◌∷◌, length, Option, Some, IfSome, MatchOption, Result, Ok}
+use Rattle.std.specs.Prelude.{◌≡◌, ◌⊎◌, ⊤, ℕ, List, [], ◌∷◌, length, Option, Some, IfSome, Result, Ok}
 use Rattle.std.specs.Prelude.{Err, IfOk, IfErr, Bool, true, false}
 use Rattle.std.specs.List.{Contains}
 use Rattle.lane_rings.specs.declared.sender.Sender.{Sender}
 use Rattle.lane_rings.specs.declared.sender.Closed.{Closed}
 use Rattle.lane_rings.specs.Lane.{Lane, HasConfirmation, all_sent, closed_lane, receiver_lane, taken}
-use Rattle.register_records.specs.Causes.{entry_fault_cause}
 use Rattle.register_records.specs.Entries.{AreNumberedFrom, Format, HasAllEntries, HasEntries, HasFirstEntries}
 use Rattle.register_records.specs.Entries.{HasNoHeader, HasTooMany, IsNotSealed, Numbered, record_limit}
 use Rattle.register_records.specs.Seen.{entry_seen}
 use Rattle.register_records.specs.declared.entries.Entry.{Entry}
-use Rattle.register_records.specs.declared.reading.EntryFault.{EntryFault}
 use Rattle.register_records.specs.declared.rows.Row.{Row}
 use Rattle.register_records.specs.declared.setups.Form.TheVariants.{Sealed}
 use Rattle.register_records.specs.declared.sources.Cause.{Cause}
@@ -65,10 +63,6 @@ HasGoodOutput outcome = IfErr outcome (λ c. c ≡ cause.SinkFault → ⊥)
 -- nor is a thread that did not start
 abbrev pub HasStarted : Result ℕ Cause → Type 0
 HasStarted outcome = IfErr outcome (λ c. c ≡ cause.NoThread → ⊥)
-
--- the cause that a fault of reading entries is
-abbrev pub IsCauseOf : EntryFault → Cause → Type 0
-IsCauseOf fault c = MatchOption (entry_fault_cause fault) (c ≡ cause.Unconfirmed) (λ is. c ≡ is)
 
 -- a reader gave entries of the text, and the machine of as many stripes as there are senders deals them so
 abbrev pub Sends : Option (List ℕ) → Format → Sent → List (Sender Entry) → Type 0

@@ -5,11 +5,11 @@ ghost use Rattle.std.specs.List.{AllZip};
 ghost use Rattle.lane_rings.specs.Lane.{sender_lane, sent};
 ghost use Rattle.register_records.specs.Views.{format_of};
 ghost use Rattle.register_run.specs.Carried.{HasEnded};
-ghost use Rattle.register_run.specs.JoinedThreads.{HasStarted, IsCauseOf, HasGoodOutput, IsReading, Sends};
+ghost use Rattle.register_run.specs.JoinedThreads.{HasGoodOutput, HasStarted, IsReading, Sends};
 
 use crate::turns::turn_after;
 use lane_rings::{Closed, Sender};
-use register_records::{Cause, Entry, EntryFault, EntryReader, Setup};
+use register_records::{Cause, Entry, EntryReader, Setup};
 use std::alloc::Global;
 use std::io::Read;
 use std::snapshot::Snapshot;
@@ -75,16 +75,6 @@ pub(crate) fn stopped_after(count: u32, cause: Cause) -> Sent
     }
 }
 
-/// The cause that a fault of reading is.
-fn cause_of(fault: EntryFault) -> Cause
-    ensures { IsCauseOf fault result }
-{
-    match fault.cause() {
-        Some(cause) => cause,
-        None => Cause::Unconfirmed,
-    }
-}
-
 /// Sends each entry of a source, the first to the first converter, the next to the next one, and so on by turns. It
 /// stops for the cause of the fault of reading that was met, and for `Unconfirmed` where a converter is gone.
 fn send_entries<R: Read + Drop>(
@@ -103,20 +93,21 @@ fn send_entries<R: Read + Drop>(
 {
     let mut entries = match EntryReader::open(alloc, source, setup) {
         Ok(entries) => entries,
-        Err(fault) => return stopped_after(0, cause_of(fault)),
+        Err(fault) => return stopped_after(0, Cause::from(fault)),
     };
+    let mut entry = Entry::blank();
     let mut count = 0;
     for _ in rt.forever() {
-        let entry = match entries.next() {
-            Ok(Some(entry)) => entry,
-            Ok(None) => {
+        match entries.read_next(&mut entry) {
+            Ok(true) => (),
+            Ok(false) => {
                 return Sent {
                     count,
                     outcome: Ok(count),
                 };
             }
-            Err(fault) => return stopped_after(count, cause_of(fault)),
-        };
+            Err(fault) => return stopped_after(count, Cause::from(fault)),
+        }
         count = entry.number();
         let turn = turn_after((count - 1) as usize, senders.len());
         let sender = &mut senders[turn];

@@ -1,5 +1,5 @@
 use Rattle.std.proofs.Common.{◌≡◌, ◌∙◌, ◌-◌, [], ◌∷◌, ap, refl, sym, subst, arith, length}
-use Rattle.std.proofs.Common.{length-append, rules}
+use Rattle.std.proofs.Common.{false, length-append, rules, true}
 use Rattle.std.proofs.Math.Seq.{map-set_same}
 use Rattle.std.proofs.lemmas.List.{length-set}
 use Rattle.lane_rings.specs.Lane.{sender_lane}
@@ -16,30 +16,32 @@ pub returns-in-Err-clause-sends : goal.returns-in-Err-clause-sends
 returns-in-Err-clause-sends g c =
     let is =
     given_none (g.R.Read.remaining c.args.source)
-    (format_of c.args.setup.now) c.in-Err.fault c.cause_of.result c.cause_of.ensures c.in-Err.ensures.bad
+    (format_of c.args.setup.now) c.in-Err.fault c.from.result c.from.ensures c.in-Err.ensures.bad
     c.in-Err.ensures.never.0 c.in-Err.ensures.never.2 c.stopped_after.result c.stopped_after.ensures in
     ∣ ([], is, λ w many. dealt_none w 0 c.args.senders.now.items c.requires.fresh) ∣₁
 
-pub returns-in-Ok-None-clause-sends : goal.returns-in-Ok-None-clause-sends
-returns-in-Ok-None-clause-sends g c =
-    let inv = c.loop.invariant in let new = c.next-in-loop.new.self in
-    let all = (rw c.in-Ok-None.field-0-is at c.in-Ok-None.ensures.all) refl in
-    let kept = (rw c.in-Ok-None.field-0-is at c.in-Ok-None.ensures.ends) refl in
+pub returns-in-Ok-false-clause-sends : goal.returns-in-Ok-false-clause-sends
+returns-in-Ok-false-clause-sends g c =
+    let inv = c.loop.invariant in let new = c.read_next.new.self in
+    let reads = c.in-Ok-false.ensures.reads in
+    let none : c.in-Ok-false.field-0 ≡ false = search rules in
+    let all = (rw none at reads.all) refl in
+    let kept = (rw none at reads.ends) refl in
     sends_all (g.R.Read.remaining c.args.source) (text_of new) (format_of c.args.setup.now) (reads_by new)
-    (c.next-in-loop.ensures.text.0 ∙ inv.text) (c.next-in-loop.ensures.text.1 ∙ inv.by)
+    (c.read_next.ensures.reads.text.0 ∙ inv.text) (c.read_next.ensures.reads.text.1 ∙ inv.by)
     (given_of new) (given_of c.loop.entries) kept.1 inv.numbered new.first c.loop.senders.items inv.deals c.loop.count
     inv.count all
 
-pub returns-in-Err-next-clause-sends : goal.returns-in-Err-next-clause-sends
-returns-in-Err-next-clause-sends g c =
-    let inv = c.loop.invariant in let new = c.next-in-loop.new.self in
+pub returns-in-Err-read_next-clause-sends : goal.returns-in-Err-read_next-clause-sends
+returns-in-Err-read_next-clause-sends g c =
+    let inv = c.loop.invariant in let new = c.read_next.new.self in
     sends_stopped (g.R.Read.remaining c.args.source) (text_of new) (format_of c.args.setup.now) (reads_by new)
-    (c.next-in-loop.ensures.text.0 ∙ inv.text) (c.next-in-loop.ensures.text.1 ∙ inv.by)
-    (given_of new) (given_of c.loop.entries) c.in-Err-next.ensures.kept inv.numbered new.first c.loop.senders.items
+    (c.read_next.ensures.reads.text.0 ∙ inv.text) (c.read_next.ensures.reads.text.1 ∙ inv.by)
+    (given_of new) (given_of c.loop.entries) c.in-Err-read_next.ensures.reads.kept inv.numbered new.first c.loop.senders.items
     inv.deals
-    c.in-Err-next.fault _ c.cause_of-in-Err-next.ensures c.in-Err-next.ensures.no_header
-    c.in-Err-next.ensures.many c.in-Err-next.ensures.not_sealed c.in-Err-next.ensures.above
-    c.stopped_after-in-Err-next.result (c.stopped_after-in-Err-next.ensures.0 ∙ inv.count) c.stopped_after-in-Err-next.ensures.1
+    c.in-Err-read_next.fault _ c.from-in-Err-read_next.ensures c.in-Err-read_next.ensures.reads.no_header
+    c.in-Err-read_next.ensures.reads.many c.in-Err-read_next.ensures.reads.not_sealed c.in-Err-read_next.ensures.reads.above
+    c.stopped_after-in-Err-read_next.result (c.stopped_after-in-Err-read_next.ensures.0 ∙ inv.count) c.stopped_after-in-Err-read_next.ensures.1
 
 pub returns-then-is_err-clause-lanes : goal.returns-then-is_err-clause-lanes
 returns-then-is_err-clause-lanes g c =
@@ -62,12 +64,14 @@ returns-then-is_err-clause-sends g c =
 
 pub loop-preserved : goal.loop-preserved
 loop-preserved g c =
-    let inv = c.loop.invariant in let new = c.next-in-loop.new.self in
+    let inv = c.loop.invariant in let new = c.read_next.new.self in
     let items = c.loop.senders.items in let at = c.turn_after-turn.result in
-    let gives = rw c.in-Ok-Some.field-0-is at c.in-Ok-Some.ensures.gives in
-    let number = rw c.in-Ok-Some.field-0-is at c.in-Ok-Some.ensures.number in
-    let longer = length-append {A = Numbered} (given_of c.loop.entries) (entry_seen c.in-Ok-Some.entry ∷ []) in
-    let same : c.number-count.result ≡ c.in-Ok-Some.entry.number = c.number-count.ensures.value in
+    let reads = c.in-Ok-true.ensures.reads in
+    let found : c.in-Ok-true.field-0 ≡ true = search rules in
+    let gives = (rw found at reads.gives) refl in
+    let number = (rw found at reads.number) refl in
+    let longer = length-append {A = Numbered} (given_of c.loop.entries) (entry_seen c.read_next.new.entry ∷ []) in
+    let same : c.number-count.result ≡ c.read_next.new.entry.number = c.number-count.ensures.value in
     let many : length items ≡ c.len.result =
     (let a = c.len.ensures in let o = c.loop.senders.ok.0 in omega arith) in record {
       len = inv.len;
@@ -75,18 +79,18 @@ loop-preserved g c =
           map-set_same sender_lane items
           at c.send_copy.new.self c.index_mut-sender.result.now
           (c.send_copy.ensures.lane ∙ ap sender_lane c.index_mut-sender.ensures.value) ∙ inv.lanes;
-      text = c.next-in-loop.ensures.text.0 ∙ inv.text;
-      by = c.next-in-loop.ensures.text.1 ∙ inv.by;
-      goes = c.in-Ok-Some.ensures.fails;
+      text = c.read_next.ensures.reads.text.0 ∙ inv.text;
+      by = c.read_next.ensures.reads.text.1 ∙ inv.by;
+      goes = reads.fails;
       count = same ∙ number.0 ∙ rw gives (omega (arith, longer));
       numbered =
           subst (λ l. AreNumberedFrom 1 l) (sym gives)
-          (numbered_more 1 (given_of c.loop.entries) (entry_seen c.in-Ok-Some.entry) inv.numbered
+          (numbered_more 1 (given_of c.loop.entries) (entry_seen c.read_next.new.entry) inv.numbered
           (let n = number.0 in omega arith));
       deals = λ w is.
           let before = is ∙ length-set items at c.send_copy.new.self in
           dealt_send w at (given_of c.loop.entries) (given_of new) items c.send_copy.new.self c.index_mut-sender.result.now
-          c.in-Ok-Some.entry c.send_copy.result c.index_mut-sender.ensures.value
+          c.read_next.new.entry c.send_copy.result c.index_mut-sender.ensures.value
           (sym c.is_err.ensures.value ∙ c.if-is_err.false) gives
           (sym (c.turn_after-turn.ensures.machine w (before ∙ many) ∙ ap (λ n. turn w (n - 1)) same))
           c.send_copy.ensures.ok (inv.deals w before);

@@ -15,8 +15,7 @@
 #include <unistd.h>
 
 static const char *call, *mark;
-static long place, error;
-static long calls;
+static long place, error, calls;
 
 __attribute__((constructor)) static void start(void) {
   call = getenv("FAULT_CALL");
@@ -53,17 +52,14 @@ void *realloc(void *block, size_t size) {
   return fails("realloc", -1) ? NULL : next(block, size);
 }
 
-ssize_t read(int descriptor, void *bytes, size_t size) {
-  if (!fails("read", descriptor)) return syscall(SYS_read, descriptor, bytes, size);
-  return error ? -1 : syscall(SYS_read, descriptor, bytes, size < 1 ? size : 1);
+static ssize_t move(const char *name, long number, int descriptor, void *bytes, size_t size) {
+  if (!fails(name, descriptor)) return syscall(number, descriptor, bytes, size);
+  return error ? -1 : syscall(number, descriptor, bytes, size < 1 ? size : 1);
 }
 
-ssize_t write(int descriptor, const void *bytes, size_t size) {
-  if (!fails("write", descriptor)) return syscall(SYS_write, descriptor, bytes, size);
-  return error ? -1 : syscall(SYS_write, descriptor, bytes, size < 1 ? size : 1);
-}
-
-ssize_t __write(int descriptor, const void *bytes, size_t size) { return write(descriptor, bytes, size); }
+ssize_t read(int from, void *bytes, size_t size) { return move("read", SYS_read, from, bytes, size); }
+ssize_t write(int to, const void *bytes, size_t size) { return move("write", SYS_write, to, (void *)bytes, size); }
+ssize_t __write(int to, const void *bytes, size_t size) { return write(to, bytes, size); }
 
 int open(const char *name, int flags, ...) {
   va_list rest;

@@ -3,11 +3,11 @@
 --     clauses of `read_date`, and the laws `one_date_text` and `canonical_texts_read_back`. TextWords has the words of
 --     these.
 --   TargetNameLemmas: `calendar_named`, `target_named`, and the laws `one_calendar` and `one_target`.
---   TargetPlaceLemmas, TargetCountLemmas: the law `few_targets`.
+--   TargetRankLemmas, TargetCountLemmas: the law `few_targets`.
 --   CellLemmas: `cell`, `value` of `write_cell`, and the law `one_cell`.
 --   CellLengthLemmas: the law `cells_are_short`, and with it the room in `cell` and `write_cell`.
 --   CellByteLemmas: the law `cells_are_plain`.
---   PairLemmas, WritingLemmas, PlaceLemmas: the digits and pieces in `write_date` and `write_cell`.
+--   PairLemmas, WritingLemmas, BufferLemmas: the digits and pieces in `write_date` and `write_cell`.
 --   DecisionLemmas, DateDecisionLemmas: what can be decided of numbers, texts and dates, for the laws of the crates
 --     above.
 pub mod PairLemmas
@@ -19,12 +19,12 @@ pub mod DatePartLemmas
 pub mod RomanReadingLemmas
 pub mod DateTextLemmas
 pub mod CellLemmas
-pub mod TargetPlaceLemmas
+pub mod TargetRankLemmas
 pub mod TargetCountLemmas
 pub mod TargetNameLemmas
 pub mod CellByteLemmas
 pub mod CellLengthLemmas
-pub mod PlaceLemmas
+pub mod BufferLemmas
 pub mod WritingLemmas
 pub mod DecisionLemmas
 pub mod DateDecisionLemmas

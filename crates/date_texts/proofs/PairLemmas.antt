@@ -2,7 +2,7 @@
 use Rattle.std.proofs.Common.{◌≡◌, ℕ, zero, suc, ◌+◌, ◌-◌, ◌*◌, ◌/◌, ◌%◌, ◌<◌, Bool, true, ◌&&◌, T, eqb, eqb→eq, get_or}
 use Rattle.std.proofs.Common.{arith, inl, inr, eq-zero-or-pos}
 use lib.Ieee.Fits.{and_l, and_r}
-use Rattle.date_texts.specs.declared.places.TheConstants.{PAIRS}
+use Rattle.date_texts.specs.declared.buffer.TheConstants.{PAIRS}
 
 -- the table has the digits of all numbers under one
 abbrev are_pairs : ℕ → Bool

@@ -125,22 +125,22 @@ fits_more m n c b low high h t e = omega (arith, ten_more m low high, digit_valu
 pub fits_first : (m c : ℕ) (b : Bool) → m ≤ 4 → b ≡ true → b ≡ is_ascii_digit c → c - 48 < 10 ^ (5 - m)
 fits_first m c b high t e = omega (arith, at_least_ten m high, digit_value_small c b t e)
 
--- each further digit makes room for one place more
-pub one_place_more : (m n d : ℕ) → 1 ≤ m → m ≤ 4 → d ≤ 9 → (10 * n + d + 1) * 10 ^ (m - 1) ≤ (n + 1) * 10 ^ m
-one_place_more zero n d low high small = absurd (omega arith)
-one_place_more (suc zero) n d low high small = omega arith
-one_place_more (suc (suc zero)) n d low high small = omega arith
-one_place_more (suc (suc (suc zero))) n d low high small = omega arith
-one_place_more (suc (suc (suc (suc zero)))) n d low high small = omega arith
-one_place_more (suc (suc (suc (suc (suc m))))) n d low high small = absurd (omega arith)
+-- each further digit makes room for one digit more
+pub one_digit_more : (m n d : ℕ) → 1 ≤ m → m ≤ 4 → d ≤ 9 → (10 * n + d + 1) * 10 ^ (m - 1) ≤ (n + 1) * 10 ^ m
+one_digit_more zero n d low high small = absurd (omega arith)
+one_digit_more (suc zero) n d low high small = omega arith
+one_digit_more (suc (suc zero)) n d low high small = omega arith
+one_digit_more (suc (suc (suc zero))) n d low high small = omega arith
+one_digit_more (suc (suc (suc (suc zero)))) n d low high small = omega arith
+one_digit_more (suc (suc (suc (suc (suc m))))) n d low high small = absurd (omega arith)
 
-pub below_places : (m n : ℕ) → m ≤ 4 → n < (n + 1) * 10 ^ m
-below_places zero n high = omega arith
-below_places (suc zero) n high = omega arith
-below_places (suc (suc zero)) n high = omega arith
-below_places (suc (suc (suc zero))) n high = omega arith
-below_places (suc (suc (suc (suc zero)))) n high = omega arith
-below_places (suc (suc (suc (suc (suc m))))) n high = absurd (omega arith)
+pub below_digits : (m n : ℕ) → m ≤ 4 → n < (n + 1) * 10 ^ m
+below_digits zero n high = omega arith
+below_digits (suc zero) n high = omega arith
+below_digits (suc (suc zero)) n high = omega arith
+below_digits (suc (suc (suc zero))) n high = omega arith
+below_digits (suc (suc (suc (suc zero)))) n high = omega arith
+below_digits (suc (suc (suc (suc (suc m))))) n high = absurd (omega arith)
 
 -- ---- what is read is in the grammar
 number_read_by : (more c n : ℕ) (cs rest : List ℕ) (b : Bool) → is_ascii_digit c ≡ b

@@ -8,40 +8,40 @@ use Rattle.std.proofs.lemmas.List.{get_or-map, length-map}
 use Rattle.std.proofs.lemmas.Map.Keys.{IsDistinct-from_apart}
 use Rattle.std.proofs.lemmas.Map.Steps.{length-le_from_distinct_below}
 use Rattle.std.proofs.lemmas.Option.{slice_get-get_or}
-use Rattle.date_texts.specs.declared.calendar.Target.{Target}
-use Rattle.date_texts.specs.declared.calendar.Target.TheVariants.{Haab}
-use Rattle.date_texts.specs.declared.calendar.TheConstants.{MAX_TARGETS}
+use Rattle.date_texts.specs.declared.target.Target.{Target}
+use Rattle.date_texts.specs.declared.target.Target.TheVariants.{Haab}
+use Rattle.date_texts.specs.declared.target.TheConstants.{MAX_TARGETS}
 use Rattle.date_texts.specs.Laws.{FewTargets}
-use Rattle.date_texts.proofs.TargetPlaceLemmas.{target_place, place_below, place_same}
+use Rattle.date_texts.proofs.TargetRankLemmas.{rank_of, rank_below, same_rank}
 
-below : (ts : List Target) (q : ℕ) → list_any (eqb q) (map target_place ts) ≡ true → q < MAX_TARGETS
+below : (ts : List Target) (q : ℕ) → list_any (eqb q) (map rank_of ts) ≡ true → q < MAX_TARGETS
 below [] q e = cc
 below (t ∷ ts) q e =
-    elim (eqb_tells q (target_place t)) [
-      | inl same ↦ rw same.1 (place_below t)
+    elim (eqb_tells q (rank_of t)) [
+      | inl same ↦ rw same.1 (rank_below t)
       | inr other ↦ below ts q (rw other.0 at e)
     ]
 
 apart : (ts : List Target) → ((i j : ℕ) → i < j → j < length ts → slice_get ts i ≢ slice_get ts j)
-    → (i j d : ℕ) → i < j → j < length (map target_place ts) → eqb (get_or (map target_place ts) i d)
-    (get_or (map target_place ts) j d) ≡ false
+    → (i j d : ℕ) → i < j → j < length (map rank_of ts) → eqb (get_or (map rank_of ts) i d)
+    (get_or (map rank_of ts) j d) ≡ false
 apart ts h i j d lt le =
-    let long = length-map ts target_place in
+    let long = length-map ts rank_of in
     let near : j < length ts = omega (arith, long, le) in
     let first : i < length ts = omega arith in
-    let there = get_or-map target_place ts i Haab d first in
-    let here = get_or-map target_place ts j Haab d near in
-    rw (there, here) (elim (eqb_tells (target_place (get_or ts i Haab)) (target_place (get_or ts j Haab))) [
+    let there = get_or-map rank_of ts i Haab d first in
+    let here = get_or-map rank_of ts j Haab d near in
+    rw (there, here) (elim (eqb_tells (rank_of (get_or ts i Haab)) (rank_of (get_or ts j Haab))) [
       | inl same ↦ absurd (h i j lt near
           (slice_get-get_or ts i Haab first
-          ∙ (ap Some (place_same _ _ same.1) ∙ sym (slice_get-get_or ts j Haab near))))
+          ∙ (ap Some (same_rank _ _ same.1) ∙ sym (slice_get-get_or ts j Haab near))))
       | inr other ↦ other.0
     ])
 
 -- targets of which none is named twice are no more than there are targets
 pub few : FewTargets
 few ts h =
-    let long = length-map ts target_place in
-    let short = length-le_from_distinct_below (map target_place ts) MAX_TARGETS
-    (IsDistinct-from_apart eqb (map target_place ts) (apart ts h)) (below ts) in
+    let long = length-map ts rank_of in
+    let short = length-le_from_distinct_below (map rank_of ts) MAX_TARGETS
+    (IsDistinct-from_apart eqb (map rank_of ts) (apart ts h)) (below ts) in
     omega (arith, long, short)

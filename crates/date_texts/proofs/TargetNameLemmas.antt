@@ -8,8 +8,8 @@ use Rattle.std.proofs.lemmas.Slice.Eq.{bytes_eq-Decides}
 use Rattle.std.proofs.lemmas.Bool.{and_parts}
 use Rattle.date_texts.specs.declared.calendar.Calendar.{Calendar}
 use Rattle.date_texts.specs.declared.calendar.Calendar.TheVariants.{Gregorian}
-use Rattle.date_texts.specs.declared.calendar.Target.{Target}
-use Rattle.date_texts.specs.declared.calendar.Target.TheVariants.{Date, Haab, Tzolkin}
+use Rattle.date_texts.specs.declared.target.Target.{Target}
+use Rattle.date_texts.specs.declared.target.Target.TheVariants.{Date, Haab, Tzolkin}
 use Rattle.date_texts.specs.Calendars.{calendar_name, target_name, all_targets}
 use Rattle.date_texts.specs.Laws.{OneCalendar, OneTarget}
 use Rattle.date_texts.specs.Names.{IsNamed}

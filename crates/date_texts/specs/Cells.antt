@@ -8,8 +8,8 @@ use Rattle.maya_calendars.specs.TzolkinNames.{tzolkin_of, name_texts}
 use Rattle.date_texts.specs.Dates.{calendar_of_date, IsDateOfCalendar, day_number_of_date}
 use Rattle.date_texts.specs.DateText.{canonical_text}
 use Rattle.date_texts.specs.declared.calendar.Calendar.{Calendar}
-use Rattle.date_texts.specs.declared.calendar.Target.{Target}
-use Rattle.date_texts.specs.declared.calendar.Target.TheVariants.{Date as DateTarget, Haab, Tzolkin}
+use Rattle.date_texts.specs.declared.target.Target.{Target}
+use Rattle.date_texts.specs.declared.target.Target.TheVariants.{Date as DateTarget, Haab, Tzolkin}
 use Rattle.date_texts.specs.declared.date.Date.{Date}
 
 -- the text is the canonical text of a date that the calendar has and whose day is n, or it is empty where the calendar

@@ -13,6 +13,6 @@ pub mod Reading
 pub mod CivilReading
 pub mod LongReading
 pub mod RomanReading
-pub mod Places
+pub mod Buffers
 pub mod Cells
 pub mod Laws

@@ -1,4 +1,4 @@
-//! The calendars, and what a table can show of a day.
+//! The calendars.
 
 ghost use Rattle.std.specs.Prelude.{◌≡◌, ◌↔◌, IsSome, IfSome};
 ghost use Rattle.day_numbers.specs.Dates.{IsDayOf};
@@ -128,45 +128,5 @@ impl Calendar {
             × (day_number_by (reckoning self) date ≡ day.number)) }
     {
         by_calendar!(self, by => by.date_on(day), Longcount => unreachable!(), Roman => unreachable!())
-    }
-}
-
-/// The dates of these calendars, and targets that are no calendars.
-macro_rules! targets {
-    ($($calendar:ident),+; $($other:ident),+) => {
-        [$(Target::Date(Calendar::$calendar),)+ $(Target::$other),+]
-    };
-}
-
-/// How many targets there are, and so the most that a list can name of which none stands at two places.
-pub const MAX_TARGETS: usize = 14;
-
-/// What a table shows of each day: the date in a calendar, the haab or the tzolkin.
-#[derive(Clone, Copy, PartialEq, Eq, Debug)]
-pub enum Target {
-    Date(Calendar),
-    Haab,
-    Tzolkin,
-}
-
-impl Target {
-    ghost use Rattle.date_texts.specs.Calendars.{target_name};
-
-    /// Every target once, in the order in which a table has them by default: the calendars, the haab and
-    /// the tzolkin.
-    pub const ALL: [Target; MAX_TARGETS] = targets![
-        Gregorian, Iso, Julian, Coptic, Ethiopic, Egyptian, Armenian, Islamic, Hebrew, Longcount, French, Roman;
-        Haab, Tzolkin
-    ];
-
-    /// The name in small letters, which heads the target's column.
-    pub fn name(&self) -> &'static str
-        ensures { result.now ≡ target_name self.now }
-    {
-        match self {
-            Target::Date(calendar) => calendar.name(),
-            Target::Haab => "haab",
-            Target::Tzolkin => "tzolkin",
-        }
     }
 }

@@ -7,17 +7,17 @@ ghost use Rattle.date_texts.specs.declared.date.Date.{Date};
 ghost use Rattle.date_texts.specs.Calendars.{IsCivil};
 ghost use Rattle.date_texts.specs.CivilText.{canonical_civil};
 ghost use Rattle.date_texts.specs.DateText.{SaysDate};
-ghost use Rattle.date_texts.specs.Places.{IsPut};
+ghost use Rattle.date_texts.specs.Buffers.{IsPut};
 ghost use Rattle.date_texts.specs.CivilReading.{after_week_letter as after_letter_spec};
 ghost use Rattle.date_texts.specs.CivilReading.{after_mark as after_mark_spec};
 ghost use Rattle.date_texts.specs.CivilReading.{civil_at as civil_spec};
 ghost use Rattle.date_texts.specs.Reading.{seen_rest};
 
+use crate::buffer::{put_byte, put_short, put_two_digits, put_year};
 use crate::calendar::Calendar;
 use crate::date::{CivilDate, Date};
 use crate::grammar::Grammar;
 use crate::numerals::{after_byte, at_end, number_at, year_at};
-use crate::places::{put_byte, put_short, put_two_digits, put_year};
 use day_numbers::Ymd;
 
 /// The bytes after the letter W, of either case, at the front.
@@ -67,24 +67,24 @@ pub fn civil_date_at(calendar: Calendar, text: &[u8]) -> Option<Date>
 
 /// Writes a year, a month and a day, or a year, a week and a weekday, to the front.
 #[inline(always)]
-pub fn put_civil(places: &mut [u8], grammar: Grammar, date: Ymd) -> usize
-    requires { MAX_CELL ≤ length places.old }
-    ensures value { IsPut places.old places.new 0 result (canonical_civil grammar date.year date.month date.day) }
+pub fn put_civil(buffer: &mut [u8], grammar: Grammar, date: Ymd) -> usize
+    requires { MAX_CELL ≤ length buffer.old }
+    ensures value { IsPut buffer.old buffer.new 0 result (canonical_civil grammar date.year date.month date.day) }
     ensures few { result ≤ MAX_CELL }
 {
-    let after = put_year(places, date.year());
-    let after = put_byte(places, after, b'-');
+    let after = put_year(buffer, date.year());
+    let after = put_byte(buffer, after, b'-');
     match grammar {
         Grammar::Week => {
-            let after = put_byte(places, after, b'W');
-            let after = put_two_digits(places, after, date.month());
-            let after = put_byte(places, after, b'-');
-            put_short(places, after, date.day())
+            let after = put_byte(buffer, after, b'W');
+            let after = put_two_digits(buffer, after, date.month());
+            let after = put_byte(buffer, after, b'-');
+            put_short(buffer, after, date.day())
         }
         Grammar::Civil | Grammar::LongCount | Grammar::Roman => {
-            let after = put_two_digits(places, after, date.month());
-            let after = put_byte(places, after, b'-');
-            put_two_digits(places, after, date.day())
+            let after = put_two_digits(buffer, after, date.month());
+            let after = put_byte(buffer, after, b'-');
+            put_two_digits(buffer, after, date.day())
         }
     }
 }

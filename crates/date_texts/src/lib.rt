@@ -5,6 +5,7 @@
 //! day in the haab or the tzolkin.
 #![tactic(auto)]
 
+mod buffer;
 mod calendar;
 mod cells;
 mod civil_text;
@@ -15,14 +16,15 @@ pub mod laws;
 mod long_text;
 mod names;
 mod numerals;
-mod places;
 mod read;
 mod refusal;
 mod roman_text;
+mod target;
 mod trim;
 mod write;
 
-pub use calendar::{Calendar, MAX_TARGETS, Target};
+pub use buffer::MAX_TEXT;
+pub use calendar::Calendar;
 pub use cells::{MAX_CELL, cell, write_cell, write_cell_within};
 pub use date::{CivilDate, Date};
 pub use days::day_of_date;
@@ -31,5 +33,6 @@ pub use names::{calendar_named, target_named};
 pub use read::read_date;
 pub use refusal::Refusal;
 pub use solar_calendars::{RomanDate, RomanName};
+pub use target::{MAX_TARGETS, Target};
 pub use trim::trimmed;
-pub use write::{MAX_TEXT, write_date};
+pub use write::write_date;

@@ -1,4 +1,4 @@
-//! Long counts as text: five places, joined by dots.
+//! Long counts as text: five buffer, joined by dots.
 
 ghost use Rattle.std.specs.Prelude.{◌≡◌, ◌↔◌, ◌≤◌, ◌+◌, ◌∷◌, IfSome, Some, length};
 ghost use Rattle.std.specs.Fmt.{decimal};
@@ -6,13 +6,13 @@ ghost use Rattle.maya_calendars.specs.Places.{ArePlaces};
 ghost use Rattle.date_texts.specs.declared.calendar.Calendar.TheVariants.{Longcount};
 ghost use Rattle.date_texts.specs.declared.date.Date.{Date};
 ghost use Rattle.date_texts.specs.DateText.{SaysDate, canonical_text};
-ghost use Rattle.date_texts.specs.Places.{IsPut};
+ghost use Rattle.date_texts.specs.Buffers.{IsPut};
 ghost use Rattle.date_texts.specs.LongReading.{long_at as long_spec, place_at as place_spec};
 ghost use Rattle.date_texts.specs.Reading.{seen_number};
 
+use crate::buffer::{put_byte, put_number};
 use crate::date::Date;
 use crate::numerals::{after_byte, at_end, number_at};
-use crate::places::{put_byte, put_number};
 use maya_calendars::LongCount;
 
 /// A place of a long count, and the bytes after the dot behind it.
@@ -51,24 +51,24 @@ pub fn long_date_at(text: &[u8]) -> Option<Date>
 
 /// Writes a dot and a place of a long count.
 #[inline(always)]
-fn put_place(places: &mut [u8], at: usize, place: u16) -> usize
-    requires room { at + 1 + length (decimal place) ≤ length places.old }
+fn put_place(buffer: &mut [u8], at: usize, place: u16) -> usize
+    requires room { at + 1 + length (decimal place) ≤ length buffer.old }
     requires small { place ≤ 9_999 }
-    ensures { IsPut places.old places.new at result (46 ∷ decimal place) }
+    ensures { IsPut buffer.old buffer.new at result (46 ∷ decimal place) }
 {
-    let after = put_byte(places, at, b'.');
-    put_number(places, after, place)
+    let after = put_byte(buffer, at, b'.');
+    put_number(buffer, after, place)
 }
 
 /// Writes a long count to the front.
 #[inline(always)]
-pub fn put_long(places: &mut [u8], count: LongCount) -> usize
-    requires { length (canonical_text (Date.Long count)) ≤ length places.old }
-    ensures { IsPut places.old places.new 0 result (canonical_text (Date.Long count)) }
+pub fn put_long(buffer: &mut [u8], count: LongCount) -> usize
+    requires { length (canonical_text (Date.Long count)) ≤ length buffer.old }
+    ensures { IsPut buffer.old buffer.new 0 result (canonical_text (Date.Long count)) }
 {
-    let after = put_number(places, 0, count.baktun());
-    let after = put_place(places, after, count.katun());
-    let after = put_place(places, after, count.tun());
-    let after = put_place(places, after, count.uinal());
-    put_place(places, after, count.kin())
+    let after = put_number(buffer, 0, count.baktun());
+    let after = put_place(buffer, after, count.katun());
+    let after = put_place(buffer, after, count.tun());
+    let after = put_place(buffer, after, count.uinal());
+    put_place(buffer, after, count.kin())
 }

@@ -4,9 +4,10 @@ ghost use Rattle.std.specs.Prelude.{◌≡◌, ◌↔◌, Some};
 ghost use Rattle.date_texts.specs.Names.{IsNamed};
 ghost use Rattle.date_texts.specs.Calendars.{calendar_name, target_name};
 ghost use Rattle.date_texts.specs.declared.calendar.Calendar.{Calendar};
-ghost use Rattle.date_texts.specs.declared.calendar.Target.{Target};
+ghost use Rattle.date_texts.specs.declared.target.Target.{Target};
 
-use crate::calendar::{Calendar, Target};
+use crate::calendar::Calendar;
+use crate::target::Target;
 use crate::trim::trimmed;
 
 /// The target of a name in small letters, as most registers write it.

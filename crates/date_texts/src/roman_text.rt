@@ -9,14 +9,14 @@ ghost use Rattle.date_texts.specs.declared.cells.TheConstants.{MAX_CELL};
 ghost use Rattle.date_texts.specs.declared.date.Date.{Date};
 ghost use Rattle.date_texts.specs.DateText.{SaysDate, canonical_text};
 ghost use Rattle.date_texts.specs.RomanText.{canonical_name};
-ghost use Rattle.date_texts.specs.Places.{IsPut};
+ghost use Rattle.date_texts.specs.Buffers.{IsPut};
 ghost use Rattle.date_texts.specs.RomanReading.{count_at as count_spec, counted_at as counted_spec};
 ghost use Rattle.date_texts.specs.RomanReading.{name_at as name_spec};
 ghost use Rattle.date_texts.specs.RomanReading.{roman_at as roman_spec};
 
+use crate::buffer::{put_byte, put_short, put_text, put_two_digits, put_year};
 use crate::date::Date;
 use crate::numerals::{after_byte, at_end, number_at, year_at};
-use crate::places::{put_byte, put_short, put_text, put_two_digits, put_year};
 use solar_calendars::{RomanDate, RomanName};
 
 /// The count that the bytes spell, of one or two digits.
@@ -81,42 +81,42 @@ pub fn roman_date_at(text: &[u8]) -> Option<Date>
 
 /// Writes a letter and a count.
 #[inline(always)]
-fn put_count(places: &mut [u8], at: usize, letter: u8, count: u8) -> usize
-    requires room { at + 3 ≤ length places.old }
+fn put_count(buffer: &mut [u8], at: usize, letter: u8, count: u8) -> usize
+    requires room { at + 3 ≤ length buffer.old }
     requires small { count ≤ 99 }
-    ensures value { IsPut places.old places.new at result (letter ∷ decimal count) }
+    ensures value { IsPut buffer.old buffer.new at result (letter ∷ decimal count) }
     ensures few { result ≤ at + 3 }
 {
-    let after = put_byte(places, at, letter);
-    put_short(places, after, count)
+    let after = put_byte(buffer, at, letter);
+    put_short(buffer, after, count)
 }
 
 /// Writes the name of a day.
 #[inline(always)]
-fn put_name(places: &mut [u8], at: usize, name: RomanName) -> usize
-    requires room { at + 3 ≤ length places.old }
+fn put_name(buffer: &mut [u8], at: usize, name: RomanName) -> usize
+    requires room { at + 3 ≤ length buffer.old }
     requires small { count_of name ≤ 99 }
-    ensures value { IsPut places.old places.new at result (canonical_name name) }
+    ensures value { IsPut buffer.old buffer.new at result (canonical_name name) }
     ensures few { result ≤ at + 3 }
 {
     match name {
-        RomanName::Kalends(count) => put_count(places, at, b'K', count),
-        RomanName::Nones(count) => put_count(places, at, b'N', count),
-        RomanName::Ides(count) => put_count(places, at, b'I', count),
-        RomanName::SecondSixth => put_text(places, at, "K6B"),
+        RomanName::Kalends(count) => put_count(buffer, at, b'K', count),
+        RomanName::Nones(count) => put_count(buffer, at, b'N', count),
+        RomanName::Ides(count) => put_count(buffer, at, b'I', count),
+        RomanName::SecondSixth => put_text(buffer, at, "K6B"),
     }
 }
 
 /// Writes a Roman date to the front.
 #[inline(always)]
-pub fn put_roman(places: &mut [u8], date: RomanDate) -> usize
-    requires { MAX_CELL ≤ length places.old }
-    ensures value { IsPut places.old places.new 0 result (canonical_text (Date.Roman date)) }
+pub fn put_roman(buffer: &mut [u8], date: RomanDate) -> usize
+    requires { MAX_CELL ≤ length buffer.old }
+    ensures value { IsPut buffer.old buffer.new 0 result (canonical_text (Date.Roman date)) }
     ensures few { result ≤ MAX_CELL }
 {
-    let after = put_year(places, date.year());
-    let after = put_byte(places, after, b'-');
-    let after = put_two_digits(places, after, date.month());
-    let after = put_byte(places, after, b'-');
-    put_name(places, after, date.name())
+    let after = put_year(buffer, date.year());
+    let after = put_byte(buffer, after, b'-');
+    let after = put_two_digits(buffer, after, date.month());
+    let after = put_byte(buffer, after, b'-');
+    put_name(buffer, after, date.name())
 }

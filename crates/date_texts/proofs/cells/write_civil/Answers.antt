@@ -9,7 +9,7 @@ returns-in-Some-clause-value g c =
     let found = c.in-Some.ensures.value in
     let date = c.requires.dates c.in-Some.date found.0 in
     civil_cell_is c.args.calendar c.args.day.number c.in-Some.date _ c.requires.civil date.0 (date.1 ∙ found.1)
-    (subst (λ g. take c.put_civil.result c.put_civil.new.places
+    (subst (λ g. take c.put_civil.result c.put_civil.new.buffer
     ≡ canonical_civil g c.in-Some.date.year c.in-Some.date.month c.in-Some.date.day) c.grammar.ensures
     c.put_civil.ensures.value.value)
 

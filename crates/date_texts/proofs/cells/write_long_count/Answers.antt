@@ -4,7 +4,7 @@ use Rattle.maya_calendars.specs.declared.long_count.LongCount.{LongCount}
 use Rattle.date_texts.specs.Cells.{on_date, no_date}
 use Rattle.date_texts.specs.Laws.{CellsAreShort}
 use Rattle.date_texts.specs.declared.calendar.Calendar.TheVariants.{Longcount}
-use Rattle.date_texts.specs.declared.calendar.Target.TheVariants.{Date as DateTarget}
+use Rattle.date_texts.specs.declared.target.Target.TheVariants.{Date as DateTarget}
 use Rattle.date_texts.specs.declared.date.Date.TheVariants.{Long}
 use Rattle.date_texts.specs.DateText.{canonical_text}
 use Rattle.date_texts.proofs.CellLemmas.{since_first_in}

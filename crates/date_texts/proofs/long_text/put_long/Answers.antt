@@ -1,5 +1,5 @@
 use Rattle.std.proofs.Common.{sym}
-use Rattle.date_texts.proofs.PlaceLemmas.{put_then}
+use Rattle.date_texts.proofs.BufferLemmas.{put_then}
 use Rattle.date_texts.proofs.long_text.put_long.Goals as goal
 
 pub returns : goal.returns

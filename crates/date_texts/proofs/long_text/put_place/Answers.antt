@@ -1,4 +1,4 @@
-use Rattle.date_texts.proofs.PlaceLemmas.{put_then}
+use Rattle.date_texts.proofs.BufferLemmas.{put_then}
 use Rattle.date_texts.proofs.long_text.put_place.Goals as goal
 
 pub returns : goal.returns

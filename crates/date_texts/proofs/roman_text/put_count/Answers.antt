@@ -1,5 +1,5 @@
 use Rattle.std.proofs.Common.{arith}
-use Rattle.date_texts.proofs.PlaceLemmas.{put_then}
+use Rattle.date_texts.proofs.BufferLemmas.{put_then}
 use Rattle.date_texts.proofs.WritingLemmas.{one_or_two}
 use Rattle.date_texts.proofs.roman_text.put_count.Goals as goal
 

@@ -1,5 +1,5 @@
 use Rattle.std.proofs.Common.{sym, rules, to_z-of_z, FitsSigned, w32}
-use Rattle.date_texts.proofs.PlaceLemmas.{put_then}
+use Rattle.date_texts.proofs.BufferLemmas.{put_then}
 use Rattle.date_texts.proofs.roman_text.put_roman.Goals as goal
 
 pub returns-clause-value : goal.returns-clause-value

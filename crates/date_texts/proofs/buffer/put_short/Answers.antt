@@ -1,15 +1,15 @@
 use Rattle.std.proofs.Common.{arith, sym, ◌<◌, ℕ, length-set}
 use Rattle.itoa.proofs.Decimal.{decimal_two, length_two}
-use Rattle.date_texts.proofs.PlaceLemmas.{put_ones, put_pair, put_same}
+use Rattle.date_texts.proofs.BufferLemmas.{put_ones, put_pair, put_same}
 use Rattle.date_texts.proofs.WritingLemmas.{one_or_two}
-use Rattle.date_texts.proofs.places.put_short.Goals.{then-number-lt10, else-number-lt10}
-use Rattle.date_texts.proofs.places.put_short.Goals as goal
+use Rattle.date_texts.proofs.buffer.put_short.Goals.{then-number-lt10, else-number-lt10}
+use Rattle.date_texts.proofs.buffer.put_short.Goals as goal
 
-pub bounds-places-at : goal.bounds-places-at
-bounds-places-at c = omega (arith, one_or_two c.args.number c.requires.small)
+pub bounds-buffer-at : goal.bounds-buffer-at
+bounds-buffer-at c = omega (arith, one_or_two c.args.number c.requires.small)
 
-pub bounds-places-last : goal.bounds-places-last
-bounds-places-last c =
+pub bounds-buffer-last : goal.bounds-buffer-last
+bounds-buffer-last c =
     elim c.if-number-lt10.branch [
       | then-number-lt10 w ↦ omega (arith, one_or_two c.args.number c.requires.small, length-set {A = ℕ})
       | else-number-lt10 w ↦
@@ -27,12 +27,12 @@ returns-clause-value c =
     elim c.if-number-lt10.branch [
       | then-number-lt10 w ↦
           rw (w.last-is, digits)
-          (put_ones c.args.places.now c.args.at n (omega (arith, one_or_two n c.requires.small))
+          (put_ones c.args.buffer.now c.args.at n (omega (arith, one_or_two n c.requires.small))
           w.if-number-lt10.true)
       | else-number-lt10 w ↦
           let small : n < 100 = omega (arith, c.requires.small) in
           rw (w.last-is, digits)
           (put_same (sym (decimal_two n w.if-number-lt10.false small))
-          (put_pair c.args.places.now c.args.at n
+          (put_pair c.args.buffer.now c.args.at n
           (omega (arith, length_two n w.if-number-lt10.false small, c.requires.room))))
     ]

@@ -1,7 +1,7 @@
 use Rattle.std.proofs.Common.{ℕ, ◌∷◌, [], ap, sym, ◌∙◌}
-use Rattle.date_texts.proofs.PlaceLemmas.{put_same, put_then}
+use Rattle.date_texts.proofs.BufferLemmas.{put_same, put_then}
 use Rattle.date_texts.proofs.WritingLemmas.{two_digits}
-use Rattle.date_texts.proofs.places.put_two_digits.Goals as goal
+use Rattle.date_texts.proofs.buffer.put_two_digits.Goals as goal
 
 pub returns-clause-value : goal.returns-clause-value
 returns-clause-value c =

@@ -4,8 +4,8 @@ use Rattle.std.proofs.Common.{set, refl, sym, subst, zero, suc}
 use Rattle.std.specs.List.{slice_get, take-map}
 use Rattle.std.proofs.lemmas.List.{length-map, length-take, map-append, take_all, take_more, take_more_set}
 use Rattle.date_texts.specs.Calendars.{all_targets}
-use Rattle.date_texts.specs.declared.calendar.Target.{Target}
-use Rattle.date_texts.specs.declared.calendar.Target.TheVariants.{Tzolkin}
+use Rattle.date_texts.specs.declared.target.Target.{Target}
+use Rattle.date_texts.specs.declared.target.Target.TheVariants.{Tzolkin}
 use Rattle.date_texts.specs.Laws.{FewTargets}
 use Rattle.register_records.specs.SetupRules.{NamesTwice}
 use Rattle.register_page.specs.Requests.{targets_at}

@@ -8,7 +8,7 @@ use Rattle.std.proofs.lemmas.Str.{IsUtf8-from_ascii, is_utf8-from_IsUtf8}
 use Rattle.std.proofs.lemmas.Str.Ascii.{IsAscii-nil, IsAscii-cons}
 use Rattle.date_texts.specs.Cells.{IsCell, is_plain}
 use Rattle.date_texts.specs.Laws.{CellsArePlain}
-use Rattle.date_texts.specs.declared.calendar.Target.{Target}
+use Rattle.date_texts.specs.declared.target.Target.{Target}
 
 plain_is_ascii : (c : ℕ) → is_plain c ≡ true → c < 128
 plain_is_ascii c p = grind (arith, nat_tests)

@@ -7,7 +7,7 @@ use Rattle.date_texts.specs.Cells.{IsCell}
 use Rattle.date_texts.specs.Dates.{day_number_of_date}
 use Rattle.date_texts.specs.Names.{IsNamed}
 use Rattle.date_texts.specs.declared.calendar.Calendar.{Calendar}
-use Rattle.date_texts.specs.declared.calendar.Target.{Target}
+use Rattle.date_texts.specs.declared.target.Target.{Target}
 use Rattle.date_texts.specs.declared.date.Date.{Date}
 use Rattle.date_texts.specs.declared.refusal.Refusal.{Refusal}
 use Rattle.date_texts.specs.declared.refusal.Refusal.TheVariants as refusal

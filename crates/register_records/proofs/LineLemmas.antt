@@ -22,7 +22,7 @@ use Rattle.register_records.specs.Lines.{line_text}
 use Rattle.register_records.specs.SetupRules.{is_delimiter}
 use Rattle.date_texts.specs.Cells.{is_plain}
 use Rattle.date_texts.specs.Calendars.{target_name}
-use Rattle.date_texts.specs.declared.calendar.Target.{Target}
+use Rattle.date_texts.specs.declared.target.Target.{Target}
 use Rattle.register_records.specs.Columns.{Column, cell_columns}
 use Rattle.register_records.specs.TableColumns.{answered, column_name, tail_field, tail_order, tail_texts}
 use Rattle.register_records.specs.TableColumns.{column_names, entry_field, entry_order, heading, row_fields}

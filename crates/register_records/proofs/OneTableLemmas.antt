@@ -12,7 +12,7 @@ use Rattle.register_records.specs.Outcomes.{IsOutcome, IsRowOf, Says, TableRow}
 use Rattle.register_records.specs.Outcomes.{accepted, no_date_text, no_such_date, out_of_range, refused}
 use Rattle.register_records.specs.Outcomes.{unknown_calendar}
 use Rattle.date_texts.specs.declared.calendar.Calendar.{Calendar}
-use Rattle.date_texts.specs.declared.calendar.Target.{Target}
+use Rattle.date_texts.specs.declared.target.Target.{Target}
 use Rattle.date_texts.specs.declared.date.Date.{Date}
 use Rattle.date_texts.specs.declared.refusal.Refusal.{Refusal}
 use Rattle.date_texts.specs.declared.refusal.Refusal.TheVariants as refusal

@@ -16,7 +16,7 @@ use Rattle.register_records.specs.Outcomes.{AreCells, IsOutcome, Says}
 use Rattle.register_records.specs.Outcomes as outcome
 use Rattle.register_records.specs.Seen.{outcome_seen}
 use Rattle.date_texts.specs.declared.calendar.Calendar.{Calendar}
-use Rattle.date_texts.specs.declared.calendar.Target.{Target}
+use Rattle.date_texts.specs.declared.target.Target.{Target}
 use Rattle.date_texts.specs.declared.date.Date.{Date}
 use Rattle.date_texts.specs.declared.refusal.Refusal.{Refusal}
 use Rattle.date_texts.specs.declared.refusal.Refusal.TheVariants as refusal

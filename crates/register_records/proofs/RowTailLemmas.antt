@@ -22,7 +22,7 @@ use Rattle.day_numbers.proofs.NameLemmas.{each_name}
 use Rattle.day_numbers.specs.declared.day.Day.{Day}
 use Rattle.date_texts.specs.Cells.{IsCell, is_plain}
 use Rattle.date_texts.specs.Refusals.{refusal_number}
-use Rattle.date_texts.specs.declared.calendar.Target.{Target}
+use Rattle.date_texts.specs.declared.target.Target.{Target}
 use Rattle.date_texts.specs.declared.refusal.Refusal.{Refusal}
 use Rattle.date_texts.specs.declared.refusal.Refusal.TheVariants as refused
 use Rattle.date_texts.specs.Laws.{CellsArePlain, OneCell}

@@ -5,7 +5,7 @@ use Rattle.std.proofs.lemmas.Bool.Decides.{nat_tests}
 use Rattle.std.specs.Str.{chars, is_utf8}
 use Rattle.std.specs.List.{range_with_len}
 use Rattle.std.specs.Prelude.{◌&&◌, ℤ, ⊤, Err, None, Ok, Result, nat_le, nat_lt, replicate}
-use Rattle.date_texts.specs.declared.calendar.Target.{Target}
+use Rattle.date_texts.specs.declared.target.Target.{Target}
 use Rattle.date_texts.specs.declared.refusal.Refusal.{Refusal}
 use Rattle.date_texts.specs.declared.refusal.Refusal.TheVariants as refusal
 use Rattle.register_records.specs.Entries.{AreNumberedFrom, HasFirstEntries, Numbered, are_fit, are_short, are_utf8}

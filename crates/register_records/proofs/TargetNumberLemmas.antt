@@ -9,8 +9,8 @@ use Rattle.std.proofs.lemmas.List.Sums.{passes_at_first}
 use Rattle.std.proofs.lemmas.Option.{slice_get_within}
 use Rattle.day_numbers.specs.Numbered.{IsNumbered}
 use Rattle.date_texts.specs.Calendars.{all_targets}
-use Rattle.date_texts.specs.declared.calendar.Target.{Target}
-use Rattle.date_texts.specs.declared.calendar.Target.TheVariants.{Haab}
+use Rattle.date_texts.specs.declared.target.Target.{Target}
+use Rattle.date_texts.specs.declared.target.Target.TheVariants.{Haab}
 use Rattle.date_texts.proofs.ReadingLemmas.{some_inside}
 use Rattle.date_texts.proofs.TargetNameLemmas.{finds_own}
 use Rattle.register_records.specs.TargetNumbers.{have_one_name, number_of, place_of}

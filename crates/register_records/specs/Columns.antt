@@ -6,7 +6,7 @@ use Rattle.std.specs.Result.{result_err, result_ok}
 use Rattle.day_numbers.specs.Days.{weekday_names, weekday_number}
 use Rattle.date_texts.specs.Calendars.{target_name}
 use Rattle.date_texts.specs.Refusals.{refusal_number}
-use Rattle.date_texts.specs.declared.calendar.Target.{Target}
+use Rattle.date_texts.specs.declared.target.Target.{Target}
 use Rattle.date_texts.specs.declared.refusal.Refusal.{Refusal}
 use Rattle.register_records.specs.Entries.{Format}
 use Rattle.register_records.specs.Outcomes.{TableRow}

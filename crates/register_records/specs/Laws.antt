@@ -5,7 +5,7 @@ use Rattle.date_texts.specs.Calendars.{calendar_name}
 use Rattle.date_texts.specs.Cells.{IsCell}
 use Rattle.date_texts.specs.Names.{IsNamed}
 use Rattle.date_texts.specs.declared.calendar.Calendar.{Calendar}
-use Rattle.date_texts.specs.declared.calendar.Target.TheVariants.{Date as DateTarget}
+use Rattle.date_texts.specs.declared.target.Target.TheVariants.{Date as DateTarget}
 use Rattle.register_records.specs.Entries.{AreAccepted, Fields, Format, HasEntries, HasNoHeader, HasTooMany}
 use Rattle.register_records.specs.Entries.{IsNotSealed, Numbered, Texts}
 use Rattle.register_records.specs.Outcomes.{AreRowsOf, IsOutcome, TableRow}

@@ -2,7 +2,7 @@
 use Rattle.std.specs.Prelude.{◌+◌, ◌*◌, ℕ, List, [], ◌∷◌}
 use Rattle.csv.specs.Writing.{default_writer, with_delimiter}
 use Rattle.csv.specs.declared.writer.WriterBuilder.{WriterBuilder}
-use Rattle.date_texts.specs.declared.calendar.TheConstants.{MAX_TARGETS}
+use Rattle.date_texts.specs.declared.target.TheConstants.{MAX_TARGETS}
 use Rattle.date_texts.specs.declared.cells.TheConstants.{MAX_CELL}
 use Rattle.register_records.specs.declared.entries.TheConstants.{CALENDAR_LIMIT, DATE_LIMIT, ID_LIMIT, NOTE_LIMIT}
 use Rattle.register_records.specs.declared.row_tails.TheConstants.{DAY_LIMIT, REFUSAL_LIMIT}

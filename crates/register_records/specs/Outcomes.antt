@@ -9,7 +9,7 @@ use Rattle.date_texts.specs.DateText.{IsDateText}
 use Rattle.register_records.specs.Entries.{Numbered, Texts}
 use Rattle.date_texts.specs.Names.{IsNamed}
 use Rattle.date_texts.specs.declared.calendar.Calendar.{Calendar}
-use Rattle.date_texts.specs.declared.calendar.Target.{Target}
+use Rattle.date_texts.specs.declared.target.Target.{Target}
 use Rattle.date_texts.specs.declared.date.Date.{Date}
 use Rattle.date_texts.specs.declared.refusal.Refusal.{Refusal}
 use Rattle.date_texts.specs.declared.refusal.Refusal.TheVariants as refusal

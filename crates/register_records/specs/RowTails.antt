@@ -1,7 +1,7 @@
 -- What a clause sees of a `RowTail`. No public contract cites this file, but for the cells of a row.
 use Rattle.std.specs.Prelude.{ℕ, List, [], drop, length, take, Result, Ok, Err}
 use Rattle.day_numbers.specs.declared.day.Day.{Day}
-use Rattle.date_texts.specs.declared.calendar.Target.{Target}
+use Rattle.date_texts.specs.declared.target.Target.{Target}
 use Rattle.date_texts.specs.declared.refusal.Refusal.{Refusal}
 use Rattle.register_records.specs.Lines.{fields_behind}
 use Rattle.register_records.specs.declared.row_tails.RowTail.{RowTail}

@@ -1,6 +1,6 @@
 -- Which setups there are.
 use Rattle.std.specs.Prelude.{◌≡◌, ◌==◌, ◌&&◌, ◌||◌, ◌<◌, Bool, ℕ, List, length, nat_le, slice_get}
-use Rattle.date_texts.specs.declared.calendar.Target.{Target}
+use Rattle.date_texts.specs.declared.target.Target.{Target}
 
 -- a target stands at two places
 abbrev pub NamesTwice : List Target → Type 0

@@ -3,7 +3,7 @@ use Rattle.std.specs.Prelude.{◌≡◌, ℕ, ℤ, List, [], ◌∷◌, drop, ge
 use Rattle.std.specs.List.{AllZip}
 use Rattle.date_texts.specs.Calendars.{target_name}
 use Rattle.date_texts.specs.Cells.{IsCell}
-use Rattle.date_texts.specs.declared.calendar.Target.{Target}
+use Rattle.date_texts.specs.declared.target.Target.{Target}
 use Rattle.date_texts.specs.declared.refusal.Refusal.{Refusal}
 use Rattle.date_texts.specs.declared.refusal.Refusal.TheVariants.{FieldCount}
 use Rattle.register_records.specs.Columns.{Column, Layout, column, columns}

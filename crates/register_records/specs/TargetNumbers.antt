@@ -3,7 +3,7 @@ use Rattle.std.specs.Prelude.{◌+◌, ◌*◌, Bool, ℕ, List, [], ◌∷◌}
 use Rattle.std.specs.List.{position_or_len}
 use Rattle.std.specs.Str.{bytes_eq}
 use Rattle.date_texts.specs.Calendars.{all_targets, target_name}
-use Rattle.date_texts.specs.declared.calendar.Target.{Target}
+use Rattle.date_texts.specs.declared.target.Target.{Target}
 
 -- the targets have one name
 abbrev pub have_one_name : Target → Target → Bool

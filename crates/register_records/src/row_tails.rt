@@ -5,7 +5,7 @@
 ghost use Rattle.std.specs.Prelude.{◌≡◌, ◌≤◌, ◌+◌, ◌*◌, ◌++◌, ◌∷◌, [], List, ℕ, true, false, length, take};
 ghost use Rattle.std.specs.List.{AllZip};
 ghost use Rattle.csv.specs.Writing.{fields_text, needs_quotes};
-ghost use Rattle.date_texts.specs.declared.calendar.TheConstants.{MAX_TARGETS};
+ghost use Rattle.date_texts.specs.declared.target.TheConstants.{MAX_TARGETS};
 ghost use Rattle.date_texts.specs.declared.cells.TheConstants.{MAX_CELL};
 ghost use Rattle.register_records.specs.LineRoom.{plain_room, writing};
 ghost use Rattle.register_records.specs.Lines.{fields_behind};

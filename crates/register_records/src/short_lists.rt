@@ -1,7 +1,7 @@
 //! Lists of fixed room: the targets of a setup and of a row, and a row's cells.
 
 ghost use Rattle.std.specs.Prelude.{◌≡◌, ◌≤◌, ◌<◌, ◌∷◌, ◌++◌, [], ⊤, length};
-ghost use Rattle.date_texts.specs.declared.calendar.TheConstants.{MAX_TARGETS};
+ghost use Rattle.date_texts.specs.declared.target.TheConstants.{MAX_TARGETS};
 
 use crate::cell_texts::CellText;
 use date_texts::{MAX_TARGETS, Target};

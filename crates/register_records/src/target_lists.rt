@@ -1,7 +1,7 @@
 //! The targets of a setup and of a row, with one number that stands for them: two lists are compared by it.
 
 ghost use Rattle.std.specs.Prelude.{◌≡◌, ◌≤◌, ◌↔◌, length, true};
-ghost use Rattle.date_texts.specs.declared.calendar.TheConstants.{MAX_TARGETS};
+ghost use Rattle.date_texts.specs.declared.target.TheConstants.{MAX_TARGETS};
 ghost use Rattle.register_records.specs.ShortLists.{items_in};
 ghost use Rattle.register_records.specs.TargetNumbers.{number_of, place_of};
 

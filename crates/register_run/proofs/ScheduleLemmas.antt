@@ -1,7 +1,7 @@
 -- The law of the machine, for the worlds of texts: their entries are numbered from 1, and their rows as their entries.
 use Rattle.std.proofs.Common.{◌≡◌, ◌+◌, ◌*◌, ◌≤◌, ℕ, List, [], ◌∷◌, Bool, true, false, length, map, refl}
 use Rattle.std.specs.Prelude.{Option, if◌then◌else◌, nat_lt}
-use Rattle.date_texts.specs.declared.calendar.Target.{Target}
+use Rattle.date_texts.specs.declared.target.Target.{Target}
 use Rattle.striped_lanes.specs.Machine.{Actor, start}
 use Rattle.striped_lanes.specs.Places.{AreNumberedFrom, ArePoppedInOrder, KeepNumbers}
 use Rattle.striped_lanes.specs.Schedules.{AtMostChange, run, standing}

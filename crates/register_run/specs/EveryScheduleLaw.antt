@@ -4,7 +4,7 @@ use Rattle.striped_lanes.specs.Machine.{Actor, start}
 use Rattle.striped_lanes.specs.Places as places
 use Rattle.striped_lanes.specs.Places.{table_rows}
 use Rattle.striped_lanes.specs.Schedules.{HasRounds, run}
-use Rattle.date_texts.specs.declared.calendar.Target.{Target}
+use Rattle.date_texts.specs.declared.target.Target.{Target}
 use Rattle.register_records.specs.Entries.{Format, HasFirstEntries}
 use Rattle.register_records.specs.Outcomes.{AreRowsOf}
 use Rattle.register_run.specs.Worlds.{State, World, numbers}

@@ -8,7 +8,7 @@ use Rattle.clap.specs.declared.error.Error.{Error}
 use Rattle.clap.specs.declared.error.kind.ErrorKind.{ErrorKind}
 use Rattle.clap.specs.declared.error.kind.ErrorKind.TheVariants.{DisplayHelp, DisplayVersion, OutOfMemory}
 use Rattle.date_texts.specs.Laws.{OneTarget}
-use Rattle.date_texts.specs.declared.calendar.Target.{Target}
+use Rattle.date_texts.specs.declared.target.Target.{Target}
 use Rattle.register_words.specs.CommandLine.{AreTaken, command_line, values_in}
 use Rattle.register_words.specs.Faults.{Fault, IsOfWords, fault_told, usage}
 use Rattle.register_words.specs.OptionValues.{IsDelimiterWord, IsNumberWord}

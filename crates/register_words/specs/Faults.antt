@@ -4,7 +4,7 @@ use Rattle.std.specs.Option.{option_map_or}
 use Rattle.clap.specs.Values.{kind_of}
 use Rattle.clap.specs.declared.error.kind.ErrorKind.{ErrorKind}
 use Rattle.date_texts.specs.Calendars.{target_name}
-use Rattle.date_texts.specs.declared.calendar.Target.{Target}
+use Rattle.date_texts.specs.declared.target.Target.{Target}
 use Rattle.register_words.specs.declared.request_faults.RequestFault.{RequestFault}
 use Rattle.register_words.specs.declared.request_faults.RequestFault.TheVariants as request_fault
 

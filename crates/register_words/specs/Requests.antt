@@ -5,7 +5,7 @@ use Rattle.clap.specs.Words.{IsAmong, Text, fault_of}
 use Rattle.clap.specs.declared.error.kind.ErrorKind.{ErrorKind}
 use Rattle.clap.specs.declared.error.kind.ErrorKind.TheVariants.{DisplayHelp, DisplayVersion}
 use Rattle.date_texts.specs.Calendars.{all_targets}
-use Rattle.date_texts.specs.declared.calendar.Target.{Target}
+use Rattle.date_texts.specs.declared.target.Target.{Target}
 use Rattle.register_records.specs.SetupRules.{largest_ring, most_stripes}
 use Rattle.register_records.specs.Tables.{Layout}
 use Rattle.register_records.specs.Views.{layout_of}

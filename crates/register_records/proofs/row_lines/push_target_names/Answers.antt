@@ -1,7 +1,7 @@
 use Rattle.std.proofs.Common.{◌∙◌, ◌++◌, List, append-nil, arith, map, refl, subst, sym, take}
 use Rattle.std.proofs.lemmas.List.{take_all}
 use Rattle.date_texts.specs.Calendars.{target_name}
-use Rattle.date_texts.specs.declared.calendar.Target.{Target}
+use Rattle.date_texts.specs.declared.target.Target.{Target}
 use Rattle.register_records.specs.LineViews.{GainsFields, line_delimiter}
 use Rattle.register_records.proofs.LineLemmas.{one_item, same_body, some_fields}
 use Rattle.register_records.proofs.row_lines.push_target_names.Goals as goal

@@ -1,7 +1,7 @@
 use Rattle.std.proofs.Common.{◌≡◌, ◌∙◌, ℕ, List, Option, ap, false, refl, rules, subst, sym, true}
 use Rattle.std.specs.Prelude.{IfSome}
 use Rattle.std.specs.Io.KnownBytes.{Appends}
-use Rattle.date_texts.specs.declared.calendar.Target.{Target}
+use Rattle.date_texts.specs.declared.target.Target.{Target}
 use Rattle.register_records.specs.Causes.{entry_fault_cause}
 use Rattle.register_records.specs.Entries.{Format, HasAllEntries, HasEntries, IsNotSealed}
 use Rattle.register_records.specs.Tables.{row_line}

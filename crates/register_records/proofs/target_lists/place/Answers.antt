@@ -2,7 +2,7 @@ use Rattle.std.proofs.Common.{◌≡◌, ◌∙◌, arith, ap, inl, inr, get_or,
 use Rattle.std.proofs.lemmas.Bool.{cases_lt}
 use Rattle.std.proofs.lemmas.Grind.{common_steps}
 use Rattle.date_texts.specs.Calendars.{all_targets}
-use Rattle.date_texts.specs.declared.calendar.Target.TheVariants.{Haab}
+use Rattle.date_texts.specs.declared.target.Target.TheVariants.{Haab}
 use Rattle.register_records.specs.TargetNumbers.{have_one_name}
 use Rattle.register_records.proofs.TargetNumberLemmas.{stands_first}
 use Rattle.register_records.proofs.target_lists.place.Goals as goal

@@ -1,6 +1,6 @@
 use Rattle.std.proofs.Common.{◌≡◌, ◌<◌, ℕ, false, get_or}
 use Rattle.date_texts.specs.Calendars.{all_targets}
-use Rattle.date_texts.specs.declared.calendar.Target.TheVariants.{Haab}
+use Rattle.date_texts.specs.declared.target.Target.TheVariants.{Haab}
 use Rattle.register_records.specs.TargetNumbers.{have_one_name}
 use Rattle.register_records.proofs.target_lists.place.Given as goal
 

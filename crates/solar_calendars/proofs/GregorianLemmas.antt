@@ -28,6 +28,12 @@ closed y =
 pub length_is : (y : ℤ) → year_length gregorian_rules y ≡ 365 + cond (is_gregorian_leap y) 1 0
 length_is y = grind arith
 
+leap_small : (y : ℤ) → cond (is_gregorian_leap y) 1 0 ≤ 1
+leap_small y = grind arith
+
+pub year_short : (y : ℤ) → year_length gregorian_rules y ≤ 366
+year_short y = omega (arith, length_is y, leap_small y)
+
 -- a leap day goes with a quotient that steps
 leap_early : (m : ℕ) → cond (is_gregorian_leap (negsuc m)) 1 0 + m / 4 + suc m / 100 + m / 400
     ≡ suc m / 4 + m / 100 + suc m / 400

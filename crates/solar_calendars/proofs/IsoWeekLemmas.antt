@@ -1,5 +1,5 @@
 -- Each day lies in the year of weeks of its week's Thursday.
-use Rattle.std.proofs.Common.{◌≡◌, ℕ, zero, suc, ◌+◌, ◌-◌, ◌*◌, ◌/◌, ◌≤◌, Option, Some, None, IsSome, IfSome, cond}
+use Rattle.std.proofs.Common.{◌≡◌, ℕ, zero, suc, ◌+◌, ◌-◌, ◌*◌, ◌/◌, ◌≤◌, ◌<◌, Option, Some, None, IsSome, IfSome, cond}
 use Rattle.std.proofs.Common.{refl, sym, ap, ◌∙◌, arith, ℤ, pos, negsuc, ◌+ℤ◌, ◌≤ℤ◌, ◌<ℤ◌}
 use Rattle.day_numbers.specs.Days.{IsDayNumber}
 use Rattle.day_numbers.specs.Rules.{with_zero, year_start, year_length}
@@ -19,9 +19,6 @@ next_is (negsuc (suc n)) = omega (arith, signed_arith)
 january : (y : ℤ) → year_start gregorian_rules (y +ℤ pos 1)
     ≡ year_start gregorian_rules y +ℤ pos (365 + cond (is_gregorian_leap y) 1 0)
 january y = rw (← next_is y, ← length_is y) (start_next with_zero _ _ y (any_year y))
-
-leap_small : (y : ℤ) → cond (is_gregorian_leap y) 1 0 ≤ 1
-leap_small y = grind arith
 
 -- the week date on a day is the only one
 pub only_week_date : (o : Option Ymd) (n : ℤ) → IsSome o
@@ -62,17 +59,13 @@ weeks_after n m y p e s = omega (arith, signed_arith, e, s)
 pub from_monday : (n m : ℤ) → m ≡ monday_on_or_before n → (m ≤ℤ n) × (n <ℤ (m +ℤ pos 7))
 from_monday n m e = omega (arith, signed_arith, e)
 
-pub year_short : (y : ℤ) → year_length gregorian_rules y ≤ 366
-year_short y = omega (arith, length_is y, leap_small y)
-
 -- the week date from the places of the Thursday in its year and of the day in its week
-pub week_date_is : (n m y : ℤ) (p d : ℕ) → m ≡ monday_on_or_before n → year_start gregorian_rules y ≤ℤ (m +ℤ pos 3)
-    → (m +ℤ pos 3) <ℤ (year_start gregorian_rules y +ℤ pos (year_length gregorian_rules y))
-    → year_start gregorian_rules y +ℤ pos p ≡ m +ℤ pos 3 → m +ℤ pos d ≡ n
-    → IsWeekDate y (p / 7 + 1) (d + 1) × (week_day_number y (p / 7 + 1) (d + 1) ≡ n)
-week_date_is n m y p d e low high s r =
+pub week_date_is : (n m y : ℤ) (p d : ℕ) → m ≡ monday_on_or_before n
+    → year_start gregorian_rules y +ℤ pos p ≡ m +ℤ pos 3 → p < year_length gregorian_rules y → m +ℤ pos d ≡ n +ℤ pos 1
+    → IsWeekDate y (p / 7 + 1) d × (week_day_number y (p / 7 + 1) d ≡ n)
+week_date_is n m y p d e s short r =
     let weeks = weeks_after n m y p e s in
     let days = from_monday n m e in
-    let number : week_day_number y (p / 7 + 1) (d + 1) ≡ n = omega (arith, signed_arith, weeks, r) in
-    let year = in_week_year n m y e low high in
-    ((omega arith, omega arith, omega (arith, signed_arith, days, r), rw number year.1), number)
+    let number : week_day_number y (p / 7 + 1) d ≡ n = omega (arith, signed_arith, weeks, r, days) in
+    let year = in_week_year n m y e (omega (arith, signed_arith, s)) (omega (arith, signed_arith, s, short)) in
+    ((omega arith, omega (arith, signed_arith, days, r), omega (arith, signed_arith, days, r), rw number year.1), number)

@@ -1,6 +1,6 @@
 //! The Gregorian calendar: dates and days by `jiff` where it has them, and else by a formula for the start of a year.
 
-ghost use Rattle.std.specs.Prelude.{◌≡◌, pos, neg_ℤ, ◌+ℤ◌, ◌*ℤ◌, ◌≤ℤ◌, ◌<ℤ◌, ◌↔◌, IsSome, IfSome};
+ghost use Rattle.std.specs.Prelude.{◌≡◌, ◌≤◌, ◌<◌, pos, neg_ℤ, ◌+ℤ◌, ◌*ℤ◌, ◌↔◌, IsSome, IfSome};
 ghost use Rattle.day_numbers.specs.Days.{IsDayNumber};
 ghost use Rattle.day_numbers.specs.Dates.{IsBetween, IsYear};
 ghost use Rattle.day_numbers.specs.Rules.{IsDateOf, day_number_of, year_start as start, year_length, HasDayOf};
@@ -80,14 +80,16 @@ fn jiff_date_on(day: i64) -> Date
         .unwrap()
 }
 
-/// The year that the day with this fixed day number lies in.
-pub fn year_on(day: i64) -> i32
+/// The year that the day with this fixed day number lies in, and how many days of the year come before it.
+pub fn year_and_days_before(day: i64) -> (i32, u16)
     requires { IsDayNumber day }
-    ensures near { IsYear result }
-    ensures after { start gregorian_rules result ≤ℤ day }
-    ensures before { day <ℤ (start gregorian_rules result +ℤ pos (year_length gregorian_rules result)) }
+    ensures near { IsYear result.0 }
+    ensures value { start gregorian_rules result.0 +ℤ pos result.1 ≡ day }
+    ensures within { result.1 < year_length gregorian_rules result.0 }
+    ensures few { result.1 ≤ 365 }
 {
-    jiff_date_on(day).year() as i32
+    let date = jiff_date_on(day);
+    (date.year() as i32, date.day_of_year() as u16 - 1)
 }
 
 /// The date on a day, by jiff.
@@ -120,7 +122,7 @@ impl RuledCalendar for Gregorian {
     }
 
     fn year_on(&self, day: i64) -> i32 {
-        year_on(day)
+        year_and_days_before(day).0
     }
 }
 

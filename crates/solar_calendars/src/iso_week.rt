@@ -7,7 +7,7 @@ ghost use Rattle.solar_calendars.specs.IsoWeek.{monday_on_or_before as monday_of
 ghost use Rattle.solar_calendars.specs.IsoWeek.{week_day_number, IsWeekDate};
 ghost use Rattle.solar_calendars.specs.IsoWeekLaw.{one_week_date};
 
-use crate::gregorian::{first_of_year, year_on};
+use crate::gregorian::{first_of_year, year_and_days_before};
 use day_numbers::{ArithmeticCalendar, DateFault, Day, Ymd};
 
 /// Week dates (ISO 8601; Reingold and Dershowitz, *Calendrical Calculations*, "The ISO Calendar").
@@ -66,15 +66,15 @@ fn number_of_week_date(date: Ymd) -> Option<i64>
     }
 }
 
-/// How many days lie before a day, counted from the day `first` on.
-fn days_before(day: i64, first: i64) -> u16
+/// The day of the week of a day, from 1, where this Monday begins the week.
+fn weekday_from(day: i64, monday: i64) -> u8
     requires in_range { IsDayNumber day }
-    requires from { first ≤ℤ day }
-    requires to { day <ℤ (first +ℤ pos 371) }
-    ensures value { first +ℤ pos result ≡ day }
-    ensures small { result < 371 }
+    requires from { monday ≤ℤ day }
+    requires to { day <ℤ (monday +ℤ pos 7) }
+    ensures value { monday +ℤ pos result ≡ day +ℤ pos 1 }
+    ensures small { result ≤ 7 }
 {
-    (day - first) as u16
+    (day - monday) as u8 + 1
 }
 
 /// The week date on a day.
@@ -86,11 +86,9 @@ fn week_date_on(day: Day) -> Option<Ymd>
     let number = day.number();
     let monday = monday_on_or_before(number);
     // A week lies in the Gregorian year of its Thursday, and week 1 is the one with the first Thursday of the year.
-    let thursday = monday + 3;
-    let year = year_on(thursday);
-    let week = days_before(thursday, first_of_year(year as i64)) / 7 + 1;
-    let weekday = days_before(number, monday) + 1;
-    Ymd::new(year, week as u8, weekday as u8)
+    let (year, days_before) = year_and_days_before(monday + 3);
+    let week = (days_before / 7 + 1) as u8;
+    Ymd::new(year, week, weekday_from(number, monday))
 }
 
 impl ArithmeticCalendar for IsoWeek {

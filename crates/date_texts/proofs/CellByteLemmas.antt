@@ -9,10 +9,7 @@ use Rattle.std.specs.List.{list_all}
 use Rattle.std.proofs.lemmas.Bool.Decides.{nat_tests}
 use Rattle.std.proofs.lemmas.List.Folds.{list_all-append}
 use Rattle.std.proofs.lemmas.Bool.{and_parts}
-use Rattle.day_numbers.specs.Numbered.{name_of_number, words}
-use Rattle.day_numbers.proofs.NameLemmas.{each_name}
-use Rattle.maya_calendars.specs.HaabNames.{month_names}
-use Rattle.maya_calendars.specs.TzolkinNames.{name_texts}
+use Rattle.day_numbers.specs.Numbered.{words}
 use Rattle.maya_calendars.specs.Laws.{HaabDaysInRange, TzolkinNumbersInRange}
 use Rattle.date_texts.specs.declared.calendar.Calendar.{Calendar}
 use Rattle.date_texts.specs.declared.date.Date.{Date}
@@ -127,14 +124,6 @@ date_cell_plain c n text (on_date date p h i e) = rw e (date_plain date)
 date_cell_plain c n text (no_date none e) = rw e refl
 
 -- ---- names with numbers
-month_plain : (month : ℕ) → ArePlain (name_of_number month_names month)
-unfolding words
-month_plain month = each_name (list_all is_plain) month_names (month - 1) refl refl
-
-name_plain : (place : ℕ) → ArePlain (name_of_number name_texts place)
-unfolding words
-name_plain place = each_name (list_all is_plain) name_texts (place - 1) refl refl
-
 numbered_plain : (number : ℕ) (name : List ℕ) → number ≤ 99 → ArePlain name → ArePlain (decimal number ++ 32 ∷ name)
 numbered_plain number name small h =
     joined_plain (decimal number) (32 ∷ name)
@@ -142,7 +131,6 @@ numbered_plain number name small h =
 
 -- the bytes of a cell are digits and letters of ASCII, spaces, dashes and dots
 pub cells_are_plain : HaabDaysInRange → TzolkinNumbersInRange → CellsArePlain
+unfolding words
 cells_are_plain days numbers =
-    each_cell ArePlain days numbers date_cell_plain
-    (λ number month small. numbered_plain number (name_of_number month_names month) small (month_plain month))
-    (λ number place small. numbered_plain number (name_of_number name_texts place) small (name_plain place))
+    each_cell ArePlain (list_all is_plain) days numbers date_cell_plain numbered_plain refl refl refl

@@ -1,6 +1,7 @@
 -- A target and a day have one cell.
-use Rattle.std.proofs.Common.{◌≡◌, ◌≤◌, ℕ, List, Option, Some, None, ℤ, refl, sym, subst, ap, ◌∙◌, arith}
+use Rattle.std.proofs.Common.{◌≡◌, ◌≤◌, ℕ, Bool, IsTrue, List, [], Option, Some, None, ℤ, refl, sym, subst, ap, ◌∙◌, arith}
 use Rattle.std.specs.Prelude.{IfSome, IsSome}
+use Rattle.std.specs.List.{list_all}
 use Rattle.day_numbers.specs.declared.ymd.Ymd.{Ymd}
 use Rattle.day_numbers.specs.Days.{IsSinceFirstDay}
 use Rattle.day_numbers.proofs.DateLemmas.{rules_one_date, rules_have_days}
@@ -19,7 +20,7 @@ use Rattle.date_texts.specs.Dates.{calendar_of_date, IsDateOfCalendar, day_numbe
 use Rattle.date_texts.specs.CivilText.{canonical_civil}
 use Rattle.date_texts.specs.DateText.{canonical_text}
 use Rattle.date_texts.specs.Cells.{IsDateCell, on_date, no_date, IsCell, numbered_name}
-use Rattle.day_numbers.specs.Numbered.{name_of_number}
+use Rattle.day_numbers.proofs.NameLemmas.{each_name}
 use Rattle.maya_calendars.specs.HaabNames.{haab_of, month_names}
 use Rattle.maya_calendars.specs.TzolkinNames.{tzolkin_of, name_texts}
 use Rattle.maya_calendars.specs.Laws.{HaabDaysInRange, TzolkinNumbersInRange}
@@ -94,14 +95,15 @@ pub civil_cell_is : (c : Calendar) (n : ℤ) (d : Ymd) (x : List ℕ) → IsCivi
     → day_number_by (reckoning c) d ≡ n → x ≡ canonical_civil (grammar c) d.year d.month d.day → IsDateCell c n x
 civil_cell_is c n d x civil h i e = on_date (Civil (record { calendar = c; ymd = d; civil = civil })) refl h i e
 
--- what holds of each date's cell, and of each small number with the name of a month or of a day, holds of each cell
-pub each_cell : (P : List ℕ → Type 0) → HaabDaysInRange → TzolkinNumbersInRange
+-- what holds of each date's cell, and of each small number with a name that passes a test as all names of months and
+-- days do, holds of each cell
+pub each_cell : (P : List ℕ → Type 0) (test : List ℕ → Bool) → HaabDaysInRange → TzolkinNumbersInRange
     → ((c : Calendar) (n : ℤ) (text : List ℕ) → IsDateCell c n text → P text)
-    → ((number month : ℕ) → number ≤ 99 → P (numbered_name number (name_of_number month_names month)))
-    → ((number place : ℕ) → number ≤ 99 → P (numbered_name number (name_of_number name_texts place)))
+    → ((number : ℕ) (name : List ℕ) → number ≤ 99 → IsTrue (test name) → P (numbered_name number name))
+    → IsTrue (test []) → IsTrue (list_all test month_names) → IsTrue (list_all test name_texts)
     → (target : Target) (n : ℤ) (text : List ℕ) → IsCell target n text → P text
-each_cell P days numbers dates haabs tzolkins (DateTarget c) n text h = dates c n text h
-each_cell P days numbers dates haabs tzolkins Haab n text h =
-    subst P (sym h) (haabs (haab_of n).0 (haab_of n).1 (omega (arith, days n)))
-each_cell P days numbers dates haabs tzolkins Tzolkin n text h =
-    subst P (sym h) (tzolkins (tzolkin_of n).0 (tzolkin_of n).1 (omega (arith, numbers n)))
+each_cell P test days numbers dates named none months names (DateTarget c) n text h = dates c n text h
+each_cell P test days numbers dates named none months names Haab n text h =
+    subst P (sym h) (named (haab_of n).0 _ (omega (arith, days n)) (each_name test month_names _ none months))
+each_cell P test days numbers dates named none months names Tzolkin n text h =
+    subst P (sym h) (named (tzolkin_of n).0 _ (omega (arith, numbers n)) (each_name test name_texts _ none names))

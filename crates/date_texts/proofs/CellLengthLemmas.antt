@@ -130,13 +130,13 @@ pub day_name_length : (place : ℕ) → length (name_of_number name_texts place)
 unfolding words
 day_name_length place = short_length _ (each_name is_short name_texts (place - 1) refl refl)
 
-numbered_length : (number : ℕ) (name : List ℕ) → number ≤ 99 → length name ≤ 8
+numbered_length : (number : ℕ) (name : List ℕ) → number ≤ 99 → IsTrue (is_short name)
     → length (decimal number ++ 32 ∷ name) ≤ 16
-numbered_length number name small h = omega (arith, length-append {A = ℕ}, one_or_two number small, h)
+numbered_length number name small h =
+    omega (arith, length-append {A = ℕ}, one_or_two number small, short_length name h)
 
 -- a cell has 16 bytes at most
 pub cells_are_short : HaabDaysInRange → TzolkinNumbersInRange → CellsAreShort
+unfolding words
 cells_are_short days numbers =
-    each_cell (λ text. length text ≤ 16) days numbers date_cell_length
-    (λ number month small. numbered_length number (name_of_number month_names month) small (month_length month))
-    (λ number place small. numbered_length number (name_of_number name_texts place) small (day_name_length place))
+    each_cell (λ text. length text ≤ 16) is_short days numbers date_cell_length numbered_length refl refl refl

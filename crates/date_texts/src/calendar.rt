@@ -1,29 +1,26 @@
 //! The calendars.
 
-ghost use Rattle.std.specs.Prelude.{◌≡◌, ◌↔◌, IsSome, IfSome};
+ghost use Rattle.std.specs.Prelude.{◌≡◌};
 ghost use Rattle.day_numbers.specs.Dates.{IsDayOf};
-ghost use Rattle.day_numbers.specs.Days.{IsSinceFirstDay};
 ghost use Rattle.day_numbers.specs.declared.ymd.Ymd.{Ymd};
 
 use crate::grammar::Grammar;
 use day_numbers::{ArithmeticCalendar, DateFault, Day, Ymd};
-use lunar_calendars::{Hebrew, Islamic};
-use solar_calendars::{Armenian, Coptic, Egyptian, Ethiopic, French, Gregorian, IsoWeek, Julian};
 
-/// Answers by the type that finds the dates of a calendar, `$by`, which the two calendars without such a type have not.
+/// Returns what `$answer` says of `$by`, the type that finds the dates of a calendar. Two calendars have no such type.
 macro_rules! by_calendar {
     ($calendar:expr, $by:ident => $answer:expr, Longcount => $long:expr, Roman => $roman:expr) => {
         match $calendar {
-            Calendar::Gregorian => { let $by = &Gregorian; $answer }
-            Calendar::Iso => { let $by = &IsoWeek; $answer }
-            Calendar::Julian => { let $by = &Julian; $answer }
-            Calendar::Coptic => { let $by = &Coptic; $answer }
-            Calendar::Ethiopic => { let $by = &Ethiopic; $answer }
-            Calendar::Egyptian => { let $by = &Egyptian; $answer }
-            Calendar::Armenian => { let $by = &Armenian; $answer }
-            Calendar::Islamic => { let $by = &Islamic; $answer }
-            Calendar::Hebrew => { let $by = &Hebrew; $answer }
-            Calendar::French => { let $by = &French; $answer }
+            Calendar::Gregorian => { let $by = &solar_calendars::Gregorian; $answer }
+            Calendar::Iso => { let $by = &solar_calendars::IsoWeek; $answer }
+            Calendar::Julian => { let $by = &solar_calendars::Julian; $answer }
+            Calendar::Coptic => { let $by = &solar_calendars::Coptic; $answer }
+            Calendar::Ethiopic => { let $by = &solar_calendars::Ethiopic; $answer }
+            Calendar::Egyptian => { let $by = &solar_calendars::Egyptian; $answer }
+            Calendar::Armenian => { let $by = &solar_calendars::Armenian; $answer }
+            Calendar::Islamic => { let $by = &lunar_calendars::Islamic; $answer }
+            Calendar::Hebrew => { let $by = &lunar_calendars::Hebrew; $answer }
+            Calendar::French => { let $by = &solar_calendars::French; $answer }
             Calendar::Longcount => $long,
             Calendar::Roman => $roman,
         }
@@ -31,6 +28,21 @@ macro_rules! by_calendar {
 }
 
 pub(crate) use by_calendar;
+
+/// Hands every calendar, in the order of the default targets, to a macro.
+macro_rules! every_calendar {
+    ($list:ident) => {
+        $list![
+            Gregorian, Iso, Julian, Coptic, Ethiopic, Egyptian, Armenian, Islamic, Hebrew, Longcount, French, Roman
+        ]
+    };
+}
+
+pub(crate) use every_calendar;
+
+macro_rules! calendars {
+    ($($calendar:ident),+) => { [$(Calendar::$calendar),+] };
+}
 
 /// A calendar whose dates are read and written.
 #[derive(Clone, Copy, PartialEq, Eq, Debug)]
@@ -51,24 +63,11 @@ pub enum Calendar {
 }
 
 impl Calendar {
-    ghost use Rattle.date_texts.specs.Calendars.{calendar_name, IsDateBy, day_number_by, first_day_by, IsCivil};
-    ghost use Rattle.date_texts.specs.Calendars.{grammar as grammar_spec, reckoning};
+    ghost use Rattle.date_texts.specs.Calendars.{calendar_name, IsDateBy, day_number_by, grammar as grammar_spec};
+    ghost use Rattle.date_texts.specs.Calendars.{reckoning};
 
     /// Every calendar once, in the order of the default targets.
-    pub const ALL: [Calendar; 12] = [
-        Calendar::Gregorian,
-        Calendar::Iso,
-        Calendar::Julian,
-        Calendar::Coptic,
-        Calendar::Ethiopic,
-        Calendar::Egyptian,
-        Calendar::Armenian,
-        Calendar::Islamic,
-        Calendar::Hebrew,
-        Calendar::Longcount,
-        Calendar::French,
-        Calendar::Roman,
-    ];
+    pub const ALL: [Calendar; 12] = every_calendar!(calendars);
 
     /// The name in small letters, as registers and the headings of tables have it.
     pub fn name(&self) -> &'static str
@@ -116,17 +115,5 @@ impl Calendar {
             by => by.day_of(date),
             Longcount => Err(DateFault::NoSuchDate),
             Roman => Err(DateFault::NoSuchDate))
-    }
-
-    /// The one date of the calendar whose day this is, or `None` exactly before its first day. Its dates are years,
-    /// months and days, or years, weeks and weekdays.
-    #[inline(always)]
-    pub(crate) fn date_on(self, day: Day) -> Option<Ymd>
-        requires { IsCivil self }
-        ensures dated { IsSome result ↔ IsSinceFirstDay (first_day_by (reckoning self)) day.number }
-        ensures value { IfSome result (λ date. IsDateBy (reckoning self) date
-            × (day_number_by (reckoning self) date ≡ day.number)) }
-    {
-        by_calendar!(self, by => by.date_on(day), Longcount => unreachable!(), Roman => unreachable!())
     }
 }

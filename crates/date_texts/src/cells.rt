@@ -6,7 +6,6 @@ ghost use Rattle.date_texts.specs.Calendars.{IsCivil, IsDateBy, day_number_by, f
 ghost use Rattle.date_texts.specs.declared.cells.TheConstants.{MAX_CELL};
 ghost use Rattle.date_texts.specs.Cells.{IsDateCell, IsCell, numbered_name};
 ghost use Rattle.date_texts.specs.declared.calendar.Calendar.TheVariants.{Longcount, Roman};
-ghost use Rattle.date_texts.specs.declared.target.Target.TheVariants.{Haab, Tzolkin};
 
 use crate::buffer::{MAX_TEXT, put_byte, put_short, put_text, text_of};
 use crate::calendar::{Calendar, by_calendar};
@@ -17,11 +16,8 @@ use crate::roman_text::put_roman;
 use crate::target::Target;
 use arrayvec::ArrayString;
 use day_numbers::{ArithmeticCalendar, Day};
-use lunar_calendars::{Hebrew, Islamic};
 use maya_calendars::{haab_on, long_on, tzolkin_on};
-use solar_calendars::{
-    Armenian, Coptic, Egyptian, Ethiopic, French, Gregorian, IsoWeek, Julian, roman_on,
-};
+use solar_calendars::roman_on;
 
 /// The most bytes of a cell: those of a long count of four digits and four times two, with its dots.
 pub const MAX_CELL: usize = 16;
@@ -85,7 +81,7 @@ fn write_date_cell(buffer: &mut [u8], calendar: Calendar, day: Day) -> u8
 
 /// Writes a number without leading zeros, one space and a name to the front of a cell's room, and says how many bytes
 /// they have.
-#[inline(always)]
+#[inline(never)]
 fn write_numbered(buffer: &mut [u8], number: u8, name: &str) -> u8
     requires room { MAX_CELL ≤ length buffer.old }
     requires small { number ≤ 99 }
@@ -98,28 +94,6 @@ fn write_numbered(buffer: &mut [u8], number: u8, name: &str) -> u8
     put_text(buffer, after, name) as u8
 }
 
-/// Writes the haab of a day to the front of a cell's room, and says how many bytes it has.
-#[inline(never)]
-fn write_haab(buffer: &mut [u8], day: Day) -> u8
-    requires { MAX_CELL ≤ length buffer.old }
-    ensures few { result ≤ MAX_CELL }
-    ensures value { IsCell Haab day.number (take result buffer.new) }
-{
-    let haab = haab_on(day);
-    write_numbered(buffer, haab.day(), haab.month_name())
-}
-
-/// Writes the tzolkin of a day to the front of a cell's room, and says how many bytes it has.
-#[inline(never)]
-fn write_tzolkin(buffer: &mut [u8], day: Day) -> u8
-    requires { MAX_CELL ≤ length buffer.old }
-    ensures few { result ≤ MAX_CELL }
-    ensures value { IsCell Tzolkin day.number (take result buffer.new) }
-{
-    let tzolkin = tzolkin_on(day);
-    write_numbered(buffer, tzolkin.number(), tzolkin.name())
-}
-
 /// Writes the [`cell`] of a day to the front of a cell's room, and says how many bytes it has.
 // Inlined, so that a loop over targets jumps to what writes each cell.
 #[inline(always)]
@@ -130,8 +104,14 @@ fn put_cell(buffer: &mut [u8], target: Target, day: Day) -> u8
 {
     match target {
         Target::Date(calendar) => write_date_cell(buffer, calendar, day),
-        Target::Haab => write_haab(buffer, day),
-        Target::Tzolkin => write_tzolkin(buffer, day),
+        Target::Haab => {
+            let haab = haab_on(day);
+            write_numbered(buffer, haab.day(), haab.month_name())
+        }
+        Target::Tzolkin => {
+            let tzolkin = tzolkin_on(day);
+            write_numbered(buffer, tzolkin.number(), tzolkin.name())
+        }
     }
 }
 

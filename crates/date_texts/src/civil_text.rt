@@ -4,7 +4,7 @@ ghost use Rattle.std.specs.Prelude.{◌≡◌, ◌↔◌, ◌≤◌, IfSome, Som
 ghost use Rattle.day_numbers.specs.Dates.{IsYmd};
 ghost use Rattle.date_texts.specs.declared.cells.TheConstants.{MAX_CELL};
 ghost use Rattle.date_texts.specs.declared.date.Date.{Date};
-ghost use Rattle.date_texts.specs.Calendars.{IsCivil};
+ghost use Rattle.date_texts.specs.Calendars.{IsCivil, grammar as grammar_spec};
 ghost use Rattle.date_texts.specs.CivilText.{canonical_civil};
 ghost use Rattle.date_texts.specs.DateText.{SaysDate};
 ghost use Rattle.date_texts.specs.Buffers.{IsPut};
@@ -55,14 +55,15 @@ fn civil_at(grammar: Grammar, bytes: &[u8]) -> Option<(i32, u8, u8)>
     at_end(rest, (year, month as u8, day as u8))
 }
 
-/// The date that a text without blanks at its ends says in a calendar of civil or week dates.
-pub fn civil_date_at(calendar: Calendar, text: &[u8]) -> Option<Date>
-    requires { IsCivil calendar }
+/// The date that a text without blanks at its ends says in a calendar of civil or week dates, whose grammar this is.
+pub fn civil_date_at(calendar: Calendar, grammar: Grammar, text: &[u8]) -> Option<Date>
+    requires own { grammar ≡ grammar_spec calendar }
+    requires civil { IsCivil calendar }
     ensures { (date : Date) → (result ≡ Some date) ↔ SaysDate calendar text.now date }
 {
-    let (year, month, day) = civil_at(calendar.grammar(), text)?;
-    let date = CivilDate::new(calendar, Ymd::new(year, month, day)?)?;
-    Some(Date::Civil(date))
+    let (year, month, day) = civil_at(grammar, text)?;
+    let ymd = Ymd::new(year, month, day)?;
+    Some(Date::Civil(CivilDate { calendar, ymd }))
 }
 
 /// Writes a year, a month and a day, or a year, a week and a weekday, to the front.

@@ -14,8 +14,8 @@ use solar_calendars::RomanDate;
 /// count, nor that of Roman dates.
 #[derive(Clone, Copy, PartialEq, Eq, Debug)]
 pub struct CivilDate {
-    calendar: Calendar,
-    ymd: Ymd,
+    pub(crate) calendar: Calendar,
+    pub(crate) ymd: Ymd,
     pub ghost civil: { IsCivil calendar },
 }
 

@@ -6,11 +6,10 @@ ghost use Rattle.day_numbers.specs.Days.{IsSinceFirstDay};
 ghost use Rattle.date_texts.specs.Calendars.{first_day_by, reckoning};
 ghost use Rattle.date_texts.specs.Dates.{calendar_of_date, IsDateOfCalendar, day_number_of_date};
 
-use crate::calendar::Calendar;
+use crate::calendar::{Calendar, by_calendar};
 use crate::date::{CivilDate, Date};
-use crate::grammar::Grammar;
 use crate::refusal::Refusal;
-use day_numbers::Day;
+use day_numbers::{ArithmeticCalendar, Day};
 use maya_calendars::{long_day_of, long_on};
 use solar_calendars::{roman_day_of, roman_on};
 
@@ -37,11 +36,11 @@ pub(crate) fn date_on_day(calendar: Calendar, day: Day) -> Option<Date>
     ensures value { IfSome result (λ date. (calendar_of_date date ≡ calendar)
         × IsDateOfCalendar date × (day_number_of_date date ≡ day.number)) }
 {
-    match calendar.grammar() {
-        Grammar::Civil | Grammar::Week => {
-            Some(Date::Civil(CivilDate::new(calendar, calendar.date_on(day)?)?))
-        }
-        Grammar::LongCount => Some(Date::Long(long_on(day)?)),
-        Grammar::Roman => Some(Date::Roman(roman_on(day))),
-    }
+    by_calendar!(calendar,
+        by => {
+            let ymd = by.date_on(day)?;
+            Some(Date::Civil(CivilDate { calendar, ymd }))
+        },
+        Longcount => Some(Date::Long(long_on(day)?)),
+        Roman => Some(Date::Roman(roman_on(day))))
 }

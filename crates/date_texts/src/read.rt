@@ -17,8 +17,9 @@ use crate::trim::trimmed;
 fn date_at(calendar: Calendar, text: &[u8]) -> Option<Date>
     ensures { (date : Date) → (result ≡ Some date) ↔ SaysDate calendar text.now date }
 {
-    match calendar.grammar() {
-        Grammar::Civil | Grammar::Week => civil_date_at(calendar, text),
+    let grammar = calendar.grammar();
+    match grammar {
+        Grammar::Civil | Grammar::Week => civil_date_at(calendar, grammar, text),
         Grammar::LongCount => long_date_at(text),
         Grammar::Roman => roman_date_at(text),
     }

@@ -2,17 +2,14 @@
 
 ghost use Rattle.std.specs.Prelude.{◌≡◌};
 
-use crate::calendar::Calendar;
+use crate::calendar::{Calendar, every_calendar};
 
-/// The dates of these calendars, and targets that are no calendars.
 macro_rules! targets {
-    ($($calendar:ident),+; $($other:ident),+) => {
-        [$(Target::Date(Calendar::$calendar),)+ $(Target::$other),+]
-    };
+    ($($calendar:ident),+) => { [$(Target::Date(Calendar::$calendar),)+ Target::Haab, Target::Tzolkin] };
 }
 
 /// How many targets there are, and so the most that a list can name without naming one twice.
-pub const MAX_TARGETS: usize = 14;
+pub const MAX_TARGETS: usize = Calendar::ALL.len() + 2;
 
 /// What a table shows of each day: the date in a calendar, the haab or the tzolkin.
 #[derive(Clone, Copy, PartialEq, Eq, Debug)]
@@ -27,10 +24,7 @@ impl Target {
 
     /// Every target once, in the order in which a table has them by default: the calendars, the haab and
     /// the tzolkin.
-    pub const ALL: [Target; MAX_TARGETS] = targets![
-        Gregorian, Iso, Julian, Coptic, Ethiopic, Egyptian, Armenian, Islamic, Hebrew, Longcount, French, Roman;
-        Haab, Tzolkin
-    ];
+    pub const ALL: [Target; MAX_TARGETS] = every_calendar!(targets);
 
     /// The name in small letters, which heads the target's column.
     pub fn name(&self) -> &'static str

@@ -1,21 +1,21 @@
-use Rattle.std.proofs.Common.{◌∙◌, sym, ap, rules, to_z-of_z, FitsSigned, w32}
+use Rattle.std.proofs.Common.{◌∙◌, sym, ap, rules, to_z-of_z, FitsSigned, w32, refl}
 use Rattle.date_texts.specs.CivilReading.{civil_at}
+use Rattle.date_texts.specs.declared.date.CivilDate.{CivilDate}
 use Rattle.date_texts.proofs.DateTextLemmas.{no_civil, some_civil, parts_read}
 use Rattle.date_texts.proofs.civil_text.civil_date_at.Goals as goal
 
 pub returns-in_err-year : goal.returns-in_err-year
 returns-in_err-year c =
-    let own = ap (λ g. civil_at g c.args.text.now) (sym c.grammar.ensures) in
+    let own = ap (λ g. civil_at g c.args.text.now) (sym c.requires.own) in
     let none = own ∙ (sym c.civil_at.ensures.value ∙ c.in_err-year.was) in
-    λ date. (λ e. absurd (cc), λ h. absurd (no_civil c.args.calendar c.args.text.now none c.requires date h))
+    λ date. (λ e. absurd (cc), λ h. absurd (no_civil c.args.calendar c.args.text.now none c.requires.civil date h))
 
 pub returns : goal.returns
 returns c =
     let f : FitsSigned w32 c.in_ok-year.year = search rules in
-    let parts = simp to_z-of_z at c.in_ok-new.ensures.value in
-    let whole = c.in_ok-date.ensures.value in
-    let read = parts_read c.grammar.result c.args.text.now c.in_ok-year.year c.in_ok-year.month c.in_ok-year.day
-    c.civil_at.result c.in_ok-new.field-0 c.in_ok-date.date c.civil_at.ensures.value c.in_ok-year.was parts.0
-    parts.1 parts.2 whole.1 in
-    some_civil c.args.calendar c.args.text.now c.in_ok-date.date whole.0
-    (ap (λ g. civil_at g c.args.text.now) (sym c.grammar.ensures) ∙ read)
+    let parts = simp to_z-of_z at c.in_ok-ymd.ensures.value in
+    let date : CivilDate = record { calendar = c.args.calendar; ymd = c.in_ok-ymd.ymd; civil = c.result-1.given.0 } in
+    let read = parts_read c.args.grammar c.args.text.now c.in_ok-year.year c.in_ok-year.month c.in_ok-year.day
+    c.civil_at.result c.in_ok-ymd.ymd date c.civil_at.ensures.value c.in_ok-year.was parts.0 parts.1 parts.2 refl in
+    some_civil c.args.calendar c.args.text.now date refl
+    (ap (λ g. civil_at g c.args.text.now) (sym c.requires.own) ∙ read)

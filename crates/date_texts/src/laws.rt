@@ -4,7 +4,7 @@ ghost use Rattle.std.specs.Prelude.{◌≡◌};
 ghost use Rattle.day_numbers.specs.Days.{IsSinceFirstDay};
 ghost use Rattle.date_texts.specs.declared.date.Date.{Date};
 ghost use Rattle.date_texts.specs.declared.target.TheConstants.Target.{ALL};
-ghost use Rattle.date_texts.specs.declared.target.TheConstants.Calendar.{ALL as EVERY_CALENDAR};
+ghost use Rattle.date_texts.specs.declared.calendar.TheConstants.Calendar.{ALL as EVERY_CALENDAR};
 ghost use Rattle.date_texts.specs.Calendars.{all_calendars, all_targets, first_day_by, reckoning};
 ghost use Rattle.date_texts.specs.Dates.{IsDateOfCalendar, calendar_of_date, day_number_of_date};
 ghost use Rattle.date_texts.specs.Laws.{CanonicalTextsReadBack, CellsArePlain, CellsAreShort, FewTargets, OneCalendar};

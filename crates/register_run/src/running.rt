@@ -113,6 +113,7 @@ fn visit_until_ended<R: Read + Drop, W: Output + Drop>(
 }
 
 /// Joins the threads of each source and decides how it ended.
+#[tactic(auto, using(crate::proofs::MoveLemmas::made_more, crate::proofs::MoveLemmas::all_made))]
 fn finish_all<R: Read + Drop, W: Output + Drop>(
     rt: &impl Threads,
     running_sources: Vec<RunningSource<R, W>>,
@@ -131,6 +132,7 @@ fn finish_all<R: Read + Drop, W: Output + Drop>(
 }
 
 /// The outputs and the ends, in the order of the sources.
+#[tactic(auto, using(crate::proofs::MoveLemmas::seen_more, crate::proofs::MoveLemmas::all_made))]
 fn report<R: Read + Drop, W: Output + Drop>(
     ended_sources: Vec<EndedSource<R, W>>,
     outputs: Vec<W>,

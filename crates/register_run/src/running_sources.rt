@@ -55,6 +55,7 @@ impl<R: Read + Drop, W: Output + Drop> RunningSource<R, W> {
     }
 
     /// Takes the rows that are there now and writes them in one call. Returns whether there was an item.
+    #[tactic(auto, using(crate::proofs::RunningSourceLemmas::wrote_same))]
     pub(crate) fn visit(&mut self) -> bool
         ensures { case_of self.new ≡ case_of self.old }
     {
@@ -73,6 +74,7 @@ impl<R: Read + Drop, W: Output + Drop> RunningSource<R, W> {
     }
 
     /// Takes one item, where one is there now, and adds it to the table if it is a row.
+    #[tactic(auto, using(crate::proofs::RunningSourceLemmas::wrote_same))]
     fn step(&mut self) -> bool
         ensures { case_of self.new ≡ case_of self.old }
     {
@@ -96,6 +98,7 @@ impl<R: Read + Drop, W: Output + Drop> RunningSource<R, W> {
     }
 
     /// Adds the row that a look found to the table from where it lies in its lane, unless it came after a stop.
+    #[tactic(auto, using(crate::proofs::RunningSourceLemmas::wrote_row))]
     fn add_row(&mut self)
         ensures case { case_of self.new ≡ case_of self.old }
         ensures threads { self.new.threads ≡ self.old.threads }

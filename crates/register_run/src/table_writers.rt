@@ -77,6 +77,7 @@ impl<W: Output + Drop> TableWriter<W> {
     ghost use Rattle.register_run.specs.Written.{Concludes};
 
     /// The table of a source before its heading.
+    #[tactic(auto, using(crate::proofs::TableLemmas::no_notes))]
     pub(crate) fn new(alloc: Global, output: W, setup: &Setup) -> TableWriter<W>
         ensures output { made_for result ≡ output }
         ensures setup { made_by result ≡ setup.now }

@@ -2,7 +2,6 @@ use Rattle.std.proofs.Common.{subst, sym}
 use Rattle.std.proofs.Math.Logic.{∥∥₁_map}
 use Rattle.register_run.proofs.StripeLemmas.{took_dealt}
 use Rattle.register_run.specs.JoinedThreads.{AreOfLanes}
-use Rattle.register_run.proofs.GivenLemmas.{of_threads, passed_not}
 use Rattle.register_run.proofs.HistoryLemmas.{joined_of_machine}
 use Rattle.register_run.proofs.source_threads.join_threads.Goals as goal
 
@@ -15,12 +14,6 @@ returns-in-Ok-clause-passed g c = record {
     took_dealt given c.in-Ok.ended c.args.stripes.items c.join-closed.result.closed.items deals c.in-Ok.ensures,
   ));
 }
-
-pub returns-in_default-clause-passed : goal.returns-in_default-clause-passed
-returns-in_default-clause-passed g c =
-    let sent = c.stopped_after.ensures in
-    passed_not _ _ c.stopped_after.result c.unconfirmed_or_lower.result _ sent.1
-    (of_threads c.unconfirmed_or_lower.result c.unconfirmed_or_lower.ensures.either)
 
 pub returns-in-Ok-clause-machine : goal.returns-in-Ok-clause-machine
 returns-in-Ok-clause-machine g c =

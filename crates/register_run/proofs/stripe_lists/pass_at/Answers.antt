@@ -1,5 +1,4 @@
-use Rattle.std.proofs.Common.{rules, sym, subst}
-use Rattle.register_run.specs.Stripes.{IsRowNext}
+use Rattle.std.proofs.Common.{rules}
 use Rattle.register_run.proofs.StripeLemmas.{same_stripes}
 use Rattle.register_run.proofs.PoppedLemmas.{popped_at}
 use Rattle.register_run.proofs.stripe_lists.pass_at.Goals as goal
@@ -7,12 +6,7 @@ use Rattle.register_run.proofs.stripe_lists.pass_at.Goals as goal
 pub returns-clause-same : goal.returns-clause-same
 returns-clause-same c =
     same_stripes c.args.stripes.now.items c.args.at c.pass.new.self c.index_mut-stripe.result.now
-    c.index_mut-stripe.ensures.value
-    c.pass.ensures.same
-
-pub pass-requires : goal.pass-requires
-pass-requires c =
-    subst IsRowNext (sym c.index_mut-stripe.ensures.value) (c.requires.row c.index_mut-stripe.result.now)
+    c.index_mut-stripe.ensures.value c.pass.ensures.same
 
 pub returns-clause-popped : goal.returns-clause-popped
 returns-clause-popped c =

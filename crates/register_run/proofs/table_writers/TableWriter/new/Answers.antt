@@ -1,5 +1,4 @@
-use Rattle.std.proofs.Common.{◌∙◌, ap, arith, refl, sym}
-use Rattle.register_run.proofs.TableLemmas.{no_notes}
+use Rattle.std.proofs.Common.{ap, arith, sym}
 use Rattle.register_run.proofs.table_writers.TableWriter.new.Goals as goal
 
 pub invariant_of-result : goal.invariant_of-result
@@ -13,13 +12,4 @@ invariant_of-result g c = record {
   of_table = tt;
   limited = omega arith;
   few_refused = omega arith;
-}
-
-pub returns-clause-empty : goal.returns-clause-empty
-returns-clause-empty g c = record {
-  stands = λ dry. (sym c.of.ensures, refl);
-  numbered = tt;
-  counted = refl;
-  targets = λ row h. absurd (omega (arith, h.1));
-  noted = c.new.ensures.items ∙ sym no_notes;
 }

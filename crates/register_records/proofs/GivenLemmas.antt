@@ -13,7 +13,7 @@ use Rattle.register_records.specs.Entries.{entries_of, record_limit, text_record
 use Rattle.register_records.specs.Seals.{AreClosed, before_seal, entry_records, is_seal}
 use Rattle.register_records.specs.Seen.{entry_seen}
 use Rattle.register_records.specs.ReadingState.{entries_shown, format_by}
-use Rattle.register_records.specs.ReadingState.{Ends, EndsAt, Gives, HasEntry, IsNoSeal, LacksSeal, Stands, TakesFirst}
+use Rattle.register_records.specs.ReadingState.{Ends, EndsAt, Gives, HasEntry, IsNoSeal, LacksSeal, HasRead, TakesFirst}
 use Rattle.register_records.specs.declared.entries.Entry.{Entry}
 use Rattle.register_records.specs.declared.reading.ReaderState.{ReaderState}
 use Rattle.register_records.specs.declared.reading.ReaderState.TheVariants as states
@@ -31,7 +31,7 @@ unfolding before_seal
 no_seal_first Plain r rest h = refl
 no_seal_first Sealed r rest h = rw h refl
 
--- no record is before a seal that stands first
+-- no record is before a seal that has_read first
 pub seal_first : (r : Fields) (rest : List Fields) → is_seal r ≡ true → before_seal (r ∷ rest) ≡ []
 unfolding before_seal
 seal_first r rest h = rw h refl
@@ -77,10 +77,10 @@ module _ (format : Format) where
   header_first (Some text) None f t h = absurd t
   header_first (Some text) (Some rest) f t h = (rest, (f, t, h), refl)
 
-  stands_first : (text : Option (List ℕ)) (y : Option (List Fields)) (f : Fields)
+  has_read_first : (text : Option (List ℕ)) (y : Option (List Fields)) (f : Fields)
       → TakesFirst (option_map (text_records format.delimiter) text) y f → IsHeader form f
-      → Stands format text states.Open y []
-  stands_first text y f t h =
+      → HasRead format text states.Open y []
+  has_read_first text y f t h =
       let behind = header_first text y f t h in
       record {
         past = [];
@@ -106,12 +106,12 @@ module _ (format : Format) where
       append_assoc past (f ∷ []) rest2 ∙ ap (λ (t : List Fields). past ++ t) (sym (sym same ∙ t)) in
       (rest2, rw joined has, refl)
 
-  stands_more : (text : Option (List ℕ)) (left left2 : Option (List Fields)) (given : List Numbered) (f : Fields)
-      (x : Numbered) → Stands format text states.Open left given → TakesFirst left left2 f → IsNoSeal form f
+  has_read_more : (text : Option (List ℕ)) (left left2 : Option (List Fields)) (given : List Numbered) (f : Fields)
+      (x : Numbered) → HasRead format text states.Open left given → TakesFirst left left2 f → IsNoSeal form f
       → length given < record_limit
       → x ≡ record { number = length given + 1; body = body_of form f }
-      → Stands format text states.Open left2 (given ++ x ∷ [])
-  stands_more text left left2 given f x s t n h e =
+      → HasRead format text states.Open left2 (given ++ x ∷ [])
+  has_read_more text left left2 given f x s t n h e =
       let more = record_more text left left2 s.past s.rest f s.accepted (s.left_is refl) t in
       let longer : length (given ++ x ∷ []) ≡ length given + 1 = length-append given (x ∷ []) in
       record {
@@ -134,7 +134,7 @@ module _ (format : Format) where
 
   -- of those that were given, and of records behind them
   module _ (text : Option (List ℕ)) (state : ReaderState) (left : Option (List Fields)) (given : List Numbered)
-      (s : Stands format text state left given) where
+      (s : HasRead format text state left given) where
     first_given : HasFirstEntries format text given
     first_given = (
       entries_from form (length given) (entry_records form s.rest),
@@ -189,7 +189,7 @@ module _ (format : Format) where
 
   -- the text ends after the entries given
   all_given : (text : Option (List ℕ)) (left : Option (List Fields)) (given : List Numbered)
-      → Stands format text states.Open left given → Ends form (length given) left → length given ≤ record_limit
+      → HasRead format text states.Open left given → Ends form (length given) left → length given ≤ record_limit
       → HasEntries format text given
   all_given text left given s e h =
       let last = last_records text left s.past s.rest (length given) s.accepted (s.left_is refl) e in
@@ -203,18 +203,18 @@ module _ (format : Format) where
 
   -- no entry is left after those given
   all_above : (text : Option (List ℕ)) (left : Option (List Fields)) (given : List Numbered)
-      → Stands format text states.Open left given → IfSome left (LacksSeal form (length given))
+      → HasRead format text states.Open left given → IfSome left (LacksSeal form (length given))
       → HasAllEntries format text given
   all_above text left given s lacks =
       let last = no_entries_left text left s.past s.rest (length given) s.accepted (s.left_is refl) lacks in
       (s.past ++ last.0, last.1, past_given text states.Open left given s last.0 last.2)
 
   -- the reader gives no more
-  stands_stopped : (text : Option (List ℕ)) (state stopped : ReaderState) (left left2 : Option (List Fields))
+  has_read_stopped : (text : Option (List ℕ)) (state stopped : ReaderState) (left left2 : Option (List Fields))
       (given : List Numbered)
       → ¬ (stopped ≡ states.Open) → (stopped ≡ states.Ended → HasEntries format text given)
-      → Stands format text state left given → Stands format text stopped left2 given
-  stands_stopped text state stopped left left2 given shut all s =
+      → HasRead format text state left given → HasRead format text stopped left2 given
+  has_read_stopped text state stopped left left2 given shut all s =
       record {
         past = s.past;
         rest = s.rest;
@@ -226,21 +226,21 @@ module _ (format : Format) where
         ended = all;
       }
 
-  stands_end : (text : Option (List ℕ)) (left left2 : Option (List Fields)) (given : List Numbered)
-      → Stands format text states.Open left given → Ends form (length given) left → length given ≤ record_limit
-      → Stands format text states.Ended left2 given
-  stands_end text left left2 given s e h =
-      stands_stopped text states.Open states.Ended left left2 given (λ o. absurd (cc))
+  has_read_end : (text : Option (List ℕ)) (left left2 : Option (List Fields)) (given : List Numbered)
+      → HasRead format text states.Open left given → Ends form (length given) left → length given ≤ record_limit
+      → HasRead format text states.Ended left2 given
+  has_read_end text left left2 given s e h =
+      has_read_stopped text states.Open states.Ended left left2 given (λ o. absurd (cc))
       (λ _. all_given text left given s e h) s
 
   -- a call failed
-  stands_failed : (text : Option (List ℕ)) (state : ReaderState) (left left2 : Option (List Fields))
-      (given : List Numbered) → Stands format text state left given → Stands format text states.Failed left2 given
-  stands_failed text state left left2 given s =
-      stands_stopped text state states.Failed left left2 given (λ o. absurd (cc)) (λ e. absurd (cc)) s
+  has_read_failed : (text : Option (List ℕ)) (state : ReaderState) (left left2 : Option (List Fields))
+      (given : List Numbered) → HasRead format text state left given → HasRead format text states.Failed left2 given
+  has_read_failed text state left left2 given s =
+      has_read_stopped text state states.Failed left left2 given (λ o. absurd (cc)) (λ e. absurd (cc)) s
 
   too_many : (text : Option (List ℕ)) (left : Option (List Fields)) (given : List Numbered)
-      → Stands format text states.Open left given → IfSome left (HasEntry form) → length given ≡ record_limit
+      → HasRead format text states.Open left given → IfSome left (HasEntry form) → length given ≡ record_limit
       → IfSome text (λ t. HasTooMany format t)
   too_many None left given s some e = tt
   too_many (Some text) None given s some e = absurd (none_is_left s.rest (s.left_is refl))
@@ -253,7 +253,7 @@ module _ (format : Format) where
       )
 
   not_sealed : (text : Option (List ℕ)) (left : Option (List Fields)) (given : List Numbered)
-      → Stands format text states.Open left given → IfSome left (LacksSeal form (length given))
+      → HasRead format text states.Open left given → IfSome left (LacksSeal form (length given))
       → length given ≤ record_limit → IfSome text (λ t. IsNotSealed format t)
   not_sealed None left given s lacks h = tt
   not_sealed (Some text) None given s lacks h = absurd (none_is_left s.rest (s.left_is refl))
@@ -268,7 +268,7 @@ module _ (format : Format) where
       )
 
   going : (text : Option (List ℕ)) (state : ReaderState) (left : Option (List Fields)) (given : List Numbered)
-      → state ≡ states.Open → Stands format text state left given → Stands format text states.Open left given
+      → state ≡ states.Open → HasRead format text state left given → HasRead format text states.Open left given
   going text state left given e s = rw e at s
 
 -- an entry that a snapshot was taken of
@@ -286,65 +286,65 @@ entry_is : (form : Form) (e : Entry) (k : ℕ) (f : Fields) → e.number ≡ k +
     → entry_seen e ≡ record { number = k + 1; body = body_of form f }
 entry_is form e k f n b = rw (n, b) refl
 
-abbrev pub MayStand : Option (List ℕ) → Format → ReaderState → Option (List Fields) → List Numbered → Type 0
-MayStand o format state left given = ∥ Stands format o state left given ∥₁
+abbrev pub MayHaveRead : Option (List ℕ) → Format → ReaderState → Option (List Fields) → List Numbered → Type 0
+MayHaveRead o format state left given = ∥ HasRead format o state left given ∥₁
 
 pub first_step : (o p : Option (List ℕ)) (left : Option (List Fields)) (d e : ℕ) (j k : Form) (given : List Numbered)
     (f : Fields) → p ≡ o → e ≡ d → k ≡ j
     → given ≡ [] → TakesFirst (option_map (text_records d) o) left f → IsHeader j f
-    → MayStand p (format_by e k) states.Open left given
+    → MayHaveRead p (format_by e k) states.Open left given
 first_step o p left d e j k given f a b c h t i =
-    let s = stands_first (format_by d j) o left f t i in rw (a, b, c, h) (∣ s ∣₁)
+    let s = has_read_first (format_by d j) o left f t i in rw (a, b, c, h) (∣ s ∣₁)
 
 module _ (o : Option (List ℕ)) (format : Format) (state : ReaderState) (left : Option (List Fields))
     (given : List Numbered)
-    (stands : MayStand o format state left given) where
+    (has_read : MayHaveRead o format state left given) where
   pub may_first : ∥ HasFirstEntries format o given ∥₁
-  may_first = ∥∥₁_map stands (first_given format o state left given)
+  may_first = ∥∥₁_map has_read (first_given format o state left given)
 
   pub may_fail : (left2 : Option (List Fields)) (given2 : List Numbered) → given2 ≡ given
-      → MayStand o format states.Failed left2 given2
-  may_fail left2 given2 e = rw e (∥∥₁_map stands (stands_failed format o state left left2 given))
+      → MayHaveRead o format states.Failed left2 given2
+  may_fail left2 given2 e = rw e (∥∥₁_map has_read (has_read_failed format o state left left2 given))
 
   pub may_ended : state ≡ states.Ended → ∥ HasEntries format o given ∥₁
-  may_ended e = ∥∥₁_map stands (λ s. s.ended e)
+  may_ended e = ∥∥₁_map has_read (λ s. s.ended e)
 
   module _ (goes : state ≡ states.Open) (count : ℕ) (counted : count ≡ length given) where
     pub may_more : (left2 : Option (List Fields)) (given2 : List Numbered) (x : Entry)
         → Gives format.form count left left2 x → count < record_limit
-        → given2 ≡ given ++ entry_seen x ∷ [] → MayStand o format state left2 given2
+        → given2 ≡ given ++ entry_seen x ∷ [] → MayHaveRead o format state left2 given2
     may_more left2 given2 x g h e =
         let number : x.number ≡ length given + 1 = rw (← counted) g.number in
         rw (goes, e)
-        (∥∥₁_map stands
-        (λ s. stands_more format o left left2 given g.fields (entry_seen x)
+        (∥∥₁_map has_read
+        (λ s. has_read_more format o left left2 given g.fields (entry_seen x)
         (going format o state left given goes s) g.first g.no_seal
         (rw (← counted) h) (entry_is format.form x (length given) g.fields number g.body)))
 
     module _ (few : length given ≤ record_limit) where
       pub may_all : Ends format.form count left → ∥ HasEntries format o given ∥₁
       may_all e =
-          ∥∥₁_map stands (λ s. all_given format o left given (going format o state left given goes s)
+          ∥∥₁_map has_read (λ s. all_given format o left given (going format o state left given goes s)
           (rw (← counted) e) few)
 
       pub may_end : (left2 : Option (List Fields)) → Ends format.form count left
-          → MayStand o format states.Ended left2 given
+          → MayHaveRead o format states.Ended left2 given
       may_end left2 e =
-          ∥∥₁_map stands (λ s. stands_end format o left left2 given
+          ∥∥₁_map has_read (λ s. has_read_end format o left left2 given
           (going format o state left given goes s) (rw (← counted) e) few)
 
       pub may_lack : IfSome left (LacksSeal format.form count) → ∥ IfSome o (λ text. IsNotSealed format text) ∥₁
       may_lack e =
-          ∥∥₁_map stands (λ s. not_sealed format o left given (going format o state left given goes s)
+          ∥∥₁_map has_read (λ s. not_sealed format o left given (going format o state left given goes s)
           (rw (← counted) e) few)
 
     pub may_above : IfSome left (LacksSeal format.form count) → ∥ HasAllEntries format o given ∥₁
     may_above e =
-        ∥∥₁_map stands (λ s. all_above format o left given (going format o state left given goes s)
+        ∥∥₁_map has_read (λ s. all_above format o left given (going format o state left given goes s)
         (rw (← counted) e))
 
     pub may_many : IfSome left (HasEntry format.form) → count ≡ record_limit
         → ∥ IfSome o (λ text. HasTooMany format text) ∥₁
     may_many e full =
-        ∥∥₁_map stands (λ s. too_many format o left given (going format o state left given goes s) e
+        ∥∥₁_map has_read (λ s. too_many format o left given (going format o state left given goes s) e
         (rw (← counted) full))

@@ -1,10 +1,10 @@
--- The cause that a fault is. Where an earlier call answered a fault, nothing is known of what was passed on since.
+-- The cause that a fault is. Where an earlier call returned a fault, nothing is known of what was passed on since.
 use Rattle.register_records.specs.declared.reading.EntryFault.{EntryFault}
 use Rattle.register_records.specs.declared.reading.EntryFault.TheVariants as entry
 use Rattle.register_records.specs.declared.writing.RowFault.{RowFault}
 use Rattle.register_records.specs.declared.writing.RowFault.TheVariants as row
-use Rattle.register_records.specs.declared.sources.Cause.{Cause}
-use Rattle.register_records.specs.declared.sources.Cause.TheVariants as cause
+use Rattle.register_records.specs.declared.ends.Cause.{Cause}
+use Rattle.register_records.specs.declared.ends.Cause.TheVariants as cause
 
 -- of a fault of reading entries
 abbrev pub entry_fault_cause : EntryFault → Cause

@@ -8,7 +8,7 @@ use Rattle.register_records.specs.Sources.{IsTableOf}
 use Rattle.register_records.specs.Tables.{Layout, journal_of}
 use Rattle.register_records.specs.Views.{reader_failed, reads_by, waiting_in, writer_failed, writes_by}
 use Rattle.register_records.specs.declared.reading.EntryReader.{EntryReader}
-use Rattle.register_records.specs.declared.sources.Note.{Note}
+use Rattle.register_records.specs.declared.ends.Note.{Note}
 use Rattle.register_records.specs.declared.writing.RowWriter.{RowWriter}
 
 -- a writer that has not failed, and that no line waits in

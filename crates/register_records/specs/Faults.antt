@@ -15,4 +15,4 @@ bytes_left given (c ∷ chunks) = drop given c.items ++ chunk_bytes chunks
 
 -- the bytes that a reader still has
 abbrev pub bytes_to_come : Chunks → List ℕ
-bytes_to_come r = bytes_left r.given (drop r.place r.chunks.items)
+bytes_to_come r = bytes_left r.given (drop r.next r.chunks.items)

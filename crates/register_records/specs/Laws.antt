@@ -12,7 +12,7 @@ use Rattle.register_records.specs.Outcomes.{AreRowsOf, IsOutcome, TableRow}
 use Rattle.register_records.specs.Sources.{IsWholeTable}
 use Rattle.register_records.specs.Tables.{Layout, journal_of, refusal_notes, row_line, table_text}
 use Rattle.register_records.specs.declared.setups.Form.TheVariants.{Sealed}
-use Rattle.register_records.specs.declared.sources.Note.{Note}
+use Rattle.register_records.specs.declared.ends.Note.{Note}
 
 -- a text has one list of entries at most, and entries have one list of rows at most: so a text has one
 -- table and one journal at most

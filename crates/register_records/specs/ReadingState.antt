@@ -55,7 +55,7 @@ IsLive s = (reader_trim s ≡ trim.None) × Ready s × (is_flexible s ≡ true)
 abbrev pub all_after : Config → State → List ℕ → List Fields
 all_after config state bytes = records_from config (length bytes + 1) state bytes
 
--- the records that a reader of csv has yet to give, where the reader underneath tells its bytes
+-- the records that a reader of csv has yet to give, where the bytes of the reader underneath are known
 abbrev pub records_left : {R : Type 0} → (R → Option (List ℕ)) → Reader R → Option (List Fields)
 records_left remaining s = option_map (all_after (reader_config s) (reader_state s)) (source_of remaining s)
 
@@ -100,9 +100,9 @@ LacksSeal form count records = (entry_records form records ≡ []) × ¬ (EndsAt
 abbrev pub HasEntry : Form → List Fields → Type 0
 HasEntry form records = 0 < length (entry_records form records)
 
--- these entries are the first of a text, which may be unknown. While no call failed and none answered that no entry is
--- left, those of the records that are left follow them; once a call answered so, they are all
-pub record Stands (format : Format) (text : Option (List ℕ)) (state : ReaderState) (left : Option (List Fields))
+-- these entries are the first of a text, which may be unknown. While no call failed and none found that no entry is
+-- left, those of the records that are left follow them; once a call found it so, they are all
+pub record HasRead (format : Format) (text : Option (List ℕ)) (state : ReaderState) (left : Option (List Fields))
     (given : List Numbered)
     : Type 0 where
   pub past : List Fields

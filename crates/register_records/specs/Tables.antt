@@ -6,7 +6,7 @@ pub use Rattle.register_records.specs.Columns.{Layout}
 use Rattle.register_records.specs.Lines.{line_text}
 use Rattle.register_records.specs.Outcomes.{TableRow}
 use Rattle.date_texts.specs.declared.refusal.Refusal.{Refusal}
-use Rattle.register_records.specs.declared.sources.Note.{Note}
+use Rattle.register_records.specs.declared.ends.Note.{Note}
 
 -- the line of the heading: the names of the columns
 abbrev pub heading_line : Layout → List ℕ

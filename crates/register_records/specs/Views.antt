@@ -28,14 +28,14 @@ format_of setup = record { delimiter = setup.delimiter; form = setup.form }
 abbrev pub layout_of : Setup → Layout
 layout_of setup = record { format = format_of setup; targets = items_in setup.targets.items }
 
--- the text that a reader was opened on, where the reader underneath told its bytes; and how it reads that text
+-- the text that a reader was opened on, where the bytes of the reader underneath were known; and how it reads that text
 abbrev pub text_of : {R : Type 0} {g : Ghosts R} → EntryReader R g → Option (List ℕ)
 text_of {g} r = g.remaining r.source.value
 
 abbrev pub reads_by : {R : Type 0} {g : Ghosts R} → EntryReader R g → Format
 reads_by r = record { delimiter = r.delimiter; form = r.form }
 
--- a call answered a fault; a call answered that no entry is left
+-- a call returned a fault; a call found that no entry is left
 abbrev pub reader_failed : {R : Type 0} {g : Ghosts R} → EntryReader R g → Bool
 reader_failed r = has_failed r.state
 
@@ -61,7 +61,7 @@ tail_fields row = tail_texts (row_targets row) (row_seen row).outcome (row_seen 
 abbrev pub writes_by : RowWriter → Format
 writes_by w = record { delimiter = w.lines.delimiter; form = w.form }
 
--- a call of the writer answered a fault; its output failed
+-- a call of the writer returned a fault; its output failed
 abbrev pub writer_failed : RowWriter → Bool
 writer_failed w = has_stopped w.state
 

@@ -3,8 +3,8 @@
 ghost use Rattle.std.specs.Prelude.{◌≡◌};
 ghost use Rattle.register_records.specs.Causes.{entry_fault_cause, row_fault_cause};
 
+use crate::ends::Cause;
 use crate::reading::EntryFault;
-use crate::sources::Cause;
 use crate::writing::RowFault;
 
 impl From<EntryFault> for Cause {

@@ -14,10 +14,10 @@ use std::str;
 /// between threads.
 #[derive(Clone, Copy)]
 pub struct CellText {
-    places: [u8; MAX_CELL],
+    buffer: [u8; MAX_CELL],
     count: u8,
     ghost few: { count ≤ MAX_CELL },
-    ghost is_text: { is_utf8 (take count places) ≡ true },
+    ghost is_text: { is_utf8 (take count buffer) ≡ true },
 }
 
 impl CellText {
@@ -30,10 +30,10 @@ impl CellText {
         ensures { cell_bytes result ≡ text.now }
     {
         let bytes = text.as_bytes();
-        let mut places = [0; MAX_CELL];
-        places[..bytes.len()].copy_from_slice(bytes);
+        let mut buffer = [0; MAX_CELL];
+        buffer[..bytes.len()].copy_from_slice(bytes);
         CellText {
-            places,
+            buffer,
             count: bytes.len() as u8,
         }
     }
@@ -44,14 +44,14 @@ impl CellText {
         ensures { IsCell target day.number (cell_bytes self.new) }
     {
         cells_are_plain();
-        self.count = write_cell(&mut self.places, target, day);
+        self.count = write_cell(&mut self.buffer, target, day);
     }
 
     /// The bytes of the text.
     pub fn as_bytes(&self) -> &[u8]
         ensures { result.now ≡ cell_bytes self.now }
     {
-        &self.places[..self.count as usize]
+        &self.buffer[..self.count as usize]
     }
 
     /// The text.

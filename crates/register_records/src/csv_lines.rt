@@ -16,7 +16,7 @@ const QUOTE: u8 = b'"';
 
 /// Lines that wait, and the fields so far of one more behind them, in memory that serves again.
 #[derive(Drop)]
-pub(crate) struct Lines {
+pub(crate) struct CsvLines {
     bytes: Vec<u8>,
     delimiter: u8,
     ghost separated: { is_delimiter delimiter ≡ true },
@@ -73,19 +73,19 @@ fn push_field(line: &mut Vec<u8>, delimiter: u8, field: &[u8]) -> Result<(), All
     Ok(())
 }
 
-impl Lines {
+impl CsvLines {
     ghost use Rattle.register_records.specs.LineViews.{Begins, GainsFields, line_bytes, line_capacity};
     ghost use Rattle.register_records.specs.LineViews.{line_delimiter, line_len};
 
     /// No line yet, in memory for so many bytes. This delimiter will separate the fields.
-    pub fn new(alloc: Global, delimiter: u8, room: usize) -> Result<Lines, AllocError>
+    pub fn new(alloc: Global, delimiter: u8, room: usize) -> Result<CsvLines, AllocError>
         requires { is_delimiter delimiter ≡ true }
         ensures delimiter { IfOk result (λ lines. line_delimiter lines ≡ delimiter) }
         ensures none { IfOk result (λ lines. line_bytes lines ≡ []) }
         ensures room { IfOk result (λ lines. room ≤ line_capacity lines) }
     {
         let bytes = Vec::with_capacity(alloc, room)?;
-        Ok(Lines { bytes, delimiter })
+        Ok(CsvLines { bytes, delimiter })
     }
 
     /// The bytes so far.

@@ -1,4 +1,4 @@
-//! Readers and outputs for tests: over memory, with bytes that proofs know, and with a fault at a chosen place.
+//! Readers and outputs for tests: over memory, with bytes that proofs know, and with a fault at a chosen call.
 
 ghost use Rattle.std.specs.Prelude.{◌≡◌, ◌≤◌, [], Some, false, IfOk, vec_capacity};
 
@@ -12,7 +12,7 @@ use std::io::{ErrorKind, Read};
 pub struct Chunks {
     chunks: Vec<Vec<u8>>,
     // The chunk that is next, and how much of it was given.
-    place: usize,
+    next: usize,
     given: usize,
     reads: u32,
     fail_read: u32,
@@ -28,7 +28,7 @@ impl Chunks {
     {
         Chunks {
             chunks,
-            place: 0,
+            next: 0,
             given: 0,
             reads: 0,
             fail_read,
@@ -46,15 +46,15 @@ impl Read for Chunks {
         if self.reads == self.fail_read {
             return Err(io::Error::from(ErrorKind::Other));
         }
-        'spent: while self.place < self.chunks.len() {
-            let chunk = self.chunks[self.place].as_slice();
+        'spent: while self.next < self.chunks.len() {
+            let chunk = self.chunks[self.next].as_slice();
             if self.given < chunk.len() {
                 let count = buf.len().min(chunk.len() - self.given);
                 buf[..count].copy_from_slice(&chunk[self.given..self.given + count]);
                 self.given += count;
                 return Ok(count);
             }
-            self.place += 1;
+            self.next += 1;
             self.given = 0;
         }
         Ok(0)
@@ -117,7 +117,7 @@ impl Sink {
         self.bytes.as_slice()
     }
 
-    /// Whether it has failed: a call answered a fault, or an offer of some bytes took none.
+    /// Whether it has failed: a call returned a fault, or an offer of some bytes took none.
     pub fn has_failed(&self) -> bool
         ensures { result ≡ self.now.failed }
     {

@@ -22,7 +22,7 @@ pub trait Output {
     // The bytes that the output holds, where they are known.
     ghost contents: { Self → Option (List ℕ) };
 
-    // A call answered a fault, or an offer of some bytes took none.
+    // A call returned a fault, or an offer of some bytes took none.
     ghost has_failed: { Self → Bool };
 
     // What was taken was handed on.
@@ -31,7 +31,7 @@ pub trait Output {
     // The mark, which no call changes.
     ghost own_mark: { Self → ℕ };
 
-    /// Offers bytes, and answers how many of them, from the first on, were taken.
+    /// Offers bytes, and returns how many of them, from the first on, were taken.
     ///
     /// # Errors
     ///

@@ -6,7 +6,7 @@ ghost use Rattle.csv.specs.Reading.{error_kind, has_failed, stops_reader};
 ghost use Rattle.csv.specs.Records.{fields_of};
 ghost use Rattle.register_records.specs.Entries.{HasFirstEntries, record_limit};
 ghost use Rattle.register_records.specs.ReadingState.{Ends, Gives, HasBegun, HasEntry, IsLive, IsOfReading};
-ghost use Rattle.register_records.specs.ReadingState.{LacksSeal, Reads, Stands};
+ghost use Rattle.register_records.specs.ReadingState.{LacksSeal, Reads, HasRead};
 ghost use Rattle.register_records.specs.ReadingState.{entries_shown, fault_of, format_by, records_left};
 ghost use Rattle.register_records.specs.Retrying.{inner_remaining};
 ghost use Rattle.register_records.specs.Seals.{Agrees, is_seal as is_seal_record};
@@ -29,7 +29,7 @@ pub enum EntryFault {
     /// Memory ran out.
     #[error("out of memory")]
     OutOfMemory,
-    /// The reader answered a fault.
+    /// The reader returned a fault.
     #[error("a fault of reading")]
     ReadFault,
     /// The first record is not the header, or there is no record.
@@ -41,7 +41,7 @@ pub enum EntryFault {
     /// A sealed text does not end with a seal that agrees.
     #[error("no seal at the end that agrees with the number of records")]
     NotSealed,
-    /// An earlier call answered a fault.
+    /// An earlier call returned a fault.
     #[error("an earlier call failed")]
     Failed,
 }
@@ -51,9 +51,9 @@ pub enum EntryFault {
 pub(crate) enum ReaderState {
     /// Entries may be left.
     Open,
-    /// A call answered that no entry is left.
+    /// A call found that no entry is left.
     Ended,
-    /// A call answered a fault.
+    /// A call returned a fault.
     Failed,
 }
 
@@ -83,9 +83,9 @@ pub struct EntryReader<R: Read> {
     ghost live: { state ≢ ReaderState.Failed → HasBegun records },
     ghost few: { length given.items ≤ record_limit },
     ghost room: { record_limit ≤ vec_capacity given },
-    ghost stands: { ∥ Stands (format_by delimiter form) (R.remaining source.value) state
+    ghost has_read: { ∥ HasRead (format_by delimiter form) (R.remaining source.value) state
         (records_left (inner_remaining R.remaining) records) (entries_shown given.items) ∥₁ },
-    // The entries given are the first of the text, and where the reader does not tell its bytes, those of some records.
+    // The entries given are the first of the text, and where the bytes of the reader are not known, those of some records.
     pub ghost first: { ∥ HasFirstEntries (format_by delimiter form) (R.remaining source.value)
         (entries_shown given.items) ∥₁ },
 }
@@ -221,9 +221,9 @@ impl<R: Read + Drop> EntryReader<R> {
     /// # Errors
     ///
     /// `BadHeader` where the first record is another or there is none, `ReadFault` where the reader
-    /// answered a fault, and `OutOfMemory`. The reader is dropped with each.
+    /// returned a fault, and `OutOfMemory`. The reader is dropped with each.
     pub fn open(alloc: Global, reader: R, setup: &Setup) -> Result<EntryReader<R>, EntryFault>
-        // It reads the text that the reader tells, and no entry was given yet.
+        // It reads the text of the reader, where that is known, and no entry was given yet.
         ensures text { IfOk result (λ r. (text_of r ≡ R.remaining reader) × (reads_by r ≡ format_of setup.now)) }
         ensures none_given { IfOk result (λ r. given_of r ≡ []) }
         ensures goes { IfOk result (λ r. (reader_failed r ≡ false) × (reader_ended r ≡ false)) }
@@ -263,10 +263,10 @@ impl<R: Read + Drop> EntryReader<R> {
     ///
     /// # Errors
     ///
-    /// `ReadFault` where the reader answered a fault, `TooManyRecords` where 1,000,000 entries were
-    /// given and one more record that is no seal stands in the text, `NotSealed` where a sealed text
+    /// `ReadFault` where the reader returned a fault, `TooManyRecords` where 1,000,000 entries were
+    /// given and one more record that is no seal has_read in the text, `NotSealed` where a sealed text
     /// ends without a seal, its first seal does not agree with the number of entries, or a record
-    /// follows it, and `OutOfMemory`. After a fault each further call answers `Failed` and reads nothing.
+    /// follows it, and `OutOfMemory`. After a fault each further call returns `Failed` and reads nothing.
     pub fn read_next(&mut self, entry: &mut Entry) -> Result<bool, EntryFault>
         // What was given, and what each fault says of the text.
         ensures reads { ReadsNext self.old self.new entry.new result }

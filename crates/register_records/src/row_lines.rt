@@ -12,7 +12,7 @@ ghost use Rattle.register_records.specs.Views.{row_seen, row_targets, tail_field
 ghost use Rattle.register_records.specs.declared.row_tails.TheConstants.{TAIL_ROOM};
 ghost use Rattle.register_records.specs.declared.row_lines.TheConstants.{LINE_ROOM};
 
-use crate::csv_lines::Lines;
+use crate::csv_lines::CsvLines;
 use crate::rows::Row;
 use crate::setups::Form;
 use crate::table_columns::{TableColumn, entry_columns, tail_columns};
@@ -20,12 +20,12 @@ use date_texts::Target;
 use itoa::Buffer;
 use std::alloc::AllocError;
 
-/// Room for the longest line of a row, which has no more bytes than this: the texts quoted with a quote in each place,
+/// Room for the longest line of a row, which has no more bytes than this: the texts quoted with a quote for each byte,
 /// the cells and the rest.
 pub const LINE_ROOM: usize = 1024;
 
 /// Begins the line of the heading: the columns of the entries.
-fn begin_heading(lines: &mut Lines, form: Form) -> Result<(), AllocError>
+fn begin_heading(lines: &mut CsvLines, form: Form) -> Result<(), AllocError>
     ensures value { OnOk result (Begins (line_bytes lines.old) (map column_name (entry_order form)) lines.new) }
     ensures kept { line_delimiter lines.new ≡ line_delimiter lines.old }
     ensures capacity { line_capacity lines.old ≤ line_capacity lines.new }
@@ -39,7 +39,7 @@ fn begin_heading(lines: &mut Lines, form: Form) -> Result<(), AllocError>
 }
 
 /// Appends the names of the targets, which head their columns.
-fn push_target_names(lines: &mut Lines, targets: &[Target]) -> Result<(), AllocError>
+fn push_target_names(lines: &mut CsvLines, targets: &[Target]) -> Result<(), AllocError>
     ensures value { OnOk result (GainsFields (map target_name targets.now) lines.old lines.new) }
     ensures kept { line_delimiter lines.new ≡ line_delimiter lines.old }
     ensures capacity { line_capacity lines.old ≤ line_capacity lines.new }
@@ -51,7 +51,11 @@ fn push_target_names(lines: &mut Lines, targets: &[Target]) -> Result<(), AllocE
 }
 
 /// Appends what heads a column: its name, or for the cells those of their targets.
-fn push_names(lines: &mut Lines, column: TableColumn, targets: &[Target]) -> Result<(), AllocError>
+fn push_names(
+    lines: &mut CsvLines,
+    column: TableColumn,
+    targets: &[Target],
+) -> Result<(), AllocError>
     ensures value { OnOk result (GainsFields (column_names targets.now column) lines.old lines.new) }
     ensures kept { line_delimiter lines.new ≡ line_delimiter lines.old }
     ensures capacity { line_capacity lines.old ≤ line_capacity lines.new }
@@ -64,7 +68,7 @@ fn push_names(lines: &mut Lines, column: TableColumn, targets: &[Target]) -> Res
 
 /// Appends the line of the heading.
 pub(crate) fn make_heading(
-    lines: &mut Lines,
+    lines: &mut CsvLines,
     form: Form,
     targets: &[Target],
 ) -> Result<(), AllocError>
@@ -82,7 +86,7 @@ pub(crate) fn make_heading(
 }
 
 /// Begins the line of a row: its number and its texts.
-fn begin_line(lines: &mut Lines, form: Form, row: &Row) -> Result<(), AllocError>
+fn begin_line(lines: &mut CsvLines, form: Form, row: &Row) -> Result<(), AllocError>
     requires { line_len lines.old + LINE_ROOM ≤ line_capacity lines.old }
     ensures value { OnOk result (Begins (line_bytes lines.old)
         (map (entry_field (row_seen row.now)) (entry_order form)) lines.new) }
@@ -104,7 +108,7 @@ fn begin_line(lines: &mut Lines, form: Form, row: &Row) -> Result<(), AllocError
 
 /// Appends the fields of a row behind those of its entry: they are copied as they were written for a table with this
 /// delimiter, and written anew for another.
-fn push_tail(lines: &mut Lines, row: &Row) -> Result<(), AllocError>
+fn push_tail(lines: &mut CsvLines, row: &Row) -> Result<(), AllocError>
     ensures value { OnOk result (GainsFields (tail_fields row.now) lines.old lines.new) }
     ensures kept { line_delimiter lines.new ≡ line_delimiter lines.old }
     ensures room { line_len lines.old + TAIL_ROOM ≤ line_capacity lines.old → IsOk result }
@@ -119,7 +123,7 @@ fn push_tail(lines: &mut Lines, row: &Row) -> Result<(), AllocError>
 }
 
 /// Appends the line of a row, where there is memory for it.
-pub(crate) fn make_row(lines: &mut Lines, form: Form, row: &Row) -> Result<(), AllocError>
+pub(crate) fn make_row(lines: &mut CsvLines, form: Form, row: &Row) -> Result<(), AllocError>
     requires { line_len lines.old + LINE_ROOM ≤ line_capacity lines.old }
     ensures value { OnOk result (line_bytes lines.new ≡ line_bytes lines.old ++ line_text (line_delimiter lines.old)
         (row_fields form (row_targets row.now) (row_seen row.now))) }

@@ -11,12 +11,12 @@ ghost use Rattle.register_records.specs.Seen.{entry_seen, outcome_seen, row_made
 ghost use Rattle.register_records.specs.TableColumns.{tail_texts};
 
 use crate::cell_texts::CellText;
+use crate::ends::Note;
 use crate::entries::{Body, Entry};
 use crate::reading::{EntryFault, EntryReader};
 use crate::row_tails::RowTail;
 use crate::setups::Setup;
 use crate::short_lists::ShortList;
-use crate::sources::Note;
 use crate::target_lists::TargetList;
 use date_texts::laws::one_cell;
 use date_texts::{MAX_TARGETS, Refusal, Target, calendar_named, day_of_date, read_date};

@@ -8,9 +8,9 @@ use date_texts::{MAX_TARGETS, Target};
 use day_numbers::Day;
 use std::alloc::AllocError;
 
-/// At most as many items as there are targets, in order. A place that holds none yet holds a blank.
+/// At most as many items as there are targets, in order. Behind them stand blanks.
 pub struct ShortList<T: Copy> {
-    places: [T; MAX_TARGETS],
+    items: [T; MAX_TARGETS],
     count: u8,
     ghost few: { count ≤ MAX_TARGETS },
 }
@@ -35,7 +35,7 @@ impl<T: Copy> ShortList<T> {
         ensures { items_in result ≡ [] }
     {
         ShortList {
-            places: [blank; MAX_TARGETS],
+            items: [blank; MAX_TARGETS],
             count: 0,
         }
     }
@@ -45,7 +45,7 @@ impl<T: Copy> ShortList<T> {
         ensures value { result.now ≡ items_in self.now }
         ensures few { length result.now ≤ MAX_TARGETS }
     {
-        &self.places[..self.count as usize]
+        &self.items[..self.count as usize]
     }
 
     /// Lets the items go.
@@ -60,7 +60,7 @@ impl<T: Copy> ShortList<T> {
         requires { length (items_in self.old) < MAX_TARGETS }
         ensures { items_in self.new ≡ items_in self.old ++ item ∷ [] }
     {
-        self.places[self.count as usize] = item;
+        self.items[self.count as usize] = item;
         self.count += 1;
     }
 }
@@ -79,8 +79,8 @@ impl ShortList<CellText> {
             × (items_in self.new ≡ items_in self.old ++ made ∷ []) }
     {
         let next = self.count as usize;
-        let places = &mut self.places;
-        places[next].set(target, day);
+        let items = &mut self.items;
+        items[next].set(target, day);
         self.count += 1;
     }
 }

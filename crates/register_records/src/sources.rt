@@ -7,91 +7,20 @@ ghost use Rattle.register_records.specs.Conversions.{AreReady, ContinuesTable, I
 ghost use Rattle.register_records.specs.Entries.{HasAllEntries, HasEntries, HasNoHeader, HasTooMany, IsNotSealed};
 ghost use Rattle.register_records.specs.Entries.{record_limit};
 ghost use Rattle.register_records.specs.Sources.{ArePartOfTable, Gains, IfBroken, IfWhole, IsFrontOfTable};
-ghost use Rattle.register_records.specs.Sources.{IsTableOfAll, IsWholeTable, cause_number, is_whole_end};
+ghost use Rattle.register_records.specs.Sources.{IsTableOfAll, IsWholeTable};
 ghost use Rattle.register_records.specs.Tables.{heading_line, refusal_notes};
 ghost use Rattle.register_records.specs.declared.setups.Form.TheVariants.{Sealed};
 ghost use Rattle.register_records.specs.Views.{format_of, given_of, layout_of, line_of, row_seen, text_of};
 ghost use Rattle.register_records.specs.Views.{writes_by};
 
+use crate::ends::{Cause, Note, SourceEnd};
 use crate::outputs::Output;
 use crate::reading::EntryReader;
 use crate::rows::Row;
 use crate::setups::Setup;
 use crate::writing::RowWriter;
-use date_texts::Refusal;
 use std::alloc::Global;
 use std::io::Read;
-
-/// A refused row: its number in the table, from 1, and its refusal.
-#[derive(Clone, Copy, PartialEq, Eq, Debug)]
-pub struct Note {
-    pub number: u32,
-    pub refusal: Refusal,
-}
-
-/// Why a source is broken.
-#[derive(Clone, Copy, PartialEq, Eq, Debug)]
-pub enum Cause {
-    /// Memory ran out.
-    NoMemory,
-    /// A thread did not start.
-    NoThread,
-    /// The stages of a source could not be told to have passed on every record.
-    Unconfirmed,
-    /// The output failed.
-    SinkFault,
-    /// The reader failed.
-    ReadFault,
-    /// The first record is not the header, or there is none.
-    BadHeader,
-    /// The text has more than 1,000,000 entries.
-    TooManyRecords,
-    /// A sealed text does not end with a seal that agrees.
-    NotSealed,
-}
-
-/// How a source ended.
-#[derive(Drop)]
-pub enum SourceEnd {
-    /// The output has gained the table of the text, with so many rows. The journal has the refused ones
-    /// in order, and `refused` is their count.
-    Whole {
-        rows: u32,
-        refused: u32,
-        journal: Vec<Note>,
-    },
-    /// The conversion stopped at a fault.
-    Broken {
-        cause: Cause,
-    },
-}
-
-impl Cause {
-    /// The number of the cause, from 1 for `NoMemory` to 8 for `NotSealed`.
-    pub fn number(&self) -> u8
-        ensures { result ≡ cause_number self.now }
-    {
-        match self {
-            Cause::NoMemory => 1,
-            Cause::NoThread => 2,
-            Cause::Unconfirmed => 3,
-            Cause::SinkFault => 4,
-            Cause::ReadFault => 5,
-            Cause::BadHeader => 6,
-            Cause::TooManyRecords => 7,
-            Cause::NotSealed => 8,
-        }
-    }
-}
-
-impl SourceEnd {
-    /// Whether the source ended whole.
-    pub fn is_whole(&self) -> bool
-        ensures { result ≡ is_whole_end self.now }
-    {
-        matches!(self, SourceEnd::Whole { .. })
-    }
-}
 
 /// Notes a row that was refused, and writes the row.
 ///
@@ -175,7 +104,7 @@ fn convert_next<R: Read + Drop, W: Output>(
 }
 
 /// Converts each entry and writes its row, behind a heading that is written.
-fn convert_entries<R: Read + Drop, W: Output>(
+fn write_rows<R: Read + Drop, W: Output>(
     alloc: Global,
     entries: &mut EntryReader<R>,
     writer: &mut RowWriter,
@@ -255,7 +184,7 @@ pub fn convert_source<R: Read + Drop, W: Output>(
     setup: &Setup,
 ) -> SourceEnd
     // The output has gained the table, and nothing else. The text is accepted and the table is its own; where the
-    // reader does not tell its bytes, they are some that would be accepted.
+    // reader's bytes are not known, they are some that would be accepted.
     ensures whole { IfWhole result (λ rows refused journal. ∥ Gains (W.contents output.old) (W.contents output.new)
         (IsWholeTable (layout_of setup.now) (R.remaining reader) rows refused journal) ∥₁) }
     ensures numbers { IfWhole result (λ rows refused journal.
@@ -302,5 +231,5 @@ pub fn convert_source<R: Read + Drop, W: Output>(
             };
         }
     };
-    convert_entries(alloc, &mut entries, &mut writer, output, setup)
+    write_rows(alloc, &mut entries, &mut writer, output, setup)
 }

@@ -6,7 +6,7 @@ ghost use Rattle.std.specs.Io.KnownBytes.{Appends};
 ghost use Rattle.register_records.specs.LineViews.{line_capacity};
 ghost use Rattle.register_records.specs.declared.writing.TheConstants.{ROOM};
 
-use crate::csv_lines::Lines;
+use crate::csv_lines::CsvLines;
 use crate::outputs::{Output, send};
 use crate::row_lines::{LINE_ROOM, make_heading, make_row};
 use crate::rows::Row;
@@ -23,7 +23,7 @@ pub enum RowFault {
     /// The output failed.
     #[error("a fault of writing")]
     WriteFault,
-    /// An earlier call answered a fault.
+    /// An earlier call returned a fault.
     #[error("an earlier call failed")]
     Failed,
 }
@@ -37,7 +37,7 @@ const ROOM: usize = MOST_WAITING + LINE_ROOM;
 /// Whether a writer of rows goes on.
 #[derive(Clone, Copy)]
 pub(crate) enum WriterState {
-    /// No call answered a fault.
+    /// No call returned a fault.
     Open,
     /// Memory for a line ran out. Those before it can be sent.
     OutOfMemory,
@@ -49,7 +49,7 @@ pub(crate) enum WriterState {
 #[derive(Drop)]
 pub struct RowWriter {
     // The lines that were not sent yet.
-    lines: Lines,
+    lines: CsvLines,
     form: Form,
     state: WriterState,
     ghost roomy: { ROOM ≤ line_capacity lines },
@@ -81,7 +81,7 @@ impl RowWriter {
         ensures never { IfErr result (λ e. e ≢ RowFault.Failed) }
         ensures mark { W.own_mark output.new ≡ W.own_mark output.old }
     {
-        let Ok(mut lines) = Lines::new(alloc, setup.delimiter(), ROOM) else {
+        let Ok(mut lines) = CsvLines::new(alloc, setup.delimiter(), ROOM) else {
             return Err(RowFault::OutOfMemory);
         };
         if make_heading(&mut lines, setup.form(), setup.targets()).is_err() {
@@ -198,7 +198,7 @@ impl RowWriter {
     ///
     /// # Errors
     ///
-    /// `Failed` exactly where an earlier call answered a fault.
+    /// `Failed` exactly where an earlier call returned a fault.
     pub fn end(self) -> Result<(), RowFault>
         ensures { result ≡ (if writer_failed self then Err RowFault.Failed else Ok tt) }
     {

@@ -9,16 +9,16 @@ returns-in-Err-open-clause-part g c other =
 
 pub returns-clause-whole : goal.returns-clause-whole
 returns-clause-whole g c =
-    rw c.in-Ok.ensures.text.0 at (c.convert_entries.ensures.whole _ c.in-Ok-open.ensures.ok)
+    rw c.in-Ok.ensures.text.0 at (c.write_rows.ensures.whole _ c.in-Ok-open.ensures.ok)
 
 pub returns-clause-part : goal.returns-clause-part
 returns-clause-part g c =
-    rw c.in-Ok.ensures.text.0 at (c.convert_entries.ensures.part _ c.in-Ok-open.ensures.ok)
+    rw c.in-Ok.ensures.text.0 at (c.write_rows.ensures.part _ c.in-Ok-open.ensures.ok)
 
 pub returns-clause-too_many : goal.returns-clause-too_many
 returns-clause-too_many g c =
-    rw c.in-Ok.ensures.text.0 at (c.convert_entries.ensures.too_many _ c.in-Ok-open.ensures.ok)
+    rw c.in-Ok.ensures.text.0 at (c.write_rows.ensures.too_many _ c.in-Ok-open.ensures.ok)
 
 pub returns-clause-not_sealed : goal.returns-clause-not_sealed
 returns-clause-not_sealed g c =
-    rw c.in-Ok.ensures.text.0 at (c.convert_entries.ensures.not_sealed _ c.in-Ok-open.ensures.ok)
+    rw c.in-Ok.ensures.text.0 at (c.write_rows.ensures.not_sealed _ c.in-Ok-open.ensures.ok)

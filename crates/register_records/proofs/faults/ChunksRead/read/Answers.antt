@@ -40,7 +40,7 @@ gives_some b copy buf given n same few left none some =
 pub returns-then-self-chunk-clause-bytes : goal.returns-then-self-chunk-clause-bytes
 returns-then-self-chunk-clause-bytes c =
     let s = c.spent.self.chunks.items in
-    let p = c.spent.self.place in
+    let p = c.spent.self.next in
     let given = c.spent.self.given in
     let d = c.index.result.now in
     let b = c.as_slice-chunk.result.now in

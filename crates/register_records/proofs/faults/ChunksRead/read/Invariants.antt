@@ -6,4 +6,4 @@ abbrev pub invariant-spent : goal.invariant-spent
 invariant-spent l = bytes_to_come l.self ≡ bytes_to_come l.fn.self
 
 abbrev pub decreases-spent : goal.decreases-spent
-decreases-spent l = length l.self.chunks.items - l.self.place
+decreases-spent l = length l.self.chunks.items - l.self.next

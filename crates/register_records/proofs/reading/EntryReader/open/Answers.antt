@@ -46,7 +46,7 @@ invariant_of-result g c =
     at_start (inner_remaining g.R.Read.remaining) c.from_reader-records.result c.args.setup.now.delimiter
     (g.R.Read.remaining c.args.reader) config fr.state (rw (← c.new-patient.ensures) fr.source) in
     let read = rw start at c.in_ok-found.ensures.reads in
-    let stands =
+    let has_read =
     first_step (g.R.Read.remaining c.args.reader) (g.R.Read.remaining c.of-source.result.value)
     (records_left (inner_remaining g.R.Read.remaining) c.read_record.new.records)
     c.args.setup.now.delimiter c.delimiter-3.result c.form.result c.form-2.result
@@ -58,6 +58,6 @@ invariant_of-result g c =
       live = λ _. c.in_ok-found.ensures.live;
       few = rw c.in-Ok.ensures.items (omega arith);
       room = c.in-Ok.ensures.capacity;
-      stands = stands;
-      first = may_first _ _ _ _ _ stands;
+      has_read = has_read;
+      first = may_first _ _ _ _ _ has_read;
     }

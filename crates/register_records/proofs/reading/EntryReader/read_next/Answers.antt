@@ -13,7 +13,7 @@ pub returns-in-Ended-clause-reads : goal.returns-in-Ended-clause-reads
 returns-in-Ended-clause-reads g c =
     let self = c.args.self.now in
     let all = may_ended (g.R.Read.remaining self.source.value) (format_by self.delimiter self.form) self.state
-    (records_left (inner_remaining g.R.Read.remaining) self.records) (given_of self) self.stands c.in-Ended.is in
+    (records_left (inner_remaining g.R.Read.remaining) self.records) (given_of self) self.has_read c.in-Ended.is in
     search (rules, all)
 
 pub invariant_of-self : goal.invariant_of-self
@@ -27,10 +27,10 @@ invariant_of-self g c =
     let gives = (rw found at c.in-Ok-true.ensures.gives) refl in
     let number = (rw found at c.in-Ok-true.ensures.number) refl in
     let left : length self.given.items < record_limit = omega (arith, number.0, number.1, c.len-count.ensures) in
-    let stands =
+    let has_read =
     may_more (g.R.Read.remaining self.source.value) (format_by self.delimiter self.form) self.state
     (records_left (inner_remaining g.R.Read.remaining) self.records)
-    (given_of self) self.stands c.in-Open.is c.len-count.result
+    (given_of self) self.has_read c.in-Open.is c.len-count.result
     (omega (arith, c.len-count.ensures, shown_length self.given.items))
     (records_left (inner_remaining g.R.Read.remaining) c.read_entry-found.new.records)
     (entries_shown c.push_reserved.new.self.items) c.read_entry-found.new.entry gives
@@ -39,26 +39,26 @@ invariant_of-self g c =
       live = λ _. c.in-Ok-true.ensures.live;
       few = omega (arith, longer, left);
       room = rw c.push_reserved.ensures.capacity self.room;
-      stands = stands;
-      first = may_first _ _ _ _ _ stands;
+      has_read = has_read;
+      first = may_first _ _ _ _ _ has_read;
     }
 
-pub invariant_of-self-in-Ok-false-clause-stands : goal.invariant_of-self-in-Ok-false-clause-stands
-invariant_of-self-in-Ok-false-clause-stands g c =
+pub invariant_of-self-in-Ok-false-clause-has_read : goal.invariant_of-self-in-Ok-false-clause-has_read
+invariant_of-self-in-Ok-false-clause-has_read g c =
     let self = c.args.self.now in
     let none : c.in-Ok-false.field-0 ≡ false = search rules in
     let ends = (rw none at c.in-Ok-false.ensures.ends) refl in
     may_end (g.R.Read.remaining self.source.value) (format_by self.delimiter self.form) self.state
     (records_left (inner_remaining g.R.Read.remaining) self.records)
-    (given_of self) self.stands c.in-Open.is c.len-count.result
+    (given_of self) self.has_read c.in-Open.is c.len-count.result
     (omega (arith, c.len-count.ensures, shown_length self.given.items))
     (rw (shown_length self.given.items) self.few) _ ends
 
-pub invariant_of-self-in-Err-clause-stands : goal.invariant_of-self-in-Err-clause-stands
-invariant_of-self-in-Err-clause-stands g c =
+pub invariant_of-self-in-Err-clause-has_read : goal.invariant_of-self-in-Err-clause-has_read
+invariant_of-self-in-Err-clause-has_read g c =
     let self = c.args.self.now in
     may_fail (g.R.Read.remaining self.source.value) (format_by self.delimiter self.form) self.state
-    (records_left (inner_remaining g.R.Read.remaining) self.records) (given_of self) self.stands _
+    (records_left (inner_remaining g.R.Read.remaining) self.records) (given_of self) self.has_read _
     (given_of self) refl
 
 pub returns-in-Ok-false-clause-reads : goal.returns-in-Ok-false-clause-reads
@@ -69,7 +69,7 @@ returns-in-Ok-false-clause-reads g c =
     let all =
     may_all (g.R.Read.remaining self.source.value) (format_by self.delimiter self.form) self.state
     (records_left (inner_remaining g.R.Read.remaining) self.records)
-    (given_of self) self.stands c.in-Open.is c.len-count.result
+    (given_of self) self.has_read c.in-Open.is c.len-count.result
     (omega (arith, c.len-count.ensures, shown_length self.given.items))
     (rw (shown_length self.given.items) self.few) ends in
     search (rules, all)
@@ -94,19 +94,19 @@ returns-in-Err-clause-reads g c =
         may_many (g.R.Read.remaining self.source.value)
             (format_by self.delimiter self.form) self.state
             (records_left (inner_remaining g.R.Read.remaining) self.records)
-            (given_of self) self.stands c.in-Open.is c.len-count.result counted (full e).1 (full e).0,
+            (given_of self) self.has_read c.in-Open.is c.len-count.result counted (full e).1 (full e).0,
       );
       not_sealed = λ e. (
         (lacks e).0,
         may_lack (g.R.Read.remaining self.source.value) (format_by self.delimiter self.form) self.state
             (records_left (inner_remaining g.R.Read.remaining) self.records)
-            (given_of self) self.stands c.in-Open.is c.len-count.result counted
+            (given_of self) self.has_read c.in-Open.is c.len-count.result counted
             (rw (shown_length self.given.items) self.few) (lacks e).1,
       );
       above = λ e.
           may_above (g.R.Read.remaining self.source.value) (format_by self.delimiter self.form) self.state
           (records_left (inner_remaining g.R.Read.remaining) self.records)
-          (given_of self) self.stands c.in-Open.is c.len-count.result counted (lacks e).1;
+          (given_of self) self.has_read c.in-Open.is c.len-count.result counted (lacks e).1;
       fails = refl;
       only_failed = λ _. never.1;
       no_header = never.0;

@@ -6,5 +6,5 @@ pub returns : goal.returns
 returns c = (
   c.set.new.self,
   c.set.ensures,
-  take_more_set c.args.self.now.places c.args.self.now.count c.set.new.self (search rules),
+  take_more_set c.args.self.now.items c.args.self.now.count c.set.new.self (search rules),
 )

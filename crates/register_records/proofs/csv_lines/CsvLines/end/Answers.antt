@@ -1,6 +1,6 @@
 use Rattle.register_records.proofs.LineLemmas.{ended}
 use Rattle.register_records.specs.LineViews.{line_delimiter}
-use Rattle.register_records.proofs.csv_lines.Lines.end.Goals as goal
+use Rattle.register_records.proofs.csv_lines.CsvLines.end.Goals as goal
 
 pub returns-clause-value : goal.returns-clause-value
 returns-clause-value c before fields some begun =

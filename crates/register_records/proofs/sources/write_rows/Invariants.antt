@@ -4,7 +4,7 @@ use Rattle.register_records.specs.Conversions.{AreReady, Progress}
 use Rattle.register_records.specs.Entries.{record_limit}
 use Rattle.register_records.specs.Tables.{heading_line}
 use Rattle.register_records.specs.Views.{format_of, given_of, layout_of, text_of}
-use Rattle.register_records.proofs.sources.convert_entries.Given as goal
+use Rattle.register_records.proofs.sources.write_rows.Given as goal
 
 abbrev pub invariant-entries : goal.invariant-entries
 invariant-entries g l =

@@ -1,6 +1,6 @@
 use Rattle.register_records.proofs.LineLemmas.{one_more, plain_text}
 use Rattle.register_records.specs.LineViews.{line_delimiter}
-use Rattle.register_records.proofs.csv_lines.Lines.push.Goals as goal
+use Rattle.register_records.proofs.csv_lines.CsvLines.push.Goals as goal
 
 pub returns-then-bare-clause-value : goal.returns-then-bare-clause-value
 returns-then-bare-clause-value c before fields some begun =

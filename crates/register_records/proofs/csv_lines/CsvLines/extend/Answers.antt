@@ -1,7 +1,7 @@
 use Rattle.std.proofs.Common.{◌∙◌, ◌++◌, ℕ, List, ap}
 use Rattle.register_records.proofs.LineLemmas.{more_fields}
 use Rattle.register_records.specs.LineViews.{line_bytes, line_delimiter}
-use Rattle.register_records.proofs.csv_lines.Lines.extend.Goals as goal
+use Rattle.register_records.proofs.csv_lines.CsvLines.extend.Goals as goal
 
 pub returns-clause-fields : goal.returns-clause-fields
 returns-clause-fields c more is before fields some begun =

@@ -2,7 +2,7 @@ use Rattle.std.proofs.Common.{◌≡◌, refl, sym, arith, length, rules}
 use Rattle.std.specs.Prelude.{IfSome}
 use Rattle.register_records.specs.Entries.{HasTooMany, IsNotSealed}
 use Rattle.register_records.proofs.ProgressLemmas.{all_rows, finish, first_rows, front, start, told_of}
-use Rattle.register_records.proofs.sources.convert_entries.Goals as goal
+use Rattle.register_records.proofs.sources.write_rows.Goals as goal
 
 pub entries-init : goal.entries-init
 entries-init g c =

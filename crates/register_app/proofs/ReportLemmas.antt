@@ -6,9 +6,9 @@ use Rattle.std.specs.Prelude.{All}
 use Rattle.std.proofs.lemmas.List.{drop_more}
 use Rattle.std.proofs.lemmas.List.Elements.{All-head, All-tail}
 use Rattle.register_records.specs.Sources.{is_whole_end}
-use Rattle.register_records.specs.declared.sources.SourceEnd.{SourceEnd}
-use Rattle.register_records.specs.declared.sources.SourceEnd.TheVariants as ended
-use Rattle.register_records.specs.declared.sources.Note.{Note}
+use Rattle.register_records.specs.declared.ends.SourceEnd.{SourceEnd}
+use Rattle.register_records.specs.declared.ends.SourceEnd.TheVariants as ended
+use Rattle.register_records.specs.declared.ends.Note.{Note}
 use Rattle.register_app.specs.Reports.{count_text, counts_from, line_of_end, lines_from, refusal_numbers, refused_with}
 
 -- with the next line told, one line fewer is left

@@ -3,9 +3,9 @@ use Rattle.std.specs.Prelude.{ℕ, List, [], ◌∷◌, ◌++◌, ◌+◌, ◌==
 use Rattle.std.specs.Fmt.{decimal}
 use Rattle.date_texts.specs.Refusals.{refusal_number}
 use Rattle.register_records.specs.Sources.{cause_number}
-use Rattle.register_records.specs.declared.sources.Note.{Note}
-use Rattle.register_records.specs.declared.sources.SourceEnd.{SourceEnd}
-use Rattle.register_records.specs.declared.sources.SourceEnd.TheVariants as ended
+use Rattle.register_records.specs.declared.ends.Note.{Note}
+use Rattle.register_records.specs.declared.ends.SourceEnd.{SourceEnd}
+use Rattle.register_records.specs.declared.ends.SourceEnd.TheVariants as ended
 
 -- how many records were refused with this number
 abbrev pub refused_with : List Note → ℕ → ℕ

@@ -9,10 +9,10 @@ use Rattle.register_records.specs.Sources.{ArePartOfTable, Gains, IfBroken, IfWh
 use Rattle.register_records.specs.Sources.{IsWholeTable}
 use Rattle.register_records.specs.Tables.{Layout}
 use Rattle.register_records.specs.declared.setups.Form.TheVariants.{Sealed}
-use Rattle.register_records.specs.declared.sources.Cause.{Cause}
-use Rattle.register_records.specs.declared.sources.Cause.TheVariants as cause
-use Rattle.register_records.specs.declared.sources.SourceEnd.{SourceEnd}
-use Rattle.register_records.specs.declared.sources.SourceEnd.TheVariants as end
+use Rattle.register_records.specs.declared.ends.Cause.{Cause}
+use Rattle.register_records.specs.declared.ends.Cause.TheVariants as cause
+use Rattle.register_records.specs.declared.ends.SourceEnd.{SourceEnd}
+use Rattle.register_records.specs.declared.ends.SourceEnd.TheVariants as end
 use Rattle.register_page.specs.Conversions.{sound_part}
 use Rattle.register_page.specs.Rooms.{Puts, with_front}
 

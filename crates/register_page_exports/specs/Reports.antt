@@ -2,9 +2,9 @@
 use Rattle.std.specs.Prelude.{◌≡◌, ◌+◌, ℕ, List, [], Result, Ok, Err}
 use Rattle.date_texts.specs.declared.refusal.Refusal.TheVariants as refusal
 use Rattle.register_records.specs.Sources.{cause_number}
-use Rattle.register_records.specs.declared.sources.Note.{Note}
-use Rattle.register_records.specs.declared.sources.SourceEnd.{SourceEnd}
-use Rattle.register_records.specs.declared.sources.SourceEnd.TheVariants as end
+use Rattle.register_records.specs.declared.ends.Note.{Note}
+use Rattle.register_records.specs.declared.ends.SourceEnd.{SourceEnd}
+use Rattle.register_records.specs.declared.ends.SourceEnd.TheVariants as end
 use Rattle.register_page.specs.Conversions.{refused_with}
 use Rattle.register_page.specs.Requests.{fault_number}
 use Rattle.register_page.specs.declared.converting.Converted.{Converted}

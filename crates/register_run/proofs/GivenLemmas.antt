@@ -9,8 +9,8 @@ use Rattle.register_records.specs.Entries.{HasNoHeader, HasTooMany, IsNotSealed,
 use Rattle.register_records.specs.declared.reading.EntryFault.{EntryFault}
 use Rattle.register_records.specs.declared.reading.EntryFault.TheVariants as fault
 use Rattle.register_records.specs.declared.setups.Form.TheVariants.{Sealed}
-use Rattle.register_records.specs.declared.sources.Cause.{Cause}
-use Rattle.register_records.specs.declared.sources.Cause.TheVariants as cause
+use Rattle.register_records.specs.declared.ends.Cause.{Cause}
+use Rattle.register_records.specs.declared.ends.Cause.TheVariants as cause
 use Rattle.lane_rings.specs.declared.sender.Sender.{Sender}
 use Rattle.register_records.specs.declared.entries.Entry.{Entry}
 use Rattle.register_records.specs.declared.rows.Row.{Row}

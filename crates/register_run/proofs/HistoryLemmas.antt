@@ -13,7 +13,7 @@ use Rattle.register_records.specs.declared.entries.Entry.{Entry}
 use Rattle.register_records.specs.SetupRules.{largest_ring}
 use Rattle.register_records.specs.Views.{format_of}
 use Rattle.register_records.specs.declared.setups.Setup.{Setup}
-use Rattle.register_records.specs.declared.sources.Cause.{Cause}
+use Rattle.register_records.specs.declared.ends.Cause.{Cause}
 use Rattle.striped_lanes.specs.Histories.{entries_over, rows_over}
 use Rattle.striped_lanes.specs.Machine.{Actor, start, turn}
 use Rattle.striped_lanes.specs.Places.{table_rows}

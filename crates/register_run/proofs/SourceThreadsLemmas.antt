@@ -4,8 +4,8 @@ use Rattle.std.specs.Prelude.{Err, Result}
 use Rattle.register_records.specs.Entries.{Format}
 use Rattle.register_records.specs.declared.rows.Row.{Row}
 use Rattle.register_records.specs.declared.setups.Setup.{Setup}
-use Rattle.register_records.specs.declared.sources.Cause.{Cause}
-use Rattle.register_records.specs.declared.sources.Cause.TheVariants as cause
+use Rattle.register_records.specs.declared.ends.Cause.{Cause}
+use Rattle.register_records.specs.declared.ends.Cause.TheVariants as cause
 use Rattle.register_run.specs.Stripes.{IsReaderOf, start_fault_cause, stripe_setup}
 use Rattle.register_run.specs.SourceThreads.{AreStaffed}
 use Rattle.register_run.specs.JoinedThreads.{HasPassed, HasStarted}

@@ -9,7 +9,7 @@ use Rattle.std.proofs.lemmas.List.Elements.{Contains-append_cases}
 use Rattle.register_records.specs.declared.outputs.Output as outputs
 use Rattle.register_records.specs.declared.rows.Row.{Row}
 use Rattle.register_records.specs.declared.setups.Form.TheVariants.{Plain}
-use Rattle.register_records.specs.declared.sources.Note.{Note}
+use Rattle.register_records.specs.declared.ends.Note.{Note}
 use Rattle.register_records.specs.declared.writing.RowWriter.{RowWriter}
 use Rattle.register_records.specs.Entries.{AreNumberedFrom}
 use Rattle.register_records.specs.Laws.{TablesGrow}

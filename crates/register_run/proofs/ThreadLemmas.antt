@@ -7,11 +7,11 @@ use Rattle.std.proofs.lemmas.List.Elements.{All-cons}
 use Rattle.register_records.specs.Sources.{IfBroken, IfWhole, cause_number}
 use Rattle.register_records.specs.SetupRules.{most_stripes}
 use Rattle.register_records.specs.declared.setups.Setup.{Setup}
-use Rattle.register_records.specs.declared.sources.Cause.{Cause}
-use Rattle.register_records.specs.declared.sources.Cause.TheVariants as cause
-use Rattle.register_records.specs.declared.sources.Note.{Note}
-use Rattle.register_records.specs.declared.sources.SourceEnd.{SourceEnd}
-use Rattle.register_records.specs.declared.sources.SourceEnd.TheVariants as end
+use Rattle.register_records.specs.declared.ends.Cause.{Cause}
+use Rattle.register_records.specs.declared.ends.Cause.TheVariants as cause
+use Rattle.register_records.specs.declared.ends.Note.{Note}
+use Rattle.register_records.specs.declared.ends.SourceEnd.{SourceEnd}
+use Rattle.register_records.specs.declared.ends.SourceEnd.TheVariants as end
 use Rattle.register_run.specs.Stripes.{stripe_setup}
 use Rattle.register_run.specs.Courses.{IsLowest, IsMet, is_of_table}
 use Rattle.register_run.specs.SourceThreads.{AreStaffed}

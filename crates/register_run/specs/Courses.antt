@@ -1,8 +1,8 @@
 -- How far a table goes on, and for which cause a source breaks off.
 use Rattle.std.specs.Prelude.{◌≡◌, ◌≢◌, ◌≤◌, ◌⊎◌, ℕ, Bool, false, true, Option, None, Some, Result, Ok, Err}
 use Rattle.register_records.specs.Sources.{cause_number}
-use Rattle.register_records.specs.declared.sources.Cause.{Cause}
-use Rattle.register_records.specs.declared.sources.Cause.TheVariants as cause
+use Rattle.register_records.specs.declared.ends.Cause.{Cause}
+use Rattle.register_records.specs.declared.ends.Cause.TheVariants as cause
 use Rattle.register_run.specs.declared.table_writers.Course.{Course}
 use Rattle.register_run.specs.declared.table_writers.Course.TheVariants as course
 use Rattle.register_run.specs.declared.ended_sources.Met.{Met}

@@ -6,11 +6,11 @@ use Rattle.register_records.specs.Sources.{ArePartOfTable, Gains, IsFrontOfTable
 use Rattle.register_records.specs.Tables.{Layout}
 use Rattle.register_records.specs.declared.outputs.Output as outputs
 use Rattle.register_records.specs.declared.setups.Form.TheVariants.{Sealed}
-use Rattle.register_records.specs.declared.sources.Cause.{Cause}
-use Rattle.register_records.specs.declared.sources.Cause.TheVariants as cause
-use Rattle.register_records.specs.declared.sources.Note.{Note}
-use Rattle.register_records.specs.declared.sources.SourceEnd.{SourceEnd}
-use Rattle.register_records.specs.declared.sources.SourceEnd.TheVariants as ended
+use Rattle.register_records.specs.declared.ends.Cause.{Cause}
+use Rattle.register_records.specs.declared.ends.Cause.TheVariants as cause
+use Rattle.register_records.specs.declared.ends.Note.{Note}
+use Rattle.register_records.specs.declared.ends.SourceEnd.{SourceEnd}
+use Rattle.register_records.specs.declared.ends.SourceEnd.TheVariants as ended
 
 -- the lists have one length, and this holds at each place of the source there, its output as it was handed in and as it
 -- is handed back, and its end

@@ -11,7 +11,7 @@ use Rattle.register_records.specs.declared.outputs.Output as outputs
 use Rattle.register_records.specs.declared.entries.Entry.{Entry}
 use Rattle.register_records.specs.declared.rows.Row.{Row}
 use Rattle.register_records.specs.declared.setups.Setup.{Setup}
-use Rattle.register_records.specs.declared.sources.SourceEnd.{SourceEnd}
+use Rattle.register_records.specs.declared.ends.SourceEnd.{SourceEnd}
 use Rattle.register_run.specs.Stripes.{feeding_lane, stripe_setup}
 use Rattle.register_run.specs.Carried.{carried, rows_carried}
 use Rattle.register_run.specs.JoinedThreads.{AreOfLanes, IsOfGiven}

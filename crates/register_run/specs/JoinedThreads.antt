@@ -11,8 +11,8 @@ use Rattle.register_records.specs.Seen.{entry_seen}
 use Rattle.register_records.specs.declared.entries.Entry.{Entry}
 use Rattle.register_records.specs.declared.rows.Row.{Row}
 use Rattle.register_records.specs.declared.setups.Form.TheVariants.{Sealed}
-use Rattle.register_records.specs.declared.sources.Cause.{Cause}
-use Rattle.register_records.specs.declared.sources.Cause.TheVariants as cause
+use Rattle.register_records.specs.declared.ends.Cause.{Cause}
+use Rattle.register_records.specs.declared.ends.Cause.TheVariants as cause
 use Rattle.register_run.specs.Carried.{AreDealt, AreOfAllTaken, AreOfTaken, HasEnd, WereDealt}
 use Rattle.register_run.specs.Worlds.{World}
 use Rattle.register_run.specs.declared.reading.Reading.{Reading}

@@ -6,8 +6,8 @@ use Rattle.register_records.specs.Sources.{is_whole_end}
 use Rattle.register_records.specs.Views.{layout_of}
 use Rattle.register_records.specs.declared.outputs.Output as outputs
 use Rattle.register_records.specs.declared.setups.Setup.{Setup}
-use Rattle.register_records.specs.declared.sources.Cause.TheVariants as cause
-use Rattle.register_records.specs.declared.sources.SourceEnd.TheVariants as ended
+use Rattle.register_records.specs.declared.ends.Cause.TheVariants as cause
+use Rattle.register_records.specs.declared.ends.SourceEnd.TheVariants as ended
 use Rattle.register_run.specs.declared.stripes.Stripe.{Stripe}
 use Rattle.register_run.specs.declared.reports.Report.{Report}
 use Rattle.register_run.specs.declared.reports.RunFault.{RunFault}

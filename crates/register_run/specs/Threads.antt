@@ -4,9 +4,9 @@ use Rattle.std.specs.List.{AllZip}
 use Rattle.lane_rings.specs.Lane.{lane_capacity, receiver_lane}
 use Rattle.register_records.specs.Sources.{IfBroken}
 use Rattle.register_records.specs.declared.setups.Setup.{Setup}
-use Rattle.register_records.specs.declared.sources.Cause.TheVariants as cause
-use Rattle.register_records.specs.declared.sources.SourceEnd.{SourceEnd}
-use Rattle.register_records.specs.declared.sources.SourceEnd.TheVariants as ended
+use Rattle.register_records.specs.declared.ends.Cause.TheVariants as cause
+use Rattle.register_records.specs.declared.ends.SourceEnd.{SourceEnd}
+use Rattle.register_records.specs.declared.ends.SourceEnd.TheVariants as ended
 use Rattle.register_run.specs.Stripes.{feeding_lane}
 use Rattle.register_run.specs.Courses.{IsLowest, IsMet}
 use Rattle.register_run.specs.declared.stripes.Stripe.{Stripe}

@@ -3,8 +3,8 @@
 ghost use Rattle.std.specs.Prelude.{◌≡◌, ◌≤◌, ◌⊎◌, [], None, Ok, true, length, vec_len};
 ghost use Rattle.register_records.specs.Sources.{IfBroken, IfWhole, cause_number};
 ghost use Rattle.register_records.specs.Views.{layout_of};
-ghost use Rattle.register_records.specs.declared.sources.Cause.TheVariants as cause;
-ghost use Rattle.register_records.specs.declared.sources.SourceEnd.TheVariants as ended;
+ghost use Rattle.register_records.specs.declared.ends.Cause.TheVariants as cause;
+ghost use Rattle.register_records.specs.declared.ends.SourceEnd.TheVariants as ended;
 ghost use Rattle.register_run.specs.Courses.{IsLowest, IsMet};
 ghost use Rattle.register_run.specs.Headline.{IsSourceEnd};
 ghost use Rattle.register_run.specs.Histories.{IsMachineWithTable};

@@ -5,7 +5,7 @@ ghost use Rattle.std.specs.Prelude.{IfSome, length, map, replicate, true, vec_ca
 ghost use Rattle.std.proofs.Props.{props};
 ghost use Rattle.lane_rings.specs.Lane.{sender_lane, sent};
 ghost use Rattle.register_records.specs.Views.{format_of};
-ghost use Rattle.register_records.specs.declared.sources.Cause.TheVariants as cause;
+ghost use Rattle.register_records.specs.declared.ends.Cause.TheVariants as cause;
 ghost use Rattle.register_run.specs.Stripes.{AnyTook, IsReaderOf, feeding_lane, start_fault_cause, stripe_setup};
 ghost use Rattle.register_run.specs.Histories.{Carries};
 ghost use Rattle.register_run.specs.JoinedThreads.{HasPassed, HasStarted, IsReading};

@@ -7,7 +7,7 @@ ghost use Rattle.std.proofs.Props.{props};
 ghost use Rattle.register_records.specs.Entries.{record_limit};
 ghost use Rattle.register_records.specs.Tables.{refusal_notes};
 ghost use Rattle.register_records.specs.Views.{row_seen, output_failed_in};
-ghost use Rattle.register_records.specs.declared.sources.Cause.TheVariants as cause;
+ghost use Rattle.register_records.specs.declared.ends.Cause.TheVariants as cause;
 ghost use Rattle.register_run.specs.Courses.{fault_of, is_of_table, output_failed};
 
 use crate::ended_sources::{EndedSource, Met, end_of_source};

@@ -5,7 +5,7 @@ use Rattle.std.proofs.Props.{props}
 use Rattle.std.proofs.Math.Logic.{∥∥₁_elim, ∥∥₁_prop}
 use Rattle.register_records.specs.Sources.{IfBroken, IfWhole}
 use Rattle.register_records.specs.Views.{format_of, layout_of}
-use Rattle.register_records.specs.declared.sources.Cause.{Cause}
+use Rattle.register_records.specs.declared.ends.Cause.{Cause}
 use Rattle.register_run.specs.Courses.{IsLowest, IsMet, fault_of}
 use Rattle.register_run.specs.declared.ended_sources.Met.{Met}
 use Rattle.register_run.specs.Headline.{IsSourceEnd}

@@ -156,23 +156,6 @@ jiff_place d = omega (arith, signed_arith, month_before d.year d.month d.month_i
 pub jiff_range : (d : Date) → IsDayNumber (day_number_of gregorian_rules d.year d.month d.day)
 jiff_range d = omega (arith, signed_arith, jiff_day d, epoch_day_range d)
 
--- jiff's date 0001-01-01
-pub first_date : (d : Date) → d.year ≡ pos 1 → pos d.month ≡ pos 1 → pos d.day ≡ pos 1 → epoch_day d ≡ negsuc 719_161
-first_date d y m k =
-    let month : d.month ≡ 1 = omega (arith, signed_arith) in
-    let day : d.day ≡ 1 = omega (arith, signed_arith) in
-    let one : day_number_of gregorian_rules d.year d.month d.day ≡ pos 1 =
-    rw (y, month, day) (omega (arith, signed_arith, gregorian_start (pos 1) tt)) in
-    omega (arith, signed_arith, jiff_day d, one)
-
-pub can_reach : (first : Date) (n step : ℤ) → epoch_day first ≡ negsuc 719_161 → step ≡ n -ℤ pos 1 → IsDayNumber n
-    → IsEpochDay (epoch_day first +ℤ step)
-can_reach first n step e s h = omega (arith, signed_arith, e, s, h)
-
-pub reached : (first d : Date) (n step : ℤ) → epoch_day first ≡ negsuc 719_161 → step ≡ n -ℤ pos 1
-    → epoch_day d ≡ epoch_day first +ℤ step → day_number_of gregorian_rules d.year d.month d.day ≡ n
-reached first d n step e s h = omega (arith, signed_arith, e, s, h, jiff_day d)
-
 -- each date of jiff is one of the rules
 pub jiff_date_valid : (d : Date) → IsDateOf gregorian_rules d.year d.month d.day
 jiff_date_valid d =

@@ -1,15 +1,21 @@
 -- Julian years in closed form.
-use Rattle.std.proofs.Common.{◌≡◌, zero, suc, refl, ap, ◌∙◌, arith, ℤ, pos, negsuc, neg_ℤ, ◌+ℤ◌, ◌-ℤ◌, ◌*ℤ◌, ◌≤ℤ◌, ◌<ℤ◌}
+use Rattle.std.proofs.Common.{◌≡◌, ◌==◌, zero, suc, refl, ap, ◌∙◌, arith, ℤ, pos, negsuc, neg_ℤ, ◌+ℤ◌, ◌-ℤ◌, ◌*ℤ◌, ◌≤ℤ◌, ◌<ℤ◌}
 use Rattle.std.proofs.lemmas.Bool.Decides.{nat_tests}
 use Rattle.std.specs.Int.{int_div_euclid}
 use Rattle.day_numbers.specs.Dates.{IsBetween}
 use Rattle.day_numbers.specs.Rules.{without_zero, HasYear, year_length, year_start}
 use Rattle.day_numbers.proofs.RulesLemmas.{next_year, start_is}
 use Rattle.day_numbers.proofs.SignedArithmeticLemmas.{signed_arith}
-use Rattle.solar_calendars.specs.Julian.{julian_rules, years_before}
+use Rattle.solar_calendars.specs.Julian.{julian_rules, years_before, is_julian_leap}
+use Rattle.solar_calendars.specs.Remainder.{remainder}
 
 abbrev pub closed : ℤ → ℤ
 closed y = pos 365 *ℤ years_before y +ℤ int_div_euclid (years_before y) (pos 4) -ℤ pos 1
+
+-- every fourth year is a leap year, the first of them with three years before it
+pub leap_by_years : (y : ℤ) → (remainder (years_before y) 4 == 3) ≡ is_julian_leap y
+leap_by_years (pos n) = grind (arith, nat_tests, signed_arith)
+leap_by_years (negsuc n) = refl
 
 julian_next : (y : ℤ) → HasYear without_zero y
     → closed (next_year without_zero y) ≡ closed y +ℤ pos (year_length julian_rules y)

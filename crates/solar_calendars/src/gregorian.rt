@@ -11,7 +11,6 @@ ghost use Rattle.solar_calendars.specs.Gregorian.{gregorian_rules, is_gregorian_
 use crate::twelve_months::twelve_months;
 use day_numbers::rules::{RuledCalendar, Year, day_by_rules};
 use day_numbers::{ArithmeticCalendar, DateFault, Day, Ymd};
-use jiff::ToSpan;
 use jiff::civil::Date;
 
 /// The proleptic Gregorian calendar (Reingold and Dershowitz, *Calendrical Calculations*, "The
@@ -75,9 +74,9 @@ fn jiff_date_on(day: i64) -> Date
     requires { IsDayNumber day }
     ensures { day_number_of gregorian_rules result.year result.month result.day ≡ day }
 {
-    jiff::civil::date(1, 1, 1)
-        .checked_add((day - 1).days())
-        .unwrap()
+    // It counts days from 1 January 1970.
+    let date = jiff_core::civil::Date::from_unix_epoch_day(day - 719_163).unwrap();
+    Date::from_plain(date)
 }
 
 /// The year that the day with this fixed day number lies in, and how many days of the year come before it.

@@ -19,14 +19,11 @@ use day_numbers::rules::{RuledCalendar, Year};
 pub struct Julian;
 
 /// Whether the year is a leap year, of 366 days.
+#[tactic(auto, using(crate::proofs::JulianLemmas::leap_by_years))]
 pub fn is_leap(year: i32) -> bool
     ensures { result ≡ is_julian_leap year }
 {
-    if year < 0 {
-        year.rem_euclid(4) == 3
-    } else {
-        year % 4 == 0
-    }
+    years_before(year).rem_euclid(4) == 3
 }
 
 /// How many years there are from year 1 to the year before this one; less than 0 where the year is

@@ -1,24 +1,18 @@
-use Rattle.std.proofs.Common.{◌∙◌, arith, pos, to_z-of_z, FitsSigned, w64, ◌-ℤ◌, refl}
-use Rattle.jiff.proofs.SpanFacts.{date_add-days, can_add-days}
+use Rattle.std.proofs.Common.{arith, pos, ◌-ℤ◌, to_z-of_z, FitsSigned, w64}
 use Rattle.day_numbers.proofs.SignedArithmeticLemmas.{signed_arith}
-use Rattle.solar_calendars.proofs.GregorianLemmas.{first_date, can_reach, reached}
+use Rattle.solar_calendars.proofs.GregorianLemmas.{jiff_day}
 use Rattle.solar_calendars.proofs.gregorian.jiff_date_on.Goals as goal
 
-pub unwrap-requires : goal.unwrap-requires
-unwrap-requires c =
+pub unwrap-date-requires : goal.unwrap-date-requires
+unwrap-date-requires c =
     let n : FitsSigned w64 c.args.day = c.ranges.day in
-    let s : FitsSigned w64 (c.args.day -ℤ pos 1) = omega (arith, signed_arith) in
-    let only = simp to_z-of_z at c.days.ensures in
-    let first = first_date c.date.result c.date.ensures.0 c.date.ensures.1 c.date.ensures.2 in
-    let can = can_add-days c.date.result (c.args.day -ℤ pos 1) c.days.result only in
-    c.checked_add.ensures.succeeds.1 (can.1 (can_reach c.date.result c.args.day _ first refl c.requires))
+    let since : FitsSigned w64 (c.args.day -ℤ pos 719_163) = omega (arith, signed_arith) in
+    let succeeds = simp to_z-of_z at c.from_unix_epoch_day.ensures.succeeds in
+    succeeds.1 (omega (arith, signed_arith, c.requires))
 
 pub returns : goal.returns
 returns c =
     let n : FitsSigned w64 c.args.day = c.ranges.day in
-    let s : FitsSigned w64 (c.args.day -ℤ pos 1) = omega (arith, signed_arith) in
-    let only = simp to_z-of_z at c.days.ensures in
-    let first = first_date c.date.result c.date.ensures.0 c.date.ensures.1 c.date.ensures.2 in
-    let value = rw c.unwrap.ensures at c.checked_add.ensures.value in
-    reached c.date.result c.unwrap.result c.args.day _ first refl
-    (value ∙ date_add-days c.date.result (c.args.day -ℤ pos 1) c.days.result only)
+    let since : FitsSigned w64 (c.args.day -ℤ pos 719_163) = omega (arith, signed_arith) in
+    let value = simp to_z-of_z at (rw c.unwrap-date.ensures at c.from_unix_epoch_day.ensures.value) in
+    rw c.from_plain.ensures (omega (arith, signed_arith, jiff_day c.unwrap-date.result, value))

@@ -45,7 +45,7 @@ use Rattle.date_texts.proofs.CivilReadingLemmas.{canonical_civil_is, canonical_w
 use Rattle.date_texts.proofs.LongReadingLemmas.{canonical_long_is}
 use Rattle.date_texts.proofs.RomanReadingLemmas.{roman_read, roman_take, canonical_roman_is, second_sixth_is}
 
--- ---- the reader's answer is what the grammar says
+-- ---- what the reader returns is what the grammar says
 civil_said : (grammar : Grammar) (text : List ℕ) (z : ℤ) (m d : ℕ) → IsCivilText grammar text z m d
     → civil_at grammar text ≡ Some (z, m, d)
 civil_said grammar text z m d h = civil_take grammar text z m d (civil_parts grammar text z m d h)
@@ -176,7 +176,7 @@ grammar_of_civil RomanCalendar h = absurd (h.1 refl)
 grammar_of_civil Iso h = inr refl
 grammar_of_civil _ h = inl refl
 
--- where no value is the answer, and only there, the answer is the refusal
+-- the refusal is returned exactly where there is no value
 pub refused_where_none : {A F : Type 0} (o : Option A) (refusal : F) (P : A → Type 0) → ((x : A) → (o ≡ Some x) ↔ P x)
     → (ok_or o refusal ≡ Err refusal) ↔ ((x : A) → ¬ (P x))
 refused_where_none None refusal P h = (λ e x p. none_some ((h x).1 p), λ never. refl)

@@ -38,7 +38,7 @@ apart ts h i j d lt le =
       | inr other ↦ other.0
     ])
 
--- targets of which none is named twice are no more than there are targets
+-- a list that names no target twice is no longer than the list of all targets
 pub few : FewTargets
 few ts h =
     let long = length-map ts rank_of in

@@ -65,7 +65,7 @@ small_letters t =
     (bytes_eq-Decides (str_to_ascii_lowercase (target_name t)) (target_name t)).0
     (all_pass (has_name (target_name t)) in_small_letters t all_targets (finds_own t) refl)
 
--- what the comparison of a name answers
+-- what the comparison of a name returns
 same_test : (a b : Bool) (P Q : Type 0) → (IsTrue a ↔ P) → (b ≡ true) ↔ Q → (P → Q) → (Q → P) → a ≡ b
 same_test true true P Q h g i j = refl
 same_test true false P Q h g i j = sym (g.1 (i (h.0 refl)))

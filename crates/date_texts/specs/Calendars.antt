@@ -19,14 +19,14 @@ use Rattle.date_texts.specs.declared.grammar.Grammar.{Grammar}
 use Rattle.date_texts.specs.declared.grammar.Grammar.TheVariants as grammars
 use Rattle.date_texts.specs.declared.target.Target.TheVariants.{Date as DateTarget, Haab, Tzolkin}
 
--- how a calendar tells days: by rules for its years and months, by years of weeks, by a count in places, or by names
+-- how a calendar counts days: by rules for its years and months, by years of weeks, by a count in places, or by names
 pub data Reckoning : Type 0 where
   by_rules : Rules → Reckoning
   by_weeks : Reckoning
   by_places : Reckoning
   by_names : Reckoning
 
--- what a calendar is known by: its name, and how it tells days
+-- what a calendar is known by: its name, and how it counts days
 abbrev pub known_by : Calendar → List ℕ × Reckoning
 known_by Gregorian = (codes "gregorian", by_rules gregorian_rules)
 known_by Iso = (codes "iso", by_weeks)

@@ -40,7 +40,7 @@ CellsArePlain = (target : Target) (n : ℤ) (text : List ℕ) → IsCell target 
 abbrev pub CellsAreShort : Type 0
 CellsAreShort = (target : Target) (n : ℤ) (text : List ℕ) → IsCell target n text → length text ≤ 16
 
--- targets of which none stands at two places are no more than there are targets
+-- a list that names no target twice is no longer than the list of all targets
 abbrev pub FewTargets : Type 0
 FewTargets =
     (targets : List Target)

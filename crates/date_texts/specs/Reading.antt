@@ -45,7 +45,7 @@ abbrev pub all_read : {A : Type 0} → List ℕ → A → Option A
 all_read [] x = Some x
 all_read (c ∷ cs) x = None
 
--- what a reader answered, without where the rest lies in memory
+-- what a reader returned, without where the rest lies in memory
 abbrev pub seen_number : Option (ℕ × Bor (List ℕ)) → Option (ℕ × List ℕ)
 seen_number (Some x) = Some (x.0, x.1.now)
 seen_number None = None

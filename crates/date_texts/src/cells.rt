@@ -6,6 +6,7 @@ ghost use Rattle.date_texts.specs.Calendars.{IsCivil, IsDateBy, day_number_by, f
 ghost use Rattle.date_texts.specs.declared.cells.TheConstants.{MAX_CELL};
 ghost use Rattle.date_texts.specs.Cells.{IsDateCell, IsCell, numbered_name};
 ghost use Rattle.date_texts.specs.declared.calendar.Calendar.TheVariants.{Longcount, Roman};
+ghost use Rattle.date_texts.specs.declared.target.Target.TheVariants.{Haab, Tzolkin};
 
 use crate::buffer::{MAX_TEXT, put_byte, put_short, put_text, text_of};
 use crate::calendar::{Calendar, by_calendar};
@@ -22,8 +23,8 @@ use solar_calendars::roman_on;
 /// The most bytes of a cell: those of a long count of four digits and four times two, with its dots.
 pub const MAX_CELL: usize = 16;
 
-/// Writes the one date that a calendar of civil or week dates has on a day to the front of a cell's room, and says how
-/// many bytes it has: none before the calendar's first day. `by` finds the calendar's dates.
+/// Writes the one date that a calendar of civil or week dates has on a day to the front of a cell's room, and returns
+/// how many bytes it has: none before the calendar's first day. `by` finds the calendar's dates.
 // A function for each calendar: it finds the date and writes it without a call between.
 #[inline(never)]
 fn write_civil<C: ArithmeticCalendar>(buffer: &mut [u8], by: &C, calendar: Calendar, day: Day) -> u8
@@ -41,8 +42,8 @@ fn write_civil<C: ArithmeticCalendar>(buffer: &mut [u8], by: &C, calendar: Calen
     }
 }
 
-/// Writes the long count of a day to the front of a cell's room, and says how many bytes it has: none before the first
-/// long count.
+/// Writes the long count of a day to the front of a cell's room, and returns how many bytes it has: none before the
+/// first long count.
 #[inline(never)]
 fn write_long_count(buffer: &mut [u8], day: Day) -> u8
     requires { MAX_CELL ≤ length buffer.old }
@@ -56,7 +57,7 @@ fn write_long_count(buffer: &mut [u8], day: Day) -> u8
     }
 }
 
-/// Writes the Roman date of a day to the front of a cell's room, and says how many bytes it has.
+/// Writes the Roman date of a day to the front of a cell's room, and returns how many bytes it has.
 #[inline(never)]
 fn write_roman(buffer: &mut [u8], day: Day) -> u8
     requires { MAX_CELL ≤ length buffer.old }
@@ -66,7 +67,8 @@ fn write_roman(buffer: &mut [u8], day: Day) -> u8
     put_roman(buffer, roman_on(day)) as u8
 }
 
-/// Writes the cell of a day in the column of a calendar to the front of a cell's room, and says how many bytes it has.
+/// Writes the cell of a day in the column of a calendar to the front of a cell's room, and returns how many bytes it
+/// has.
 #[inline(always)]
 fn write_date_cell(buffer: &mut [u8], calendar: Calendar, day: Day) -> u8
     requires { MAX_CELL ≤ length buffer.old }
@@ -79,9 +81,9 @@ fn write_date_cell(buffer: &mut [u8], calendar: Calendar, day: Day) -> u8
         Roman => write_roman(buffer, day))
 }
 
-/// Writes a number without leading zeros, one space and a name to the front of a cell's room, and says how many bytes
-/// they have.
-#[inline(never)]
+/// Writes a number without leading zeros, one space and a name to the front of a cell's room, and returns how many
+/// bytes they have.
+#[inline(always)]
 fn write_numbered(buffer: &mut [u8], number: u8, name: &str) -> u8
     requires room { MAX_CELL ≤ length buffer.old }
     requires small { number ≤ 99 }
@@ -94,7 +96,30 @@ fn write_numbered(buffer: &mut [u8], number: u8, name: &str) -> u8
     put_text(buffer, after, name) as u8
 }
 
-/// Writes the [`cell`] of a day to the front of a cell's room, and says how many bytes it has.
+/// Writes the haab of a day to the front of a cell's room, and returns how many bytes it has.
+// A function of its own, as that of the tzolkin, so that a row without the column does not find the name.
+#[inline(never)]
+fn write_haab(buffer: &mut [u8], day: Day) -> u8
+    requires { MAX_CELL ≤ length buffer.old }
+    ensures few { result ≤ MAX_CELL }
+    ensures value { IsCell Haab day.number (take result buffer.new) }
+{
+    let haab = haab_on(day);
+    write_numbered(buffer, haab.day(), haab.month_name())
+}
+
+/// Writes the tzolkin of a day to the front of a cell's room, and returns how many bytes it has.
+#[inline(never)]
+fn write_tzolkin(buffer: &mut [u8], day: Day) -> u8
+    requires { MAX_CELL ≤ length buffer.old }
+    ensures few { result ≤ MAX_CELL }
+    ensures value { IsCell Tzolkin day.number (take result buffer.new) }
+{
+    let tzolkin = tzolkin_on(day);
+    write_numbered(buffer, tzolkin.number(), tzolkin.name())
+}
+
+/// Writes the [`cell`] of a day to the front of a cell's room, and returns how many bytes it has.
 // Inlined, so that a loop over targets jumps to what writes each cell.
 #[inline(always)]
 fn put_cell(buffer: &mut [u8], target: Target, day: Day) -> u8
@@ -104,18 +129,12 @@ fn put_cell(buffer: &mut [u8], target: Target, day: Day) -> u8
 {
     match target {
         Target::Date(calendar) => write_date_cell(buffer, calendar, day),
-        Target::Haab => {
-            let haab = haab_on(day);
-            write_numbered(buffer, haab.day(), haab.month_name())
-        }
-        Target::Tzolkin => {
-            let tzolkin = tzolkin_on(day);
-            write_numbered(buffer, tzolkin.number(), tzolkin.name())
-        }
+        Target::Haab => write_haab(buffer, day),
+        Target::Tzolkin => write_tzolkin(buffer, day),
     }
 }
 
-/// Writes the [`cell`] of a day to the front of a cell's room, and says how many bytes it has. What lies behind them
+/// Writes the [`cell`] of a day to the front of a cell's room, and returns how many bytes it has. What lies behind them
 /// is no part of it.
 pub fn write_cell(buffer: &mut [u8; MAX_CELL], target: Target, day: Day) -> u8
     ensures few { result ≤ MAX_CELL }

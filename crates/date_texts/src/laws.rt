@@ -71,7 +71,7 @@ pub fn cells_are_short()
     tzolkin_numbers_in_range();
 }
 
-/// Targets of which none stands at two places are [`MAX_TARGETS`](crate::MAX_TARGETS) at most.
+/// A list that names no target twice has [`MAX_TARGETS`](crate::MAX_TARGETS) targets at most.
 pub fn few_targets()
     ensures { FewTargets }
 {}

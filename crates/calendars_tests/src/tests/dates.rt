@@ -54,7 +54,7 @@ static GREGORIAN: &str = "\
 1 1 100 never
 ";
 
-/// Those of the year's end, of Rome and of the reform are dates that history tells, and some are the epochs of
+/// Those of the year's end, of Rome and of the reform are dates that history records, and some are the epochs of
 /// other calendars.
 static JULIAN: &str = "\
 1 1 1 -1

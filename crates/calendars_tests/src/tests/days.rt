@@ -17,7 +17,7 @@ static WEEKDAYS: &str = "\
 3652060 never
 ";
 
-/// Whether the number on a line is that of a day, which tells it, and whose day of the week is the one there.
+/// Whether the number on a line makes a day that has this number and the day of the week on the line.
 fn is_right(line: &str) -> bool {
     let [Some(number), ..] = numbers(line) else {
         return false;

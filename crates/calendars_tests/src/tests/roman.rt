@@ -30,7 +30,7 @@ fn has_answer(
     roman_day_of(&date) == Ok(day) && roman_on(day) == date
 }
 
-/// Days that history tells by their Roman names, from Cicero's birth to the fall of Constantinople and the last day
+/// Days that history knows by their Roman names, from Cicero's birth to the fall of Constantinople and the last day
 /// of the Julian calendar in Rome. Before the year 8 the Julian calendar is carried back.
 static HISTORY: &str = "\
 Nones -106 1 3 -38716

@@ -24,5 +24,5 @@ pub mod ReadingState
 pub mod Conversions
 pub mod Retrying
 pub mod ShortLists
-pub mod TargetNumbers
+pub mod TargetPlaces
 pub mod Faults

@@ -67,7 +67,7 @@ fn write_field(room: &mut [u8], target: Target, outcome: Result<Day, Refusal>) -
 }
 
 /// Whether two outcomes are one.
-fn is_same(outcome: Result<Day, Refusal>, other: Result<Day, Refusal>) -> bool
+fn is_same_outcome(outcome: Result<Day, Refusal>, other: Result<Day, Refusal>) -> bool
     ensures { result ≡ true → outcome_seen outcome ≡ outcome_seen other }
 {
     match (outcome, other) {
@@ -239,8 +239,10 @@ impl RowTail {
             (cells_of (targets_of setup.now) next self.new) }
     {
         one_cell();
-        let same_targets = targets.is_same(&setup.target_list());
-        if same_targets && is_same(outcome, next) && self.delimiter == setup.delimiter() {
+        if is_same_outcome(outcome, next)
+            && self.delimiter == setup.delimiter()
+            && targets.is_same(&setup.target_list())
+        {
             return;
         }
         self.set(setup.targets(), next, setup.delimiter());

@@ -1,20 +1,20 @@
-//! The targets of a setup and of a row, with one number that stands for them: two lists are compared by it.
+//! The targets of a setup and of a row, with the place of each among all targets: two lists are compared by these.
 
 ghost use Rattle.std.specs.Prelude.{◌≡◌, ◌≤◌, ◌↔◌, length, true};
 ghost use Rattle.date_texts.specs.declared.target.TheConstants.{MAX_TARGETS};
 ghost use Rattle.register_records.specs.ShortLists.{items_in};
-ghost use Rattle.register_records.specs.TargetNumbers.{number_of, place_of};
+ghost use Rattle.register_records.specs.TargetPlaces.{place_of, places_in};
 
 use crate::short_lists::ShortList;
 use date_texts::laws::default_targets;
 use date_texts::{MAX_TARGETS, Target};
 
-/// Targets in order, and their number.
+/// Targets in order, and the place of each, with 0 behind the last.
 #[derive(Clone, Copy)]
 pub(crate) struct TargetList {
     items: ShortList<Target>,
-    number: u64,
-    ghost numbered: { number ≡ number_of (items_in items) },
+    places: [u8; MAX_TARGETS],
+    ghost placed: { places ≡ places_in MAX_TARGETS (items_in items) },
 }
 
 impl TargetList {
@@ -24,13 +24,12 @@ impl TargetList {
         ensures { items_in result.items ≡ targets.now }
     {
         let mut items = ShortList::new(Target::Haab);
-        for target in targets {
-            items.push(*target);
+        let mut places = [0; MAX_TARGETS];
+        'targets: for i in 0..targets.len() {
+            items.push(targets[i]);
+            places[i] = place(targets[i]);
         }
-        TargetList {
-            items,
-            number: number(targets),
-        }
+        TargetList { items, places }
     }
 
     /// The targets.
@@ -45,27 +44,13 @@ impl TargetList {
     pub fn is_same(&self, other: &TargetList) -> bool
         ensures { (result ≡ true) ↔ (items_in self.now.items ≡ items_in other.now.items) }
     {
-        self.number == other.number
+        self.places == other.places
     }
-}
-
-/// The number that stands for these targets: their places are its digits to the base 16, the first target's the last
-/// digit.
-fn number(targets: &[Target]) -> u64
-    requires { length targets.now ≤ MAX_TARGETS }
-    ensures { result ≡ number_of targets.now }
-{
-    let mut number = 0;
-    'places: for i in 0..targets.len() {
-        number = 16 * number + place(targets[targets.len() - 1 - i]) as u64;
-    }
-    number
 }
 
 /// The place of a target among all targets, from 1.
 fn place(target: Target) -> u8
-    ensures value { result ≡ place_of target }
-    ensures few { result ≤ MAX_TARGETS }
+    ensures { result ≡ place_of target }
 {
     default_targets();
     'places: for i in 0..MAX_TARGETS {

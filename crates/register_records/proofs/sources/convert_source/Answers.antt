@@ -7,6 +7,9 @@ returns-in-Err-open-clause-part g c other =
     let memory = only_memory _ _ c.from-in-Err-open.ensures other c.in-Err-open.ensures.never in
     rw (c.in-Err-open.ensures.memory memory) (nothing _ _ _ _ (appends-none _))
 
+pub returns-in-Err-clause-part : goal.returns-in-Err-clause-part
+returns-in-Err-clause-part g c other = nothing _ _ _ _ (appends-none _)
+
 pub returns-clause-whole : goal.returns-clause-whole
 returns-clause-whole g c =
     rw c.in-Ok.ensures.text.0 at (c.write_rows.ensures.whole _ c.in-Ok-open.ensures.ok)

@@ -3,8 +3,8 @@ use Rattle.std.proofs.lemmas.Bool.{cases_lt}
 use Rattle.std.proofs.lemmas.Grind.{common_steps}
 use Rattle.date_texts.specs.Calendars.{all_targets}
 use Rattle.date_texts.specs.declared.target.Target.TheVariants.{Haab}
-use Rattle.register_records.specs.TargetNumbers.{have_one_name}
-use Rattle.register_records.proofs.TargetNumberLemmas.{stands_first}
+use Rattle.register_records.specs.TargetPlaces.{have_one_name}
+use Rattle.register_records.proofs.TargetPlaceLemmas.{stands_first}
 use Rattle.register_records.proofs.target_lists.place.Goals as goal
 
 pub places-preserved : goal.places-preserved

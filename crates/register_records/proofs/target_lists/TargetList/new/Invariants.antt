@@ -1,6 +1,12 @@
 use Rattle.std.proofs.Common.{◌≡◌, take}
+use Rattle.date_texts.specs.declared.target.TheConstants.{MAX_TARGETS}
 use Rattle.register_records.specs.ShortLists.{items_in}
+use Rattle.register_records.specs.TargetPlaces.{places_in}
 use Rattle.register_records.proofs.target_lists.TargetList.new.Given as goal
 
-abbrev pub invariant-loop-target : goal.invariant-loop-target
-invariant-loop-target l = items_in l.items ≡ take l.target-index l.targets
+abbrev pub invariant-targets : goal.invariant-targets
+invariant-targets l =
+    record {
+      items : items_in l.items ≡ take l.i l.targets;
+      places : l.places ≡ places_in MAX_TARGETS (take l.i l.targets);
+    }

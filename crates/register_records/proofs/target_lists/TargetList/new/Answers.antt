@@ -1,0 +1,16 @@
+use Rattle.std.proofs.Common.{◌∙◌, add-one, sym}
+use Rattle.std.proofs.lemmas.List.{take_more}
+use Rattle.date_texts.specs.declared.target.TheConstants.{MAX_TARGETS}
+use Rattle.register_records.proofs.TargetPlaceLemmas.{more_places}
+use Rattle.register_records.proofs.target_lists.TargetList.new.Goals as goal
+
+pub targets-preserved : goal.targets-preserved
+targets-preserved c =
+    let inv = c.targets.invariant in
+    let i = c.targets.i in
+    let targets = c.args.targets.now in
+    record {
+      items = (rw inv.items at c.push.ensures) ∙ sym (take_more targets i _ c.targets-test.true);
+      places = rw (inv.places, c.place.ensures, add-one) (more_places MAX_TARGETS targets i _ c.targets-test.true
+          c.requires);
+    }

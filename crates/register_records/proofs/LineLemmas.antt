@@ -10,6 +10,7 @@ use Rattle.std.proofs.lemmas.Bool.Decides.{nat_tests}
 use Rattle.std.proofs.lemmas.Fmt.{decimal_by_steps}
 use Rattle.std.proofs.lemmas.List.{flat_map_more, map-append, take_more, take_more_set, take-append-le}
 use Rattle.std.proofs.lemmas.List.{length-take-le}
+use Rattle.std.proofs.lemmas.Simd.{map-map}
 use Rattle.std.proofs.Math.Seq.{take-append-add}
 use borrow.Rule.Slice.PartMut.{put_mid}
 use Rattle.std.proofs.lemmas.List.Folds.{list_any-append}
@@ -23,15 +24,17 @@ use Rattle.register_records.specs.SetupRules.{is_delimiter}
 use Rattle.date_texts.specs.Cells.{is_plain}
 use Rattle.date_texts.specs.Calendars.{target_name}
 use Rattle.date_texts.specs.declared.target.Target.{Target}
-use Rattle.register_records.specs.Columns.{Column, cell_columns}
-use Rattle.register_records.specs.TableColumns.{answered, column_name, tail_field, tail_order, tail_texts}
-use Rattle.register_records.specs.TableColumns.{column_names, entry_field, entry_order, heading, row_fields}
+use Rattle.register_records.specs.Columns.{Column, cell_columns, columns, entry_column, entry_order, tail_column}
+use Rattle.register_records.specs.Columns.{tail_order}
+use Rattle.register_records.specs.TableColumns.{column_texts, entry_field, entry_name, heading, laid_out}
+use Rattle.register_records.specs.TableColumns.{row_fields, row_with, tail_names, tail_texts}
 use Rattle.register_records.specs.Outcomes.{TableRow}
 use Rattle.register_records.specs.declared.setups.Form.{Form}
 use Rattle.register_records.specs.declared.setups.Form.TheVariants.{Plain, Sealed}
-use Rattle.register_records.specs.declared.table_columns.TableColumn.{TableColumn}
-use Rattle.register_records.specs.declared.table_columns.TableColumn.TheVariants.{Calendar, Cells, Date, DayNumber, Id}
-use Rattle.register_records.specs.declared.table_columns.TableColumn.TheVariants.{Note, Number, Refusal, Weekday}
+use Rattle.register_records.specs.declared.table_columns.EntryColumn.{EntryColumn}
+use Rattle.register_records.specs.declared.table_columns.EntryColumn.TheVariants.{Calendar, Date, Id, Note, Number}
+use Rattle.register_records.specs.declared.table_columns.TailColumn.{TailColumn}
+use Rattle.register_records.specs.declared.table_columns.TailColumn.TheVariants.{Cells}
 use Rattle.register_records.specs.BareTexts.{has_special}
 use Rattle.register_records.proofs.BareLemmas.{unquoted}
 
@@ -76,14 +79,19 @@ one_item f d before first xs i e field new lt is n =
     (rw (take_more xs i e lt, map-append f (take i xs) (get_or xs i e ∷ []), is) (append_assoc first _ _))
 
 -- those of one more column
-pub one_column : (f : TableColumn → List (List ℕ)) (d : ℕ) (before : List ℕ) (first : List (List ℕ))
-    (columns : List TableColumn) (i : ℕ) (e : TableColumn) (new : List ℕ) → i < length columns
+pub one_more_column : {X : Type 0} (f : TailColumn → List X) (first : List X) (columns : List TailColumn) (i : ℕ)
+    (e : TailColumn) → i < length columns
+    → (first ++ flat_map f (take i columns)) ++ f (get_or columns i e) ≡ first ++ flat_map f (take (i + 1) columns)
+one_more_column f first columns i e lt =
+    flat_map_more f first (take i columns) (get_or columns i e)
+    ∙ ap (λ (taken : List TailColumn). first ++ flat_map f taken) (sym (take_more columns i e lt))
+
+pub one_column : (f : TailColumn → List (List ℕ)) (d : ℕ) (before : List ℕ) (first : List (List ℕ))
+    (columns : List TailColumn) (i : ℕ) (e : TailColumn) (new : List ℕ) → i < length columns
     → new ≡ before ++ body d ((first ++ flat_map f (take i columns)) ++ f (get_or columns i e))
     → new ≡ before ++ body d (first ++ flat_map f (take (i + 1) columns))
 one_column f d before first columns i e new lt is =
-    is ∙ ap (λ (fields : List (List ℕ)). before ++ body d fields)
-    (flat_map_more f first (take i columns) (get_or columns i e)
-    ∙ ap (λ (taken : List TableColumn). first ++ flat_map f taken) (sym (take_more columns i e lt)))
+    is ∙ ap (λ (fields : List (List ℕ)). before ++ body d fields) (one_more_column f first columns i e lt)
 
 -- more fields
 pub more_fields_text : (d : ℕ) (fields more : List (List ℕ))
@@ -148,12 +156,24 @@ plain_bytes d h (c ∷ text) p =
     let both = and_parts (is_plain c) (list_all is_plain text) p in
     rw (plain_cell_byte d c h both.0, plain_bytes d h text both.1) refl
 
+-- a map of all lists, and all lists of equal functions
+map_of_all : {X Y Z : Type 0} (f : Y → Z) (g : X → List Y) (xs : List X)
+    → map f (flat_map g xs) ≡ flat_map (λ x. map f (g x)) xs
+map_of_all f g [] = refl
+map_of_all f g (x ∷ xs) =
+    map-append f (g x) (flat_map g xs) ∙ ap (λ ys. map f (g x) ++ ys) (map_of_all f g xs)
+
+same_of_all : {X Y : Type 0} (f g : X → List Y) → ((x : X) → f x ≡ g x) → (xs : List X)
+    → flat_map f xs ≡ flat_map g xs
+same_of_all f g same [] = refl
+same_of_all f g same (x ∷ xs) = cc (same x, same_of_all f g same xs)
+
 -- the columns of an entry: the first has its number, the others its texts
-pub first_number : (form : Form) (e : TableColumn) → get_or (entry_order form) 0 e ≡ Number
+pub first_number : (form : Form) (e : EntryColumn) → get_or (entry_order form) 0 e ≡ Number
 first_number Plain e = refl
 first_number Sealed e = refl
 
-pub first_field : (form : Form) (f : TableColumn → List ℕ) (d e : ℕ) (before field bytes : List ℕ) → e ≡ d
+pub first_field : (form : Form) (f : EntryColumn → List ℕ) (d e : ℕ) (before field bytes : List ℕ) → e ≡ d
     → needs_quotes (writing d) field ≡ false → field ≡ f Number → bytes ≡ before ++ field
     → bytes ≡ before ++ body e (map f (take 1 (entry_order form)))
 first_field Plain f d e before field bytes same h is b = rw (same, ← is) (only_field d before field bytes h b)
@@ -165,18 +185,14 @@ room_behind Plain = omega arith
 room_behind Sealed = omega arith
 
 pub plain_column : (d : ℕ) → is_delimiter d ≡ true → (row : TableRow) → row.number < 2 ^ 64
-    → has_special row.body ≡ false → (column : TableColumn) → needs_quotes (writing d) (entry_field row column) ≡ false
+    → has_special row.body ≡ false → (column : EntryColumn) → needs_quotes (writing d) (entry_field row column) ≡ false
 plain_column d h row lt bare Number = plain_decimal d h row.number lt
 plain_column d h row lt bare Id = (unquoted d h row.body bare).0
 plain_column d h row lt bare Calendar = (unquoted d h row.body bare).1
 plain_column d h row lt bare Date = (unquoted d h row.body bare).2
 plain_column d h row lt bare Note = (unquoted d h row.body bare).3
-plain_column d h row lt bare DayNumber = refl
-plain_column d h row lt bare Weekday = refl
-plain_column d h row lt bare Cells = refl
-plain_column d h row lt bare Refusal = refl
 
-pub some_columns : {X : Type 0} (form : Form) (f : TableColumn → X) → 1 ≤ length (map f (entry_order form))
+pub some_columns : {X : Type 0} (form : Form) (f : EntryColumn → X) → 1 ≤ length (map f (entry_order form))
 some_columns Plain f = omega arith
 some_columns Sealed f = omega arith
 
@@ -195,47 +211,44 @@ some_fields fields more some = rw (length-append fields more) (omega arith)
 pub two_of : (fields rest : List (List ℕ)) (a b : List ℕ) → 2 ≤ length (fields ++ (a ∷ b ∷ rest))
 two_of fields rest a b = rw (length-append fields (a ∷ b ∷ rest)) (omega arith)
 
--- the names of the columns of a table
-name_columns : (place : ℕ) (ts : List Target)
+-- what a function gives of the columns of a table: of those of an entry, and of those of a tail
+in_parts : {X : Type 0} (f : Column → X) (form : Form) (ts : List Target)
+    → map f (columns (laid_out form ts))
+    ≡ map (λ c. f (entry_column c)) (entry_order form) ++ flat_map (λ c. map f (tail_column ts c)) tail_order
+in_parts f form ts =
+    map-append f (map entry_column (entry_order form)) (flat_map (tail_column ts) tail_order)
+    ∙ ap (λ xs. xs ++ map f (flat_map (tail_column ts) tail_order)) (map-map f entry_column (entry_order form))
+    ∙ ap (λ xs. map (λ c. f (entry_column c)) (entry_order form) ++ xs) (map_of_all f (tail_column ts) tail_order)
+
+pub name_columns : (place : ℕ) (ts : List Target)
     → map (λ (c : Column). c.name) (cell_columns place ts) ≡ map target_name ts
 name_columns place [] = refl
 name_columns place (t ∷ ts) = ap (λ (names : List (List ℕ)). target_name t ∷ names) (name_columns (place + 1) ts)
 
-last_name : (ts : List Target) (last : Column)
-    → map (λ (c : Column). c.name) (cell_columns 0 ts ++ last ∷ []) ≡ map target_name ts ++ last.name ∷ []
-last_name ts last =
-    map-append (λ (c : Column). c.name) (cell_columns 0 ts) (last ∷ [])
-    ∙ ap (λ (names : List (List ℕ)). names ++ last.name ∷ []) (name_columns 0 ts)
-
 pub heading_names : (form : Form) (ts : List Target)
-    → heading form ts ≡ map column_name (entry_order form) ++ flat_map (column_names ts) tail_order
-heading_names Plain ts =
-    ap (λ (names : List (List ℕ)). map column_name (entry_order Plain)
-    ++ (column_name DayNumber ∷ column_name Weekday ∷ names)) (last_name ts _)
-heading_names Sealed ts =
-    ap (λ (names : List (List ℕ)). map column_name (entry_order Sealed)
-    ++ (column_name DayNumber ∷ column_name Weekday ∷ names)) (last_name ts _)
+    → heading form ts ≡ map entry_name (entry_order form) ++ flat_map (tail_names ts) tail_order
+heading_names form ts = in_parts (λ (c : Column). c.name) form ts
 
 pub two_names : (form : Form) (ts : List Target) → 2 ≤ length (heading form ts)
 two_names Plain ts = omega arith
 two_names Sealed ts = omega arith
 
 -- what stands in the columns of a tail tells nothing of the entry
-cell_fields : (row : TableRow) (place : ℕ) (ts : List Target) (last : Column) (field : List ℕ) → last.field row ≡ field
-    → last.field (answered row.outcome row.cells) ≡ field
-    → map (λ (column : Column). column.field row) (cell_columns place ts ++ last ∷ [])
-    ≡ map (λ (column : Column). column.field (answered row.outcome row.cells)) (cell_columns place ts ++ last ∷ [])
-cell_fields row place [] last field a b = ap (λ (f : List ℕ). f ∷ []) (a ∙ sym b)
-cell_fields row place (t ∷ ts) last field a b =
-    ap (λ (fields : List (List ℕ)). get_or row.cells place [] ∷ fields) (cell_fields row (place + 1) ts last field a b)
+cell_fields : (row : TableRow) (place : ℕ) (ts : List Target)
+    → map (λ (c : Column). c.field row) (cell_columns place ts)
+    ≡ map (λ (c : Column). c.field (row_with row.outcome row.cells)) (cell_columns place ts)
+cell_fields row place [] = refl
+cell_fields row place (t ∷ ts) =
+    ap (λ (fields : List (List ℕ)). get_or row.cells place [] ∷ fields) (cell_fields row (place + 1) ts)
+
+same_fields : (row : TableRow) (ts : List Target) (c : TailColumn)
+    → map (λ (column : Column). column.field row) (tail_column ts c) ≡ column_texts ts row.outcome row.cells c
+same_fields row ts Cells = cell_fields row 0 ts
+same_fields row ts c = refl
 
 pub fields_in_parts : (form : Form) (ts : List Target) (row : TableRow)
     → row_fields form ts row ≡ map (entry_field row) (entry_order form) ++ tail_texts ts row.outcome row.cells
-fields_in_parts Plain ts row =
-    ap (λ (fields : List (List ℕ)). map (entry_field row) (entry_order Plain)
-    ++ (tail_field row.outcome DayNumber ∷ tail_field row.outcome Weekday ∷ fields))
-    (cell_fields row 0 ts _ _ refl refl)
-fields_in_parts Sealed ts row =
-    ap (λ (fields : List (List ℕ)). map (entry_field row) (entry_order Sealed)
-    ++ (tail_field row.outcome DayNumber ∷ tail_field row.outcome Weekday ∷ fields))
-    (cell_fields row 0 ts _ _ refl refl)
+fields_in_parts form ts row =
+    in_parts (λ (c : Column). c.field row) form ts
+    ∙ ap (λ (fields : List (List ℕ)). map (entry_field row) (entry_order form) ++ fields)
+    (same_of_all _ (column_texts ts row.outcome row.cells) (same_fields row ts) tail_order)

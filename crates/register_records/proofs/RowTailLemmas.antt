@@ -10,7 +10,7 @@ use Rattle.std.proofs.lemmas.Bool.{or_parts}
 use Rattle.std.proofs.lemmas.Bool.Decides.{nat_tests}
 use Rattle.std.proofs.lemmas.Fmt.{length-decimal-le, length_signed_le}
 use Rattle.std.proofs.lemmas.Int.{ints}
-use Rattle.std.proofs.lemmas.List.{at_drop_more, map-append, take_all, take_at}
+use Rattle.std.proofs.lemmas.List.{at_drop_more, take_all, take_at}
 use Rattle.std.proofs.lemmas.List.Splits.{length-slice_split}
 use Rattle.std.proofs.Math.Logic.{∥∥₁_elim}
 use Rattle.std.proofs.Props.{props}
@@ -27,9 +27,8 @@ use Rattle.date_texts.specs.declared.refusal.Refusal.{Refusal}
 use Rattle.date_texts.specs.declared.refusal.Refusal.TheVariants as refused
 use Rattle.date_texts.specs.Laws.{CellsArePlain, OneCell}
 use Rattle.register_records.specs.RowTails.{cells_of, fields_of}
-use Rattle.register_records.specs.Columns.{Column, cell_columns}
-use Rattle.register_records.specs.TableColumns.{AreFields, IsCellField, tail_field, tail_order, tail_texts}
-use Rattle.register_records.specs.TableColumns.{answered}
+use Rattle.register_records.specs.Columns.{Column, cell_columns, day_order, tail_order}
+use Rattle.register_records.specs.TableColumns.{IsCellField, column_texts, row_with, tail_texts}
 use Rattle.register_records.specs.LineRoom.{columns_room, plain_room, writing}
 use Rattle.register_records.specs.Lines.{fields_behind}
 use Rattle.register_records.specs.Outcomes.{AreCells}
@@ -37,11 +36,10 @@ use Rattle.register_records.specs.Seen.{outcome_seen}
 use Rattle.register_records.specs.SetupRules.{is_delimiter}
 use Rattle.register_records.specs.declared.row_tails.RowTail.{RowTail}
 use Rattle.register_records.specs.declared.row_tails.TheConstants.{TAIL_ROOM}
-use Rattle.register_records.specs.declared.table_columns.TableColumn.{TableColumn}
-use Rattle.register_records.specs.declared.table_columns.TableColumn.TheVariants.{DayNumber, Weekday}
-use Rattle.register_records.specs.declared.table_columns.TableColumn.TheVariants.{Refusal as RefusalColumn}
+use Rattle.register_records.specs.declared.table_columns.TailColumn.{TailColumn}
+use Rattle.register_records.specs.declared.table_columns.TailColumn.TheVariants.{Cells, Refusal as RefusalColumn}
 use Rattle.register_records.proofs.EveryTableLemmas.{has_cells}
-use Rattle.register_records.proofs.LineLemmas.{more_fields_text, plain_bytes, plain_text, put_after}
+use Rattle.register_records.proofs.LineLemmas.{more_fields_text, one_more_column, plain_bytes, plain_text, put_after}
 
 -- the bytes of fields behind delimiters
 abbrev pub text : ℕ → List (List ℕ) → List ℕ
@@ -180,7 +178,7 @@ plain_field law d h (Err r) t field is = rw is refl
 -- what stands in the columns of the cells: on a day the cells, and else nothing
 day_cells : (n : ℤ) (place : ℕ) (all : List (List ℕ)) (ts : List Target) (cells : List (List ℕ))
     → drop place all ≡ cells → AreCells ts (Ok n) cells
-    → map (λ (c : Column). c.field (answered (Ok n) all)) (cell_columns place ts) ≡ cells
+    → map (λ (c : Column). c.field (row_with (Ok n) all)) (cell_columns place ts) ≡ cells
 day_cells n place all [] [] e a = refl
 day_cells n place all [] (x ∷ cells) e a = absurd a
 day_cells n place all (t ∷ ts) [] e a = absurd a
@@ -199,7 +197,7 @@ nothing_at (suc place) = refl
 
 no_cells : (r : Refusal) (place : ℕ) (ts : List Target) (fields : List (List ℕ))
     → AllZip (IsCellField (Err r)) ts fields
-    → map (λ (c : Column). c.field (answered (Err r) [])) (cell_columns place ts) ≡ fields
+    → map (λ (c : Column). c.field (row_with (Err r) [])) (cell_columns place ts) ≡ fields
 no_cells r place [] [] a = refl
 no_cells r place [] (x ∷ fields) a = absurd a
 no_cells r place (t ∷ ts) [] a = absurd a
@@ -210,7 +208,7 @@ no_cells r place (t ∷ ts) (x ∷ fields) a =
     cc (more, nothing)
 
 -- there is room for the columns that are left
-pub room_left : (columns : List TableColumn) (i : ℕ) (e : TableColumn) (old new : ℕ) → i < length columns
+pub room_left : (columns : List TailColumn) (i : ℕ) (e : TailColumn) (old new : ℕ) → i < length columns
     → new ≤ old + plain_room (get_or columns i e) → old + columns_room plain_room (drop i columns) ≤ TAIL_ROOM
     → new + columns_room plain_room (drop (i + 1) columns) ≤ TAIL_ROOM
 room_left columns i e old new lt grows room =
@@ -225,42 +223,6 @@ as_many R [] [] all = refl
 as_many R [] (y ∷ ys) all = absurd all
 as_many R (x ∷ xs) [] all = absurd all
 as_many R (x ∷ xs) (y ∷ ys) all = ap suc (as_many R xs ys all.1)
-
--- the fields of all columns of a tail: the cells stand among them
-pub record AreWhole (ts : List Target) (o : Result Day Refusal) (made fields : List (List ℕ)) : Type 0 where
-  pub cells : AreCells ts (outcome_seen o) made
-  pub written : fields ≡ tail_texts ts (outcome_seen o) made
-
-all_columns : (ts : List Target) (o : Result ℤ Refusal) (cells fields : List (List ℕ))
-    → map (λ (c : Column). c.field (answered o cells)) (cell_columns 0 ts) ≡ fields
-    → tail_field o DayNumber ∷ tail_field o Weekday ∷ (fields ++ tail_field o RefusalColumn ∷ [])
-    ≡ tail_texts ts o cells
-all_columns ts o cells fields e =
-    ap (λ (t : List (List ℕ)). tail_field o DayNumber ∷ tail_field o Weekday ∷ t)
-    (ap (λ (t : List (List ℕ)). t ++ tail_field o RefusalColumn ∷ []) (sym e)
-    ∙ sym (map-append (λ (c : Column). c.field (answered o cells)) (cell_columns 0 ts) _))
-
-pub whole_tail : (ts : List Target) (o : Result Day Refusal) (parts : List (List (List ℕ))) (tail : RowTail)
-    → AllZip (AreFields ts (outcome_seen o)) tail_order parts → fields_of tail ≡ flat_map (λ part. part) parts
-    → AreWhole ts o (cells_of ts o tail) (fields_of tail)
-whole_tail ts o [] tail all is = absurd all
-whole_tail ts o (a ∷ []) tail all is = absurd all.1
-whole_tail ts o (a ∷ b ∷ []) tail all is = absurd all.1.1
-whole_tail ts o (a ∷ b ∷ c ∷ []) tail all is = absurd all.1.1.1
-whole_tail ts (Ok day) (a ∷ b ∷ c ∷ d ∷ []) tail all is =
-    let whole = rw (all.0, all.1.0, all.1.1.1.0) at is in
-    let same : cells_of ts (Ok day) tail ≡ c =
-    ap (λ (fields : List (List ℕ)). take (length ts) (drop 2 fields)) whole
-    ∙ take_at c _ (length ts) (as_many (IsCellField (Ok day.number)) ts c all.1.1.0) in
-    record {
-      cells = subst (λ (cells : List (List ℕ)). AreCells ts (Ok day.number) cells) (sym same) all.1.1.0;
-      written = whole ∙ all_columns ts (Ok day.number) c c (day_cells day.number 0 c ts c refl all.1.1.0)
-          ∙ ap (tail_texts ts (Ok day.number)) (sym same);
-    }
-whole_tail ts (Err r) (a ∷ b ∷ c ∷ d ∷ []) tail all is =
-    let whole = rw (all.0, all.1.0, all.1.1.1.0) at is in
-    record { cells = refl; written = whole ∙ all_columns ts (Err r) [] c (no_cells r 0 ts c all.1.1.0) }
-whole_tail ts o (a ∷ b ∷ c ∷ d ∷ e ∷ rest) tail all is = absurd all.1.1.1.1
 
 -- where one thing can stand beside each item of a list, one list can stand beside it
 pub one_beside : {A B : Type 0} (R : A → B → Type 0) → ((x : A) (y z : B) → R x y → R x z → y ≡ z)
@@ -281,6 +243,54 @@ pub one_cells : OneCell → (o : Result ℤ Refusal) (ts : List Target) (xs ys :
 one_cells law (Err r) ts xs ys a b = a ∙ sym b
 one_cells law (Ok n) ts xs ys a b = one_beside (λ t cell. IsCell t n cell) (λ t x y. law t n x y) ts xs ys a b
 
+-- what stands in one more column of a tail, whatever its cells are
+pub one_more_written : (ts : List Target) (o : Result ℤ Refusal) (i : ℕ) (e : TailColumn) (old new : List (List ℕ))
+    → i < length tail_order
+    → ((cells : List (List ℕ)) → AreCells ts o cells
+    → new ≡ old ++ column_texts ts o cells (get_or tail_order i e))
+    → ((cells : List (List ℕ)) → AreCells ts o cells
+    → old ≡ flat_map (column_texts ts o cells) (take i tail_order))
+    → (cells : List (List ℕ)) → AreCells ts o cells
+    → new ≡ flat_map (column_texts ts o cells) (take (i + 1) tail_order)
+one_more_written ts o i e old new inside more before cells are =
+    more cells are ∙ ap (λ (fields : List (List ℕ)). fields ++ column_texts ts o cells (get_or tail_order i e))
+    (before cells are)
+    ∙ one_more_column (column_texts ts o cells) [] tail_order i e inside
+
+-- what stands in the column of each target is what stands in those of the cells
+pub shown_cells : OneCell → (o : Result ℤ Refusal) (ts : List Target) (fields cells : List (List ℕ))
+    → AllZip (IsCellField o) ts fields → AreCells ts o cells → fields ≡ column_texts ts o cells Cells
+shown_cells law (Ok n) ts fields cells shown are =
+    one_cells law (Ok n) ts fields cells shown are ∙ sym (day_cells n 0 cells ts cells refl are)
+shown_cells law (Err r) ts fields cells shown are = rw are (sym (no_cells r 0 ts fields shown))
+
+-- the cells stand among the fields of all columns of a tail
+cells_among : (ts : List Target) (o : Result Day Refusal) (cells : List (List ℕ)) (tail : RowTail)
+    → AreCells ts (outcome_seen o) cells → fields_of tail ≡ tail_texts ts (outcome_seen o) cells
+    → cells_of ts o tail ≡ cells
+cells_among ts (Ok day) cells tail are is =
+    let behind = flat_map (column_texts ts (Ok day.number) cells) (RefusalColumn ∷ []) in
+    ap (λ (fields : List (List ℕ)). take (length ts) (drop (length day_order) fields)) is
+    ∙ ap (λ (shown : List (List ℕ)). take (length ts) (shown ++ behind)) (day_cells day.number 0 cells ts cells refl are)
+    ∙ take_at cells behind (length ts) (as_many (IsCellField (Ok day.number)) ts cells are)
+cells_among ts (Err r) cells tail are is = sym are
+
+pub record AreWhole (ts : List Target) (o : Result Day Refusal) (tail : RowTail) : Type 0 where
+  pub cells : AreCells ts (outcome_seen o) (cells_of ts o tail)
+  pub written : fields_of tail ≡ tail_texts ts (outcome_seen o) (cells_of ts o tail)
+
+pub whole_tail : (ts : List Target) (o : Result Day Refusal) (tail : RowTail)
+    → ((cells : List (List ℕ)) → AreCells ts (outcome_seen o) cells
+    → fields_of tail ≡ tail_texts ts (outcome_seen o) cells)
+    → AreWhole ts o tail
+whole_tail ts o tail is =
+    let (known, are) = has_cells ts (outcome_seen o) in
+    let same = sym (cells_among ts o known tail are (is known are)) in
+    record {
+      cells = subst (λ (cells : List (List ℕ)). AreCells ts (outcome_seen o) cells) same are;
+      written = is known are ∙ ap (tail_texts ts (outcome_seen o)) same;
+    }
+
 -- the cells of one outcome are those of the other, which is the same
 pub cells_of_same : (ts : List Target) (o p : Result Day Refusal) (tail : RowTail) → outcome_seen o ≡ outcome_seen p
     → cells_of ts o tail ≡ cells_of ts p tail
@@ -288,11 +298,6 @@ cells_of_same ts (Ok d) (Ok e) tail same = refl
 cells_of_same ts (Ok d) (Err r) tail same = absurd (cc)
 cells_of_same ts (Err r) (Ok d) tail same = absurd (cc)
 cells_of_same ts (Err r) (Err s) tail same = refl
-
--- a tail of an outcome for some targets is that of the same outcome for the same targets
-pub record Stands (ts : List Target) (o : Result Day Refusal) (tail : RowTail) : Type 0 where
-  pub cells : AreCells ts (outcome_seen o) (cells_of ts o tail)
-  pub written : fields_of tail ≡ tail_texts ts (outcome_seen o) (cells_of ts o tail)
 
 -- what is only said of its cells is known of them, since they are the only ones
 known_cells : OneCell → (ts : List Target) (o : Result ℤ Refusal) (cells : List (List ℕ)) → ∥ AreCells ts o cells ∥₁
@@ -303,15 +308,16 @@ known_cells law ts o cells said =
     ∥∥₁_elim said (Prim.hlevel props) (λ is. one_cells law o ts known cells are is) in
     subst (λ (xs : List (List ℕ)). AreCells ts o xs) same are
 
+-- a tail of an outcome for some targets is that of the same outcome for the same targets
 pub stands : OneCell → (ts us : List Target) (o p : Result Day Refusal) (tail : RowTail)
     → ∥ AreCells ts (outcome_seen o) (cells_of ts o tail) ∥₁
     → fields_of tail ≡ tail_texts ts (outcome_seen o) (cells_of ts o tail)
-    → ts ≡ us → outcome_seen o ≡ outcome_seen p → Stands us p tail
+    → ts ≡ us → outcome_seen o ≡ outcome_seen p → AreWhole us p tail
 stands law ts us o p tail said written targets same =
     let cells = cells_of_same ts o p tail same in
-    let for_same : Stands ts p tail = record {
+    let for_same : AreWhole ts p tail = record {
       cells = rw (← cells, ← same) (known_cells law ts (outcome_seen o) (cells_of ts o tail) said);
       written = written ∙ ap (λ (xs : List (List ℕ)). tail_texts ts (outcome_seen o) xs) cells
           ∙ ap (λ (x : Result ℤ Refusal). tail_texts ts x (cells_of ts p tail)) same;
     } in
-    subst (λ (list : List Target). Stands list p tail) targets for_same
+    subst (λ (list : List Target). AreWhole list p tail) targets for_same

@@ -16,7 +16,8 @@ use Rattle.register_records.specs.Records.{Fields, Texts}
 use Rattle.register_records.specs.Seals.{before_seal, entry_records, is_seal}
 use Rattle.register_records.specs.Seen.{entry_seen}
 use Rattle.register_records.specs.Sources.{IsFrontOfTable}
-use Rattle.register_records.specs.TableColumns.{entry_field, entry_order, row_fields, tail_texts}
+use Rattle.register_records.specs.Columns.{entry_order}
+use Rattle.register_records.specs.TableColumns.{entry_field, row_fields, tail_texts}
 use Rattle.register_records.specs.Lines.{line_text}
 use Rattle.register_records.specs.Tables.{Layout, heading_line, lines_text, row_line, table_text}
 use Rattle.register_records.specs.Views.{row_seen}

@@ -1,6 +1,7 @@
 -- The columns of a table: their order, their names, and what stands in them.
-use Rattle.std.specs.Prelude.{◌+◌, ℕ, List, [], ◌∷◌, ◌++◌, codes, get_or, Option}
+use Rattle.std.specs.Prelude.{◌+◌, ℕ, List, [], ◌∷◌, ◌++◌, codes, get_or, map, Option}
 use Rattle.std.specs.Fmt.{decimal, signed_decimal}
+use Rattle.std.specs.List.{flat_map}
 use Rattle.std.specs.Option.{option_map_or}
 use Rattle.std.specs.Result.{result_err, result_ok}
 use Rattle.day_numbers.specs.Days.{weekday_names, weekday_number}
@@ -13,6 +14,11 @@ use Rattle.register_records.specs.Outcomes.{TableRow}
 use Rattle.register_records.specs.Records.{Texts}
 use Rattle.register_records.specs.declared.setups.Form.{Form}
 use Rattle.register_records.specs.declared.setups.Form.TheVariants.{Plain, Sealed}
+use Rattle.register_records.specs.declared.table_columns.EntryColumn.{EntryColumn}
+use Rattle.register_records.specs.declared.table_columns.EntryColumn.TheVariants.{Calendar, Date, Id, Note, Number}
+use Rattle.register_records.specs.declared.table_columns.TailColumn.{TailColumn}
+use Rattle.register_records.specs.declared.table_columns.TailColumn.TheVariants.{Cells, DayNumber, Weekday}
+use Rattle.register_records.specs.declared.table_columns.TailColumn.TheVariants.{Refusal as RefusalColumn}
 
 -- what a table is asked for: how it is written, and the targets of its columns
 pub record Layout : Type 0 where
@@ -31,10 +37,18 @@ column name field = record { name = name; field = field }
 abbrev pub shown : {A : Type 0} → (A → List ℕ) → Option A → List ℕ
 shown text value = option_map_or text value []
 
--- the column of notes, which only a sealed form has
-abbrev pub note_columns : Form → List Column
-note_columns Plain = []
-note_columns Sealed = column (codes "note") (λ row. shown (λ (t : Texts). t.note) (result_ok row.body)) ∷ []
+-- the columns of an entry, in order, with notes where the form is sealed: its number, and its texts, which a record
+-- that was refused before has not
+abbrev pub entry_order : Form → List EntryColumn
+entry_order Plain = Number ∷ Id ∷ Calendar ∷ Date ∷ []
+entry_order Sealed = Number ∷ Id ∷ Calendar ∷ Date ∷ Note ∷ []
+
+abbrev pub entry_column : EntryColumn → Column
+entry_column Number = column (codes "row") (λ row. decimal row.number)
+entry_column Id = column (codes "id") (λ row. shown (λ (t : Texts). t.id) (result_ok row.body))
+entry_column Calendar = column (codes "calendar") (λ row. shown (λ (t : Texts). t.calendar) (result_ok row.body))
+entry_column Date = column (codes "date") (λ row. shown (λ (t : Texts). t.date) (result_ok row.body))
+entry_column Note = column (codes "note") (λ row. shown (λ (t : Texts). t.note) (result_ok row.body))
 
 -- the columns of cells: each has the name of its target, and the cell at its place, which a refused row has not
 abbrev pub cell_columns : ℕ → List Target → List Column
@@ -42,17 +56,21 @@ cell_columns place [] = []
 cell_columns place (target ∷ targets) =
     column (target_name target) (λ row. get_or row.cells place []) ∷ cell_columns (place + 1) targets
 
--- the columns of a table, in order: the number of an entry and its texts, which a record that was refused before has
--- not; and its tail: the day, which a refused row has not, and the refusal
+-- the columns of a tail, in order: those of the day, which a refused row has not, the cells, and the refusal
+abbrev pub day_order : List TailColumn
+day_order = DayNumber ∷ Weekday ∷ []
+
+abbrev pub tail_order : List TailColumn
+tail_order = day_order ++ (Cells ∷ RefusalColumn ∷ [])
+
+abbrev pub tail_column : List Target → TailColumn → List Column
+tail_column targets DayNumber = column (codes "rd") (λ row. shown signed_decimal (result_ok row.outcome)) ∷ []
+tail_column targets Weekday =
+    column (codes "weekday") (λ row. shown (λ n. get_or weekday_names (weekday_number n) []) (result_ok row.outcome)) ∷ []
+tail_column targets Cells = cell_columns 0 targets
+tail_column targets RefusalColumn =
+    column (codes "refusal") (λ row. shown (λ (r : Refusal). decimal (refusal_number r)) (result_err row.outcome)) ∷ []
+
+-- the columns of a table, in order
 abbrev pub columns : Layout → List Column
-columns layout =
-    column (codes "row") (λ row. decimal row.number)
-    ∷ column (codes "id") (λ row. shown (λ (t : Texts). t.id) (result_ok row.body))
-    ∷ column (codes "calendar") (λ row. shown (λ (t : Texts). t.calendar) (result_ok row.body))
-    ∷ column (codes "date") (λ row. shown (λ (t : Texts). t.date) (result_ok row.body))
-    ∷ (note_columns layout.format.form
-    ++ column (codes "rd") (λ row. shown signed_decimal (result_ok row.outcome))
-    ∷ column (codes "weekday") (λ row. shown (λ n. get_or weekday_names (weekday_number n) []) (result_ok row.outcome))
-    ∷ (cell_columns 0 layout.targets
-    ++ column (codes "refusal") (λ row. shown (λ (r : Refusal). decimal (refusal_number r)) (result_err row.outcome))
-    ∷ []))
+columns layout = map entry_column (entry_order layout.format.form) ++ flat_map (tail_column layout.targets) tail_order

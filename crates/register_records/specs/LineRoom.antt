@@ -1,14 +1,17 @@
 -- How a line is written, and how many bytes its fields take at most. No public contract cites this file.
-use Rattle.std.specs.Prelude.{◌+◌, ◌*◌, ℕ, List, [], ◌∷◌}
+use Rattle.std.specs.Prelude.{◌+◌, ◌*◌, ℕ, List, [], ◌∷◌, drop}
 use Rattle.csv.specs.Writing.{default_writer, with_delimiter}
 use Rattle.csv.specs.declared.writer.WriterBuilder.{WriterBuilder}
 use Rattle.date_texts.specs.declared.target.TheConstants.{MAX_TARGETS}
-use Rattle.date_texts.specs.declared.cells.TheConstants.{MAX_CELL}
+use Rattle.register_records.specs.Columns.{entry_order}
 use Rattle.register_records.specs.declared.entries.TheConstants.{CALENDAR_LIMIT, DATE_LIMIT, ID_LIMIT, NOTE_LIMIT}
-use Rattle.register_records.specs.declared.row_tails.TheConstants.{DAY_LIMIT, REFUSAL_LIMIT}
-use Rattle.register_records.specs.declared.table_columns.TableColumn.{TableColumn}
-use Rattle.register_records.specs.declared.table_columns.TableColumn.TheVariants.{Calendar, Cells, Date, DayNumber, Id}
-use Rattle.register_records.specs.declared.table_columns.TableColumn.TheVariants.{Note, Number, Refusal, Weekday}
+use Rattle.register_records.specs.declared.row_tails.TheConstants.{CELL_ROOM, DAY_NUMBER_LIMIT}
+use Rattle.register_records.specs.declared.row_tails.TheConstants.{REFUSAL_LIMIT, WEEKDAY_LIMIT}
+use Rattle.register_records.specs.declared.setups.Form.TheVariants.{Sealed}
+use Rattle.register_records.specs.declared.table_columns.EntryColumn.{EntryColumn}
+use Rattle.register_records.specs.declared.table_columns.EntryColumn.TheVariants.{Calendar, Date, Id, Note, Number}
+use Rattle.register_records.specs.declared.table_columns.TailColumn.{TailColumn}
+use Rattle.register_records.specs.declared.table_columns.TailColumn.TheVariants.{Cells, DayNumber, Refusal, Weekday}
 
 -- as csv writes by its defaults, but for the delimiter
 abbrev pub writing : ℕ → WriterBuilder
@@ -22,31 +25,29 @@ field_room n = 2 + 2 * n
 abbrev pub number_room : ℕ
 number_room = 40
 
--- each field of a column
-abbrev pub column_limit : TableColumn → ℕ
-column_limit Number = number_room
-column_limit Id = ID_LIMIT
-column_limit Calendar = CALENDAR_LIMIT
-column_limit Date = DATE_LIMIT
-column_limit Note = NOTE_LIMIT
-column_limit DayNumber = DAY_LIMIT
-column_limit Weekday = DAY_LIMIT
-column_limit Cells = MAX_CELL
-column_limit Refusal = REFUSAL_LIMIT
+-- each text of a column of an entry; and behind a delimiter, quoted
+abbrev pub entry_limit : EntryColumn → ℕ
+entry_limit Number = number_room
+entry_limit Id = ID_LIMIT
+entry_limit Calendar = CALENDAR_LIMIT
+entry_limit Date = DATE_LIMIT
+entry_limit Note = NOTE_LIMIT
 
--- the fields of a column, each after a delimiter: quoted, and as they are
-abbrev pub quoted_room : TableColumn → ℕ
-quoted_room column = 1 + field_room (column_limit column)
+abbrev pub quoted_room : EntryColumn → ℕ
+quoted_room column = 1 + field_room (entry_limit column)
 
-abbrev pub plain_room : TableColumn → ℕ
-plain_room Cells = MAX_TARGETS * (1 + column_limit Cells)
-plain_room column = 1 + column_limit column
+-- the fields of a column of a tail as they are, each behind a delimiter
+abbrev pub plain_room : TailColumn → ℕ
+plain_room DayNumber = 1 + DAY_NUMBER_LIMIT
+plain_room Weekday = 1 + WEEKDAY_LIMIT
+plain_room Cells = MAX_TARGETS * CELL_ROOM
+plain_room Refusal = 1 + REFUSAL_LIMIT
 
 -- those of some columns
-abbrev pub columns_room : (TableColumn → ℕ) → List TableColumn → ℕ
+abbrev pub columns_room : {C : Type 0} → (C → ℕ) → List C → ℕ
 columns_room room [] = 0
 columns_room room (column ∷ columns) = room column + columns_room room columns
 
--- the fields that a row has of its entry
+-- what a row has of its entry: the number, and the texts
 abbrev pub entry_room : ℕ
-entry_room = number_room + columns_room quoted_room (Id ∷ Calendar ∷ Date ∷ Note ∷ [])
+entry_room = number_room + columns_room quoted_room (drop 1 (entry_order Sealed))

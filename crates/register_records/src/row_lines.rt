@@ -1,13 +1,12 @@
 //! The lines of a table: its heading and its rows.
 
 ghost use Rattle.std.specs.Prelude.{◌≡◌, ◌≤◌, ◌+◌, ◌∷◌, ◌++◌, [], ℕ, List, length, map, IsOk, OnOk, true, false};
-ghost use Rattle.date_texts.specs.Calendars.{target_name};
+ghost use Rattle.register_records.specs.Columns.{entry_order};
 ghost use Rattle.register_records.specs.LineRoom.{entry_room};
 ghost use Rattle.register_records.specs.LineViews.{Begins, GainsFields, line_bytes};
 ghost use Rattle.register_records.specs.LineViews.{line_capacity, line_delimiter, line_len};
 ghost use Rattle.register_records.specs.Lines.{line_text};
-ghost use Rattle.register_records.specs.TableColumns.{column_name, column_names, entry_field, entry_order};
-ghost use Rattle.register_records.specs.TableColumns.{heading, row_fields};
+ghost use Rattle.register_records.specs.TableColumns.{entry_field, entry_name, heading, row_fields, tail_names};
 ghost use Rattle.register_records.specs.Views.{row_seen, row_targets, tail_fields};
 ghost use Rattle.register_records.specs.declared.row_tails.TheConstants.{TAIL_ROOM};
 ghost use Rattle.register_records.specs.declared.row_lines.TheConstants.{LINE_ROOM};
@@ -15,7 +14,7 @@ ghost use Rattle.register_records.specs.declared.row_lines.TheConstants.{LINE_RO
 use crate::csv_lines::CsvLines;
 use crate::rows::Row;
 use crate::setups::Form;
-use crate::table_columns::{TableColumn, entry_columns, tail_columns};
+use crate::table_columns::{TailColumn, entry_columns, tail_columns};
 use date_texts::Target;
 use itoa::Buffer;
 use std::alloc::AllocError;
@@ -26,7 +25,7 @@ pub const LINE_ROOM: usize = 1024;
 
 /// Begins the line of the heading: the columns of the entries.
 fn begin_heading(lines: &mut CsvLines, form: Form) -> Result<(), AllocError>
-    ensures value { OnOk result (Begins (line_bytes lines.old) (map column_name (entry_order form)) lines.new) }
+    ensures value { OnOk result (Begins (line_bytes lines.old) (map entry_name (entry_order form)) lines.new) }
     ensures kept { line_delimiter lines.new ≡ line_delimiter lines.old }
     ensures capacity { line_capacity lines.old ≤ line_capacity lines.new }
 {
@@ -40,7 +39,7 @@ fn begin_heading(lines: &mut CsvLines, form: Form) -> Result<(), AllocError>
 
 /// Appends the names of the targets, which head their columns.
 fn push_target_names(lines: &mut CsvLines, targets: &[Target]) -> Result<(), AllocError>
-    ensures value { OnOk result (GainsFields (map target_name targets.now) lines.old lines.new) }
+    ensures value { OnOk result (GainsFields (tail_names targets.now TailColumn.Cells) lines.old lines.new) }
     ensures kept { line_delimiter lines.new ≡ line_delimiter lines.old }
     ensures capacity { line_capacity lines.old ≤ line_capacity lines.new }
 {
@@ -50,19 +49,17 @@ fn push_target_names(lines: &mut CsvLines, targets: &[Target]) -> Result<(), All
     Ok(())
 }
 
-/// Appends what heads a column: its name, or for the cells those of their targets.
-fn push_names(
-    lines: &mut CsvLines,
-    column: TableColumn,
-    targets: &[Target],
-) -> Result<(), AllocError>
-    ensures value { OnOk result (GainsFields (column_names targets.now column) lines.old lines.new) }
+/// Appends what heads a column of a tail: its name, or for the cells those of their targets.
+fn push_names(lines: &mut CsvLines, column: TailColumn, targets: &[Target]) -> Result<(), AllocError>
+    ensures value { OnOk result (GainsFields (tail_names targets.now column) lines.old lines.new) }
     ensures kept { line_delimiter lines.new ≡ line_delimiter lines.old }
     ensures capacity { line_capacity lines.old ≤ line_capacity lines.new }
 {
     match column {
-        TableColumn::Cells => push_target_names(lines, targets),
-        _ => lines.push(column.name().as_bytes(), false),
+        TailColumn::DayNumber => lines.push(b"rd", false),
+        TailColumn::Weekday => lines.push(b"weekday", false),
+        TailColumn::Cells => push_target_names(lines, targets),
+        TailColumn::Refusal => lines.push(b"refusal", false),
     }
 }
 

@@ -3,7 +3,6 @@
 //! It is written once, where the row is converted, so that the thread that writes tables copies it as it is.
 
 ghost use Rattle.std.specs.Prelude.{◌≡◌, ◌≤◌, ◌+◌, ◌*◌, ◌++◌, ◌∷◌, [], List, ℕ, true, false, length, take};
-ghost use Rattle.std.specs.List.{AllZip};
 ghost use Rattle.csv.specs.Writing.{fields_text, needs_quotes};
 ghost use Rattle.date_texts.specs.declared.target.TheConstants.{MAX_TARGETS};
 ghost use Rattle.date_texts.specs.declared.cells.TheConstants.{MAX_CELL};
@@ -12,19 +11,22 @@ ghost use Rattle.register_records.specs.Lines.{fields_behind};
 ghost use Rattle.register_records.specs.Outcomes.{AreCells};
 ghost use Rattle.register_records.specs.Seen.{outcome_seen};
 ghost use Rattle.register_records.specs.SetupRules.{is_delimiter};
-ghost use Rattle.register_records.specs.TableColumns.{AreFields, IsCellField, tail_texts};
+ghost use Rattle.register_records.specs.TableColumns.{IsCellField, column_texts, tail_texts};
 ghost use Rattle.register_records.specs.declared.row_tails.TheConstants.{CELL_ROOM, TAIL_ROOM};
 
 use crate::setups::Setup;
-use crate::table_columns::{TableColumn, tail_columns};
+use crate::table_columns::{TailColumn, tail_columns};
 use crate::target_lists::TargetList;
 use date_texts::laws::{cells_are_plain, one_cell};
 use date_texts::{MAX_CELL, MAX_TARGETS, Refusal, Target, write_cell_within};
 use day_numbers::Day;
 use itoa::Buffer;
 
-/// The most bytes of a column of the day: the longest name of a weekday has nine, a day number eight.
-const DAY_LIMIT: usize = 9;
+/// The most bytes of a day's number.
+const DAY_NUMBER_LIMIT: usize = 8;
+
+/// The most bytes of a weekday's name.
+const WEEKDAY_LIMIT: usize = 9;
 
 /// The digits of a refusal's number.
 const REFUSAL_LIMIT: usize = 1;
@@ -32,21 +34,21 @@ const REFUSAL_LIMIT: usize = 1;
 /// Room for a cell behind its delimiter.
 const CELL_ROOM: usize = 1 + MAX_CELL;
 
-/// Room for the longest tail: the number of the day and its weekday, the cells of all targets, and the refusal, each
-/// behind a delimiter.
-pub(crate) const TAIL_ROOM: usize = 2 * (1 + DAY_LIMIT)
+/// Room for the longest tail: what stands in each column of a tail, behind a delimiter.
+pub(crate) const TAIL_ROOM: usize = (1 + DAY_NUMBER_LIMIT)
+    + (1 + WEEKDAY_LIMIT)
     + MAX_TARGETS * CELL_ROOM
     + (1 + REFUSAL_LIMIT);
 
 /// The fields of a tail, each behind a delimiter. None of them needs quotes.
 #[derive(Clone, Copy)]
 pub(crate) struct RowTail {
-    places: [u8; TAIL_ROOM],
+    buffer: [u8; TAIL_ROOM],
     len: u16,
     delimiter: u8,
     ghost held: { len ≤ TAIL_ROOM },
     ghost separated: { is_delimiter delimiter ≡ true },
-    ghost plain: { take len places ≡ fields_text (writing delimiter) (fields_behind delimiter (take len places)) },
+    ghost plain: { take len buffer ≡ fields_text (writing delimiter) (fields_behind delimiter (take len buffer)) },
 }
 
 /// Writes what stands in the column of a target, which is nothing for a refused row, to the front of a cell's room, and
@@ -87,7 +89,7 @@ impl RowTail {
         requires { is_delimiter delimiter ≡ true }
     {
         RowTail {
-            places: [0; TAIL_ROOM],
+            buffer: [0; TAIL_ROOM],
             len: 0,
             delimiter,
         }
@@ -105,7 +107,7 @@ impl RowTail {
         ensures value { result.now ≡ fields_text (writing self.now.delimiter) (fields_of self.now) }
         ensures short { length result.now ≤ TAIL_ROOM }
     {
-        &self.places[..self.len as usize]
+        &self.buffer[..self.len as usize]
     }
 
     /// Lets the fields go.
@@ -129,8 +131,8 @@ impl RowTail {
     {
         let at = self.len as usize;
         let end = at + 1 + field.len();
-        self.places[at] = self.delimiter;
-        self.places[at + 1..end].copy_from_slice(field);
+        self.buffer[at] = self.delimiter;
+        self.buffer[at + 1..end].copy_from_slice(field);
         self.len = end as u16;
     }
 
@@ -146,8 +148,8 @@ impl RowTail {
     {
         cells_are_plain();
         let at = self.len as usize;
-        self.places[at] = self.delimiter;
-        let room = &mut self.places[at + 1..at + 1 + MAX_CELL];
+        self.buffer[at] = self.delimiter;
+        let room = &mut self.buffer[at + 1..at + 1 + MAX_CELL];
         let len = write_field(room, target, outcome);
         self.len += 1 + len as u16;
     }
@@ -155,50 +157,39 @@ impl RowTail {
     /// Appends the cells, which a refused row has not.
     fn push_cells(&mut self, targets: &[Target], outcome: Result<Day, Refusal>)
         requires few { length targets.now ≤ MAX_TARGETS }
-        requires room { self.old.len + plain_room TableColumn.Cells ≤ TAIL_ROOM }
-        ensures value { (cells : List (List ℕ)) × AllZip (IsCellField (outcome_seen outcome)) targets.now cells
-            × (fields_of self.new ≡ fields_of self.old ++ cells) }
-        ensures grows { self.new.len ≤ self.old.len + plain_room TableColumn.Cells }
+        requires room { self.old.len + plain_room TailColumn.Cells ≤ TAIL_ROOM }
+        ensures value { (cells : List (List ℕ)) → AreCells targets.now (outcome_seen outcome) cells
+            → fields_of self.new
+            ≡ fields_of self.old ++ column_texts targets.now (outcome_seen outcome) cells TailColumn.Cells }
+        ensures grows { self.new.len ≤ self.old.len + plain_room TailColumn.Cells }
         ensures delimiter { self.new.delimiter ≡ self.old.delimiter }
     {
+        one_cell();
         'cells: for target in targets {
             self.push_cell(*target, outcome);
         }
     }
 
     /// Appends what stands in a column of a tail. A refused row has no day, and an accepted one no refusal.
-    fn push_column(
-        &mut self,
-        column: TableColumn,
-        targets: &[Target],
-        outcome: Result<Day, Refusal>,
-    )
+    fn push_column(&mut self, column: TailColumn, targets: &[Target], outcome: Result<Day, Refusal>)
         requires few { length targets.now ≤ MAX_TARGETS }
         requires room { self.old.len + plain_room column ≤ TAIL_ROOM }
-        ensures value { (fields : List (List ℕ)) × AreFields targets.now (outcome_seen outcome) column fields
-            × (fields_of self.new ≡ fields_of self.old ++ fields) }
+        ensures value { (cells : List (List ℕ)) → AreCells targets.now (outcome_seen outcome) cells
+            → fields_of self.new ≡ fields_of self.old ++ column_texts targets.now (outcome_seen outcome) cells column }
         ensures grows { self.new.len ≤ self.old.len + plain_room column }
         ensures delimiter { self.new.delimiter ≡ self.old.delimiter }
     {
         match (column, outcome) {
-            (TableColumn::DayNumber, Ok(day)) => {
+            (TailColumn::DayNumber, Ok(day)) => {
                 self.push(Buffer::new().format(day.number()).as_bytes());
             }
-            (TableColumn::Weekday, Ok(day)) => self.push(day.weekday().name().as_bytes()),
-            (TableColumn::Cells, _) => self.push_cells(targets, outcome),
-            (TableColumn::Refusal, Err(refusal)) => {
+            (TailColumn::Weekday, Ok(day)) => self.push(day.weekday().name().as_bytes()),
+            (TailColumn::Cells, _) => self.push_cells(targets, outcome),
+            (TailColumn::Refusal, Err(refusal)) => {
                 self.push(Buffer::new().format(refusal.number()).as_bytes());
             }
-            (TableColumn::DayNumber | TableColumn::Weekday, Err(_))
-            | (TableColumn::Refusal, Ok(_)) => self.push(b""),
-            (
-                TableColumn::Number
-                | TableColumn::Id
-                | TableColumn::Calendar
-                | TableColumn::Date
-                | TableColumn::Note,
-                _,
-            ) => (),
+            (TailColumn::DayNumber | TailColumn::Weekday, Err(_)) | (TailColumn::Refusal, Ok(_)) =>
+                self.push(b""),
         }
     }
 

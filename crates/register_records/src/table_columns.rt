@@ -1,24 +1,30 @@
 //! The columns of a table: their order, their names, and what stands in those of an entry. The heading and the rows go
-//! through one list.
+//! through the same lists.
 
-ghost use Rattle.std.specs.Prelude.{◌≡◌, ◌≤◌, ℕ, length};
+ghost use Rattle.std.specs.Prelude.{◌≡◌, ◌≤◌, length};
 ghost use Rattle.std.specs.Fmt.{decimal};
-ghost use Rattle.register_records.specs.LineRoom.{column_limit};
-ghost use Rattle.register_records.specs.TableColumns.{column_name, entry_field, entry_order, tail_order};
+ghost use Rattle.register_records.specs.Columns.{entry_order, tail_order};
+ghost use Rattle.register_records.specs.LineRoom.{entry_limit};
+ghost use Rattle.register_records.specs.TableColumns.{entry_field, entry_name};
 ghost use Rattle.register_records.specs.Views.{row_seen};
 
 use crate::entries::Body;
 use crate::rows::Row;
 use crate::setups::Form;
 
-/// A column of a table.
+/// A column that a table has of an entry.
 #[derive(Clone, Copy)]
-pub(crate) enum TableColumn {
+pub(crate) enum EntryColumn {
     Number,
     Id,
     Calendar,
     Date,
     Note,
+}
+
+/// A column that a table has of the tail of a row.
+#[derive(Clone, Copy)]
+pub(crate) enum TailColumn {
     DayNumber,
     Weekday,
     /// One column for each target.
@@ -26,80 +32,70 @@ pub(crate) enum TableColumn {
     Refusal,
 }
 
-/// The columns of a table, in order: those of an entry, and behind them those of its tail.
-const COLUMNS: [TableColumn; 9] = [
-    TableColumn::Number,
-    TableColumn::Id,
-    TableColumn::Calendar,
-    TableColumn::Date,
-    TableColumn::Note,
-    TableColumn::DayNumber,
-    TableColumn::Weekday,
-    TableColumn::Cells,
-    TableColumn::Refusal,
+/// The columns of an entry, in order. The last has the notes, which only a sealed form has.
+const ENTRY_COLUMNS: [EntryColumn; 5] = [
+    EntryColumn::Number,
+    EntryColumn::Id,
+    EntryColumn::Calendar,
+    EntryColumn::Date,
+    EntryColumn::Note,
 ];
 
-/// How many are an entry's. The last of these has the notes, which only a sealed form has.
-const ENTRY_COLUMNS: usize = 5;
+/// The columns of a tail, in order.
+const TAIL_COLUMNS: [TailColumn; 4] = [
+    TailColumn::DayNumber,
+    TailColumn::Weekday,
+    TailColumn::Cells,
+    TailColumn::Refusal,
+];
 
 /// The columns that a table has of an entry, in order.
-pub(crate) fn entry_columns(form: Form) -> &'static [TableColumn]
+pub(crate) fn entry_columns(form: Form) -> &'static [EntryColumn]
     ensures value { result.now ≡ entry_order form }
     ensures some { 1 ≤ length result.now }
 {
     match form {
-        Form::Plain => &COLUMNS[..ENTRY_COLUMNS - 1],
-        Form::Sealed => &COLUMNS[..ENTRY_COLUMNS],
+        Form::Plain => &ENTRY_COLUMNS[..ENTRY_COLUMNS.len() - 1],
+        Form::Sealed => &ENTRY_COLUMNS,
     }
 }
 
 /// The columns that a table has of a tail, in order.
-pub(crate) fn tail_columns() -> &'static [TableColumn]
+pub(crate) fn tail_columns() -> &'static [TailColumn]
     ensures { result.now ≡ tail_order }
 {
-    &COLUMNS[ENTRY_COLUMNS..]
+    &TAIL_COLUMNS
 }
 
-impl TableColumn {
-    /// The name, which heads the column. The cells have those of their targets, and none of their own.
+impl EntryColumn {
+    /// The name, which heads the column.
     pub fn name(self) -> &'static str
-        ensures { result.now ≡ column_name self }
+        ensures { result.now ≡ entry_name self }
     {
         match self {
-            TableColumn::Number => "row",
-            TableColumn::Id => "id",
-            TableColumn::Calendar => "calendar",
-            TableColumn::Date => "date",
-            TableColumn::Note => "note",
-            TableColumn::DayNumber => "rd",
-            TableColumn::Weekday => "weekday",
-            TableColumn::Cells => "",
-            TableColumn::Refusal => "refusal",
+            EntryColumn::Number => "row",
+            EntryColumn::Id => "id",
+            EntryColumn::Calendar => "calendar",
+            EntryColumn::Date => "date",
+            EntryColumn::Note => "note",
         }
     }
 
-    /// What the column shows of the entry of a row; nothing for a column of the tail, or where the body was refused.
-    /// `number` is the row's number in decimal.
+    /// What the column shows of the entry of a row, which is nothing where its body was refused. `number` is the row's
+    /// number in decimal.
     #[inline(always)]
     pub fn field<'a>(self, number: &'a str, row: &'a Row) -> &'a str
-        requires short { length number.now ≤ column_limit TableColumn.Number }
+        requires short { length number.now ≤ entry_limit EntryColumn.Number }
         requires number { number.now ≡ decimal (row_seen row.now).number }
         ensures value { result.now ≡ entry_field (row_seen row.now) self }
-        ensures short { length result.now ≤ column_limit self }
+        ensures short { length result.now ≤ entry_limit self }
     {
         match (self, row.entry().body()) {
-            (TableColumn::Number, _) => number,
-            (TableColumn::Id, Body::Fields { id, .. }) => id.as_str(),
-            (TableColumn::Calendar, Body::Fields { calendar, .. }) => calendar.as_str(),
-            (TableColumn::Date, Body::Fields { date, .. }) => date.as_str(),
-            (TableColumn::Note, Body::Fields { note, .. }) => note.as_str(),
-            (
-                TableColumn::DayNumber
-                | TableColumn::Weekday
-                | TableColumn::Cells
-                | TableColumn::Refusal,
-                _,
-            ) => "",
+            (EntryColumn::Number, _) => number,
+            (EntryColumn::Id, Body::Fields { id, .. }) => id.as_str(),
+            (EntryColumn::Calendar, Body::Fields { calendar, .. }) => calendar.as_str(),
+            (EntryColumn::Date, Body::Fields { date, .. }) => date.as_str(),
+            (EntryColumn::Note, Body::Fields { note, .. }) => note.as_str(),
             (_, Body::Refused(_)) => "",
         }
     }

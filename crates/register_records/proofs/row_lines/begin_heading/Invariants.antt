@@ -1,12 +1,13 @@
 use Rattle.std.proofs.Common.{◌≡◌, ◌≤◌, map, take}
-use Rattle.register_records.specs.TableColumns.{column_name, entry_order}
+use Rattle.register_records.specs.Columns.{entry_order}
+use Rattle.register_records.specs.TableColumns.{entry_name}
 use Rattle.register_records.specs.LineViews.{Begins, line_bytes, line_capacity, line_delimiter}
 use Rattle.register_records.proofs.row_lines.begin_heading.Given as goal
 
 abbrev pub invariant-columns : goal.invariant-columns
 invariant-columns l =
     record {
-      begun : Begins (line_bytes l.fn.lines) (map column_name (take l.i (entry_order l.fn.form))) l.lines;
+      begun : Begins (line_bytes l.fn.lines) (map entry_name (take l.i (entry_order l.fn.form))) l.lines;
       kept : line_delimiter l.lines ≡ line_delimiter l.fn.lines;
       capacity : line_capacity l.fn.lines ≤ line_capacity l.lines;
     }

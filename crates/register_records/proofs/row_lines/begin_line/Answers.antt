@@ -1,10 +1,10 @@
 use Rattle.std.proofs.Common.{◌≡◌, ◌≤◌, ◌∙◌, ap, arith, length, subst}
 use Rattle.std.specs.Fmt.{decimal}
-use Rattle.register_records.specs.LineRoom.{column_limit, number_room}
+use Rattle.register_records.specs.LineRoom.{entry_limit, number_room}
 use Rattle.register_records.specs.LineViews.{line_bytes, line_delimiter}
 use Rattle.register_records.specs.TableColumns.{entry_field}
 use Rattle.register_records.specs.Views.{row_seen}
-use Rattle.register_records.specs.declared.table_columns.TableColumn.{TableColumn}
+use Rattle.register_records.specs.declared.table_columns.EntryColumn.{EntryColumn}
 use Rattle.register_records.proofs.LineLemmas.{first_field, first_number, plain_column, plain_decimal, room_behind}
 use Rattle.register_records.proofs.row_lines.begin_line.Goals as goal
 
@@ -17,7 +17,7 @@ columns-init c =
     ∙ ap (entry_field row) (first_number c.args.form _) in
     let plain = plain_decimal d c.args.lines.now.separated row.number (omega (arith, c.args.row.now.entry.limited)) in
     let short : length c.as_bytes.result.now ≤ number_room =
-    rw c.as_bytes.ensures.value (subst (λ (column : TableColumn). length c.field.result.now ≤ column_limit column)
+    rw c.as_bytes.ensures.value (subst (λ (column : EntryColumn). length c.field.result.now ≤ entry_limit column)
     (first_number c.args.form _) (rw c.entry_columns-columns.ensures.value at c.field.ensures.short)) in
     record {
       begun = first_field c.args.form (entry_field row) d _ (line_bytes c.args.lines.now) _ _

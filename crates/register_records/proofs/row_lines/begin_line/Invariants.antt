@@ -1,5 +1,6 @@
 use Rattle.std.proofs.Common.{◌≡◌, ◌≤◌, ◌+◌, drop, map, take}
-use Rattle.register_records.specs.TableColumns.{entry_field, entry_order}
+use Rattle.register_records.specs.Columns.{entry_order}
+use Rattle.register_records.specs.TableColumns.{entry_field}
 use Rattle.register_records.specs.LineRoom.{columns_room, entry_room, quoted_room}
 use Rattle.register_records.specs.LineViews.{Begins, line_bytes, line_capacity, line_delimiter, line_len}
 use Rattle.register_records.specs.Views.{row_seen}

@@ -1,5 +1,6 @@
 use Rattle.std.proofs.Common.{◌∙◌, ◌++◌, map, sym}
-use Rattle.register_records.specs.TableColumns.{entry_field, entry_order, row_fields, tail_texts}
+use Rattle.register_records.specs.Columns.{entry_order}
+use Rattle.register_records.specs.TableColumns.{entry_field, row_fields, tail_texts}
 use Rattle.register_records.specs.LineViews.{line_bytes}
 use Rattle.register_records.specs.Views.{row_seen, row_targets}
 use Rattle.register_records.proofs.LineLemmas.{fields_in_parts, same_line, some_columns, two_of}

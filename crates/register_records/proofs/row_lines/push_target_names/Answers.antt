@@ -1,9 +1,8 @@
-use Rattle.std.proofs.Common.{◌∙◌, ◌++◌, List, append-nil, arith, map, refl, subst, sym, take}
+use Rattle.std.proofs.Common.{◌∙◌, ◌++◌, ℕ, List, ap, append-nil, arith, map, refl, subst, sym, take}
 use Rattle.std.proofs.lemmas.List.{take_all}
 use Rattle.date_texts.specs.Calendars.{target_name}
-use Rattle.date_texts.specs.declared.target.Target.{Target}
 use Rattle.register_records.specs.LineViews.{GainsFields, line_delimiter}
-use Rattle.register_records.proofs.LineLemmas.{one_item, same_body, some_fields}
+use Rattle.register_records.proofs.LineLemmas.{name_columns, one_item, same_body, some_fields}
 use Rattle.register_records.proofs.row_lines.push_target_names.Goals as goal
 
 pub targets-init : goal.targets-init
@@ -29,5 +28,7 @@ targets-preserved c =
 
 pub returns-clause-value : goal.returns-clause-value
 returns-clause-value c =
-    subst (λ (ts : List Target). GainsFields (map target_name ts) c.args.lines.now c.targets.lines)
-    (take_all c.targets.target-index c.args.targets.now c.targets-test.false) c.targets.invariant.gained
+    let targets = c.args.targets.now in
+    let all = take_all c.targets.target-index targets c.targets-test.false in
+    subst (λ (names : List (List ℕ)). GainsFields names c.args.lines.now c.targets.lines)
+    (ap (map target_name) all ∙ sym (name_columns 0 targets)) c.targets.invariant.gained

@@ -8,11 +8,11 @@ returns-clause-value c =
     let self = c.args.self.now in
     (grown self.delimiter c.args.field.now (tail_bytes self) _ c.requires.plain self.plain
     (rw c.copy_from_slice.ensures.after
-    (put_field self.places c.args.field.now self.len self.delimiter _ (omega arith)))).fields
+    (put_field self.buffer c.args.field.now self.len self.delimiter _ (omega arith)))).fields
 
 pub invariant_of-self-clause-plain : goal.invariant_of-self-clause-plain
 invariant_of-self-clause-plain c =
     let self = c.args.self.now in
     (grown self.delimiter c.args.field.now (tail_bytes self) _ c.requires.plain self.plain
     (rw c.copy_from_slice.ensures.after
-    (put_field self.places c.args.field.now self.len self.delimiter _ (omega arith)))).plain
+    (put_field self.buffer c.args.field.now self.len self.delimiter _ (omega arith)))).plain

@@ -16,7 +16,7 @@ returns-clause-value c =
       (grown self.delimiter (take n room) (tail_bytes self) _
           (plain_field c.cells_are_plain.ensures self.delimiter self.separated (outcome_seen c.args.outcome)
           c.args.target (take n room) is) self.plain
-          (put_cell self.places room self.len self.delimiter _ n (search rules)
+          (put_cell self.buffer room self.len self.delimiter _ n (search rules)
           (omega (arith, c.write_field-len.ensures.few, all)))).fields,
     )
 
@@ -29,5 +29,5 @@ invariant_of-self-clause-plain c =
     (grown self.delimiter (take n room) (tail_bytes self) _
     (plain_field c.cells_are_plain.ensures self.delimiter self.separated (outcome_seen c.args.outcome) c.args.target
     (take n room) c.write_field-len.ensures.value) self.plain
-    (put_cell self.places room self.len self.delimiter _ n (search rules)
+    (put_cell self.buffer room self.len self.delimiter _ n (search rules)
     (omega (arith, c.write_field-len.ensures.few, all)))).plain

@@ -6,7 +6,7 @@ use Rattle.date_texts.specs.declared.target.Target.{Target}
 use Rattle.register_records.specs.RowTails.{fields_of}
 use Rattle.register_records.specs.Seen.{outcome_seen}
 use Rattle.register_records.specs.TableColumns.{IsCellField}
-use Rattle.register_records.proofs.RowTailLemmas.{one_more_beside}
+use Rattle.register_records.proofs.RowTailLemmas.{one_more_beside, shown_cells}
 use Rattle.register_records.proofs.row_tails.RowTail.push_cells.Goals as goal
 
 pub cells-init : goal.cells-init
@@ -34,10 +34,12 @@ cells-preserved c =
     }
 
 pub returns-clause-value : goal.returns-clause-value
-returns-clause-value c =
-    let (made, are, fields) = c.cells.invariant.made in (
-      made,
-      subst (λ (ts : List Target). AllZip (IsCellField (outcome_seen c.args.outcome)) ts made)
-          (take_all c.cells.target-index c.args.targets.now c.cells-test.false) are,
-      fields,
-    )
+returns-clause-value c cells known =
+    let o = outcome_seen c.args.outcome in
+    let targets = c.args.targets.now in
+    let (made, are, fields) = c.cells.invariant.made in
+    let all =
+    subst (λ (ts : List Target). AllZip (IsCellField o) ts made)
+    (take_all c.cells.target-index targets c.cells-test.false) are in
+    fields ∙ ap (λ (more : List (List ℕ)). fields_of c.args.self.now ++ more)
+    (shown_cells c.one_cell.ensures o targets made cells all known)

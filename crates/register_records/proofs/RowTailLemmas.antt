@@ -5,7 +5,7 @@ use Rattle.std.proofs.Common.{map, subst}
 use Rattle.std.proofs.Common.{set, take}
 use Rattle.std.specs.Prelude.{◌==◌, ℤ, pos, negsuc, zero, suc, Bool, IsTrue, nat_le, cond, Ok, Err, Result}
 use Rattle.std.specs.Fmt.{decimal, signed_decimal}
-use Rattle.std.specs.List.{AllZip, flat_map, list_all, onto_first, slice_split}
+use Rattle.std.specs.List.{AllZip, flat_map, list_all, onto_first, position_or_len, slice_split}
 use Rattle.std.proofs.lemmas.Bool.{or_parts}
 use Rattle.std.proofs.lemmas.Bool.Decides.{nat_tests}
 use Rattle.std.proofs.lemmas.Fmt.{length-decimal-le, length_signed_le}
@@ -26,8 +26,8 @@ use Rattle.date_texts.specs.declared.target.Target.{Target}
 use Rattle.date_texts.specs.declared.refusal.Refusal.{Refusal}
 use Rattle.date_texts.specs.declared.refusal.Refusal.TheVariants as refused
 use Rattle.date_texts.specs.Laws.{CellsArePlain, OneCell}
-use Rattle.register_records.specs.RowTails.{cells_of, fields_of}
-use Rattle.register_records.specs.Columns.{Column, cell_columns, day_order, tail_order}
+use Rattle.register_records.specs.RowTails.{cells_of, fields_of, is_cells}
+use Rattle.register_records.specs.Columns.{Column, cell_columns, tail_order}
 use Rattle.register_records.specs.TableColumns.{IsCellField, column_texts, row_with, tail_texts}
 use Rattle.register_records.specs.LineRoom.{columns_room, plain_room, writing}
 use Rattle.register_records.specs.Lines.{fields_behind}
@@ -270,8 +270,9 @@ cells_among : (ts : List Target) (o : Result Day Refusal) (cells : List (List �
     → cells_of ts o tail ≡ cells
 cells_among ts (Ok day) cells tail are is =
     let behind = flat_map (column_texts ts (Ok day.number) cells) (RefusalColumn ∷ []) in
-    ap (λ (fields : List (List ℕ)). take (length ts) (drop (length day_order) fields)) is
-    ∙ ap (λ (shown : List (List ℕ)). take (length ts) (shown ++ behind)) (day_cells day.number 0 cells ts cells refl are)
+    ap (λ (fields : List (List ℕ)). take (length ts) (drop (position_or_len is_cells tail_order) fields)) is
+    ∙ ap (λ (shown : List (List ℕ)). take (length ts) (shown ++ behind))
+    (day_cells day.number 0 cells ts cells refl are)
     ∙ take_at cells behind (length ts) (as_many (IsCellField (Ok day.number)) ts cells are)
 cells_among ts (Err r) cells tail are is = sym are
 

@@ -1,5 +1,5 @@
 -- The columns of a table: their order, their names, and what stands in them.
-use Rattle.std.specs.Prelude.{◌+◌, ℕ, List, [], ◌∷◌, ◌++◌, codes, get_or, map, Option}
+use Rattle.std.specs.Prelude.{◌+◌, ℕ, ℤ, List, [], ◌∷◌, ◌++◌, codes, get_or, map, Option}
 use Rattle.std.specs.Fmt.{decimal, signed_decimal}
 use Rattle.std.specs.List.{flat_map}
 use Rattle.std.specs.Option.{option_map_or}
@@ -56,17 +56,16 @@ cell_columns place [] = []
 cell_columns place (target ∷ targets) =
     column (target_name target) (λ row. get_or row.cells place []) ∷ cell_columns (place + 1) targets
 
--- the columns of a tail, in order: those of the day, which a refused row has not, the cells, and the refusal
-abbrev pub day_order : List TailColumn
-day_order = DayNumber ∷ Weekday ∷ []
-
+-- the columns of a tail, in order: the day, which a refused row has not, the cells, and the refusal
 abbrev pub tail_order : List TailColumn
-tail_order = day_order ++ (Cells ∷ RefusalColumn ∷ [])
+tail_order = DayNumber ∷ Weekday ∷ Cells ∷ RefusalColumn ∷ []
+
+abbrev pub day_column : List ℕ → (ℤ → List ℕ) → List Column
+day_column name text = column name (λ row. shown text (result_ok row.outcome)) ∷ []
 
 abbrev pub tail_column : List Target → TailColumn → List Column
-tail_column targets DayNumber = column (codes "rd") (λ row. shown signed_decimal (result_ok row.outcome)) ∷ []
-tail_column targets Weekday =
-    column (codes "weekday") (λ row. shown (λ n. get_or weekday_names (weekday_number n) []) (result_ok row.outcome)) ∷ []
+tail_column targets DayNumber = day_column (codes "rd") signed_decimal
+tail_column targets Weekday = day_column (codes "weekday") (λ n. get_or weekday_names (weekday_number n) [])
 tail_column targets Cells = cell_columns 0 targets
 tail_column targets RefusalColumn =
     column (codes "refusal") (λ row. shown (λ (r : Refusal). decimal (refusal_number r)) (result_err row.outcome)) ∷ []

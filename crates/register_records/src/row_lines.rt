@@ -19,8 +19,7 @@ use date_texts::Target;
 use itoa::Buffer;
 use std::alloc::AllocError;
 
-/// Room for the longest line of a row, which has no more bytes than this: the texts quoted with a quote for each byte,
-/// the cells and the rest.
+/// Room for the longest line of a row, which has no more bytes than this, even where each byte of its texts is a quote.
 pub const LINE_ROOM: usize = 1024;
 
 /// Begins the line of the heading: the columns of the entries.

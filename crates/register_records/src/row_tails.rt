@@ -210,8 +210,8 @@ impl RowTail {
         }
     }
 
-    /// Makes this, the tail of an outcome for some targets, that of the next outcome for the setup's. Where these are the
-    /// same it stands, as for a second entry on a day in a register in order of time.
+    /// Makes this, the tail of an outcome for some targets, that of the next outcome for the setup's. It stays where
+    /// these are the same, as for a second entry on a day in a register in order of time.
     #[inline(always)]
     pub fn renew(
         &mut self,

@@ -20,8 +20,8 @@ pub const MAX_STRIPES: usize = 4;
 pub enum Form {
     /// A register of three columns, which is whole wherever it ends.
     Plain,
-    /// A register of four columns, the last of them a note, which is whole only where its last record is a seal that
-    /// tells how many records stand before it.
+    /// A register of four columns, the last of them a note, which is whole only where its last record is a seal with
+    /// the number of the records before it.
     Sealed,
 }
 
@@ -58,7 +58,7 @@ pub enum SetupFault {
     /// A target is named twice.
     #[error("a target is named twice")]
     TargetTwice,
-    /// A ring has not 1 to 4096 places.
+    /// A ring is not for 1 to 4096 items.
     #[error("the ring size is not from 1 to 4096")]
     RingSize,
     /// The delimiter is no comma, semicolon or tab.

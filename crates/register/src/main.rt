@@ -5,8 +5,9 @@
 #![tactic(auto)]
 
 use register_app::answer;
-use register_places::{Destination, Disk, Source, Told, lines_to};
+use register_files::{Destination, Disk, LoggedWriter, Source, lines_to};
 use register_records::PlainOutput;
+use register_words::MEMORY_FAULT;
 use std::fs::OpenOptions;
 use std::process::ExitCode;
 use std::rt::{Env, Files};
@@ -18,10 +19,10 @@ fn words_of<R: Env + AllocGlobal>(rt: &R) -> io::Result<Vec<String>> {
     Ok(words)
 }
 
-/// Tells why the words could not be read: memory ran out, status 3, or a word that is no text, status 2.
+/// Reports why the words could not be read: memory ran out, status 3, or a word that is no text, status 2.
 fn unread_words(rt: &impl Eprint, error: &io::Error) -> ExitCode {
     if error.kind() == io::ErrorKind::OutOfMemory {
-        let _ = eprintln!(rt; "register: out of memory");
+        let _ = eprint!(rt; "{MEMORY_FAULT}");
         return ExitCode::from(3);
     }
     let _ = eprintln!(rt; "register: an argument is not UTF-8");
@@ -42,8 +43,8 @@ fn main(rt: HostRuntime) -> ExitCode {
         Err(error) => return unread_words(&rt, &error),
     };
     let input = Source::Input(rt.stdin());
-    let output = PlainOutput::new(Told::new(Destination::Output(rt.stdout())), 1);
-    let mut errors = PlainOutput::new(Told::new(lines_to(rt.stderr())), 0);
+    let output = PlainOutput::new(LoggedWriter::new(Destination::Output(rt.stdout())), 1);
+    let mut errors = PlainOutput::new(LoggedWriter::new(lines_to(rt.stderr())), 0);
     let answered = answer(
         &rt,
         rt.alloc(),

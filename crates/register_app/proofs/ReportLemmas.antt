@@ -1,4 +1,4 @@
--- The lines on sources, told one after the other.
+-- The lines on sources, one after the other.
 use Rattle.std.proofs.Common.{◌≡◌, ◌≢◌, ◌∙◌, ◌<◌, ◌≤◌, ◌+◌, ℕ, List, [], ◌∷◌, ◌++◌, length, get_or, drop, ap, sym, refl}
 use Rattle.std.proofs.Common.{arith, append_assoc, append-nil, eq-eqb, ne_eqb, length-append}
 use Rattle.std.proofs.Common.{Bool, true, false, zero, suc}
@@ -11,7 +11,7 @@ use Rattle.register_records.specs.declared.ends.SourceEnd.TheVariants as ended
 use Rattle.register_records.specs.declared.ends.Note.{Note}
 use Rattle.register_app.specs.Reports.{count_text, counts_from, line_of_end, lines_from, refusal_numbers, refused_with}
 
--- with the next line told, one line fewer is left
+-- with the next line written, one line fewer is left
 pub lines_more : (summary : Bool) (ends : List SourceEnd) (i : ℕ) (e : SourceEnd) (text all : List ℕ) → i < length ends
     → e ≡ get_or ends i e
     → text ++ lines_from summary (i + 1) (drop i ends) ≡ all
@@ -49,39 +49,39 @@ taken_alone xs [] x is one = refl
 taken_alone xs (y ∷ rest) x is one = absurd (omega (arith, ap length is, length-append rest (x ∷ []), one))
 
 -- no record was refused with the next number
-counts_none : (behind : Bool) (journal : List Note) (number : ℕ) (numbers : List ℕ) → refused_with journal number ≡ 0
-    → counts_from behind journal (number ∷ numbers) ≡ counts_from behind journal numbers
+counts_none : (is_first : Bool) (journal : List Note) (number : ℕ) (numbers : List ℕ) → refused_with journal number ≡ 0
+    → counts_from is_first journal (number ∷ numbers) ≡ counts_from is_first journal numbers
 counts_none true journal number numbers none = rw (eq-eqb (refused_with journal number) 0 none) refl
 counts_none false journal number numbers none = rw (eq-eqb (refused_with journal number) 0 none) refl
 
 -- some were
-counts_some : (behind : Bool) (journal : List Note) (number : ℕ) (numbers : List ℕ) → refused_with journal number ≢ 0
-    → counts_from behind journal (number ∷ numbers)
-    ≡ count_text behind number (refused_with journal number) ++ counts_from true journal numbers
+counts_some : (is_first : Bool) (journal : List Note) (number : ℕ) (numbers : List ℕ) → refused_with journal number ≢ 0
+    → counts_from is_first journal (number ∷ numbers)
+    ≡ count_text is_first number (refused_with journal number) ++ counts_from false journal numbers
 counts_some true journal number numbers some = rw (ne_eqb (refused_with journal number) 0 some) refl
 counts_some false journal number numbers some = rw (ne_eqb (refused_with journal number) 0 some) refl
 
 -- with the next count added, or none where there is none, one number fewer is left
-pub count_added : (line new all : List ℕ) (behind : Bool) (journal : List Note) (i d count : ℕ) → i < 7
+pub count_added : (line new all : List ℕ) (is_first : Bool) (journal : List Note) (i d count : ℕ) → i < 7
     → count ≡ refused_with journal (get_or refusal_numbers i d) → 0 < count
-    → new ≡ line ++ count_text behind (get_or refusal_numbers i d) count
-    → line ++ counts_from behind journal (drop i refusal_numbers) ≡ all
-    → new ++ counts_from true journal (drop (i + 1) refusal_numbers) ≡ all
-count_added line new all behind journal i d count lt counted some added is =
+    → new ≡ line ++ count_text is_first (get_or refusal_numbers i d) count
+    → line ++ counts_from is_first journal (drop i refusal_numbers) ≡ all
+    → new ++ counts_from false journal (drop (i + 1) refusal_numbers) ≡ all
+count_added line new all is_first journal i d count lt counted some added is =
     let number = get_or refusal_numbers i d in
-    ap (λ t. t ++ counts_from true journal (drop (i + 1) refusal_numbers))
-    (added ∙ ap (λ n. line ++ count_text behind number n) counted)
-    ∙ append_assoc line (count_text behind number (refused_with journal number))
-    (counts_from true journal (drop (i + 1) refusal_numbers))
-    ∙ ap (λ t. line ++ t) (sym (counts_some behind journal number (drop (i + 1) refusal_numbers)
+    ap (λ t. t ++ counts_from false journal (drop (i + 1) refusal_numbers))
+    (added ∙ ap (λ n. line ++ count_text is_first number n) counted)
+    ∙ append_assoc line (count_text is_first number (refused_with journal number))
+    (counts_from false journal (drop (i + 1) refusal_numbers))
+    ∙ ap (λ t. line ++ t) (sym (counts_some is_first journal number (drop (i + 1) refusal_numbers)
     (λ e. absurd (omega (arith, some, counted, e)))))
-    ∙ ap (λ l. line ++ counts_from behind journal l) (sym (drop_more refusal_numbers i d lt)) ∙ is
+    ∙ ap (λ l. line ++ counts_from is_first journal l) (sym (drop_more refusal_numbers i d lt)) ∙ is
 
-pub count_left_out : (line all : List ℕ) (behind : Bool) (journal : List Note) (i d count : ℕ) → i < 7
+pub count_left_out : (line all : List ℕ) (is_first : Bool) (journal : List Note) (i d count : ℕ) → i < 7
     → count ≡ refused_with journal (get_or refusal_numbers i d) → count ≡ 0
-    → line ++ counts_from behind journal (drop i refusal_numbers) ≡ all
-    → line ++ counts_from behind journal (drop (i + 1) refusal_numbers) ≡ all
-count_left_out line all behind journal i d count lt counted none is =
-    ap (λ t. line ++ t) (sym (counts_none behind journal (get_or refusal_numbers i d) (drop (i + 1) refusal_numbers)
+    → line ++ counts_from is_first journal (drop i refusal_numbers) ≡ all
+    → line ++ counts_from is_first journal (drop (i + 1) refusal_numbers) ≡ all
+count_left_out line all is_first journal i d count lt counted none is =
+    ap (λ t. line ++ t) (sym (counts_none is_first journal (get_or refusal_numbers i d) (drop (i + 1) refusal_numbers)
     (sym counted ∙ none)))
-    ∙ ap (λ l. line ++ counts_from behind journal l) (sym (drop_more refusal_numbers i d lt)) ∙ is
+    ∙ ap (λ l. line ++ counts_from is_first journal l) (sym (drop_more refusal_numbers i d lt)) ∙ is

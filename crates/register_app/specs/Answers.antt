@@ -1,5 +1,5 @@
--- How the program answers: what its outputs have gained, and when its words are refused.
-use Rattle.std.specs.Prelude.{◌≡◌, ◌≢◌, ◌⊎◌, ◌↔◌, ℕ, List, [], ◌∷◌, ◌++◌, codes, IfSome, Option, Some, slice_get, true, false}
+-- What the program does: what its outputs have gained, and when its words are refused.
+use Rattle.std.specs.Prelude.{◌≡◌, ◌≢◌, ◌⊎◌, ◌↔◌, ℕ, List, [], ◌∷◌, ◌++◌, codes, IfSome, Option, true, false}
 use Rattle.std.specs.Io.KnownBytes.{Appends}
 use Rattle.std.specs.declared.io.traits.Read as reads
 use Rattle.register_run.specs.Histories.{AreOfMachine}
@@ -11,15 +11,15 @@ use Rattle.register_records.specs.Views.{layout_of}
 use Rattle.register_records.specs.declared.outputs.Output as outputs
 use Rattle.register_records.specs.declared.setups.Setup.{Setup}
 use Rattle.register_run.specs.declared.reports.Verdict.TheVariants.{Complete}
-use Rattle.register_words.specs.Faults.{fault_told, line_told, status_of_fault}
-use Rattle.register_places.specs.Openings.{AreMade, AreNotSources, AreOpened, AreTwoFiles, missing_file}
+use Rattle.register_files.specs.Openings.{AreMade, AreNotSources, AreOpened, AreTwoFiles}
+use Rattle.register_app.specs.Refusals.{IsOfAsked, fault_of_refusal, line_of_refusal, status_of_refusal}
 use Rattle.register_app.specs.Reports.{lines_from}
 use Rattle.register_words.specs.Requests.{IsFaultOf, MeanJust, Task, help, table, version}
 use Rattle.register_words.specs.declared.help.TheConstants.{HELP, PRINT_FAULT}
-use Rattle.register_words.specs.declared.request_faults.RequestFault.{RequestFault}
+use Rattle.register_app.specs.declared.refusals.Refusal.{Refusal}
 use Rattle.register_words.specs.declared.requests.TheConstants.{VERSION}
 
--- the line that tells the version
+-- the line on the version
 abbrev pub version_line : List ℕ
 version_line = codes "register " ++ (VERSION.now ++ 10 ∷ [])
 
@@ -27,8 +27,8 @@ version_line = codes "register " ++ (VERSION.now ++ 10 ∷ [])
 abbrev pub AskForPage : List (List ℕ) → List ℕ → Type 0
 AskForPage words page = (MeanJust words help × (page ≡ HELP.now)) ⊎ (MeanJust words version × (page ≡ version_line))
 
--- a page was printed: with status 0 the output has gained it and handed it on, and nothing was told; else the output
--- has failed, and one line was told, unless that failed too
+-- a page was printed: with status 0 the output has gained it and handed it on, and standard error nothing; else the output
+-- has failed, and standard error has gained one line, unless that failed too
 pub record IsPrinted {W E : Type 0} (o : outputs.Ghosts W) (e : outputs.Ghosts E)
     (page : List ℕ) (status : ℕ) (given written : W) (before after : E) : Type 0 where
   pub printed : status ≡ 0 → Appends (o.contents given) (o.contents written) page × (o.is_flushed written ≡ true)
@@ -93,16 +93,12 @@ AreFilesAnswered r o e IsOpened IsMade AreApart words status given written outpu
     (task : Task) × MeanJust words (table task) × (task.files ≢ []) × (written ≡ given)
     × AreConverted r o e IsOpened IsMade AreApart task status outputs ran before after
 
--- the file that cannot be opened or made, where the error is that, is one of those whose tables the words ask for
-abbrev pub IsOfAsked : List (List ℕ) → RequestFault → Type 0
-IsOfAsked words error = IfSome (missing_file error) (λ file.
-    (task : Task) × MeanJust words (table task) × (i : ℕ) × (slice_get task.files i ≡ Some file))
-
--- an error was told with this status: something that is wrong with the words, or that memory ran out or a file was
--- missing; of words that are no arguments as they are taken, clap tells more than the definitions say
-pub record IsTold (words : List (List ℕ)) (status : ℕ) (before after : Option (List ℕ)) : Type 0 where
-  pub error : RequestFault
-  pub status_told : status_of_fault error ≡ status
-  pub fault : IfSome (fault_told error) (IsFaultOf words)
-  pub file : IsOfAsked words error
-  pub line : IfSome (line_told error) (Appends before after)
+-- standard error gained the line on why nothing is done, with this status: something that is wrong with the words, or
+-- that memory ran out or a file was missing; of words that are no arguments as they are taken, clap says more than the
+-- definitions
+pub record IsReported (words : List (List ℕ)) (status : ℕ) (before after : Option (List ℕ)) : Type 0 where
+  pub why : Refusal
+  pub status_of : status_of_refusal why ≡ status
+  pub fault : IfSome (fault_of_refusal why) (IsFaultOf words)
+  pub file : IsOfAsked words why
+  pub line : IfSome (line_of_refusal why) (Appends before after)

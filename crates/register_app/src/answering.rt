@@ -1,24 +1,26 @@
-//! What the program does with its words: it prints a page, or converts, and answers how that ended.
+//! What the program does with its words: it prints a page, or converts, and returns how that ended.
 
 ghost use Rattle.std.specs.Prelude.{◌≡◌, ◌≢◌, ◌≤◌, ◌⊎◌, ◌↔◌, ℕ, List, [], ◌∷◌, All, true, false, map, length, vec_len};
 ghost use Rattle.std.specs.Prelude.{IfSome, codes};
 ghost use Rattle.std.specs.Io.KnownBytes.{Appends};
 ghost use Rattle.std.specs.String.{string_bytes};
 ghost use Rattle.register_app.specs.Answers.{AreConverted, AreFilesAnswered, IsConverted, IsInputAnswered};
-ghost use Rattle.register_app.specs.Answers.{IsOfAsked, IsPageAnswered, IsPrinted, IsTold, version_line};
+ghost use Rattle.register_app.specs.Answers.{IsPageAnswered, IsPrinted, IsReported, version_line};
 ghost use Rattle.register_records.specs.Sources.{is_whole_end};
-ghost use Rattle.register_places.specs.Openings.{AreMade, IsFresh, IsNewlyMade};
+ghost use Rattle.register_files.specs.Openings.{AreMade, IsFresh, IsNewlyMade};
+ghost use Rattle.register_app.specs.Refusals.{IsOfAsked, fault_of_refusal, status_of_refusal};
 ghost use Rattle.register_app.specs.Reports.{lines_from};
-ghost use Rattle.register_words.specs.Faults.{fault_told, own_line, status_of_fault};
+ghost use Rattle.register_words.specs.Faults.{program_line};
 ghost use Rattle.register_words.specs.Requests.{AreWrong, IsFaultOf, MeanJust, Task, most_files, table, task_of};
 
-use crate::telling::tell_ends;
+use crate::refusals::Refusal;
+use crate::reporting::report_ends;
 use arrayvec::ArrayString;
-use register_places::{Opened, Places, open_files};
+use register_files::{FileStore, Opened, open_files};
 use register_records::{Output, send};
 use register_run::{MAX_SOURCES, Ran, Report, Verdict, run};
 use register_words::{
-    HELP, Job, MAX_FILES, PRINT_FAULT, Request, RequestFault, VERSION, read_request,
+    HELP, Job, MAX_FILES, MEMORY_FAULT, PRINT_FAULT, Request, RequestFault, VERSION, read_request,
 };
 use std::alloc::Global;
 use std::io::Read;
@@ -37,7 +39,7 @@ const OUT_OF_MEMORY: u8 = 3;
 
 /// The exit status, and the outputs as they were left.
 #[derive(Drop)]
-pub struct Answered<W> {
+pub struct Outcome<W> {
     /// The exit status.
     pub status: u8,
     /// Standard output, as it was left.
@@ -59,7 +61,7 @@ struct JobEnd<W> {
     ran: Vec<Ran>,
 }
 
-/// The line that tells the version.
+/// The line on the version.
 fn version_line_text() -> ArrayString<32>
     ensures { result.bytes ≡ version_line }
 {
@@ -70,52 +72,52 @@ fn version_line_text() -> ArrayString<32>
     line
 }
 
-/// Tells that memory ran out. A fault of `errors` is let go: there is nowhere else to tell it.
-fn tell_out_of_memory<E: Output>(errors: &mut E)
-    ensures told { E.has_failed errors.new ≡ false
-        → Appends (E.contents errors.old) (E.contents errors.new) (own_line (codes "out of memory")) }
+/// Reports that memory ran out. A fault of `errors` is let go: there is nowhere else to report it.
+fn report_out_of_memory<E: Output>(errors: &mut E)
+    ensures line { E.has_failed errors.new ≡ false
+        → Appends (E.contents errors.old) (E.contents errors.new) (program_line (codes "out of memory")) }
     ensures mark { E.own_mark errors.new ≡ E.own_mark errors.old }
 {
-    let _ = send(errors, b"register: out of memory\n");
+    let _ = send(errors, MEMORY_FAULT.as_bytes());
 }
 
-/// Tells why nothing is done, and gives the exit status. A fault of `errors` is let go, as above.
-fn tell_fault<E: Output>(alloc: Global, errors: &mut E, fault: &RequestFault<'_>) -> u8
-    ensures status { (result ≡ 3) ⊎ (result ≡ status_of_fault fault.now) }
-    ensures told { (words : List (List ℕ)) → IfSome (fault_told fault.now) (IsFaultOf words)
-        → IsOfAsked words fault.now → E.has_failed errors.new ≡ false
-        → IsTold words result (E.contents errors.old) (E.contents errors.new) }
+/// Reports why nothing is done, and returns the exit status. A fault of `errors` is let go, as above.
+fn report_refusal<E: Output>(alloc: Global, errors: &mut E, why: &Refusal<'_>) -> u8
+    ensures status { (result ≡ 3) ⊎ (result ≡ status_of_refusal why.now) }
+    ensures reported { (words : List (List ℕ)) → IfSome (fault_of_refusal why.now) (IsFaultOf words)
+        → IsOfAsked words why.now → E.has_failed errors.new ≡ false
+        → IsReported words result (E.contents errors.old) (E.contents errors.new) }
     ensures mark { E.own_mark errors.new ≡ E.own_mark errors.old }
 {
-    match fault.text(alloc) {
+    match why.text(alloc) {
         Ok(text) => {
             let _ = send(errors, text.as_bytes());
-            fault.status()
+            why.status()
         }
         Err(_) => {
-            tell_out_of_memory(errors);
+            report_out_of_memory(errors);
             OUT_OF_MEMORY
         }
     }
 }
 
-/// Answers that nothing is done.
+/// Does nothing but report why.
 fn refuse<W: Output, E: Output>(
     alloc: Global,
     output: W,
     errors: &mut E,
-    fault: &RequestFault<'_>,
-) -> Answered<W>
-    ensures status { (result.status ≡ 3) ⊎ (result.status ≡ status_of_fault fault.now) }
-    ensures told { (words : List (List ℕ)) → IfSome (fault_told fault.now) (IsFaultOf words)
-        → IsOfAsked words fault.now → E.has_failed errors.new ≡ false
-        → IsTold words result.status (E.contents errors.old) (E.contents errors.new) }
+    why: &Refusal<'_>,
+) -> Outcome<W>
+    ensures status { (result.status ≡ 3) ⊎ (result.status ≡ status_of_refusal why.now) }
+    ensures reported { (words : List (List ℕ)) → IfSome (fault_of_refusal why.now) (IsFaultOf words)
+        → IsOfAsked words why.now → E.has_failed errors.new ≡ false
+        → IsReported words result.status (E.contents errors.old) (E.contents errors.new) }
     ensures untouched { result.output ≡ output }
     ensures none { result.outputs.items ≡ [] }
     ensures mark { E.own_mark errors.new ≡ E.own_mark errors.old }
 {
-    Answered {
-        status: tell_fault(alloc, errors, fault),
+    Outcome {
+        status: report_refusal(alloc, errors, why),
         output,
         outputs: Vec::new(alloc),
         ran: Vec::new(alloc),
@@ -128,7 +130,7 @@ fn print_page<W: Output, E: Output>(
     page: &str,
     output: W,
     errors: &mut E,
-) -> Answered<W>
+) -> Outcome<W>
     ensures printed { IsPrinted W.Output E.Output page.now result.status
         output result.output errors.old errors.new }
     ensures statuses { (result.status ≡ 0) ⊎ (result.status ≡ 1) }
@@ -143,7 +145,7 @@ fn print_page<W: Output, E: Output>(
         let _ = send(errors, PRINT_FAULT.as_bytes());
         INCOMPLETE
     };
-    Answered {
+    Outcome {
         status,
         output,
         outputs: Vec::new(alloc),
@@ -151,9 +153,9 @@ fn print_page<W: Output, E: Output>(
     }
 }
 
-/// Tells how the sources of a run have ended, and gives the status. Where all are whole and no summary is asked for,
-/// there is nothing to tell.
-fn tell_report<W, E: Output>(errors: &mut E, summary: bool, report: &Report<W>) -> u8
+/// Reports how the sources of a run have ended, and returns the status. Where all are whole and no summary is asked for,
+/// there is nothing to report.
+fn report_run<W, E: Output>(errors: &mut E, summary: bool, report: &Report<W>) -> u8
     requires verdict { (report.now.verdict ≡ Verdict.Complete)
         ↔ All (λ e. is_whole_end e ≡ true) report.now.ends.items }
     ensures complete { (result ≡ 0) ↔ (report.now.verdict ≡ Verdict.Complete) }
@@ -165,19 +167,19 @@ fn tell_report<W, E: Output>(errors: &mut E, summary: bool, report: &Report<W>) 
 {
     match report.verdict {
         Verdict::Incomplete => {
-            tell_ends(errors, summary, report.ends.as_slice());
+            report_ends(errors, summary, report.ends.as_slice());
             INCOMPLETE
         }
         Verdict::Complete => {
             if summary {
-                tell_ends(errors, summary, report.ends.as_slice());
+                report_ends(errors, summary, report.ends.as_slice());
             }
             COMPLETE
         }
     }
 }
 
-/// Converts the sources, each to the output at its place, and tells how they have ended. There are no more sources
+/// Converts the sources, each to the output at its place, and reports how they have ended. There are no more sources
 /// than a run takes, and as many outputs, so that only running out of memory keeps a run from its beginning.
 fn run_job<
     T: Threads + Wait + Clock + CpuClock + Sync,
@@ -196,15 +198,15 @@ fn run_job<
         (task_of job.now) result.status sources.items outputs.items result.outputs.items result.ran.items errors.old
         errors.new }
     ensures untouched { result.status ≡ 3 → result.outputs.items ≡ outputs.items }
-    ensures told { result.status ≡ 3 → E.has_failed errors.new ≡ false → (words : List (List ℕ))
-        → IsTold words result.status (E.contents errors.old) (E.contents errors.new) }
+    ensures reported { result.status ≡ 3 → E.has_failed errors.new ≡ false → (words : List (List ℕ))
+        → IsReported words result.status (E.contents errors.old) (E.contents errors.new) }
     ensures len { vec_len result.outputs ≡ vec_len outputs }
     ensures statuses { (result.status ≡ 0) ⊎ (result.status ≡ 1) ⊎ (result.status ≡ 3) }
     ensures mark { E.own_mark errors.new ≡ E.own_mark errors.old }
 {
     match run(rt, alloc, sources, outputs, &job.setup) {
         Ok(report) => {
-            let status = tell_report(errors, job.summary, &report);
+            let status = report_run(errors, job.summary, &report);
             JobEnd {
                 status,
                 outputs: report.outputs,
@@ -212,7 +214,7 @@ fn run_job<
             }
         }
         Err(fault) => {
-            tell_out_of_memory(errors);
+            report_out_of_memory(errors);
             JobEnd {
                 status: OUT_OF_MEMORY,
                 outputs: fault.outputs,
@@ -228,23 +230,23 @@ fn convert_input<
     R: Read + Send + Drop,
     W: Output + Drop,
     E: Output,
->(rt: &T, alloc: Global, input: R, output: W, errors: &mut E, job: &Job<'_>) -> Answered<W>
+>(rt: &T, alloc: Global, input: R, output: W, errors: &mut E, job: &Job<'_>) -> Outcome<W>
     ensures converted { result.status ≢ 3 → IsConverted R.Read W.Output E.Output
         (task_of job.now) result.status (input ∷ []) (output ∷ []) (result.output ∷ []) result.ran.items errors.old
         errors.new }
     ensures untouched { result.status ≡ 3 → result.output ≡ output }
-    ensures told { result.status ≡ 3 → E.has_failed errors.new ≡ false → (words : List (List ℕ))
-        → IsTold words result.status (E.contents errors.old) (E.contents errors.new) }
+    ensures reported { result.status ≡ 3 → E.has_failed errors.new ≡ false → (words : List (List ℕ))
+        → IsReported words result.status (E.contents errors.old) (E.contents errors.new) }
     ensures none { result.outputs.items ≡ [] }
     ensures statuses { (result.status ≡ 0) ⊎ (result.status ≡ 1) ⊎ (result.status ≡ 3) }
     ensures mark { W.own_mark result.output ≡ W.own_mark output }
     ensures errors_mark { E.own_mark errors.new ≡ E.own_mark errors.old }
 {
     let Ok(mut sources) = Vec::with_capacity(alloc, 1) else {
-        return refuse(alloc, output, errors, &RequestFault::OutOfMemory);
+        return refuse(alloc, output, errors, &Refusal::Words(RequestFault::OutOfMemory));
     };
     let Ok(mut outputs) = Vec::with_capacity(alloc, 1) else {
-        return refuse(alloc, output, errors, &RequestFault::OutOfMemory);
+        return refuse(alloc, output, errors, &Refusal::Words(RequestFault::OutOfMemory));
     };
     sources.push_reserved(input);
     outputs.push_reserved(output);
@@ -256,7 +258,7 @@ fn convert_input<
     let Some(output) = outputs.pop() else {
         unreachable!()
     };
-    Answered {
+    Outcome {
         status,
         output,
         outputs,
@@ -269,34 +271,34 @@ fn convert_files<
     T: Threads + Wait + Clock + CpuClock + Sync,
     R: Read + Send + Drop,
     W: Output + Drop,
-    P: Places<R, W>,
+    P: FileStore<R, W>,
     E: Output,
->(rt: &T, alloc: Global, output: W, places: &P, errors: &mut E, job: &Job<'_>) -> Answered<W>
+>(rt: &T, alloc: Global, output: W, store: &P, errors: &mut E, job: &Job<'_>) -> Outcome<W>
     requires few { length job.now.files.items ≤ most_files }
     ensures converted { result.status ≢ 3 → AreConverted R.Read W.Output E.Output
-        (P.is_opened places.now) (IsNewlyMade W.Output (P.is_made places.now))
-        (P.are_apart places.now) (task_of job.now) result.status result.outputs.items result.ran.items errors.old
+        (P.is_opened store.now) (IsNewlyMade W.Output (P.is_made store.now))
+        (P.are_apart store.now) (task_of job.now) result.status result.outputs.items result.ran.items errors.old
         errors.new }
     ensures untouched { result.output ≡ output }
     ensures unwritten { result.status ≡ 3 → (result.outputs.items ≡ [])
-        ⊎ AreMade (IsNewlyMade W.Output (P.is_made places.now)) (task_of job.now).files
+        ⊎ AreMade (IsNewlyMade W.Output (P.is_made store.now)) (task_of job.now).files
         result.outputs.items }
-    ensures told { result.status ≡ 3 → E.has_failed errors.new ≡ false → (words : List (List ℕ))
+    ensures reported { result.status ≡ 3 → E.has_failed errors.new ≡ false → (words : List (List ℕ))
         → MeanJust words (table (task_of job.now))
-        → IsTold words result.status (E.contents errors.old) (E.contents errors.new) }
+        → IsReported words result.status (E.contents errors.old) (E.contents errors.new) }
     ensures statuses { (result.status ≡ 0) ⊎ (result.status ≡ 1) ⊎ (result.status ≡ 3) }
     ensures errors_mark { E.own_mark errors.new ≡ E.own_mark errors.old }
 {
-    let Opened { sources, outputs } = match open_files(alloc, places, job.files.as_slice()) {
+    let Opened { sources, outputs } = match open_files(alloc, store, job.files.as_slice()) {
         Ok(opened) => opened,
-        Err(fault) => return refuse(alloc, output, errors, &fault),
+        Err(fault) => return refuse(alloc, output, errors, &Refusal::Files(fault)),
     };
     let JobEnd {
         status,
         outputs,
         ran,
     } = run_job(rt, alloc, sources, outputs, errors, job);
-    Answered {
+    Outcome {
         status,
         output,
         outputs,
@@ -304,8 +306,8 @@ fn convert_files<
     }
 }
 
-/// Answers the program's words: prints a page, or converts the text that `input` gives to `output`, or converts each
-/// file named to its own output; tells `errors` what went wrong; and gives the exit status and the outputs back.
+/// Does what the program's words ask for: prints a page, or converts the text that `input` gives to `output`, or converts
+/// each file named to its own output; reports to `errors` what went wrong; and returns the exit status and the outputs.
 ///
 /// The status is
 ///
@@ -322,7 +324,7 @@ pub fn answer<
     T: Threads + Wait + Clock + CpuClock + Sync,
     R: Read + Send + Drop,
     W: Output + Drop,
-    P: Places<R, W>,
+    P: FileStore<R, W>,
     E: Output,
 >(
     rt: &T,
@@ -330,10 +332,10 @@ pub fn answer<
     words: &[String],
     input: R,
     output: W,
-    places: &P,
+    store: &P,
     errors: &mut E,
-) -> Answered<W>
-    // What is written to tells its bytes, so that no clause on them is empty; it holds none yet, and has not failed.
+) -> Outcome<W>
+    // The bytes of what is written to are known, so that no clause on them is empty; there are none yet, and no failure.
     requires fresh { IsFresh W.Output output }
     requires fresh_errors { IsFresh E.Output errors.old }
 
@@ -343,22 +345,22 @@ pub fn answer<
         output result.output result.outputs.items errors.old errors.new
         ⊎ IsInputAnswered R.Read W.Output E.Output (map string_bytes words.now) result.status
         input output result.output result.outputs.items result.ran.items errors.old errors.new
-        ⊎ AreFilesAnswered R.Read W.Output E.Output (P.is_opened places.now)
-        (IsNewlyMade W.Output (P.is_made places.now)) (P.are_apart places.now) (map string_bytes words.now)
+        ⊎ AreFilesAnswered R.Read W.Output E.Output (P.is_opened store.now)
+        (IsNewlyMade W.Output (P.is_made store.now)) (P.are_apart store.now) (map string_bytes words.now)
         result.status output result.output result.outputs.items result.ran.items errors.old errors.new }
 
     // Unless the status is 3, words are refused exactly where something is wrong with them.
     ensures refused { result.status ≢ 3 → (result.status ≡ 2) ↔ AreWrong (map string_bytes words.now) }
-    // And then standard error has gained what is told, unless it failed.
-    ensures told { 2 ≤ result.status → E.has_failed errors.new ≡ false
-        → IsTold (map string_bytes words.now) result.status (E.contents errors.old) (E.contents errors.new) }
+    // And then standard error has gained the line on that, unless it failed.
+    ensures reported { 2 ≤ result.status → E.has_failed errors.new ≡ false
+        → IsReported (map string_bytes words.now) result.status (E.contents errors.old) (E.contents errors.new) }
     ensures untouched { 2 ≤ result.status → result.output ≡ output }
     ensures none { result.status ≡ 2 → result.outputs.items ≡ [] }
 
     // With status 3 the outputs are none, or as they were made.
     ensures unwritten { result.status ≡ 3 → (result.outputs.items ≡ [])
         ⊎ ((task : Task) × MeanJust (map string_bytes words.now) (table task)
-        × AreMade (IsNewlyMade W.Output (P.is_made places.now)) task.files
+        × AreMade (IsNewlyMade W.Output (P.is_made store.now)) task.files
         result.outputs.items) }
     ensures statuses { result.status ≤ 3 }
     ensures mark { W.own_mark result.output ≡ W.own_mark output }
@@ -371,9 +373,9 @@ pub fn answer<
             if job.files.is_empty() {
                 convert_input(rt, alloc, input, output, errors, &job)
             } else {
-                convert_files(rt, alloc, output, places, errors, &job)
+                convert_files(rt, alloc, output, store, errors, &job)
             }
         }
-        Err(fault) => refuse(alloc, output, errors, &fault),
+        Err(fault) => refuse(alloc, output, errors, &Refusal::Words(fault)),
     }
 }

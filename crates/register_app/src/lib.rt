@@ -1,8 +1,9 @@
-//! What the program `register` does with its words, over any streams and any place for files. The program itself is
+//! What the program `register` does with its words, over any streams and any store of files. The program itself is
 //! the crate `register`, which hands this its arguments, its standard streams and the files of the system.
 #![tactic(auto)]
 
 mod answering;
-mod telling;
+mod refusals;
+mod reporting;
 
-pub use answering::{Answered, answer};
+pub use answering::{Outcome, answer};

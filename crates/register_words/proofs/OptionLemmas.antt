@@ -6,7 +6,7 @@ use Rattle.std.specs.Str.{bytes_eq}
 use Rattle.std.proofs.lemmas.Slice.Eq.{bytes_eq-Decides}
 use Rattle.clap.specs.Words.{Text}
 use Rattle.register_words.specs.CommandLine.{is_set}
-use Rattle.register_words.specs.Faults.{Fault, fault_told}
+use Rattle.register_words.specs.Faults.{Fault, fault_of_error}
 use Rattle.register_words.specs.Requests.{Check, FailFirst, IsNumberFault, IsNumberOf, NumberOption}
 use Rattle.register_words.specs.declared.request_faults.RequestFault.{RequestFault}
 
@@ -47,8 +47,8 @@ asks_named option word (Some n) error is = (is n).0 refl
 
 -- where its word names none, that is its fault
 pub faults_unnamed : (option : NumberOption) (word : Text) (named : Option ℕ) (error : RequestFault)
-    → ((n : ℕ) → (named ≡ Some n) ↔ option.names word n) → fault_told error ≡ Some (option.fault word)
-    → IfErr (ok_or named error) (λ e. IsSomeAnd (fault_told e) (IsNumberFault option (Some word)))
+    → ((n : ℕ) → (named ≡ Some n) ↔ option.names word n) → fault_of_error error ≡ Some (option.fault word)
+    → IfErr (ok_or named error) (λ e. IsSomeAnd (fault_of_error e) (IsNumberFault option (Some word)))
 faults_unnamed option word (Some n) error is told = tt
 faults_unnamed option word None error is told =
     subst (λ fault. IsSomeAnd fault (IsNumberFault option (Some word))) (sym told)

@@ -1,7 +1,7 @@
 -- Words mean one thing at most.
 use Rattle.std.proofs.Common.{◌≡◌, ◌∙◌, ℕ, Bool, List, [], ◌∷◌, length, sym, ap, ap₂, refl, subst, arith}
 use Rattle.std.proofs.Common.{inl, inr, Option, Some, None}
-use Rattle.std.specs.Prelude.{◌≢◌, ⊤, IfSome, IsSomeAnd}
+use Rattle.std.specs.Prelude.{◌≢◌, ⊤, IfSome}
 use Rattle.clap.specs.Values.{kind_of}
 use Rattle.clap.specs.Words.{HasKind, IsAmong, Text, fault_of}
 use Rattle.clap.specs.declared.error.Error.{Error}
@@ -10,7 +10,7 @@ use Rattle.clap.specs.declared.error.kind.ErrorKind.TheVariants.{DisplayHelp, Di
 use Rattle.date_texts.specs.Laws.{OneTarget}
 use Rattle.date_texts.specs.declared.target.Target.{Target}
 use Rattle.register_words.specs.CommandLine.{AreTaken, command_line, values_in}
-use Rattle.register_words.specs.Faults.{Fault, IsOfWords, fault_told, usage}
+use Rattle.register_words.specs.Faults.{Fault, usage}
 use Rattle.register_words.specs.OptionValues.{IsDelimiterWord, IsNumberWord}
 use Rattle.register_records.specs.Entries.{Format}
 use Rattle.register_records.specs.Tables.{Layout}
@@ -22,7 +22,6 @@ use Rattle.register_words.specs.Requests.{target_check, usage_check, value_check
 use Rattle.register_words.specs.Requests.{wrong}
 use Rattle.register_words.specs.declared.requests.AskedNumber.{AskedNumber}
 use Rattle.register_words.specs.declared.requests.AskedNumber.TheVariants as numbers
-use Rattle.register_words.specs.declared.request_faults.RequestFault.{RequestFault}
 use Rattle.register_words.proofs.FileLemmas.{fit_no_fault, one_file_fault}
 use Rattle.register_words.proofs.KindLemmas.{one_kind}
 use Rattle.register_words.proofs.ListLemmas.{asks_no_fault, asks_one, one_fault}
@@ -259,11 +258,3 @@ pub told_just : (words : List Text) (told : Option Fault) (fails : Fault → Typ
     → IfSome told (λ fault. MeanJust words (wrong fault))
 told_just words None fails one is first = tt
 told_just words (Some fault) fails one is first = mean_just one words (wrong fault) (first fault is)
-
--- an error that tells a fault is of the words
-pub tells_some : (told : RequestFault) (fails : Fault → Type 0) → IsSomeAnd (fault_told told) fails → IsOfWords told
-tells_some told fails is none = absurd (at (fault_told told) is none)
-  where
-    at : (o : Option Fault) → IsSomeAnd o fails → o ≡ None → ⊥
-    at None is e = is
-    at (Some fault) is e = absurd (cc)

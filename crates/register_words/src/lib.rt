@@ -7,5 +7,5 @@ mod request_faults;
 mod requests;
 
 pub use help::{HELP, PRINT_FAULT};
-pub use request_faults::{RequestFault, SUFFIX};
+pub use request_faults::{MEMORY_FAULT, RequestFault, own_line};
 pub use requests::{Job, MAX_FILES, Request, VERSION, read_request};

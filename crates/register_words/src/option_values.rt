@@ -1,7 +1,7 @@
 //! The values of the options.
 
 ghost use Rattle.std.specs.Prelude.{◌≡◌, ◌↔◌, ℕ, Some, Ok, Err, IfOk, IfErr, IfSome};
-ghost use Rattle.register_words.specs.Faults.{IsOfWords, fault_told};
+ghost use Rattle.register_words.specs.Faults.{fault_of_error};
 ghost use Rattle.register_words.specs.OptionValues.{IsDelimiterWord, IsNumberWord, ListMeansJust};
 
 use crate::request_faults::RequestFault;
@@ -22,9 +22,8 @@ const NO_TARGET: &str = "none";
 /// memory runs out.
 pub fn read_targets(alloc: Global, list: &str) -> Result<Vec<Target>, RequestFault<'_>>
     ensures value { IfOk result (λ targets. ListMeansJust list.entry.now (Ok targets.items)) }
-    ensures fault { IfErr result (λ error. IfSome (fault_told error)
+    ensures fault { IfErr result (λ error. IfSome (fault_of_error error)
         (λ fault. ListMeansJust list.entry.now (Err fault))) }
-    ensures memory { IfErr result IsOfWords }
 {
     one_target();
     let mut targets = Vec::new(alloc);

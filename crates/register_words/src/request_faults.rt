@@ -1,16 +1,16 @@
-//! Why the words ask for nothing that is done.
+//! What is wrong with the words.
 
 ghost use Rattle.std.specs.Prelude.{◌≡◌, ◌++◌, IfOk, IfSome};
 ghost use Rattle.std.specs.String.{string_bytes};
-ghost use Rattle.register_words.specs.Faults.{own_line};
+ghost use Rattle.register_words.specs.Faults.{program_line};
 
 use date_texts::Target;
 use std::alloc::{AllocError, Global};
 
-/// What the name of a table has behind the name of its register.
-pub const SUFFIX: &str = ".out.csv";
+/// The line on standard error where memory ran out.
+pub const MEMORY_FAULT: &str = "register: out of memory\n";
 
-/// Why nothing is done: what is wrong with the words, or what was missing before the run.
+/// Why the words ask for nothing: what is wrong with them, or that memory ran out.
 #[derive(Debug, Drop)]
 pub enum RequestFault<'a> {
     /// Memory ran out.
@@ -31,63 +31,55 @@ pub enum RequestFault<'a> {
     TooManyFiles,
     /// A file that is named at two places.
     FileTwice(&'a str),
-    /// A file that could not be opened.
-    CannotOpen(&'a str),
-    /// A file whose output could not be made.
-    CannotMake(&'a str),
 }
 
 impl RequestFault<'_> {
-    ghost use Rattle.register_words.specs.Faults.{line_told, status_of_fault};
+    ghost use Rattle.register_words.specs.Faults.{error_line, status_of_fault};
 
-    /// The exit status: 3 where memory ran out and for files, and 2 for what is wrong with the words.
+    /// The exit status: 3 where memory ran out, and 2 for what is wrong with the words.
     pub fn status(&self) -> u8
         ensures { result ≡ status_of_fault self.now }
     {
         match self {
-            RequestFault::OutOfMemory | RequestFault::CannotOpen(_) | RequestFault::CannotMake(_) =>
-                3,
+            RequestFault::OutOfMemory => 3,
             _ => 2,
         }
     }
 
-    /// What is told: a line that begins with the program's name, or the text of clap.
+    /// What standard error gets: a line that begins with the program's name, or the text of clap.
     ///
     /// # Errors
     ///
     /// Memory ran out.
     pub fn text(&self, alloc: Global) -> Result<String, AllocError>
-        ensures { IfOk result (λ text. IfSome (line_told self.now) (λ line. string_bytes text ≡ line)) }
+        ensures { IfOk result (λ text. IfSome (error_line self.now) (λ line. string_bytes text ≡ line)) }
     {
         match self {
-            RequestFault::OutOfMemory => line_of(alloc, "out of memory", "", ""),
+            RequestFault::OutOfMemory => String::from_str(alloc, MEMORY_FAULT),
             RequestFault::Usage(error) => match format!(in alloc; "{error}") {
                 Ok(text) => Ok(text),
                 Err(_) => Err(AllocError),
             },
-            RequestFault::UnknownTarget(word) => line_of(alloc, "unknown target: ", word, ""),
+            RequestFault::UnknownTarget(word) => own_line(alloc, "unknown target: ", word),
             RequestFault::TargetTwice(target) => {
-                line_of(alloc, "target named twice: ", target.name(), "")
+                own_line(alloc, "target named twice: ", target.name())
             }
-            RequestFault::BadRing(word) => line_of(alloc, "bad ring size: ", word, ""),
-            RequestFault::UnknownDelimiter(word) => line_of(alloc, "unknown delimiter: ", word, ""),
-            RequestFault::BadStripes(word) => line_of(alloc, "bad stripes: ", word, ""),
-            RequestFault::TooManyFiles => line_of(alloc, "more than 32 files", "", ""),
-            RequestFault::FileTwice(file) => line_of(alloc, "file named twice: ", file, ""),
-            RequestFault::CannotOpen(file) => line_of(alloc, "cannot open ", file, ""),
-            RequestFault::CannotMake(file) => line_of(alloc, "cannot make ", file, SUFFIX),
+            RequestFault::BadRing(word) => own_line(alloc, "bad ring size: ", word),
+            RequestFault::UnknownDelimiter(word) => own_line(alloc, "unknown delimiter: ", word),
+            RequestFault::BadStripes(word) => own_line(alloc, "bad stripes: ", word),
+            RequestFault::TooManyFiles => own_line(alloc, "more than 32 files", ""),
+            RequestFault::FileTwice(file) => own_line(alloc, "file named twice: ", file),
         }
     }
 }
 
-/// A line of the program's own: its name, what is told, and the word that it is told of, with what stands behind that.
-fn line_of(alloc: Global, told: &str, word: &str, behind: &str) -> Result<String, AllocError>
-    ensures { IfOk result (λ line. string_bytes line ≡ own_line (told.now ++ (word.now ++ behind.now))) }
+/// A line of the program's own: its name, what is wrong, and the word with which it is wrong.
+pub fn own_line(alloc: Global, message: &str, word: &str) -> Result<String, AllocError>
+    ensures { IfOk result (λ line. string_bytes line ≡ program_line (message.now ++ word.now)) }
 {
     let mut line = String::from_str(alloc, "register: ")?;
-    line.push_str(told)?;
+    line.push_str(message)?;
     line.push_str(word)?;
-    line.push_str(behind)?;
     line.push_str("\n")?;
     Ok(line)
 }

@@ -8,7 +8,7 @@ ghost use Rattle.clap.specs.Words.{FailsBy, HasKind, all_of, app_of, fault_of, f
 ghost use Rattle.clap.specs.Words.{rows_of, rule_of};
 ghost use Rattle.register_words.specs.CommandLine.{AreTaken, bare_command, command_line, flag_rule, is_set, option_rule};
 ghost use Rattle.register_words.specs.CommandLine.{values_in, values_of, word_rule};
-ghost use Rattle.register_words.specs.Faults.{IsOfWords, fault_told};
+ghost use Rattle.register_words.specs.Faults.{fault_of_error};
 ghost use Rattle.register_words.specs.Requests.{AreFilesToConvert, AreTargetsOf, Ask, FailFirst, IsFileFault, IsFirstTwice};
 ghost use Rattle.register_words.specs.Requests.{IsNamedTwice, IsNumberFault, IsNumberOf, IsTargetFault, MeanJust};
 ghost use Rattle.register_words.specs.Requests.{delimiter_option, meaning_of, value_checks};
@@ -177,9 +177,8 @@ fn read_options<'a>(alloc: Global, words: &'a [String]) -> Result<Options<'a>, c
 /// The targets that the value of `--to` asks for, or all of them where there is none.
 fn chosen_targets<'a>(alloc: Global, list: Option<&'a str>) -> Result<Vec<Target>, RequestFault<'a>>
     ensures value { IfOk result (λ targets. AreTargetsOf (option_map (λ l. l.now) list.entry) targets.items) }
-    ensures fault { IfErr result (λ error. IfSome (fault_told error)
+    ensures fault { IfErr result (λ error. IfSome (fault_of_error error)
         (IsTargetFault (option_map (λ l. l.now) list.entry))) }
-    ensures memory { IfErr result IsOfWords }
 {
     match list {
         Some(list) => read_targets(alloc, list),
@@ -196,7 +195,7 @@ fn chosen_targets<'a>(alloc: Global, list: Option<&'a str>) -> Result<Vec<Target
 /// The byte that the value of `--delimiter` names, or a comma where there is none.
 fn chosen_delimiter<'a>(word: Option<&'a str>) -> Result<u8, RequestFault<'a>>
     ensures value { IfOk result (IsNumberOf delimiter_option (option_map (λ w. w.now) word.entry)) }
-    ensures fault { IfErr result (λ error. IsSomeAnd (fault_told error)
+    ensures fault { IfErr result (λ error. IsSomeAnd (fault_of_error error)
         (IsNumberFault delimiter_option (option_map (λ w. w.now) word.entry))) }
 {
     let Some(word) = word else {
@@ -239,7 +238,7 @@ impl AskedNumber {
 
     /// What is wrong with a word that names none.
     fn fault<'a>(self, word: &'a str) -> RequestFault<'a>
-        ensures { fault_told result ≡ Some ((bounds_of self).fault word.entry.now) }
+        ensures { fault_of_error result ≡ Some ((bounds_of self).fault word.entry.now) }
     {
         match self {
             AskedNumber::Ring => RequestFault::BadRing(word),
@@ -250,7 +249,7 @@ impl AskedNumber {
     /// The number that the value of the option names, or the usual one where there is none.
     fn chosen<'a>(self, word: Option<&'a str>) -> Result<usize, RequestFault<'a>>
         ensures value { IfOk result (IsNumberOf (number_option self) (option_map (λ w. w.now) word.entry)) }
-        ensures fault { IfErr result (λ error. IsSomeAnd (fault_told error)
+        ensures fault { IfErr result (λ error. IsSomeAnd (fault_of_error error)
             (IsNumberFault (number_option self) (option_map (λ w. w.now) word.entry))) }
     {
         let Some(word) = word else {
@@ -287,7 +286,7 @@ fn file_named_twice<'a>(files: &[&'a str]) -> Option<&'a str>
 /// `TooManyFiles` where there are more than 32, and else `FileTwice` for the first that was named before.
 fn check_files<'a>(files: &[&'a str]) -> Result<(), RequestFault<'a>>
     ensures fine { OnOk result (AreFilesToConvert (map (λ f. f.now) files.now)) }
-    ensures fault { IfErr result (λ error. IsSomeAnd (fault_told error)
+    ensures fault { IfErr result (λ error. IsSomeAnd (fault_of_error error)
         (IsFileFault (map (λ f. f.now) files.now))) }
 {
     if files.len() > MAX_FILES {
@@ -308,8 +307,7 @@ fn check_files<'a>(files: &[&'a str]) -> Result<(), RequestFault<'a>>
 /// memory runs out on the way.
 fn chosen_job<'a>(alloc: Global, options: Options<'a>) -> Result<Job<'a>, RequestFault<'a>>
     ensures asked { IfOk result (λ job. Ask (values_by options.entry) (task_of job)) }
-    ensures fault { IfErr result (λ error. IfSome (fault_told error) (FailFirst (value_checks (values_by options.entry)))) }
-    ensures memory { IfErr result IsOfWords }
+    ensures fault { IfErr result (λ error. IfSome (fault_of_error error) (FailFirst (value_checks (values_by options.entry)))) }
 {
     let targets = chosen_targets(alloc, options.to)?;
     let ring = AskedNumber::Ring.chosen(options.ring)?;
@@ -337,9 +335,8 @@ fn chosen_job<'a>(alloc: Global, options: Options<'a>) -> Result<Job<'a>, Reques
 /// these, `OutOfMemory` where memory runs out on the way.
 pub fn read_request<'a>(alloc: Global, words: &'a [String]) -> Result<Request<'a>, RequestFault<'a>>
     ensures asked { IfOk result (λ request. MeanJust (map string_bytes words.entry.now) (meaning_of request)) }
-    ensures refused { IfErr result (λ error. IfSome (fault_told error)
+    ensures refused { IfErr result (λ error. IfSome (fault_of_error error)
         (λ fault. MeanJust (map string_bytes words.entry.now) (wrong fault))) }
-    ensures memory { IfErr result IsOfWords }
 {
     one_target();
     let options = match read_options(alloc, words) {

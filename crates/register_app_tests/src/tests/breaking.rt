@@ -2,8 +2,8 @@
 
 ghost use Rattle.std.specs.Prelude.{⊤};
 
-use crate::tests::helpers::{Heard, NoPlaces, ONE_RECORD, ONE_ROW, hear};
-use register_places::{Places, Told};
+use crate::tests::helpers::{Heard, NoFiles, ONE_RECORD, ONE_ROW, hear};
+use register_files::{FileStore, LoggedWriter};
 use register_records::PlainOutput;
 use register_words::HELP;
 use std::alloc::{AllocError, Global};
@@ -74,7 +74,7 @@ struct Folder {
     alloc: Global,
 }
 
-impl Places<&'static [u8], PlainOutput<Told<Breaking>>> for Folder {
+impl FileStore<&'static [u8], PlainOutput<LoggedWriter<Breaking>>> for Folder {
     ghost is_opened = { λ _ _ _. ⊤ };
 
     ghost is_made = { λ _ _ _ _. ⊤ };
@@ -88,12 +88,12 @@ impl Places<&'static [u8], PlainOutput<Told<Breaking>>> for Folder {
         Ok(ONE_RECORD)
     }
 
-    fn make(&self, name: &str, mark: u32) -> io::Result<PlainOutput<Told<Breaking>>> {
+    fn make(&self, name: &str, mark: u32) -> io::Result<PlainOutput<LoggedWriter<Breaking>>> {
         if name == "locked.csv.out.csv" {
             return Err(io::Error::from(ErrorKind::PermissionDenied));
         }
         let table = Breaking::new(self.alloc, NOWHERE)?;
-        Ok(PlainOutput::new(Told::new(table), mark))
+        Ok(PlainOutput::new(LoggedWriter::new(table), mark))
     }
 
     fn are_one_file(&self, _name: &str, _other: &str) -> bool {
@@ -317,7 +317,7 @@ fn hear_page(
     let text: &'static [u8] = b"";
     let output = Breaking::new(alloc, output)?;
     let errors = Breaking::new(alloc, errors)?;
-    hear(rt, alloc, &[word], text, output, &NoPlaces, errors)
+    hear(rt, alloc, &[word], text, output, &NoFiles, errors)
 }
 
 /// Whether a page gets this status where standard output and standard error break there, with as much of the page on

@@ -1,7 +1,7 @@
 //! Files of the system, and their tables.
 
 use crate::tests::helpers::{Heard, ONE_RECORD, ONE_ROW, hear};
-use register_places::{Destination, Disk, Exclusive, Source};
+use register_files::{Destination, Disk, Exclusive, Source};
 use std::alloc::{AllocError, Global};
 use std::fs::OpenOptions;
 use std::os::unix::fs::symlink;

@@ -3,7 +3,7 @@
 ghost use Rattle.std.specs.Prelude.{⊤};
 
 use crate::tests::helpers::{Heard, MANY_FILES, ONE_RECORD, ONE_ROW, hear_in_memory};
-use register_places::{Places, Told};
+use register_files::{FileStore, LoggedWriter};
 use register_records::PlainOutput;
 use std::alloc::{AllocError, Global};
 use std::io;
@@ -19,7 +19,7 @@ struct Shelf {
     alloc: Global,
 }
 
-impl Places<&'static [u8], PlainOutput<Told<Vec<u8>>>> for Shelf {
+impl FileStore<&'static [u8], PlainOutput<LoggedWriter<Vec<u8>>>> for Shelf {
     ghost is_opened = { λ _ _ _. ⊤ };
 
     ghost is_made = { λ _ _ _ _. ⊤ };
@@ -38,11 +38,11 @@ impl Places<&'static [u8], PlainOutput<Told<Vec<u8>>>> for Shelf {
         }
     }
 
-    fn make(&self, name: &str, mark: u32) -> io::Result<PlainOutput<Told<Vec<u8>>>> {
+    fn make(&self, name: &str, mark: u32) -> io::Result<PlainOutput<LoggedWriter<Vec<u8>>>> {
         if name == "c.csv.out.csv" {
             return Err(io::Error::from(ErrorKind::PermissionDenied));
         }
-        Ok(PlainOutput::new(Told::new(Vec::new(self.alloc)), mark))
+        Ok(PlainOutput::new(LoggedWriter::new(Vec::new(self.alloc)), mark))
     }
 
     fn are_one_file(&self, name: &str, other: &str) -> bool {

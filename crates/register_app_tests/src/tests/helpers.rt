@@ -1,10 +1,10 @@
 //! What the tests share: the words of a command line, and the program's answer to them over memory.
 
 ghost use Rattle.std.specs.Prelude.{◌≡◌, [], ⊤, false};
-ghost use Rattle.register_places.specs.Told.{told_bytes};
+ghost use Rattle.register_files.specs.LoggedWriters.{logged_bytes};
 
-use register_app::{Answered, answer};
-use register_places::{Places, Told};
+use register_app::{Outcome, answer};
+use register_files::{FileStore, LoggedWriter};
 use register_records::{Output, PlainOutput};
 use std::alloc::{AllocError, Global};
 use std::io;
@@ -69,26 +69,26 @@ fn answered<
     R: Read + Send + Drop,
     W: Write + Drop,
     E: Write + Drop,
-    P: Places<R, PlainOutput<Told<W>>>,
+    P: FileStore<R, PlainOutput<LoggedWriter<W>>>,
 >(
     rt: &T,
     alloc: Global,
     words: &[String],
     input: R,
     output: W,
-    places: &P,
-    errors: &mut PlainOutput<Told<E>>,
-) -> Answered<PlainOutput<Told<W>>>
-    requires { (told_bytes errors.old.inner ≡ []) × (errors.old.failed ≡ false) }
+    store: &P,
+    errors: &mut PlainOutput<LoggedWriter<E>>,
+) -> Outcome<PlainOutput<LoggedWriter<W>>>
+    requires { (logged_bytes errors.old.inner ≡ []) × (errors.old.failed ≡ false) }
 {
-    let output = PlainOutput::new(Told::new(output), 1);
-    answer(rt, alloc, words, input, output, places, errors)
+    let output = PlainOutput::new(LoggedWriter::new(output), 1);
+    answer(rt, alloc, words, input, output, store, errors)
 }
 
 /// The writers of these outputs.
 fn writers_of<W: Write + Drop>(
     alloc: Global,
-    outputs: Vec<PlainOutput<Told<W>>>,
+    outputs: Vec<PlainOutput<LoggedWriter<W>>>,
 ) -> Result<Vec<W>, AllocError> {
     let mut writers = Vec::new(alloc);
     for output in outputs {
@@ -103,19 +103,19 @@ pub fn hear<
     R: Read + Send + Drop,
     W: Write + Drop,
     E: Write + Drop,
-    P: Places<R, PlainOutput<Told<W>>>,
+    P: FileStore<R, PlainOutput<LoggedWriter<W>>>,
 >(
     rt: &T,
     alloc: Global,
     words: &[&str],
     input: R,
     output: W,
-    places: &P,
+    store: &P,
     errors: E,
 ) -> Result<Heard<W, E>, AllocError> {
     let words = words_of(alloc, words)?;
-    let mut errors = PlainOutput::new(Told::new(errors), 0);
-    let Answered {
+    let mut errors = PlainOutput::new(LoggedWriter::new(errors), 0);
+    let Outcome {
         status,
         output,
         outputs,
@@ -126,7 +126,7 @@ pub fn hear<
         words.as_slice(),
         input,
         output,
-        places,
+        store,
         &mut errors,
     );
     Ok(Heard {
@@ -137,10 +137,10 @@ pub fn hear<
     })
 }
 
-/// A place without files.
-pub struct NoPlaces;
+/// A store without files.
+pub struct NoFiles;
 
-impl<R, W: Output> Places<R, W> for NoPlaces {
+impl<R, W: Output> FileStore<R, W> for NoFiles {
     ghost is_opened = { λ _ _ _. ⊤ };
 
     ghost is_made = { λ _ _ _ _. ⊤ };
@@ -164,16 +164,16 @@ impl<R, W: Output> Places<R, W> for NoPlaces {
 pub fn hear_in_memory<
     T: Threads + Wait + Clock + CpuClock + Sync,
     R: Read + Send + Drop,
-    P: Places<R, PlainOutput<Told<Vec<u8>>>>,
+    P: FileStore<R, PlainOutput<LoggedWriter<Vec<u8>>>>,
 >(
     rt: &T,
     alloc: Global,
     words: &[&str],
     input: R,
-    places: &P,
+    store: &P,
 ) -> Result<Heard<Vec<u8>, Vec<u8>>, AllocError> {
     let (output, errors) = (Vec::new(alloc), Vec::new(alloc));
-    hear(rt, alloc, words, input, output, places, errors)
+    hear(rt, alloc, words, input, output, store, errors)
 }
 
 /// Runs the program's answer to these words over a text, without files.
@@ -183,7 +183,7 @@ pub fn hear_text(
     words: &[&str],
     text: &'static [u8],
 ) -> Result<Heard<Vec<u8>, Vec<u8>>, AllocError> {
-    hear_in_memory(rt, alloc, words, text, &NoPlaces)
+    hear_in_memory(rt, alloc, words, text, &NoFiles)
 }
 
 /// Words with a text for standard input, without files, and what they give: the status, the table and standard error.

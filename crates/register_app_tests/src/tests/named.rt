@@ -3,7 +3,7 @@
 ghost use Rattle.std.specs.Prelude.{◌≡◌, ◌++◌, ◌⊎◌, ⊤, codes};
 
 use crate::tests::helpers::{Heard, ONE_RECORD, ONE_ROW, hear_in_memory};
-use register_places::{Places, Told};
+use register_files::{FileStore, LoggedWriter};
 use register_records::PlainOutput;
 use std::alloc::{AllocError, Global};
 use std::io;
@@ -27,7 +27,7 @@ struct TwoFiles {
     other: File,
 }
 
-impl Places<&'static [u8], PlainOutput<Told<Vec<u8>>>> for TwoFiles {
+impl FileStore<&'static [u8], PlainOutput<LoggedWriter<Vec<u8>>>> for TwoFiles {
     // The source is the text of the file of this name, and no other.
     ghost is_opened = { λ two name source. ((name ≡ two.one.name.now) × (source.now ≡ two.one.text.now))
         ⊎ ((name ≡ two.other.name.now) × (source.now ≡ two.other.text.now)) };
@@ -48,10 +48,10 @@ impl Places<&'static [u8], PlainOutput<Told<Vec<u8>>>> for TwoFiles {
         }
     }
 
-    fn make(&self, name: &str, mark: u32) -> io::Result<PlainOutput<Told<Vec<u8>>>> {
+    fn make(&self, name: &str, mark: u32) -> io::Result<PlainOutput<LoggedWriter<Vec<u8>>>> {
         match name.strip_suffix(".out.csv") {
             Some(file) if file == self.one.name || file == self.other.name => {
-                Ok(PlainOutput::new(Told::new(Vec::new(self.alloc)), mark))
+                Ok(PlainOutput::new(LoggedWriter::new(Vec::new(self.alloc)), mark))
             }
             _ => Err(io::Error::from(ErrorKind::NotFound)),
         }

@@ -1,6 +1,6 @@
 //! Sealed registers from standard input.
 
-use crate::tests::helpers::{NoPlaces, TextCase, assert_answers, hear_in_memory};
+use crate::tests::helpers::{NoFiles, TextCase, assert_answers, hear_in_memory};
 use std::alloc::Global;
 use std::io::Read;
 use std::sync::Wait;
@@ -51,7 +51,7 @@ fn is_ended_by(
     is_whole: bool,
 ) -> bool {
     let text = ENTRIES.chain(end);
-    let Ok(heard) = hear_in_memory(rt, alloc, SEALED.words, text, &NoPlaces) else {
+    let Ok(heard) = hear_in_memory(rt, alloc, SEALED.words, text, &NoFiles) else {
         return false;
     };
     let (status, errors): (u8, &[u8]) = if is_whole {

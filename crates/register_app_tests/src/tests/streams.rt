@@ -2,8 +2,8 @@
 
 ghost use Rattle.std.specs.Prelude.{⊤};
 
-use crate::tests::helpers::{Heard, NoPlaces, hear, hear_in_memory};
-use register_places::{Places, Told};
+use crate::tests::helpers::{Heard, NoFiles, hear, hear_in_memory};
+use register_files::{FileStore, LoggedWriter};
 use register_records::PlainOutput;
 use register_words::HELP;
 use std::alloc::{AllocError, Global};
@@ -60,7 +60,7 @@ struct CountedFiles<'a> {
     counts: &'a Counts,
 }
 
-impl<'a> Places<CountedText<'a>, PlainOutput<Told<Vec<u8>>>> for CountedFiles<'a> {
+impl<'a> FileStore<CountedText<'a>, PlainOutput<LoggedWriter<Vec<u8>>>> for CountedFiles<'a> {
     ghost is_opened = { λ _ _ _. ⊤ };
 
     ghost is_made = { λ _ _ _ _. ⊤ };
@@ -74,9 +74,9 @@ impl<'a> Places<CountedText<'a>, PlainOutput<Told<Vec<u8>>>> for CountedFiles<'a
         })
     }
 
-    fn make(&self, _name: &str, mark: u32) -> io::Result<PlainOutput<Told<Vec<u8>>>> {
+    fn make(&self, _name: &str, mark: u32) -> io::Result<PlainOutput<LoggedWriter<Vec<u8>>>> {
         self.counts.made.fetch_add(1, Ordering::SeqCst);
-        Ok(PlainOutput::new(Told::new(Vec::new(self.alloc)), mark))
+        Ok(PlainOutput::new(LoggedWriter::new(Vec::new(self.alloc)), mark))
     }
 
     fn are_one_file(&self, _name: &str, _other: &str) -> bool {
@@ -205,7 +205,7 @@ fn hear_broken<E: Write + Drop>(
     words: &[&str],
     errors: E,
 ) -> Result<Heard<Vec<u8>, E>, AllocError> {
-    hear(rt, alloc, words, Broken, Vec::new(alloc), &NoPlaces, errors)
+    hear(rt, alloc, words, Broken, Vec::new(alloc), &NoFiles, errors)
 }
 
 /// Whether an input that breaks is told.
@@ -225,7 +225,7 @@ fn is_broken_output_told(
     alloc: Global,
 ) -> bool {
     let text: &'static [u8] = b"id,calendar,date\n";
-    let Ok(heard) = hear(rt, alloc, &[], text, Broken, &NoPlaces, Vec::new(alloc)) else {
+    let Ok(heard) = hear(rt, alloc, &[], text, Broken, &NoFiles, Vec::new(alloc)) else {
         return false;
     };
     heard.tells(1, b"source 1: cause 4\n")

@@ -1,7 +1,7 @@
 //! Lines that go to a terminal, and the same lines elsewhere.
 
-use crate::tests::helpers::{NoPlaces, ONE_RECORD, hear};
-use register_places::Lines;
+use crate::tests::helpers::{NoFiles, ONE_RECORD, hear};
+use register_files::Lines;
 use std::alloc::Global;
 use std::io;
 use std::io::{ErrorKind, Write};
@@ -94,7 +94,7 @@ fn is_told(
 ) -> bool {
     let words = ["--to", target];
     let output = Vec::new(alloc);
-    let Ok(heard) = hear(rt, alloc, &words, ONE_RECORD, output, &NoPlaces, stream) else {
+    let Ok(heard) = hear(rt, alloc, &words, ONE_RECORD, output, &NoFiles, stream) else {
         return false;
     };
     bytes_of(&heard.errors) == wanted

@@ -4,8 +4,7 @@ use Rattle.std.proofs.Common.{◌≡◌, ◌≢◌, ℕ, rules, arith, inl, inr,
 use Rattle.std.proofs.lemmas.List.{length-map}
 use Rattle.std.specs.String.{string_bytes}
 use Rattle.register_words.specs.Requests.{MeanJust, help, table, task_of, version}
-use Rattle.register_words.specs.Faults.{fault_told}
-use Rattle.register_app.proofs.FileLemmas.{none_missing}
+use Rattle.register_words.specs.Faults.{fault_of_error}
 use Rattle.register_app.proofs.RefusedLemmas.{is_refused, is_wrong, never_refused}
 use Rattle.register_app.proofs.answering.answer.Goals as goal
 
@@ -101,37 +100,37 @@ returns-else-is_empty-clause-refused g c =
 
 pub returns-in-Err-clause-refused : goal.returns-in-Err-clause-refused
 returns-in-Err-clause-refused g c =
-    λ had. is_refused (map string_bytes c.args.words.now) (fault_told c.in-Err.fault) c.refuse.result.status
+    λ had. is_refused (map string_bytes c.args.words.now) (fault_of_error c.in-Err.fault) c.refuse.result.status
     c.in-Err.ensures.refused c.refuse.ensures.status had
 
--- what is told: of a page nothing, of a run that memory ran out or a file was missing, and else what is wrong
-pub returns-in-Ok-Help-clause-told : goal.returns-in-Ok-Help-clause-told
-returns-in-Ok-Help-clause-told g c = λ high.
+-- standard error: of a page nothing, of a run that memory ran out or a file was missing, and else what is wrong
+pub returns-in-Ok-Help-clause-reported : goal.returns-in-Ok-Help-clause-reported
+returns-in-Ok-Help-clause-reported g c = λ high.
     elim c.print_page.ensures.statuses
     [ inl zero ↦ absurd (omega (arith, high, zero)) | inr one ↦ absurd (omega (arith, high, one)) ]
 
-pub returns-in-Ok-Version-clause-told : goal.returns-in-Ok-Version-clause-told
-returns-in-Ok-Version-clause-told g c = λ high.
+pub returns-in-Ok-Version-clause-reported : goal.returns-in-Ok-Version-clause-reported
+returns-in-Ok-Version-clause-reported g c = λ high.
     elim c.print_page-in-Ok-Version.ensures.statuses
     [ inl zero ↦ absurd (omega (arith, high, zero)) | inr one ↦ absurd (omega (arith, high, one)) ]
 
-pub returns-then-is_empty-clause-told : goal.returns-then-is_empty-clause-told
-returns-then-is_empty-clause-told g c = λ high good.
-    c.convert_input.ensures.told (at_most_three c.convert_input.result.status high c.convert_input.ensures.statuses) good
+pub returns-then-is_empty-clause-reported : goal.returns-then-is_empty-clause-reported
+returns-then-is_empty-clause-reported g c = λ high good.
+    c.convert_input.ensures.reported (at_most_three c.convert_input.result.status high c.convert_input.ensures.statuses) good
     (map string_bytes c.args.words.now)
 
-pub returns-else-is_empty-clause-told : goal.returns-else-is_empty-clause-told
-returns-else-is_empty-clause-told g c = λ high good.
+pub returns-else-is_empty-clause-reported : goal.returns-else-is_empty-clause-reported
+returns-else-is_empty-clause-reported g c = λ high good.
     let words = map string_bytes c.args.words.now in
     let just : MeanJust words (table (task_of c.in-Ok-Convert.job)) = search (rules, c.in-Ok-Convert.ensures.asked) in
-    c.convert_files.ensures.told (at_most_three c.convert_files.result.status high c.convert_files.ensures.statuses) good
+    c.convert_files.ensures.reported (at_most_three c.convert_files.result.status high c.convert_files.ensures.statuses) good
     words just
 
-pub returns-in-Err-clause-told : goal.returns-in-Err-clause-told
-returns-in-Err-clause-told g c = λ high good.
+pub returns-in-Err-clause-reported : goal.returns-in-Err-clause-reported
+returns-in-Err-clause-reported g c = λ high good.
     let words = map string_bytes c.args.words.now in
-    c.refuse.ensures.told words (is_wrong words (fault_told c.in-Err.fault) c.in-Err.ensures.refused)
-    (none_missing words c.in-Err.fault c.in-Err.ensures.memory) good
+    c.refuse.ensures.reported words (is_wrong words (fault_of_error c.in-Err.fault) c.in-Err.ensures.refused)
+    tt good
 
 pub returns-else-is_empty-clause-unwritten : goal.returns-else-is_empty-clause-unwritten
 returns-else-is_empty-clause-unwritten g c = λ three.

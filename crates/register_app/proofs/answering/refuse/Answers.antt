@@ -2,4 +2,4 @@
 use Rattle.register_app.proofs.answering.refuse.Goals as goal
 
 pub returns-clause-status : goal.returns-clause-status
-returns-clause-status g c = c.tell_fault.ensures.status
+returns-clause-status g c = c.report_refusal.ensures.status

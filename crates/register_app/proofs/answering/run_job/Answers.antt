@@ -1,4 +1,4 @@
--- A run that began has a report, and what was told is that.
+-- A run that began has a report, and standard error has gained its lines.
 use Rattle.std.proofs.Common.{◌≡◌, ℕ, List, arith, false, refl}
 use Rattle.std.specs.Prelude.{◌↔◌}
 use Rattle.std.specs.Io.KnownBytes.{Appends}
@@ -11,10 +11,10 @@ use Rattle.register_run.specs.Threads.{AreThreads}
 use Rattle.register_run.specs.declared.reports.Report.{Report}
 use Rattle.register_run.specs.declared.reports.Verdict.TheVariants.{Complete}
 use Rattle.register_run.proofs.HeadlineLemmas.{lengths_of}
-use Rattle.register_words.specs.declared.request_faults.RequestFault.TheVariants as request_fault
 use Rattle.register_app.specs.Answers.{IsConverted, IsSetupOf}
 use Rattle.register_app.specs.Reports.{lines_from}
 use Rattle.register_words.specs.Requests.{Task}
+use Rattle.register_app.proofs.RefusedLemmas.{out_of_memory}
 use Rattle.register_app.proofs.answering.run_job.Goals as goal
 
 -- a run whose setup is the task's
@@ -46,8 +46,8 @@ converted r o e task status sources given before after setup report settled mach
 pub returns-in-Ok-clause-converted : goal.returns-in-Ok-clause-converted
 returns-in-Ok-clause-converted g c = λ begun.
     converted _ _ _ _ _ _ _ _ _ _ c.in-Ok.report c.in-Ok.ensures.report c.in-Ok.ensures.machine
-    c.in-Ok.ensures.threads (refl, refl, refl) c.tell_report-status.ensures.complete
-    c.tell_report-status.ensures.lines c.tell_report-status.ensures.quiet
+    c.in-Ok.ensures.threads (refl, refl, refl) c.report_run-status.ensures.complete
+    c.report_run-status.ensures.lines c.report_run-status.ensures.quiet
 
 pub returns-in-Ok-clause-len : goal.returns-in-Ok-clause-len
 returns-in-Ok-clause-len g c =
@@ -56,11 +56,6 @@ returns-in-Ok-clause-len g c =
     omega (arith, same)
 
 -- a run that did not begin was refused memory
-pub returns-in-Err-clause-told : goal.returns-in-Err-clause-told
-returns-in-Err-clause-told g c = λ three good words. record {
-  error = request_fault.OutOfMemory;
-  status_told = refl;
-  fault = tt;
-  file = tt;
-  line = c.tell_out_of_memory.ensures.told good;
-}
+pub returns-in-Err-clause-reported : goal.returns-in-Err-clause-reported
+returns-in-Err-clause-reported g c = λ three good words.
+    out_of_memory words _ _ (c.report_out_of_memory.ensures.line good)

@@ -4,7 +4,7 @@ use Rattle.std.specs.Prelude.{IfErr, IfSome, IsErrAnd, IsSomeAnd}
 use Rattle.clap.proofs.TakesLemmas.{passed_up}
 use Rattle.clap.specs.Words.{Text}
 use Rattle.register_words.specs.CommandLine.{Values}
-use Rattle.register_words.specs.Faults.{Fault, IsOfWords, fault_told}
+use Rattle.register_words.specs.Faults.{Fault, fault_of_error}
 use Rattle.register_words.specs.Requests.{values_by}
 use Rattle.register_words.specs.Requests.{AreFilesToConvert, AreTargetsOf, FailFirst, IsFileFault}
 use Rattle.register_words.specs.Requests.{IsNumberOf}
@@ -14,26 +14,25 @@ use Rattle.register_words.specs.declared.request_faults.RequestFault.{RequestFau
 use Rattle.register_words.specs.declared.requests.Job.{Job}
 use Rattle.register_words.proofs.OptionLemmas.{found_first, if_some}
 use Rattle.register_words.proofs.SetupLemmas.{asked_delimiter, asked_once, asked_ring, asked_stripes, no_fault}
-use Rattle.register_words.proofs.WordLemmas.{tells_some}
 use Rattle.register_words.proofs.requests.chosen_job.Goals as goal
 
 -- an error tells what the first check that fails finds
 abbrev TellsFirst : Values → RequestFault → Type 0
-TellsFirst values error = IfSome (fault_told error) (FailFirst (value_checks values))
+TellsFirst values error = IfSome (fault_of_error error) (FailFirst (value_checks values))
 
 -- where a check tells a fault, which is that of the first check that fails, the error that is passed up tells it
 passes_fault : (result : Result Job RequestFault) (error : RequestFault) (values : Values) (fails : Fault → Type 0)
-    → IsErrAnd result (λ up. up ≡ error) → IfSome (fault_told error) fails
+    → IsErrAnd result (λ up. up ≡ error) → IfSome (fault_of_error error) fails
     → ((fault : Fault) → fails fault → FailFirst (value_checks values) fault) → IfErr result (TellsFirst values)
 passes_fault result error values fails up told first =
-    passed_up result error (TellsFirst values) up (found_first (fault_told error) fails (value_checks values) told first)
+    passed_up result error (TellsFirst values) up (found_first (fault_of_error error) fails (value_checks values) told first)
 
 -- and so it is where a check always tells one
 passes_found : (result : Result Job RequestFault) (error : RequestFault) (values : Values) (fails : Fault → Type 0)
-    → IsErrAnd result (λ up. up ≡ error) → IsSomeAnd (fault_told error) fails
+    → IsErrAnd result (λ up. up ≡ error) → IsSomeAnd (fault_of_error error) fails
     → ((fault : Fault) → fails fault → FailFirst (value_checks values) fault) → IfErr result (TellsFirst values)
 passes_found result error values fails up told =
-    passes_fault result error values fails up (if_some (fault_told error) fails told)
+    passes_fault result error values fails up (if_some (fault_of_error error) fails told)
 
 pub returns-in_err-targets-clause-fault : goal.returns-in_err-targets-clause-fault
 returns-in_err-targets-clause-fault c =
@@ -69,7 +68,7 @@ returns-in_err-stripes-clause-fault c =
 
 pub returns-in_err-check_files-clause-fault : goal.returns-in_err-check_files-clause-fault
 returns-in_err-check_files-clause-fault c =
-    let told = subst (λ (files : List Text). IsSomeAnd (fault_told c.in_err-check_files.field-0.0) (IsFileFault files))
+    let told = subst (λ (files : List Text). IsSomeAnd (fault_of_error c.in_err-check_files.field-0.0) (IsFileFault files))
     (ap (map (λ f. f.now)) c.as_slice.ensures.value) c.in_err-check_files.ensures.fault in
     passes_found c.from_residual-in_err-check_files.result c.in_err-check_files.field-0.0 (values_by c.args.options) _
     c.from_residual-in_err-check_files.ensures.1 told
@@ -111,33 +110,3 @@ unreachable-requires c =
     c.in-Err.is once fits cuts c.new.ensures.twice.0
     (λ e. (c.new.ensures.ring_size.0 e).1) (λ e. (c.new.ensures.delimiter.0 e).2) few
     (λ e. (c.new.ensures.stripes.0 e).3)
-
--- each error tells a fault, or that memory ran out
-of_words : (result : Result Job RequestFault) (error : RequestFault) (fails : Fault → Type 0)
-    → IsErrAnd result (λ up. up ≡ error) → IsSomeAnd (fault_told error) fails → IfErr result IsOfWords
-of_words result error fails up told = passed_up result error IsOfWords up (tells_some error fails told)
-
-pub returns-in_err-targets-clause-memory : goal.returns-in_err-targets-clause-memory
-returns-in_err-targets-clause-memory c =
-    passed_up {T = Job} {E = RequestFault} c.from_residual.result c.in_err-targets.field-0.0 IsOfWords
-    c.from_residual.ensures.1 c.in_err-targets.ensures.memory
-
-pub returns-in_err-ring-clause-memory : goal.returns-in_err-ring-clause-memory
-returns-in_err-ring-clause-memory c =
-    of_words c.from_residual-in_err-ring.result _ _ c.from_residual-in_err-ring.ensures.1
-    c.in_err-ring.ensures.fault
-
-pub returns-in_err-delimiter-clause-memory : goal.returns-in_err-delimiter-clause-memory
-returns-in_err-delimiter-clause-memory c =
-    of_words c.from_residual-in_err-delimiter.result _ _ c.from_residual-in_err-delimiter.ensures.1
-    c.in_err-delimiter.ensures.fault
-
-pub returns-in_err-stripes-clause-memory : goal.returns-in_err-stripes-clause-memory
-returns-in_err-stripes-clause-memory c =
-    of_words c.from_residual-in_err-stripes.result _ _ c.from_residual-in_err-stripes.ensures.1
-    c.in_err-stripes.ensures.fault
-
-pub returns-in_err-check_files-clause-memory : goal.returns-in_err-check_files-clause-memory
-returns-in_err-check_files-clause-memory c =
-    of_words c.from_residual-in_err-check_files.result _ _ c.from_residual-in_err-check_files.ensures.1
-    c.in_err-check_files.ensures.fault

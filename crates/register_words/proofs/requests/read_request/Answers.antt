@@ -4,7 +4,7 @@ use Rattle.std.specs.Prelude.{IfSome}
 use Rattle.std.specs.String.{string_bytes}
 use Rattle.clap.proofs.TakesLemmas.{passed_up}
 use Rattle.register_words.specs.CommandLine.{Values}
-use Rattle.register_words.specs.Faults.{IsOfWords, fault_told, usage}
+use Rattle.register_words.specs.Faults.{fault_of_error, usage}
 use Rattle.register_words.specs.Requests.{task_of, values_by}
 use Rattle.register_words.specs.Requests.{Ask, FailFirst, MeanJust, help, table, value_checks, version, wrong}
 use Rattle.register_words.specs.declared.request_faults.RequestFault.{RequestFault}
@@ -33,13 +33,12 @@ returns-in_default c =
           (misuses words c.in-Err.error c.in-Err.ensures.kinds (λ e. c.in_default.not-OutOfMemory (c.kind.ensures ∙ e))
           (λ e. c.in_default.not-DisplayHelp (c.kind.ensures ∙ e))
           (λ e. c.in_default.not-DisplayVersion (c.kind.ensures ∙ e)));
-      memory = λ e. absurd (cc);
     }
 
 pub returns-in_err-job-clause-refused : goal.returns-in_err-job-clause-refused
 returns-in_err-job-clause-refused c =
     let words = map string_bytes c.args.words.now in
-    let told = fault_told c.in_err-job.field-0.0 in
+    let told = fault_of_error c.in_err-job.field-0.0 in
     let is : IfSome told (λ fault. MeanJust words (wrong fault))
     = told_just words told (FailFirst (value_checks (values_by c.in-Ok.options))) c.one_target.ensures
     c.in_err-job.ensures.fault
@@ -48,13 +47,8 @@ returns-in_err-job-clause-refused c =
       subst (λ (v : Values). FailFirst (value_checks v) fault) c.in-Ok.ensures.values at,
     )) in
     passed_up {T = Request} {E = RequestFault} c.from_residual.result c.in_err-job.field-0.0
-    (λ (r : RequestFault). IfSome (fault_told r) (λ fault. MeanJust words (wrong fault)))
+    (λ (r : RequestFault). IfSome (fault_of_error r) (λ fault. MeanJust words (wrong fault)))
     c.from_residual.ensures.1 is
-
-pub returns-in_err-job-clause-memory : goal.returns-in_err-job-clause-memory
-returns-in_err-job-clause-memory c =
-    passed_up {T = Request} {E = RequestFault} c.from_residual.result c.in_err-job.field-0.0 IsOfWords
-    c.from_residual.ensures.1 c.in_err-job.ensures.memory
 
 pub returns-clause-asked : goal.returns-clause-asked
 returns-clause-asked c =

@@ -1,0 +1,72 @@
+-- Each turn makes the next output, and tells its name apart from those before.
+use Rattle.std.proofs.Common.{◌≡◌, ◌∙◌, ◌+◌, ◌++◌, ap, refl, rules, arith, codes, is_ok, map, true}
+use Rattle.std.specs.Prelude.{slice_get}
+use Rattle.std.specs.String.{string_bytes}
+use Rattle.std.proofs.lemmas.List.{length-map}
+use Rattle.register_files.specs.Openings.{IsNewlyMade}
+use Rattle.register_files.proofs.ApartLemmas.{all_pairs, apart_from_earlier, more_pairs, no_pairs, value_at}
+use Rattle.register_files.proofs.MatchLemmas.{made_as, so_far_all, so_far_more, so_far_none}
+use Rattle.register_files.proofs.opening.make_outputs.Goals as goal
+
+pub files-init : goal.files-init
+files-init g c = (
+  refl,
+  so_far_none (λ i file output. IsNewlyMade g.W.Output
+      (g.P.FileStore.is_made c.args.store.now) (file ++ codes ".out.csv") (i + 1) output)
+      (λ f. f.now) c.args.files.now c.new-outputs.result.items c.new-outputs.ensures.items,
+  so_far_none (λ i file name. string_bytes name ≡ file ++ codes ".out.csv") (λ f. f.now) c.args.files.now
+      c.new-names.result.items c.new-names.ensures.items,
+  no_pairs (λ file later. g.P.FileStore.are_apart c.args.store.now (file ++ codes ".out.csv") (later ++ codes ".out.csv"))
+      (map (λ f. f.now) c.args.files.now),
+)
+
+pub files-preserved : goal.files-preserved
+files-preserved g c =
+    let ok : is_ok c.push.result ≡ true = search rules in
+    let items = rw ok at c.push.ensures.items in
+    let also : is_ok c.push-else-is_err.result ≡ true = search rules in
+    let named = rw also at c.push-else-is_err.ensures.items in
+    let place = c.files.invariant.0 in (
+      ap (λ n. n + 1) place,
+      so_far_more (λ i file output. IsNewlyMade g.W.Output
+          (g.P.FileStore.is_made c.args.store.now) (file ++ codes ".out.csv") (i + 1) output)
+          (λ f. f.now) c.args.files.now c.files.outputs.items c.push.new.self.items
+          c.files.file-index _ c.in-Ok-make.output c.files.invariant.1 c.files-test.true
+          (made_as (λ text mark output. IsNewlyMade g.W.Output
+          (g.P.FileStore.is_made c.args.store.now) text mark output) c.as_str.result.now _
+          c.files.mark c.files.file-index c.in-Ok-make.output
+          (c.as_str.ensures.value ∙ c.in-Ok.ensures) place c.in-Ok-make.ensures)
+          items,
+      so_far_more (λ i file name. string_bytes name ≡ file ++ codes ".out.csv") (λ f. f.now) c.args.files.now
+          c.files.names.items c.push-else-is_err.new.self.items c.files.file-index _ c.in-Ok.name c.files.invariant.2
+          c.files-test.true c.in-Ok.ensures named,
+      more_pairs (λ file later. g.P.FileStore.are_apart c.args.store.now (file ++ codes ".out.csv")
+          (later ++ codes ".out.csv")) (map (λ f. f.now) c.args.files.now) c.files.file-index _ c.files.invariant.3
+          (value_at (λ f. f.now) c.args.files.now c.files.file-index _ c.files-test.true)
+          (apart_from_earlier (g.P.FileStore.are_apart c.args.store.now) string_bytes (map (λ f. f.now) c.args.files.now)
+          c.files.names.items c.as_str-in-files.result.now _ c.files.file-index c.files.invariant.2
+          (c.as_str-in-files.ensures.value ∙ c.in-Ok.ensures)
+          (λ k other is. c.is_taken.ensures c.if-is_taken.false k other
+          (ap (λ names. slice_get (map string_bytes names) k) c.as_slice.ensures.value ∙ is))),
+    )
+
+pub returns-clause-made : goal.returns-clause-made
+returns-clause-made g c =
+    so_far_all (λ i file output. IsNewlyMade g.W.Output
+    (g.P.FileStore.is_made c.args.store.now) (file ++ codes ".out.csv") (i + 1) output)
+    (λ f. f.now) c.args.files.now c.files.outputs.items c.files.file-index c.files.invariant.1
+    (omega (arith, c.files-test.false, c.files.auto.file-index-end))
+
+pub returns-clause-apart : goal.returns-clause-apart
+returns-clause-apart g c =
+    all_pairs (λ file later. g.P.FileStore.are_apart c.args.store.now (file ++ codes ".out.csv")
+    (later ++ codes ".out.csv")) (map (λ f. f.now) c.args.files.now) c.files.file-index c.files.invariant.3
+    (omega (arith, c.files-test.false, c.files.auto.file-index-end, length-map c.args.files.now (λ f. f.now)))
+
+pub returns-in_default-make-clause-named : goal.returns-in_default-make-clause-named
+returns-in_default-make-clause-named g c =
+    (c.files.file-index, value_at (λ f. f.now) c.args.files.now c.files.file-index _ c.files-test.true)
+
+pub returns-then-is_taken-clause-named : goal.returns-then-is_taken-clause-named
+returns-then-is_taken-clause-named g c =
+    (c.files.file-index, value_at (λ f. f.now) c.args.files.now c.files.file-index _ c.files-test.true)

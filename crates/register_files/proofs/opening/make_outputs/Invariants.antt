@@ -1,0 +1,17 @@
+use Rattle.std.proofs.Common.{◌≡◌, ◌+◌, ◌++◌, map, codes}
+use Rattle.register_files.specs.Openings.{IsNewlyMade}
+use Rattle.std.specs.String.{string_bytes}
+use Rattle.register_files.proofs.ApartLemmas.{HoldOfPairs}
+use Rattle.register_files.proofs.MatchLemmas.{AreMatchedSoFar}
+use Rattle.register_files.proofs.opening.make_outputs.Given as goal
+
+-- the outputs and their names are those of the files so far, the mark is the last one's, and the names were told apart
+abbrev pub invariant-files : goal.invariant-files
+invariant-files g l = (l.mark ≡ l.file-index)
+    × AreMatchedSoFar (λ i file output. IsNewlyMade g.W.Output
+    (g.P.FileStore.is_made l.store) (file ++ codes ".out.csv") (i + 1) output)
+    (map (λ f. f.now) l.files) l.outputs.items l.file-index
+    × AreMatchedSoFar (λ i file name. string_bytes name ≡ file ++ codes ".out.csv") (map (λ f. f.now) l.files)
+    l.names.items l.file-index
+    × HoldOfPairs (λ file later. g.P.FileStore.are_apart l.store (file ++ codes ".out.csv") (later ++ codes ".out.csv"))
+    (map (λ f. f.now) l.files) l.file-index

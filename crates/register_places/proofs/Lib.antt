@@ -1,6 +1,0 @@
--- Which file serves which public clause:
---   MatchLemmas, ApartLemmas: `opened`, `made`, `kept` and `apart` of `open_files`.
---   AppendsLemmas: the contract of `write` of `Told`.
-mod MatchLemmas
-pub mod AppendsLemmas
-mod ApartLemmas

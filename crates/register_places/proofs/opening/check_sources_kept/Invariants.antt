@@ -1,9 +1,0 @@
-use Rattle.std.proofs.Common.{◌++◌, codes, map}
-use Rattle.register_places.proofs.ApartLemmas.{HoldBefore}
-use Rattle.register_places.proofs.opening.check_sources_kept.Given as goal
-
--- the output of each file so far does not go to the file itself
-abbrev pub invariant-files : goal.invariant-files
-invariant-files g l =
-    HoldBefore (λ file. g.P.Places.are_apart l.places file (file ++ codes ".out.csv")) (map (λ f. f.now) l.files)
-    l.file-index

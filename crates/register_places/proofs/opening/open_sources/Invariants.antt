@@ -1,8 +1,0 @@
-use Rattle.std.proofs.Common.{map}
-use Rattle.register_places.proofs.MatchLemmas.{AreMatchedSoFar}
-use Rattle.register_places.proofs.opening.open_sources.Given as goal
-
--- the sources are those of the files so far
-abbrev pub invariant-files : goal.invariant-files
-invariant-files g l = AreMatchedSoFar (λ i file source. g.P.Places.is_opened l.places file source)
-    (map (λ f. f.now) l.files) l.sources.items l.file-index

@@ -1,7 +1,0 @@
--- The suffix stands behind the name of the file.
-use Rattle.std.proofs.Common.{◌∙◌, ◌++◌, ap}
-use Rattle.register_words.specs.declared.request_faults.TheConstants.{SUFFIX}
-use Rattle.register_places.proofs.opening.output_name.Goals as goal
-
-pub returns : goal.returns
-returns c = c.in_ok-push_str.ensures.bytes ∙ ap (λ t. t ++ SUFFIX.now) c.in_ok-name.ensures.ok

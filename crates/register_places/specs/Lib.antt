@@ -1,3 +1,0 @@
-pub mod Openings
-pub mod Sides
-pub mod Told

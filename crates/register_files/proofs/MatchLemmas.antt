@@ -53,7 +53,7 @@ module _ {F A B : Type 0} (Match : ℕ → A → B → Type 0) (v : F → A) (fi
       → AreMatched Match (map v files) right
   so_far_all right n so_far all = record { same_length = so_far.0 ∙ all ∙ sym (length-map files v); each = so_far.1 }
 
--- what was made by a file's name with .out.csv behind it, and marked with the next mark
+-- what was made by a file's name with .out.csv at the end, and marked with the next mark
 pub made_as : {W : Type 0} (IsMade : List ℕ → ℕ → W → Type 0) (text file : List ℕ) (mark i : ℕ) (output : W)
     → text ≡ file ++ codes ".out.csv" → mark ≡ i
     → IsMade text (mark + 1) output → IsMade (file ++ codes ".out.csv") (i + 1) output

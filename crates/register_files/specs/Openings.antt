@@ -13,7 +13,7 @@ pub record AreMatched {A B : Type 0} (Match : ℕ → A → B → Type 0) (left 
 abbrev pub AreOpened : {R : Type 0} → (List ℕ → R → Type 0) → List (List ℕ) → List R → Type 0
 AreOpened IsOpened files sources = AreMatched (λ i file source. IsOpened file source) files sources
 
--- the output tells its bytes, holds none of them yet, and has not failed
+-- the bytes of the output are known, there are none yet, and it has not failed
 abbrev pub IsFresh : {W : Type 0} → outputs.Ghosts W → W → Type 0
 IsFresh o output = (o.contents output ≡ Some []) × (o.has_failed output ≡ false)
 
@@ -21,7 +21,7 @@ IsFresh o output = (o.contents output ≡ Some []) × (o.has_failed output ≡ f
 abbrev pub IsNewlyMade : {W : Type 0} → outputs.Ghosts W → (List ℕ → ℕ → W → Type 0) → List ℕ → ℕ → W → Type 0
 IsNewlyMade o IsMade name mark output = IsMade name mark output × (o.own_mark output ≡ mark) × IsFresh o output
 
--- each output goes to the file named like its source's with .out.csv behind it, and is marked by its place, from 1
+-- each output goes to the file named like its source's with .out.csv at the end, and is marked by its place, from 1
 abbrev pub AreMade : {W : Type 0} → (List ℕ → ℕ → W → Type 0) → List (List ℕ) → List W → Type 0
 AreMade IsMade files outputs = AreMatched (λ i file output. IsMade (file ++ codes ".out.csv") (i + 1) output) files
     outputs

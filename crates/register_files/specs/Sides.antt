@@ -1,4 +1,4 @@
--- What streams that are one of two kinds tell: what the one in them tells.
+-- What is known of streams that are one of two kinds: what is known of the one in them.
 use Rattle.std.specs.Prelude.{ℕ, List, Option, None}
 use Rattle.register_files.specs.declared.disk.Destination.{Destination}
 use Rattle.register_files.specs.declared.disk.Destination.TheVariants as destination
@@ -19,7 +19,7 @@ abbrev pub destination_contents : {O F : Type 0} → (O → Option (List ℕ)) �
 destination_contents of_output of_file (destination.Output output) = of_output output
 destination_contents of_output of_file (destination.File file) = of_file file
 
--- the bytes that the stream of lines holds, where they go there as they are; of a terminal nothing is told
+-- the bytes that the stream of lines holds, where they go there as they are; of a terminal nothing is known
 abbrev pub lines_contents : {E : Type 0} → (E → Option (List ℕ)) → Lines E → Option (List ℕ)
 lines_contents of_stream (lines.ToTerminal terminal) = None
 lines_contents of_stream (lines.AsTheyAre stream) = of_stream stream

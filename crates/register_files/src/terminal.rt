@@ -67,7 +67,7 @@ fn plain_len(text: &[u8], one_line: bool) -> usize
 }
 
 /// Writes to a terminal what stands before the first control character, or else the one with which the text begins, and
-/// tells how many bytes of the text these are.
+/// returns how many bytes of the text these are.
 fn write_piece<E: Write>(terminal: &mut E, text: &[u8], one_line: bool) -> io::Result<usize>
     ensures bound { WritesAtMost result text.now }
 {

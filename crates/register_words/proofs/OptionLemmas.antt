@@ -1,13 +1,15 @@
 -- From what clap says of options to their values, and from a fault of a value to the first check that fails.
-use Rattle.std.proofs.Common.{◌≡◌, ap, ℕ, Bool, true, false, List, Option, Some, None, codes, refl, sym, subst}
-use Rattle.std.specs.Prelude.{◌↔◌, IfErr, IfOk, IfSome, IsSomeAnd}
+use Rattle.std.proofs.Common.{◌≡◌, ◌&&◌, ap, ℕ, Bool, true, false, List, Option, Some, None, codes, refl, sym, subst}
+use Rattle.std.specs.Prelude.{◌↔◌, IfErr, IfOk, IfSome, IsSomeAnd, nat_le, option_map}
 use Rattle.std.specs.Option.{ok_or}
 use Rattle.std.specs.Str.{bytes_eq}
+use Rattle.std.proofs.lemmas.Bool.{le-leb}
 use Rattle.std.proofs.lemmas.Slice.Eq.{bytes_eq-Decides}
 use Rattle.clap.specs.Words.{Text}
 use Rattle.register_words.specs.CommandLine.{is_set}
 use Rattle.register_words.specs.Faults.{Fault, fault_of_error}
-use Rattle.register_words.specs.Requests.{Check, FailFirst, IsNumberFault, IsNumberOf, NumberOption}
+use Rattle.register_words.specs.OptionValues.{IsNumberWord, IsValueFault, IsValueOf, ValueOption}
+use Rattle.register_words.specs.Requests.{Check, FailFirst}
 use Rattle.register_words.specs.declared.request_faults.RequestFault.{RequestFault}
 
 -- a flag that is given exactly where its text is `true` is set as its text says
@@ -39,19 +41,25 @@ pub if_some : (told : Option Fault) (fails : Fault → Type 0) → IsSomeAnd tol
 if_some None fails is = tt
 if_some (Some fault) fails is = is
 
--- an option asks for the number that its word names
-pub asks_named : (option : NumberOption) (word : Text) (named : Option ℕ) (error : RequestFault)
-    → ((n : ℕ) → (named ≡ Some n) ↔ option.names word n) → IfOk (ok_or named error) (IsNumberOf option (Some word))
-asks_named option word None error is = tt
-asks_named option word (Some n) error is = (is n).0 refl
+-- a number that a word names is from 1 to the most
+pub named_within : (most : ℕ) (word : Text) (n : ℕ) → IsNumberWord most word n → (nat_le 1 n && nat_le n most) ≡ true
+named_within most word n is = rw (le-leb 1 n is.some, le-leb n most is.no_more) refl
 
--- where its word names none, that is its fault
-pub faults_unnamed : (option : NumberOption) (word : Text) (named : Option ℕ) (error : RequestFault)
-    → ((n : ℕ) → (named ≡ Some n) ↔ option.names word n) → fault_of_error error ≡ Some (option.fault word)
-    → IfErr (ok_or named error) (λ e. IsSomeAnd (fault_of_error e) (IsNumberFault option (Some word)))
-faults_unnamed option word (Some n) error is told = tt
-faults_unnamed option word None error is told =
-    subst (λ fault. IsSomeAnd fault (IsNumberFault option (Some word))) (sym told)
+-- an option asks for what its word names
+pub asks_named : {V : Type 0} (option : ValueOption) (number : V → ℕ) (word : Text) (named : Option V)
+    (error : RequestFault) → ((n : ℕ) → (option_map number named ≡ Some n) ↔ option.names word n)
+    → IfOk (ok_or named error) (λ v. IsValueOf option (Some word) (number v))
+asks_named option number word None error is = tt
+asks_named option number word (Some v) error is = (is (number v)).0 refl
+
+-- where its word names nothing, that is its fault
+pub faults_unnamed : {V : Type 0} (option : ValueOption) (number : V → ℕ) (word : Text) (named : Option V)
+    (error : RequestFault) → ((n : ℕ) → (option_map number named ≡ Some n) ↔ option.names word n)
+    → fault_of_error error ≡ Some (option.fault word)
+    → IfErr (ok_or named error) (λ e. IsSomeAnd (fault_of_error e) (IsValueFault option (Some word)))
+faults_unnamed option number word (Some v) error is told = tt
+faults_unnamed option number word None error is told =
+    subst (λ fault. IsSomeAnd fault (IsValueFault option (Some word))) (sym told)
     (word, refl, refl, λ n names. none n ((is n).1 names))
   where
     none : (n : ℕ) → None ≡ Some n → ⊥

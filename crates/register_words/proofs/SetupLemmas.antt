@@ -1,5 +1,4 @@
--- What the words ask for fits a setup: each target once, the default ones too, since their names differ, and a ring, a
--- delimiter and stripes that there are.
+-- What the words ask for fits a setup: each target once, the default ones too, since their names differ.
 use Rattle.std.proofs.Common.{◌≡◌, ◌∙◌, ◌<◌, ◌&&◌, ◌||◌, ℕ, Bool, true, false, not, List, [], ◌∷◌, length, map, sym, ap}
 use Rattle.std.proofs.Common.{refl, arith, zero, suc, Some, None, Option, Result, Err, inl, inr, true≢false}
 use Rattle.std.specs.Prelude.{◌≤◌, nat_le, slice_get}
@@ -17,8 +16,7 @@ use Rattle.register_records.specs.declared.setups.SetupFault.{SetupFault}
 use Rattle.register_records.specs.declared.setups.SetupFault.TheVariants.{TargetTwice, RingSize, Delimiter, Stripes}
 use Rattle.register_words.proofs.FileLemmas.{or_true}
 use Rattle.register_words.proofs.NameLemmas.{never_twice}
-use Rattle.register_words.specs.Requests.{AreTargetsOf, IsNumberOf, delimiter_option, number_option}
-use Rattle.register_words.specs.declared.requests.AskedNumber.TheVariants as numbers
+use Rattle.register_words.specs.Requests.{AreTargetsOf}
 
 -- no name stands at two places
 abbrev differ : List (List ℕ) → Bool
@@ -54,27 +52,6 @@ pub asked_once : (value : Option (List ℕ)) (targets : List Target) → AreTarg
 asked_once None targets is = rw is default_once
 asked_once (Some list) targets (inl none) = rw none.1 never_twice
 asked_once (Some list) targets (inr named) = named.2
-
--- the byte asked for is a delimiter
-pub asked_delimiter : (value : Option (List ℕ)) (byte : ℕ) → IsNumberOf delimiter_option value byte
-    → is_delimiter byte ≡ true
-asked_delimiter None byte is = rw is refl
-asked_delimiter (Some word) byte (inl comma) = rw comma.1 refl
-asked_delimiter (Some word) byte (inr (inl semicolon)) = rw semicolon.1 refl
-asked_delimiter (Some word) byte (inr (inr tab)) = rw tab.1 refl
-
--- the size asked for is that of a ring, and the number that of converters
-within : (low high n : ℕ) → low ≤ n → n ≤ high → (nat_le low n && nat_le n high) ≡ true
-within low high n over under = rw (le-leb low n over, le-leb n high under) refl
-
-pub asked_ring : (value : Option (List ℕ)) (ring : ℕ) → IsNumberOf (number_option numbers.Ring) value ring → is_ring_size ring ≡ true
-asked_ring None ring is = rw is refl
-asked_ring (Some word) ring is = within 1 largest_ring ring is.some is.no_more
-
-pub asked_stripes : (value : Option (List ℕ)) (stripes : ℕ) → IsNumberOf (number_option numbers.Stripes) value stripes
-    → is_stripe_count stripes ≡ true
-asked_stripes None stripes is = rw is refl
-asked_stripes (Some word) stripes is = within 1 most_stripes stripes is.some is.no_more
 
 -- so there is such a setup
 pub no_fault : (made : Result Setup SetupFault) (fault : SetupFault) (targets : List Target) (ring byte stripes : ℕ)

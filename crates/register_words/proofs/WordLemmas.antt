@@ -11,17 +11,16 @@ use Rattle.date_texts.specs.Laws.{OneTarget}
 use Rattle.date_texts.specs.declared.target.Target.{Target}
 use Rattle.register_words.specs.CommandLine.{AreTaken, command_line, values_in}
 use Rattle.register_words.specs.Faults.{Fault, usage}
-use Rattle.register_words.specs.OptionValues.{IsDelimiterWord, IsNumberWord}
+use Rattle.register_words.specs.OptionValues.{IsDelimiterWord, IsNumberWord, IsValueOf, ValueOption, delimiter_option}
+use Rattle.register_words.specs.OptionValues.{ring_option, stripes_option}
 use Rattle.register_records.specs.Entries.{Format}
+use Rattle.register_records.specs.SetupRules.{largest_ring, most_stripes}
 use Rattle.register_records.specs.Tables.{Layout}
 use Rattle.register_records.specs.declared.setups.Form.{Form}
-use Rattle.register_words.specs.Requests.{AreTargetsOf, Check, FailFirst, IsFaultOf, IsNumberOf}
-use Rattle.register_words.specs.Requests.{IsTargetFault, Mean, MeanJust, Meaning, NumberOption, Task}
-use Rattle.register_words.specs.Requests.{bounds_of, delimiter_option, file_check, number_check, number_option}
+use Rattle.register_words.specs.Requests.{AreTargetsOf, Check, FailFirst, IsFaultOf}
+use Rattle.register_words.specs.Requests.{IsTargetFault, Mean, MeanJust, Meaning, Task, file_check, option_check}
 use Rattle.register_words.specs.Requests.{target_check, usage_check, value_checks, help, version, table}
 use Rattle.register_words.specs.Requests.{wrong}
-use Rattle.register_words.specs.declared.requests.AskedNumber.{AskedNumber}
-use Rattle.register_words.specs.declared.requests.AskedNumber.TheVariants as numbers
 use Rattle.register_words.proofs.FileLemmas.{fit_no_fault, one_file_fault}
 use Rattle.register_words.proofs.KindLemmas.{one_kind}
 use Rattle.register_words.proofs.ListLemmas.{asks_no_fault, asks_one, one_fault}
@@ -50,17 +49,13 @@ one_number : (most : ℕ) (word : Text) (n other : ℕ) → IsNumberWord most wo
 one_number most word n other is same = is.value ∙ sym same.value
 
 -- a word of the option names one number at most
-abbrev NamesOne : NumberOption → Type 0
+abbrev NamesOne : ValueOption → Type 0
 NamesOne option = (word : Text) (n other : ℕ) → option.names word n → option.names word other → n ≡ other
 
-one_asked : (option : NumberOption) → NamesOne option → (value : Option Text) (n other : ℕ) → IsNumberOf option value n
-    → IsNumberOf option value other → n ≡ other
+one_asked : (option : ValueOption) → NamesOne option → (value : Option Text) (n other : ℕ) → IsValueOf option value n
+    → IsValueOf option value other → n ≡ other
 one_asked option one None n other is same = is ∙ sym same
 one_asked option one (Some word) n other is same = one word n other is same
-
-one_count : (asks : AskedNumber) (value : Option Text) (n other : ℕ) → IsNumberOf (number_option asks) value n
-    → IsNumberOf (number_option asks) value other → n ≡ other
-one_count asks = one_asked (number_option asks) (one_number (bounds_of asks).most)
 
 -- a check finds one fault at most, and none where it passes
 record IsSound (check : Check) : Type 0 where
@@ -89,10 +84,10 @@ no_fault [] sound pass fault x = x
 no_fault (check ∷ later) sound pass fault (inl x) = sound.0.none fault pass.0 x
 no_fault (check ∷ later) sound pass fault (inr x) = no_fault later sound.1 pass.1 fault x.1
 
-sound_number : (option : NumberOption) (value : Option Text) → IsSound (number_check option value)
-sound_number option value = record {
+sound_option : (option : ValueOption) (value : Option Text) → IsSound (option_check option value)
+sound_option option value = record {
   one = λ fault other is same. is.1 ∙ ap option.fault (same_word is.0 same.0 is.2 same.2) ∙ sym same.1;
-  none = λ fault asked is. is.3 asked.0 (subst (λ (v : Option Text). IsNumberOf option v asked.0) is.2 asked.1);
+  none = λ fault asked is. is.3 asked.0 (subst (λ (v : Option Text). IsValueOf option v asked.0) is.2 asked.1);
 }
   where
     same_word : (word other : Text) → value ≡ Some word → value ≡ Some other → word ≡ other
@@ -143,10 +138,10 @@ module _ (one : OneTarget) (words : List Text) where
         (
           sound_targets one values.to,
           (
-            sound_number (number_option numbers.Ring) values.ring,
+            sound_option ring_option values.ring,
             (
-              sound_number delimiter_option values.delimiter,
-              (sound_number (number_option numbers.Stripes) values.stripes, (sound_files values.files, tt)),
+              sound_option delimiter_option values.delimiter,
+              (sound_option stripes_option values.stripes, (sound_files values.files, tt)),
             ),
           ),
         ),
@@ -188,11 +183,11 @@ module _ (one : OneTarget) (words : List Text) where
       let asked = asks.1 in
       let same = asks_other.1 in
       let targets = one_list one values.to task.layout.targets other.layout.targets asked.targets same.targets in
-      let ring = one_count numbers.Ring values.ring task.ring other.ring asked.ring same.ring in
+      let ring = one_asked ring_option (one_number largest_ring) values.ring task.ring other.ring asked.ring same.ring in
       let delimiter =
       one_asked delimiter_option one_byte values.delimiter task.layout.format.delimiter other.layout.format.delimiter
       asked.delimiter same.delimiter in
-      let stripes = one_count numbers.Stripes values.stripes task.stripes other.stripes asked.stripes same.stripes in
+      let stripes = one_asked stripes_option (one_number most_stripes) values.stripes task.stripes other.stripes asked.stripes same.stripes in
       ap table (same_task task other
       (same_layout task.layout other.layout targets delimiter (asked.form ∙ sym same.form)) ring stripes
       (asked.summary ∙ sym same.summary) (asked.files ∙ sym same.files))

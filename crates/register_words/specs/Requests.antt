@@ -6,16 +6,13 @@ use Rattle.clap.specs.declared.error.kind.ErrorKind.{ErrorKind}
 use Rattle.clap.specs.declared.error.kind.ErrorKind.TheVariants.{DisplayHelp, DisplayVersion}
 use Rattle.date_texts.specs.Calendars.{all_targets}
 use Rattle.date_texts.specs.declared.target.Target.{Target}
-use Rattle.register_records.specs.SetupRules.{largest_ring, most_stripes}
 use Rattle.register_records.specs.Tables.{Layout}
 use Rattle.register_records.specs.Views.{layout_of}
 use Rattle.register_records.specs.declared.setups.Form.TheVariants.{Plain, Sealed}
 use Rattle.register_words.specs.CommandLine.{AreTaken, Values, command_line, values_in}
-use Rattle.register_words.specs.Faults.{Fault, usage, bad_ring, unknown_delimiter, bad_stripes, too_many_files}
-use Rattle.register_words.specs.Faults.{file_twice}
-use Rattle.register_words.specs.OptionValues.{AsksForTargets, IsDelimiterWord, IsListFault, IsNumberWord}
-use Rattle.register_words.specs.declared.requests.AskedNumber.{AskedNumber}
-use Rattle.register_words.specs.declared.requests.AskedNumber.TheVariants as numbers
+use Rattle.register_words.specs.Faults.{Fault, usage, too_many_files, file_twice}
+use Rattle.register_words.specs.OptionValues.{AsksForTargets, IsListFault, IsValueFault, IsValueOf, ValueOption}
+use Rattle.register_words.specs.OptionValues.{delimiter_option, ring_option, stripes_option}
 use Rattle.register_words.specs.declared.requests.Job.{Job}
 use Rattle.register_words.specs.declared.requests.Options.{Options}
 use Rattle.register_words.specs.declared.requests.Request.{Request}
@@ -34,37 +31,6 @@ pub record Task : Type 0 where
 abbrev pub AreTargetsOf : Option Text → List Target → Type 0
 AreTargetsOf None targets = targets ≡ all_targets
 AreTargetsOf (Some list) targets = AsksForTargets list targets
-
--- an option that asks for a number: which number a word names, the number without it, and the fault of a word that
--- names none
-pub record NumberOption : Type 1 where
-  pub names : Text → ℕ → Type 0
-  pub usual : ℕ
-  pub fault : Text → Fault
-
--- the byte of a delimiter, a comma (44) without a word
-abbrev pub delimiter_option : NumberOption
-delimiter_option = record { names = IsDelimiterWord; usual = 44; fault = unknown_delimiter }
-
--- numbers from 1 on: the greatest, the number without a word, and the fault of a word that names none
-pub record Bounds : Type 0 where
-  pub most : ℕ
-  pub usual : ℕ
-  pub fault : Text → Fault
-
--- the size of a ring, and the number of converters
-abbrev pub bounds_of : AskedNumber → Bounds
-bounds_of numbers.Ring = record { most = largest_ring; usual = 16; fault = bad_ring }
-bounds_of numbers.Stripes = record { most = most_stripes; usual = 1; fault = bad_stripes }
-
-abbrev pub number_option : AskedNumber → NumberOption
-number_option asks = let bounds = bounds_of asks in
-    record { names = IsNumberWord bounds.most; usual = bounds.usual; fault = bounds.fault }
-
--- this is the number that the option asks for
-abbrev pub IsNumberOf : NumberOption → Option Text → ℕ → Type 0
-IsNumberOf option None n = n ≡ option.usual
-IsNumberOf option (Some word) n = option.names word n
 
 -- the file stands at a place of the list, and at an earlier place too
 pub record IsNamedTwice (files : List Text) (file : Text) : Type 0 where
@@ -92,9 +58,9 @@ AreFilesToConvert files = (length files ≤ most_files) × ((file : Text) → ¬
 -- the values ask for this task
 pub record Ask (values : Values) (task : Task) : Type 0 where
   pub targets : AreTargetsOf values.to task.layout.targets
-  pub ring : IsNumberOf (number_option numbers.Ring) values.ring task.ring
-  pub delimiter : IsNumberOf delimiter_option values.delimiter task.layout.format.delimiter
-  pub stripes : IsNumberOf (number_option numbers.Stripes) values.stripes task.stripes
+  pub ring : IsValueOf ring_option values.ring task.ring
+  pub delimiter : IsValueOf delimiter_option values.delimiter task.layout.format.delimiter
+  pub stripes : IsValueOf stripes_option values.stripes task.stripes
   pub form : task.layout.format.form ≡ (if values.sealed then Sealed else Plain)
   pub summary : task.summary ≡ values.summary
   pub files : task.files ≡ values.files
@@ -121,28 +87,23 @@ abbrev pub IsTargetFault : Option Text → Fault → Type 0
 IsTargetFault None fault = ⊥
 IsTargetFault (Some list) fault = IsListFault list fault
 
--- what is wrong with the word of an option that asks for a number: it names none
-abbrev pub IsNumberFault : NumberOption → Option Text → Fault → Type 0
-IsNumberFault option value fault =
-    (word : Text) × (fault ≡ option.fault word) × (value ≡ Some word) × ((n : ℕ) → ¬ option.names word n)
-
 -- what is wrong with the files: there are too many, or else one is named twice
 abbrev pub IsFileFault : List Text → Fault → Type 0
 IsFileFault files fault =
     ((fault ≡ too_many_files) × (most_files < length files))
     ⊎ ((file : Text) × (fault ≡ file_twice file) × (length files ≤ most_files) × IsFirstTwice files file)
 
--- the checks of the words, of the targets, of a number, and of the files
+-- the checks of the words, of the targets, of a value, and of the files
 abbrev pub usage_check : List Text → Check
 usage_check words = record { fails = IsUsageFault words; passes = AreTaken words }
 
 abbrev pub target_check : Option Text → Check
 target_check value = record { fails = IsTargetFault value; passes = (targets : List Target) × AreTargetsOf value targets }
 
-abbrev pub number_check : NumberOption → Option Text → Check
-number_check option value = record {
-  fails = IsNumberFault option value;
-  passes = (n : ℕ) × IsNumberOf option value n;
+abbrev pub option_check : ValueOption → Option Text → Check
+option_check option value = record {
+  fails = IsValueFault option value;
+  passes = (n : ℕ) × IsValueOf option value n;
 }
 
 abbrev pub file_check : List Text → Check
@@ -152,9 +113,9 @@ file_check files = record { fails = IsFileFault files; passes = AreFilesToConver
 abbrev pub value_checks : Values → List Check
 value_checks values =
     target_check values.to
-    ∷ number_check (number_option numbers.Ring) values.ring
-    ∷ number_check delimiter_option values.delimiter
-    ∷ number_check (number_option numbers.Stripes) values.stripes
+    ∷ option_check ring_option values.ring
+    ∷ option_check delimiter_option values.delimiter
+    ∷ option_check stripes_option values.stripes
     ∷ file_check values.files
     ∷ []
 

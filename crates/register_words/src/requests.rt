@@ -10,17 +10,17 @@ ghost use Rattle.register_words.specs.CommandLine.{AreTaken, bare_command, comma
 ghost use Rattle.register_words.specs.CommandLine.{values_in, values_of, word_rule};
 ghost use Rattle.register_words.specs.Faults.{fault_of_error};
 ghost use Rattle.register_words.specs.Requests.{AreFilesToConvert, AreTargetsOf, Ask, FailFirst, IsFileFault, IsFirstTwice};
-ghost use Rattle.register_words.specs.Requests.{IsNamedTwice, IsNumberFault, IsNumberOf, IsTargetFault, MeanJust};
-ghost use Rattle.register_words.specs.Requests.{delimiter_option, meaning_of, value_checks};
+ghost use Rattle.register_words.specs.Requests.{IsNamedTwice, IsTargetFault, MeanJust};
+ghost use Rattle.register_words.specs.Requests.{meaning_of, value_checks};
 ghost use Rattle.register_words.specs.Requests.{task_of, values_by, wrong};
 
-use crate::option_values::{delimiter_named, number_named, read_targets};
+use crate::option_values::{Delimiter, Ring, Stripes, chosen, read_targets};
 use crate::request_faults::RequestFault;
 use clap::error::ErrorKind;
 use clap::{Arg, ArgAction, ArgMatches, Command};
 use date_texts::Target;
 use date_texts::laws::{default_targets, one_target};
-use register_records::{Form, MAX_RING, MAX_STRIPES, Setup};
+use register_records::{Form, Setup};
 use std::alloc::{AllocError, Global};
 
 /// The most files of a command line.
@@ -192,73 +192,6 @@ fn chosen_targets<'a>(alloc: Global, list: Option<&'a str>) -> Result<Vec<Target
     }
 }
 
-/// The byte that the value of `--delimiter` names, or a comma where there is none.
-fn chosen_delimiter<'a>(word: Option<&'a str>) -> Result<u8, RequestFault<'a>>
-    ensures value { IfOk result (IsNumberOf delimiter_option (option_map (λ w. w.now) word.entry)) }
-    ensures fault { IfErr result (λ error. IsSomeAnd (fault_of_error error)
-        (IsNumberFault delimiter_option (option_map (λ w. w.now) word.entry))) }
-{
-    let Some(word) = word else {
-        return Ok(b',');
-    };
-    delimiter_named(word).ok_or(RequestFault::UnknownDelimiter(word))
-}
-
-/// A number from 1 on that an option asks for.
-#[derive(Clone, Copy)]
-enum AskedNumber {
-    /// How many items a ring holds, by `--ring`.
-    Ring,
-    /// How many converters a source has, by `--stripes`.
-    Stripes,
-}
-
-impl AskedNumber {
-    ghost use Rattle.register_words.specs.Requests.{bounds_of, number_option};
-
-    /// The greatest.
-    fn most(self) -> usize
-        ensures { result ≡ (bounds_of self).most }
-    {
-        match self {
-            AskedNumber::Ring => MAX_RING,
-            AskedNumber::Stripes => MAX_STRIPES,
-        }
-    }
-
-    /// The one where the words do not say.
-    fn usual(self) -> usize
-        ensures { result ≡ (bounds_of self).usual }
-    {
-        match self {
-            AskedNumber::Ring => 16,
-            AskedNumber::Stripes => 1,
-        }
-    }
-
-    /// What is wrong with a word that names none.
-    fn fault<'a>(self, word: &'a str) -> RequestFault<'a>
-        ensures { fault_of_error result ≡ Some ((bounds_of self).fault word.entry.now) }
-    {
-        match self {
-            AskedNumber::Ring => RequestFault::BadRing(word),
-            AskedNumber::Stripes => RequestFault::BadStripes(word),
-        }
-    }
-
-    /// The number that the value of the option names, or the usual one where there is none.
-    fn chosen<'a>(self, word: Option<&'a str>) -> Result<usize, RequestFault<'a>>
-        ensures value { IfOk result (IsNumberOf (number_option self) (option_map (λ w. w.now) word.entry)) }
-        ensures fault { IfErr result (λ error. IsSomeAnd (fault_of_error error)
-            (IsNumberFault (number_option self) (option_map (λ w. w.now) word.entry))) }
-    {
-        let Some(word) = word else {
-            return Ok(self.usual());
-        };
-        number_named(word, self.most()).ok_or(self.fault(word))
-    }
-}
-
 /// The form of the registers: sealed where the flag is given, and else plain.
 fn chosen_form(sealed: bool) -> Form
     ensures { result ≡ (if sealed then Form.Sealed else Form.Plain) }
@@ -310,12 +243,18 @@ fn chosen_job<'a>(alloc: Global, options: Options<'a>) -> Result<Job<'a>, Reques
     ensures fault { IfErr result (λ error. IfSome (fault_of_error error) (FailFirst (value_checks (values_by options.entry)))) }
 {
     let targets = chosen_targets(alloc, options.to)?;
-    let ring = AskedNumber::Ring.chosen(options.ring)?;
-    let delimiter = chosen_delimiter(options.delimiter)?;
-    let stripes = AskedNumber::Stripes.chosen(options.stripes)?;
+    let ring = chosen::<Ring>(options.ring)?;
+    let delimiter = chosen::<Delimiter>(options.delimiter)?;
+    let stripes = chosen::<Stripes>(options.stripes)?;
     check_files(options.files.as_slice())?;
     let form = chosen_form(options.sealed);
-    match Setup::new(targets.as_slice(), ring, delimiter, stripes, form) {
+    match Setup::new(
+        targets.as_slice(),
+        ring.size(),
+        delimiter.byte(),
+        stripes.count(),
+        form,
+    ) {
         Ok(setup) => Ok(Job {
             setup,
             summary: options.summary,

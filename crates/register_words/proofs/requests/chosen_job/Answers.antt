@@ -7,13 +7,12 @@ use Rattle.register_words.specs.CommandLine.{Values}
 use Rattle.register_words.specs.Faults.{Fault, fault_of_error}
 use Rattle.register_words.specs.Requests.{values_by}
 use Rattle.register_words.specs.Requests.{AreFilesToConvert, AreTargetsOf, FailFirst, IsFileFault}
-use Rattle.register_words.specs.Requests.{IsNumberOf}
-use Rattle.register_words.specs.Requests.{delimiter_option, number_option, value_checks}
-use Rattle.register_words.specs.declared.requests.AskedNumber.TheVariants as numbers
+use Rattle.register_words.specs.Requests.{value_checks}
+use Rattle.register_words.specs.OptionValues.{IsValueOf, byte_of, delimiter_option, ring_option, stripes_option}
 use Rattle.register_words.specs.declared.request_faults.RequestFault.{RequestFault}
 use Rattle.register_words.specs.declared.requests.Job.{Job}
 use Rattle.register_words.proofs.OptionLemmas.{found_first, if_some}
-use Rattle.register_words.proofs.SetupLemmas.{asked_delimiter, asked_once, asked_ring, asked_stripes, no_fault}
+use Rattle.register_words.proofs.SetupLemmas.{asked_once, no_fault}
 use Rattle.register_words.proofs.requests.chosen_job.Goals as goal
 
 -- an error tells what the first check that fails finds
@@ -51,7 +50,7 @@ returns-in_err-delimiter-clause-fault c =
     c.from_residual-in_err-delimiter.ensures.1 c.in_err-delimiter.ensures.fault
     (λ fault is. inr (
       (c.in_ok-targets.targets.items, c.in_ok-targets.ensures.value),
-      inr ((c.in_ok-ring.ring, c.in_ok-ring.ensures.value), inl is),
+      inr ((c.in_ok-ring.ring.size, c.in_ok-ring.ensures.value), inl is),
     ))
 
 pub returns-in_err-stripes-clause-fault : goal.returns-in_err-stripes-clause-fault
@@ -61,8 +60,8 @@ returns-in_err-stripes-clause-fault c =
     (λ fault is. inr (
       (c.in_ok-targets.targets.items, c.in_ok-targets.ensures.value),
       inr (
-        (c.in_ok-ring.ring, c.in_ok-ring.ensures.value),
-        inr ((c.in_ok-delimiter.delimiter, c.in_ok-delimiter.ensures.value), inl is),
+        (c.in_ok-ring.ring.size, c.in_ok-ring.ensures.value),
+        inr ((byte_of c.in_ok-delimiter.delimiter, c.in_ok-delimiter.ensures.value), inl is),
       ),
     ))
 
@@ -75,10 +74,10 @@ returns-in_err-check_files-clause-fault c =
     (λ fault is. inr (
       (c.in_ok-targets.targets.items, c.in_ok-targets.ensures.value),
       inr (
-        (c.in_ok-ring.ring, c.in_ok-ring.ensures.value),
+        (c.in_ok-ring.ring.size, c.in_ok-ring.ensures.value),
         inr (
-          (c.in_ok-delimiter.delimiter, c.in_ok-delimiter.ensures.value),
-          inr ((c.in_ok-stripes.stripes, c.in_ok-stripes.ensures.value), inl is),
+          (byte_of c.in_ok-delimiter.delimiter, c.in_ok-delimiter.ensures.value),
+          inr ((c.in_ok-stripes.stripes.count, c.in_ok-stripes.ensures.value), inl is),
         ),
       ),
     ))
@@ -90,9 +89,12 @@ returns-clause-asked c =
     record {
       targets = subst (AreTargetsOf values.to) (sym (fields.0 ∙ c.as_slice-2.ensures.value))
           c.in_ok-targets.ensures.value;
-      ring = subst (IsNumberOf (number_option numbers.Ring) values.ring) (sym fields.1) c.in_ok-ring.ensures.value;
-      delimiter = subst (IsNumberOf delimiter_option values.delimiter) (sym fields.2) c.in_ok-delimiter.ensures.value;
-      stripes = subst (IsNumberOf (number_option numbers.Stripes) values.stripes) (sym fields.3) c.in_ok-stripes.ensures.value;
+      ring = subst (IsValueOf ring_option values.ring) (sym (fields.1 ∙ c.size.ensures.value))
+          c.in_ok-ring.ensures.value;
+      delimiter = subst (IsValueOf delimiter_option values.delimiter) (sym (fields.2 ∙ c.byte.ensures.value))
+          c.in_ok-delimiter.ensures.value;
+      stripes = subst (IsValueOf stripes_option values.stripes) (sym (fields.3 ∙ c.count.ensures.value))
+          c.in_ok-stripes.ensures.value;
       form = fields.4 ∙ c.chosen_form-form.ensures;
       summary = refl;
       files = refl;
@@ -103,10 +105,7 @@ returns-clause-asked c =
 pub unreachable-requires : goal.unreachable-requires
 unreachable-requires c =
     let once = rw (sym c.as_slice-2.ensures.value) at (asked_once _ _ c.in_ok-targets.ensures.value) in
-    let fits = asked_ring _ _ c.in_ok-ring.ensures.value in
-    let cuts = asked_delimiter _ _ c.in_ok-delimiter.ensures.value in
-    let few = asked_stripes _ _ c.in_ok-stripes.ensures.value in
-    no_fault c.new.result c.in-Err.field-0 _ c.in_ok-ring.ring c.in_ok-delimiter.delimiter c.in_ok-stripes.stripes
-    c.in-Err.is once fits cuts c.new.ensures.twice.0
-    (λ e. (c.new.ensures.ring_size.0 e).1) (λ e. (c.new.ensures.delimiter.0 e).2) few
+    no_fault c.new.result c.in-Err.field-0 _ c.size.result c.byte.result c.count.result c.in-Err.is once
+    c.size.ensures.fits c.byte.ensures.fits c.new.ensures.twice.0
+    (λ e. (c.new.ensures.ring_size.0 e).1) (λ e. (c.new.ensures.delimiter.0 e).2) c.count.ensures.fits
     (λ e. (c.new.ensures.stripes.0 e).3)

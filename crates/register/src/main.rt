@@ -1,7 +1,7 @@
 //! The program `register`: converts the dates of historical registers.
 //!
 //! It reads CSV texts, from files or from standard input, and writes a table of each, with the day of each record in
-//! the calendars that the words ask for.
+//! the calendars that the arguments ask for.
 #![tactic(auto)]
 
 use register_app::answer;
@@ -13,14 +13,14 @@ use std::process::ExitCode;
 use std::rt::{Env, Files};
 use std::{env, io};
 
-/// The words after the program's name.
-fn words_of<R: Env + AllocGlobal>(rt: &R) -> io::Result<Vec<String>> {
-    let words = env::args(rt)?.skip(1).collect(rt.alloc())?;
-    Ok(words)
+/// The arguments after the name of the program.
+fn arguments_of<R: Env + AllocGlobal>(rt: &R) -> io::Result<Vec<String>> {
+    let arguments = env::args(rt)?.skip(1).collect(rt.alloc())?;
+    Ok(arguments)
 }
 
-/// Reports why the words could not be read: memory ran out, status 3, or a word that is no text, status 2.
-fn unread_words(rt: &impl Eprint, error: &io::Error) -> ExitCode {
+/// Reports why the arguments could not be read: memory ran out, status 3, or a word that is no text, status 2.
+fn unread_arguments(rt: &impl Eprint, error: &io::Error) -> ExitCode {
     if error.kind() == io::ErrorKind::OutOfMemory {
         let _ = eprint!(rt; "{MEMORY_FAULT}");
         return ExitCode::from(3);
@@ -36,23 +36,23 @@ fn open_nothing<R: Files>(rt: &R) -> Option<R::File> {
 
 fn main(rt: HostRuntime) -> ExitCode {
     // A standard stream that is closed leaves its number, 0, 1 or 2, free. It is taken here, so that no file that the
-    // words name gets it: else what is meant for standard error could be written into a table.
+    // arguments name gets it: else what is meant for standard error could be written into a table.
     let _streams = [open_nothing(&rt), open_nothing(&rt), open_nothing(&rt)];
-    let words = match words_of(&rt) {
-        Ok(words) => words,
-        Err(error) => return unread_words(&rt, &error),
+    let arguments = match arguments_of(&rt) {
+        Ok(arguments) => arguments,
+        Err(error) => return unread_arguments(&rt, &error),
     };
     let input = Source::Input(rt.stdin());
     let output = PlainOutput::new(LoggedWriter::new(Destination::Output(rt.stdout())), 1);
     let mut errors = PlainOutput::new(LoggedWriter::new(lines_to(rt.stderr())), 0);
-    let answered = answer(
+    let outcome = answer(
         &rt,
         rt.alloc(),
-        words.as_slice(),
+        arguments.as_slice(),
         input,
         output,
         &Disk::new(&rt),
         &mut errors,
     );
-    ExitCode::from(answered.status)
+    ExitCode::from(outcome.status)
 }

@@ -1,4 +1,4 @@
--- That a file that cannot be opened or made is one of those that the words ask for.
+-- That a file that cannot be opened or made is one of those that the arguments ask for.
 use Rattle.std.proofs.Common.{◌≡◌, ℕ, List, Option, None, Some}
 use Rattle.std.specs.Prelude.{IfSome, slice_get}
 use Rattle.register_words.specs.Requests.{MeanJust, Task, table}
@@ -7,13 +7,14 @@ use Rattle.register_files.specs.declared.opening.FileFault.{FileFault}
 use Rattle.register_app.specs.Refusals.{IsOfAsked}
 use Rattle.register_app.specs.declared.refusals.Refusal.TheVariants as refusal
 
--- a file of the task that the words ask for
-asked_file : (words : List (List ℕ)) (task : Task) → MeanJust words (table task) → (missing : Option (List ℕ))
+-- a file of the task that the arguments ask for
+asked_file : (arguments : List (List ℕ)) (task : Task) → MeanJust arguments (table task) → (missing : Option (List ℕ))
     → IfSome missing (λ file. (i : ℕ) × (slice_get task.files i ≡ Some file))
-    → IfSome missing (λ file. (task : Task) × MeanJust words (table task) × (i : ℕ) × (slice_get task.files i ≡ Some file))
-asked_file words task just None is = tt
-asked_file words task just (Some file) is = (task, just, is.0, is.1)
+    → IfSome missing (λ file. (task : Task) × MeanJust arguments (table task) × (i : ℕ)
+    × (slice_get task.files i ≡ Some file))
+asked_file arguments task just None is = tt
+asked_file arguments task just (Some file) is = (task, just, is.0, is.1)
 
-pub asked_by : (words : List (List ℕ)) (task : Task) → MeanJust words (table task) → (fault : FileFault)
-    → IsOfFiles task.files fault → IsOfAsked words (refusal.Files fault)
-asked_by words task just fault is = asked_file words task just (missing_file fault) is
+pub asked_by : (arguments : List (List ℕ)) (task : Task) → MeanJust arguments (table task) → (fault : FileFault)
+    → IsOfFiles task.files fault → IsOfAsked arguments (refusal.Files fault)
+asked_by arguments task just fault is = asked_file arguments task just (missing_file fault) is

@@ -1,4 +1,4 @@
--- When words are refused, and what is reported then.
+-- When arguments are refused, and what is reported then.
 use Rattle.std.proofs.Common.{◌≡◌, ◌≢◌, ◌⊎◌, inl, inr, List, Option, Some, None, ℕ, codes, refl}
 use Rattle.std.specs.Prelude.{◌↔◌, IfSome}
 use Rattle.std.specs.Option.{option_map_or}
@@ -10,32 +10,32 @@ use Rattle.register_words.specs.declared.request_faults.RequestFault.TheVariants
 use Rattle.register_app.specs.Answers.{IsReported}
 use Rattle.register_app.specs.declared.refusals.Refusal.TheVariants as refusal
 
--- words that ask for something are not refused
-pub never_refused : (words : List Text) (meaning : Meaning) (status : ℕ) → MeanJust words meaning
+-- arguments that ask for something are not refused
+pub never_refused : (arguments : List Text) (meaning : Meaning) (status : ℕ) → MeanJust arguments meaning
     → ((fault : Fault) → wrong fault ≢ meaning) → status ≢ 2
-    → (status ≡ 2) ↔ AreWrong words
-never_refused words meaning status just differs
+    → (status ≡ 2) ↔ AreWrong arguments
+never_refused arguments meaning status just differs
     other = (λ e. absurd (other e), λ is. absurd (differs is.0 ((just (wrong is.0)).1 is.1)))
 
--- words that are wrong are, unless there was no memory or a file was missing
-pub is_refused : (words : List Text) (found : Option Fault) (status : ℕ)
-    → IfSome found (λ fault. MeanJust words (wrong fault))
-    → (status ≡ 3) ⊎ (status ≡ option_map_or (λ fault. 2) found 3) → status ≢ 3 → (status ≡ 2) ↔ AreWrong words
-is_refused words found status just (inl three) had = absurd (had three)
-is_refused words None status just (inr three) had = absurd (had three)
-is_refused words (Some fault) status just (inr two) had = (λ e. (fault, (just (wrong fault)).0 refl), λ is. two)
+-- arguments that are wrong are, unless there was no memory or a file was missing
+pub is_refused : (arguments : List Text) (found : Option Fault) (status : ℕ)
+    → IfSome found (λ fault. MeanJust arguments (wrong fault))
+    → (status ≡ 3) ⊎ (status ≡ option_map_or (λ fault. 2) found 3) → status ≢ 3 → (status ≡ 2) ↔ AreWrong arguments
+is_refused arguments found status just (inl three) had = absurd (had three)
+is_refused arguments None status just (inr three) had = absurd (had three)
+is_refused arguments (Some fault) status just (inr two) had = (λ e. (fault, (just (wrong fault)).0 refl), λ is. two)
 
 -- and then they have the fault that is reported
-pub is_wrong : (words : List Text) (found : Option Fault) → IfSome found (λ fault. MeanJust words (wrong fault))
-    → IfSome found (IsFaultOf words)
-is_wrong words None just = tt
-is_wrong words (Some fault) just = (just (wrong fault)).0 refl
+pub is_wrong : (arguments : List Text) (found : Option Fault) → IfSome found (λ fault. MeanJust arguments (wrong fault))
+    → IfSome found (IsFaultOf arguments)
+is_wrong arguments None just = tt
+is_wrong arguments (Some fault) just = (just (wrong fault)).0 refl
 
 -- where memory ran out, that is why
-pub out_of_memory : (words : List Text) (before after : Option (List ℕ))
-    → Appends before after (program_line (codes "out of memory")) → IsReported words 3 before after
-out_of_memory words before after line = record {
-  why = refusal.Words request_fault.OutOfMemory;
+pub out_of_memory : (arguments : List Text) (before after : Option (List ℕ))
+    → Appends before after (program_line (codes "out of memory")) → IsReported arguments 3 before after
+out_of_memory arguments before after line = record {
+  why = refusal.Arguments request_fault.OutOfMemory;
   status_of = refl;
   fault = tt;
   file = tt;

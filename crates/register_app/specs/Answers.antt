@@ -1,4 +1,4 @@
--- What the program does: what its outputs have gained, and when its words are refused.
+-- What the program does: what its outputs have gained, and when its arguments are refused.
 use Rattle.std.specs.Prelude.{◌≡◌, ◌≢◌, ◌⊎◌, ◌↔◌, ℕ, List, [], ◌∷◌, ◌++◌, codes, IfSome, Option, true, false}
 use Rattle.std.specs.Io.KnownBytes.{Appends}
 use Rattle.std.specs.declared.io.traits.Read as reads
@@ -23,12 +23,13 @@ use Rattle.register_words.specs.declared.requests.TheConstants.{VERSION}
 abbrev pub version_line : List ℕ
 version_line = codes "register " ++ (VERSION.now ++ 10 ∷ [])
 
--- the words ask for this page
+-- the arguments ask for this page
 abbrev pub AskForPage : List (List ℕ) → List ℕ → Type 0
-AskForPage words page = (MeanJust words help × (page ≡ HELP.now)) ⊎ (MeanJust words version × (page ≡ version_line))
+AskForPage arguments page =
+    (MeanJust arguments help × (page ≡ HELP.now)) ⊎ (MeanJust arguments version × (page ≡ version_line))
 
--- a page was printed: with status 0 the output has gained it and handed it on, and standard error nothing; else the output
--- has failed, and standard error has gained one line, unless that failed too
+-- a page was printed: with status 0 the output has gained it and handed it on, and standard error has gained nothing; else
+-- the output has failed, and standard error has gained one line, unless that failed too
 pub record IsPrinted {W E : Type 0} (o : outputs.Ghosts W) (e : outputs.Ghosts E)
     (page : List ℕ) (status : ℕ) (given written : W) (before after : E) : Type 0 where
   pub printed : status ≡ 0 → Appends (o.contents given) (o.contents written) page × (o.is_flushed written ≡ true)
@@ -72,33 +73,32 @@ pub record AreConverted {R W E : Type 0} (r : reads.Ghosts R) (o : outputs.Ghost
   pub apart : AreTwoFiles AreApart task.files
   pub converted : IsConverted r o e task status sources given written ran before after
 
--- the words ask for a page, which was printed; no output was made
+-- the arguments ask for a page, which was printed; no output was made
 abbrev pub IsPageAnswered : {W E : Type 0} → outputs.Ghosts W → outputs.Ghosts E → List (List ℕ) → ℕ → W → W → List W → E
     → E → Type 0
-IsPageAnswered o e words status given written outputs before after =
-    (page : List ℕ) × AskForPage words page × IsPrinted o e page status given written before after × (outputs ≡ [])
+IsPageAnswered o e arguments status given written outputs before after =
+    (page : List ℕ) × AskForPage arguments page × IsPrinted o e page status given written before after × (outputs ≡ [])
 
--- the words ask for the table of standard input; no output was made
+-- the arguments ask for the table of standard input; no output was made
 abbrev pub IsInputAnswered : {R W E : Type 0} → reads.Ghosts R → outputs.Ghosts W → outputs.Ghosts E → List (List ℕ) → ℕ
     → R → W → W → List W → List Ran → E → E → Type 0
-IsInputAnswered r o e words status input given written outputs ran before after =
-    (task : Task) × MeanJust words (table task) × (task.files ≡ []) × (outputs ≡ [])
+IsInputAnswered r o e arguments status input given written outputs ran before after =
+    (task : Task) × MeanJust arguments (table task) × (task.files ≡ []) × (outputs ≡ [])
     × IsConverted r o e task status (input ∷ []) (given ∷ []) (written ∷ []) ran before after
 
--- the words ask for the tables of files; standard output is as it was
+-- the arguments ask for the tables of files; standard output is as it was
 abbrev pub AreFilesAnswered : {R W E : Type 0} → reads.Ghosts R → outputs.Ghosts W → outputs.Ghosts E
     → (List ℕ → R → Type 0) → (List ℕ → ℕ → W → Type 0) → (List ℕ → List ℕ → Type 0) → List (List ℕ) → ℕ → W → W → List W
     → List Ran → E → E → Type 0
-AreFilesAnswered r o e IsOpened IsMade AreApart words status given written outputs ran before after =
-    (task : Task) × MeanJust words (table task) × (task.files ≢ []) × (written ≡ given)
+AreFilesAnswered r o e IsOpened IsMade AreApart arguments status given written outputs ran before after =
+    (task : Task) × MeanJust arguments (table task) × (task.files ≢ []) × (written ≡ given)
     × AreConverted r o e IsOpened IsMade AreApart task status outputs ran before after
 
--- standard error gained the line on why nothing is done, with this status: something that is wrong with the words, or
--- that memory ran out or a file was missing; of words that are no arguments as they are taken, clap says more than the
--- definitions
-pub record IsReported (words : List (List ℕ)) (status : ℕ) (before after : Option (List ℕ)) : Type 0 where
+-- standard error has gained the line on why nothing is done, with this status: something is wrong with the arguments, or
+-- memory ran out, or a file was missing; of arguments that are not taken, clap says more than the definitions
+pub record IsReported (arguments : List (List ℕ)) (status : ℕ) (before after : Option (List ℕ)) : Type 0 where
   pub why : Refusal
   pub status_of : status_of_refusal why ≡ status
-  pub fault : IfSome (fault_of_refusal why) (IsFaultOf words)
-  pub file : IsOfAsked words why
+  pub fault : IfSome (fault_of_refusal why) (IsFaultOf arguments)
+  pub file : IsOfAsked arguments why
   pub line : IfSome (line_of_refusal why) (Appends before after)

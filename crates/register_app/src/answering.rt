@@ -1,4 +1,4 @@
-//! What the program does with its words: it prints a page, or converts, and returns how that ended.
+//! What the program does with its arguments: it prints a page, or converts, and returns how that ended.
 
 ghost use Rattle.std.specs.Prelude.{◌≡◌, ◌≢◌, ◌≤◌, ◌⊎◌, ◌↔◌, ℕ, List, [], ◌∷◌, All, true, false, map, length, vec_len};
 ghost use Rattle.std.specs.Prelude.{IfSome, codes};
@@ -50,7 +50,7 @@ pub struct Outcome<W> {
     pub ran: Vec<Ran>,
 }
 
-// A run takes as many sources as the words may name.
+// A run takes as many sources as the arguments may name.
 const _: () = prove!(MAX_FILES <= MAX_SOURCES);
 
 /// How a job has ended: the status, and the outputs and how the threads ran, each in the order of the sources.
@@ -84,9 +84,9 @@ fn report_out_of_memory<E: Output>(errors: &mut E)
 /// Reports why nothing is done, and returns the exit status. A fault of `errors` is let go, as above.
 fn report_refusal<E: Output>(alloc: Global, errors: &mut E, why: &Refusal<'_>) -> u8
     ensures status { (result ≡ 3) ⊎ (result ≡ status_of_refusal why.now) }
-    ensures reported { (words : List (List ℕ)) → IfSome (fault_of_refusal why.now) (IsFaultOf words)
-        → IsOfAsked words why.now → E.has_failed errors.new ≡ false
-        → IsReported words result (E.contents errors.old) (E.contents errors.new) }
+    ensures reported { (arguments : List (List ℕ)) → IfSome (fault_of_refusal why.now) (IsFaultOf arguments)
+        → IsOfAsked arguments why.now → E.has_failed errors.new ≡ false
+        → IsReported arguments result (E.contents errors.old) (E.contents errors.new) }
     ensures mark { E.own_mark errors.new ≡ E.own_mark errors.old }
 {
     match why.text(alloc) {
@@ -109,9 +109,9 @@ fn refuse<W: Output, E: Output>(
     why: &Refusal<'_>,
 ) -> Outcome<W>
     ensures status { (result.status ≡ 3) ⊎ (result.status ≡ status_of_refusal why.now) }
-    ensures reported { (words : List (List ℕ)) → IfSome (fault_of_refusal why.now) (IsFaultOf words)
-        → IsOfAsked words why.now → E.has_failed errors.new ≡ false
-        → IsReported words result.status (E.contents errors.old) (E.contents errors.new) }
+    ensures reported { (arguments : List (List ℕ)) → IfSome (fault_of_refusal why.now) (IsFaultOf arguments)
+        → IsOfAsked arguments why.now → E.has_failed errors.new ≡ false
+        → IsReported arguments result.status (E.contents errors.old) (E.contents errors.new) }
     ensures untouched { result.output ≡ output }
     ensures none { result.outputs.items ≡ [] }
     ensures mark { E.own_mark errors.new ≡ E.own_mark errors.old }
@@ -153,8 +153,8 @@ fn print_page<W: Output, E: Output>(
     }
 }
 
-/// Reports how the sources of a run have ended, and returns the status. Where all are whole and no summary is asked for,
-/// there is nothing to report.
+/// Reports how the sources of a run have ended, and returns the status. There is nothing to report where all are whole and
+/// no summary is asked for.
 fn report_run<W, E: Output>(errors: &mut E, summary: bool, report: &Report<W>) -> u8
     requires verdict { (report.now.verdict ≡ Verdict.Complete)
         ↔ All (λ e. is_whole_end e ≡ true) report.now.ends.items }
@@ -198,8 +198,8 @@ fn run_job<
         (task_of job.now) result.status sources.items outputs.items result.outputs.items result.ran.items errors.old
         errors.new }
     ensures untouched { result.status ≡ 3 → result.outputs.items ≡ outputs.items }
-    ensures reported { result.status ≡ 3 → E.has_failed errors.new ≡ false → (words : List (List ℕ))
-        → IsReported words result.status (E.contents errors.old) (E.contents errors.new) }
+    ensures reported { result.status ≡ 3 → E.has_failed errors.new ≡ false → (arguments : List (List ℕ))
+        → IsReported arguments result.status (E.contents errors.old) (E.contents errors.new) }
     ensures len { vec_len result.outputs ≡ vec_len outputs }
     ensures statuses { (result.status ≡ 0) ⊎ (result.status ≡ 1) ⊎ (result.status ≡ 3) }
     ensures mark { E.own_mark errors.new ≡ E.own_mark errors.old }
@@ -235,18 +235,28 @@ fn convert_input<
         (task_of job.now) result.status (input ∷ []) (output ∷ []) (result.output ∷ []) result.ran.items errors.old
         errors.new }
     ensures untouched { result.status ≡ 3 → result.output ≡ output }
-    ensures reported { result.status ≡ 3 → E.has_failed errors.new ≡ false → (words : List (List ℕ))
-        → IsReported words result.status (E.contents errors.old) (E.contents errors.new) }
+    ensures reported { result.status ≡ 3 → E.has_failed errors.new ≡ false → (arguments : List (List ℕ))
+        → IsReported arguments result.status (E.contents errors.old) (E.contents errors.new) }
     ensures none { result.outputs.items ≡ [] }
     ensures statuses { (result.status ≡ 0) ⊎ (result.status ≡ 1) ⊎ (result.status ≡ 3) }
     ensures mark { W.own_mark result.output ≡ W.own_mark output }
     ensures errors_mark { E.own_mark errors.new ≡ E.own_mark errors.old }
 {
     let Ok(mut sources) = Vec::with_capacity(alloc, 1) else {
-        return refuse(alloc, output, errors, &Refusal::Words(RequestFault::OutOfMemory));
+        return refuse(
+            alloc,
+            output,
+            errors,
+            &Refusal::Arguments(RequestFault::OutOfMemory),
+        );
     };
     let Ok(mut outputs) = Vec::with_capacity(alloc, 1) else {
-        return refuse(alloc, output, errors, &Refusal::Words(RequestFault::OutOfMemory));
+        return refuse(
+            alloc,
+            output,
+            errors,
+            &Refusal::Arguments(RequestFault::OutOfMemory),
+        );
     };
     sources.push_reserved(input);
     outputs.push_reserved(output);
@@ -283,9 +293,9 @@ fn convert_files<
     ensures unwritten { result.status ≡ 3 → (result.outputs.items ≡ [])
         ⊎ AreMade (IsNewlyMade W.Output (P.is_made store.now)) (task_of job.now).files
         result.outputs.items }
-    ensures reported { result.status ≡ 3 → E.has_failed errors.new ≡ false → (words : List (List ℕ))
-        → MeanJust words (table (task_of job.now))
-        → IsReported words result.status (E.contents errors.old) (E.contents errors.new) }
+    ensures reported { result.status ≡ 3 → E.has_failed errors.new ≡ false → (arguments : List (List ℕ))
+        → MeanJust arguments (table (task_of job.now))
+        → IsReported arguments result.status (E.contents errors.old) (E.contents errors.new) }
     ensures statuses { (result.status ≡ 0) ⊎ (result.status ≡ 1) ⊎ (result.status ≡ 3) }
     ensures errors_mark { E.own_mark errors.new ≡ E.own_mark errors.old }
 {
@@ -306,19 +316,20 @@ fn convert_files<
     }
 }
 
-/// Does what the program's words ask for: prints a page, or converts the text that `input` gives to `output`, or converts
-/// each file named to its own output; reports to `errors` what went wrong; and returns the exit status and the outputs.
+/// Does what the program's arguments ask for: prints a page, or converts the text that `input` gives to `output`, or
+/// converts each file named to its own output; reports to `errors` what went wrong; and returns the exit status and the
+/// outputs.
 ///
 /// The status is
 ///
 /// - 0 where all texts were converted, refused records included, or a page was printed;
 /// - 1 where a conversion broke off, with the line `source N: cause C` for each such source in order, or the page
 ///   could not be printed;
-/// - 2 where the words were refused, with one line of the program's own or the text of clap;
+/// - 2 where the arguments were refused, with one line of the program's own or the text of clap;
 /// - 3 where a file could not be opened or made, a table would go to one of the files or to the file of another table,
 ///   or memory ran out before the run, with one line.
 ///
-/// Nothing is read where the status is 2 or 3, or where the words ask for a page. A fault of `errors` changes
+/// Nothing is read where the status is 2 or 3, or where the arguments ask for a page. A fault of `errors` changes
 /// neither the status nor the outputs.
 pub fn answer<
     T: Threads + Wait + Clock + CpuClock + Sync,
@@ -329,44 +340,44 @@ pub fn answer<
 >(
     rt: &T,
     alloc: Global,
-    words: &[String],
+    arguments: &[String],
     input: R,
     output: W,
     store: &P,
     errors: &mut E,
 ) -> Outcome<W>
-    // The bytes of what is written to are known, so that no clause on them is empty; there are none yet, and no failure.
+    // The bytes of what is written to are known, so that no clause on them is empty; there are none yet, and none failed.
     requires fresh { IsFresh W.Output output }
     requires fresh_errors { IsFresh E.Output errors.old }
 
-    // The words ask for a page, which was printed; or for the table of standard input; or for those of files.
+    // The arguments ask for a page, which was printed; or for the table of standard input; or for those of files.
     ensures answered { result.status ≤ 1
-        → IsPageAnswered W.Output E.Output (map string_bytes words.now) result.status
+        → IsPageAnswered W.Output E.Output (map string_bytes arguments.now) result.status
         output result.output result.outputs.items errors.old errors.new
-        ⊎ IsInputAnswered R.Read W.Output E.Output (map string_bytes words.now) result.status
+        ⊎ IsInputAnswered R.Read W.Output E.Output (map string_bytes arguments.now) result.status
         input output result.output result.outputs.items result.ran.items errors.old errors.new
         ⊎ AreFilesAnswered R.Read W.Output E.Output (P.is_opened store.now)
-        (IsNewlyMade W.Output (P.is_made store.now)) (P.are_apart store.now) (map string_bytes words.now)
+        (IsNewlyMade W.Output (P.is_made store.now)) (P.are_apart store.now) (map string_bytes arguments.now)
         result.status output result.output result.outputs.items result.ran.items errors.old errors.new }
 
-    // Unless the status is 3, words are refused exactly where something is wrong with them.
-    ensures refused { result.status ≢ 3 → (result.status ≡ 2) ↔ AreWrong (map string_bytes words.now) }
+    // Unless the status is 3, arguments are refused exactly where something is wrong with them.
+    ensures refused { result.status ≢ 3 → (result.status ≡ 2) ↔ AreWrong (map string_bytes arguments.now) }
     // And then standard error has gained the line on that, unless it failed.
     ensures reported { 2 ≤ result.status → E.has_failed errors.new ≡ false
-        → IsReported (map string_bytes words.now) result.status (E.contents errors.old) (E.contents errors.new) }
+        → IsReported (map string_bytes arguments.now) result.status (E.contents errors.old) (E.contents errors.new) }
     ensures untouched { 2 ≤ result.status → result.output ≡ output }
     ensures none { result.status ≡ 2 → result.outputs.items ≡ [] }
 
     // With status 3 the outputs are none, or as they were made.
     ensures unwritten { result.status ≡ 3 → (result.outputs.items ≡ [])
-        ⊎ ((task : Task) × MeanJust (map string_bytes words.now) (table task)
+        ⊎ ((task : Task) × MeanJust (map string_bytes arguments.now) (table task)
         × AreMade (IsNewlyMade W.Output (P.is_made store.now)) task.files
         result.outputs.items) }
     ensures statuses { result.status ≤ 3 }
     ensures mark { W.own_mark result.output ≡ W.own_mark output }
     ensures errors_mark { E.own_mark errors.new ≡ E.own_mark errors.old }
 {
-    match read_request(alloc, words) {
+    match read_request(alloc, arguments) {
         Ok(Request::Help) => print_page(alloc, HELP, output, errors),
         Ok(Request::Version) => print_page(alloc, version_line_text().as_str(), output, errors),
         Ok(Request::Convert(job)) => {
@@ -376,6 +387,6 @@ pub fn answer<
                 convert_files(rt, alloc, output, store, errors, &job)
             }
         }
-        Err(fault) => refuse(alloc, output, errors, &Refusal::Words(fault)),
+        Err(fault) => refuse(alloc, output, errors, &Refusal::Arguments(fault)),
     }
 }

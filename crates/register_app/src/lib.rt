@@ -1,4 +1,4 @@
-//! What the program `register` does with its words, over any streams and any store of files. The program itself is
+//! What the program `register` does with its arguments, over any streams and any store of files. The program itself is
 //! the crate `register`, which hands this its arguments, its standard streams and the files of the system.
 #![tactic(auto)]
 

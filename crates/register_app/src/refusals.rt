@@ -7,22 +7,22 @@ use register_files::{FileFault, output_name};
 use register_words::{MEMORY_FAULT, RequestFault, own_line};
 use std::alloc::{AllocError, Global};
 
-/// Why nothing is done: what is wrong with the words, or with the files that they name.
+/// Why nothing is done: what is wrong with the arguments, or with the files that they name.
 #[derive(Drop)]
 pub enum Refusal<'a> {
-    Words(RequestFault<'a>),
+    Arguments(RequestFault<'a>),
     Files(FileFault<'a>),
 }
 
 impl Refusal<'_> {
     ghost use Rattle.register_app.specs.Refusals.{line_of_refusal, status_of_refusal};
 
-    /// The exit status: 2 for what is wrong with the words, and 3 for files and where memory ran out.
+    /// The exit status: 2 for what is wrong with the arguments, and 3 for files and where memory ran out.
     pub fn status(&self) -> u8
         ensures { result ≡ status_of_refusal self.now }
     {
         match self {
-            Refusal::Words(fault) => fault.status(),
+            Refusal::Arguments(fault) => fault.status(),
             Refusal::Files(_) => 3,
         }
     }
@@ -36,7 +36,7 @@ impl Refusal<'_> {
         ensures { IfOk result (λ text. IfSome (line_of_refusal self.now) (λ line. string_bytes text ≡ line)) }
     {
         match self {
-            Refusal::Words(fault) => fault.text(alloc),
+            Refusal::Arguments(fault) => fault.text(alloc),
             Refusal::Files(FileFault::CannotOpen(file)) => own_line(alloc, "cannot open ", file),
             Refusal::Files(FileFault::CannotMake(file)) => {
                 own_line(alloc, "cannot make ", output_name(alloc, file)?.as_str())

@@ -1,4 +1,4 @@
--- Words have one kind of fault at most, where the command has no subcommand.
+-- Arguments have one kind of fault at most, where the command has no subcommand.
 use Rattle.std.proofs.Common.{◌≡◌, ◌∙◌, inl, inr, ℕ, zero, suc, List, [], ◌∷◌, Bool, true, false, not, Option, Some}
 use Rattle.std.proofs.Common.{None, refl, sym, subst, if◌then◌else◌}
 use Rattle.std.specs.Option.{option_map_or}
@@ -189,7 +189,7 @@ module _ (s : Shape) (leaf : s.is_leaf ≡ true) where
       (lone_or (word_fault s [] w.is_trailing w.waiting word w.held) (step_fault s w.position met.0 met.1)
       (lone_word w.is_trailing w.waiting word w.held) (lone_step w.position met.0 met.1))
 
-  lone_walk : (words : List Text) (w : Walk) → IsLone (walk_fault s [] w words)
+  lone_walk : (arguments : List Text) (w : Walk) → IsLone (walk_fault s [] w arguments)
   unfolding walk_fault
   lone_walk [] w = tt
   lone_walk (word ∷ rest) w =
@@ -214,10 +214,10 @@ module _ (s : Shape) (leaf : s.is_leaf ≡ true) where
   lone_checks : (x y z : Bool) → IsLone (check_kinds x y z)
   lone_checks x y z = lone_if x _ _ tt (lone_if y _ _ tt (lone_if z _ _ tt tt))
 
-  lone_level : (h : Held) (words : List Text) (below : Bool) → IsLone (level_fault s [] h words below [])
-  lone_level h words below =
-      let end = (walk s.rules [] h words).held in
-      lone_or (walk_fault s [] (walk_from h) words) _ (lone_walk words (walk_from h))
+  lone_level : (h : Held) (arguments : List Text) (below : Bool) → IsLone (level_fault s [] h arguments below [])
+  lone_level h arguments below =
+      let end = (walk s.rules [] h arguments).held in
+      lone_or (walk_fault s [] (walk_from h) arguments) _ (lone_walk arguments (walk_from h))
       (lone_or (settle_fault s.rules s.args_override_self end) _ (lone_settle s.rules s.args_override_self end)
       (lone_or (defaults_fault (settled s.rules end).rows s.rules) _ (lone_defaults s.rules (settled s.rules end).rows)
       (lone_checks _ _ _)))
@@ -226,12 +226,12 @@ module _ (s : Shape) (leaf : s.is_leaf ≡ true) where
   lone_below None = refl
   lone_below (Some p) = refl
 
-  lone_app : (h : Held) (words : List Text) → IsLone (built_fault (record { top = s; subs = [] }) h words)
-  lone_app h words =
-      let stop = (walk s.rules [] h words).stopped in
+  lone_app : (h : Held) (arguments : List Text) → IsLone (built_fault (record { top = s; subs = [] }) h arguments)
+  lone_app h arguments =
+      let stop = (walk s.rules [] h arguments).stopped in
       let below : Bool = is_some (entered (record { top = s; subs = [] }) stop) in
-      subst (λ (kinds : Kinds). IsLone (level_fault s [] h words below kinds)) (sym (lone_below stop))
-      (lone_level h words below)
+      subst (λ (kinds : Kinds). IsLone (level_fault s [] h arguments below kinds)) (sym (lone_below stop))
+      (lone_level h arguments below)
 
 one_of : (kinds : Kinds) (k l : ErrorKind) → IsLone kinds → IsAmong k kinds → IsAmong l kinds → k ≡ l
 one_of [] k l lone p q = absurd p
@@ -240,10 +240,10 @@ one_of (x ∷ []) k l lone (inl p) (inr q) = absurd q
 one_of (x ∷ []) k l lone (inr p) q = absurd p
 one_of (x ∷ y ∷ xs) k l lone p q = absurd lone
 
--- words have one kind of fault at most
-pub one_kind : (words : List Text) (k l : ErrorKind) → IsAmong k (fault_of command_line words)
-    → IsAmong l (fault_of command_line words) → k ≡ l
-one_kind words k l = one_of (fault_of command_line words) k l lone
+-- arguments have one kind of fault at most
+pub one_kind : (arguments : List Text) (k l : ErrorKind) → IsAmong k (fault_of command_line arguments)
+    → IsAmong l (fault_of command_line arguments) → k ≡ l
+one_kind arguments k l = one_of (fault_of command_line arguments) k l lone
   where
-    lone : IsLone (fault_of command_line words)
-    lone = lone_app (built command_line).top refl nothing_held words
+    lone : IsLone (fault_of command_line arguments)
+    lone = lone_app (built command_line).top refl nothing_held arguments

@@ -1,7 +1,7 @@
 -- Which file serves which public clause of `read_request`:
 --   KindLemmas: an error of clap is of one kind. OptionLemmas: what clap finds, and the values that it makes.
 --   NameLemmas, ListLemmas: a list of targets means one thing. FileLemmas: files have one fault at most.
---   WordLemmas, upon these: words mean one thing, for `asked` and `refused`.
+--   ArgumentLemmas, upon these: arguments mean one thing, for `asked` and `refused`.
 --   SetupLemmas: what they ask for makes a setup, for `asked`.
 mod FileLemmas
 mod KindLemmas
@@ -9,4 +9,4 @@ mod ListLemmas
 mod NameLemmas
 mod SetupLemmas
 mod OptionLemmas
-pub mod WordLemmas
+pub mod ArgumentLemmas

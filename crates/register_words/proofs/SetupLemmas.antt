@@ -1,4 +1,4 @@
--- What the words ask for fits a setup: each target once, the default ones too, since their names differ.
+-- What the arguments ask for fits a setup: each target once, the default ones too, since their names differ.
 use Rattle.std.proofs.Common.{◌≡◌, ◌∙◌, ◌<◌, ◌&&◌, ◌||◌, ℕ, Bool, true, false, not, List, [], ◌∷◌, length, map, sym, ap}
 use Rattle.std.proofs.Common.{refl, arith, zero, suc, Some, None, Option, Result, Err, inl, inr, true≢false}
 use Rattle.std.specs.Prelude.{◌≤◌, nat_le, slice_get}

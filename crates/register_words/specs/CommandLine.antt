@@ -1,4 +1,4 @@
--- The command line: its options, and the values that words give to them.
+-- The command line: its options, and the values that arguments give to them.
 use Rattle.std.specs.Prelude.{◌≡◌, List, [], ◌∷◌, Bool, false, codes, fold, true, Option, Some, unwrap_or}
 use Rattle.std.specs.Option.{option_map_or}
 use Rattle.std.specs.Str.{bytes_eq}
@@ -18,9 +18,9 @@ flag_rule name = record (new_rule name) { long = Some name; action = Some SetTru
 abbrev pub word_rule : Text → Rule
 word_rule name = record (new_rule name) { value_names = 1; action = Some Append }
 
--- the arguments: four options with a value each, two flags, and files
-abbrev pub arguments : List Rule
-arguments =
+-- the rules of the arguments: four options with a value each, two flags, and files
+abbrev pub argument_rules : List Rule
+argument_rules =
     option_rule (codes "to") ∷ option_rule (codes "ring") ∷ option_rule (codes "stripes")
     ∷ option_rule (codes "delimiter") ∷ flag_rule (codes "sealed") ∷ flag_rule (codes "summary")
     ∷ word_rule (codes "file") ∷ []
@@ -32,11 +32,11 @@ bare_command = let new = new_app (codes "register") in
 
 -- the command line: the command with all arguments
 abbrev pub command_line : App
-command_line = fold with_rule bare_command arguments
+command_line = fold with_rule bare_command argument_rules
 
--- the words are arguments as they are taken
+-- the arguments are as they are taken
 abbrev pub AreTaken : List Text → Type 0
-AreTaken words = fault_of command_line words ≡ []
+AreTaken arguments = fault_of command_line arguments ≡ []
 
 -- the value of each option that is used, whether each flag is given, and the files, in order
 pub record Values : Type 0 where
@@ -52,7 +52,7 @@ pub record Values : Type 0 where
 abbrev pub is_set : Option Text → Bool
 is_set text = option_map_or (λ t. bytes_eq t (codes "true")) text false
 
--- the values that clap finds in the words
+-- the values that clap finds in the arguments
 abbrev pub values_of : List Row → Values
 values_of found = record {
   to = first_of (codes "to") found;
@@ -65,4 +65,4 @@ values_of found = record {
 }
 
 abbrev pub values_in : List Text → Values
-values_in words = values_of (matches_of command_line words)
+values_in arguments = values_of (matches_of command_line arguments)

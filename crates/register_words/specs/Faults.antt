@@ -1,4 +1,4 @@
--- What can be wrong with the words.
+-- What can be wrong with the arguments.
 use Rattle.std.specs.Prelude.{◌≡◌, ◌++◌, ◌∷◌, ℕ, List, [], codes, Option, Some, None}
 use Rattle.std.specs.Option.{option_map_or}
 use Rattle.clap.specs.Values.{kind_of}
@@ -32,7 +32,7 @@ fault_of_error (request_fault.BadStripes word) = Some (bad_stripes word.now)
 fault_of_error request_fault.TooManyFiles = Some too_many_files
 fault_of_error (request_fault.FileTwice file) = Some (file_twice file.now)
 
--- 2 for what is wrong with the words, and 3 where memory ran out
+-- 2 for what is wrong with the arguments, and 3 where memory ran out
 abbrev pub status_of_fault : RequestFault → ℕ
 status_of_fault error = option_map_or (λ fault. 2) (fault_of_error error) 3
 
@@ -40,7 +40,7 @@ status_of_fault error = option_map_or (λ fault. 2) (fault_of_error error) 3
 abbrev pub program_line : List ℕ → List ℕ
 program_line text = codes "register: " ++ (text ++ 10 ∷ [])
 
--- the line on standard error; on words that are no arguments as they are taken, clap says more
+-- the line on standard error; on arguments that are not taken, clap says more
 abbrev pub error_line : RequestFault → Option (List ℕ)
 error_line request_fault.OutOfMemory = Some (program_line (codes "out of memory"))
 error_line (request_fault.Usage error) = None

@@ -1,4 +1,4 @@
--- What the words after the program's name ask for.
+-- What the arguments ask for.
 use Rattle.std.specs.Prelude.{◌≡◌, ◌≢◌, ◌≤◌, ◌<◌, ◌↔◌, ◌⊎◌, ◌++◌, ℕ, Bool, List, [], ◌∷◌, length, map}
 use Rattle.std.specs.Prelude.{Contains, if◌then◌else◌, Option, Some, None, option_map}
 use Rattle.clap.specs.Words.{IsAmong, Text, fault_of}
@@ -18,7 +18,7 @@ use Rattle.register_words.specs.declared.requests.Options.{Options}
 use Rattle.register_words.specs.declared.requests.Request.{Request}
 use Rattle.register_words.specs.declared.requests.Request.TheVariants as request
 
--- what words can ask of a run: how its registers are written and its tables laid out, the size of its rings, the
+-- what arguments can ask of a run: how its registers are written and its tables laid out, the size of its rings, the
 -- converters of a source, whether a summary is wanted, and the files
 pub record Task : Type 0 where
   pub layout : Layout
@@ -76,10 +76,10 @@ abbrev pub FailFirst : List Check → Fault → Type 0
 FailFirst [] fault = ⊥
 FailFirst (check ∷ later) fault = check.fails fault ⊎ (check.passes × FailFirst later fault)
 
--- what is wrong with words that are no arguments as they are taken
+-- what is wrong with arguments that are not taken
 abbrev pub IsUsageFault : List Text → Fault → Type 0
-IsUsageFault words fault =
-    (kind : ErrorKind) × (fault ≡ usage kind) × IsAmong kind (fault_of command_line words) × (kind ≢ DisplayHelp)
+IsUsageFault arguments fault =
+    (kind : ErrorKind) × (fault ≡ usage kind) × IsAmong kind (fault_of command_line arguments) × (kind ≢ DisplayHelp)
     × (kind ≢ DisplayVersion)
 
 -- what is wrong with the value of `--to`; without it, nothing is
@@ -93,9 +93,9 @@ IsFileFault files fault =
     ((fault ≡ too_many_files) × (most_files < length files))
     ⊎ ((file : Text) × (fault ≡ file_twice file) × (length files ≤ most_files) × IsFirstTwice files file)
 
--- the checks of the words, of the targets, of a value, and of the files
+-- the checks of the arguments, of the targets, of a value, and of the files
 abbrev pub usage_check : List Text → Check
-usage_check words = record { fails = IsUsageFault words; passes = AreTaken words }
+usage_check arguments = record { fails = IsUsageFault arguments; passes = AreTaken arguments }
 
 abbrev pub target_check : Option Text → Check
 target_check value = record { fails = IsTargetFault value; passes = (targets : List Target) × AreTargetsOf value targets }
@@ -119,15 +119,15 @@ value_checks values =
     ∷ file_check values.files
     ∷ []
 
--- what is wrong with the words
+-- what is wrong with the arguments
 abbrev pub IsFaultOf : List Text → Fault → Type 0
-IsFaultOf words = FailFirst (usage_check words ∷ value_checks (values_in words))
+IsFaultOf arguments = FailFirst (usage_check arguments ∷ value_checks (values_in arguments))
 
--- something is wrong with the words
+-- something is wrong with the arguments
 abbrev pub AreWrong : List Text → Type 0
-AreWrong words = (fault : Fault) × IsFaultOf words fault
+AreWrong arguments = (fault : Fault) × IsFaultOf arguments fault
 
--- what words can mean: they ask for help, for the version, or for a task, or something is wrong with them
+-- what arguments can mean: they ask for help, for the version, or for a task, or something is wrong with them
 pub data Meaning : Type 0 where
   help : Meaning
   version : Meaning
@@ -135,14 +135,14 @@ pub data Meaning : Type 0 where
   wrong : Fault → Meaning
 
 abbrev pub Mean : List Text → Meaning → Type 0
-Mean words help = IsAmong DisplayHelp (fault_of command_line words)
-Mean words version = IsAmong DisplayVersion (fault_of command_line words)
-Mean words (table task) = AreTaken words × Ask (values_in words) task
-Mean words (wrong fault) = IsFaultOf words fault
+Mean arguments help = IsAmong DisplayHelp (fault_of command_line arguments)
+Mean arguments version = IsAmong DisplayVersion (fault_of command_line arguments)
+Mean arguments (table task) = AreTaken arguments × Ask (values_in arguments) task
+Mean arguments (wrong fault) = IsFaultOf arguments fault
 
--- the words mean this, and nothing else
+-- the arguments mean this, and nothing else
 abbrev pub MeanJust : List Text → Meaning → Type 0
-MeanJust words meaning = (other : Meaning) → (other ≡ meaning) ↔ Mean words other
+MeanJust arguments meaning = (other : Meaning) → (other ≡ meaning) ↔ Mean arguments other
 
 -- what a job asks of a run
 abbrev pub task_of : Job → Task

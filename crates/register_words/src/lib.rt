@@ -1,4 +1,4 @@
-//! What the words after the program's name ask for, and what is wrong with them.
+//! What the arguments ask for, and what is wrong with them.
 #![tactic(auto)]
 
 mod help;

@@ -1,4 +1,4 @@
-//! What is wrong with the words.
+//! What is wrong with the arguments.
 
 ghost use Rattle.std.specs.Prelude.{◌≡◌, ◌++◌, IfOk, IfSome};
 ghost use Rattle.std.specs.String.{string_bytes};
@@ -10,7 +10,7 @@ use std::alloc::{AllocError, Global};
 /// The line on standard error where memory ran out.
 pub const MEMORY_FAULT: &str = "register: out of memory\n";
 
-/// Why the words ask for nothing: what is wrong with them, or that memory ran out.
+/// Why the arguments ask for nothing: what is wrong with them, or that memory ran out.
 #[derive(Debug, Drop)]
 pub enum RequestFault<'a> {
     /// Memory ran out.
@@ -36,7 +36,7 @@ pub enum RequestFault<'a> {
 impl RequestFault<'_> {
     ghost use Rattle.register_words.specs.Faults.{error_line, status_of_fault};
 
-    /// The exit status: 3 where memory ran out, and 2 for what is wrong with the words.
+    /// The exit status: 3 where memory ran out, and 2 for what is wrong with the arguments.
     pub fn status(&self) -> u8
         ensures { result ≡ status_of_fault self.now }
     {

@@ -1,4 +1,4 @@
-//! What the words ask for.
+//! What the arguments ask for.
 
 ghost use Rattle.std.specs.Prelude.{◌≡◌, ℕ, List, IfOk, IfErr, IfSome, IfNone, IsSomeAnd, OnOk, map};
 ghost use Rattle.std.specs.Prelude.{Some, option_map};
@@ -29,7 +29,7 @@ pub const MAX_FILES: usize = 32;
 /// The version of the program.
 pub const VERSION: &str = "1.1.0";
 
-/// A conversion that the words ask for.
+/// A conversion that the arguments ask for.
 #[derive(Drop)]
 pub struct Job<'a> {
     /// What is asked of each table and of the run.
@@ -40,7 +40,7 @@ pub struct Job<'a> {
     pub files: Vec<&'a str>,
 }
 
-/// What the words ask for.
+/// What the arguments ask for.
 #[derive(Drop)]
 pub enum Request<'a> {
     /// The page of help.
@@ -51,7 +51,7 @@ pub enum Request<'a> {
     Convert(Job<'a>),
 }
 
-/// The values of the options and the files, as the words have them.
+/// The values of the options and the files, as the arguments have them.
 #[derive(Drop)]
 struct Options<'a> {
     to: Option<&'a str>,
@@ -79,7 +79,7 @@ fn flag<'a>(alloc: Global, name: &'a str) -> Arg<'a>
     Arg::new(alloc, name).long(name).action(ArgAction::SetTrue)
 }
 
-/// The words that are no options, as many as there are.
+/// The arguments that are no options, as many as there are.
 fn files_argument<'a>(alloc: Global, name: &'a str, value: &'a str) -> Arg<'a>
     ensures rule { rule_of result ≡ word_rule name.entry.now }
     ensures local { result.global ≡ false }
@@ -112,14 +112,14 @@ fn command<'a>(alloc: Global) -> Result<Command<'a>, AllocError>
         .arg(files_argument(alloc, "file", "FILE"))
 }
 
-/// Whether the words give a flag.
+/// Whether the arguments give a flag.
 fn is_given(matches: &ArgMatches<'_>, name: &str) -> bool
     ensures { result ≡ is_set (one_of name.now (rows_of (found_of matches.now))) }
 {
     matches.get_one::<bool>(name).unwrap_or(false)
 }
 
-/// The words that are no options, as a list to be kept.
+/// The arguments that are no options, as a list to be kept.
 fn files_given<'a>(alloc: Global, matches: &ArgMatches<'a>) -> Result<Vec<&'a str>, AllocError>
     ensures { IfOk result (λ files. map (λ f. f.now) files.items
         ≡ unwrap_or (all_of (codes "file") (rows_of (found_of matches.now))) []) }
@@ -130,17 +130,17 @@ fn files_given<'a>(alloc: Global, matches: &ArgMatches<'a>) -> Result<Vec<&'a st
     }
 }
 
-/// What clap finds in the words.
+/// What clap finds in the arguments.
 ///
 /// # Errors
 ///
 /// What clap refuses, a request for help or for the version, and running out of memory.
-fn read_words<'a>(alloc: Global, words: &'a [String]) -> Result<ArgMatches<'a>, clap::Error>
+fn read_arguments<'a>(alloc: Global, arguments: &'a [String]) -> Result<ArgMatches<'a>, clap::Error>
     ensures found { IfOk result (λ m. rows_of (found_of m)
-        ≡ matches_of command_line (map string_bytes words.entry.now)) }
-    ensures fails { FailsBy (fault_of command_line (map string_bytes words.entry.now)) result }
+        ≡ matches_of command_line (map string_bytes arguments.entry.now)) }
+    ensures fails { FailsBy (fault_of command_line (map string_bytes arguments.entry.now)) result }
 {
-    command(alloc)?.try_get_matches_from(words)
+    command(alloc)?.try_get_matches_from(arguments)
 }
 
 /// The values of the options that clap found, and the files.
@@ -159,17 +159,17 @@ fn options_found<'a>(alloc: Global, matches: &ArgMatches<'a>) -> Result<Options<
     })
 }
 
-/// The values of the options that the words give, and the files.
+/// The values of the options that the arguments give, and the files.
 ///
 /// # Errors
 ///
 /// What clap refuses, a request for help or for the version, and running out of memory.
-fn read_options<'a>(alloc: Global, words: &'a [String]) -> Result<Options<'a>, clap::Error>
-    ensures taken { IfOk result (λ options. AreTaken (map string_bytes words.entry.now)) }
-    ensures values { IfOk result (λ options. values_by options ≡ values_in (map string_bytes words.entry.now)) }
-    ensures kinds { IfErr result (HasKind (fault_of command_line (map string_bytes words.entry.now))) }
+fn read_options<'a>(alloc: Global, arguments: &'a [String]) -> Result<Options<'a>, clap::Error>
+    ensures taken { IfOk result (λ options. AreTaken (map string_bytes arguments.entry.now)) }
+    ensures values { IfOk result (λ options. values_by options ≡ values_in (map string_bytes arguments.entry.now)) }
+    ensures kinds { IfErr result (HasKind (fault_of command_line (map string_bytes arguments.entry.now))) }
 {
-    let matches = read_words(alloc, words)?;
+    let matches = read_arguments(alloc, arguments)?;
     let options = options_found(alloc, &matches)?;
     Ok(options)
 }
@@ -240,7 +240,8 @@ fn check_files<'a>(files: &[&'a str]) -> Result<(), RequestFault<'a>>
 /// memory runs out on the way.
 fn chosen_job<'a>(alloc: Global, options: Options<'a>) -> Result<Job<'a>, RequestFault<'a>>
     ensures asked { IfOk result (λ job. Ask (values_by options.entry) (task_of job)) }
-    ensures fault { IfErr result (λ error. IfSome (fault_of_error error) (FailFirst (value_checks (values_by options.entry)))) }
+    ensures fault { IfErr result (λ error. IfSome (fault_of_error error)
+        (FailFirst (value_checks (values_by options.entry)))) }
 {
     let targets = chosen_targets(alloc, options.to)?;
     let ring = chosen::<Ring>(options.ring)?;
@@ -264,21 +265,24 @@ fn chosen_job<'a>(alloc: Global, options: Options<'a>) -> Result<Job<'a>, Reques
     }
 }
 
-/// What the words after the program's name ask for.
+/// What the arguments ask for.
 ///
 /// # Errors
 ///
-/// The first that applies: `Usage` where the words are not options as they are taken; `UnknownTarget` or `TargetTwice`
+/// The first that applies: `Usage` where the arguments are not as they are taken; `UnknownTarget` or `TargetTwice`
 /// for the first name of the list that names no target or one that was named before; `BadRing`; `UnknownDelimiter`;
 /// `BadStripes`; `TooManyFiles` for more than 32 files, or else `FileTwice` for the first that was named before. Besides
 /// these, `OutOfMemory` where memory runs out on the way.
-pub fn read_request<'a>(alloc: Global, words: &'a [String]) -> Result<Request<'a>, RequestFault<'a>>
-    ensures asked { IfOk result (λ request. MeanJust (map string_bytes words.entry.now) (meaning_of request)) }
+pub fn read_request<'a>(
+    alloc: Global,
+    arguments: &'a [String],
+) -> Result<Request<'a>, RequestFault<'a>>
+    ensures asked { IfOk result (λ request. MeanJust (map string_bytes arguments.entry.now) (meaning_of request)) }
     ensures refused { IfErr result (λ error. IfSome (fault_of_error error)
-        (λ fault. MeanJust (map string_bytes words.entry.now) (wrong fault))) }
+        (λ fault. MeanJust (map string_bytes arguments.entry.now) (wrong fault))) }
 {
     one_target();
-    let options = match read_options(alloc, words) {
+    let options = match read_options(alloc, arguments) {
         Ok(options) => options,
         Err(error) => match error.kind() {
             ErrorKind::DisplayHelp => return Ok(Request::Help),

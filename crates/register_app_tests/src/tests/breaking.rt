@@ -105,7 +105,7 @@ impl FileStore<&'static [u8], PlainOutput<LoggedWriter<Breaking>>> for Folder {
 /// how standard error begins.
 #[derive(Clone, Copy)]
 struct Case {
-    words: &'static [&'static str],
+    arguments: &'static [&'static str],
     text: &'static [u8],
     status: u8,
     output: &'static [u8],
@@ -115,7 +115,7 @@ struct Case {
 
 /// Nothing is converted.
 const REFUSED: Case = Case {
-    words: &[],
+    arguments: &[],
     text: ONE_RECORD,
     status: 2,
     output: b"",
@@ -124,72 +124,72 @@ const REFUSED: Case = Case {
 };
 
 const CASES: [Case; 12] = [
-    // What is wrong with the words: what clap refuses, and each fault that the program finds itself.
+    // What is wrong with the arguments: what clap refuses, and each fault that the program finds itself.
     Case {
-        words: &["--bogus"],
+        arguments: &["--bogus"],
         errors: b"error: unexpected argument '--bogus' found\n",
         ..REFUSED
     },
     Case {
-        words: &["--to", "julian,Mayan", "a.csv"],
+        arguments: &["--to", "julian,Mayan", "a.csv"],
         errors: b"register: unknown target: Mayan\n",
         ..REFUSED
     },
     Case {
-        words: &["--to", "julian,Julian"],
+        arguments: &["--to", "julian,Julian"],
         errors: b"register: target named twice: julian\n",
         ..REFUSED
     },
     Case {
-        words: &["--ring", "0", "a.csv", "b.csv"],
+        arguments: &["--ring", "0", "a.csv", "b.csv"],
         errors: b"register: bad ring size: 0\n",
         ..REFUSED
     },
     Case {
-        words: &["--delimiter", ";"],
+        arguments: &["--delimiter", ";"],
         errors: b"register: unknown delimiter: ;\n",
         ..REFUSED
     },
     Case {
-        words: &["--stripes", "5"],
+        arguments: &["--stripes", "5"],
         errors: b"register: bad stripes: 5\n",
         ..REFUSED
     },
     Case {
-        words: &["a.csv", "b.csv", "a.csv"],
+        arguments: &["a.csv", "b.csv", "a.csv"],
         errors: b"register: file named twice: a.csv\n",
         ..REFUSED
     },
     // A file that cannot be opened, and a table that cannot be made.
     Case {
-        words: &["a.csv", "none.csv"],
+        arguments: &["a.csv", "none.csv"],
         status: 3,
         errors: b"register: cannot open none.csv\n",
         ..REFUSED
     },
     Case {
-        words: &["a.csv", "locked.csv"],
+        arguments: &["a.csv", "locked.csv"],
         status: 3,
         errors: b"register: cannot make locked.csv.out.csv\n",
         ..REFUSED
     },
     // A text that breaks off; and summaries of whole ones.
     Case {
-        words: &[],
+        arguments: &[],
         text: b"",
         status: 1,
         errors: b"source 1: cause 6\n",
         ..REFUSED
     },
     Case {
-        words: &["--to", "gregorian", "--summary"],
+        arguments: &["--to", "gregorian", "--summary"],
         status: 0,
         output: ONE_ROW,
         errors: b"source 1: 1 rows, 0 refused\n",
         ..REFUSED
     },
     Case {
-        words: &["--to", "gregorian", "--summary", "a.csv", "b.csv"],
+        arguments: &["--to", "gregorian", "--summary", "a.csv", "b.csv"],
         status: 0,
         tables: &[ONE_ROW, ONE_ROW],
         errors: b"source 1: 1 rows, 0 refused\nsource 2: 1 rows, 0 refused\n",
@@ -197,7 +197,7 @@ const CASES: [Case; 12] = [
     },
 ];
 
-/// What these words give where standard error breaks there.
+/// What these arguments give where standard error breaks there.
 fn hear_with(
     rt: &(impl Threads + Wait + Clock + CpuClock + Sync),
     alloc: Global,
@@ -209,7 +209,7 @@ fn hear_with(
     hear(
         rt,
         alloc,
-        case.words,
+        case.arguments,
         case.text,
         output,
         &Folder { alloc },
@@ -283,20 +283,20 @@ fn standard_error_that_breaks_changes_neither_status_nor_tables(rt: HostRuntime)
             assert!(rt;
                 is_told_until(&rt, rt.alloc(), case, Break::After(room)),
                 "{:?}, after {room}",
-                case.words
+                case.arguments
             );
         }
         for errors in [Break::AtFlush, NOWHERE] {
             assert!(rt;
                 is_told_until(&rt, rt.alloc(), case, errors),
                 "{:?}, {errors:?}",
-                case.words
+                case.arguments
             );
         }
     }
 }
 
-/// The words that ask for a page, and the page.
+/// The arguments that ask for a page, and the page.
 const PAGES: [(&str, &str); 4] = [
     ("--help", HELP),
     ("-h", HELP),
@@ -406,7 +406,7 @@ fn tells_status_3(told: &[u8], case: &Case) -> bool {
     as_wanted || cannot_make || told == OUT_OF_MEMORY
 }
 
-/// Whether these words may be answered so where one allocation is refused: this is told, with nothing written, or one
+/// Whether these arguments may have this outcome where one allocation is refused: this is told, with nothing written, or one
 /// source is broken. A table that is refused its memory cannot be made.
 fn fits_refused_memory(heard: &Heard<Breaking, Breaking>, case: &Case) -> bool {
     let told = heard.errors.bytes.as_slice();
@@ -421,7 +421,7 @@ fn fits_refused_memory(heard: &Heard<Breaking, Breaking>, case: &Case) -> bool {
     }
 }
 
-/// Whether these words are answered so where one allocation is refused, which may be one of the test's own.
+/// Whether these arguments are answered so where one allocation is refused, which may be one of the test's own.
 fn fits_any_memory(
     rt: &(impl Threads + Wait + Clock + CpuClock + Sync),
     alloc: Global,
@@ -437,7 +437,11 @@ fn fits_any_memory(
 #[test]
 fn words_that_are_refused_memory_are_told(rt: HostRuntime) {
     for case in &CASES {
-        assert!(rt; fits_any_memory(&rt, rt.alloc(), case), "{:?}", case.words);
+        assert!(rt;
+            fits_any_memory(&rt, rt.alloc(), case),
+            "{:?}",
+            case.arguments
+        );
     }
 }
 

@@ -23,7 +23,7 @@ const VERSION: &[u8] = b"register 1.1.0\n";
 
 /// A command line that is taken.
 const TAKEN: TextCase = TextCase {
-    words: &[],
+    arguments: &[],
     input: TEXT,
     status: 0,
     output: b"",
@@ -40,7 +40,7 @@ const LINES: [TextCase; 23] = [
         ..TAKEN
     },
     TextCase {
-        words: &[
+        arguments: &[
             "--to",
             "gregorian,iso,julian,coptic,ethiopic,egyptian,armenian,islamic,hebrew,longcount,french,roman,haab,tzolkin",
         ],
@@ -49,36 +49,36 @@ const LINES: [TextCase; 23] = [
     },
     // The targets that are named, in their order, in either letter case and with blanks.
     TextCase {
-        words: &["--to", "gregorian"],
+        arguments: &["--to", "gregorian"],
         output: b"\
             row,id,calendar,date,rd,weekday,gregorian,refusal\n\
             1,b,julian,1582-10-05,577736,Friday,1582-10-15,\n",
         ..TAKEN
     },
     TextCase {
-        words: &["--to", " Julian ,\tGREGORIAN"],
+        arguments: &["--to", " Julian ,\tGREGORIAN"],
         output: b"\
             row,id,calendar,date,rd,weekday,julian,gregorian,refusal\n\
             1,b,julian,1582-10-05,577736,Friday,1582-10-05,1582-10-15,\n",
         ..TAKEN
     },
     TextCase {
-        words: &["--to=julian"],
+        arguments: &["--to=julian"],
         output: b"\
             row,id,calendar,date,rd,weekday,julian,refusal\n\
             1,b,julian,1582-10-05,577736,Friday,1582-10-05,\n",
         ..TAKEN
     },
     TextCase {
-        words: &["--to", "none"],
+        arguments: &["--to", "none"],
         output: b"\
             row,id,calendar,date,rd,weekday,refusal\n\
             1,b,julian,1582-10-05,577736,Friday,\n",
         ..TAKEN
     },
-    // A comma, in words.
+    // A comma, in arguments.
     TextCase {
-        words: &["--delimiter", "comma", "--to", "none"],
+        arguments: &["--delimiter", "comma", "--to", "none"],
         output: b"\
             row,id,calendar,date,rd,weekday,refusal\n\
             1,b,julian,1582-10-05,577736,Friday,\n",
@@ -86,7 +86,7 @@ const LINES: [TextCase; 23] = [
     },
     // Numbers with zeros before them.
     TextCase {
-        words: &["--ring", "00016", "--stripes=00004", "--to", "none"],
+        arguments: &["--ring", "00016", "--stripes=00004", "--to", "none"],
         output: b"\
             row,id,calendar,date,rd,weekday,refusal\n\
             1,b,julian,1582-10-05,577736,Friday,\n",
@@ -94,79 +94,79 @@ const LINES: [TextCase; 23] = [
     },
     // The version, which comes before anything is wrong, and of two pages the first.
     TextCase {
-        words: &["-V"],
+        arguments: &["-V"],
         output: VERSION,
         ..TAKEN
     },
     TextCase {
-        words: &["--version", "--help"],
+        arguments: &["--version", "--help"],
         output: VERSION,
         ..TAKEN
     },
     TextCase {
-        words: &["--ring", "0", "--version", "--bogus"],
+        arguments: &["--ring", "0", "--version", "--bogus"],
         output: VERSION,
         ..TAKEN
     },
     TextCase {
-        words: &["a", "a", "--version"],
+        arguments: &["a", "a", "--version"],
         output: VERSION,
         ..TAKEN
     },
     // Names of targets that are none, and targets named twice: the first from the left.
     TextCase {
-        words: &["--to", "none,julian"],
+        arguments: &["--to", "none,julian"],
         errors: b"register: unknown target: none\n",
         ..REFUSED
     },
     TextCase {
-        words: &["--to", "None"],
+        arguments: &["--to", "None"],
         errors: b"register: unknown target: None\n",
         ..REFUSED
     },
     TextCase {
-        words: &["--to", ""],
+        arguments: &["--to", ""],
         errors: b"register: unknown target: \n",
         ..REFUSED
     },
     TextCase {
-        words: &["--to", "julian,"],
+        arguments: &["--to", "julian,"],
         errors: b"register: unknown target: \n",
         ..REFUSED
     },
     TextCase {
-        words: &["--to", "julian, Mayan ,julian"],
+        arguments: &["--to", "julian, Mayan ,julian"],
         errors: b"register: unknown target:  Mayan \n",
         ..REFUSED
     },
     TextCase {
-        words: &["--to", "julian,Julian"],
+        arguments: &["--to", "julian,Julian"],
         errors: b"register: target named twice: julian\n",
         ..REFUSED
     },
     TextCase {
-        words: &["--to", "gregorian,julian, GREGORIAN ,x"],
+        arguments: &["--to", "gregorian,julian, GREGORIAN ,x"],
         errors: b"register: target named twice: gregorian\n",
         ..REFUSED
     },
     // Delimiters that are none; a fault of the targets comes before one of the delimiter.
     TextCase {
-        words: &["--delimiter", ";"],
+        arguments: &["--delimiter", ";"],
         errors: b"register: unknown delimiter: ;\n",
         ..REFUSED
     },
     TextCase {
-        words: &["--delimiter", "Tab"],
+        arguments: &["--delimiter", "Tab"],
         errors: b"register: unknown delimiter: Tab\n",
         ..REFUSED
     },
     TextCase {
-        words: &["--delimiter="],
+        arguments: &["--delimiter="],
         errors: b"register: unknown delimiter: \n",
         ..REFUSED
     },
     TextCase {
-        words: &["--delimiter", "y", "--to", "x"],
+        arguments: &["--delimiter", "y", "--to", "x"],
         errors: b"register: unknown target: x\n",
         ..REFUSED
     },
@@ -180,67 +180,67 @@ fn command_lines_get_their_answers(rt: HostRuntime) {
 /// A command line that is not written as the options are taken, and how the text about it begins.
 #[derive(Clone, Copy)]
 struct Misuse {
-    words: &'static [&'static str],
+    arguments: &'static [&'static str],
     message: &'static [u8],
 }
 
 // The messages are clap's own.
 const MISUSES: [Misuse; 14] = [
     Misuse {
-        words: &["--bogus"],
+        arguments: &["--bogus"],
         message: b"error: unexpected argument '--bogus' found\n",
     },
     Misuse {
-        words: &["--to", "julian", "--to", "julian"],
+        arguments: &["--to", "julian", "--to", "julian"],
         message: b"error: the argument '--to <LIST>' cannot be used multiple times\n",
     },
     Misuse {
-        words: &["--to"],
+        arguments: &["--to"],
         message: b"error: a value is required for '--to <LIST>' but none was supplied\n",
     },
     Misuse {
-        words: &["--to", "--delimiter", "tab"],
+        arguments: &["--to", "--delimiter", "tab"],
         message: b"error: a value is required for '--to <LIST>' but none was supplied\n",
     },
     Misuse {
-        words: &["--rings", "4"],
+        arguments: &["--rings", "4"],
         message: b"error: unexpected argument '--rings' found\n",
     },
     Misuse {
-        words: &["-x.csv"],
+        arguments: &["-x.csv"],
         message: b"error: unexpected argument '-x' found\n",
     },
     Misuse {
-        words: &["--ring", "-5"],
+        arguments: &["--ring", "-5"],
         message: b"error: unexpected argument '-5' found\n",
     },
     Misuse {
-        words: &["--stripes"],
+        arguments: &["--stripes"],
         message: b"error: a value is required for '--stripes <N>' but none was supplied\n",
     },
     Misuse {
-        words: &["--ring", "4", "--ring", "4"],
+        arguments: &["--ring", "4", "--ring", "4"],
         message: b"error: the argument '--ring <N>' cannot be used multiple times\n",
     },
     Misuse {
-        words: &["--summary", "--summary"],
+        arguments: &["--summary", "--summary"],
         message: b"error: the argument '--summary' cannot be used multiple times\n",
     },
     Misuse {
-        words: &["--sealed", "--sealed"],
+        arguments: &["--sealed", "--sealed"],
         message: b"error: the argument '--sealed' cannot be used multiple times\n",
     },
     Misuse {
-        words: &["--sealed=END"],
+        arguments: &["--sealed=END"],
         message: b"error: unexpected value 'END' for '--sealed' found; no more were expected\n",
     },
     // What clap refuses is told before every other fault.
     Misuse {
-        words: &["--to", "x", "--rings", "4"],
+        arguments: &["--to", "x", "--rings", "4"],
         message: b"error: unexpected argument '--rings' found\n",
     },
     Misuse {
-        words: &["a", "a", "--ring", "0", "--to", "x", "--bogus"],
+        arguments: &["a", "a", "--ring", "0", "--to", "x", "--bogus"],
         message: b"error: unexpected argument '--bogus' found\n",
     },
 ];
@@ -259,7 +259,7 @@ fn is_refused(
     alloc: Global,
     misuse: &Misuse,
 ) -> bool {
-    match hear_text(rt, alloc, misuse.words, TEXT) {
+    match hear_text(rt, alloc, misuse.arguments, TEXT) {
         Ok(heard) => is_refusal(&heard, misuse.message),
         Err(_) => false,
     }
@@ -268,6 +268,10 @@ fn is_refused(
 #[test]
 fn misused_options_are_refused(rt: HostRuntime) {
     for misuse in &MISUSES {
-        assert!(rt; is_refused(&rt, rt.alloc(), misuse), "{:?}", misuse.words);
+        assert!(rt;
+            is_refused(&rt, rt.alloc(), misuse),
+            "{:?}",
+            misuse.arguments
+        );
     }
 }

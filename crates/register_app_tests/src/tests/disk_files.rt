@@ -27,11 +27,11 @@ const OTHER_REGISTER: &str = "files_of_the_test/other.csv";
 
 const OTHER_TABLE: &str = "files_of_the_test/other.csv.out.csv";
 
-/// Runs the program's answer to these words over the files of the system.
+/// Runs the program's answer to these arguments over the files of the system.
 fn hear_on_disk<T: Threads + Wait + Clock + CpuClock + Sync + Files>(
     rt: &T,
     alloc: Global,
-    words: &[&str],
+    arguments: &[&str],
 ) -> Result<Heard<Destination<Vec<u8>, T::File>, Vec<u8>>, AllocError>
 where
     T::File: Send + Exclusive,
@@ -41,7 +41,7 @@ where
     hear(
         rt,
         alloc,
-        words,
+        arguments,
         input,
         output,
         &Disk::new(rt),
@@ -49,17 +49,17 @@ where
     )
 }
 
-/// Whether these words get this status over the files of the system, and this is told.
+/// Whether these arguments get this status over the files of the system, and this is told.
 fn is_told<T: Threads + Wait + Clock + CpuClock + Sync + Files + AllocGlobal>(
     rt: &T,
-    words: &[&str],
+    arguments: &[&str],
     status: u8,
     told: &[u8],
 ) -> bool
 where
     T::File: Send + Exclusive,
 {
-    let Ok(heard) = hear_on_disk(rt, rt.alloc(), words) else {
+    let Ok(heard) = hear_on_disk(rt, rt.alloc(), arguments) else {
         return false;
     };
     heard.tells(status, told)
@@ -100,8 +100,8 @@ where
     T::File: Send + Exclusive,
 {
     fs::write(rt, OTHER_REGISTER, ONE_RECORD)?;
-    let words = ["--to", "gregorian", REGISTER, OTHER_REGISTER];
-    let is_quiet = is_told(rt, &words, 0, b"");
+    let arguments = ["--to", "gregorian", REGISTER, OTHER_REGISTER];
+    let is_quiet = is_told(rt, &arguments, 0, b"");
     Ok(is_quiet && holds_one_row(rt, TABLE) && holds_one_row(rt, OTHER_TABLE))
 }
 
@@ -140,15 +140,15 @@ fn is_left_to_its_keeper<T: Threads + Wait + Clock + CpuClock + Sync + Files + A
 where
     T::File: Send + Exclusive,
 {
-    let words = ["--to", "gregorian", REGISTER];
+    let arguments = ["--to", "gregorian", REGISTER];
     let told = b"register: cannot make files_of_the_test/register.csv.out.csv\n";
     fs::write(rt, TABLE, OLDER_TEXT)?;
     let keeper = OpenOptions::new().write(true).open(rt, TABLE)?;
     keeper.lock()?;
-    let is_refused = is_told(rt, &words, 3, told);
+    let is_refused = is_told(rt, &arguments, 3, told);
     let is_left = fs::read(rt, TABLE)?.as_slice() == OLDER_TEXT;
     drop(keeper);
-    Ok(is_refused && is_left && is_told(rt, &words, 0, b"") && holds_one_row(rt, TABLE))
+    Ok(is_refused && is_left && is_told(rt, &arguments, 0, b"") && holds_one_row(rt, TABLE))
 }
 
 /// A folder, a file that is not there, and two names of one file.

@@ -63,7 +63,7 @@ fn file_of(name: &str) -> &str {
 /// What files give: the status, the tables and standard error.
 #[derive(Clone, Copy)]
 struct FilesCase {
-    words: &'static [&'static str],
+    arguments: &'static [&'static str],
     status: u8,
     tables: &'static [&'static [u8]],
     errors: &'static [u8],
@@ -72,33 +72,33 @@ struct FilesCase {
 const FILES: [FilesCase; 14] = [
     // A source with a table and one that breaks off, whatever the ring and the stripes.
     FilesCase {
-        words: &["--to", "gregorian", "--ring", "1", "a.csv", "b.csv"],
+        arguments: &["--to", "gregorian", "--ring", "1", "a.csv", "b.csv"],
         status: 1,
         tables: &[ONE_ROW, b""],
         errors: b"source 2: cause 6\n",
     },
     FilesCase {
-        words: &["--to", "gregorian", "--stripes", "4", "b.csv", "a.csv"],
+        arguments: &["--to", "gregorian", "--stripes", "4", "b.csv", "a.csv"],
         status: 1,
         tables: &[b"", ONE_ROW],
         errors: b"source 1: cause 6\n",
     },
     FilesCase {
-        words: &["a.csv", "--to=gregorian"],
+        arguments: &["a.csv", "--to=gregorian"],
         status: 0,
         tables: &[ONE_ROW],
         errors: b"",
     },
     // A summary, and the line of a cause among its lines.
     FilesCase {
-        words: &["--summary", "--to", "gregorian", "b.csv", "a.csv"],
+        arguments: &["--summary", "--to", "gregorian", "b.csv", "a.csv"],
         status: 1,
         tables: &[b"", ONE_ROW],
         errors: b"source 1: cause 6\nsource 2: 1 rows, 0 refused\n",
     },
     // Files stand anywhere among the options; names that differ in letter case differ.
     FilesCase {
-        words: &[
+        arguments: &[
             "b.csv",
             "--ring",
             "1",
@@ -115,72 +115,72 @@ const FILES: [FilesCase; 14] = [
     },
     // The options end at two dashes.
     FilesCase {
-        words: &["--to=gregorian", "--", "-x.csv", "--ring", "0", "--help"],
+        arguments: &["--to=gregorian", "--", "-x.csv", "--ring", "0", "--help"],
         status: 0,
         tables: &[ONE_ROW; 4],
         errors: b"",
     },
     // Files that cannot be opened or made: the first, and all are opened before any is made.
     FilesCase {
-        words: &["a.csv", "none.csv"],
+        arguments: &["a.csv", "none.csv"],
         status: 3,
         tables: &[],
         errors: b"register: cannot open none.csv\n",
     },
     FilesCase {
-        words: &["c.csv", "none.csv"],
+        arguments: &["c.csv", "none.csv"],
         status: 3,
         tables: &[],
         errors: b"register: cannot open none.csv\n",
     },
     FilesCase {
-        words: &["a.csv", "c.csv"],
+        arguments: &["a.csv", "c.csv"],
         status: 3,
         tables: &[],
         errors: b"register: cannot make c.csv.out.csv\n",
     },
     // Two tables that are one file, side by side and with another between them.
     FilesCase {
-        words: &["a.csv", "a_linked.csv"],
+        arguments: &["a.csv", "a_linked.csv"],
         status: 3,
         tables: &[],
         errors: b"register: cannot make a_linked.csv.out.csv\n",
     },
     FilesCase {
-        words: &["a.csv", "b.csv", "a_linked.csv"],
+        arguments: &["a.csv", "b.csv", "a_linked.csv"],
         status: 3,
         tables: &[],
         errors: b"register: cannot make a_linked.csv.out.csv\n",
     },
     // A table that is its own register: before any table is made, `c.csv.out.csv` among them, which cannot be.
     FilesCase {
-        words: &["c.csv", "own.csv"],
+        arguments: &["c.csv", "own.csv"],
         status: 3,
         tables: &[],
         errors: b"register: cannot make own.csv.out.csv\n",
     },
     FilesCase {
-        words: &["own.csv.out.csv", "own.csv"],
+        arguments: &["own.csv.out.csv", "own.csv"],
         status: 3,
         tables: &[],
         errors: b"register: cannot open own.csv.out.csv\n",
     },
     FilesCase {
-        words: &["a.csv", "a.csv"],
+        arguments: &["a.csv", "a.csv"],
         status: 2,
         tables: &[],
         errors: b"register: file named twice: a.csv\n",
     },
 ];
 
-/// What these words give over the shelf, with nothing on standard input.
+/// What these arguments give over the shelf, with nothing on standard input.
 fn hear_files(
     rt: &(impl Threads + Wait + Clock + CpuClock + Sync),
     alloc: Global,
-    words: &[&str],
+    arguments: &[&str],
 ) -> Result<Heard<Vec<u8>, Vec<u8>>, AllocError> {
     let input: &'static [u8] = b"";
-    hear_in_memory(rt, alloc, words, input, &Shelf { alloc })
+    hear_in_memory(rt, alloc, arguments, input, &Shelf { alloc })
 }
 
 /// Whether the outputs are these tables.
@@ -192,14 +192,14 @@ fn are_tables(outputs: &[Vec<u8>], tables: &[&[u8]]) -> bool {
             .all(|(output, table)| output.as_slice() == *table)
 }
 
-/// Whether these words give what is wanted over the shelf, with nothing on standard output.
+/// Whether these arguments give what is wanted over the shelf, with nothing on standard output.
 fn give_as_wanted(
     rt: &(impl Threads + Wait + Clock + CpuClock + Sync),
     alloc: Global,
-    words: &[&str],
+    arguments: &[&str],
     case: &FilesCase,
 ) -> bool {
-    let Ok(heard) = hear_files(rt, alloc, words) else {
+    let Ok(heard) = hear_files(rt, alloc, arguments) else {
         return false;
     };
     heard.is_answer(case.status, b"", case.errors)
@@ -210,16 +210,16 @@ fn give_as_wanted(
 fn files_get_their_tables(rt: HostRuntime) {
     for case in &FILES {
         assert!(rt;
-            give_as_wanted(&rt, rt.alloc(), case.words, case),
+            give_as_wanted(&rt, rt.alloc(), case.arguments, case),
             "{:?}",
-            case.words
+            case.arguments
         );
     }
 }
 
-/// What 32 files of one record each give. Their names are added to the words.
+/// What 32 files of one record each give. Their names are added to the arguments.
 const MANY: FilesCase = FilesCase {
-    words: &[],
+    arguments: &[],
     status: 0,
     tables: &[ONE_ROW; 32],
     errors: b"",
@@ -227,7 +227,7 @@ const MANY: FilesCase = FilesCase {
 
 /// What one file more gives, whose name is the first once more.
 const TOO_MANY: FilesCase = FilesCase {
-    words: &[],
+    arguments: &[],
     status: 2,
     tables: &[],
     errors: b"register: more than 32 files\n",
@@ -238,10 +238,10 @@ fn are_33_files_refused(
     rt: &(impl Threads + Wait + Clock + CpuClock + Sync),
     alloc: Global,
 ) -> Result<bool, AllocError> {
-    let mut words = Vec::new(alloc);
-    words.extend_from_slice(&MANY_FILES)?;
-    words.push("many/0")?;
-    Ok(give_as_wanted(rt, alloc, words.as_slice(), &TOO_MANY))
+    let mut arguments = Vec::new(alloc);
+    arguments.extend_from_slice(&MANY_FILES)?;
+    arguments.push("many/0")?;
+    Ok(give_as_wanted(rt, alloc, arguments.as_slice(), &TOO_MANY))
 }
 
 #[test]
@@ -256,11 +256,11 @@ fn give_many(
     alloc: Global,
     word: &'static str,
 ) -> Result<bool, AllocError> {
-    let mut words = Vec::new(alloc);
-    words.push(word)?;
-    words.push("--to=gregorian")?;
-    words.extend_from_slice(&MANY_FILES)?;
-    Ok(give_as_wanted(rt, alloc, words.as_slice(), &MANY))
+    let mut arguments = Vec::new(alloc);
+    arguments.push(word)?;
+    arguments.push("--to=gregorian")?;
+    arguments.extend_from_slice(&MANY_FILES)?;
+    Ok(give_as_wanted(rt, alloc, arguments.as_slice(), &MANY))
 }
 
 #[test]

@@ -1,4 +1,4 @@
-//! What the tests share: the words of a command line, and the program's answer to them over memory.
+//! What the tests share: the arguments of a command line, and the program's answer to them over memory.
 
 ghost use Rattle.std.specs.Prelude.{◌≡◌, [], ⊤, false};
 ghost use Rattle.register_files.specs.LoggedWriters.{logged_bytes};
@@ -22,10 +22,10 @@ pub const ONE_ROW: &[u8] = b"\
     row,id,calendar,date,rd,weekday,gregorian,refusal\n\
     1,a,gregorian,1945-11-12,710347,Monday,1945-11-12,\n";
 
-/// The words of a command line.
-pub fn words_of(alloc: Global, words: &[&str]) -> Result<Vec<String>, AllocError> {
+/// The arguments of a command line.
+pub fn arguments_of(alloc: Global, arguments: &[&str]) -> Result<Vec<String>, AllocError> {
     let mut copied = Vec::new(alloc);
-    for word in words {
+    for word in arguments {
         copied.push(String::from_str(alloc, word)?)?;
     }
     Ok(copied)
@@ -62,7 +62,7 @@ impl Heard<Vec<u8>, Vec<u8>> {
     }
 }
 
-/// What the program answers to these words. Nothing is promised of it, so that a test that calls this is proved without
+/// What the program answers to these arguments. Nothing is promised of it, so that a test that calls this is proved without
 /// all that is proved of an answer.
 fn answered<
     T: Threads + Wait + Clock + CpuClock + Sync,
@@ -73,7 +73,7 @@ fn answered<
 >(
     rt: &T,
     alloc: Global,
-    words: &[String],
+    arguments: &[String],
     input: R,
     output: W,
     store: &P,
@@ -82,7 +82,7 @@ fn answered<
     requires { (logged_bytes errors.old.inner ≡ []) × (errors.old.failed ≡ false) }
 {
     let output = PlainOutput::new(LoggedWriter::new(output), 1);
-    answer(rt, alloc, words, input, output, store, errors)
+    answer(rt, alloc, arguments, input, output, store, errors)
 }
 
 /// The writers of these outputs.
@@ -97,7 +97,7 @@ fn writers_of<W: Write + Drop>(
     Ok(writers)
 }
 
-/// Runs the program's answer to these words.
+/// Runs the program's answer to these arguments.
 pub fn hear<
     T: Threads + Wait + Clock + CpuClock + Sync,
     R: Read + Send + Drop,
@@ -107,13 +107,13 @@ pub fn hear<
 >(
     rt: &T,
     alloc: Global,
-    words: &[&str],
+    arguments: &[&str],
     input: R,
     output: W,
     store: &P,
     errors: E,
 ) -> Result<Heard<W, E>, AllocError> {
-    let words = words_of(alloc, words)?;
+    let arguments = arguments_of(alloc, arguments)?;
     let mut errors = PlainOutput::new(LoggedWriter::new(errors), 0);
     let Outcome {
         status,
@@ -123,7 +123,7 @@ pub fn hear<
     } = answered(
         rt,
         alloc,
-        words.as_slice(),
+        arguments.as_slice(),
         input,
         output,
         store,
@@ -160,7 +160,7 @@ impl<R, W: Output> FileStore<R, W> for NoFiles {
     }
 }
 
-/// Runs the program's answer to these words over outputs in memory.
+/// Runs the program's answer to these arguments over outputs in memory.
 pub fn hear_in_memory<
     T: Threads + Wait + Clock + CpuClock + Sync,
     R: Read + Send + Drop,
@@ -168,28 +168,28 @@ pub fn hear_in_memory<
 >(
     rt: &T,
     alloc: Global,
-    words: &[&str],
+    arguments: &[&str],
     input: R,
     store: &P,
 ) -> Result<Heard<Vec<u8>, Vec<u8>>, AllocError> {
     let (output, errors) = (Vec::new(alloc), Vec::new(alloc));
-    hear(rt, alloc, words, input, output, store, errors)
+    hear(rt, alloc, arguments, input, output, store, errors)
 }
 
-/// Runs the program's answer to these words over a text, without files.
+/// Runs the program's answer to these arguments over a text, without files.
 pub fn hear_text(
     rt: &(impl Threads + Wait + Clock + CpuClock + Sync),
     alloc: Global,
-    words: &[&str],
+    arguments: &[&str],
     text: &'static [u8],
 ) -> Result<Heard<Vec<u8>, Vec<u8>>, AllocError> {
-    hear_in_memory(rt, alloc, words, text, &NoFiles)
+    hear_in_memory(rt, alloc, arguments, text, &NoFiles)
 }
 
 /// Words with a text for standard input, without files, and what they give: the status, the table and standard error.
 #[derive(Clone, Copy)]
 pub struct TextCase {
-    pub words: &'static [&'static str],
+    pub arguments: &'static [&'static str],
     pub input: &'static [u8],
     pub status: u8,
     pub output: &'static [u8],
@@ -202,7 +202,7 @@ fn is_answered(
     alloc: Global,
     case: &TextCase,
 ) -> bool {
-    let Ok(heard) = hear_text(rt, alloc, case.words, case.input) else {
+    let Ok(heard) = hear_text(rt, alloc, case.arguments, case.input) else {
         return false;
     };
     heard.is_answer(case.status, case.output, case.errors)
@@ -218,7 +218,7 @@ pub fn assert_answers(
         assert!(rt;
             is_answered(rt, alloc, case),
             "case {place}: {:?}",
-            case.words
+            case.arguments
         );
     }
 }

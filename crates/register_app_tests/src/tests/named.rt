@@ -62,11 +62,11 @@ impl FileStore<&'static [u8], PlainOutput<LoggedWriter<Vec<u8>>>> for TwoFiles {
     }
 }
 
-/// What the words give over two files.
+/// What the arguments give over two files.
 fn hear_two(
     rt: &(impl Threads + Wait + Clock + CpuClock + Sync),
     alloc: Global,
-    words: &[&str],
+    arguments: &[&str],
 ) -> Result<Heard<Vec<u8>, Vec<u8>>, AllocError> {
     let one = File {
         name: "one.csv",
@@ -77,7 +77,7 @@ fn hear_two(
         text: b"",
     };
     let input: &'static [u8] = b"";
-    hear_in_memory(rt, alloc, words, input, &TwoFiles { alloc, one, other })
+    hear_in_memory(rt, alloc, arguments, input, &TwoFiles { alloc, one, other })
 }
 
 /// Whether each file gets the table of its own text.

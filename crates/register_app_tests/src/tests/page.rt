@@ -1,6 +1,6 @@
 //! What the page of help says of options that are not given.
 
-use crate::tests::helpers::words_of;
+use crate::tests::helpers::arguments_of;
 use register_records::Setup;
 use register_words::{HELP, Request, read_request};
 use std::alloc::{AllocError, Global};
@@ -29,10 +29,10 @@ fn told_targets(alloc: Global) -> Result<String, AllocError> {
     Ok(list)
 }
 
-/// What these words ask for, where they ask for tables.
-fn asked_by(alloc: Global, words: &[&str]) -> Result<Option<Setup>, AllocError> {
-    let words = words_of(alloc, words)?;
-    match read_request(alloc, words.as_slice()) {
+/// What these arguments ask for, where they ask for tables.
+fn asked_by(alloc: Global, arguments: &[&str]) -> Result<Option<Setup>, AllocError> {
+    let arguments = arguments_of(alloc, arguments)?;
+    match read_request(alloc, arguments.as_slice()) {
         Ok(Request::Convert(job)) => Ok(Some(job.setup)),
         _ => Ok(None),
     }

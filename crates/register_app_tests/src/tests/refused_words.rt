@@ -1,4 +1,4 @@
-//! Command lines that are refused by the first fault, whatever the order of their words.
+//! Command lines that are refused by the first fault, whatever the order of their arguments.
 
 use crate::tests::helpers::hear_text;
 use std::alloc::Global;
@@ -9,51 +9,51 @@ use std::time::{Clock, CpuClock};
 /// A command line that is refused with status 2, and what is told.
 #[derive(Clone, Copy)]
 struct Refused {
-    words: &'static [&'static str],
+    arguments: &'static [&'static str],
     told: &'static str,
 }
 
 #[rattlefmt::skip]
 const REFUSED: [Refused; 26] = [
     // Sizes of a ring: one to five digits, from 1 to 4096.
-    Refused { words: &["--ring", "0"], told: "register: bad ring size: 0\n" },
-    Refused { words: &["--ring", "4097"], told: "register: bad ring size: 4097\n" },
-    Refused { words: &["--ring", "100000"], told: "register: bad ring size: 100000\n" },
-    Refused { words: &["--ring", "000016"], told: "register: bad ring size: 000016\n" },
-    Refused { words: &["--ring", "+5"], told: "register: bad ring size: +5\n" },
-    Refused { words: &["--ring=-5"], told: "register: bad ring size: -5\n" },
-    Refused { words: &["--ring", " 5"], told: "register: bad ring size:  5\n" },
-    Refused { words: &["--ring", "0x10"], told: "register: bad ring size: 0x10\n" },
-    Refused { words: &["--ring", "\u{665}"], told: "register: bad ring size: \u{665}\n" },
-    Refused { words: &["--ring="], told: "register: bad ring size: \n" },
+    Refused { arguments: &["--ring", "0"], told: "register: bad ring size: 0\n" },
+    Refused { arguments: &["--ring", "4097"], told: "register: bad ring size: 4097\n" },
+    Refused { arguments: &["--ring", "100000"], told: "register: bad ring size: 100000\n" },
+    Refused { arguments: &["--ring", "000016"], told: "register: bad ring size: 000016\n" },
+    Refused { arguments: &["--ring", "+5"], told: "register: bad ring size: +5\n" },
+    Refused { arguments: &["--ring=-5"], told: "register: bad ring size: -5\n" },
+    Refused { arguments: &["--ring", " 5"], told: "register: bad ring size:  5\n" },
+    Refused { arguments: &["--ring", "0x10"], told: "register: bad ring size: 0x10\n" },
+    Refused { arguments: &["--ring", "\u{665}"], told: "register: bad ring size: \u{665}\n" },
+    Refused { arguments: &["--ring="], told: "register: bad ring size: \n" },
     // Stripes: from 1 to 4.
-    Refused { words: &["--stripes", "5"], told: "register: bad stripes: 5\n" },
-    Refused { words: &["--stripes", "0"], told: "register: bad stripes: 0\n" },
-    Refused { words: &["--stripes", "two"], told: "register: bad stripes: two\n" },
-    Refused { words: &["--stripes", "000001"], told: "register: bad stripes: 000001\n" },
+    Refused { arguments: &["--stripes", "5"], told: "register: bad stripes: 5\n" },
+    Refused { arguments: &["--stripes", "0"], told: "register: bad stripes: 0\n" },
+    Refused { arguments: &["--stripes", "two"], told: "register: bad stripes: two\n" },
+    Refused { arguments: &["--stripes", "000001"], told: "register: bad stripes: 000001\n" },
     // Files: the first from the left that was named before, byte for byte.
-    Refused { words: &["a", "a"], told: "register: file named twice: a\n" },
-    Refused { words: &["a", "b", "a", "b"], told: "register: file named twice: a\n" },
-    Refused { words: &["a", "b", "b", "a"], told: "register: file named twice: b\n" },
-    Refused { words: &["a", "--summary", "--", "--summary", "a", "--summary"], told: "register: file named twice: a\n" },
-    // The first fault in the order of the checks, whatever the order of the words.
-    Refused { words: &["a", "a", "--ring", "0", "--to", "x"], told: "register: unknown target: x\n" },
-    Refused { words: &["--ring", "0", "--to", "iso,iso"], told: "register: target named twice: iso\n" },
-    Refused { words: &["--delimiter", "x", "--ring", "0"], told: "register: bad ring size: 0\n" },
-    Refused { words: &["--ring", "0", "--stripes", "5"], told: "register: bad ring size: 0\n" },
-    Refused { words: &["--stripes", "5", "--ring", "0"], told: "register: bad ring size: 0\n" },
-    Refused { words: &["--stripes", "5", "--delimiter", "x"], told: "register: unknown delimiter: x\n" },
-    Refused { words: &["a", "a", "--delimiter", "x"], told: "register: unknown delimiter: x\n" },
-    Refused { words: &["a", "a", "--stripes", "5"], told: "register: bad stripes: 5\n" },
+    Refused { arguments: &["a", "a"], told: "register: file named twice: a\n" },
+    Refused { arguments: &["a", "b", "a", "b"], told: "register: file named twice: a\n" },
+    Refused { arguments: &["a", "b", "b", "a"], told: "register: file named twice: b\n" },
+    Refused { arguments: &["a", "--summary", "--", "--summary", "a", "--summary"], told: "register: file named twice: a\n" },
+    // The first fault in the order of the checks, whatever the order of the arguments.
+    Refused { arguments: &["a", "a", "--ring", "0", "--to", "x"], told: "register: unknown target: x\n" },
+    Refused { arguments: &["--ring", "0", "--to", "iso,iso"], told: "register: target named twice: iso\n" },
+    Refused { arguments: &["--delimiter", "x", "--ring", "0"], told: "register: bad ring size: 0\n" },
+    Refused { arguments: &["--ring", "0", "--stripes", "5"], told: "register: bad ring size: 0\n" },
+    Refused { arguments: &["--stripes", "5", "--ring", "0"], told: "register: bad ring size: 0\n" },
+    Refused { arguments: &["--stripes", "5", "--delimiter", "x"], told: "register: unknown delimiter: x\n" },
+    Refused { arguments: &["a", "a", "--delimiter", "x"], told: "register: unknown delimiter: x\n" },
+    Refused { arguments: &["a", "a", "--stripes", "5"], told: "register: bad stripes: 5\n" },
 ];
 
-/// Whether these words are refused: with status 2, nothing on standard output, and this on standard error.
+/// Whether these arguments are refused: with status 2, nothing on standard output, and this on standard error.
 fn are_refused(
     rt: &(impl Threads + Wait + Clock + CpuClock + Sync),
     alloc: Global,
     line: &Refused,
 ) -> bool {
-    let Ok(heard) = hear_text(rt, alloc, line.words, b"") else {
+    let Ok(heard) = hear_text(rt, alloc, line.arguments, b"") else {
         return false;
     };
     heard.is_answer(2, b"", line.told.as_bytes())
@@ -62,6 +62,6 @@ fn are_refused(
 #[test]
 fn words_are_refused_by_the_first_fault(rt: HostRuntime) {
     for line in &REFUSED {
-        assert!(rt; are_refused(&rt, rt.alloc(), line), "{:?}", line.words);
+        assert!(rt; are_refused(&rt, rt.alloc(), line), "{:?}", line.arguments);
     }
 }

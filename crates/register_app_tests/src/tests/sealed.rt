@@ -18,7 +18,7 @@ const HEADING: &[u8] = b"row,id,calendar,date,note,rd,weekday,gregorian,refusal\
 
 /// A sealed register that gets its table.
 const SEALED: TextCase = TextCase {
-    words: &["--sealed", "--to", "gregorian"],
+    arguments: &["--sealed", "--to", "gregorian"],
     input: b"",
     status: 0,
     output: b"",
@@ -51,7 +51,7 @@ fn is_ended_by(
     is_whole: bool,
 ) -> bool {
     let text = ENTRIES.chain(end);
-    let Ok(heard) = hear_in_memory(rt, alloc, SEALED.words, text, &NoFiles) else {
+    let Ok(heard) = hear_in_memory(rt, alloc, SEALED.arguments, text, &NoFiles) else {
         return false;
     };
     let (status, errors): (u8, &[u8]) = if is_whole {
@@ -102,7 +102,7 @@ const CASES: [TextCase; 6] = [
     },
     // With every other option.
     TextCase {
-        words: &[
+        arguments: &[
             "--ring=4096",
             "--stripes",
             "2",
@@ -147,7 +147,7 @@ fn sealed_registers_get_their_tables(rt: HostRuntime) {
 
 /// Without the flag there is no note, and the last line is a record of two fields.
 const WITHOUT_FLAG: TextCase = TextCase {
-    words: &["--to", "none"],
+    arguments: &["--to", "none"],
     input: b"\
         id,calendar,date\n\
         a,julian,1582-10-05\n\

@@ -87,7 +87,7 @@ impl<'a> FileStore<CountedText<'a>, PlainOutput<LoggedWriter<Vec<u8>>>> for Coun
 /// Command lines, the status of each, and how many files are opened and made.
 #[derive(Clone, Copy)]
 struct Touching {
-    words: &'static [&'static str],
+    arguments: &'static [&'static str],
     status: u8,
     files: u32,
     reads_input: bool,
@@ -95,48 +95,48 @@ struct Touching {
 
 const TOUCHINGS: [Touching; 6] = [
     Touching {
-        words: &["--help", "a.csv"],
+        arguments: &["--help", "a.csv"],
         status: 0,
         files: 0,
         reads_input: false,
     },
     Touching {
-        words: &["a.csv", "--version"],
+        arguments: &["a.csv", "--version"],
         status: 0,
         files: 0,
         reads_input: false,
     },
     Touching {
-        words: &["--ring", "0", "a.csv"],
+        arguments: &["--ring", "0", "a.csv"],
         status: 2,
         files: 0,
         reads_input: false,
     },
     Touching {
-        words: &["a.csv", "b.csv", "a.csv"],
+        arguments: &["a.csv", "b.csv", "a.csv"],
         status: 2,
         files: 0,
         reads_input: false,
     },
     Touching {
-        words: &[],
+        arguments: &[],
         status: 1,
         files: 0,
         reads_input: true,
     },
     Touching {
-        words: &["a.csv", "b.csv"],
+        arguments: &["a.csv", "b.csv"],
         status: 1,
         files: 2,
         reads_input: false,
     },
 ];
 
-/// The status that these words give over a text and files that count.
+/// The status that these arguments give over a text and files that count.
 fn status_of<'a>(
     rt: &(impl Threads + Wait + Clock + CpuClock + Sync),
     alloc: Global,
-    words: &[&str],
+    arguments: &[&str],
     input: &'a Counts,
     files: &'a Counts,
 ) -> Result<u8, AllocError> {
@@ -145,11 +145,11 @@ fn status_of<'a>(
         alloc,
         counts: files,
     };
-    let heard = hear_in_memory(rt, alloc, words, input, &files)?;
+    let heard = hear_in_memory(rt, alloc, arguments, input, &files)?;
     Ok(heard.status)
 }
 
-/// Whether these words get their status, and nothing is touched that they do not ask for.
+/// Whether these arguments get their status, and nothing is touched that they do not ask for.
 fn touches_as_wanted(
     rt: &(impl Threads + Wait + Clock + CpuClock + Sync),
     alloc: Global,
@@ -157,7 +157,7 @@ fn touches_as_wanted(
 ) -> bool {
     let input = Counts::none();
     let files = Counts::none();
-    let Ok(status) = status_of(rt, alloc, touching.words, &input, &files) else {
+    let Ok(status) = status_of(rt, alloc, touching.arguments, &input, &files) else {
         return false;
     };
     status == touching.status
@@ -173,7 +173,7 @@ fn nothing_is_touched_that_is_not_asked_for(rt: HostRuntime) {
         assert!(rt;
             touches_as_wanted(&rt, rt.alloc(), touching),
             "{:?}",
-            touching.words
+            touching.arguments
         );
     }
 }
@@ -198,14 +198,22 @@ impl Write for Broken {
     }
 }
 
-/// What these words give where standard input breaks.
+/// What these arguments give where standard input breaks.
 fn hear_broken<E: Write + Drop>(
     rt: &(impl Threads + Wait + Clock + CpuClock + Sync),
     alloc: Global,
-    words: &[&str],
+    arguments: &[&str],
     errors: E,
 ) -> Result<Heard<Vec<u8>, E>, AllocError> {
-    hear(rt, alloc, words, Broken, Vec::new(alloc), &NoFiles, errors)
+    hear(
+        rt,
+        alloc,
+        arguments,
+        Broken,
+        Vec::new(alloc),
+        &NoFiles,
+        errors,
+    )
 }
 
 /// Whether an input that breaks is told.
@@ -259,25 +267,25 @@ const FOR_HELP: [&[&str]; 6] = [
     &["a", "a", "--help"],
 ];
 
-/// What these words give over a text and files that count.
+/// What these arguments give over a text and files that count.
 fn hear_counted<'a>(
     rt: &(impl Threads + Wait + Clock + CpuClock + Sync),
     alloc: Global,
-    words: &[&str],
+    arguments: &[&str],
     counts: &'a Counts,
 ) -> Result<Heard<Vec<u8>, Vec<u8>>, AllocError> {
     let files = CountedFiles { alloc, counts };
-    hear_in_memory(rt, alloc, words, CountedText { counts }, &files)
+    hear_in_memory(rt, alloc, arguments, CountedText { counts }, &files)
 }
 
-/// Whether these words get help, with nothing told, read, opened or made.
+/// Whether these arguments get help, with nothing told, read, opened or made.
 fn get_help(
     rt: &(impl Threads + Wait + Clock + CpuClock + Sync),
     alloc: Global,
-    words: &[&str],
+    arguments: &[&str],
 ) -> bool {
     let counts = Counts::none();
-    let Ok(heard) = hear_counted(rt, alloc, words, &counts) else {
+    let Ok(heard) = hear_counted(rt, alloc, arguments, &counts) else {
         return false;
     };
     heard.is_answer(0, HELP.as_bytes(), b"") && counts.are_none()
@@ -285,8 +293,8 @@ fn get_help(
 
 #[test]
 fn help_reads_nothing(rt: HostRuntime) {
-    for words in &FOR_HELP {
-        assert!(rt; get_help(&rt, rt.alloc(), words), "{words:?}");
+    for arguments in &FOR_HELP {
+        assert!(rt; get_help(&rt, rt.alloc(), arguments), "{arguments:?}");
     }
     for line in HELP.lines() {
         assert!(rt; line.len() <= 80, "{line}");

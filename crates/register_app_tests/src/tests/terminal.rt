@@ -92,9 +92,9 @@ fn is_told(
     stream: Lines<Slow>,
     wanted: &[u8],
 ) -> bool {
-    let words = ["--to", target];
+    let arguments = ["--to", target];
     let output = Vec::new(alloc);
-    let Ok(heard) = hear(rt, alloc, &words, ONE_RECORD, output, &NoFiles, stream) else {
+    let Ok(heard) = hear(rt, alloc, &arguments, ONE_RECORD, output, &NoFiles, stream) else {
         return false;
     };
     bytes_of(&heard.errors) == wanted

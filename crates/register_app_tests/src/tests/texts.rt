@@ -4,7 +4,7 @@ use crate::tests::helpers::{TextCase, assert_answers};
 
 /// A text with nothing to be told.
 const TEXT: TextCase = TextCase {
-    words: &["--to", "gregorian,julian"],
+    arguments: &["--to", "gregorian,julian"],
     input: b"",
     status: 0,
     output: b"",
@@ -123,7 +123,7 @@ fn texts_get_their_tables(rt: HostRuntime) {
 
 const DELIMITERS: [TextCase; 2] = [
     TextCase {
-        words: &["--delimiter", "semicolon", "--to", "julian"],
+        arguments: &["--delimiter", "semicolon", "--to", "julian"],
         input: b"\
             \xEF\xBB\xBFID; Calendar ;DATE\r\n\
             \r\n\
@@ -134,7 +134,7 @@ const DELIMITERS: [TextCase; 2] = [
         ..TEXT
     },
     TextCase {
-        words: &["--to", "julian", "--delimiter=tab"],
+        arguments: &["--to", "julian", "--delimiter=tab"],
         input: b"\
             id\tcalendar\tdate\n\
             a,b\tgregorian\t1752-9-14\n",
@@ -151,7 +151,7 @@ fn delimiters_stand_in_text_and_table(rt: HostRuntime) {
 }
 
 const SUMMARY: TextCase = TextCase {
-    words: &["--summary", "--to", "none"],
+    arguments: &["--summary", "--to", "none"],
     input: b"\
         id,calendar,date\n\
         a,gregorian,1945-11-12\n\

@@ -1,4 +1,4 @@
--- Words that ask for something have no fault beside it, and words that are refused have one.
+-- Arguments that ask for something have no fault beside it, and arguments that are refused have one.
 use Rattle.std.specs.Prelude.{◌≤◌, ◌⊎◌}
 use Rattle.std.proofs.Common.{◌≡◌, ◌≢◌, ℕ, rules, arith, inl, inr, map, ap, length, refl, List, [], ◌∷◌}
 use Rattle.std.proofs.lemmas.List.{length-map}
@@ -10,30 +10,30 @@ use Rattle.register_app.proofs.answering.answer.Goals as goal
 
 pub returns-in-Ok-Help-clause-answered : goal.returns-in-Ok-Help-clause-answered
 returns-in-Ok-Help-clause-answered g c = λ low.
-    let just : MeanJust (map string_bytes c.args.words.now) help = search (rules, c.in-Ok-Help.ensures.asked) in
+    let just : MeanJust (map string_bytes c.args.arguments.now) help = search (rules, c.in-Ok-Help.ensures.asked) in
     inl (_, inl (just, refl), c.print_page.ensures.printed, c.print_page.ensures.none)
 
 pub returns-in-Ok-Help-clause-refused : goal.returns-in-Ok-Help-clause-refused
 returns-in-Ok-Help-clause-refused g c =
-    let words = map string_bytes c.args.words.now in
-    let just : MeanJust words help = search (rules, c.in-Ok-Help.ensures.asked) in
-    λ had. never_refused words help c.print_page.result.status just (λ fault e. cc)
+    let arguments = map string_bytes c.args.arguments.now in
+    let just : MeanJust arguments help = search (rules, c.in-Ok-Help.ensures.asked) in
+    λ had. never_refused arguments help c.print_page.result.status just (λ fault e. cc)
     (λ two. elim c.print_page.ensures.statuses
     [ inl zero ↦ absurd (omega (arith, two, zero)) | inr one ↦ absurd (omega (arith, two, one)) ])
 
 pub returns-in-Ok-Version-clause-refused : goal.returns-in-Ok-Version-clause-refused
 returns-in-Ok-Version-clause-refused g c =
-    let words = map string_bytes c.args.words.now in
-    let just : MeanJust words version = search (rules, c.in-Ok-Version.ensures.asked) in
-    λ had. never_refused words version c.print_page-in-Ok-Version.result.status just (λ fault e. cc)
+    let arguments = map string_bytes c.args.arguments.now in
+    let just : MeanJust arguments version = search (rules, c.in-Ok-Version.ensures.asked) in
+    λ had. never_refused arguments version c.print_page-in-Ok-Version.result.status just (λ fault e. cc)
     (λ two. elim c.print_page-in-Ok-Version.ensures.statuses
     [ inl zero ↦ absurd (omega (arith, two, zero)) | inr one ↦ absurd (omega (arith, two, one)) ])
 
 pub convert_files-requires-clause-few : goal.convert_files-requires-clause-few
 convert_files-requires-clause-few g c =
-    let words = map string_bytes c.args.words.now in
+    let arguments = map string_bytes c.args.arguments.now in
     let job = c.in-Ok-Convert.job in
-    let just : MeanJust words (table (task_of job)) = search (rules, c.in-Ok-Convert.ensures.asked) in
+    let just : MeanJust arguments (table (task_of job)) = search (rules, c.in-Ok-Convert.ensures.asked) in
     let asks = (just (table (task_of job))).0 refl in
     omega (arith, asks.1.files_fit.0, ap length asks.1.files, length-map job.files.items (λ f. f.now))
 
@@ -53,9 +53,9 @@ none_of (x ∷ xs) e = absurd (omega (arith, e))
 
 pub returns-then-is_empty-clause-answered : goal.returns-then-is_empty-clause-answered
 returns-then-is_empty-clause-answered g c = λ low.
-    let words = map string_bytes c.args.words.now in
+    let arguments = map string_bytes c.args.arguments.now in
     let job = c.in-Ok-Convert.job in
-    let just : MeanJust words (table (task_of job)) = search (rules, c.in-Ok-Convert.ensures.asked) in
+    let just : MeanJust arguments (table (task_of job)) = search (rules, c.in-Ok-Convert.ensures.asked) in
     let zero : length job.files.items ≡ 0 = search rules in
     let none : job.files.items ≡ [] = none_of job.files.items zero in
     inr (inl (
@@ -68,7 +68,7 @@ returns-then-is_empty-clause-answered g c = λ low.
 
 pub returns-then-is_empty-clause-refused : goal.returns-then-is_empty-clause-refused
 returns-then-is_empty-clause-refused g c =
-    let just : MeanJust (map string_bytes c.args.words.now) (table (task_of c.in-Ok-Convert.job))
+    let just : MeanJust (map string_bytes c.args.arguments.now) (table (task_of c.in-Ok-Convert.job))
     = search (rules, c.in-Ok-Convert.ensures.asked) in
     λ had. never_refused _ _ c.convert_input.result.status just (λ fault e. cc)
     (never_two c.convert_input.result.status c.convert_input.ensures.statuses)
@@ -79,9 +79,9 @@ map_none f (x ∷ xs) e = absurd (cc)
 
 pub returns-else-is_empty-clause-answered : goal.returns-else-is_empty-clause-answered
 returns-else-is_empty-clause-answered g c = λ low.
-    let words = map string_bytes c.args.words.now in
+    let arguments = map string_bytes c.args.arguments.now in
     let job = c.in-Ok-Convert.job in
-    let just : MeanJust words (table (task_of job)) = search (rules, c.in-Ok-Convert.ensures.asked) in
+    let just : MeanJust arguments (table (task_of job)) = search (rules, c.in-Ok-Convert.ensures.asked) in
     let some : job.files.items ≢ [] = search rules in
     inr (inr (
       task_of job,
@@ -93,14 +93,14 @@ returns-else-is_empty-clause-answered g c = λ low.
 
 pub returns-else-is_empty-clause-refused : goal.returns-else-is_empty-clause-refused
 returns-else-is_empty-clause-refused g c =
-    let just : MeanJust (map string_bytes c.args.words.now) (table (task_of c.in-Ok-Convert.job))
+    let just : MeanJust (map string_bytes c.args.arguments.now) (table (task_of c.in-Ok-Convert.job))
     = search (rules, c.in-Ok-Convert.ensures.asked) in
     λ had. never_refused _ _ c.convert_files.result.status just (λ fault e. cc)
     (never_two c.convert_files.result.status c.convert_files.ensures.statuses)
 
 pub returns-in-Err-clause-refused : goal.returns-in-Err-clause-refused
 returns-in-Err-clause-refused g c =
-    λ had. is_refused (map string_bytes c.args.words.now) (fault_of_error c.in-Err.fault) c.refuse.result.status
+    λ had. is_refused (map string_bytes c.args.arguments.now) (fault_of_error c.in-Err.fault) c.refuse.result.status
     c.in-Err.ensures.refused c.refuse.ensures.status had
 
 -- standard error: of a page nothing, of a run that memory ran out or a file was missing, and else what is wrong
@@ -116,27 +116,30 @@ returns-in-Ok-Version-clause-reported g c = λ high.
 
 pub returns-then-is_empty-clause-reported : goal.returns-then-is_empty-clause-reported
 returns-then-is_empty-clause-reported g c = λ high good.
-    c.convert_input.ensures.reported (at_most_three c.convert_input.result.status high c.convert_input.ensures.statuses) good
-    (map string_bytes c.args.words.now)
+    c.convert_input.ensures.reported
+    (at_most_three c.convert_input.result.status high c.convert_input.ensures.statuses) good
+    (map string_bytes c.args.arguments.now)
 
 pub returns-else-is_empty-clause-reported : goal.returns-else-is_empty-clause-reported
 returns-else-is_empty-clause-reported g c = λ high good.
-    let words = map string_bytes c.args.words.now in
-    let just : MeanJust words (table (task_of c.in-Ok-Convert.job)) = search (rules, c.in-Ok-Convert.ensures.asked) in
-    c.convert_files.ensures.reported (at_most_three c.convert_files.result.status high c.convert_files.ensures.statuses) good
-    words just
+    let arguments = map string_bytes c.args.arguments.now in
+    let just : MeanJust arguments (table (task_of c.in-Ok-Convert.job))
+    = search (rules, c.in-Ok-Convert.ensures.asked) in
+    c.convert_files.ensures.reported
+    (at_most_three c.convert_files.result.status high c.convert_files.ensures.statuses) good
+    arguments just
 
 pub returns-in-Err-clause-reported : goal.returns-in-Err-clause-reported
 returns-in-Err-clause-reported g c = λ high good.
-    let words = map string_bytes c.args.words.now in
-    c.refuse.ensures.reported words (is_wrong words (fault_of_error c.in-Err.fault) c.in-Err.ensures.refused)
+    let arguments = map string_bytes c.args.arguments.now in
+    c.refuse.ensures.reported arguments (is_wrong arguments (fault_of_error c.in-Err.fault) c.in-Err.ensures.refused)
     tt good
 
 pub returns-else-is_empty-clause-unwritten : goal.returns-else-is_empty-clause-unwritten
 returns-else-is_empty-clause-unwritten g c = λ three.
-    let words = map string_bytes c.args.words.now in
+    let arguments = map string_bytes c.args.arguments.now in
     let task = task_of c.in-Ok-Convert.job in
-    let just : MeanJust words (table task) = search (rules, c.in-Ok-Convert.ensures.asked) in
+    let just : MeanJust arguments (table task) = search (rules, c.in-Ok-Convert.ensures.asked) in
     elim (c.convert_files.ensures.unwritten three) [ inl none ↦ inl none | inr made ↦ inr (task, just, made) ]
 
 pub returns-else-is_empty-clause-none : goal.returns-else-is_empty-clause-none

@@ -10,7 +10,7 @@ returns-clause-unwritten g c = λ three. inr (rw (c.run_job-status.ensures.untou
     c.in-Ok.ensures.made)
 
 pub returns-in-Err-clause-reported : goal.returns-in-Err-clause-reported
-returns-in-Err-clause-reported g c = λ three good words just.
+returns-in-Err-clause-reported g c = λ three good arguments just.
     let fault = c.in-Err.fault in
-    c.refuse.ensures.reported words tt (asked_by words (task_of c.args.job.now) just fault
+    c.refuse.ensures.reported arguments tt (asked_by arguments (task_of c.args.job.now) just fault
     (subst (λ files. IsOfFiles (map (λ f. f.now) files) fault) c.as_slice.ensures.value c.in-Err.ensures.named)) good

@@ -15,7 +15,7 @@ returns-else-summary-clause-lines g c = λ good.
     subst (λ text. Appends (g.E.Output.contents c.args.errors.now) (g.E.Output.contents c.args.errors.now) text)
     (sym none) (appends_none (g.E.Output.contents c.args.errors.now))
 
--- a run with a broken source is told as such
+-- a run with a broken source is reported as such
 pub returns-in-Incomplete-clause-complete : goal.returns-in-Incomplete-clause-complete
 returns-in-Incomplete-clause-complete g c = (λ none. absurd (omega (arith, none)), λ whole. absurd (cc))
 

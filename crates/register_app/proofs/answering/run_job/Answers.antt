@@ -57,5 +57,5 @@ returns-in-Ok-clause-len g c =
 
 -- a run that did not begin was refused memory
 pub returns-in-Err-clause-reported : goal.returns-in-Err-clause-reported
-returns-in-Err-clause-reported g c = λ three good words.
-    out_of_memory words _ _ (c.report_out_of_memory.ensures.line good)
+returns-in-Err-clause-reported g c = λ three good arguments.
+    out_of_memory arguments _ _ (c.report_out_of_memory.ensures.line good)

@@ -24,7 +24,8 @@ passes_fault : (result : Result Job RequestFault) (error : RequestFault) (values
     → IsErrAnd result (λ up. up ≡ error) → IfSome (fault_of_error error) fails
     → ((fault : Fault) → fails fault → FailFirst (value_checks values) fault) → IfErr result (TellsFirst values)
 passes_fault result error values fails up told first =
-    passed_up result error (TellsFirst values) up (found_first (fault_of_error error) fails (value_checks values) told first)
+    passed_up result error (TellsFirst values) up
+    (found_first (fault_of_error error) fails (value_checks values) told first)
 
 -- and so it is where a check always tells one
 passes_found : (result : Result Job RequestFault) (error : RequestFault) (values : Values) (fails : Fault → Type 0)

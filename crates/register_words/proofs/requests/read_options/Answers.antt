@@ -1,4 +1,4 @@
--- What clap found is what the definitions find in the words.
+-- What clap found is what the definitions find in the arguments.
 use Rattle.std.proofs.Common.{ap, ◌∙◌}
 use Rattle.register_words.specs.CommandLine.{values_of}
 use Rattle.register_words.proofs.requests.read_options.Goals as goal

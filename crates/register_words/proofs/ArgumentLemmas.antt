@@ -1,4 +1,4 @@
--- Words mean one thing at most.
+-- Arguments mean one thing at most.
 use Rattle.std.proofs.Common.{◌≡◌, ◌∙◌, ℕ, Bool, List, [], ◌∷◌, length, sym, ap, ap₂, refl, subst, arith}
 use Rattle.std.proofs.Common.{inl, inr, Option, Some, None}
 use Rattle.std.specs.Prelude.{◌≢◌, ⊤, IfSome}
@@ -121,19 +121,19 @@ module _ (one : OneTarget) where
     none = λ fault asked is. no_target_fault value asked.0 fault asked.1 is;
   }
 
-module _ (one : OneTarget) (words : List Text) where
-  not_taken : (kind : ErrorKind) → AreTaken words → IsAmong kind (fault_of command_line words) → ⊥
+module _ (one : OneTarget) (arguments : List Text) where
+  not_taken : (kind : ErrorKind) → AreTaken arguments → IsAmong kind (fault_of command_line arguments) → ⊥
   not_taken kind taken among = subst (IsAmong kind) taken among
 
-  sound_usage : IsSound (usage_check words)
+  sound_usage : IsSound (usage_check arguments)
   sound_usage = record {
-    one = λ fault other is same. is.1 ∙ ap usage (one_kind words is.0 same.0 is.2 same.2) ∙ sym same.1;
+    one = λ fault other is same. is.1 ∙ ap usage (one_kind arguments is.0 same.0 is.2 same.2) ∙ sym same.1;
     none = λ fault taken is. not_taken is.0 taken is.2;
   }
 
-  all_sound : AreSound (usage_check words ∷ value_checks (values_in words))
+  all_sound : AreSound (usage_check arguments ∷ value_checks (values_in arguments))
   all_sound =
-      let values = values_in words in (
+      let values = values_in arguments in (
         sound_usage,
         (
           sound_targets one values.to,
@@ -147,23 +147,23 @@ module _ (one : OneTarget) (words : List Text) where
         ),
       )
 
-  help_no_fault : (fault : Fault) → Mean words help → IsFaultOf words fault → ⊥
-  help_no_fault fault asks (inl is) = is.3 (one_kind words is.0 DisplayHelp is.2 asks)
+  help_no_fault : (fault : Fault) → Mean arguments help → IsFaultOf arguments fault → ⊥
+  help_no_fault fault asks (inl is) = is.3 (one_kind arguments is.0 DisplayHelp is.2 asks)
   help_no_fault fault asks (inr is) = not_taken DisplayHelp is.0 asks
 
-  version_no_fault : (fault : Fault) → Mean words version → IsFaultOf words fault → ⊥
-  version_no_fault fault asks (inl is) = is.4 (one_kind words is.0 DisplayVersion is.2 asks)
+  version_no_fault : (fault : Fault) → Mean arguments version → IsFaultOf arguments fault → ⊥
+  version_no_fault fault asks (inl is) = is.4 (one_kind arguments is.0 DisplayVersion is.2 asks)
   version_no_fault fault asks (inr is) = not_taken DisplayVersion is.0 asks
 
-  help_no_version : Mean words help → Mean words version → ⊥
-  help_no_version asks other = differ (one_kind words DisplayHelp DisplayVersion asks other)
+  help_no_version : Mean arguments help → Mean arguments version → ⊥
+  help_no_version asks other = differ (one_kind arguments DisplayHelp DisplayVersion asks other)
     where
       differ : DisplayHelp ≡ DisplayVersion → ⊥
       differ e = absurd (cc)
 
-  table_no_fault : (task : Task) (fault : Fault) → Mean words (table task) → ¬ IsFaultOf words fault
+  table_no_fault : (task : Task) (fault : Fault) → Mean arguments (table task) → ¬ IsFaultOf arguments fault
   table_no_fault task fault asks =
-      no_fault (usage_check words ∷ value_checks (values_in words)) all_sound (
+      no_fault (usage_check arguments ∷ value_checks (values_in arguments)) all_sound (
         asks.0,
         (
           (task.layout.targets, asks.1.targets),
@@ -177,17 +177,20 @@ module _ (one : OneTarget) (words : List Text) where
         ),
       ) fault
 
-  one_table : (task other : Task) → Mean words (table task) → Mean words (table other) → table task ≡ table other
+  one_table : (task other : Task) → Mean arguments (table task) → Mean arguments (table other) → table task ≡ table other
   one_table task other asks asks_other =
-      let values = values_in words in
+      let values = values_in arguments in
       let asked = asks.1 in
       let same = asks_other.1 in
       let targets = one_list one values.to task.layout.targets other.layout.targets asked.targets same.targets in
-      let ring = one_asked ring_option (one_number largest_ring) values.ring task.ring other.ring asked.ring same.ring in
+      let ring =
+      one_asked ring_option (one_number largest_ring) values.ring task.ring other.ring asked.ring same.ring in
       let delimiter =
       one_asked delimiter_option one_byte values.delimiter task.layout.format.delimiter other.layout.format.delimiter
       asked.delimiter same.delimiter in
-      let stripes = one_asked stripes_option (one_number most_stripes) values.stripes task.stripes other.stripes asked.stripes same.stripes in
+      let stripes =
+      one_asked stripes_option (one_number most_stripes) values.stripes task.stripes other.stripes asked.stripes
+      same.stripes in
       ap table (same_task task other
       (same_layout task.layout other.layout targets delimiter (asked.form ∙ sym same.form)) ring stripes
       (asked.summary ∙ sym same.summary) (asked.files ∙ sym same.files))
@@ -207,7 +210,7 @@ module _ (one : OneTarget) (words : List Text) where
           summary
           ∙ ap (λ (fs : List Text). record b { files = fs }) files
 
-  one_meaning : (meaning other : Meaning) → Mean words meaning → Mean words other → other ≡ meaning
+  one_meaning : (meaning other : Meaning) → Mean arguments meaning → Mean arguments other → other ≡ meaning
   one_meaning help help x y = refl
   one_meaning help version x y = absurd (help_no_version x y)
   one_meaning help (table task) x y = absurd (not_taken DisplayHelp y.0 x)
@@ -224,32 +227,32 @@ module _ (one : OneTarget) (words : List Text) where
   one_meaning (wrong fault) version x y = absurd (version_no_fault fault y x)
   one_meaning (wrong fault) (table task) x y = absurd (table_no_fault task fault y x)
   one_meaning (wrong fault) (wrong other) x y =
-      ap wrong (first_fault (usage_check words ∷ value_checks (values_in words)) all_sound other fault y x)
+      ap wrong (first_fault (usage_check arguments ∷ value_checks (values_in arguments)) all_sound other fault y x)
 
-  -- what the words mean is all that they mean
-  pub mean_just : (meaning : Meaning) → Mean words meaning → MeanJust words meaning
-  mean_just meaning means other = (λ e. subst (Mean words) (sym e) means, λ m. one_meaning meaning other means m)
+  -- what the arguments mean is all that they mean
+  pub mean_just : (meaning : Meaning) → Mean arguments meaning → MeanJust arguments meaning
+  mean_just meaning means other = (λ e. subst (Mean arguments) (sym e) means, λ m. one_meaning meaning other means m)
 
 -- an error is a request for help or for the version, running out of memory, or a fault of usage
-pub asks_help : (words : List Text) (error : Error) → HasKind (fault_of command_line words) error
-    → kind_of error ≡ DisplayHelp → Mean words help
-asks_help words error (inl memory) is = absurd (cc)
-asks_help words error (inr among) is = subst (λ (k : ErrorKind). IsAmong k (fault_of command_line words)) is among
+pub asks_help : (arguments : List Text) (error : Error) → HasKind (fault_of command_line arguments) error
+    → kind_of error ≡ DisplayHelp → Mean arguments help
+asks_help arguments error (inl memory) is = absurd (cc)
+asks_help arguments error (inr among) is = subst (λ (k : ErrorKind). IsAmong k (fault_of command_line arguments)) is among
 
-pub asks_version : (words : List Text) (error : Error) → HasKind (fault_of command_line words) error
-    → kind_of error ≡ DisplayVersion → Mean words version
-asks_version words error (inl memory) is = absurd (cc)
-asks_version words error (inr among) is = subst (λ (k : ErrorKind). IsAmong k (fault_of command_line words)) is among
+pub asks_version : (arguments : List Text) (error : Error) → HasKind (fault_of command_line arguments) error
+    → kind_of error ≡ DisplayVersion → Mean arguments version
+asks_version arguments error (inl memory) is = absurd (cc)
+asks_version arguments error (inr among) is = subst (λ (k : ErrorKind). IsAmong k (fault_of command_line arguments)) is among
 
-pub misuses : (words : List Text) (error : Error) → HasKind (fault_of command_line words) error
+pub misuses : (arguments : List Text) (error : Error) → HasKind (fault_of command_line arguments) error
     → kind_of error ≢ OutOfMemory → kind_of error ≢ DisplayHelp
-    → kind_of error ≢ DisplayVersion → IsFaultOf words (usage (kind_of error))
-misuses words error (inl memory) has helps versions = absurd (has memory)
-misuses words error (inr among) has helps versions = inl (kind_of error, refl, among, helps, versions)
+    → kind_of error ≢ DisplayVersion → IsFaultOf arguments (usage (kind_of error))
+misuses arguments error (inl memory) has helps versions = absurd (has memory)
+misuses arguments error (inr among) has helps versions = inl (kind_of error, refl, among, helps, versions)
 
--- a fault of a check that comes to be told is all that the words mean
-pub told_just : (words : List Text) (told : Option Fault) (fails : Fault → Type 0) → OneTarget → IfSome told fails
-    → ((fault : Fault) → fails fault → IsFaultOf words fault)
-    → IfSome told (λ fault. MeanJust words (wrong fault))
-told_just words None fails one is first = tt
-told_just words (Some fault) fails one is first = mean_just one words (wrong fault) (first fault is)
+-- a fault of a check that comes to be told is all that the arguments mean
+pub told_just : (arguments : List Text) (told : Option Fault) (fails : Fault → Type 0) → OneTarget → IfSome told fails
+    → ((fault : Fault) → fails fault → IsFaultOf arguments fault)
+    → IfSome told (λ fault. MeanJust arguments (wrong fault))
+told_just arguments None fails one is first = tt
+told_just arguments (Some fault) fails one is first = mean_just one arguments (wrong fault) (first fault is)

@@ -7,7 +7,7 @@ use Rattle.clap.specs.Words.{matches_of, rows_of}
 use Rattle.clap.specs.declared.parser.matches.ArgMatches.{ArgMatches}
 use Rattle.clap.proofs.OnLiterals.{clap_on_literals}
 use Rattle.register_words.specs.CommandLine.{command_line}
-use Rattle.register_words.proofs.requests.read_words.Goals as goal
+use Rattle.register_words.proofs.requests.read_arguments.Goals as goal
 
 simple_and_free : is_simple_and_free command_line ≡ true
 unfolding clap_on_literals
@@ -20,14 +20,14 @@ simple = refl
 pub returns-clause-found : goal.returns-clause-found
 returns-clause-found c =
     let is = c.in_ok-command.ensures in
-    let words = map string_bytes c.args.words.now in
-    IfOk-weaker c.try_get_matches_from.result (HasMatchesOf (app_of c.in_ok-command.field-0) words)
-    (λ (matches : ArgMatches). rows_of (found_of matches) ≡ matches_of command_line words)
-    (λ matches found. (found (ap is_simple is ∙ simple)).0 ∙ ap (λ (a : App). matches_of a words) is)
+    let arguments = map string_bytes c.args.arguments.now in
+    IfOk-weaker c.try_get_matches_from.result (HasMatchesOf (app_of c.in_ok-command.field-0) arguments)
+    (λ (matches : ArgMatches). rows_of (found_of matches) ≡ matches_of command_line arguments)
+    (λ matches found. (found (ap is_simple is ∙ simple)).0 ∙ ap (λ (a : App). matches_of a arguments) is)
     c.try_get_matches_from.ensures.matches
 
 pub returns-clause-fails : goal.returns-clause-fails
 returns-clause-fails c =
     let is = c.in_ok-command.ensures in
-    subst (λ (a : App). FailsBy (fault_of a (map string_bytes c.args.words.now)) c.try_get_matches_from.result) is
+    subst (λ (a : App). FailsBy (fault_of a (map string_bytes c.args.arguments.now)) c.try_get_matches_from.result) is
     (c.try_get_matches_from.ensures.kinds (ap is_simple_and_free is ∙ simple_and_free))

@@ -18,7 +18,7 @@ holds true told p = refl
 holds false told p = absurd (told p)
 
 short : (list : ShortList Target) → length (items_in list) ≤ MAX_TARGETS
-short list = omega (arith, length-take list.count list.buffer, list.few)
+short list = omega (arith, length-take list.count list.items, list.few)
 
 pub returns : goal.returns
 returns c =

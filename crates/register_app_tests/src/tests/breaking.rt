@@ -1,4 +1,4 @@
-//! Streams that break at a chosen byte or at their flush, and memory that is refused: what is told and given then.
+//! Streams that break at a chosen byte or at their flush, and memory that is refused: what is reported and given then.
 
 ghost use Rattle.std.specs.Prelude.{⊤};
 
@@ -263,7 +263,7 @@ fn has_taken(bytes: &[u8], text: &[u8], place: Break) -> bool {
     }
 }
 
-/// Whether all is as it is wanted where standard error breaks there, but that what is told breaks off.
+/// Whether all is as it is wanted where standard error breaks there, but that what is reported breaks off.
 fn is_told_until(
     rt: &(impl Threads + Wait + Clock + CpuClock + Sync),
     alloc: Global,
@@ -333,12 +333,12 @@ fn is_printed_until(
         return false;
     };
     let printed = heard.output.bytes.as_slice();
-    let told = heard.errors.bytes.as_slice();
+    let reported = heard.errors.bytes.as_slice();
     heard.status == status
         && printed.len() <= page.len()
         && has_taken(printed, page.as_bytes(), output)
-        && told.len() <= CANNOT_PRINT.len()
-        && has_taken(told, CANNOT_PRINT, errors)
+        && reported.len() <= CANNOT_PRINT.len()
+        && has_taken(reported, CANNOT_PRINT, errors)
 }
 
 #[test]
@@ -399,25 +399,25 @@ fn is_unwritten(heard: &Heard<Breaking, Breaking>) -> bool {
     heard.output.bytes.is_empty() && heard.outputs.iter().all(|output| output.bytes.is_empty())
 }
 
-/// Whether this tells that there was no memory before the run, or what is wanted where no allocation is refused.
-fn tells_status_3(told: &[u8], case: &Case) -> bool {
-    let as_wanted = case.status == 3 && told == case.errors;
-    let cannot_make = told.starts_with(b"register: cannot make ");
-    as_wanted || cannot_make || told == OUT_OF_MEMORY
+/// Whether this reports that there was no memory before the run, or what is wanted where no allocation is refused.
+fn reports_status_3(reported: &[u8], case: &Case) -> bool {
+    let as_wanted = case.status == 3 && reported == case.errors;
+    let cannot_make = reported.starts_with(b"register: cannot make ");
+    as_wanted || cannot_make || reported == OUT_OF_MEMORY
 }
 
-/// Whether these arguments may have this outcome where one allocation is refused: this is told, with nothing written, or one
+/// Whether these arguments may have this outcome where one allocation is refused: this is reported, with nothing written, or one
 /// source is broken. A table that is refused its memory cannot be made.
 fn fits_refused_memory(heard: &Heard<Breaking, Breaking>, case: &Case) -> bool {
-    let told = heard.errors.bytes.as_slice();
+    let reported = heard.errors.bytes.as_slice();
     match heard.status {
-        3 => tells_status_3(told, case) && is_unwritten(heard),
+        3 => reports_status_3(reported, case) && is_unwritten(heard),
         1 => {
             case.status <= 1
-                && are_lines_of_memory(told, case.errors)
+                && are_lines_of_memory(reported, case.errors)
                 && holds_tables(heard, case, Part::Front)
         }
-        _ => told.starts_with(case.errors) && is_as_wanted(heard, case),
+        _ => reported.starts_with(case.errors) && is_as_wanted(heard, case),
     }
 }
 
@@ -445,13 +445,13 @@ fn words_that_are_refused_memory_are_told(rt: HostRuntime) {
     }
 }
 
-/// Whether a page is printed, with nothing told, or this is told where memory ran out, with nothing printed.
+/// Whether a page is printed, with nothing reported, or this is reported where memory ran out, with nothing printed.
 fn is_printed_or_told(heard: &Heard<Breaking, Breaking>, page: &str) -> bool {
     let printed = heard.output.bytes.as_slice();
-    let told = heard.errors.bytes.as_slice();
+    let reported = heard.errors.bytes.as_slice();
     match heard.status {
-        3 => told == OUT_OF_MEMORY && printed.is_empty(),
-        status => status == 0 && told.is_empty() && printed == page.as_bytes(),
+        3 => reported == OUT_OF_MEMORY && printed.is_empty(),
+        status => status == 0 && reported.is_empty() && printed == page.as_bytes(),
     }
 }
 

@@ -18,7 +18,7 @@ const EVERY_TARGET: &[u8] = b"\
     1582-10-15,1582-W41-5,1582-10-05,1299-02-08,1575-02-08,2331-03-14,1031-12-14,\
     0990-09-17,5343-07-19,11.18.3.9.18,,1582-10-N3,11 Tzec,13 Etznab,\n";
 
-/// The page that tells the version.
+/// The page of the version.
 const VERSION: &[u8] = b"register 1.1.0\n";
 
 /// A command line that is taken.
@@ -234,7 +234,7 @@ const MISUSES: [Misuse; 14] = [
         arguments: &["--sealed=END"],
         message: b"error: unexpected value 'END' for '--sealed' found; no more were expected\n",
     },
-    // What clap refuses is told before every other fault.
+    // What clap refuses is reported before every other fault.
     Misuse {
         arguments: &["--to", "x", "--rings", "4"],
         message: b"error: unexpected argument '--rings' found\n",

@@ -49,12 +49,12 @@ where
     )
 }
 
-/// Whether these arguments get this status over the files of the system, and this is told.
-fn is_told<T: Threads + Wait + Clock + CpuClock + Sync + Files + AllocGlobal>(
+/// Whether these arguments get this status over the files of the system, and this is reported.
+fn is_reported<T: Threads + Wait + Clock + CpuClock + Sync + Files + AllocGlobal>(
     rt: &T,
     arguments: &[&str],
     status: u8,
-    told: &[u8],
+    reported: &[u8],
 ) -> bool
 where
     T::File: Send + Exclusive,
@@ -62,7 +62,7 @@ where
     let Ok(heard) = hear_on_disk(rt, rt.alloc(), arguments) else {
         return false;
     };
-    heard.tells(status, told)
+    heard.reports(status, reported)
 }
 
 /// Whether the table of one record stands in a file.
@@ -88,7 +88,7 @@ where
 {
     fs::write(rt, REGISTER, ONE_RECORD)?;
     fs::write(rt, TABLE, OLDER_TEXT)?;
-    let is_quiet = is_told(rt, &["--to", "gregorian", REGISTER], 0, b"");
+    let is_quiet = is_reported(rt, &["--to", "gregorian", REGISTER], 0, b"");
     Ok(is_quiet && holds_one_row(rt, TABLE))
 }
 
@@ -101,15 +101,15 @@ where
 {
     fs::write(rt, OTHER_REGISTER, ONE_RECORD)?;
     let arguments = ["--to", "gregorian", REGISTER, OTHER_REGISTER];
-    let is_quiet = is_told(rt, &arguments, 0, b"");
+    let is_quiet = is_reported(rt, &arguments, 0, b"");
     Ok(is_quiet && holds_one_row(rt, TABLE) && holds_one_row(rt, OTHER_TABLE))
 }
 
-/// Files that are refused, and what is told.
+/// Files that are refused, and what is reported.
 #[derive(Clone, Copy)]
 struct Refused {
     files: &'static [&'static str],
-    told: &'static [u8],
+    reported: &'static [u8],
 }
 
 /// A register whose table is a link to the register itself.
@@ -127,8 +127,8 @@ where
     fs::write(rt, OWN_REGISTER, ONE_RECORD)?;
     // A link is found from the folder that it stands in.
     symlink(rt, "own.csv", OWN_TABLE)?;
-    let told = b"register: cannot make files_of_the_test/own.csv.out.csv\n";
-    let is_refused = is_told(rt, &["--to", "gregorian", OWN_REGISTER], 3, told);
+    let reported = b"register: cannot make files_of_the_test/own.csv.out.csv\n";
+    let is_refused = is_reported(rt, &["--to", "gregorian", OWN_REGISTER], 3, reported);
     Ok(is_refused && fs::read(rt, OWN_REGISTER)?.as_slice() == ONE_RECORD)
 }
 
@@ -141,29 +141,29 @@ where
     T::File: Send + Exclusive,
 {
     let arguments = ["--to", "gregorian", REGISTER];
-    let told = b"register: cannot make files_of_the_test/register.csv.out.csv\n";
+    let reported = b"register: cannot make files_of_the_test/register.csv.out.csv\n";
     fs::write(rt, TABLE, OLDER_TEXT)?;
     let keeper = OpenOptions::new().write(true).open(rt, TABLE)?;
     keeper.lock()?;
-    let is_refused = is_told(rt, &arguments, 3, told);
+    let is_refused = is_reported(rt, &arguments, 3, reported);
     let is_left = fs::read(rt, TABLE)?.as_slice() == OLDER_TEXT;
     drop(keeper);
-    Ok(is_refused && is_left && is_told(rt, &arguments, 0, b"") && holds_one_row(rt, TABLE))
+    Ok(is_refused && is_left && is_reported(rt, &arguments, 0, b"") && holds_one_row(rt, TABLE))
 }
 
 /// A folder, a file that is not there, and two names of one file.
 const REFUSED: [Refused; 3] = [
     Refused {
         files: &[FOLDER],
-        told: b"register: cannot open files_of_the_test\n",
+        reported: b"register: cannot open files_of_the_test\n",
     },
     Refused {
         files: &["files_of_the_test/none.csv"],
-        told: b"register: cannot open files_of_the_test/none.csv\n",
+        reported: b"register: cannot open files_of_the_test/none.csv\n",
     },
     Refused {
         files: &[REGISTER, SAME_REGISTER],
-        told: b"register: cannot make files_of_the_test/./register.csv.out.csv\n",
+        reported: b"register: cannot make files_of_the_test/./register.csv.out.csv\n",
     },
 ];
 
@@ -177,7 +177,7 @@ fn files_on_disk_get_their_tables(rt: HostRuntime) -> Result<(), Fail> {
     assert!(rt; is_left_to_its_keeper(&rt)?);
     for refused in &REFUSED {
         assert!(rt;
-            is_told(&rt, refused.files, 3, refused.told),
+            is_reported(&rt, refused.files, 3, refused.reported),
             "{:?}",
             refused.files
         );

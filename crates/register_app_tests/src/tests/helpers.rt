@@ -49,16 +49,16 @@ pub struct Heard<W, E> {
 }
 
 impl<W> Heard<W, Vec<u8>> {
-    /// Whether the program gave this status, and told this.
-    pub fn tells(&self, status: u8, errors: &[u8]) -> bool {
+    /// Whether the program gave this status, and reported this.
+    pub fn reports(&self, status: u8, errors: &[u8]) -> bool {
         self.status == status && self.errors.as_slice() == errors
     }
 }
 
 impl Heard<Vec<u8>, Vec<u8>> {
-    /// Whether the program gave this status, wrote this to standard output, and told this.
+    /// Whether the program gave this status, wrote this to standard output, and reported this.
     pub fn is_answer(&self, status: u8, output: &[u8], errors: &[u8]) -> bool {
-        self.tells(status, errors) && self.output.as_slice() == output
+        self.reports(status, errors) && self.output.as_slice() == output
     }
 }
 

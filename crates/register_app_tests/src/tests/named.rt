@@ -85,7 +85,7 @@ fn get_their_own(rt: &(impl Threads + Wait + Clock + CpuClock + Sync), alloc: Gl
     let Ok(heard) = hear_two(rt, alloc, &["--to=gregorian", "other.csv", "one.csv"]) else {
         return false;
     };
-    heard.tells(1, b"source 1: cause 6\n")
+    heard.reports(1, b"source 1: cause 6\n")
         && heard.outputs.len() == 2
         && heard.outputs[0].is_empty()
         && heard.outputs[1].as_slice() == ONE_ROW

@@ -7,15 +7,15 @@ use std::alloc::{AllocError, Global};
 use std::test::Fail;
 
 /// What the page says that an option is where it is not given: `comma` of "Without it: comma."
-fn told_without<'a>(page: &'a str, option: &str) -> Option<&'a str> {
+fn stated_without<'a>(page: &'a str, option: &str) -> Option<&'a str> {
     let (_, of_option) = page.split_once(option)?;
-    let (_, told) = of_option.split_once("Without it: ")?;
-    let (value, _) = told.split_once('.')?;
+    let (_, stated) = of_option.split_once("Without it: ")?;
+    let (value, _) = stated.split_once('.')?;
     Some(value)
 }
 
 /// The names of all targets that the page has, as one list of them is given.
-fn told_targets(alloc: Global) -> Result<String, AllocError> {
+fn listed_targets(alloc: Global) -> Result<String, AllocError> {
     let mut list = String::new(alloc);
     let Some((_, from_names)) = HELP.split_once("separated by commas:\n") else {
         return Ok(list);
@@ -48,11 +48,11 @@ fn are_alike(one: &Setup, other: &Setup) -> bool {
 }
 
 /// Whether an option with this value asks for the same as no option.
-fn is_usual(alloc: Global, option: &str, value: &str) -> Result<bool, AllocError> {
-    let usual = asked_by(alloc, &[])?;
+fn is_default(alloc: Global, option: &str, value: &str) -> Result<bool, AllocError> {
+    let default = asked_by(alloc, &[])?;
     let asked = asked_by(alloc, &[option, value])?;
-    match (usual, asked) {
-        (Some(usual), Some(asked)) => Ok(are_alike(&usual, &asked)),
+    match (default, asked) {
+        (Some(default), Some(asked)) => Ok(are_alike(&default, &asked)),
         _ => Ok(false),
     }
 }
@@ -60,13 +60,13 @@ fn is_usual(alloc: Global, option: &str, value: &str) -> Result<bool, AllocError
 #[test]
 fn the_page_says_what_holds_without_an_option(rt: HostRuntime) -> Result<(), Fail> {
     for option in ["--delimiter", "--ring", "--stripes"] {
-        let value = told_without(HELP, option).unwrap_or("nothing");
-        assert!(rt; is_usual(rt.alloc(), option, value)?, "{option}: {value}");
+        let value = stated_without(HELP, option).unwrap_or("nothing");
+        assert!(rt; is_default(rt.alloc(), option, value)?, "{option}: {value}");
     }
-    assert_eq!(rt; told_without(HELP, "--to"), Some("all"));
-    let targets = told_targets(rt.alloc())?;
+    assert_eq!(rt; stated_without(HELP, "--to"), Some("all"));
+    let targets = listed_targets(rt.alloc())?;
     assert!(rt;
-        is_usual(rt.alloc(), "--to", targets.as_str())?,
+        is_default(rt.alloc(), "--to", targets.as_str())?,
         "{targets}"
     );
     Ok(())

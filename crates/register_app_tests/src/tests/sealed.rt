@@ -43,7 +43,7 @@ const ENDS: [(&[u8], bool); 6] = [
     (b"END,2\nc,julian,1582-10-07,\n", false),
 ];
 
-/// Whether the entries get their table where this follows them, and are told to be whole or not sealed.
+/// Whether the entries get their table where this follows them, and are reported to be whole or not sealed.
 fn is_ended_by(
     rt: &(impl Threads + Wait + Clock + CpuClock + Sync),
     alloc: Global,

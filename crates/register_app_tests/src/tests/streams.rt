@@ -1,4 +1,4 @@
-//! What is read, opened and made, and what is told where a stream breaks.
+//! What is read, opened and made, and what is reported where a stream breaks.
 
 ghost use Rattle.std.specs.Prelude.{⊤};
 
@@ -216,7 +216,7 @@ fn hear_broken<E: Write + Drop>(
     )
 }
 
-/// Whether an input that breaks is told.
+/// Whether an input that breaks is reported.
 fn is_broken_input_told(
     rt: &(impl Threads + Wait + Clock + CpuClock + Sync),
     alloc: Global,
@@ -227,7 +227,7 @@ fn is_broken_input_told(
     heard.is_answer(1, b"", b"source 1: cause 5\n")
 }
 
-/// Whether an output that breaks is told.
+/// Whether an output that breaks is reported.
 fn is_broken_output_told(
     rt: &(impl Threads + Wait + Clock + CpuClock + Sync),
     alloc: Global,
@@ -236,7 +236,7 @@ fn is_broken_output_told(
     let Ok(heard) = hear(rt, alloc, &[], text, Broken, &NoFiles, Vec::new(alloc)) else {
         return false;
     };
-    heard.tells(1, b"source 1: cause 4\n")
+    heard.reports(1, b"source 1: cause 4\n")
 }
 
 /// Whether standard error that breaks changes neither the status nor the output.
@@ -278,7 +278,7 @@ fn hear_counted<'a>(
     hear_in_memory(rt, alloc, arguments, CountedText { counts }, &files)
 }
 
-/// Whether these arguments get help, with nothing told, read, opened or made.
+/// Whether these arguments get help, with nothing reported, read, opened or made.
 fn get_help(
     rt: &(impl Threads + Wait + Clock + CpuClock + Sync),
     alloc: Global,

@@ -85,7 +85,7 @@ fn bytes_of(stream: &Lines<Slow>) -> &[u8] {
 }
 
 /// Whether this stands on a stream after the answer to a wrong target.
-fn is_told(
+fn is_reported(
     rt: &(impl Threads + Wait + Clock + CpuClock + Sync),
     alloc: Global,
     target: &str,
@@ -116,7 +116,7 @@ fn is_shown(
         room,
         writes: 0,
     });
-    is_told(
+    is_reported(
         rt,
         alloc,
         shown.target,
@@ -140,7 +140,7 @@ fn is_as_it_is(
         room: 1000,
         writes: 0,
     });
-    is_told(rt, alloc, target, stream, line.as_bytes())
+    is_reported(rt, alloc, target, stream, line.as_bytes())
 }
 
 #[test]

@@ -2,7 +2,7 @@
 
 use crate::tests::helpers::{TextCase, assert_answers};
 
-/// A text with nothing to be told.
+/// A text with nothing to be reported.
 const TEXT: TextCase = TextCase {
     arguments: &["--to", "gregorian,julian"],
     input: b"",

@@ -31,7 +31,7 @@ unfolding before_seal
 no_seal_first Plain r rest h = refl
 no_seal_first Sealed r rest h = rw h refl
 
--- no record is before a seal that has_read first
+-- no record is before a seal that stands first
 pub seal_first : (r : Fields) (rest : List Fields) → is_seal r ≡ true → before_seal (r ∷ rest) ≡ []
 unfolding before_seal
 seal_first r rest h = rw h refl

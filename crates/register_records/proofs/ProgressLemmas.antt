@@ -12,7 +12,8 @@ use Rattle.register_records.specs.Entries.{Format, HasAllEntries, HasEntries, Ha
 use Rattle.register_records.specs.Laws.{TablesGrow}
 use Rattle.register_records.specs.Outcomes.{IsRowOf, TableRow}
 use Rattle.register_records.specs.Sources.{ArePartOfTable, Gains, IsFrontOfTable, IsTableOfAll, IsWholeTable}
-use Rattle.register_records.specs.Tables.{Layout, heading_line, journal_of, lines_text, refusal_notes, row_line, table_text}
+use Rattle.register_records.specs.Tables.{Layout, heading_line, journal_of, lines_text, refusal_notes, row_line}
+use Rattle.register_records.specs.Tables.{table_text}
 use Rattle.register_records.specs.declared.reading.EntryFault.{EntryFault}
 use Rattle.register_records.specs.declared.reading.EntryFault.TheVariants as entry
 use Rattle.register_records.specs.declared.ends.Cause.{Cause}

@@ -37,7 +37,8 @@ pub no_seal_left : (left : Option (List Fields)) (form : Form) (count : ℕ) →
 no_seal_left left form count e h = if_some left _ _ (λ records none. rw e (lacks_none count records none)) h
 
 -- what holds of every list holds of the one that is left
-pub always : (left : Option (List Fields)) (P : List Fields → Type 0) → ((records : List Fields) → P records) → IfSome left P
+pub always : (left : Option (List Fields)) (P : List Fields → Type 0) → ((records : List Fields) → P records)
+    → IfSome left P
 always None P h = tt
 always (Some records) P h = h records
 

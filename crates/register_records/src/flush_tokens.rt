@@ -7,7 +7,7 @@ use std::io;
 use std::io::Write;
 use std::snapshot::Snapshot;
 
-/// That a writer handed on what it took, as the writer was then. Only `flush_with_token` makes one, and it has no bytes.
+/// That a writer was flushed, as the writer was then. Only `flush_with_token` makes one, and it has no bytes.
 pub(crate) struct FlushToken<W> {
     writer: Snapshot<W>,
 }
@@ -25,7 +25,7 @@ impl<W> Drop for FlushToken<W> {
 /// The fault of the flush.
 pub(crate) fn flush_with_token<W: Write>(writer: &mut W) -> io::Result<FlushToken<W>>
     ensures bytes { Keeps (W.contents writer.old) (W.contents writer.new) }
-    ensures writer { IfOk result (λ handed_on. handed_on.writer.value ≡ writer.new) }
+    ensures writer { IfOk result (λ token. token.writer.value ≡ writer.new) }
 {
     writer.flush()?;
     Ok(FlushToken {

@@ -87,9 +87,9 @@ pub struct PlainOutput<W> {
     inner: W,
     failed: bool,
     // There is one where the writer was flushed and took nothing since.
-    handed_on: Option<FlushToken<W>>,
+    token: Option<FlushToken<W>>,
     mark: u32,
-    ghost of_writer: { IfSome handed_on (λ h. h.writer.value ≡ inner) } by { Prim.hlevel props },
+    ghost of_writer: { IfSome token (λ t. t.writer.value ≡ inner) } by { Prim.hlevel props },
 }
 
 impl<W: Write> PlainOutput<W> {
@@ -101,7 +101,7 @@ impl<W: Write> PlainOutput<W> {
         PlainOutput {
             inner,
             failed: false,
-            handed_on: None,
+            token: None,
             mark,
         }
     }
@@ -119,13 +119,13 @@ impl<W: Write> Output for PlainOutput<W> {
 
     ghost has_failed = { λ o. o.failed };
 
-    ghost is_flushed = { λ o. is_some o.handed_on };
+    ghost is_flushed = { λ o. is_some o.token };
 
     ghost own_mark = { λ o. o.mark };
 
     // A write that was interrupted is tried again.
     fn offer(&mut self, bytes: &[u8]) -> Result<usize, OutputFault> {
-        self.handed_on = None;
+        self.token = None;
         'tries: for _ in 0..u64::MAX {
             match self.inner.write(bytes) {
                 Ok(n) => {
@@ -146,10 +146,10 @@ impl<W: Write> Output for PlainOutput<W> {
     }
 
     fn flush_out(&mut self) -> Result<(), OutputFault> {
-        self.handed_on = None;
+        self.token = None;
         match flush_with_token(&mut self.inner) {
-            Ok(handed_on) => {
-                self.handed_on = Some(handed_on);
+            Ok(token) => {
+                self.token = Some(token);
                 Ok(())
             }
             Err(_) => {

@@ -85,7 +85,8 @@ pub struct EntryReader<R: Read> {
     ghost room: { record_limit ≤ vec_capacity given },
     ghost has_read: { ∥ HasRead (format_by delimiter form) (R.remaining source.value) state
         (records_left (inner_remaining R.remaining) records) (entries_shown given.items) ∥₁ },
-    // The entries given are the first of the text, and where the bytes of the reader are not known, those of some records.
+    // The entries given are the first of the text, and where the bytes of the reader are not known, those of some
+    // records.
     pub ghost first: { ∥ HasFirstEntries (format_by delimiter form) (R.remaining source.value)
         (entries_shown given.items) ∥₁ },
 }
@@ -258,13 +259,13 @@ impl<R: Read + Drop> EntryReader<R> {
         })
     }
 
-    /// Reads the next entry into `entry`, where the one before it may lie, and says whether there was one. At the end of
-    /// the text, and again after it, there is none. Where none was read, `entry` stays as it was.
+    /// Reads the next entry into `entry`, where the one before it may lie, and says whether there was one. At the end
+    /// of the text, and again after it, there is none. Where none was read, `entry` stays as it was.
     ///
     /// # Errors
     ///
     /// `ReadFault` where the reader returned a fault, `TooManyRecords` where 1,000,000 entries were
-    /// given and one more record that is no seal has_read in the text, `NotSealed` where a sealed text
+    /// given and one more record that is no seal stands in the text, `NotSealed` where a sealed text
     /// ends without a seal, its first seal does not agree with the number of entries, or a record
     /// follows it, and `OutOfMemory`. After a fault each further call returns `Failed` and reads nothing.
     pub fn read_next(&mut self, entry: &mut Entry) -> Result<bool, EntryFault>

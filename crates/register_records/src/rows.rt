@@ -98,7 +98,7 @@ fn reconvert(
 }
 
 impl Row {
-    ghost use Rattle.std.specs.Prelude.{◌↔◌, ◌≢◌, ◌<◌, ◌+◌, ◌∷◌, ◌++◌, [], true, IsOk, Ok, MatchOption, OnErr, OnOk};
+    ghost use Rattle.std.specs.Prelude.{◌↔◌, ◌<◌, ◌+◌, ◌∷◌, ◌++◌, [], true, IsOk, Ok, MatchOption, OnErr, OnOk};
     ghost use Rattle.std.specs.Prelude.{vec_capacity, vec_len};
     ghost use Rattle.register_records.specs.NextEntries.{ReadsNext};
     ghost use Rattle.register_records.specs.SetupRules.{is_delimiter};
@@ -123,8 +123,8 @@ impl Row {
         row
     }
 
-    /// Makes this the row of an entry for the setup's targets, where it lies, as [`convert`](crate::convert) does: a row is
-    /// large.
+    /// Makes this the row of an entry for the setup's targets, where it lies, as [`convert`](crate::convert) does: a
+    /// row is large.
     pub fn renew(&mut self, entry: &Entry, setup: &Setup)
         ensures entry { self.new.entry ≡ entry.now }
         ensures targets { row_targets self.new ≡ targets_of setup.now }

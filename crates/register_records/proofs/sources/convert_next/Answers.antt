@@ -18,8 +18,8 @@ returns-then-not-branch-clause-end g c _ =
     let kept = (rw none at reads.ends) refl in (
       refl,
       refl,
-      told_of (λ (format : Format) (text : Option (List ℕ)). HasEntries format text (given_of c.args.entries.now)) _ _ _ _
-          reads.text.0 (reads.text.1 ∙ c.requires.ready.1) (rw kept.1 at all),
+      told_of (λ (format : Format) (text : Option (List ℕ)). HasEntries format text (given_of c.args.entries.now))
+          _ _ _ _ reads.text.0 (reads.text.1 ∙ c.requires.ready.1) (rw kept.1 at all),
     )
 
 pub returns-clause-row : goal.returns-clause-row

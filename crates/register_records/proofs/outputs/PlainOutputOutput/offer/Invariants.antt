@@ -7,6 +7,6 @@ invariant-tries g l =
     record {
       kept : Keeps (g.W.Write.contents l.fn.self.inner) (g.W.Write.contents l.self.inner);
       failed : l.self.failed ≡ l.fn.self.failed;
-      none : l.self.handed_on ≡ None;
+      none : l.self.token ≡ None;
       mark : l.self.mark ≡ l.fn.self.mark;
     }

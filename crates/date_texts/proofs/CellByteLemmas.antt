@@ -1,5 +1,5 @@
 -- The bytes of cells.
-use Rattle.std.proofs.Common.{◌≡◌, ℕ, zero, suc, ◌-◌, ◌≤◌, List, [], ◌∷◌, ◌++◌, true, IsTrue, ℤ, refl}
+use Rattle.std.proofs.Common.{◌≡◌, ℕ, zero, suc, ◌≤◌, List, [], ◌∷◌, ◌++◌, true, IsTrue, ℤ, refl}
 use Rattle.std.proofs.Common.{arith}
 use Rattle.std.specs.Prelude.{codes, ◌<◌, IsAscii}
 use Rattle.std.specs.Char.{is_ascii_digit, to_ascii_lowercase}

@@ -52,6 +52,9 @@ pub fn first_of_year(year: i64) -> i64
     365 * years + leap_days(years) + 1
 }
 
+/// The fixed day number of 1 January 1970, from which jiff counts days.
+const UNIX_EPOCH: i64 = 719_163;
+
 /// The date of jiff with these numbers, where the calendar has it; the year is from -9999 to 9999.
 fn jiff_date(date: Ymd) -> Option<Date>
     requires { IsBetween (neg_ℤ (pos 9_999)) (pos 9_999) date.year }
@@ -66,7 +69,7 @@ fn number_of(date: Date) -> i64
     ensures value { result ≡ day_number_of gregorian_rules date.year date.month date.day }
     ensures in_range { IsDayNumber result }
 {
-    first_of_year(date.year() as i64) + date.day_of_year() as i64 - 1
+    date.to_plain().to_unix_epoch_day() as i64 + UNIX_EPOCH
 }
 
 /// The date of jiff on the day with this fixed day number.
@@ -74,8 +77,7 @@ fn jiff_date_on(day: i64) -> Date
     requires { IsDayNumber day }
     ensures { day_number_of gregorian_rules result.year result.month result.day ≡ day }
 {
-    // It counts days from 1 January 1970.
-    let date = jiff_core::civil::Date::from_unix_epoch_day(day - 719_163).unwrap();
+    let date = jiff_core::civil::Date::from_unix_epoch_day(day - UNIX_EPOCH).unwrap();
     Date::from_plain(date)
 }
 

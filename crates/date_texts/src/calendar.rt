@@ -7,7 +7,7 @@ ghost use Rattle.day_numbers.specs.declared.ymd.Ymd.{Ymd};
 use crate::grammar::Grammar;
 use day_numbers::{ArithmeticCalendar, DateFault, Day, Ymd};
 
-/// Matches a calendar, with the type that finds its dates as `$by`, which the long count and the Roman dates have not.
+/// Matches a calendar. `$by` is the type that finds its dates; the long count and the Roman dates have none.
 macro_rules! by_calendar {
     ($calendar:expr, $by:ident => $answer:expr, Longcount => $long:expr, Roman => $roman:expr) => {
         match $calendar {

@@ -250,9 +250,9 @@ pub misuses : (arguments : List Text) (error : Error) → HasKind (fault_of comm
 misuses arguments error (inl memory) has helps versions = absurd (has memory)
 misuses arguments error (inr among) has helps versions = inl (kind_of error, refl, among, helps, versions)
 
--- a fault of a check that comes to be told is all that the arguments mean
-pub told_just : (arguments : List Text) (told : Option Fault) (fails : Fault → Type 0) → OneTarget → IfSome told fails
+-- a fault that a check finds is all that the arguments mean
+pub found_just : (arguments : List Text) (found : Option Fault) (fails : Fault → Type 0) → OneTarget → IfSome found fails
     → ((fault : Fault) → fails fault → IsFaultOf arguments fault)
-    → IfSome told (λ fault. MeanJust arguments (wrong fault))
-told_just arguments None fails one is first = tt
-told_just arguments (Some fault) fails one is first = mean_just one arguments (wrong fault) (first fault is)
+    → IfSome found (λ fault. MeanJust arguments (wrong fault))
+found_just arguments None fails one is first = tt
+found_just arguments (Some fault) fails one is first = mean_just one arguments (wrong fault) (first fault is)

@@ -206,7 +206,7 @@ module _ (one : OneTarget) (list : List ℕ) where
   means_just meaning means other = (λ e. subst (ListMeans list) (sym e) means, λ m. one_meaning meaning other means m)
 
 -- a fault that the list means is a fault of the list
-pub told_of_list : (list : List ℕ) (told : Option Fault) → IfSome told (λ fault. ListMeansJust list (Err fault))
-    → IfSome told (IsListFault list)
-told_of_list list None just = tt
-told_of_list list (Some fault) just = (just (Err fault)).0 refl
+pub found_in_list : (list : List ℕ) (found : Option Fault) → IfSome found (λ fault. ListMeansJust list (Err fault))
+    → IfSome found (IsListFault list)
+found_in_list list None just = tt
+found_in_list list (Some fault) just = (just (Err fault)).0 refl

@@ -31,13 +31,13 @@ set_by_text false (Some t) is =
     other true never = absurd (never refl)
     other false never = refl
 
--- a fault that is told is one that the checks find
-pub found_first : (told : Option Fault) (fails : Fault → Type 0) (checks : List Check) → IfSome told fails
-    → ((fault : Fault) → fails fault → FailFirst checks fault) → IfSome told (FailFirst checks)
+-- a fault that one check finds is one that the checks find
+pub found_first : (found : Option Fault) (fails : Fault → Type 0) (checks : List Check) → IfSome found fails
+    → ((fault : Fault) → fails fault → FailFirst checks fault) → IfSome found (FailFirst checks)
 found_first None fails checks is first = tt
 found_first (Some fault) fails checks is first = first fault is
 
-pub if_some : (told : Option Fault) (fails : Fault → Type 0) → IsSomeAnd told fails → IfSome told fails
+pub if_some : (found : Option Fault) (fails : Fault → Type 0) → IsSomeAnd found fails → IfSome found fails
 if_some None fails is = tt
 if_some (Some fault) fails is = is
 
@@ -57,9 +57,9 @@ pub faults_unnamed : {V : Type 0} (option : ValueOption) (number : V → ℕ) (w
     (error : RequestFault) → ((n : ℕ) → (option_map number named ≡ Some n) ↔ option.names word n)
     → fault_of_error error ≡ Some (option.fault word)
     → IfErr (ok_or named error) (λ e. IsSomeAnd (fault_of_error e) (IsValueFault option (Some word)))
-faults_unnamed option number word (Some v) error is told = tt
-faults_unnamed option number word None error is told =
-    subst (λ fault. IsSomeAnd fault (IsValueFault option (Some word))) (sym told)
+faults_unnamed option number word (Some v) error is same = tt
+faults_unnamed option number word None error is same =
+    subst (λ fault. IsSomeAnd fault (IsValueFault option (Some word))) (sym same)
     (word, refl, refl, λ n names. none n ((is n).1 names))
   where
     none : (n : ℕ) → None ≡ Some n → ⊥

@@ -1,16 +1,14 @@
 -- What the arguments ask for fits a setup: each target once, the default ones too, since their names differ.
 use Rattle.std.proofs.Common.{◌≡◌, ◌∙◌, ◌<◌, ◌&&◌, ◌||◌, ℕ, Bool, true, false, not, List, [], ◌∷◌, length, map, sym, ap}
 use Rattle.std.proofs.Common.{refl, arith, zero, suc, Some, None, Option, Result, Err, inl, inr, true≢false}
-use Rattle.std.specs.Prelude.{◌≤◌, nat_le, slice_get}
-use Rattle.std.proofs.lemmas.Bool.{le-leb}
+use Rattle.std.specs.Prelude.{slice_get}
 use Rattle.std.specs.List.{list_any}
 use Rattle.std.specs.Str.{bytes_eq}
 use Rattle.std.proofs.lemmas.Slice.Eq.{bytes_eq-Decides}
 use Rattle.clap.proofs.WalkLemmas.{both}
 use Rattle.date_texts.specs.Calendars.{all_targets, target_name}
 use Rattle.date_texts.specs.declared.target.Target.{Target}
-use Rattle.register_records.specs.SetupRules.{NamesTwice, is_delimiter, is_ring_size, is_stripe_count, largest_ring}
-use Rattle.register_records.specs.SetupRules.{most_stripes}
+use Rattle.register_records.specs.SetupRules.{NamesTwice, is_delimiter, is_ring_size, is_stripe_count}
 use Rattle.register_records.specs.declared.setups.Setup.{Setup}
 use Rattle.register_records.specs.declared.setups.SetupFault.{SetupFault}
 use Rattle.register_records.specs.declared.setups.SetupFault.TheVariants.{TargetTwice, RingSize, Delimiter, Stripes}

@@ -154,7 +154,7 @@ task_of job = record {
   files = map (λ file. file.now) job.files.items;
 }
 
--- what an answered request stands for
+-- what a request stands for
 abbrev pub meaning_of : Request → Meaning
 meaning_of request.Help = help
 meaning_of request.Version = version

@@ -132,18 +132,8 @@ impl OptionValue for Delimiter {
 /// How many items a ring holds, by `--ring`.
 #[derive(Clone, Copy)]
 pub struct Ring {
-    size: usize,
+    pub size: usize,
     ghost fits: { is_ring_size size ≡ true },
-}
-
-impl Ring {
-    /// The number of items.
-    pub fn size(self) -> usize
-        ensures value { result ≡ self.size }
-        ensures fits { is_ring_size result ≡ true }
-    {
-        self.size
-    }
 }
 
 impl OptionValue for Ring {
@@ -170,18 +160,8 @@ impl OptionValue for Ring {
 /// How many converters a source has, by `--stripes`.
 #[derive(Clone, Copy)]
 pub struct Stripes {
-    count: usize,
+    pub count: usize,
     ghost fits: { is_stripe_count count ≡ true },
-}
-
-impl Stripes {
-    /// The number of converters.
-    pub fn count(self) -> usize
-        ensures value { result ≡ self.count }
-        ensures fits { is_stripe_count result ≡ true }
-    {
-        self.count
-    }
 }
 
 impl OptionValue for Stripes {

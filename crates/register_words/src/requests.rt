@@ -5,7 +5,7 @@ ghost use Rattle.std.specs.Prelude.{Some, option_map};
 ghost use Rattle.std.specs.Prelude.{if◌then◌else◌, unwrap_or, codes, [], false};
 ghost use Rattle.std.specs.String.{string_bytes};
 ghost use Rattle.clap.specs.Words.{FailsBy, HasKind, all_of, app_of, fault_of, found_of, matches_of, one_of};
-ghost use Rattle.clap.specs.Words.{rows_of, rule_of};
+ghost use Rattle.clap.specs.Words.{first_of, rows_of, rule_of};
 ghost use Rattle.register_words.specs.CommandLine.{AreTaken, bare_command, command_line, flag_rule, is_set, option_rule};
 ghost use Rattle.register_words.specs.CommandLine.{values_in, values_of, word_rule};
 ghost use Rattle.register_words.specs.Faults.{fault_of_error};
@@ -112,6 +112,13 @@ fn command<'a>(alloc: Global) -> Result<Command<'a>, AllocError>
         .arg(files_argument(alloc, "file", "FILE"))
 }
 
+/// The value of an option, where the arguments give one.
+fn value_given<'a>(matches: &ArgMatches<'a>, name: &str) -> Option<&'a str>
+    ensures { option_map (λ v. v.now) result ≡ first_of name.now (rows_of (found_of matches.now)) }
+{
+    matches.get_str(name)
+}
+
 /// Whether the arguments give a flag.
 fn is_given(matches: &ArgMatches<'_>, name: &str) -> bool
     ensures { result ≡ is_set (one_of name.now (rows_of (found_of matches.now))) }
@@ -149,10 +156,10 @@ fn options_found<'a>(alloc: Global, matches: &ArgMatches<'a>) -> Result<Options<
 {
     let files = files_given(alloc, matches)?;
     Ok(Options {
-        to: matches.get_str("to"),
-        ring: matches.get_str("ring"),
-        stripes: matches.get_str("stripes"),
-        delimiter: matches.get_str("delimiter"),
+        to: value_given(matches, "to"),
+        ring: value_given(matches, "ring"),
+        stripes: value_given(matches, "stripes"),
+        delimiter: value_given(matches, "delimiter"),
         sealed: is_given(matches, "sealed"),
         summary: is_given(matches, "summary"),
         files,
@@ -249,13 +256,8 @@ fn chosen_job<'a>(alloc: Global, options: Options<'a>) -> Result<Job<'a>, Reques
     let stripes = chosen::<Stripes>(options.stripes)?;
     check_files(options.files.as_slice())?;
     let form = chosen_form(options.sealed);
-    match Setup::new(
-        targets.as_slice(),
-        ring.size(),
-        delimiter.byte(),
-        stripes.count(),
-        form,
-    ) {
+    let byte = delimiter.byte();
+    match Setup::new(targets.as_slice(), ring.size, byte, stripes.count, form) {
         Ok(setup) => Ok(Job {
             setup,
             summary: options.summary,

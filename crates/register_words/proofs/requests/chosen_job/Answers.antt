@@ -15,24 +15,24 @@ use Rattle.register_words.proofs.OptionLemmas.{found_first, if_some}
 use Rattle.register_words.proofs.SetupLemmas.{asked_once, no_fault}
 use Rattle.register_words.proofs.requests.chosen_job.Goals as goal
 
--- an error tells what the first check that fails finds
-abbrev TellsFirst : Values → RequestFault → Type 0
-TellsFirst values error = IfSome (fault_of_error error) (FailFirst (value_checks values))
+-- an error is what the first check that fails finds
+abbrev IsFirst : Values → RequestFault → Type 0
+IsFirst values error = IfSome (fault_of_error error) (FailFirst (value_checks values))
 
--- where a check tells a fault, which is that of the first check that fails, the error that is passed up tells it
+-- where a check finds a fault, which is that of the first check that fails, the error that is passed up is that
 passes_fault : (result : Result Job RequestFault) (error : RequestFault) (values : Values) (fails : Fault → Type 0)
     → IsErrAnd result (λ up. up ≡ error) → IfSome (fault_of_error error) fails
-    → ((fault : Fault) → fails fault → FailFirst (value_checks values) fault) → IfErr result (TellsFirst values)
-passes_fault result error values fails up told first =
-    passed_up result error (TellsFirst values) up
-    (found_first (fault_of_error error) fails (value_checks values) told first)
+    → ((fault : Fault) → fails fault → FailFirst (value_checks values) fault) → IfErr result (IsFirst values)
+passes_fault result error values fails up found first =
+    passed_up result error (IsFirst values) up
+    (found_first (fault_of_error error) fails (value_checks values) found first)
 
--- and so it is where a check always tells one
+-- and so it is where a check always finds one
 passes_found : (result : Result Job RequestFault) (error : RequestFault) (values : Values) (fails : Fault → Type 0)
     → IsErrAnd result (λ up. up ≡ error) → IsSomeAnd (fault_of_error error) fails
-    → ((fault : Fault) → fails fault → FailFirst (value_checks values) fault) → IfErr result (TellsFirst values)
-passes_found result error values fails up told =
-    passes_fault result error values fails up (if_some (fault_of_error error) fails told)
+    → ((fault : Fault) → fails fault → FailFirst (value_checks values) fault) → IfErr result (IsFirst values)
+passes_found result error values fails up found =
+    passes_fault result error values fails up (if_some (fault_of_error error) fails found)
 
 pub returns-in_err-targets-clause-fault : goal.returns-in_err-targets-clause-fault
 returns-in_err-targets-clause-fault c =
@@ -68,10 +68,10 @@ returns-in_err-stripes-clause-fault c =
 
 pub returns-in_err-check_files-clause-fault : goal.returns-in_err-check_files-clause-fault
 returns-in_err-check_files-clause-fault c =
-    let told = subst (λ (files : List Text). IsSomeAnd (fault_of_error c.in_err-check_files.field-0.0) (IsFileFault files))
+    let found = subst (λ (files : List Text). IsSomeAnd (fault_of_error c.in_err-check_files.field-0.0) (IsFileFault files))
     (ap (map (λ f. f.now)) c.as_slice.ensures.value) c.in_err-check_files.ensures.fault in
     passes_found c.from_residual-in_err-check_files.result c.in_err-check_files.field-0.0 (values_by c.args.options) _
-    c.from_residual-in_err-check_files.ensures.1 told
+    c.from_residual-in_err-check_files.ensures.1 found
     (λ fault is. inr (
       (c.in_ok-targets.targets.items, c.in_ok-targets.ensures.value),
       inr (
@@ -90,12 +90,10 @@ returns-clause-asked c =
     record {
       targets = subst (AreTargetsOf values.to) (sym (fields.0 ∙ c.as_slice-2.ensures.value))
           c.in_ok-targets.ensures.value;
-      ring = subst (IsValueOf ring_option values.ring) (sym (fields.1 ∙ c.size.ensures.value))
-          c.in_ok-ring.ensures.value;
-      delimiter = subst (IsValueOf delimiter_option values.delimiter) (sym (fields.2 ∙ c.byte.ensures.value))
+      ring = subst (IsValueOf ring_option values.ring) (sym fields.1) c.in_ok-ring.ensures.value;
+      delimiter = subst (IsValueOf delimiter_option values.delimiter) (sym (fields.2 ∙ c.byte-byte.ensures.value))
           c.in_ok-delimiter.ensures.value;
-      stripes = subst (IsValueOf stripes_option values.stripes) (sym (fields.3 ∙ c.count.ensures.value))
-          c.in_ok-stripes.ensures.value;
+      stripes = subst (IsValueOf stripes_option values.stripes) (sym fields.3) c.in_ok-stripes.ensures.value;
       form = fields.4 ∙ c.chosen_form-form.ensures;
       summary = refl;
       files = refl;
@@ -106,7 +104,7 @@ returns-clause-asked c =
 pub unreachable-requires : goal.unreachable-requires
 unreachable-requires c =
     let once = rw (sym c.as_slice-2.ensures.value) at (asked_once _ _ c.in_ok-targets.ensures.value) in
-    no_fault c.new.result c.in-Err.field-0 _ c.size.result c.byte.result c.count.result c.in-Err.is once
-    c.size.ensures.fits c.byte.ensures.fits c.new.ensures.twice.0
-    (λ e. (c.new.ensures.ring_size.0 e).1) (λ e. (c.new.ensures.delimiter.0 e).2) c.count.ensures.fits
+    no_fault c.new.result c.in-Err.field-0 _ c.in_ok-ring.ring.size c.byte-byte.result c.in_ok-stripes.stripes.count
+    c.in-Err.is once c.in_ok-ring.ring.fits c.byte-byte.ensures.fits c.new.ensures.twice.0
+    (λ e. (c.new.ensures.ring_size.0 e).1) (λ e. (c.new.ensures.delimiter.0 e).2) c.in_ok-stripes.stripes.fits
     (λ e. (c.new.ensures.stripes.0 e).3)

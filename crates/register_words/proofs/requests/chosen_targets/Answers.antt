@@ -2,7 +2,7 @@
 use Rattle.std.proofs.Common.{refl, Ok}
 use Rattle.std.proofs.lemmas.Result.{IfErr-weaker, IfOk-weaker}
 use Rattle.register_words.specs.Faults.{fault_of_error}
-use Rattle.register_words.proofs.ListLemmas.{told_of_list}
+use Rattle.register_words.proofs.ListLemmas.{found_in_list}
 use Rattle.register_words.proofs.requests.chosen_targets.Goals as goal
 
 pub returns-in-Some-clause-value : goal.returns-in-Some-clause-value
@@ -13,4 +13,4 @@ returns-in-Some-clause-value c =
 pub returns-in-Some-clause-fault : goal.returns-in-Some-clause-fault
 returns-in-Some-clause-fault c =
     rw c.in-Some.is (IfErr-weaker c.read_targets.result _ _
-    (λ refusal told. told_of_list c.in-Some.list.now (fault_of_error refusal) told) c.read_targets.ensures.fault)
+    (λ refusal found. found_in_list c.in-Some.list.now (fault_of_error refusal) found) c.read_targets.ensures.fault)

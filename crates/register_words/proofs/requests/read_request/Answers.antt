@@ -9,7 +9,7 @@ use Rattle.register_words.specs.Requests.{task_of, values_by}
 use Rattle.register_words.specs.Requests.{Ask, FailFirst, MeanJust, help, table, value_checks, version, wrong}
 use Rattle.register_words.specs.declared.request_faults.RequestFault.{RequestFault}
 use Rattle.register_words.specs.declared.requests.Request.{Request}
-use Rattle.register_words.proofs.ArgumentLemmas.{asks_help, asks_version, mean_just, misuses, told_just}
+use Rattle.register_words.proofs.ArgumentLemmas.{asks_help, asks_version, mean_just, misuses, found_just}
 use Rattle.register_words.proofs.requests.read_request.Goals as goal
 
 pub returns-in-DisplayHelp-clause-asked : goal.returns-in-DisplayHelp-clause-asked
@@ -38,9 +38,9 @@ returns-in_default c =
 pub returns-in_err-job-clause-refused : goal.returns-in_err-job-clause-refused
 returns-in_err-job-clause-refused c =
     let arguments = map string_bytes c.args.arguments.now in
-    let told = fault_of_error c.in_err-job.field-0.0 in
-    let is : IfSome told (λ fault. MeanJust arguments (wrong fault))
-    = told_just arguments told (FailFirst (value_checks (values_by c.in-Ok.options))) c.one_target.ensures
+    let found = fault_of_error c.in_err-job.field-0.0 in
+    let is : IfSome found (λ fault. MeanJust arguments (wrong fault))
+    = found_just arguments found (FailFirst (value_checks (values_by c.in-Ok.options))) c.one_target.ensures
     c.in_err-job.ensures.fault
     (λ fault at. inr (
       c.in-Ok.ensures.taken,

@@ -1,6 +1,6 @@
 -- What asking a reader for the next entry gives.
 use Rattle.std.specs.Prelude.{◌≡◌, ◌≢◌, ◌+◌, ◌≤◌, ◌++◌, ◌∷◌, [], Bool, true, false, length, IfErr, IfSome, OnErr}
-use Rattle.std.specs.Prelude.{Result, Ok, is_err}
+use Rattle.std.specs.Prelude.{Err, None, Ok, Option, Result, Some, is_err}
 use Rattle.std.specs.declared.io.traits.Read.{Ghosts}
 use Rattle.register_records.specs.Entries.{HasAllEntries, HasEntries, HasTooMany, IsNotSealed, record_limit}
 use Rattle.register_records.specs.Seen.{entry_seen}
@@ -32,3 +32,10 @@ pub record ReadsNext {R : Type 0} {g : Ghosts R} (old new : EntryReader R g) (en
   pub fails : reader_failed new ≡ is_err result
   pub only_failed : reader_failed old ≡ false → IfErr result (λ e. e ≢ fault.Failed)
   pub no_header : IfErr result (λ e. e ≢ fault.BadHeader)
+
+-- the next entry is returned, or there was none at the end of the text, or a fault
+abbrev pub ReturnsNext : {R : Type 0} {g : Ghosts R} → EntryReader R g → EntryReader R g
+    → Result (Option Entry) EntryFault → Type 0
+ReturnsNext old new (Ok (Some entry)) = ReadsNext old new entry (Ok true)
+ReturnsNext old new (Ok None) = (entry : Entry) → ReadsNext old new entry (Ok false)
+ReturnsNext old new (Err fault) = (entry : Entry) → ReadsNext old new entry (Err fault)

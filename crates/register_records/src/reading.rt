@@ -211,7 +211,7 @@ fn read_entry<R: Read>(
 
 impl<R: Read + Drop> EntryReader<R> {
     ghost use Rattle.register_records.specs.Entries.{HasNoHeader};
-    ghost use Rattle.register_records.specs.NextEntries.{ReadsNext};
+    ghost use Rattle.register_records.specs.NextEntries.{ReadsNext, ReturnsNext};
     ghost use Rattle.register_records.specs.Views.{format_of, given_of, reader_ended, reader_failed, reads_by, text_of};
     ghost use Rattle.register_records.specs.declared.reading.EntryFault.TheVariants.{Failed, NotSealed, TooManyRecords};
 
@@ -291,5 +291,24 @@ impl<R: Read + Drop> EntryReader<R> {
             Err(_) => self.state = ReaderState::Failed,
         }
         found
+    }
+
+    /// The next entry, or `None` at the end of the text, and again after it: `read_next` into an entry of its own.
+    ///
+    /// # Errors
+    ///
+    /// Those of `read_next`.
+    pub fn next(&mut self) -> Result<Option<Entry>, EntryFault>
+        ensures reads { ReturnsNext self.old self.new result }
+        ensures ended { reader_ended self.old ≡ true → (result ≡ Ok None) × (self.new ≡ self.old) }
+        ensures failed { reader_failed self.old ≡ true → (result ≡ Err EntryFault.Failed) × (self.new ≡ self.old) }
+        ensures read_fault { IfErr result (λ e. e ≡ EntryFault.ReadFault → has_failed self.new.records ≡ true) }
+    {
+        let mut entry = Entry::blank();
+        match self.read_next(&mut entry) {
+            Ok(true) => Ok(Some(entry)),
+            Ok(false) => Ok(None),
+            Err(fault) => Err(fault),
+        }
     }
 }

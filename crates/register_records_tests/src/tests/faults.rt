@@ -160,15 +160,13 @@ fn a_fault_of_reading_is_told_but_not_after_one_of_writing(rt: HostRuntime) -> R
 /// Whether a reader gives one entry, of number 1, meets a fault, and has failed from then on.
 fn fails_after_one(alloc: Global) -> Result<bool, Fail> {
     let mut entries = EntryReader::open(alloc, cut_text(alloc, WEEK_DATE)?, &plain(&[])?)?;
-    let mut entry = Entry::blank();
-    let first = entries.read_next(&mut entry);
-    let second = entries.read_next(&mut entry);
-    let third = entries.read_next(&mut entry);
+    let Ok(Some(entry)) = entries.next() else {
+        return Ok(false);
+    };
     Ok(
-        first == Ok(true)
-            && entry.number() == 1
-            && second == Err(EntryFault::ReadFault)
-            && third == Err(EntryFault::Failed),
+        entry.number() == 1
+            && entries.next().err() == Some(EntryFault::ReadFault)
+            && entries.next().err() == Some(EntryFault::Failed),
     )
 }
 

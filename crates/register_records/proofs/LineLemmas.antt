@@ -233,7 +233,7 @@ pub two_names : (form : Form) (ts : List Target) → 2 ≤ length (heading form 
 two_names Plain ts = omega arith
 two_names Sealed ts = omega arith
 
--- what stands in the columns of a tail tells nothing of the entry
+-- what stands in the columns of a tail does not depend on the entry
 cell_fields : (row : TableRow) (place : ℕ) (ts : List Target)
     → map (λ (c : Column). c.field row) (cell_columns place ts)
     ≡ map (λ (c : Column). c.field (row_with row.outcome row.cells)) (cell_columns place ts)

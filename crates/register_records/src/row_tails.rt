@@ -51,8 +51,8 @@ pub(crate) struct RowTail {
     ghost plain: { take len buffer ≡ fields_text (writing delimiter) (fields_behind delimiter (take len buffer)) },
 }
 
-/// Writes what stands in the column of a target, which is nothing for a refused row, to the front of a cell's room, and
-/// says how many bytes it has.
+/// Writes what stands in the column of a target, which is nothing for a refused row, to the front of a cell's room.
+/// Returns how many bytes it has.
 #[inline(always)]
 fn write_field(room: &mut [u8], target: Target, outcome: Result<Day, Refusal>) -> u8
     requires { MAX_CELL ≤ length room.old }

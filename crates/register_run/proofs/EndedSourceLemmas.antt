@@ -1,7 +1,7 @@
 -- What is known of a source that has ended.
 use Rattle.std.proofs.Common.{◌≡◌, ◌≢◌, ◌∙◌, ap, refl, sym, subst, ℕ, List, [], ◌∷◌, ◌++◌, length, Option, None, Some}
 use Rattle.std.proofs.Common.{◌≤◌, inl, inr, arith, append-nil, length-append, map, ◌+◌, true, false, Bool}
-use Rattle.std.specs.Prelude.{Err, IfErr, IfOk, IfSome, Ok, Result}
+use Rattle.std.specs.Prelude.{Err, IfErr, IfOk, IfSome, Ok}
 use Rattle.std.specs.Option.{is_some}
 use Rattle.std.specs.List.{Contains, range_with_len}
 use Rattle.std.specs.Io.KnownBytes.{Appends, append_known}
@@ -16,7 +16,6 @@ use Rattle.register_records.specs.declared.rows.Row.{Row}
 use Rattle.register_records.specs.declared.setups.Form.TheVariants.{Sealed}
 use Rattle.register_records.specs.declared.ends.Cause.{Cause}
 use Rattle.register_records.specs.declared.ends.Cause.TheVariants as cause
-use Rattle.register_records.specs.declared.ends.Note.{Note}
 use Rattle.register_records.specs.declared.ends.SourceEnd.{SourceEnd}
 use Rattle.register_records.specs.declared.ends.SourceEnd.TheVariants as end
 use Rattle.register_records.specs.declared.writing.RowWriter.{RowWriter}

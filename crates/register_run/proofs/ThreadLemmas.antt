@@ -1,7 +1,7 @@
 -- What is known of the threads of a source, by how it ended.
-use Rattle.std.proofs.Common.{◌≡◌, ◌≢◌, ◌⊎◌, ◌∙◌, ◌≤◌, ◌<◌, ℕ, zero, suc, List, [], ◌∷◌, Option, Some, ap, arith}
-use Rattle.std.proofs.Common.{inl, inr, length, map, refl, replicate, subst, sym, true, Bool}
-use Rattle.std.specs.Prelude.{All, Err, IfSome, None, Ok, Result, nat_le}
+use Rattle.std.proofs.Common.{◌≡◌, ◌⊎◌, ◌∙◌, ◌≤◌, ◌<◌, ℕ, zero, suc, List, [], ◌∷◌, ap, arith}
+use Rattle.std.proofs.Common.{inl, inr, length, map, refl, replicate, subst, sym, true}
+use Rattle.std.specs.Prelude.{All, Err, IfSome, None, Ok, nat_le}
 use Rattle.std.proofs.lemmas.Bool.{leb-true}
 use Rattle.std.proofs.lemmas.List.Elements.{All-cons}
 use Rattle.register_records.specs.Sources.{IfBroken, IfWhole, cause_number}

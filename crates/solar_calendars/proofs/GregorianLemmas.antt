@@ -12,7 +12,7 @@ use Rattle.day_numbers.proofs.SignedArithmeticLemmas.{signed_arith}
 use Rattle.solar_calendars.specs.TwelveMonths.{twelve_months}
 use Rattle.solar_calendars.specs.Gregorian.{gregorian_rules, is_gregorian_leap}
 use Rattle.jiff_core.specs.Calendar.{is_leap_year, days_in_year, days_in_month, days_of_months, day_count}
-use Rattle.jiff_core.specs.Calendar.{days_from_civil, IsDate, IsEpochDay}
+use Rattle.jiff_core.specs.Calendar.{days_from_civil, IsDate}
 use Rattle.jiff_core.specs.declared.civil.date.Date.{Date}
 use Rattle.jiff_core.specs.Date.{epoch_day, ordinal}
 use Rattle.jiff_core.proofs.DateLemmas.{epoch_day_range}

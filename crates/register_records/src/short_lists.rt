@@ -8,11 +8,7 @@ use date_texts::{MAX_TARGETS, Target};
 use day_numbers::Day;
 use std::alloc::AllocError;
 
-<<<<<<< HEAD
 /// At most as many items as there are targets, in order. Behind them stand blanks.
-=======
-/// At most as many items as there are targets, in order. What lies behind them in the buffer does not matter.
->>>>>>> 3fdc66f (Say in plain words what two buffers hold and what a function returns)
 pub struct ShortList<T: Copy> {
     items: [T; MAX_TARGETS],
     count: u8,

@@ -1,7 +1,7 @@
 -- A schedule with enough rounds pops all rows.
 use Rattle.std.proofs.Common.{◌≡◌, ◌<◌, ◌≤◌, ◌+◌, ◌*◌, ◌-◌, ◌++◌, ◌∙◌, ℕ, zero, suc, List, [], ◌∷◌, length, inl, inr}
 use Rattle.std.proofs.Common.{refl, sym, subst, ap, arith}
-use Rattle.std.specs.Prelude.{Contains, map, take}
+use Rattle.std.specs.Prelude.{Contains, map}
 use Rattle.std.proofs.lemmas.Bool.{cases_lt}
 use Rattle.std.proofs.lemmas.List.{length-map, take_all}
 use Rattle.std.proofs.lemmas.Nat.{mod_below}
@@ -13,7 +13,7 @@ use Rattle.striped_lanes.proofs.ActLemmas.{act_stays_or_steps}
 use Rattle.striped_lanes.proofs.InvariantLemmas.{Kept, progress}
 use Rattle.striped_lanes.proofs.NextActLemmas.{goes_on}
 use Rattle.striped_lanes.proofs.ScheduleLemmas.{kept_at_start, went}
-use Rattle.striped_lanes.proofs.StateLemmas.{all_count, popped_count, popped_in_order, progress_bound}
+use Rattle.striped_lanes.proofs.StateLemmas.{popped_in_order, progress_bound}
 
 module _ {E R : Type 0} (w : World E R) (h : 0 < w.converters) where
   run_append : (xs ys : List Actor) (s : State E R) → run w (xs ++ ys) s ≡ run w ys (run w xs s)

@@ -49,7 +49,11 @@ fn push_target_names(lines: &mut CsvLines, targets: &[Target]) -> Result<(), All
 }
 
 /// Appends what heads a column of a tail: its name, or for the cells those of their targets.
-fn push_names(lines: &mut CsvLines, column: TailColumn, targets: &[Target]) -> Result<(), AllocError>
+fn push_names(
+    lines: &mut CsvLines,
+    column: TailColumn,
+    targets: &[Target],
+) -> Result<(), AllocError>
     ensures value { OnOk result (GainsFields (tail_names targets.now column) lines.old lines.new) }
     ensures kept { line_delimiter lines.new ≡ line_delimiter lines.old }
     ensures capacity { line_capacity lines.old ≤ line_capacity lines.new }

@@ -43,14 +43,22 @@ pub invariant_of-result : goal.invariant_of-result
 invariant_of-result c = record {
   ascii = λ is.
       let at = ascii_at c.is_ascii-is_ascii.result c.args.csv_record.now.ends c.args.csv_record.now.bytes
-      (rw (← c.as_slice.ensures) c.is_ascii-is_ascii.ensures.cases) is in
-      (at 0 _ c.in_ok-id.ensures.value, at 1 _ c.in_ok-calendar.ensures.value, at 2 _ c.in_ok-date.ensures.value,
-      IsAscii-nil) }
+      (rw (← c.as_slice.ensures) c.is_ascii-is_ascii.ensures.cases) is in (
+        at 0 _ c.in_ok-id.ensures.value,
+        at 1 _ c.in_ok-calendar.ensures.value,
+        at 2 _ c.in_ok-date.ensures.value,
+        IsAscii-nil,
+      );
+}
 
 pub invariant_of-result-in-Sealed : goal.invariant_of-result-in-Sealed
 invariant_of-result-in-Sealed c = record {
   ascii = λ is.
       let at = ascii_at c.is_ascii-is_ascii.result c.args.csv_record.now.ends c.args.csv_record.now.bytes
-      (rw (← c.as_slice.ensures) c.is_ascii-is_ascii.ensures.cases) is in
-      (at 0 _ c.in_ok-id.ensures.value, at 1 _ c.in_ok-calendar.ensures.value, at 2 _ c.in_ok-date.ensures.value,
-      at 3 _ c.in_ok-get-in-Sealed.ensures.value) }
+      (rw (← c.as_slice.ensures) c.is_ascii-is_ascii.ensures.cases) is in (
+        at 0 _ c.in_ok-id.ensures.value,
+        at 1 _ c.in_ok-calendar.ensures.value,
+        at 2 _ c.in_ok-date.ensures.value,
+        at 3 _ c.in_ok-get-in-Sealed.ensures.value,
+      );
+}

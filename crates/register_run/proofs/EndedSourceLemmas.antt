@@ -39,7 +39,7 @@ use Rattle.register_run.specs.Headline.{IsAllOfTable, IsSourceEnd, causes_of_rea
 use Rattle.register_run.specs.Histories.{Carries, IsMachineWithTable}
 use Rattle.register_run.specs.JoinedThreads.{HasGoodOutput, HasPassed, IsGiven, IsOfGiven, is_of_reading}
 use Rattle.register_run.specs.JoinedThreads.{speaks_of_text}
-use Rattle.register_run.specs.TablesWritten.{AllSent, Holds, Stands, entries_seen, rows_seen, waiting_of}
+use Rattle.register_run.specs.TablesWritten.{AllSent, Holds, IsTableSoFar, entries_seen, rows_seen, waiting_of}
 use Rattle.register_run.proofs.FrontLemmas.{first_of_first, front_all, rows_front}
 
 -- rows that were made for these targets are the rows of their entries
@@ -86,12 +86,12 @@ not_true true h = absurd (h refl)
 not_true false h = refl
 
 nothing_so : {W : Type 0} (o : outputs.Ghosts W) (layout : Layout) (given output : W) (w : Option RowWriter)
-    (rows : List Row) → is_some w ≡ false → Stands o layout given output w rows → (output ≡ given) × (rows ≡ [])
+    (rows : List Row) → is_some w ≡ false → IsTableSoFar o layout given output w rows → (output ≡ given) × (rows ≡ [])
 nothing_so o layout given output None rows e h = h
 nothing_so o layout given output (Some w) rows e h = absurd (cc)
 
 table_so : {W : Type 0} (o : outputs.Ghosts W) (layout : Layout) (given output : W) (w : Option RowWriter)
-    (rows : List Row) → is_some w ≡ true → waiting_of w ≡ [] → Stands o layout given output w rows
+    (rows : List Row) → is_some w ≡ true → waiting_of w ≡ [] → IsTableSoFar o layout given output w rows
     → Appends (o.contents given) (o.contents output) (table_text layout (rows_seen rows)) × (o.is_flushed output ≡ true)
 table_so o layout given output None rows e none h = absurd (cc)
 table_so o layout given output (Some w) rows e none h = (

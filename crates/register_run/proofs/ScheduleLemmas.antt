@@ -3,7 +3,7 @@ use Rattle.std.proofs.Common.{◌≡◌, ◌+◌, ◌*◌, ◌≤◌, ℕ, List,
 use Rattle.std.specs.Prelude.{Option, if◌then◌else◌, nat_lt}
 use Rattle.date_texts.specs.declared.target.Target.{Target}
 use Rattle.striped_lanes.specs.Machine.{Actor, start}
-use Rattle.striped_lanes.specs.Places.{AreNumberedFrom, ArePoppedInOrder, KeepNumbers}
+use Rattle.striped_lanes.specs.Places.{HaveNumbersFrom, ArePoppedInOrder, KeepNumbers}
 use Rattle.striped_lanes.specs.Schedules.{AtMostChange, run, standing}
 use Rattle.striped_lanes.proofs.NumberLemmas.{numbered_front}
 use Rattle.striped_lanes.proofs.EndLemmas as ends
@@ -17,13 +17,13 @@ use Rattle.register_run.specs.EveryScheduleLaw.{EachStandsOnce, Ends, GoesOn, Is
 use Rattle.register_run.specs.Worlds.{World, numbers}
 
 numbered_if : (b : Bool) (k : ℕ) (x : Numbered) (entries : List Numbered) → x.number ≡ k
-    → AreNumberedFrom numbers (k + 1) entries → AreNumberedFrom numbers k (if b then x ∷ entries else [])
+    → HaveNumbersFrom numbers (k + 1) entries → HaveNumbersFrom numbers k (if b then x ∷ entries else [])
 numbered_if true k x entries first rest = (first, rest)
 numbered_if false k x entries first rest = tt
 
 -- the entries of a text are numbered from 1, and their rows have their numbers
 entries_numbered : (form : Form) (k : ℕ) (records : List Fields)
-    → AreNumberedFrom numbers (k + 1) (entries_from form k records)
+    → HaveNumbersFrom numbers (k + 1) (entries_from form k records)
 unfolding entries_from
 entries_numbered form k [] = tt
 entries_numbered form k (r ∷ records) =
@@ -31,7 +31,7 @@ entries_numbered form k (r ∷ records) =
     (entries_from form (k + 1) records) refl (entries_numbered form (k + 1) records)
 
 first_entries_numbered : (format : Format) (text : Option (List ℕ)) (entries : List Numbered)
-    → HasFirstEntries format text entries → AreNumberedFrom numbers 1 entries
+    → HasFirstEntries format text entries → HaveNumbersFrom numbers 1 entries
 first_entries_numbered format text entries (rest, (records, has, are)) =
     numbered_front numbers 1 entries rest
     (rw (← are) at (entries_numbered format.form 0 (entry_records format.form records)))
@@ -43,7 +43,7 @@ rows_keep_numbers targets w (x ∷ entries) h = (h.0.number, rows_keep_numbers t
 
 module _ (format : Format) (targets : List Target) (text : Option (List ℕ)) (w : World) (schedule : List Actor)
     (h : IsWorldOf format targets text w) where
-  numbered : AreNumberedFrom numbers 1 w.entries
+  numbered : HaveNumbersFrom numbers 1 w.entries
   numbered = first_entries_numbered format text w.entries h.entries
 
   same_numbers : KeepNumbers numbers w w.entries

@@ -17,7 +17,7 @@ use Rattle.register_records.specs.Seen.{entry_seen}
 use Rattle.register_records.specs.Tables.{Layout, heading_line, journal_of, lines_text, refusal_notes, row_line}
 use Rattle.register_records.specs.Tables.{table_text}
 use Rattle.register_records.specs.Views.{line_of, row_seen, row_targets, waiting_in, writes_by}
-use Rattle.register_run.specs.TablesWritten.{Stands, entries_seen, rows_seen}
+use Rattle.register_run.specs.TablesWritten.{IsTableSoFar, entries_seen, rows_seen}
 use Rattle.register_run.proofs.GivenLemmas.{numbered_more}
 use Rattle.register_run.proofs.ItemLemmas.{only}
 
@@ -50,16 +50,16 @@ no_notes = refl
 
 -- no heading was written
 pub stands_none : {W : Type 0} (o : outputs.Ghosts W) (layout : Layout) (given output : W) (w : Option RowWriter)
-    (rows : List Row) → is_some w ≡ false → Stands o layout given output w rows → Stands o layout given output None rows
+    (rows : List Row) → is_some w ≡ false → IsTableSoFar o layout given output w rows → IsTableSoFar o layout given output None rows
 stands_none o layout given output None rows e h = h
 stands_none o layout given output (Some w) rows e h = absurd (cc)
 
 module _ {W : Type 0} (o : outputs.Ghosts W) (layout : Layout) (given : W) where
   -- the heading was written
-  pub stands_headed : (output new : W) (w : RowWriter) (rows : List Row) → Stands o layout given output None rows
+  pub stands_headed : (output new : W) (w : RowWriter) (rows : List Row) → IsTableSoFar o layout given output None rows
       → Appends (o.contents output) (o.contents new) (heading_line layout)
       → o.is_flushed new ≡ true → writes_by w ≡ layout.format → waiting_in w ≡ []
-      → Stands o layout given new (Some w) rows
+      → IsTableSoFar o layout given new (Some w) rows
   stands_headed output new w rows h wrote flushed by none = (
     (let lines : lines_text layout (rows_seen rows) ≡ [] = ap (λ (r : List Row). lines_text layout (rows_seen r)) h.1
         ∙ no_lines layout in
@@ -71,9 +71,9 @@ module _ {W : Type 0} (o : outputs.Ghosts W) (layout : Layout) (given : W) where
 
   -- a line waits behind the others
   pub stands_more : (output : W) (w new : RowWriter) (rows : List Row) (row : Row) → TablesGrow
-      → Stands o layout given output (Some w) rows → waiting_in new ≡ waiting_in w ++ line_of w row
+      → IsTableSoFar o layout given output (Some w) rows → waiting_in new ≡ waiting_in w ++ line_of w row
       → writes_by new ≡ writes_by w → row_targets row ≡ layout.targets
-      → Stands o layout given output (Some new) (rows ++ row ∷ [])
+      → IsTableSoFar o layout given output (Some new) (rows ++ row ∷ [])
   stands_more output w new rows row grow h more by targets =
       let line : line_of w row ≡ row_line layout (row_seen row) =
       ap (λ f. row_line (record { format = f; targets = row_targets row }) (row_seen row)) h.2

@@ -28,9 +28,9 @@ waiting_of (Some w) = waiting_in w
 
 -- before the heading nothing was written and no row was added; from then on, what the output has gained and then what
 -- waits are the table of these rows
-abbrev pub Stands : {W : Type 0} → outputs.Ghosts W → Layout → W → W → Option RowWriter → List Row → Type 0
-Stands o layout given output None rows = (output ≡ given) × (rows ≡ [])
-Stands o layout given output (Some w) rows =
+abbrev pub IsTableSoFar : {W : Type 0} → outputs.Ghosts W → Layout → W → W → Option RowWriter → List Row → Type 0
+IsTableSoFar o layout given output None rows = (output ≡ given) × (rows ≡ [])
+IsTableSoFar o layout given output (Some w) rows =
     Appends (o.contents given) (append_known (o.contents output) (waiting_in w)) (table_text layout (rows_seen rows))
     × (o.is_flushed output ≡ true) × (writes_by w ≡ layout.format)
 
@@ -50,7 +50,7 @@ module _ {W : Type 0} {o : outputs.Ghosts W} where
   -- failed, and the journal is theirs
   pub record Holds (table : TableWriter W o) (rows : List Row) : Type 0 where
     pub stands : output_failed table.course ≡ false
-        → Stands o (layout_of table.setup) table.given.value table.output table.writer rows
+        → IsTableSoFar o (layout_of table.setup) table.given.value table.output table.writer rows
     pub numbered : AreNumberedFrom 1 (entries_seen rows)
     pub counted : length rows ≡ table.rows
     pub targets : (row : Row) → Contains rows row → row_targets row ≡ targets_of table.setup

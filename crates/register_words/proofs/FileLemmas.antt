@@ -8,11 +8,11 @@ use Rattle.std.proofs.lemmas.List.{map_more, take-map}
 use Rattle.std.proofs.lemmas.Slice.Eq.{bytes_eq-Decides}
 use Rattle.clap.specs.Words.{Text}
 use Rattle.register_words.specs.Faults.{Fault, file_twice}
-use Rattle.register_words.specs.Requests.{AreFilesToConvert, IsFileFault, IsFirstTwice, IsNamedTwice}
+use Rattle.register_words.specs.Requests.{AreFilesToConvert, IsFileFault, IsFirstFileTwice, IsNamedTwice}
 use Rattle.register_words.proofs.ListLemmas.{Meet, meet}
 
 -- the first file that was named before is named twice
-pub first_is_twice : (files : List Text) (file : Text) → IsFirstTwice files file → IsNamedTwice files file
+pub first_is_twice : (files : List Text) (file : Text) → IsFirstFileTwice files file → IsNamedTwice files file
 first_is_twice files file first = record {
   before = first.before;
   after = first.after;
@@ -21,7 +21,7 @@ first_is_twice files file first = record {
 }
 
 -- no file comes before the first
-pub one_first : (files : List Text) (file other : Text) → IsFirstTwice files file → IsFirstTwice files other
+pub one_first : (files : List Text) (file other : Text) → IsFirstFileTwice files file → IsFirstFileTwice files other
     → file ≡ other
 one_first files file other x y = decide (meet x.before file x.after y.before other y.after (sym x.cut ∙ y.cut))
   where
@@ -106,7 +106,7 @@ module _ (files : List (Bor Text)) (place : ℕ) (d : Bor Text) (inside : place 
     (once : (other : Text) → ¬ IsNamedTwice (take place (map (λ f. f.now) files)) other) where
   -- the first file that is among those before it
   pub first_at : list_any (λ f. bytes_eq f.now (slice_index_or files place d).now) (take place files) ≡ true
-      → IsFirstTwice (map (λ f. f.now) files) (slice_index_or files place d).now
+      → IsFirstFileTwice (map (λ f. f.now) files) (slice_index_or files place d).now
   first_at among =
       let file = (slice_index_or files place d).now in
       record {

@@ -8,7 +8,7 @@ use Rattle.date_texts.specs.Names.{IsNamed}
 use Rattle.date_texts.specs.declared.target.Target.{Target}
 use Rattle.register_records.specs.SetupRules.{NamesTwice}
 use Rattle.register_words.specs.Faults.{Fault, unknown_target, target_twice}
-use Rattle.register_words.specs.OptionValues.{AreNamesOf, AsksForTargets, IsFirstTwice, IsFirstUnknown, IsListFault}
+use Rattle.register_words.specs.OptionValues.{AreNamesOf, AsksForTargets, IsFirstTargetTwice, IsFirstUnknown, IsListFault}
 use Rattle.register_words.specs.OptionValues.{ListMeans, ListMeansJust, names_in}
 
 get_left : (earlier : List Target) (target : Target) (rest : List Target) (i : ℕ) → i < length earlier
@@ -128,7 +128,7 @@ module _ (one : OneTarget) (list : List ℕ) where
       past_unknown fault.1.before name fault.1.after targets
       (subst (λ names. AreNamesOf names targets) fault.1.cut asks.1) fault.2
 
-  no_twice : (targets : List Target) (target : Target) → AsksForTargets list targets → IsFirstTwice list target → ⊥
+  no_twice : (targets : List Target) (target : Target) → AsksForTargets list targets → IsFirstTargetTwice list target → ⊥
   no_twice targets target (inl none) fault = fault.2.names_some none.0
   no_twice targets target (inr asks) fault =
       let stands = fault.2 in
@@ -162,7 +162,7 @@ module _ (one : OneTarget) (list : List ℕ) where
       decide (inr (inr last)) = absurd (past_unknown y.1.before other last.0 x.0
           (subst (λ names. AreNamesOf names x.0) last.1 x.1.named) y.2)
 
-  unknown_and_twice : (name : List ℕ) (target : Target) → IsFirstUnknown list name → IsFirstTwice list target → ⊥
+  unknown_and_twice : (name : List ℕ) (target : Target) → IsFirstUnknown list name → IsFirstTargetTwice list target → ⊥
   unknown_and_twice name target x y = decide (meet x.1.before name x.1.after y.2.before y.1 y.2.after
       (sym x.1.cut ∙ y.2.cut))
     where
@@ -174,7 +174,7 @@ module _ (one : OneTarget) (list : List ℕ) where
           x.1.once (past_twice one y.2.before y.1 last.0 y.0 x.0 target
           (subst (λ names. AreNamesOf names x.0) last.1 x.1.named) y.2.named y.3 y.4)
 
-  two_twice : (target other : Target) → IsFirstTwice list target → IsFirstTwice list other
+  two_twice : (target other : Target) → IsFirstTargetTwice list target → IsFirstTargetTwice list other
       → target ≡ other
   two_twice target other x y = decide (meet x.2.before x.1 x.2.after y.2.before y.1 y.2.after (sym x.2.cut ∙ y.2.cut))
     where

@@ -47,8 +47,8 @@ IsFirstUnknown list name =
     (earlier : List Target) × StandsBehind list earlier name × ((target : Target) → ¬ IsNamed name (target_name target))
 
 -- the first name at fault names this target, which was named before
-abbrev pub IsFirstTwice : List ℕ → Target → Type 0
-IsFirstTwice list target =
+abbrev pub IsFirstTargetTwice : List ℕ → Target → Type 0
+IsFirstTargetTwice list target =
     (earlier : List Target) × (name : List ℕ) × StandsBehind list earlier name × IsNamed name (target_name target)
     × Contains earlier target
 
@@ -56,7 +56,7 @@ IsFirstTwice list target =
 abbrev pub IsListFault : List ℕ → Fault → Type 0
 IsListFault list fault =
     ((name : List ℕ) × (fault ≡ unknown_target name) × IsFirstUnknown list name)
-    ⊎ ((target : Target) × (fault ≡ target_twice target) × IsFirstTwice list target)
+    ⊎ ((target : Target) × (fault ≡ target_twice target) × IsFirstTargetTwice list target)
 
 -- what a list means: the targets that it asks for, or what is wrong with it
 abbrev pub ListMeans : List ℕ → Result (List Target) Fault → Type 0

@@ -40,7 +40,7 @@ pub record IsNamedTwice (files : List Text) (file : Text) : Type 0 where
   pub named : Contains before file
 
 -- the first file from the left that was named before
-pub record IsFirstTwice (files : List Text) (file : Text) : Type 0 where
+pub record IsFirstFileTwice (files : List Text) (file : Text) : Type 0 where
   pub before : List Text
   pub after : List Text
   pub cut : files ≡ before ++ file ∷ after
@@ -91,7 +91,7 @@ IsTargetFault (Some list) fault = IsListFault list fault
 abbrev pub IsFileFault : List Text → Fault → Type 0
 IsFileFault files fault =
     ((fault ≡ too_many_files) × (most_files < length files))
-    ⊎ ((file : Text) × (fault ≡ file_twice file) × (length files ≤ most_files) × IsFirstTwice files file)
+    ⊎ ((file : Text) × (fault ≡ file_twice file) × (length files ≤ most_files) × IsFirstFileTwice files file)
 
 -- the checks of the arguments, of the targets, of a value, and of the files
 abbrev pub usage_check : List Text → Check

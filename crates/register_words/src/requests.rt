@@ -9,7 +9,7 @@ ghost use Rattle.clap.specs.Words.{first_of, rows_of, rule_of};
 ghost use Rattle.register_words.specs.CommandLine.{AreTaken, bare_command, command_line, flag_rule, is_set, option_rule};
 ghost use Rattle.register_words.specs.CommandLine.{values_in, values_of, word_rule};
 ghost use Rattle.register_words.specs.Faults.{fault_of_error};
-ghost use Rattle.register_words.specs.Requests.{AreFilesToConvert, AreTargetsOf, Ask, FailFirst, IsFileFault, IsFirstTwice};
+ghost use Rattle.register_words.specs.Requests.{AreFilesToConvert, AreTargetsOf, Ask, FailFirst, IsFileFault, IsFirstFileTwice};
 ghost use Rattle.register_words.specs.Requests.{IsNamedTwice, IsTargetFault, MeanJust};
 ghost use Rattle.register_words.specs.Requests.{meaning_of, value_checks};
 ghost use Rattle.register_words.specs.Requests.{task_of, values_by, wrong};
@@ -208,7 +208,7 @@ fn chosen_form(sealed: bool) -> Form
 
 /// The first file from the left that was named before, or `None` where each is named once.
 fn file_named_twice<'a>(files: &[&'a str]) -> Option<&'a str>
-    ensures first { IfSome result (λ file. IsFirstTwice (map (λ f. f.now) files.now) file.now) }
+    ensures first { IfSome result (λ file. IsFirstFileTwice (map (λ f. f.now) files.now) file.now) }
     ensures none { IfNone result ((file : List ℕ) → ¬ (IsNamedTwice (map (λ f. f.now) files.now) file)) }
 {
     'places: for place in 0..files.len() {

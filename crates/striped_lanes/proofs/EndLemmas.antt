@@ -7,7 +7,7 @@ use Rattle.std.proofs.lemmas.List.{length-map, take_all}
 use Rattle.std.proofs.lemmas.Nat.{mod_below}
 use Rattle.striped_lanes.specs.Machine.{World, State, Actor, Reader, Converter, Writer, act, start}
 use Rattle.striped_lanes.specs.Schedules.{Changes, HasRounds, IsRound, run}
-use Rattle.striped_lanes.specs.Places.{AreNumberedFrom, KeepNumbers, HasToMove, Numbers, in_converter, in_entry_lane}
+use Rattle.striped_lanes.specs.Places.{HaveNumbersFrom, KeepNumbers, HasToMove, Numbers, in_converter, in_entry_lane}
 use Rattle.striped_lanes.specs.Places.{in_row_lane, not_pushed, stripe_of, table_rows}
 use Rattle.striped_lanes.proofs.ActLemmas.{act_stays_or_steps}
 use Rattle.striped_lanes.proofs.InvariantLemmas.{Kept, progress}
@@ -56,7 +56,7 @@ module _ {E R : Type 0} (w : World E R) (h : 0 < w.converters) where
   named numbers round all s k Writer (in_row_lane stands) = all.writer
 
 module _ {E R : Type 0} (numbers : Numbers E R) (w : World E R) (some_converters : 0 < w.converters)
-    (some_room : 0 < w.ring) (numbered : AreNumberedFrom numbers 1 w.entries)
+    (some_room : 0 < w.ring) (numbered : HaveNumbersFrom numbers 1 w.entries)
     (same_numbers : KeepNumbers numbers w w.entries) where
   -- a round takes an entry forward, unless all rows are popped
   round_moves : (s : State E R) → Kept w s → (round : List Actor) → IsRound w round

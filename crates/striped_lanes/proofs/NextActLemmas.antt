@@ -5,7 +5,7 @@ use Rattle.std.specs.Prelude.{◌%◌, map, option_to_list, slice_get}
 use Rattle.std.proofs.lemmas.List.{nil_from_length}
 use Rattle.striped_lanes.specs.Machine.{World, State, Actor, Reader, Converter, Writer, act, turn}
 use Rattle.striped_lanes.specs.Schedules.{Changes}
-use Rattle.striped_lanes.specs.Places.{AreNumberedFrom, KeepNumbers, Numbers, EntryLane, InConverter, RowLane, GoesOn}
+use Rattle.striped_lanes.specs.Places.{HaveNumbersFrom, KeepNumbers, Numbers, EntryLane, InConverter, RowLane, GoesOn}
 use Rattle.striped_lanes.specs.Places.{HasToMove, not_pushed, in_entry_lane, in_converter, in_row_lane, stripe_of}
 use Rattle.striped_lanes.specs.Places.{times_at}
 use Rattle.striped_lanes.proofs.ActLemmas.{reader_steps, popping_converter_steps, pushing_converter_steps, writer_steps}
@@ -21,7 +21,7 @@ not_empty [] h = absurd (omega arith)
 not_empty (x ∷ xs) h = (x, xs, refl)
 
 module _ {E R : Type 0} (numbers : Numbers E R) (w : World E R) (some_converters : 0 < w.converters)
-    (some_room : 0 < w.ring) (s : State E R) (v : Kept w s) (numbered : AreNumberedFrom numbers 1 w.entries)
+    (some_room : 0 < w.ring) (s : State E R) (v : Kept w s) (numbered : HaveNumbersFrom numbers 1 w.entries)
     (same_numbers : KeepNumbers numbers w w.entries) where
   -- the entry of the next row goes through the stripe whose turn it is
   next_stripe : stripe_of w (length s.popped + 1) ≡ turn w (length s.popped)
@@ -122,7 +122,7 @@ module _ {E R : Type 0} (numbers : Numbers E R) (w : World E R) (some_converters
       let popped = popped_count w some_converters s v in
       let first : part c i d v.between ≡ x ∷ part c i (d + 1) more =
       ap (part c i d) e ∙ part_own c i d x more (ap (λ (n : ℕ). n % c) (sym popped)) in
-      let from_one : AreNumberedFrom numbers 1 (v.done ++ (x ∷ (more ++ v.left))) =
+      let from_one : HaveNumbersFrom numbers 1 (v.done ++ (x ∷ (more ++ v.left))) =
       rw e at (rw v.entries at numbered) in
       let number : numbers.of_entry x ≡ k =
       omega (arith, popped, (numbered_rest numbers 1 v.done (x ∷ (more ++ v.left)) from_one).0) in

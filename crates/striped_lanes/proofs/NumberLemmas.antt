@@ -6,7 +6,7 @@ use Rattle.std.proofs.lemmas.Bool.{cases_eq, eq-eqb, ne_eqb}
 use Rattle.std.proofs.lemmas.List.{map-append}
 use Rattle.std.proofs.lemmas.List.Sums.{sum_by-append, sum_by-cons}
 use Rattle.striped_lanes.specs.Machine.{World}
-use Rattle.striped_lanes.specs.Places.{AreNumberedFrom, KeepNumbers, Numbers}
+use Rattle.striped_lanes.specs.Places.{HaveNumbersFrom, KeepNumbers, Numbers}
 use Rattle.striped_lanes.proofs.PartLemmas.{part, part_own, part_other}
 
 -- how often a number stands in a list
@@ -38,24 +38,24 @@ module _ {E R : Type 0} (numbers : Numbers E R) where
   times_cons_other k x xs n = let e = rw (ne_eqb (numbers.of_entry x) k n) at (times_cons k x xs) in omega (arith, e)
 
   -- numbered entries in two pieces
-  pub numbered_front : (k : ℕ) (xs ys : List E) → AreNumberedFrom numbers k (xs ++ ys) → AreNumberedFrom numbers k xs
+  pub numbered_front : (k : ℕ) (xs ys : List E) → HaveNumbersFrom numbers k (xs ++ ys) → HaveNumbersFrom numbers k xs
   numbered_front k [] ys h = tt
   numbered_front k (x ∷ xs) ys h = (h.0, numbered_front (k + 1) xs ys h.1)
 
-  pub numbered_rest : (k : ℕ) (xs ys : List E) → AreNumberedFrom numbers k (xs ++ ys)
-      → AreNumberedFrom numbers (k + length xs) ys
+  pub numbered_rest : (k : ℕ) (xs ys : List E) → HaveNumbersFrom numbers k (xs ++ ys)
+      → HaveNumbersFrom numbers (k + length xs) ys
   numbered_rest k [] ys h = let e : k + 0 ≡ k = omega arith in rw e h
   numbered_rest k (x ∷ xs) ys h =
       let e : k + suc (length xs) ≡ k + 1 + length xs = omega arith in
       rw e (numbered_rest (k + 1) xs ys h.1)
 
   -- a number below the first stands nowhere, and each number from the first to the last stands once
-  times_below : (k first : ℕ) (xs : List E) → AreNumberedFrom numbers first xs → k < first → times k xs ≡ 0
+  times_below : (k first : ℕ) (xs : List E) → HaveNumbersFrom numbers first xs → k < first → times k xs ≡ 0
   times_below k first [] h l = refl
   times_below k first (x ∷ xs) h l =
       times_cons_other k x xs (λ e. omega (arith, e, h.0)) ∙ times_below k (first + 1) xs h.1 (omega arith)
 
-  pub times_once : (k first : ℕ) (xs : List E) → AreNumberedFrom numbers first xs → first ≤ k → k < first + length xs
+  pub times_once : (k first : ℕ) (xs : List E) → HaveNumbersFrom numbers first xs → first ≤ k → k < first + length xs
       → times k xs ≡ 1
   times_once k first [] h low high = absurd (omega arith)
   times_once k first (x ∷ xs) h low high =
@@ -69,7 +69,7 @@ module _ {E R : Type 0} (numbers : Numbers E R) where
       ]
 
   -- a number stands in its own stripe's part as often as among all
-  pub times_own_part : (c i k d : ℕ) (xs : List E) → AreNumberedFrom numbers (d + 1) xs → 1 ≤ k → (k - 1) % c ≡ i
+  pub times_own_part : (c i k d : ℕ) (xs : List E) → HaveNumbersFrom numbers (d + 1) xs → 1 ≤ k → (k - 1) % c ≡ i
       → times k (part c i d xs) ≡ times k xs
   times_own_part c i k d [] h some own = refl
   times_own_part c i k d (x ∷ xs) h some own =
@@ -86,7 +86,7 @@ module _ {E R : Type 0} (numbers : Numbers E R) where
       ]
 
   -- and in no other part
-  pub times_other_part : (c i k d : ℕ) (xs : List E) → AreNumberedFrom numbers (d + 1) xs → 1 ≤ k
+  pub times_other_part : (c i k d : ℕ) (xs : List E) → HaveNumbersFrom numbers (d + 1) xs → 1 ≤ k
       → ((k - 1) % c ≡ i → ⊥) → times k (part c i d xs) ≡ 0
   times_other_part c i k d [] h some n = refl
   times_other_part c i k d (x ∷ xs) h some n =

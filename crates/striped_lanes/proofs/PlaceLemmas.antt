@@ -5,7 +5,7 @@ use Rattle.std.specs.Prelude.{◌⊎◌, map, option_to_list}
 use Rattle.std.proofs.lemmas.Bool.{cases_eq}
 use Rattle.striped_lanes.specs.Machine.{World, State}
 use Rattle.striped_lanes.specs.Places.{Place, EntryLane, InConverter, RowLane, Popped, EachStandsOnce, Numbers}
-use Rattle.striped_lanes.specs.Places.{AreNumberedFrom, KeepNumbers, StandsOnlyAt, stripe_of, times_at}
+use Rattle.striped_lanes.specs.Places.{HaveNumbersFrom, KeepNumbers, StandsOnlyAt, stripe_of, times_at}
 use Rattle.striped_lanes.proofs.InvariantLemmas.{Kept}
 use Rattle.striped_lanes.proofs.NumberLemmas.{keep_front, keep_part, keep_rest, numbered_front}
 use Rattle.striped_lanes.proofs.NumberLemmas.{numbered_rest, row_numbers, times, times_append, times_in, times_once}
@@ -71,7 +71,7 @@ one_of_four zero zero (suc c) d h = inr (inr (inl (omega arith)))
 one_of_four zero zero zero d h = inr (inr (inr (omega arith)))
 
 module _ {E R : Type 0} (numbers : Numbers E R) (w : World E R) (s : State E R) (v : Kept w s)
-    (numbered : AreNumberedFrom numbers 1 w.entries) (same_numbers : KeepNumbers numbers w w.entries) where
+    (numbered : HaveNumbersFrom numbers 1 w.entries) (same_numbers : KeepNumbers numbers w w.entries) where
   all_same_numbers : KeepNumbers numbers w (v.done ++ (v.between ++ v.left))
   all_same_numbers = rw v.entries at same_numbers
 
@@ -111,12 +111,12 @@ module _ {E R : Type 0} (numbers : Numbers E R) (w : World E R) (s : State E R) 
   stands_in k some pushed =
       let i = stripe_of w k in
       let pushed_entries = v.done ++ v.between in
-      let from_one : AreNumberedFrom numbers 1 (v.done ++ (v.between ++ v.left)) = rw v.entries at numbered in
-      let here : AreNumberedFrom numbers (length v.done + 1) (v.between ++ v.left) =
+      let from_one : HaveNumbersFrom numbers 1 (v.done ++ (v.between ++ v.left)) = rw v.entries at numbered in
+      let here : HaveNumbersFrom numbers (length v.done + 1) (v.between ++ v.left) =
       let e : length v.done + 1 ≡ 1 + length v.done = omega arith in
       rw e (numbered_rest numbers 1 v.done (v.between ++ v.left) from_one) in
       let between_numbered = numbered_front numbers (length v.done + 1) v.between v.left here in
-      let front_numbered : AreNumberedFrom numbers 1 pushed_entries =
+      let front_numbered : HaveNumbersFrom numbers 1 pushed_entries =
       numbered_front numbers 1 pushed_entries v.left (rw append_assoc from_one) in
       let in_front : k < 1 + length pushed_entries =
       omega (arith, pushed, v.pushed, length-append v.done v.between) in

@@ -3,7 +3,7 @@ use Rattle.std.proofs.Common.{◌≡◌, ◌<◌, ◌≤◌, ◌+◌, ◌*◌, �
 use Rattle.std.proofs.Common.{refl, sym, subst, ap, arith}
 use Rattle.striped_lanes.specs.Machine.{World, State, Actor, act, start}
 use Rattle.striped_lanes.specs.Schedules.{AtMostChange, HasChanges, at_end, change, idle, run, standing}
-use Rattle.striped_lanes.specs.Places.{AreNumberedFrom, ArePoppedInOrder, EachStandsOnce, GoesOn, KeepNumbers, Numbers}
+use Rattle.striped_lanes.specs.Places.{HaveNumbersFrom, ArePoppedInOrder, EachStandsOnce, GoesOn, KeepNumbers, Numbers}
 use Rattle.striped_lanes.proofs.ActLemmas.{act_stays_or_steps}
 use Rattle.striped_lanes.proofs.InvariantLemmas.{Kept, progress, steps_change, weight}
 use Rattle.striped_lanes.proofs.NextActLemmas.{goes_on}
@@ -60,7 +60,7 @@ no_progress {E} {R} w =
     omega (arith, total_zero w.converters (λ i. weight (s.stripes i)) (λ i. omega arith))
 
 module _ {E R : Type 0} (numbers : Numbers E R) (w : World E R) (some_converters : 0 < w.converters)
-    (some_room : 0 < w.ring) (numbered : AreNumberedFrom numbers 1 w.entries)
+    (some_room : 0 < w.ring) (numbered : HaveNumbersFrom numbers 1 w.entries)
     (same_numbers : KeepNumbers numbers w w.entries) (schedule : List Actor) where
   reached : Went w schedule start
   reached = went w some_converters schedule start (kept_at_start w)

@@ -73,9 +73,9 @@ module _ {E R : Type 0} (numbers : Numbers E R) where
       → (actor : Actor) × HasToMove w s (length s.popped + 1) actor × Changes w actor s
 
   -- these entries are numbered in order, the first with this number
-  abbrev pub AreNumberedFrom : ℕ → List E → Type 0
-  AreNumberedFrom k [] = ⊤
-  AreNumberedFrom k (entry ∷ entries) = (numbers.of_entry entry ≡ k) × AreNumberedFrom (k + 1) entries
+  abbrev pub HaveNumbersFrom : ℕ → List E → Type 0
+  HaveNumbersFrom k [] = ⊤
+  HaveNumbersFrom k (entry ∷ entries) = (numbers.of_entry entry ≡ k) × HaveNumbersFrom (k + 1) entries
 
   -- the rows of these entries have their numbers
   abbrev pub KeepNumbers : World E R → List E → Type 0

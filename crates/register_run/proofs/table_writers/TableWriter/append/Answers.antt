@@ -3,7 +3,7 @@ use Rattle.register_records.specs.Seen.{entry_seen}
 use Rattle.register_records.specs.Tables.{refusal_notes}
 use Rattle.register_records.specs.Views.{layout_of, row_seen, row_targets, targets_of}
 use Rattle.register_records.specs.declared.rows.Row.{Row}
-use Rattle.register_run.specs.TablesWritten.{Stands}
+use Rattle.register_run.specs.TablesWritten.{IsTableSoFar}
 use Rattle.register_run.proofs.TableLemmas.{counted_row, noted_row, numbered_row, stands_more, targets_row}
 use Rattle.register_run.proofs.table_writers.TableWriter.append.Goals as goal
 
@@ -14,7 +14,7 @@ returns-clause-rows g c = λ rows h.
       stands =
           λ dry. stands_more g.W.Output layout old.given.value old.output c.in-Some.writer c.add.new.self rows row
           c.tables_grow.ensures
-          (subst (λ w. Stands g.W.Output layout old.given.value old.output w rows) c.in-Some.is (h.stands dry))
+          (subst (λ w. IsTableSoFar g.W.Output layout old.given.value old.output w rows) c.in-Some.is (h.stands dry))
           c.in-Ok-add.ensures.ok c.add.ensures.by c.requires.targets;
       numbered = numbered_row rows row old.rows h.numbered h.counted c.requires.number;
       counted = counted_row rows row old.rows h.counted ∙ sym c.requires.number ∙ sym next;

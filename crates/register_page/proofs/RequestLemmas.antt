@@ -5,10 +5,12 @@ use Rattle.std.specs.List.{slice_get, take-map}
 use Rattle.std.proofs.lemmas.List.{length-map, length-take, map-append, take_all, take_more, take_more_set}
 use Rattle.date_texts.specs.Calendars.{all_targets}
 use Rattle.date_texts.specs.declared.target.Target.{Target}
+use Rattle.date_texts.specs.declared.target.TheConstants.{MAX_TARGETS}
 use Rattle.date_texts.specs.declared.target.Target.TheVariants.{Tzolkin}
 use Rattle.date_texts.specs.Laws.{FewTargets}
 use Rattle.register_records.specs.SetupRules.{NamesTwice}
 use Rattle.register_page.specs.Requests.{targets_at}
+use Rattle.register_page.specs.declared.requests.TheConstants.{TOO_MANY}
 
 pub one_more : (columns : List ℕ) (targets : List Target) (i : ℕ) (x : Target) → i < length columns
     → i < length targets → x ≡ get_or all_targets (get_or columns i 0) Tzolkin
@@ -36,18 +38,18 @@ twice_in_front n targets (i, j, lt, below, same) =
       sym (in_front n targets i (omega arith)) ∙ same ∙ in_front n targets j below,
     )
 
-pub names_twice : (columns : List ℕ) (firsts : List Target) → firsts ≡ targets_at (take 15 columns)
+pub names_twice : (columns : List ℕ) (firsts : List Target) → firsts ≡ targets_at (take TOO_MANY columns)
     → NamesTwice firsts → NamesTwice (targets_at columns)
 names_twice columns firsts is twice =
-    twice_in_front 15 (targets_at columns) (subst NamesTwice (is ∙ sym (take-map _ 15 columns)) twice)
+    twice_in_front TOO_MANY (targets_at columns) (subst NamesTwice (is ∙ sym (take-map _ TOO_MANY columns)) twice)
 
 -- where the first, one more than there are targets, are all different, they are all
-pub names_once : FewTargets → (columns : List ℕ) (firsts : List Target) → firsts ≡ targets_at (take 15 columns)
+pub names_once : FewTargets → (columns : List ℕ) (firsts : List Target) → firsts ≡ targets_at (take TOO_MANY columns)
     → ¬ (NamesTwice firsts) → (firsts ≡ targets_at columns) × ¬ (NamesTwice (targets_at columns))
 names_once few columns firsts is once =
-    let low : length firsts ≤ 14 = few firsts (λ i j lt below same. once (i, j, lt, below, same)) in
-    let long : length firsts ≡ length (take 15 columns) = ap length is ∙ length-map (take 15 columns) _ in
-    let all : take 15 columns ≡ columns =
-    take_all 15 columns (omega (arith, low, long, length-take 15 columns)) in
+    let low : length firsts ≤ MAX_TARGETS = few firsts (λ i j lt below same. once (i, j, lt, below, same)) in
+    let long : length firsts ≡ length (take TOO_MANY columns) = ap length is ∙ length-map (take TOO_MANY columns) _ in
+    let all : take TOO_MANY columns ≡ columns =
+    take_all TOO_MANY columns (omega (arith, low, long, length-take TOO_MANY columns)) in
     let whole : firsts ≡ targets_at columns = is ∙ ap targets_at all in
     (whole, λ twice. once (subst NamesTwice (sym whole) twice))

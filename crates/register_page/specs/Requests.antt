@@ -1,5 +1,5 @@
 -- What is asked of a table.
-use Rattle.std.specs.Prelude.{ℕ, Bool, List, nat_le, map, get_or, if◌then◌else◌}
+use Rattle.std.specs.Prelude.{ℕ, Bool, List, length, nat_le, map, get_or, if◌then◌else◌}
 use Rattle.std.specs.List.{list_any}
 use Rattle.date_texts.specs.Calendars.{all_targets}
 use Rattle.date_texts.specs.declared.target.Target.{Target}
@@ -10,9 +10,9 @@ use Rattle.register_records.specs.declared.setups.Form.TheVariants.{Plain, Seale
 use Rattle.register_page.specs.declared.requests.Fault.{Fault}
 use Rattle.register_page.specs.declared.requests.Fault.TheVariants.{ColumnTwice, Delimiter, NoSuchColumn}
 
--- one of these places, from 0, has none of the fourteen targets
+-- one of these places, from 0, is past the end of the list of all targets
 abbrev pub goes_beyond : List ℕ → Bool
-goes_beyond columns = list_any (λ place. nat_le 14 place) columns
+goes_beyond columns = list_any (λ place. nat_le (length all_targets) place) columns
 
 -- the targets at these places of the list of all
 abbrev pub targets_at : List ℕ → List Target

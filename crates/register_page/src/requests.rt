@@ -2,9 +2,11 @@
 
 ghost use Rattle.std.specs.Prelude.{◌≡◌, ◌<◌, ◌≤◌, get_or, true, false, length, take, IfOk, IfErr};
 ghost use Rattle.date_texts.specs.Calendars.{all_targets};
+ghost use Rattle.date_texts.specs.declared.target.TheConstants.{MAX_TARGETS};
 ghost use Rattle.register_records.specs.SetupRules.{NamesTwice, is_delimiter};
 ghost use Rattle.register_records.specs.Views.{layout_of};
 ghost use Rattle.register_page.specs.Requests.{form_by, goes_beyond, layout_by, targets_at};
+ghost use Rattle.register_page.specs.declared.requests.TheConstants.{TOO_MANY};
 
 use date_texts::laws::{default_targets, few_targets};
 use date_texts::{MAX_TARGETS, Target};
@@ -13,7 +15,7 @@ use register_records::{Form, Setup, SetupFault};
 /// Why nothing is converted: the first of these that applies.
 #[derive(Clone, Copy, PartialEq, Eq, Debug)]
 pub enum Fault {
-    /// A column has a place above 13.
+    /// A column has a place past the end of the list of all targets.
     NoSuchColumn,
     /// A column is named twice.
     ColumnTwice,
@@ -52,7 +54,7 @@ fn goes_beyond_all(columns: &[u8]) -> bool
 
 /// The target of a column.
 fn target_at(column: u8) -> Target
-    requires { column < 14 }
+    requires { column < MAX_TARGETS }
     ensures { result ≡ get_or all_targets column Target.Tzolkin }
 {
     default_targets();
@@ -65,8 +67,8 @@ const TOO_MANY: usize = MAX_TARGETS + 1;
 /// Sets the first targets to those of the columns, as far as there is room, and says how many they are.
 fn set_targets(targets: &mut [Target; TOO_MANY], columns: &[u8]) -> usize
     requires { goes_beyond columns.now ≡ false }
-    ensures few { result ≤ 15 }
-    ensures value { take result targets.new ≡ targets_at (take 15 columns.now) }
+    ensures few { result ≤ TOO_MANY }
+    ensures value { take result targets.new ≡ targets_at (take TOO_MANY columns.now) }
 {
     let count = usize::min(columns.len(), TOO_MANY);
     'columns: for i in 0..count {

@@ -1,6 +1,7 @@
 use Rattle.std.proofs.Common.{◌≡◌, ◌<◌, ◌∙◌, ap, arith, length, min, refl, take}
 use Rattle.std.proofs.lemmas.List.{length-set, take_min}
 use Rattle.register_page.specs.Requests.{targets_at}
+use Rattle.register_page.specs.declared.requests.TheConstants.{TOO_MANY}
 use Rattle.register_page.proofs.RequestLemmas.{one_more}
 use Rattle.register_page.proofs.requests.set_targets.Goals as goal
 
@@ -20,7 +21,7 @@ columns-preserved c =
 pub returns-clause-value : goal.returns-clause-value
 returns-clause-value c =
     let end : c.columns.i ≡ c.min-count.result = omega arith in
-    let few : c.min-count.result ≡ min 15 (length c.args.columns.now) = omega (arith, c.min-count.ensures) in
+    let few : c.min-count.result ≡ min TOO_MANY (length c.args.columns.now) = omega (arith, c.min-count.ensures) in
     rw end at c.columns.invariant.placed
     ∙ ap (λ n. targets_at (take n c.args.columns.now)) few
-    ∙ ap targets_at (take_min 15 c.args.columns.now)
+    ∙ ap targets_at (take_min TOO_MANY c.args.columns.now)

@@ -78,7 +78,7 @@ fn rows_tell_their_parts_and_are_small(rt: HostRuntime) -> Result<(), Fail> {
     assert!(rt; tells_its_parts(&row, &setup, &other));
     let row = renewed_row(last, &plain(&[ISO, JULIAN, ROMAN])?, &setup);
     assert!(rt; tells_its_parts(&row, &setup, &other));
-    assert!(rt; size_of::<Entry>() == 216 && size_of::<Row>() == 536);
+    assert!(rt; size_of::<Entry>() == 216 && size_of::<Row>() == 544);
     Ok(())
 }
 

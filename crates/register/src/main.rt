@@ -7,7 +7,7 @@
 use register_app::answer;
 use register_files::{Destination, Disk, LoggedWriter, Source, lines_to};
 use register_records::PlainOutput;
-use register_words::MEMORY_FAULT;
+use register_arguments::MEMORY_FAULT;
 use std::fs::OpenOptions;
 use std::process::ExitCode;
 use std::rt::{Env, Files};

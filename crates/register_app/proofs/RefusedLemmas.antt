@@ -4,9 +4,9 @@ use Rattle.std.specs.Prelude.{◌↔◌, IfSome}
 use Rattle.std.specs.Option.{option_map_or}
 use Rattle.std.specs.Io.KnownBytes.{Appends}
 use Rattle.clap.specs.Words.{Text}
-use Rattle.register_words.specs.Faults.{Fault, program_line}
-use Rattle.register_words.specs.Requests.{AreWrong, IsFaultOf, MeanJust, Meaning, wrong}
-use Rattle.register_words.specs.declared.request_faults.RequestFault.TheVariants as request_fault
+use Rattle.register_arguments.specs.Faults.{Fault, program_line}
+use Rattle.register_arguments.specs.Requests.{AreWrong, IsFaultOf, MeanJust, Meaning, wrong}
+use Rattle.register_arguments.specs.declared.request_faults.RequestFault.TheVariants as request_fault
 use Rattle.register_app.specs.Answers.{IsReported}
 use Rattle.register_app.specs.declared.refusals.Refusal.TheVariants as refusal
 

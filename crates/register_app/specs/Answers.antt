@@ -14,10 +14,10 @@ use Rattle.register_run.specs.declared.reports.Verdict.TheVariants.{Complete}
 use Rattle.register_files.specs.Openings.{AreMade, AreNotSources, AreOpened, AreTwoFiles}
 use Rattle.register_app.specs.Refusals.{IsOfAsked, fault_of_refusal, line_of_refusal, status_of_refusal}
 use Rattle.register_app.specs.Reports.{lines_from}
-use Rattle.register_words.specs.Requests.{IsFaultOf, MeanJust, Task, help, table, version}
-use Rattle.register_words.specs.declared.help.TheConstants.{HELP, PRINT_FAULT}
+use Rattle.register_arguments.specs.Requests.{IsFaultOf, MeanJust, Task, help, table, version}
+use Rattle.register_arguments.specs.declared.help.TheConstants.{HELP, PRINT_FAULT}
 use Rattle.register_app.specs.declared.refusals.Refusal.{Refusal}
-use Rattle.register_words.specs.declared.requests.TheConstants.{VERSION}
+use Rattle.register_arguments.specs.declared.requests.TheConstants.{VERSION}
 
 -- the line on the version
 abbrev pub version_line : List ℕ

@@ -1,7 +1,7 @@
 -- Why nothing is done, and what standard error gets of it.
 use Rattle.std.specs.Prelude.{◌≡◌, ◌++◌, ℕ, List, codes, IfSome, Option, Some, None, slice_get}
-use Rattle.register_words.specs.Faults.{Fault, error_line, fault_of_error, program_line, status_of_fault}
-use Rattle.register_words.specs.Requests.{MeanJust, Task, table}
+use Rattle.register_arguments.specs.Faults.{Fault, error_line, fault_of_error, program_line, status_of_fault}
+use Rattle.register_arguments.specs.Requests.{MeanJust, Task, table}
 use Rattle.register_files.specs.Openings.{missing_file}
 use Rattle.register_files.specs.declared.opening.FileFault.TheVariants as file_fault
 use Rattle.register_app.specs.declared.refusals.Refusal.{Refusal}

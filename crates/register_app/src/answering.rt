@@ -10,8 +10,8 @@ ghost use Rattle.register_records.specs.Sources.{is_whole_end};
 ghost use Rattle.register_files.specs.Openings.{AreMade, IsFresh, IsNewlyMade};
 ghost use Rattle.register_app.specs.Refusals.{IsOfAsked, fault_of_refusal, status_of_refusal};
 ghost use Rattle.register_app.specs.Reports.{lines_from};
-ghost use Rattle.register_words.specs.Faults.{program_line};
-ghost use Rattle.register_words.specs.Requests.{AreWrong, IsFaultOf, MeanJust, Task, most_files, table, task_of};
+ghost use Rattle.register_arguments.specs.Faults.{program_line};
+ghost use Rattle.register_arguments.specs.Requests.{AreWrong, IsFaultOf, MeanJust, Task, most_files, table, task_of};
 
 use crate::refusals::Refusal;
 use crate::reporting::report_ends;
@@ -19,7 +19,7 @@ use arrayvec::ArrayString;
 use register_files::{FileStore, Opened, open_files};
 use register_records::{Output, send};
 use register_run::{MAX_SOURCES, Ran, Report, Verdict, run};
-use register_words::{
+use register_arguments::{
     HELP, Job, MAX_FILES, MEMORY_FAULT, PRINT_FAULT, Request, RequestFault, VERSION, read_request,
 };
 use std::alloc::Global;

@@ -2,7 +2,7 @@
 
 use crate::tests::helpers::arguments_of;
 use register_records::Setup;
-use register_words::{HELP, Request, read_request};
+use register_arguments::{HELP, Request, read_request};
 use std::alloc::{AllocError, Global};
 use std::test::Fail;
 

@@ -3,8 +3,8 @@ use Rattle.std.specs.Prelude.{◌≤◌, ◌⊎◌}
 use Rattle.std.proofs.Common.{◌≡◌, ◌≢◌, ℕ, rules, arith, inl, inr, map, ap, length, refl, List, [], ◌∷◌}
 use Rattle.std.proofs.lemmas.List.{length-map}
 use Rattle.std.specs.String.{string_bytes}
-use Rattle.register_words.specs.Requests.{MeanJust, help, table, task_of, version}
-use Rattle.register_words.specs.Faults.{fault_of_error}
+use Rattle.register_arguments.specs.Requests.{MeanJust, help, table, task_of, version}
+use Rattle.register_arguments.specs.Faults.{fault_of_error}
 use Rattle.register_app.proofs.RefusedLemmas.{is_refused, is_wrong, never_refused}
 use Rattle.register_app.proofs.answering.answer.Goals as goal
 

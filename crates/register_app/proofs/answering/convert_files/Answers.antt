@@ -1,6 +1,6 @@
 -- A run that did not begin hands the outputs back as they were made.
 use Rattle.std.proofs.Common.{inr, map, subst}
-use Rattle.register_words.specs.Requests.{task_of}
+use Rattle.register_arguments.specs.Requests.{task_of}
 use Rattle.register_files.specs.Openings.{IsOfFiles}
 use Rattle.register_app.proofs.FileLemmas.{asked_by}
 use Rattle.register_app.proofs.answering.convert_files.Goals as goal

@@ -13,7 +13,7 @@ use Rattle.register_run.specs.declared.reports.Verdict.TheVariants.{Complete}
 use Rattle.register_run.proofs.HeadlineLemmas.{lengths_of}
 use Rattle.register_app.specs.Answers.{IsConverted, IsSetupOf}
 use Rattle.register_app.specs.Reports.{lines_from}
-use Rattle.register_words.specs.Requests.{Task}
+use Rattle.register_arguments.specs.Requests.{Task}
 use Rattle.register_app.proofs.RefusedLemmas.{out_of_memory}
 use Rattle.register_app.proofs.answering.run_job.Goals as goal
 

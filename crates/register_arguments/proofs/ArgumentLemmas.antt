@@ -1,0 +1,258 @@
+-- Arguments mean one thing at most.
+use Rattle.std.proofs.Common.{◌≡◌, ◌∙◌, ℕ, Bool, List, [], ◌∷◌, length, sym, ap, ap₂, refl, subst, arith}
+use Rattle.std.proofs.Common.{inl, inr, Option, Some, None}
+use Rattle.std.specs.Prelude.{◌≢◌, ⊤, IfSome}
+use Rattle.clap.specs.Values.{kind_of}
+use Rattle.clap.specs.Words.{HasKind, IsAmong, Text, fault_of}
+use Rattle.clap.specs.declared.error.Error.{Error}
+use Rattle.clap.specs.declared.error.kind.ErrorKind.{ErrorKind}
+use Rattle.clap.specs.declared.error.kind.ErrorKind.TheVariants.{DisplayHelp, DisplayVersion, OutOfMemory}
+use Rattle.date_texts.specs.Laws.{OneTarget}
+use Rattle.date_texts.specs.declared.target.Target.{Target}
+use Rattle.register_arguments.specs.CommandLine.{AreTaken, command_line, values_in}
+use Rattle.register_arguments.specs.Faults.{Fault, usage}
+use Rattle.register_arguments.specs.OptionValues.{IsDelimiterWord, IsNumberWord, IsValueOf, ValueOption, delimiter_option}
+use Rattle.register_arguments.specs.OptionValues.{ring_option, stripes_option}
+use Rattle.register_records.specs.Entries.{Format}
+use Rattle.register_records.specs.SetupRules.{largest_ring, most_stripes}
+use Rattle.register_records.specs.Tables.{Layout}
+use Rattle.register_records.specs.declared.setups.Form.{Form}
+use Rattle.register_arguments.specs.Requests.{AreTargetsOf, Check, FailFirst, IsFaultOf}
+use Rattle.register_arguments.specs.Requests.{IsTargetFault, Mean, MeanJust, Meaning, Task, file_check, option_check}
+use Rattle.register_arguments.specs.Requests.{target_check, usage_check, value_checks, help, version, table}
+use Rattle.register_arguments.specs.Requests.{wrong}
+use Rattle.register_arguments.proofs.FileLemmas.{fit_no_fault, one_file_fault}
+use Rattle.register_arguments.proofs.KindLemmas.{one_kind}
+use Rattle.register_arguments.proofs.ListLemmas.{asks_no_fault, asks_one, one_fault}
+
+-- a word names one delimiter at most
+one_byte : (word : Text) (byte other : ℕ) → IsDelimiterWord word byte → IsDelimiterWord word other → byte ≡ other
+one_byte word byte other (inl comma) (inl same) = comma.1 ∙ sym same.1
+one_byte word byte other (inl comma) (inr (inl semicolon)) = let e = ap length (sym comma.0 ∙ semicolon.0) in
+    absurd (omega (arith, e))
+one_byte word byte other (inl comma) (inr (inr tab)) = let e = ap length (sym comma.0 ∙ tab.0) in
+    absurd (omega (arith, e))
+one_byte word byte other (inr (inl semicolon)) (inl comma) = let e = ap length (sym comma.0 ∙ semicolon.0) in
+    absurd (omega (arith, e))
+one_byte word byte other (inr (inl semicolon)) (inr (inl same)) = semicolon.1 ∙ sym same.1
+one_byte word byte other (inr (inl semicolon)) (inr (inr tab)) = let e = ap length (sym semicolon.0 ∙ tab.0) in
+    absurd (omega (arith, e))
+one_byte word byte other (inr (inr tab)) (inl comma) = let e = ap length (sym comma.0 ∙ tab.0) in
+    absurd (omega (arith, e))
+one_byte word byte other (inr (inr tab)) (inr (inl semicolon)) = let e = ap length (sym semicolon.0 ∙ tab.0) in
+    absurd (omega (arith, e))
+one_byte word byte other (inr (inr tab)) (inr (inr same)) = tab.1 ∙ sym same.1
+
+-- and one number
+one_number : (most : ℕ) (word : Text) (n other : ℕ) → IsNumberWord most word n → IsNumberWord most word other
+    → n ≡ other
+one_number most word n other is same = is.value ∙ sym same.value
+
+-- a word of the option names one number at most
+abbrev NamesOne : ValueOption → Type 0
+NamesOne option = (word : Text) (n other : ℕ) → option.names word n → option.names word other → n ≡ other
+
+one_asked : (option : ValueOption) → NamesOne option → (value : Option Text) (n other : ℕ) → IsValueOf option value n
+    → IsValueOf option value other → n ≡ other
+one_asked option one None n other is same = is ∙ sym same
+one_asked option one (Some word) n other is same = one word n other is same
+
+-- a check finds one fault at most, and none where it passes
+record IsSound (check : Check) : Type 0 where
+  one : (fault other : Fault) → check.fails fault → check.fails other → fault ≡ other
+  none : (fault : Fault) → check.passes → check.fails fault → ⊥
+
+abbrev AreSound : List Check → Type 0
+AreSound [] = ⊤
+AreSound (check ∷ checks) = IsSound check × AreSound checks
+
+abbrev AllPass : List Check → Type 0
+AllPass [] = ⊤
+AllPass (check ∷ checks) = check.passes × AllPass checks
+
+-- and so do checks in order
+first_fault : (checks : List Check) → AreSound checks → (fault other : Fault) → FailFirst checks fault
+    → FailFirst checks other → fault ≡ other
+first_fault [] sound fault other x y = absurd x
+first_fault (check ∷ later) sound fault other (inl x) (inl y) = sound.0.one fault other x y
+first_fault (check ∷ later) sound fault other (inl x) (inr y) = absurd (sound.0.none fault y.0 x)
+first_fault (check ∷ later) sound fault other (inr x) (inl y) = absurd (sound.0.none other x.0 y)
+first_fault (check ∷ later) sound fault other (inr x) (inr y) = first_fault later sound.1 fault other x.1 y.1
+
+no_fault : (checks : List Check) → AreSound checks → AllPass checks → (fault : Fault) → FailFirst checks fault → ⊥
+no_fault [] sound pass fault x = x
+no_fault (check ∷ later) sound pass fault (inl x) = sound.0.none fault pass.0 x
+no_fault (check ∷ later) sound pass fault (inr x) = no_fault later sound.1 pass.1 fault x.1
+
+sound_option : (option : ValueOption) (value : Option Text) → IsSound (option_check option value)
+sound_option option value = record {
+  one = λ fault other is same. is.1 ∙ ap option.fault (same_word is.0 same.0 is.2 same.2) ∙ sym same.1;
+  none = λ fault asked is. is.3 asked.0 (subst (λ (v : Option Text). IsValueOf option v asked.0) is.2 asked.1);
+}
+  where
+    same_word : (word other : Text) → value ≡ Some word → value ≡ Some other → word ≡ other
+    same_word word other e f = cc
+
+sound_files : (files : List Text) → IsSound (file_check files)
+sound_files files = record {
+  one = one_file_fault files;
+  none = λ fault fit is. fit_no_fault files fault fit is;
+}
+
+module _ (one : OneTarget) where
+  one_list : (value : Option Text) (targets others : List Target) → AreTargetsOf value targets
+      → AreTargetsOf value others → targets ≡ others
+  one_list None targets others is same = is ∙ sym same
+  one_list (Some list) targets others is same = asks_one one list targets others is same
+
+  no_target_fault : (value : Option Text) (targets : List Target) (fault : Fault) → AreTargetsOf value targets
+      → IsTargetFault value fault → ⊥
+  no_target_fault None targets fault is at_fault = at_fault
+  no_target_fault (Some list) targets fault is at_fault = asks_no_fault one list targets fault is at_fault
+
+  one_target_fault : (value : Option Text) (fault other : Fault) → IsTargetFault value fault → IsTargetFault value other
+      → fault ≡ other
+  one_target_fault None fault other is same = absurd is
+  one_target_fault (Some list) fault other is same = one_fault one list fault other is same
+
+  sound_targets : (value : Option Text) → IsSound (target_check value)
+  sound_targets value = record {
+    one = one_target_fault value;
+    none = λ fault asked is. no_target_fault value asked.0 fault asked.1 is;
+  }
+
+module _ (one : OneTarget) (arguments : List Text) where
+  not_taken : (kind : ErrorKind) → AreTaken arguments → IsAmong kind (fault_of command_line arguments) → ⊥
+  not_taken kind taken among = subst (IsAmong kind) taken among
+
+  sound_usage : IsSound (usage_check arguments)
+  sound_usage = record {
+    one = λ fault other is same. is.1 ∙ ap usage (one_kind arguments is.0 same.0 is.2 same.2) ∙ sym same.1;
+    none = λ fault taken is. not_taken is.0 taken is.2;
+  }
+
+  all_sound : AreSound (usage_check arguments ∷ value_checks (values_in arguments))
+  all_sound =
+      let values = values_in arguments in (
+        sound_usage,
+        (
+          sound_targets one values.to,
+          (
+            sound_option ring_option values.ring,
+            (
+              sound_option delimiter_option values.delimiter,
+              (sound_option stripes_option values.stripes, (sound_files values.files, tt)),
+            ),
+          ),
+        ),
+      )
+
+  help_no_fault : (fault : Fault) → Mean arguments help → IsFaultOf arguments fault → ⊥
+  help_no_fault fault asks (inl is) = is.3 (one_kind arguments is.0 DisplayHelp is.2 asks)
+  help_no_fault fault asks (inr is) = not_taken DisplayHelp is.0 asks
+
+  version_no_fault : (fault : Fault) → Mean arguments version → IsFaultOf arguments fault → ⊥
+  version_no_fault fault asks (inl is) = is.4 (one_kind arguments is.0 DisplayVersion is.2 asks)
+  version_no_fault fault asks (inr is) = not_taken DisplayVersion is.0 asks
+
+  help_no_version : Mean arguments help → Mean arguments version → ⊥
+  help_no_version asks other = differ (one_kind arguments DisplayHelp DisplayVersion asks other)
+    where
+      differ : DisplayHelp ≡ DisplayVersion → ⊥
+      differ e = absurd (cc)
+
+  table_no_fault : (task : Task) (fault : Fault) → Mean arguments (table task) → ¬ IsFaultOf arguments fault
+  table_no_fault task fault asks =
+      no_fault (usage_check arguments ∷ value_checks (values_in arguments)) all_sound (
+        asks.0,
+        (
+          (task.layout.targets, asks.1.targets),
+          (
+            (task.ring, asks.1.ring),
+            (
+              (task.layout.format.delimiter, asks.1.delimiter),
+              ((task.stripes, asks.1.stripes), (asks.1.files_fit, tt)),
+            ),
+          ),
+        ),
+      ) fault
+
+  one_table : (task other : Task) → Mean arguments (table task) → Mean arguments (table other) → table task ≡ table other
+  one_table task other asks asks_other =
+      let values = values_in arguments in
+      let asked = asks.1 in
+      let same = asks_other.1 in
+      let targets = one_list one values.to task.layout.targets other.layout.targets asked.targets same.targets in
+      let ring =
+      one_asked ring_option (one_number largest_ring) values.ring task.ring other.ring asked.ring same.ring in
+      let delimiter =
+      one_asked delimiter_option one_byte values.delimiter task.layout.format.delimiter other.layout.format.delimiter
+      asked.delimiter same.delimiter in
+      let stripes =
+      one_asked stripes_option (one_number most_stripes) values.stripes task.stripes other.stripes asked.stripes
+      same.stripes in
+      ap table (same_task task other
+      (same_layout task.layout other.layout targets delimiter (asked.form ∙ sym same.form)) ring stripes
+      (asked.summary ∙ sym same.summary) (asked.files ∙ sym same.files))
+    where
+      same_layout : (a b : Layout) → a.targets ≡ b.targets → a.format.delimiter ≡ b.format.delimiter
+          → a.format.form ≡ b.format.form → a ≡ b
+      same_layout a b targets delimiter form =
+          let format : a.format ≡ b.format =
+          ap₂ (λ (d : ℕ) (f : Form). record { delimiter = d; form = f }) delimiter form in
+          ap₂ (λ (ts : List Target) (f : Format). record { format = f; targets = ts }) targets format
+
+      same_task : (a b : Task) → a.layout ≡ b.layout → a.ring ≡ b.ring → a.stripes ≡ b.stripes → a.summary ≡ b.summary
+          → a.files ≡ b.files → a ≡ b
+      same_task a b layout ring stripes summary files =
+          ap₂ (λ (l : Layout) (n : ℕ). record a { layout = l; ring = n }) layout ring
+          ∙ ap₂ (λ (n : ℕ) (s : Bool). record a { layout = b.layout; ring = b.ring; stripes = n; summary = s }) stripes
+          summary
+          ∙ ap (λ (fs : List Text). record b { files = fs }) files
+
+  one_meaning : (meaning other : Meaning) → Mean arguments meaning → Mean arguments other → other ≡ meaning
+  one_meaning help help x y = refl
+  one_meaning help version x y = absurd (help_no_version x y)
+  one_meaning help (table task) x y = absurd (not_taken DisplayHelp y.0 x)
+  one_meaning help (wrong fault) x y = absurd (help_no_fault fault x y)
+  one_meaning version help x y = absurd (help_no_version y x)
+  one_meaning version version x y = refl
+  one_meaning version (table task) x y = absurd (not_taken DisplayVersion y.0 x)
+  one_meaning version (wrong fault) x y = absurd (version_no_fault fault x y)
+  one_meaning (table task) help x y = absurd (not_taken DisplayHelp x.0 y)
+  one_meaning (table task) version x y = absurd (not_taken DisplayVersion x.0 y)
+  one_meaning (table task) (table other) x y = one_table other task y x
+  one_meaning (table task) (wrong fault) x y = absurd (table_no_fault task fault x y)
+  one_meaning (wrong fault) help x y = absurd (help_no_fault fault y x)
+  one_meaning (wrong fault) version x y = absurd (version_no_fault fault y x)
+  one_meaning (wrong fault) (table task) x y = absurd (table_no_fault task fault y x)
+  one_meaning (wrong fault) (wrong other) x y =
+      ap wrong (first_fault (usage_check arguments ∷ value_checks (values_in arguments)) all_sound other fault y x)
+
+  -- what the arguments mean is all that they mean
+  pub mean_just : (meaning : Meaning) → Mean arguments meaning → MeanJust arguments meaning
+  mean_just meaning means other = (λ e. subst (Mean arguments) (sym e) means, λ m. one_meaning meaning other means m)
+
+-- an error is a request for help or for the version, running out of memory, or a fault of usage
+pub asks_help : (arguments : List Text) (error : Error) → HasKind (fault_of command_line arguments) error
+    → kind_of error ≡ DisplayHelp → Mean arguments help
+asks_help arguments error (inl memory) is = absurd (cc)
+asks_help arguments error (inr among) is = subst (λ (k : ErrorKind). IsAmong k (fault_of command_line arguments)) is among
+
+pub asks_version : (arguments : List Text) (error : Error) → HasKind (fault_of command_line arguments) error
+    → kind_of error ≡ DisplayVersion → Mean arguments version
+asks_version arguments error (inl memory) is = absurd (cc)
+asks_version arguments error (inr among) is = subst (λ (k : ErrorKind). IsAmong k (fault_of command_line arguments)) is among
+
+pub misuses : (arguments : List Text) (error : Error) → HasKind (fault_of command_line arguments) error
+    → kind_of error ≢ OutOfMemory → kind_of error ≢ DisplayHelp
+    → kind_of error ≢ DisplayVersion → IsFaultOf arguments (usage (kind_of error))
+misuses arguments error (inl memory) has helps versions = absurd (has memory)
+misuses arguments error (inr among) has helps versions = inl (kind_of error, refl, among, helps, versions)
+
+-- a fault that a check finds is all that the arguments mean
+pub found_just : (arguments : List Text) (found : Option Fault) (fails : Fault → Type 0) → OneTarget → IfSome found fails
+    → ((fault : Fault) → fails fault → IsFaultOf arguments fault)
+    → IfSome found (λ fault. MeanJust arguments (wrong fault))
+found_just arguments None fails one is first = tt
+found_just arguments (Some fault) fails one is first = mean_just one arguments (wrong fault) (first fault is)

@@ -1,0 +1,132 @@
+-- A list of files has one fault at most.
+use Rattle.std.proofs.Common.{◌≡◌, ◌∙◌, ◌+◌, ◌||◌, ℕ, zero, suc, Bool, true, false, true≢false, Bor, List, [], ◌∷◌}
+use Rattle.std.proofs.Common.{◌++◌, length, map, take, drop, sym, ap, refl, arith, inl, inr, length-append, subst}
+use Rattle.std.specs.Prelude.{◌<◌, Contains, slice_index_or}
+use Rattle.std.specs.List.{list_any}
+use Rattle.std.specs.Str.{bytes_eq}
+use Rattle.std.proofs.lemmas.List.{map_more, take-map}
+use Rattle.std.proofs.lemmas.Slice.Eq.{bytes_eq-Decides}
+use Rattle.clap.specs.Words.{Text}
+use Rattle.register_arguments.specs.Faults.{Fault, file_twice}
+use Rattle.register_arguments.specs.Requests.{AreFilesToConvert, IsFileFault, IsFirstFileTwice, IsNamedTwice}
+use Rattle.register_arguments.proofs.ListLemmas.{Meet, meet}
+
+-- the first file that was named before is named twice
+pub first_is_twice : (files : List Text) (file : Text) → IsFirstFileTwice files file → IsNamedTwice files file
+first_is_twice files file first = record {
+  before = first.before;
+  after = first.after;
+  cut = first.cut;
+  named = first.named;
+}
+
+-- no file comes before the first
+pub one_first : (files : List Text) (file other : Text) → IsFirstFileTwice files file → IsFirstFileTwice files other
+    → file ≡ other
+one_first files file other x y = decide (meet x.before file x.after y.before other y.after (sym x.cut ∙ y.cut))
+  where
+    decide : Meet x.before file y.before other → file ≡ other
+    decide (inl same) = same.1
+    decide (inr (inl before)) = absurd (y.first file
+        (record { before = x.before; after = before.0; cut = before.1; named = x.named }))
+    decide (inr (inr behind)) = absurd (x.first other
+        (record { before = y.before; after = behind.0; cut = behind.1; named = y.named }))
+
+pub fit_no_fault : (files : List Text) (fault : Fault) → AreFilesToConvert files → IsFileFault files fault → ⊥
+fit_no_fault files fault fit (inl many) = absurd (omega (arith, fit.0, many.1))
+fit_no_fault files fault fit (inr twice) = fit.1 twice.0 (first_is_twice files twice.0 twice.3)
+
+pub one_file_fault : (files : List Text) (fault other : Fault) → IsFileFault files fault → IsFileFault files other
+    → fault ≡ other
+one_file_fault files fault other (inl many) (inl same) = many.0 ∙ sym same.0
+one_file_fault files fault other (inl many) (inr twice) = absurd (omega (arith, many.1, twice.2))
+one_file_fault files fault other (inr twice) (inl many) = absurd (omega (arith, many.1, twice.2))
+one_file_fault files fault other (inr twice) (inr same) = twice.1 ∙ ap file_twice
+    (one_first files twice.0 same.0 twice.3 same.3) ∙ sym same.1
+
+-- one more file that was not named before
+pub one_more : (files : List Text) (file : Text) → ((other : Text) → ¬ IsNamedTwice files other)
+    → (¬ Contains files file) → (other : Text) → ¬ IsNamedTwice (files ++ file ∷ []) other
+one_more files file once new other twice = decide (meet twice.before other twice.after files file [] (sym twice.cut))
+  where
+    decide : Meet twice.before other files file → ⊥
+    decide (inl same) = new (subst (λ (xs : List Text). Contains xs file) same.0
+        (subst (Contains twice.before) same.1 twice.named))
+    decide (inr (inl before)) = once other (record {
+      before = twice.before;
+      after = before.0;
+      cut = before.1;
+      named = twice.named;
+    })
+    decide (inr (inr behind)) =
+        let whole = ap length twice.cut in
+        let front = ap length behind.1 in
+        omega (
+          arith,
+          whole,
+          front,
+          length-append files (file ∷ []),
+          length-append twice.before (other ∷ twice.after),
+          length-append files (file ∷ behind.0),
+        )
+
+-- ---- the files as a slice holds them
+
+pub or_true : (a : Bool) {b : Bool} → b ≡ true → (a || b) ≡ true
+or_true true e = refl
+or_true false e = e
+
+any_named : (files : List (Bor Text)) (file : Text) → list_any (λ f. bytes_eq f.now file) files ≡ true
+    → Contains (map (λ f. f.now) files) file
+any_named [] file e = absurd (cc)
+any_named (f ∷ fs) file e = at (bytes_eq f.now file) refl (any_named fs file) e
+  where
+    at : (same : Bool) → bytes_eq f.now file ≡ same
+        → (list_any (λ g. bytes_eq g.now file) fs ≡ true → Contains (map (λ g. g.now) fs) file)
+        → (same || list_any (λ g. bytes_eq g.now file) fs) ≡ true → Contains (map (λ g. g.now) (f ∷ fs)) file
+    at true is later or = (0, omega arith, (bytes_eq-Decides f.now file).0 is)
+    at false is later or = let rest = later or in (suc rest.0, omega (arith, rest.1), rest.2)
+
+named_at : (files : List (Bor Text)) (file : Text) (i : ℕ) → i < length (map (λ f. f.now) files)
+    → slice_index_or (map (λ f. f.now) files) i file ≡ file
+    → list_any (λ f. bytes_eq f.now file) files ≡ true
+named_at [] file i lt is = absurd (omega arith)
+named_at (f ∷ fs) file zero lt is = ap (λ b. b || list_any (λ g. bytes_eq g.now file) fs)
+    ((bytes_eq-Decides f.now file).1 is)
+named_at (f ∷ fs) file (suc i) lt is = or_true (bytes_eq f.now file) (named_at fs file i (omega arith) is)
+
+cut_at : (files : List (Bor Text)) (place : ℕ) (d : Bor Text) → place < length files
+    → map (λ f. f.now) files ≡ take place (map (λ f. f.now) files) ++ (slice_index_or files place d).now ∷ drop
+    (suc place) (map (λ f. f.now) files)
+cut_at [] place d lt = absurd (omega arith)
+cut_at (f ∷ fs) zero d lt = refl
+cut_at (f ∷ fs) (suc place) d lt = ap (λ xs. f.now ∷ xs) (cut_at fs place d (omega arith))
+
+module _ (files : List (Bor Text)) (place : ℕ) (d : Bor Text) (inside : place < length files)
+    (once : (other : Text) → ¬ IsNamedTwice (take place (map (λ f. f.now) files)) other) where
+  -- the first file that is among those before it
+  pub first_at : list_any (λ f. bytes_eq f.now (slice_index_or files place d).now) (take place files) ≡ true
+      → IsFirstFileTwice (map (λ f. f.now) files) (slice_index_or files place d).now
+  first_at among =
+      let file = (slice_index_or files place d).now in
+      record {
+        before = take place (map (λ f. f.now) files);
+        after = drop (suc place) (map (λ f. f.now) files);
+        cut = cut_at files place d inside;
+        named = subst (λ (xs : List Text). Contains xs file) (sym (take-map (λ f. f.now) place files))
+            (any_named (take place files) file among);
+        first = once;
+      }
+
+  -- a file that is not
+  pub still_once : list_any (λ f. bytes_eq f.now (slice_index_or files place d).now) (take place files) ≡ false
+      → (other : Text)
+      → ¬ IsNamedTwice (take (place + 1) (map (λ f. f.now) files)) other
+  still_once new =
+      let file = (slice_index_or files place d).now in
+      let more = take-map (λ f. f.now) (place + 1) files ∙ map_more (λ f. f.now) files place d inside ∙ ap
+      (λ (xs : List Text). xs ++ file ∷ []) (sym (take-map (λ f. f.now) place files)) in
+      subst (λ (xs : List Text). (other : Text) → ¬ IsNamedTwice xs other) (sym more)
+      (one_more (take place (map (λ f. f.now) files)) file once (λ named.
+      let among = subst (λ (xs : List Text). Contains xs file) (take-map (λ f. f.now) place files) named in
+      true≢false (sym (named_at (take place files) file among.0 among.1 among.2) ∙ new)))

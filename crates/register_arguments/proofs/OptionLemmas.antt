@@ -1,0 +1,66 @@
+-- From what clap says of options to their values, and from a fault of a value to the first check that fails.
+use Rattle.std.proofs.Common.{◌≡◌, ◌&&◌, ap, ℕ, Bool, true, false, List, Option, Some, None, codes, refl, sym, subst}
+use Rattle.std.specs.Prelude.{◌↔◌, IfErr, IfOk, IfSome, IsSomeAnd, nat_le, option_map}
+use Rattle.std.specs.Option.{ok_or}
+use Rattle.std.specs.Str.{bytes_eq}
+use Rattle.std.proofs.lemmas.Bool.{le-leb}
+use Rattle.std.proofs.lemmas.Slice.Eq.{bytes_eq-Decides}
+use Rattle.clap.specs.Words.{Text}
+use Rattle.register_arguments.specs.CommandLine.{is_set}
+use Rattle.register_arguments.specs.Faults.{Fault, fault_of_error}
+use Rattle.register_arguments.specs.OptionValues.{IsNumberWord, IsValueFault, IsValueOf, ValueOption}
+use Rattle.register_arguments.specs.Requests.{Check, FailFirst}
+use Rattle.register_arguments.specs.declared.request_faults.RequestFault.{RequestFault}
+
+-- a flag that is given exactly where its text is `true` is set as its text says
+pub set_by_text : (b : Bool) (text : Option Text) → ((b ≡ true) ↔ (text ≡ Some (codes "true"))) → b ≡ is_set text
+set_by_text true None is = absurd (let e = is.0 refl in cc)
+set_by_text false None is = refl
+set_by_text true (Some t) is = sym ((bytes_eq-Decides t (codes "true")).1 (some_same t (codes "true") (is.0 refl)))
+  where
+    some_same : (a b : Text) → Some a ≡ Some b → a ≡ b
+    some_same a b e = cc
+set_by_text false (Some t) is =
+    other (bytes_eq t (codes "true")) (λ e. absurd (unlike (is.1 (ap (λ (x : Text). Some x)
+    ((bytes_eq-Decides t (codes "true")).0 e)))))
+  where
+    unlike : false ≡ true → ⊥
+    unlike e = cc
+
+    other : (x : Bool) → (x ≡ true → ⊥) → false ≡ x
+    other true never = absurd (never refl)
+    other false never = refl
+
+-- a fault that one check finds is one that the checks find
+pub found_first : (found : Option Fault) (fails : Fault → Type 0) (checks : List Check) → IfSome found fails
+    → ((fault : Fault) → fails fault → FailFirst checks fault) → IfSome found (FailFirst checks)
+found_first None fails checks is first = tt
+found_first (Some fault) fails checks is first = first fault is
+
+pub if_some : (found : Option Fault) (fails : Fault → Type 0) → IsSomeAnd found fails → IfSome found fails
+if_some None fails is = tt
+if_some (Some fault) fails is = is
+
+-- a number that a word names is from 1 to the most
+pub named_within : (most : ℕ) (word : Text) (n : ℕ) → IsNumberWord most word n → (nat_le 1 n && nat_le n most) ≡ true
+named_within most word n is = rw (le-leb 1 n is.some, le-leb n most is.no_more) refl
+
+-- an option asks for what its word names
+pub asks_named : {V : Type 0} (option : ValueOption) (number : V → ℕ) (word : Text) (named : Option V)
+    (error : RequestFault) → ((n : ℕ) → (option_map number named ≡ Some n) ↔ option.names word n)
+    → IfOk (ok_or named error) (λ v. IsValueOf option (Some word) (number v))
+asks_named option number word None error is = tt
+asks_named option number word (Some v) error is = (is (number v)).0 refl
+
+-- where its word names nothing, that is its fault
+pub faults_unnamed : {V : Type 0} (option : ValueOption) (number : V → ℕ) (word : Text) (named : Option V)
+    (error : RequestFault) → ((n : ℕ) → (option_map number named ≡ Some n) ↔ option.names word n)
+    → fault_of_error error ≡ Some (option.fault word)
+    → IfErr (ok_or named error) (λ e. IsSomeAnd (fault_of_error e) (IsValueFault option (Some word)))
+faults_unnamed option number word (Some v) error is same = tt
+faults_unnamed option number word None error is same =
+    subst (λ fault. IsSomeAnd fault (IsValueFault option (Some word))) (sym same)
+    (word, refl, refl, λ n names. none n ((is n).1 names))
+  where
+    none : (n : ℕ) → None ≡ Some n → ⊥
+    none n e = cc

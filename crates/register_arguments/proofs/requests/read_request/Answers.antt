@@ -1,0 +1,57 @@
+-- What the arguments mean, and that it is all that they mean.
+use Rattle.std.proofs.Common.{◌∙◌, sym, subst, map, inr}
+use Rattle.std.specs.Prelude.{IfSome}
+use Rattle.std.specs.String.{string_bytes}
+use Rattle.clap.proofs.TakesLemmas.{passed_up}
+use Rattle.register_arguments.specs.CommandLine.{Values}
+use Rattle.register_arguments.specs.Faults.{fault_of_error, usage}
+use Rattle.register_arguments.specs.Requests.{task_of, values_by}
+use Rattle.register_arguments.specs.Requests.{Ask, FailFirst, MeanJust, help, table, value_checks, version, wrong}
+use Rattle.register_arguments.specs.declared.request_faults.RequestFault.{RequestFault}
+use Rattle.register_arguments.specs.declared.requests.Request.{Request}
+use Rattle.register_arguments.proofs.ArgumentLemmas.{asks_help, asks_version, mean_just, misuses, found_just}
+use Rattle.register_arguments.proofs.requests.read_request.Goals as goal
+
+pub returns-in-DisplayHelp-clause-asked : goal.returns-in-DisplayHelp-clause-asked
+returns-in-DisplayHelp-clause-asked c =
+    let arguments = map string_bytes c.args.arguments.now in
+    mean_just c.one_target.ensures arguments help
+    (asks_help arguments c.in-Err.error c.in-Err.ensures.kinds (sym c.kind.ensures ∙ c.in-DisplayHelp.is))
+
+pub returns-in-DisplayVersion-clause-asked : goal.returns-in-DisplayVersion-clause-asked
+returns-in-DisplayVersion-clause-asked c =
+    let arguments = map string_bytes c.args.arguments.now in
+    mean_just c.one_target.ensures arguments version
+    (asks_version arguments c.in-Err.error c.in-Err.ensures.kinds (sym c.kind.ensures ∙ c.in-DisplayVersion.is))
+
+pub returns-in_default : goal.returns-in_default
+returns-in_default c =
+    let arguments = map string_bytes c.args.arguments.now in
+    record {
+      asked = tt;
+      refused = mean_just c.one_target.ensures arguments (wrong (usage _))
+          (misuses arguments c.in-Err.error c.in-Err.ensures.kinds (λ e. c.in_default.not-OutOfMemory (c.kind.ensures ∙ e))
+          (λ e. c.in_default.not-DisplayHelp (c.kind.ensures ∙ e))
+          (λ e. c.in_default.not-DisplayVersion (c.kind.ensures ∙ e)));
+    }
+
+pub returns-in_err-job-clause-refused : goal.returns-in_err-job-clause-refused
+returns-in_err-job-clause-refused c =
+    let arguments = map string_bytes c.args.arguments.now in
+    let found = fault_of_error c.in_err-job.field-0.0 in
+    let is : IfSome found (λ fault. MeanJust arguments (wrong fault))
+    = found_just arguments found (FailFirst (value_checks (values_by c.in-Ok.options))) c.one_target.ensures
+    c.in_err-job.ensures.fault
+    (λ fault at. inr (
+      c.in-Ok.ensures.taken,
+      subst (λ (v : Values). FailFirst (value_checks v) fault) c.in-Ok.ensures.values at,
+    )) in
+    passed_up {T = Request} {E = RequestFault} c.from_residual.result c.in_err-job.field-0.0
+    (λ (r : RequestFault). IfSome (fault_of_error r) (λ fault. MeanJust arguments (wrong fault)))
+    c.from_residual.ensures.1 is
+
+pub returns-clause-asked : goal.returns-clause-asked
+returns-clause-asked c =
+    let task = task_of c.in_ok-job.job in
+    mean_just c.one_target.ensures (map string_bytes c.args.arguments.now) (table task)
+    (c.in-Ok.ensures.taken, subst (λ (v : Values). Ask v task) c.in-Ok.ensures.values c.in_ok-job.ensures.asked)

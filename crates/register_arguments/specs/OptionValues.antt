@@ -1,0 +1,118 @@
+-- What the values of the options mean.
+use Rattle.std.specs.Prelude.{◌≡◌, ◌≢◌, ◌↔◌, ◌⊎◌, ◌==◌, ◌++◌, ◌≤◌, ℕ, List, [], ◌∷◌, codes, length, ⊤, Contains, Result}
+use Rattle.std.specs.Prelude.{Ok, Err, Option, Some, None}
+use Rattle.std.specs.List.{slice_split}
+use Rattle.std.specs.Str.Parse.{IsNumeral, digits_value}
+use Rattle.date_texts.specs.Calendars.{target_name}
+use Rattle.date_texts.specs.Names.{IsNamed}
+use Rattle.date_texts.specs.declared.target.Target.{Target}
+use Rattle.register_records.specs.SetupRules.{NamesTwice, largest_ring, most_stripes}
+use Rattle.register_arguments.specs.Faults.{Fault, bad_ring, bad_stripes, unknown_delimiter, unknown_target, target_twice}
+use Rattle.register_arguments.specs.declared.option_values.Delimiter.{Delimiter}
+use Rattle.register_arguments.specs.declared.option_values.Delimiter.TheVariants as delimiter
+
+-- the names in a list: what stands between its commas (44)
+abbrev pub names_in : List ℕ → List (List ℕ)
+names_in list = slice_split (λ b. b == 44) list
+
+-- the word that asks for no target
+abbrev pub no_target : List ℕ
+no_target = codes "none"
+
+-- these names name these targets, place by place
+abbrev pub AreNamesOf : List (List ℕ) → List Target → Type 0
+AreNamesOf [] [] = ⊤
+AreNamesOf [] (target ∷ targets) = ⊥
+AreNamesOf (name ∷ names) [] = ⊥
+AreNamesOf (name ∷ names) (target ∷ targets) = IsNamed name (target_name target) × AreNamesOf names targets
+
+-- the list asks for these targets: it is the word for none, or it names them, each once
+abbrev pub AsksForTargets : List ℕ → List Target → Type 0
+AsksForTargets list targets =
+    ((list ≡ no_target) × (targets ≡ [])) ⊎ ((list ≢ no_target) × AreNamesOf (names_in list) targets
+    × (¬ NamesTwice targets))
+
+-- the name stands in the list behind names of these targets, each of which is named once
+pub record StandsBehind (list : List ℕ) (earlier : List Target) (name : List ℕ) : Type 0 where
+  pub names_some : list ≢ no_target
+  pub before : List (List ℕ)
+  pub after : List (List ℕ)
+  pub cut : names_in list ≡ before ++ name ∷ after
+  pub named : AreNamesOf before earlier
+  pub once : ¬ NamesTwice earlier
+
+-- the first name at fault names no target
+abbrev pub IsFirstUnknown : List ℕ → List ℕ → Type 0
+IsFirstUnknown list name =
+    (earlier : List Target) × StandsBehind list earlier name × ((target : Target) → ¬ IsNamed name (target_name target))
+
+-- the first name at fault names this target, which was named before
+abbrev pub IsFirstTargetTwice : List ℕ → Target → Type 0
+IsFirstTargetTwice list target =
+    (earlier : List Target) × (name : List ℕ) × StandsBehind list earlier name × IsNamed name (target_name target)
+    × Contains earlier target
+
+-- what is wrong with a list
+abbrev pub IsListFault : List ℕ → Fault → Type 0
+IsListFault list fault =
+    ((name : List ℕ) × (fault ≡ unknown_target name) × IsFirstUnknown list name)
+    ⊎ ((target : Target) × (fault ≡ target_twice target) × IsFirstTargetTwice list target)
+
+-- what a list means: the targets that it asks for, or what is wrong with it
+abbrev pub ListMeans : List ℕ → Result (List Target) Fault → Type 0
+ListMeans list (Ok targets) = AsksForTargets list targets
+ListMeans list (Err fault) = IsListFault list fault
+
+-- the list means this, and nothing else
+abbrev pub ListMeansJust : List ℕ → Result (List Target) Fault → Type 0
+ListMeansJust list meaning = (other : Result (List Target) Fault) → (other ≡ meaning) ↔ ListMeans list other
+
+-- the words for a comma (44), a semicolon (59) and a tab (9)
+abbrev pub IsDelimiterWord : List ℕ → ℕ → Type 0
+IsDelimiterWord word byte =
+    ((word ≡ codes "comma") × (byte ≡ 44))
+    ⊎ ((word ≡ codes "semicolon") × (byte ≡ 59))
+    ⊎ ((word ≡ codes "tab") × (byte ≡ 9))
+
+-- the word is one to five decimal digits, which write the number n, and n is from 1 to `most`
+pub record IsNumberWord (most : ℕ) (word : List ℕ) (n : ℕ) : Type 0 where
+  pub few : length word ≤ 5
+  pub digits : IsNumeral 10 word
+  pub value : n ≡ digits_value 10 word
+  pub some : 1 ≤ n
+  pub no_more : n ≤ most
+
+-- an option that asks for a number: which number a word names, the number without it, and the fault of a word that
+-- names none
+pub record ValueOption : Type 1 where
+  pub names : List ℕ → ℕ → Type 0
+  pub default : ℕ
+  pub fault : List ℕ → Fault
+
+-- this is the number that the option asks for
+abbrev pub IsValueOf : ValueOption → Option (List ℕ) → ℕ → Type 0
+IsValueOf option None n = n ≡ option.default
+IsValueOf option (Some word) n = option.names word n
+
+-- what is wrong with the word of an option that asks for a number: it names none
+abbrev pub IsValueFault : ValueOption → Option (List ℕ) → Fault → Type 0
+IsValueFault option value fault =
+    (word : List ℕ) × (fault ≡ option.fault word) × (value ≡ Some word) × ((n : ℕ) → ¬ option.names word n)
+
+-- the byte of a delimiter, a comma (44) without a word
+abbrev pub delimiter_option : ValueOption
+delimiter_option = record { names = IsDelimiterWord; default = 44; fault = unknown_delimiter }
+
+-- the size of a ring
+abbrev pub ring_option : ValueOption
+ring_option = record { names = IsNumberWord largest_ring; default = 16; fault = bad_ring }
+
+-- the number of converters
+abbrev pub stripes_option : ValueOption
+stripes_option = record { names = IsNumberWord most_stripes; default = 1; fault = bad_stripes }
+
+-- the byte that a delimiter is
+abbrev pub byte_of : Delimiter → ℕ
+byte_of delimiter.Comma = 44
+byte_of delimiter.Semicolon = 59
+byte_of delimiter.Tab = 9

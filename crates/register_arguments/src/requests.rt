@@ -1,0 +1,298 @@
+//! What the arguments ask for.
+
+ghost use Rattle.std.specs.Prelude.{◌≡◌, ℕ, List, IfOk, IfErr, IfSome, IfNone, IsSomeAnd, OnOk, map};
+ghost use Rattle.std.specs.Prelude.{Some, option_map};
+ghost use Rattle.std.specs.Prelude.{if◌then◌else◌, unwrap_or, codes, [], false};
+ghost use Rattle.std.specs.String.{string_bytes};
+ghost use Rattle.clap.specs.Words.{FailsBy, HasKind, all_of, app_of, fault_of, found_of, matches_of, one_of};
+ghost use Rattle.clap.specs.Words.{first_of, rows_of, rule_of};
+ghost use Rattle.register_arguments.specs.CommandLine.{AreTaken, bare_command, command_line, flag_rule, is_set, option_rule};
+ghost use Rattle.register_arguments.specs.CommandLine.{values_in, values_of, word_rule};
+ghost use Rattle.register_arguments.specs.Faults.{fault_of_error};
+ghost use Rattle.register_arguments.specs.Requests.{AreFilesToConvert, AreTargetsOf, Ask, FailFirst, IsFileFault, IsFirstFileTwice};
+ghost use Rattle.register_arguments.specs.Requests.{IsNamedTwice, IsTargetFault, MeanJust};
+ghost use Rattle.register_arguments.specs.Requests.{meaning_of, value_checks};
+ghost use Rattle.register_arguments.specs.Requests.{task_of, values_by, wrong};
+
+use crate::option_values::{Delimiter, Ring, Stripes, chosen, read_targets};
+use crate::request_faults::RequestFault;
+use clap::error::ErrorKind;
+use clap::{Arg, ArgAction, ArgMatches, Command};
+use date_texts::Target;
+use date_texts::laws::{default_targets, one_target};
+use register_records::{Form, Setup};
+use std::alloc::{AllocError, Global};
+
+/// The most files of a command line.
+pub const MAX_FILES: usize = 32;
+
+/// The version of the program.
+pub const VERSION: &str = "1.1.0";
+
+/// A conversion that the arguments ask for.
+#[derive(Drop)]
+pub struct Job<'a> {
+    /// What is asked of each table and of the run.
+    pub setup: Setup,
+    /// Whether a summary is asked for.
+    pub summary: bool,
+    /// The files to convert, in order; with none, one text from standard input.
+    pub files: Vec<&'a str>,
+}
+
+/// What the arguments ask for.
+#[derive(Drop)]
+pub enum Request<'a> {
+    /// The page of help.
+    Help,
+    /// The version of the program.
+    Version,
+    /// A conversion.
+    Convert(Job<'a>),
+}
+
+/// The values of the options and the files, as the arguments have them.
+#[derive(Drop)]
+struct Options<'a> {
+    to: Option<&'a str>,
+    ring: Option<&'a str>,
+    stripes: Option<&'a str>,
+    delimiter: Option<&'a str>,
+    sealed: bool,
+    summary: bool,
+    files: Vec<&'a str>,
+}
+
+/// An option that takes a value.
+fn option<'a>(alloc: Global, name: &'a str, value: &'a str) -> Arg<'a>
+    ensures rule { rule_of result ≡ option_rule name.entry.now }
+    ensures local { result.global ≡ false }
+{
+    Arg::new(alloc, name).long(name).value_name(value)
+}
+
+/// A flag.
+fn flag<'a>(alloc: Global, name: &'a str) -> Arg<'a>
+    ensures rule { rule_of result ≡ flag_rule name.entry.now }
+    ensures local { result.global ≡ false }
+{
+    Arg::new(alloc, name).long(name).action(ArgAction::SetTrue)
+}
+
+/// The arguments that are no options, as many as there are.
+fn files_argument<'a>(alloc: Global, name: &'a str, value: &'a str) -> Arg<'a>
+    ensures rule { rule_of result ≡ word_rule name.entry.now }
+    ensures local { result.global ≡ false }
+{
+    Arg::new(alloc, name)
+        .value_name(value)
+        .action(ArgAction::Append)
+}
+
+/// The command with none of its options.
+fn empty_command<'a>(alloc: Global) -> Command<'a>
+    ensures { app_of result ≡ bare_command }
+{
+    Command::new(alloc, "register")
+        .version(VERSION)
+        .no_binary_name(true)
+}
+
+/// The command line, as clap reads it.
+fn command<'a>(alloc: Global) -> Result<Command<'a>, AllocError>
+    ensures { IfOk result (λ c. app_of c ≡ command_line) }
+{
+    empty_command(alloc)
+        .arg(option(alloc, "to", "LIST"))?
+        .arg(option(alloc, "ring", "N"))?
+        .arg(option(alloc, "stripes", "N"))?
+        .arg(option(alloc, "delimiter", "comma|semicolon|tab"))?
+        .arg(flag(alloc, "sealed"))?
+        .arg(flag(alloc, "summary"))?
+        .arg(files_argument(alloc, "file", "FILE"))
+}
+
+/// The value of an option, where the arguments give one.
+fn value_given<'a>(matches: &ArgMatches<'a>, name: &str) -> Option<&'a str>
+    ensures { option_map (λ v. v.now) result ≡ first_of name.now (rows_of (found_of matches.now)) }
+{
+    matches.get_str(name)
+}
+
+/// Whether the arguments give a flag.
+fn is_given(matches: &ArgMatches<'_>, name: &str) -> bool
+    ensures { result ≡ is_set (one_of name.now (rows_of (found_of matches.now))) }
+{
+    matches.get_one::<bool>(name).unwrap_or(false)
+}
+
+/// The arguments that are no options, as a list to be kept.
+fn files_given<'a>(alloc: Global, matches: &ArgMatches<'a>) -> Result<Vec<&'a str>, AllocError>
+    ensures { IfOk result (λ files. map (λ f. f.now) files.items
+        ≡ unwrap_or (all_of (codes "file") (rows_of (found_of matches.now))) []) }
+{
+    match matches.get_strs("file") {
+        Some(files) => files.to_vec(alloc),
+        None => Ok(Vec::new(alloc)),
+    }
+}
+
+/// What clap finds in the arguments.
+///
+/// # Errors
+///
+/// What clap refuses, a request for help or for the version, and running out of memory.
+fn read_arguments<'a>(alloc: Global, arguments: &'a [String]) -> Result<ArgMatches<'a>, clap::Error>
+    ensures found { IfOk result (λ m. rows_of (found_of m)
+        ≡ matches_of command_line (map string_bytes arguments.entry.now)) }
+    ensures fails { FailsBy (fault_of command_line (map string_bytes arguments.entry.now)) result }
+{
+    command(alloc)?.try_get_matches_from(arguments)
+}
+
+/// The values of the options that clap found, and the files.
+fn options_found<'a>(alloc: Global, matches: &ArgMatches<'a>) -> Result<Options<'a>, AllocError>
+    ensures { IfOk result (λ options. values_by options ≡ values_of (rows_of (found_of matches.now))) }
+{
+    let files = files_given(alloc, matches)?;
+    Ok(Options {
+        to: value_given(matches, "to"),
+        ring: value_given(matches, "ring"),
+        stripes: value_given(matches, "stripes"),
+        delimiter: value_given(matches, "delimiter"),
+        sealed: is_given(matches, "sealed"),
+        summary: is_given(matches, "summary"),
+        files,
+    })
+}
+
+/// The values of the options that the arguments give, and the files.
+///
+/// # Errors
+///
+/// What clap refuses, a request for help or for the version, and running out of memory.
+fn read_options<'a>(alloc: Global, arguments: &'a [String]) -> Result<Options<'a>, clap::Error>
+    ensures taken { IfOk result (λ options. AreTaken (map string_bytes arguments.entry.now)) }
+    ensures values { IfOk result (λ options. values_by options ≡ values_in (map string_bytes arguments.entry.now)) }
+    ensures kinds { IfErr result (HasKind (fault_of command_line (map string_bytes arguments.entry.now))) }
+{
+    let matches = read_arguments(alloc, arguments)?;
+    let options = options_found(alloc, &matches)?;
+    Ok(options)
+}
+
+/// The targets that the value of `--to` asks for, or all of them where there is none.
+fn chosen_targets<'a>(alloc: Global, list: Option<&'a str>) -> Result<Vec<Target>, RequestFault<'a>>
+    ensures value { IfOk result (λ targets. AreTargetsOf (option_map (λ l. l.now) list.entry) targets.items) }
+    ensures fault { IfErr result (λ error. IfSome (fault_of_error error)
+        (IsTargetFault (option_map (λ l. l.now) list.entry))) }
+{
+    match list {
+        Some(list) => read_targets(alloc, list),
+        None => {
+            default_targets();
+            match Target::ALL.to_vec(alloc) {
+                Ok(targets) => Ok(targets),
+                Err(_) => Err(RequestFault::OutOfMemory),
+            }
+        }
+    }
+}
+
+/// The form of the registers: sealed where the flag is given, and else plain.
+fn chosen_form(sealed: bool) -> Form
+    ensures { result ≡ (if sealed then Form.Sealed else Form.Plain) }
+{
+    if sealed { Form::Sealed } else { Form::Plain }
+}
+
+/// The first file from the left that was named before, or `None` where each is named once.
+fn file_named_twice<'a>(files: &[&'a str]) -> Option<&'a str>
+    ensures first { IfSome result (λ file. IsFirstFileTwice (map (λ f. f.now) files.now) file.now) }
+    ensures none { IfNone result ((file : List ℕ) → ¬ (IsNamedTwice (map (λ f. f.now) files.now) file)) }
+{
+    'places: for place in 0..files.len() {
+        if files[..place].contains(&files[place]) {
+            return Some(files[place]);
+        }
+    }
+    None
+}
+
+/// Finds what is wrong with the files.
+///
+/// # Errors
+///
+/// `TooManyFiles` where there are more than 32, and else `FileTwice` for the first that was named before.
+fn check_files<'a>(files: &[&'a str]) -> Result<(), RequestFault<'a>>
+    ensures fine { OnOk result (AreFilesToConvert (map (λ f. f.now) files.now)) }
+    ensures fault { IfErr result (λ error. IsSomeAnd (fault_of_error error)
+        (IsFileFault (map (λ f. f.now) files.now))) }
+{
+    if files.len() > MAX_FILES {
+        return Err(RequestFault::TooManyFiles);
+    }
+    match file_named_twice(files) {
+        Some(file) => Err(RequestFault::FileTwice(file)),
+        None => Ok(()),
+    }
+}
+
+/// The conversion that the options ask for.
+///
+/// # Errors
+///
+/// The first that applies: the faults of the list of targets as [`read_targets`] has them, `BadRing`,
+/// `UnknownDelimiter`, `BadStripes`, and the faults of the files as [`check_files`] has them; and `OutOfMemory` where
+/// memory runs out on the way.
+fn chosen_job<'a>(alloc: Global, options: Options<'a>) -> Result<Job<'a>, RequestFault<'a>>
+    ensures asked { IfOk result (λ job. Ask (values_by options.entry) (task_of job)) }
+    ensures fault { IfErr result (λ error. IfSome (fault_of_error error)
+        (FailFirst (value_checks (values_by options.entry)))) }
+{
+    let targets = chosen_targets(alloc, options.to)?;
+    let ring = chosen::<Ring>(options.ring)?;
+    let delimiter = chosen::<Delimiter>(options.delimiter)?;
+    let stripes = chosen::<Stripes>(options.stripes)?;
+    check_files(options.files.as_slice())?;
+    let form = chosen_form(options.sealed);
+    let byte = delimiter.byte();
+    match Setup::new(targets.as_slice(), ring.size, byte, stripes.count, form) {
+        Ok(setup) => Ok(Job {
+            setup,
+            summary: options.summary,
+            files: options.files,
+        }),
+        Err(_) => unreachable!(),
+    }
+}
+
+/// What the arguments ask for.
+///
+/// # Errors
+///
+/// The first that applies: `Usage` where the arguments are not as they are taken; `UnknownTarget` or `TargetTwice`
+/// for the first name of the list that names no target or one that was named before; `BadRing`; `UnknownDelimiter`;
+/// `BadStripes`; `TooManyFiles` for more than 32 files, or else `FileTwice` for the first that was named before. Besides
+/// these, `OutOfMemory` where memory runs out on the way.
+pub fn read_request<'a>(
+    alloc: Global,
+    arguments: &'a [String],
+) -> Result<Request<'a>, RequestFault<'a>>
+    ensures asked { IfOk result (λ request. MeanJust (map string_bytes arguments.entry.now) (meaning_of request)) }
+    ensures refused { IfErr result (λ error. IfSome (fault_of_error error)
+        (λ fault. MeanJust (map string_bytes arguments.entry.now) (wrong fault))) }
+{
+    one_target();
+    let options = match read_options(alloc, arguments) {
+        Ok(options) => options,
+        Err(error) => match error.kind() {
+            ErrorKind::DisplayHelp => return Ok(Request::Help),
+            ErrorKind::DisplayVersion => return Ok(Request::Version),
+            ErrorKind::OutOfMemory => return Err(RequestFault::OutOfMemory),
+            _ => return Err(RequestFault::Usage(error)),
+        },
+    };
+    let job = chosen_job(alloc, options)?;
+    Ok(Request::Convert(job))
+}

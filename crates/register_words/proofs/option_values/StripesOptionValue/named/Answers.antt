@@ -1,9 +1,0 @@
--- The number that the word names is one that there can be.
-use Rattle.register_records.specs.SetupRules.{most_stripes}
-use Rattle.register_words.proofs.OptionLemmas.{named_within}
-use Rattle.register_words.proofs.option_values.StripesOptionValue.named.Goals as goal
-
-pub invariant_of-result : goal.invariant_of-result
-invariant_of-result c = record {
-  fits = named_within most_stripes c.args.word.now c.in-Some.count ((c.number_named.ensures c.in-Some.count).0 c.in-Some.is);
-}

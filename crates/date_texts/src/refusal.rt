@@ -3,23 +3,31 @@
 ghost use Rattle.std.specs.Prelude.{◌≡◌};
 
 use day_numbers::DateFault;
+use thiserror::Error;
 
 /// Why a record is refused. A record is refused by the first that applies, in this order.
-#[derive(Clone, Copy, PartialEq, Eq, Debug)]
+#[derive(Clone, Copy, PartialEq, Eq, Debug, Error)]
 pub enum Refusal {
     /// The record has not as many fields as a register of its form.
+    #[error("the record has not three fields; in a sealed register, not four")]
     FieldCount,
     /// A field is over its limit in bytes.
+    #[error("a field is too long")]
     FieldTooLong,
     /// A field is not UTF-8.
+    #[error("a field is not UTF-8")]
     NotUtf8,
     /// No calendar has the name.
+    #[error("no calendar has the name")]
     UnknownCalendar,
     /// The date text is not in the calendar's grammar.
+    #[error("the date is not written as its calendar wants it")]
     DateText,
     /// The calendar has no such date.
+    #[error("the calendar has no such date")]
     NoSuchDate,
     /// The calendar has the date, and its day number is not from -3652424 to 3652059.
+    #[error("the day lies outside the Gregorian years -9999 to 9999")]
     OutOfRange,
 }
 

@@ -38,12 +38,12 @@ weekday, and the same day in each calendar asked for; a day before the first
 day of a calendar has an empty field there. The last column is empty where
 the date was converted. Else it has the first reason why it was not:
 
-    1  the record has not three fields; with --sealed, not four
-    2  its id is over 40 bytes, its calendar over 16, its date over 32 or
-       its note over 80
+    1  the record has not three fields; in a sealed register, not four
+    2  a field is too long: the id over 40 bytes, the calendar over 16, the
+       date over 32 or the note over 80
     3  a field is not UTF-8
     4  no calendar has the name
-    5  the date is not written as above
+    5  the date is not written as its calendar wants it: see above
     6  the calendar has no such date
     7  the day lies outside the Gregorian years -9999 to 9999
 
@@ -85,12 +85,13 @@ cause 4 its last line may be cut. Causes:
     3  not every row could be confirmed, which should never happen
     4  the table could not be written
     5  the register could not be read
-    6  the header is missing or is not id,calendar,date (with --sealed
-       id,calendar,date,note): other names or order, more columns, another
-       delimiter, UTF-16, a title line; nothing is written
+    6  the header is missing or wrong: not id,calendar,date (with --sealed
+       id,calendar,date,note), but other names or order, more columns,
+       another delimiter, UTF-16, a title line; nothing is written
     7  there are more than 1,000,000 records; the first 1,000,000 are there
-    8  with --sealed: the last line is not END,N with the right number and
-       the delimiter, or is missing; the records before it are there
+    8  the seal is missing or wrong: with --sealed, the last line is not
+       END,N with the right number and the delimiter; the records before it
+       are there
 
 Example: the text
 

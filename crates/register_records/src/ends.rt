@@ -4,6 +4,7 @@ ghost use Rattle.std.specs.Prelude.{◌≡◌};
 ghost use Rattle.register_records.specs.Sources.{cause_number, is_whole_end};
 
 use date_texts::Refusal;
+use thiserror::Error;
 
 /// A refused row: its number in the table, from 1, and its refusal.
 #[derive(Clone, Copy, PartialEq, Eq, Debug)]
@@ -13,23 +14,31 @@ pub struct Note {
 }
 
 /// Why a source is broken.
-#[derive(Clone, Copy, PartialEq, Eq, Debug)]
+#[derive(Clone, Copy, PartialEq, Eq, Debug, Error)]
 pub enum Cause {
     /// Memory ran out.
+    #[error("out of memory")]
     NoMemory,
     /// A thread did not start.
+    #[error("a thread could not be started")]
     NoThread,
     /// It could not be shown that the stages of a source passed on every record.
+    #[error("not every row could be confirmed")]
     Unconfirmed,
     /// The output failed.
+    #[error("the table could not be written")]
     SinkFault,
     /// The reader failed.
+    #[error("the register could not be read")]
     ReadFault,
     /// The first record is not the header, or there is none.
+    #[error("the header is missing or wrong")]
     BadHeader,
     /// The text has more than 1,000,000 entries.
+    #[error("there are more than 1,000,000 records")]
     TooManyRecords,
     /// A sealed text does not end with a seal that agrees.
+    #[error("the seal is missing or wrong")]
     NotSealed,
 }
 

@@ -6,6 +6,7 @@ use crate::ended_sources::Met;
 use crate::stripes::Stripe;
 use register_records::{Setup, SourceEnd};
 use std::snapshot::Snapshot;
+use thiserror::Error;
 
 /// Whether all sources of a run are whole.
 #[derive(Clone, Copy, PartialEq, Eq, Debug)]
@@ -37,19 +38,23 @@ pub struct Ran {
 }
 
 /// Why a run did not begin: the first of these that applies.
-#[derive(Clone, Copy, PartialEq, Eq, Debug)]
+#[derive(Clone, Copy, PartialEq, Eq, Debug, Error)]
 pub enum RunFaultKind {
     /// There are more than 32 sources.
+    #[error("there are more than 32 sources")]
     TooManySources,
     /// There are not as many outputs as sources.
+    #[error("there are not as many outputs as sources")]
     OutputCount,
     /// A list that the run needs was refused its memory.
+    #[error("out of memory")]
     NoMemory,
 }
 
 /// A run that did not begin. The sources and the outputs are handed back: no thread was started, and nothing was read
 /// or written.
-#[derive(Drop)]
+#[derive(Debug, Drop, Error)]
+#[error("{kind}")]
 pub struct RunFault<R, W> {
     pub kind: RunFaultKind,
     pub sources: Vec<R>,

@@ -1,9 +1,11 @@
-//! What the page of help says of options that are not given.
+//! What the page of help says of options that are not given, of refusals and of causes.
 
 use crate::tests::helpers::arguments_of;
-use register_records::Setup;
+use date_texts::Refusal;
 use register_arguments::{HELP, Request, read_request};
+use register_records::{Cause, Setup};
 use std::alloc::{AllocError, Global};
+use std::fmt::Display;
 use std::test::Fail;
 
 /// What the page says that an option is where it is not given: `comma` of "Without it: comma."
@@ -69,5 +71,63 @@ fn the_page_says_what_holds_without_an_option(rt: HostRuntime) -> Result<(), Fai
         is_default(rt.alloc(), "--to", targets.as_str())?,
         "{targets}"
     );
+    Ok(())
+}
+
+const REFUSALS: [Refusal; 7] = [
+    Refusal::FieldCount,
+    Refusal::FieldTooLong,
+    Refusal::NotUtf8,
+    Refusal::UnknownCalendar,
+    Refusal::DateText,
+    Refusal::NoSuchDate,
+    Refusal::OutOfRange,
+];
+
+const CAUSES: [Cause; 8] = [
+    Cause::NoMemory,
+    Cause::NoThread,
+    Cause::Unconfirmed,
+    Cause::SinkFault,
+    Cause::ReadFault,
+    Cause::BadHeader,
+    Cause::TooManyRecords,
+    Cause::NotSealed,
+];
+
+/// The list of the page from these words to those.
+fn list_between<'a>(from: &str, to: &str) -> Option<&'a str> {
+    let (_, rest) = HELP.split_once(from)?;
+    let (list, _) = rest.split_once(to)?;
+    Some(list)
+}
+
+/// Whether a line of a list has this number, and begins with this sentence.
+fn has_line(
+    alloc: Global,
+    list: &str,
+    number: u8,
+    sentence: impl Display,
+) -> Result<bool, AllocError> {
+    let line = format!(in alloc; "\n    {number}  {sentence}")?;
+    Ok(list.contains(line.as_str()))
+}
+
+#[test]
+fn the_page_explains_refusals_and_causes_as_the_library_does(rt: HostRuntime) -> Result<(), Fail> {
+    let refusals = list_between("why it was not:\n", "\nOptions:\n").unwrap_or("");
+    for refusal in REFUSALS {
+        assert!(rt;
+            has_line(rt.alloc(), refusals, refusal.number(), refusal)?,
+            "{refusal}"
+        );
+    }
+    let causes = list_between("Causes:\n", "\nExample:").unwrap_or("");
+    for cause in CAUSES {
+        assert!(rt;
+            has_line(rt.alloc(), causes, cause.number(), cause)?,
+            "{cause}"
+        );
+    }
     Ok(())
 }

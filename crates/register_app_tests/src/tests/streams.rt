@@ -3,9 +3,9 @@
 ghost use Rattle.std.specs.Prelude.{⊤};
 
 use crate::tests::helpers::{Heard, NoFiles, hear, hear_in_memory};
+use register_arguments::HELP;
 use register_files::{FileStore, LoggedWriter};
 use register_records::PlainOutput;
-use register_arguments::HELP;
 use std::alloc::{AllocError, Global};
 use std::io;
 use std::io::{ErrorKind, Read, Write};

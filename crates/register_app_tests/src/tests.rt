@@ -8,7 +8,7 @@ mod files;
 pub mod helpers;
 mod named;
 mod page;
-mod refused_words;
+mod refused_arguments;
 mod sealed;
 mod streams;
 mod terminal;

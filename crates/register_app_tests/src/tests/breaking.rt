@@ -264,7 +264,7 @@ fn has_taken(bytes: &[u8], text: &[u8], place: Break) -> bool {
 }
 
 /// Whether all is as it is wanted where standard error breaks there, but that what is reported breaks off.
-fn is_told_until(
+fn is_reported_until(
     rt: &(impl Threads + Wait + Clock + CpuClock + Sync),
     alloc: Global,
     case: &Case,
@@ -281,14 +281,14 @@ fn standard_error_that_breaks_changes_neither_status_nor_tables(rt: HostRuntime)
     for case in &CASES {
         for room in 0..case.errors.len() {
             assert!(rt;
-                is_told_until(&rt, rt.alloc(), case, Break::After(room)),
+                is_reported_until(&rt, rt.alloc(), case, Break::After(room)),
                 "{:?}, after {room}",
                 case.arguments
             );
         }
         for errors in [Break::AtFlush, NOWHERE] {
             assert!(rt;
-                is_told_until(&rt, rt.alloc(), case, errors),
+                is_reported_until(&rt, rt.alloc(), case, errors),
                 "{:?}, {errors:?}",
                 case.arguments
             );
@@ -342,7 +342,7 @@ fn is_printed_until(
 }
 
 #[test]
-fn a_page_that_cannot_be_printed_is_told(rt: HostRuntime) {
+fn a_page_that_cannot_be_printed_is_reported(rt: HostRuntime) {
     for (word, page) in PAGES {
         let size = page.len();
         for (output, errors, status) in [
@@ -406,8 +406,8 @@ fn reports_status_3(reported: &[u8], case: &Case) -> bool {
     as_wanted || cannot_make || reported == OUT_OF_MEMORY
 }
 
-/// Whether these arguments may have this outcome where one allocation is refused: this is reported, with nothing written, or one
-/// source is broken. A table that is refused its memory cannot be made.
+/// Whether these arguments may have this outcome where one allocation is refused: this is reported, with nothing
+/// written, or one source is broken. A table that is refused its memory cannot be made.
 fn fits_refused_memory(heard: &Heard<Breaking, Breaking>, case: &Case) -> bool {
     let reported = heard.errors.bytes.as_slice();
     match heard.status {
@@ -435,7 +435,7 @@ fn fits_any_memory(
 
 // It passes whichever allocation is refused.
 #[test]
-fn words_that_are_refused_memory_are_told(rt: HostRuntime) {
+fn arguments_that_are_refused_memory_are_reported(rt: HostRuntime) {
     for case in &CASES {
         assert!(rt;
             fits_any_memory(&rt, rt.alloc(), case),
@@ -446,7 +446,7 @@ fn words_that_are_refused_memory_are_told(rt: HostRuntime) {
 }
 
 /// Whether a page is printed, with nothing reported, or this is reported where memory ran out, with nothing printed.
-fn is_printed_or_told(heard: &Heard<Breaking, Breaking>, page: &str) -> bool {
+fn is_printed_or_reported(heard: &Heard<Breaking, Breaking>, page: &str) -> bool {
     let printed = heard.output.bytes.as_slice();
     let reported = heard.errors.bytes.as_slice();
     match heard.status {
@@ -463,14 +463,14 @@ fn is_page_of_any_memory(
     page: &str,
 ) -> bool {
     match hear_page(rt, alloc, word, NOWHERE, NOWHERE) {
-        Ok(heard) => is_printed_or_told(&heard, page),
+        Ok(heard) => is_printed_or_reported(&heard, page),
         Err(_) => true,
     }
 }
 
 // The same of a page.
 #[test]
-fn a_page_that_is_refused_memory_is_told(rt: HostRuntime) {
+fn a_page_that_is_refused_memory_is_reported(rt: HostRuntime) {
     for (word, page) in [("--help", HELP), ("--version", "register 1.1.0\n")] {
         assert!(rt;
             is_page_of_any_memory(&rt, rt.alloc(), word, page),

@@ -62,8 +62,8 @@ impl Heard<Vec<u8>, Vec<u8>> {
     }
 }
 
-/// What the program answers to these arguments. Nothing is promised of it, so that a test that calls this is proved without
-/// all that is proved of an answer.
+/// What the program answers to these arguments. Nothing is promised of it, so that a test that calls this is proved
+/// without all that is proved of an answer.
 fn answered<
     T: Threads + Wait + Clock + CpuClock + Sync,
     R: Read + Send + Drop,
@@ -186,7 +186,8 @@ pub fn hear_text(
     hear_in_memory(rt, alloc, arguments, text, &NoFiles)
 }
 
-/// Words with a text for standard input, without files, and what they give: the status, the table and standard error.
+/// Arguments with a text for standard input, without files, and what they give: the status, the table and standard
+/// error.
 #[derive(Clone, Copy)]
 pub struct TextCase {
     pub arguments: &'static [&'static str],

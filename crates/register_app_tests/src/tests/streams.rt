@@ -217,7 +217,7 @@ fn hear_broken<E: Write + Drop>(
 }
 
 /// Whether an input that breaks is reported.
-fn is_broken_input_told(
+fn is_broken_input_reported(
     rt: &(impl Threads + Wait + Clock + CpuClock + Sync),
     alloc: Global,
 ) -> bool {
@@ -228,7 +228,7 @@ fn is_broken_input_told(
 }
 
 /// Whether an output that breaks is reported.
-fn is_broken_output_told(
+fn is_broken_output_reported(
     rt: &(impl Threads + Wait + Clock + CpuClock + Sync),
     alloc: Global,
 ) -> bool {
@@ -251,9 +251,9 @@ fn are_broken_errors_let_go(
 }
 
 #[test]
-fn broken_streams_are_told(rt: HostRuntime) {
-    assert!(rt; is_broken_input_told(&rt, rt.alloc()));
-    assert!(rt; is_broken_output_told(&rt, rt.alloc()));
+fn broken_streams_are_reported(rt: HostRuntime) {
+    assert!(rt; is_broken_input_reported(&rt, rt.alloc()));
+    assert!(rt; is_broken_output_reported(&rt, rt.alloc()));
     assert!(rt; are_broken_errors_let_go(&rt, rt.alloc()));
 }
 

@@ -149,7 +149,9 @@ row,id,calendar,date,note,rd,weekday,refusal
 ";
 
 #[test]
-fn a_fault_of_reading_is_told_but_not_after_one_of_writing(rt: HostRuntime) -> Result<(), Fail> {
+fn a_fault_of_reading_is_reported_but_not_after_one_of_writing(
+    rt: HostRuntime,
+) -> Result<(), Fail> {
     assert!(rt; is_cut_after(rt.alloc(), Form::Plain, WEEK_DATE, WEEK_DATE_TABLE, (0, 5))?);
     assert!(rt; is_cut_after(rt.alloc(), Form::Plain, WEEK_DATE, "", (1, 4))?);
     assert!(rt; is_cut_after(rt.alloc(), Form::Sealed, SEALED, SEALED_TABLE, (0, 5))?);

@@ -24,7 +24,7 @@ static SETUPS: [(&[Target], usize, u8, usize, u8); 9] = [
     (&[], 1, b',', 4, 0),
 ];
 
-/// Whether a setup of these parts has the fault of this number, or for 0 tells them.
+/// Whether a setup of these parts has the fault of this number, or for 0 none and these parts.
 fn has_fault(targets: &[Target], ring: usize, delimiter: u8, stripes: usize, fault: u8) -> bool {
     match Setup::new(targets, ring, delimiter, stripes, Form::Plain) {
         Ok(setup) => {
@@ -49,7 +49,7 @@ fn setups_have_their_faults(rt: HostRuntime) {
 }
 
 /// Whether this is the last row of a register with these two targets, and of no other setup.
-fn tells_its_parts(row: &Row, setup: &Setup, other: &Setup) -> bool {
+fn has_its_parts(row: &Row, setup: &Setup, other: &Setup) -> bool {
     row.entry().number() == 1_000_000
         && row.targets().len() == 2
         && row.outcome().is_ok_and(|day| day.number() == 577_736)
@@ -70,14 +70,14 @@ fn renewed_row(entry: Entry, other: &Setup, setup: &Setup) -> Row {
 }
 
 #[test]
-fn rows_tell_their_parts_and_are_small(rt: HostRuntime) -> Result<(), Fail> {
+fn rows_have_their_parts_and_are_small(rt: HostRuntime) -> Result<(), Fail> {
     let setup = plain(&[GREGORIAN, JULIAN])?;
     let other = plain(&[JULIAN, GREGORIAN])?;
     let last = Entry::new(1_000_000, fields_of(["", "Julian", "1582-10-05"])?).ok_or("no entry")?;
     let row = row_of(last, &setup);
-    assert!(rt; tells_its_parts(&row, &setup, &other));
+    assert!(rt; has_its_parts(&row, &setup, &other));
     let row = renewed_row(last, &plain(&[ISO, JULIAN, ROMAN])?, &setup);
-    assert!(rt; tells_its_parts(&row, &setup, &other));
+    assert!(rt; has_its_parts(&row, &setup, &other));
     assert!(rt; size_of::<Entry>() == 216 && size_of::<Row>() == 544);
     Ok(())
 }

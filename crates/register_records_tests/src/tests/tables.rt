@@ -268,7 +268,7 @@ fn is_whole_with(alloc: Global, end: &SourceEnd, count: usize, notes: &str) -> b
         } => {
             *rows as usize == count
                 && *refused as usize == journal.len()
-                && notes_of(alloc, journal.as_slice()).is_ok_and(|told| told.as_str() == notes)
+                && notes_of(alloc, journal.as_slice()).is_ok_and(|found| found.as_str() == notes)
         }
         SourceEnd::Broken { .. } => false,
     }

@@ -60,7 +60,7 @@ fn are_refused(
 }
 
 #[test]
-fn words_are_refused_by_the_first_fault(rt: HostRuntime) {
+fn arguments_are_refused_by_the_first_fault(rt: HostRuntime) {
     for line in &REFUSED {
         assert!(rt; are_refused(&rt, rt.alloc(), line), "{:?}", line.arguments);
     }

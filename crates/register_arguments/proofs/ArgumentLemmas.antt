@@ -1,5 +1,5 @@
 -- Arguments mean one thing at most.
-use Rattle.std.proofs.Common.{◌≡◌, ◌∙◌, ℕ, Bool, List, [], ◌∷◌, length, sym, ap, ap₂, refl, subst, arith}
+use Rattle.std.proofs.Common.{◌≡◌, ◌∙◌, ℕ, Bool, List, [], ◌∷◌, length, sym, ap, ap₂, refl, subst, arith, rules}
 use Rattle.std.proofs.Common.{inl, inr, Option, Some, None}
 use Rattle.std.specs.Prelude.{◌≢◌, ⊤, IfSome}
 use Rattle.clap.specs.Values.{kind_of}
@@ -9,7 +9,7 @@ use Rattle.clap.specs.declared.error.kind.ErrorKind.{ErrorKind}
 use Rattle.clap.specs.declared.error.kind.ErrorKind.TheVariants.{DisplayHelp, DisplayVersion, OutOfMemory}
 use Rattle.date_texts.specs.Laws.{OneTarget}
 use Rattle.date_texts.specs.declared.target.Target.{Target}
-use Rattle.register_arguments.specs.CommandLine.{AreTaken, command_line, values_in}
+use Rattle.register_arguments.specs.CommandLine.{AreTaken, Values, command_line, values_in}
 use Rattle.register_arguments.specs.Faults.{Fault, usage}
 use Rattle.register_arguments.specs.OptionValues.{IsDelimiterWord, IsNumberWord, IsValueOf, ValueOption, delimiter_option}
 use Rattle.register_arguments.specs.OptionValues.{ring_option, stripes_option}
@@ -17,7 +17,7 @@ use Rattle.register_records.specs.Entries.{Format}
 use Rattle.register_records.specs.SetupRules.{largest_ring, most_stripes}
 use Rattle.register_records.specs.Tables.{Layout}
 use Rattle.register_records.specs.declared.setups.Form.{Form}
-use Rattle.register_arguments.specs.Requests.{AreTargetsOf, Check, FailFirst, IsFaultOf}
+use Rattle.register_arguments.specs.Requests.{AreTargetsOf, Ask, Check, FailFirst, IsFaultOf}
 use Rattle.register_arguments.specs.Requests.{IsTargetFault, Mean, MeanJust, Meaning, Task, file_check, option_check}
 use Rattle.register_arguments.specs.Requests.{target_check, usage_check, value_checks, help, version, table}
 use Rattle.register_arguments.specs.Requests.{wrong}
@@ -121,6 +121,40 @@ module _ (one : OneTarget) where
     none = λ fault asked is. no_target_fault value asked.0 fault asked.1 is;
   }
 
+  sound_checks : (values : Values) → AreSound (value_checks values)
+  sound_checks values = search (rules, sound_targets, sound_option, sound_files)
+
+-- values that ask for a task pass each check
+all_pass : (values : Values) (task : Task) → Ask values task → AllPass (value_checks values)
+all_pass values task asks = (
+  (_, asks.targets),
+  ((_, asks.ring), ((_, asks.delimiter), ((_, asks.stripes), (asks.files_fit, tt)))),
+)
+
+-- a task is all that it has
+parts : (a : Task) → a ≡ record {
+  layout = record {
+    format = record { delimiter = a.layout.format.delimiter; form = a.layout.format.form };
+    targets = a.layout.targets;
+  };
+  ring = a.ring;
+  stripes = a.stripes;
+  summary = a.summary;
+  files = a.files;
+}
+parts a = refl
+
+-- values ask for one task at most
+one_task : (values : Values) (a b : Task) → OneTarget → Ask values a → Ask values b → a ≡ b
+one_task values a b one asked same =
+    let targets : a.layout.targets ≡ b.layout.targets = one_list one values.to _ _ asked.targets same.targets in
+    let ring : a.ring ≡ b.ring = one_asked ring_option (one_number largest_ring) values.ring _ _ asked.ring same.ring in
+    let delimiter : a.layout.format.delimiter ≡ b.layout.format.delimiter =
+    one_asked delimiter_option one_byte values.delimiter _ _ asked.delimiter same.delimiter in
+    let stripes : a.stripes ≡ b.stripes =
+    one_asked stripes_option (one_number most_stripes) values.stripes _ _ asked.stripes same.stripes in
+    cc (parts a, parts b)
+
 module _ (one : OneTarget) (arguments : List Text) where
   not_taken : (kind : ErrorKind) → AreTaken arguments → IsAmong kind (fault_of command_line arguments) → ⊥
   not_taken kind taken among = subst (IsAmong kind) taken among
@@ -132,20 +166,7 @@ module _ (one : OneTarget) (arguments : List Text) where
   }
 
   all_sound : AreSound (usage_check arguments ∷ value_checks (values_in arguments))
-  all_sound =
-      let values = values_in arguments in (
-        sound_usage,
-        (
-          sound_targets one values.to,
-          (
-            sound_option ring_option values.ring,
-            (
-              sound_option delimiter_option values.delimiter,
-              (sound_option stripes_option values.stripes, (sound_files values.files, tt)),
-            ),
-          ),
-        ),
-      )
+  all_sound = (sound_usage, sound_checks one (values_in arguments))
 
   help_no_fault : (fault : Fault) → Mean arguments help → IsFaultOf arguments fault → ⊥
   help_no_fault fault asks (inl is) = is.3 (one_kind arguments is.0 DisplayHelp is.2 asks)
@@ -163,52 +184,11 @@ module _ (one : OneTarget) (arguments : List Text) where
 
   table_no_fault : (task : Task) (fault : Fault) → Mean arguments (table task) → ¬ IsFaultOf arguments fault
   table_no_fault task fault asks =
-      no_fault (usage_check arguments ∷ value_checks (values_in arguments)) all_sound (
-        asks.0,
-        (
-          (task.layout.targets, asks.1.targets),
-          (
-            (task.ring, asks.1.ring),
-            (
-              (task.layout.format.delimiter, asks.1.delimiter),
-              ((task.stripes, asks.1.stripes), (asks.1.files_fit, tt)),
-            ),
-          ),
-        ),
-      ) fault
+      no_fault (usage_check arguments ∷ value_checks (values_in arguments)) all_sound
+      (asks.0, all_pass (values_in arguments) task asks.1) fault
 
   one_table : (task other : Task) → Mean arguments (table task) → Mean arguments (table other) → table task ≡ table other
-  one_table task other asks asks_other =
-      let values = values_in arguments in
-      let asked = asks.1 in
-      let same = asks_other.1 in
-      let targets = one_list one values.to task.layout.targets other.layout.targets asked.targets same.targets in
-      let ring =
-      one_asked ring_option (one_number largest_ring) values.ring task.ring other.ring asked.ring same.ring in
-      let delimiter =
-      one_asked delimiter_option one_byte values.delimiter task.layout.format.delimiter other.layout.format.delimiter
-      asked.delimiter same.delimiter in
-      let stripes =
-      one_asked stripes_option (one_number most_stripes) values.stripes task.stripes other.stripes asked.stripes
-      same.stripes in
-      ap table (same_task task other
-      (same_layout task.layout other.layout targets delimiter (asked.form ∙ sym same.form)) ring stripes
-      (asked.summary ∙ sym same.summary) (asked.files ∙ sym same.files))
-    where
-      same_layout : (a b : Layout) → a.targets ≡ b.targets → a.format.delimiter ≡ b.format.delimiter
-          → a.format.form ≡ b.format.form → a ≡ b
-      same_layout a b targets delimiter form =
-          let format : a.format ≡ b.format =
-          ap₂ (λ (d : ℕ) (f : Form). record { delimiter = d; form = f }) delimiter form in
-          ap₂ (λ (ts : List Target) (f : Format). record { format = f; targets = ts }) targets format
-
-      same_task : (a b : Task) → a.layout ≡ b.layout → a.ring ≡ b.ring → a.stripes ≡ b.stripes → a.summary ≡ b.summary
-          → a.files ≡ b.files → a ≡ b
-      same_task a b layout ring stripes summary files =
-          ap₂ (λ (l : Layout) (n : ℕ). record a { layout = l; ring = n }) layout ring
-          ∙ ap₂ (λ (n : ℕ) (s : Bool). record a { layout = b.layout; ring = b.ring; stripes = n; summary = s }) stripes
-          summary
-          ∙ ap (λ (fs : List Text). record b { files = fs }) files
+  one_table task other asks same = ap table (one_task (values_in arguments) task other one asks.1 same.1)
 
   one_meaning : (meaning other : Meaning) → Mean arguments meaning → Mean arguments other → other ≡ meaning
   one_meaning help help x y = refl

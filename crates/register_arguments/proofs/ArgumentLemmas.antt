@@ -1,5 +1,5 @@
 -- Arguments mean one thing at most.
-use Rattle.std.proofs.Common.{◌≡◌, ◌∙◌, ℕ, Bool, List, [], ◌∷◌, length, sym, ap, ap₂, refl, subst, arith, rules}
+use Rattle.std.proofs.Common.{◌≡◌, ◌∙◌, ℕ, List, [], ◌∷◌, length, sym, ap, refl, subst, arith, rules}
 use Rattle.std.proofs.Common.{inl, inr, Option, Some, None}
 use Rattle.std.specs.Prelude.{◌≢◌, ⊤, IfSome}
 use Rattle.clap.specs.Values.{kind_of}
@@ -13,10 +13,7 @@ use Rattle.register_arguments.specs.CommandLine.{AreTaken, Values, command_line,
 use Rattle.register_arguments.specs.Faults.{Fault, usage}
 use Rattle.register_arguments.specs.OptionValues.{IsDelimiterWord, IsNumberWord, IsValueOf, ValueOption, delimiter_option}
 use Rattle.register_arguments.specs.OptionValues.{ring_option, stripes_option}
-use Rattle.register_records.specs.Entries.{Format}
 use Rattle.register_records.specs.SetupRules.{largest_ring, most_stripes}
-use Rattle.register_records.specs.Tables.{Layout}
-use Rattle.register_records.specs.declared.setups.Form.{Form}
 use Rattle.register_arguments.specs.Requests.{AreTargetsOf, Ask, Check, FailFirst, IsFaultOf}
 use Rattle.register_arguments.specs.Requests.{IsTargetFault, Mean, MeanJust, Meaning, Task, file_check, option_check}
 use Rattle.register_arguments.specs.Requests.{target_check, usage_check, value_checks, help, version, table}

@@ -7,7 +7,8 @@ use Rattle.date_texts.specs.Calendars.{target_name}
 use Rattle.date_texts.specs.Names.{IsNamed}
 use Rattle.date_texts.specs.declared.target.Target.{Target}
 use Rattle.register_records.specs.SetupRules.{NamesTwice, largest_ring, most_stripes}
-use Rattle.register_arguments.specs.Faults.{Fault, bad_ring, bad_stripes, unknown_delimiter, unknown_target, target_twice}
+use Rattle.register_arguments.specs.Faults.{Fault, bad_ring, bad_stripes, target_twice, unknown_delimiter}
+use Rattle.register_arguments.specs.Faults.{unknown_target}
 use Rattle.register_arguments.specs.declared.option_values.Delimiter.{Delimiter}
 use Rattle.register_arguments.specs.declared.option_values.Delimiter.TheVariants as delimiter
 

@@ -3,8 +3,9 @@
 ghost use Rattle.std.specs.Prelude.{◌≡◌, ◌↔◌, ℕ, Some, Ok, Err, IfOk, IfErr, IfSome, IsSomeAnd, option_map, true};
 ghost use Rattle.register_records.specs.SetupRules.{is_delimiter, is_ring_size, is_stripe_count};
 ghost use Rattle.register_arguments.specs.Faults.{fault_of_error};
-ghost use Rattle.register_arguments.specs.OptionValues.{IsNumberWord, IsValueFault, IsValueOf, ListMeansJust, ValueOption};
-ghost use Rattle.register_arguments.specs.OptionValues.{byte_of, delimiter_option, ring_option, stripes_option};
+ghost use Rattle.register_arguments.specs.OptionValues.{IsNumberWord, IsValueFault, IsValueOf, ListMeansJust};
+ghost use Rattle.register_arguments.specs.OptionValues.{ValueOption, byte_of, delimiter_option, ring_option};
+ghost use Rattle.register_arguments.specs.OptionValues.{stripes_option};
 
 use crate::request_faults::RequestFault;
 use date_texts::laws::one_target;

@@ -1,18 +1,16 @@
 //! What the arguments ask for.
 
 ghost use Rattle.std.specs.Prelude.{◌≡◌, ℕ, List, IfOk, IfErr, IfSome, IfNone, IsSomeAnd, OnOk, map};
-ghost use Rattle.std.specs.Prelude.{Some, option_map};
-ghost use Rattle.std.specs.Prelude.{if◌then◌else◌, unwrap_or, codes, [], false};
+ghost use Rattle.std.specs.Prelude.{Some, option_map, if◌then◌else◌, unwrap_or, codes, [], false};
 ghost use Rattle.std.specs.String.{string_bytes};
-ghost use Rattle.clap.specs.Words.{FailsBy, HasKind, all_of, app_of, fault_of, found_of, matches_of, one_of};
-ghost use Rattle.clap.specs.Words.{first_of, rows_of, rule_of};
-ghost use Rattle.register_arguments.specs.CommandLine.{AreTaken, bare_command, command_line, flag_rule, is_set, option_rule};
-ghost use Rattle.register_arguments.specs.CommandLine.{values_in, values_of, word_rule};
+ghost use Rattle.clap.specs.Words.{FailsBy, HasKind, all_of, app_of, fault_of, first_of, found_of, matches_of, one_of};
+ghost use Rattle.clap.specs.Words.{rows_of, rule_of};
+ghost use Rattle.register_arguments.specs.CommandLine.{AreTaken, bare_command, command_line, flag_rule, is_set};
+ghost use Rattle.register_arguments.specs.CommandLine.{option_rule, values_in, values_of, word_rule};
 ghost use Rattle.register_arguments.specs.Faults.{fault_of_error};
-ghost use Rattle.register_arguments.specs.Requests.{AreFilesToConvert, AreTargetsOf, Ask, FailFirst, IsFileFault, IsFirstFileTwice};
-ghost use Rattle.register_arguments.specs.Requests.{IsNamedTwice, IsTargetFault, MeanJust};
-ghost use Rattle.register_arguments.specs.Requests.{meaning_of, value_checks};
-ghost use Rattle.register_arguments.specs.Requests.{task_of, values_by, wrong};
+ghost use Rattle.register_arguments.specs.Requests.{AreFilesToConvert, AreTargetsOf, Ask, FailFirst, IsFileFault};
+ghost use Rattle.register_arguments.specs.Requests.{IsFirstFileTwice, IsNamedTwice, IsTargetFault, MeanJust, meaning_of};
+ghost use Rattle.register_arguments.specs.Requests.{task_of, value_checks, values_by, wrong};
 
 use crate::option_values::{Delimiter, Ring, Stripes, chosen, read_targets};
 use crate::request_faults::RequestFault;
@@ -273,8 +271,8 @@ fn chosen_job<'a>(alloc: Global, options: Options<'a>) -> Result<Job<'a>, Reques
 ///
 /// The first that applies: `Usage` where the arguments are not as they are taken; `UnknownTarget` or `TargetTwice`
 /// for the first name of the list that names no target or one that was named before; `BadRing`; `UnknownDelimiter`;
-/// `BadStripes`; `TooManyFiles` for more than 32 files, or else `FileTwice` for the first that was named before. Besides
-/// these, `OutOfMemory` where memory runs out on the way.
+/// `BadStripes`; `TooManyFiles` for more than 32 files, or else `FileTwice` for the first that was named before.
+/// Besides these, `OutOfMemory` where memory runs out on the way.
 pub fn read_request<'a>(
     alloc: Global,
     arguments: &'a [String],

@@ -1,14 +1,12 @@
 -- What the options mean, and that it fits a setup.
-use Rattle.std.proofs.Common.{◌≡◌, ◌∙◌, ap, sym, subst, map, inl, inr, refl, List, Result}
+use Rattle.std.proofs.Common.{◌≡◌, ◌∙◌, sym, inl, inr, refl, Result}
 use Rattle.std.specs.Prelude.{IfErr, IfSome, IsErrAnd, IsSomeAnd}
 use Rattle.clap.proofs.TakesLemmas.{passed_up}
-use Rattle.clap.specs.Words.{Text}
 use Rattle.register_arguments.specs.CommandLine.{Values}
 use Rattle.register_arguments.specs.Faults.{Fault, fault_of_error}
 use Rattle.register_arguments.specs.Requests.{values_by}
-use Rattle.register_arguments.specs.Requests.{AreFilesToConvert, AreTargetsOf, FailFirst, IsFileFault}
+use Rattle.register_arguments.specs.Requests.{FailFirst}
 use Rattle.register_arguments.specs.Requests.{value_checks}
-use Rattle.register_arguments.specs.OptionValues.{IsValueOf, byte_of, delimiter_option, ring_option, stripes_option}
 use Rattle.register_arguments.specs.declared.request_faults.RequestFault.{RequestFault}
 use Rattle.register_arguments.specs.declared.requests.Job.{Job}
 use Rattle.register_arguments.proofs.OptionLemmas.{found_first, if_some}
@@ -43,62 +41,48 @@ pub returns-in_err-ring-clause-fault : goal.returns-in_err-ring-clause-fault
 returns-in_err-ring-clause-fault c =
     passes_found c.from_residual-in_err-ring.result c.in_err-ring.field-0.0 (values_by c.args.options) _
     c.from_residual-in_err-ring.ensures.1 c.in_err-ring.ensures.fault
-    (λ fault is. inr ((c.in_ok-targets.targets.items, c.in_ok-targets.ensures.value), inl is))
+    (λ fault is. inr ((_, c.in_ok-targets.ensures.value), inl is))
 
 pub returns-in_err-delimiter-clause-fault : goal.returns-in_err-delimiter-clause-fault
 returns-in_err-delimiter-clause-fault c =
     passes_found c.from_residual-in_err-delimiter.result c.in_err-delimiter.field-0.0 (values_by c.args.options) _
     c.from_residual-in_err-delimiter.ensures.1 c.in_err-delimiter.ensures.fault
-    (λ fault is. inr (
-      (c.in_ok-targets.targets.items, c.in_ok-targets.ensures.value),
-      inr ((c.in_ok-ring.ring.size, c.in_ok-ring.ensures.value), inl is),
-    ))
+    (λ fault is. inr ((_, c.in_ok-targets.ensures.value), inr ((_, c.in_ok-ring.ensures.value), inl is)))
 
 pub returns-in_err-stripes-clause-fault : goal.returns-in_err-stripes-clause-fault
 returns-in_err-stripes-clause-fault c =
     passes_found c.from_residual-in_err-stripes.result c.in_err-stripes.field-0.0 (values_by c.args.options) _
     c.from_residual-in_err-stripes.ensures.1 c.in_err-stripes.ensures.fault
     (λ fault is. inr (
-      (c.in_ok-targets.targets.items, c.in_ok-targets.ensures.value),
-      inr (
-        (c.in_ok-ring.ring.size, c.in_ok-ring.ensures.value),
-        inr ((byte_of c.in_ok-delimiter.delimiter, c.in_ok-delimiter.ensures.value), inl is),
-      ),
+      (_, c.in_ok-targets.ensures.value),
+      inr ((_, c.in_ok-ring.ensures.value), inr ((_, c.in_ok-delimiter.ensures.value), inl is)),
     ))
 
 pub returns-in_err-check_files-clause-fault : goal.returns-in_err-check_files-clause-fault
 returns-in_err-check_files-clause-fault c =
-    let found = subst (λ (files : List Text). IsSomeAnd (fault_of_error c.in_err-check_files.field-0.0) (IsFileFault files))
-    (ap (map (λ f. f.now)) c.as_slice.ensures.value) c.in_err-check_files.ensures.fault in
+    let found = rw c.as_slice.ensures.value at c.in_err-check_files.ensures.fault in
     passes_found c.from_residual-in_err-check_files.result c.in_err-check_files.field-0.0 (values_by c.args.options) _
     c.from_residual-in_err-check_files.ensures.1 found
     (λ fault is. inr (
-      (c.in_ok-targets.targets.items, c.in_ok-targets.ensures.value),
+      (_, c.in_ok-targets.ensures.value),
       inr (
-        (c.in_ok-ring.ring.size, c.in_ok-ring.ensures.value),
-        inr (
-          (byte_of c.in_ok-delimiter.delimiter, c.in_ok-delimiter.ensures.value),
-          inr ((c.in_ok-stripes.stripes.count, c.in_ok-stripes.ensures.value), inl is),
-        ),
+        (_, c.in_ok-ring.ensures.value),
+        inr ((_, c.in_ok-delimiter.ensures.value), inr ((_, c.in_ok-stripes.ensures.value), inl is)),
       ),
     ))
 
 pub returns-clause-asked : goal.returns-clause-asked
 returns-clause-asked c =
     let fields = c.in-Ok.ensures.value in
-    let values = values_by c.args.options in
     record {
-      targets = subst (AreTargetsOf values.to) (sym (fields.0 ∙ c.as_slice-2.ensures.value))
-          c.in_ok-targets.ensures.value;
-      ring = subst (IsValueOf ring_option values.ring) (sym fields.1) c.in_ok-ring.ensures.value;
-      delimiter = subst (IsValueOf delimiter_option values.delimiter) (sym (fields.2 ∙ c.byte-byte.ensures.value))
-          c.in_ok-delimiter.ensures.value;
-      stripes = subst (IsValueOf stripes_option values.stripes) (sym fields.3) c.in_ok-stripes.ensures.value;
+      targets = rw (fields.0, c.as_slice-2.ensures.value) c.in_ok-targets.ensures.value;
+      ring = rw fields.1 c.in_ok-ring.ensures.value;
+      delimiter = rw (fields.2, c.byte-byte.ensures.value) c.in_ok-delimiter.ensures.value;
+      stripes = rw fields.3 c.in_ok-stripes.ensures.value;
       form = fields.4 ∙ c.chosen_form-form.ensures;
       summary = refl;
       files = refl;
-      files_fit = subst AreFilesToConvert (ap (map (λ f. f.now)) c.as_slice.ensures.value)
-          c.in_ok-check_files.ensures.fine;
+      files_fit = rw c.as_slice.ensures.value at c.in_ok-check_files.ensures.fine;
     }
 
 pub unreachable-requires : goal.unreachable-requires

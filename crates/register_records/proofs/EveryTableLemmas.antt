@@ -21,7 +21,7 @@ use Rattle.register_records.specs.Records.{Fields, Texts}
 use Rattle.register_records.specs.declared.setups.Form.{Form}
 
 -- the outcome of a body
-abbrev HasOutcome : Result Texts Refusal → Type 0
+abbrev pub HasOutcome : Result Texts Refusal → Type 0
 HasOutcome body = (outcome : Result ℤ Refusal) × IsOutcome body outcome
 
 dated : (t : Texts) (calendar : Calendar) (date : Date) → Says t.calendar t.date calendar date → HasOutcome (Ok t)
@@ -39,7 +39,7 @@ named t calendar is = elim (says_date calendar t.date) [
   | inr none ↦ (Err refusal.DateText, no_date_text calendar is (λ date text. none (date, text)))
 ]
 
-has_outcome : (body : Result Texts Refusal) → HasOutcome body
+pub has_outcome : (body : Result Texts Refusal) → HasOutcome body
 has_outcome (Err r) = (Err r, refused)
 has_outcome (Ok t) = elim (names_calendar t.calendar) [
   | inl is ↦ named t is.0 is.1

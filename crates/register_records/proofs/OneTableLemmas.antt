@@ -1,5 +1,5 @@
 -- A text has one table at most.
-use Rattle.std.proofs.Common.{◌≡◌, ℕ, List, refl, sym, ap, ◌∙◌}
+use Rattle.std.proofs.Common.{◌≡◌, ℕ, List, refl, subst, sym, ap, ◌∙◌}
 use Rattle.std.specs.Prelude.{ℤ, Result, Ok, Err, Some}
 use Rattle.day_numbers.specs.Days.{IsDayNumber}
 use Rattle.date_texts.specs.Calendars.{calendar_name}
@@ -17,6 +17,9 @@ use Rattle.date_texts.specs.declared.date.Date.{Date}
 use Rattle.date_texts.specs.declared.refusal.Refusal.{Refusal}
 use Rattle.date_texts.specs.declared.refusal.Refusal.TheVariants as refusal
 use Rattle.date_texts.specs.Laws.{OneCalendar, OneCell, OneDateText}
+use Rattle.std.proofs.Math.Logic.{∥∥₁_elim}
+use Rattle.std.proofs.Props.{props}
+use Rattle.register_records.proofs.EveryTableLemmas.{has_outcome}
 use Rattle.register_records.proofs.RowTailLemmas.{one_beside, one_cells}
 
 module _ (one_calendar : OneCalendar) (one_date_text : OneDateText) (one_cell : OneCell) where
@@ -103,6 +106,13 @@ module _ (one_calendar : OneCalendar) (one_date_text : OneDateText) (one_cell : 
   one_outcome b o p (no_such_date {t = t} c d says none) k = sym ((of_date t b p k refl c d says).0 none)
   one_outcome b o p (out_of_range {t = t} c d says is out) k = sym ((of_date t b p k refl c d says).1 is out)
   one_outcome b o p (accepted {t = t} c d says is within) k = sym ((of_date t b p k refl c d says).2 is within)
+
+  -- what is only said of its outcome is known of it, since it is the only one
+  pub known_outcome : (b : Result Texts Refusal) (o : Result ℤ Refusal) → ∥ IsOutcome b o ∥₁ → IsOutcome b o
+  known_outcome b o said =
+      let (known, is) = has_outcome b in
+      let same : known ≡ o = ∥∥₁_elim said (Prim.hlevel props) (λ other. one_outcome b known o is other) in
+      subst (λ (x : Result ℤ Refusal). IsOutcome b x) same is
 
   made_row : (n m : ℕ) (b c : Result Texts Refusal) (o p : Result ℤ Refusal) (xs ys : List (List ℕ)) → n ≡ m → b ≡ c
       → o ≡ p → xs ≡ ys

@@ -1,6 +1,7 @@
 -- What the calls that read a record's texts say of its outcome.
-use Rattle.std.proofs.Common.{◌≡◌, ◌<◌, ◌+◌, ◌++◌, ℕ, List, [], ◌∷◌, Option, Some, None, refl, length, map, take}
-use Rattle.std.proofs.Common.{IfOk, get_or}
+use Rattle.std.proofs.Common.{◌≡◌, ◌<◌, ◌+◌, ◌++◌, ℕ, List, [], ◌∷◌, Option, Some, None, refl, length, map, sym, take, ◌∙◌}
+use Rattle.std.proofs.Common.{IfOk, IfSome, get_or}
+use Rattle.std.proofs.Math.Logic.{∥∥₁_map}
 use Rattle.std.specs.Prelude.{◌↔◌, ℤ, IsOk, Result, Ok, Err}
 use Rattle.std.proofs.lemmas.List.{map-append, take_more}
 use Rattle.register_records.specs.CellTexts.{cell_bytes}
@@ -10,6 +11,8 @@ use Rattle.day_numbers.specs.declared.day.Day.{Day}
 use Rattle.date_texts.specs.Calendars.{calendar_name}
 use Rattle.date_texts.specs.Cells.{IsCell}
 use Rattle.date_texts.specs.Dates.{IsDateOfCalendar, day_number_of_date}
+use Rattle.register_records.specs.DatedTexts.{AreIn}
+use Rattle.register_records.specs.declared.dated_texts.DatedText.{DatedText}
 use Rattle.register_records.specs.Entries.{Texts}
 use Rattle.date_texts.specs.Names.{IsNamed}
 use Rattle.register_records.specs.Outcomes.{AreCells, IsOutcome, Says}
@@ -60,6 +63,28 @@ module _ (t : Texts) (c : Calendar) (d : Date) where
   day_outcome s (Err refusal.NotUtf8) h = absurd (other_refusal refusal.NotUtf8 (λ e. cc) (λ e. cc) h)
   day_outcome s (Err refusal.UnknownCalendar) h = absurd (other_refusal refusal.UnknownCalendar (λ e. cc) (λ e. cc) h)
   day_outcome s (Err refusal.DateText) h = absurd (other_refusal refusal.DateText (λ e. cc) (λ e. cc) h)
+
+-- a body has the outcome of another with the same calendar and date
+pub outcome_of_same : (d : DatedText) (b c : Result Texts Refusal) (o : Result ℤ Refusal) → AreIn d b → AreIn d c
+    → IsOutcome b o → IsOutcome c o
+outcome_of_same d b (Err r) o here there is = absurd there
+outcome_of_same d b (Ok u) o here there (outcome.refused {r = r}) = absurd here
+outcome_of_same d b (Ok u) o here there (outcome.unknown_calendar {t = t} none) =
+    outcome.unknown_calendar (rw (here.0 ∙ sym there.0) at none)
+outcome_of_same d b (Ok u) o here there (outcome.no_date_text {t = t} c named none) =
+    outcome.no_date_text c (rw (here.0 ∙ sym there.0) at named) (rw (here.1 ∙ sym there.1) at none)
+outcome_of_same d b (Ok u) o here there (outcome.no_such_date {t = t} c date says none) =
+    outcome.no_such_date c date (rw (here.0 ∙ sym there.0, here.1 ∙ sym there.1) at says) none
+outcome_of_same d b (Ok u) o here there (outcome.out_of_range {t = t} c date says is out) =
+    outcome.out_of_range c date (rw (here.0 ∙ sym there.0, here.1 ∙ sym there.1) at says) is out
+outcome_of_same d b (Ok u) o here there (outcome.accepted {t = t} c date says is within) =
+    outcome.accepted c date (rw (here.0 ∙ sym there.0, here.1 ∙ sym there.1) at says) is within
+
+pub outcome_for_same : (before : Option DatedText) (b : Result Texts Refusal) (o : Result ℤ Refusal)
+    → IfSome before (λ d. AreIn d b) → ∥ IsOutcome b o ∥₁
+    → IfSome before (λ d. (c : Result Texts Refusal) → AreIn d c → ∥ IsOutcome c o ∥₁)
+outcome_for_same None b o here said = tt
+outcome_for_same (Some d) b o here said = λ c there. ∥∥₁_map said (λ is. outcome_of_same d b c o here there is)
 
 cells_last : (n : ℤ) (ts : List Target) (texts : List (List ℕ)) (t : Target) (text : List ℕ) → AreCells ts (Ok n) texts
     → IsCell t n text → AreCells (ts ++ t ∷ []) (Ok n) (texts ++ text ∷ [])

@@ -2,6 +2,7 @@ pub mod Records
 pub mod Headers
 pub mod Seals
 pub mod Entries
+pub mod DatedTexts
 pub mod Outcomes
 pub mod CellTexts
 pub mod Seen

@@ -12,6 +12,7 @@ mod causes;
 mod cell_texts;
 mod converting;
 mod csv_lines;
+mod dated_texts;
 mod ends;
 mod entries;
 pub mod faults;

@@ -1,9 +1,11 @@
 //! The row of an entry, and how it is made.
 
-ghost use Rattle.std.specs.Prelude.{◌≡◌, ◌≤◌, length, map};
+ghost use Rattle.std.specs.Prelude.{◌≡◌, ◌≤◌, IfSome, Result, length, map};
 ghost use Rattle.date_texts.specs.declared.target.TheConstants.{MAX_TARGETS};
 ghost use Rattle.register_records.specs.CellTexts.{cell_bytes};
-ghost use Rattle.register_records.specs.Entries.{body_seen};
+ghost use Rattle.date_texts.specs.declared.refusal.Refusal.{Refusal};
+ghost use Rattle.register_records.specs.DatedTexts.{AreIn};
+ghost use Rattle.register_records.specs.Entries.{Texts, body_seen};
 ghost use Rattle.register_records.specs.Outcomes.{AreCells, IsOutcome, IsRowOf};
 ghost use Rattle.register_records.specs.RowTails.{cells_of, fields_of};
 ghost use Rattle.register_records.specs.ShortLists.{items_in};
@@ -11,6 +13,7 @@ ghost use Rattle.register_records.specs.Seen.{entry_seen, outcome_seen, row_made
 ghost use Rattle.register_records.specs.TableColumns.{tail_texts};
 
 use crate::cell_texts::CellText;
+use crate::dated_texts::DatedText;
 use crate::ends::Note;
 use crate::entries::{Body, Entry};
 use crate::reading::{EntryFault, EntryReader};
@@ -18,7 +21,7 @@ use crate::row_tails::RowTail;
 use crate::setups::Setup;
 use crate::short_lists::ShortList;
 use crate::target_lists::TargetList;
-use date_texts::laws::one_cell;
+use date_texts::laws::{one_calendar, one_cell, one_date_text};
 use date_texts::{MAX_TARGETS, Refusal, Target, calendar_named, day_of_date, read_date};
 use day_numbers::Day;
 use std::alloc::AllocError;
@@ -72,15 +75,42 @@ fn make_cells(cells: &mut ShortList<CellText>, targets: &[Target], outcome: Resu
     }
 }
 
+/// The outcome of a body. It is that of the row before where the entry before had the same calendar and date, as in a
+/// register in order of time.
+#[inline(always)]
+fn next_outcome(
+    before: Option<DatedText>,
+    outcome: Result<Day, Refusal>,
+    body: &Body,
+) -> Result<Day, Refusal>
+    requires { IfSome before (λ texts. (other : Result Texts Refusal) → AreIn texts other
+        → ∥ IsOutcome other (outcome_seen outcome) ∥₁) }
+    ensures { IsOutcome (body_seen body.now) (outcome_seen result) }
+{
+    one_calendar();
+    one_date_text();
+    one_cell();
+    if let Some(texts) = before
+        && texts.are_in(body)
+    {
+        return outcome;
+    }
+    day_of_body(body)
+}
+
 /// Converts an entry for the setup's targets, where the outcome, the targets and the tail of the row before lie.
+/// `before` has the texts of that row's entry.
 #[inline(always)]
 fn reconvert(
     entry: &Entry,
+    before: Option<DatedText>,
     outcome: &mut Result<Day, Refusal>,
     targets: &mut TargetList,
     tail: &mut RowTail,
     setup: &Setup,
 )
+    requires outcome { IfSome before (λ texts. (other : Result Texts Refusal) → AreIn texts other
+        → ∥ IsOutcome other (outcome_seen outcome.old) ∥₁) }
     requires cells { ∥ AreCells (items_in targets.old.items) (outcome_seen outcome.old)
         (cells_of (items_in targets.old.items) outcome.old tail.old) ∥₁ }
     requires written { fields_of tail.old ≡ tail_texts (items_in targets.old.items) (outcome_seen outcome.old)
@@ -91,7 +121,7 @@ fn reconvert(
     ensures written { fields_of tail.new ≡ tail_texts (items_in targets.new.items) (outcome_seen outcome.new)
         (cells_of (items_in targets.new.items) outcome.new tail.new) }
 {
-    let next = day_of_body(entry.body());
+    let next = next_outcome(before, *outcome, entry.body());
     tail.renew(targets, *outcome, setup, next);
     *outcome = next;
     *targets = setup.target_list();
@@ -130,9 +160,11 @@ impl Row {
         ensures targets { row_targets self.new ≡ targets_of setup.now }
         ensures row { IsRowOf (targets_of setup.now) (entry_seen entry.now) (row_seen self.new) }
     {
+        let before = DatedText::of(self.entry.body());
         self.entry = *entry;
         reconvert(
             entry,
+            before,
             &mut self.outcome,
             &mut self.targets,
             &mut self.tail,
@@ -156,10 +188,12 @@ impl Row {
         ensures row { result ≡ Ok true
             → IsRowOf (targets_of setup.now) (entry_seen self.new.entry) (row_seen self.new) }
     {
+        let before = DatedText::of(self.entry.body());
         let found = entries.read_next(&mut self.entry);
         if let Ok(true) = found {
             reconvert(
                 &self.entry,
+                before,
                 &mut self.outcome,
                 &mut self.targets,
                 &mut self.tail,

@@ -1,7 +1,12 @@
 -- Targets have their own places, and places are those of one list of targets.
-use Rattle.std.proofs.Common.{◌≡◌, ◌<◌, ◌≤◌, ◌-◌, ℕ, List, [], ◌∷◌, refl, sym, ap, ◌∙◌, arith, get_or, length, set}
-use Rattle.std.proofs.Common.{take, true}
-use Rattle.std.specs.Prelude.{slice_get, suc, zero}
+use Rattle.std.proofs.Common.{◌≡◌, ◌<◌, ◌≤◌, ◌+◌, ◌-◌, ℕ, List, [], ◌∷◌, refl, sym, ap, ◌∙◌, arith, drop, get_or}
+use Rattle.std.proofs.Common.{length, set, take, true}
+use Rattle.std.proofs.Math.Seq.{take-add}
+use Rattle.std.proofs.lemmas.Bool.{and_parts, eq-eqb, eqb-true}
+use Rattle.std.proofs.lemmas.List.{drop-take, take-take}
+use Rattle.std.proofs.lemmas.Nat.{from_le_bytes-to_le_bytes_8}
+use Rattle.std.specs.Int.{from_le_bytes, to_le_bytes, w64}
+use Rattle.std.specs.Prelude.{◌&&◌, ◌==◌, ◌++◌, ◌^◌, ◌↔◌, Bool, slice_get, suc, zero}
 use Rattle.std.specs.List.{position_or_len}
 use Rattle.std.proofs.lemmas.List.Folds.{find_at}
 use Rattle.std.proofs.lemmas.List.Sums.{passes_at_first}
@@ -57,3 +62,29 @@ more_places (suc room) [] i e lt few = absurd (omega (arith, lt))
 more_places (suc room) (t ∷ ts) zero e lt few = refl
 more_places (suc room) (t ∷ ts) (suc i) e lt few =
     ap (λ (places : List ℕ). place_of t ∷ places) (more_places room ts i e (omega (arith, lt)) (omega (arith, few)))
+
+-- words of the same bytes are the same
+one_word : (v w : ℕ) → v < 2 ^ 64 → w < 2 ^ 64 → to_le_bytes w64 v ≡ to_le_bytes w64 w → v ≡ w
+one_word v w small other e =
+    sym (from_le_bytes-to_le_bytes_8 v small) ∙ ap (from_le_bytes w64) e ∙ from_le_bytes-to_le_bytes_8 w other
+
+-- one more word of two lists of bytes is compared
+pub more_compared : (same : Bool) (v w : ℕ) (xs ys : List ℕ) (n k : ℕ) → k ≡ n + 8 → v < 2 ^ 64 → w < 2 ^ 64
+    → to_le_bytes w64 v ≡ take 8 (drop n xs) → to_le_bytes w64 w ≡ take 8 (drop n ys)
+    → (same ≡ true) ↔ (take n xs ≡ take n ys) → ((same && v == w) ≡ true) ↔ (take k xs ≡ take k ys)
+more_compared same v w xs ys n k is small other here there before =
+    let split : take k xs ≡ take n xs ++ take 8 (drop n xs) = rw is (take-add n 8 xs) in
+    let split2 : take k ys ≡ take n ys ++ take 8 (drop n ys) = rw is (take-add n 8 ys) in (
+      λ e.
+          let both = and_parts same (v == w) e in
+          let first = before.0 both.0 in
+          let one = eqb-true v w both.1 in
+          rw (split, split2, first, ← here, ← there, one) refl,
+      λ e.
+          let first : take n xs ≡ take n ys =
+          sym (take-take n k xs (omega arith)) ∙ ap (λ (l : List ℕ). take n l) e ∙ take-take n k ys (omega arith) in
+          let last : take 8 (drop n xs) ≡ take 8 (drop n ys) =
+          sym (drop-take n 8 xs) ∙ rw is at (ap (λ (l : List ℕ). drop n l) e) ∙ drop-take n 8 ys in
+          let one = one_word v w small other (here ∙ last ∙ sym there) in
+          rw (before.1 first, eq-eqb v w one) refl,
+    )

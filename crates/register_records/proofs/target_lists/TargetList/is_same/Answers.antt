@@ -1,31 +1,34 @@
-use Rattle.std.proofs.Common.{◌≡◌, ◌≤◌, ◌∙◌, ap, arith, false, length, length-take, refl, sym, true}
-use Rattle.std.specs.Prelude.{Bool, MatchBool}
-use Rattle.std.specs.Cmp.Lexicographic.{told_text}
-use Rattle.date_texts.specs.declared.target.TheConstants.{MAX_TARGETS}
+use Rattle.std.proofs.Common.{◌≡◌, ◌≤◌, ◌+◌, ◌-◌, ◌*◌, ◌∙◌, ap, arith, length, length-take, rules, sym}
+use Rattle.std.proofs.lemmas.List.{take_all}
 use Rattle.date_texts.specs.declared.target.Target.{Target}
 use Rattle.register_records.specs.ShortLists.{items_in}
 use Rattle.register_records.specs.declared.short_lists.ShortList.{ShortList}
+use Rattle.register_records.specs.declared.target_lists.TheConstants.{PLACE_ROOM, WORD_LEN}
 use Rattle.register_records.specs.TargetPlaces.{places_in}
-use Rattle.register_records.proofs.TargetPlaceLemmas.{one_list}
+use Rattle.register_records.proofs.TargetPlaceLemmas.{more_compared, one_list}
 use Rattle.register_records.proofs.target_lists.TargetList.is_same.Goals as goal
 
-said : {P : Type 0} (r : Bool) → MatchBool r P (¬ P) → r ≡ true → P
-said true told e = told
-said false told e = absurd (cc)
-
-holds : {P : Type 0} (r : Bool) → MatchBool r P (¬ P) → P → r ≡ true
-holds true told p = refl
-holds false told p = absurd (told p)
-
-short : (list : ShortList Target) → length (items_in list) ≤ MAX_TARGETS
+short : (list : ShortList Target) → length (items_in list) ≤ PLACE_ROOM
 short list = omega (arith, length-take list.count list.items, list.few)
+
+pub words-preserved : goal.words-preserved
+words-preserved c =
+    let at = c.words.i * WORD_LEN in
+    let len : at + WORD_LEN - at ≡ WORD_LEN = omega arith in
+    more_compared c.words.is_same _ _ c.args.self.now.places c.args.other.now.places at _ (omega arith)
+    c.word.type_inv c.word-in-words.type_inv (rw len at c.word.ensures) (rw len at c.word-in-words.ensures)
+    c.words.invariant
 
 pub returns : goal.returns
 returns c =
     let a = c.args.self.now in
     let b = c.args.other.now in
-    let told = told_text a.places b.places c.eq.result c.eq.ensures in (
-      λ e. one_list MAX_TARGETS _ _ (short a.items) (short b.items)
-          (sym a.placed ∙ said c.eq.result told e ∙ b.placed),
-      λ e. holds c.eq.result told (a.placed ∙ ap (places_in MAX_TARGETS) e ∙ sym b.placed),
+    let end = c.words.i * WORD_LEN in
+    let all : length a.places ≡ PLACE_ROOM = search rules in
+    let other_all : length b.places ≡ PLACE_ROOM = search rules in
+    let whole = take_all end a.places (omega (arith, c.words-test.false)) in
+    let other_whole = take_all end b.places (omega (arith, c.words-test.false)) in (
+      λ e. one_list PLACE_ROOM _ _ (short a.items) (short b.items)
+          (sym a.placed ∙ sym whole ∙ c.words.invariant.0 e ∙ other_whole ∙ b.placed),
+      λ e. c.words.invariant.1 (whole ∙ a.placed ∙ ap (places_in PLACE_ROOM) e ∙ sym b.placed ∙ sym other_whole),
     )

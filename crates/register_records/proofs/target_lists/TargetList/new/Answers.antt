@@ -1,6 +1,6 @@
-use Rattle.std.proofs.Common.{◌∙◌, add-one, sym}
+use Rattle.std.proofs.Common.{◌∙◌, add-one, arith, sym}
 use Rattle.std.proofs.lemmas.List.{take_more}
-use Rattle.date_texts.specs.declared.target.TheConstants.{MAX_TARGETS}
+use Rattle.register_records.specs.declared.target_lists.TheConstants.{PLACE_ROOM}
 use Rattle.register_records.proofs.TargetPlaceLemmas.{more_places}
 use Rattle.register_records.proofs.target_lists.TargetList.new.Goals as goal
 
@@ -11,6 +11,6 @@ targets-preserved c =
     let targets = c.args.targets.now in
     record {
       items = (rw inv.items at c.push.ensures) ∙ sym (take_more targets i _ c.targets-test.true);
-      places = rw (inv.places, c.place.ensures, add-one) (more_places MAX_TARGETS targets i _ c.targets-test.true
-          c.requires);
+      places = rw (inv.places, c.place.ensures, add-one) (more_places PLACE_ROOM targets i _ c.targets-test.true
+          (omega (arith, c.requires)));
     }

@@ -1,0 +1,8 @@
+use Rattle.std.proofs.Common.{◌≡◌, ◌*◌, take, true}
+use Rattle.std.specs.Prelude.{◌↔◌}
+use Rattle.register_records.specs.declared.target_lists.TheConstants.{WORD_LEN}
+use Rattle.register_records.proofs.target_lists.TargetList.is_same.Given as goal
+
+abbrev pub invariant-words : goal.invariant-words
+invariant-words l =
+    (l.is_same ≡ true) ↔ (take (l.i * WORD_LEN) l.self.places ≡ take (l.i * WORD_LEN) l.other.places)

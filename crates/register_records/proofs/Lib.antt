@@ -1,7 +1,7 @@
 -- Which file serves which public clause:
 --   RecordsLeftLemmas, FieldLemmas, HeaderLemmas, SealLemmas, EntryStepLemmas, StepLemmas: `gives`, `number` and `all`
 --     of `ReadsNext`, for `EntryReader::read_next`. GivenLemmas: what it has given.
---   CellLemmas, OutcomeLemmas: that a row is the row of its entry, for `convert`.
+--   OutcomeLemmas: that a row is the row of its entry, for `convert`.
 --   RowTailLemmas, LineLemmas, BareLemmas: that a line is the fields of its row, for `put`, `add` and `open` of
 --   `RowWriter`.
 --   TargetPlaceLemmas: `is_for` of `Row`.
@@ -16,7 +16,6 @@ pub mod RecordsLeftLemmas
 pub mod EntryStepLemmas
 pub mod GivenLemmas
 pub mod StepLemmas
-pub mod CellLemmas
 pub mod BareLemmas
 pub mod LineLemmas
 pub mod RowTailLemmas

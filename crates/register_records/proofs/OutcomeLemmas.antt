@@ -1,15 +1,11 @@
 -- What the calls that read a record's texts say of its outcome.
-use Rattle.std.proofs.Common.{◌≡◌, ◌<◌, ◌+◌, ◌++◌, ℕ, List, [], ◌∷◌, Option, Some, None, refl, length, map, sym, take, ◌∙◌}
-use Rattle.std.proofs.Common.{IfOk, IfSome, get_or}
+use Rattle.std.proofs.Common.{◌≡◌, ℕ, List, Option, Some, None, refl, sym, ◌∙◌}
+use Rattle.std.proofs.Common.{IfOk, IfSome}
 use Rattle.std.proofs.Math.Logic.{∥∥₁_map}
 use Rattle.std.specs.Prelude.{◌↔◌, ℤ, IsOk, Result, Ok, Err}
-use Rattle.std.proofs.lemmas.List.{map-append, take_more}
-use Rattle.register_records.specs.CellTexts.{cell_bytes}
-use Rattle.register_records.specs.declared.cell_texts.CellText.{CellText}
 use Rattle.day_numbers.specs.Days.{IsDayNumber}
 use Rattle.day_numbers.specs.declared.day.Day.{Day}
 use Rattle.date_texts.specs.Calendars.{calendar_name}
-use Rattle.date_texts.specs.Cells.{IsCell}
 use Rattle.date_texts.specs.Dates.{IsDateOfCalendar, day_number_of_date}
 use Rattle.register_records.specs.DatedTexts.{AreIn}
 use Rattle.register_records.specs.declared.dated_texts.DatedText.{DatedText}
@@ -19,7 +15,6 @@ use Rattle.register_records.specs.Outcomes.{AreCells, IsOutcome, Says}
 use Rattle.register_records.specs.Outcomes as outcome
 use Rattle.register_records.specs.Seen.{outcome_seen}
 use Rattle.date_texts.specs.declared.calendar.Calendar.{Calendar}
-use Rattle.date_texts.specs.declared.target.Target.{Target}
 use Rattle.date_texts.specs.declared.date.Date.{Date}
 use Rattle.date_texts.specs.declared.refusal.Refusal.{Refusal}
 use Rattle.date_texts.specs.declared.refusal.Refusal.TheVariants as refusal
@@ -85,18 +80,3 @@ pub outcome_for_same : (before : Option DatedText) (b : Result Texts Refusal) (o
     → IfSome before (λ d. (c : Result Texts Refusal) → AreIn d c → ∥ IsOutcome c o ∥₁)
 outcome_for_same None b o here said = tt
 outcome_for_same (Some d) b o here said = λ c there. ∥∥₁_map said (λ is. outcome_of_same d b c o here there is)
-
-cells_last : (n : ℤ) (ts : List Target) (texts : List (List ℕ)) (t : Target) (text : List ℕ) → AreCells ts (Ok n) texts
-    → IsCell t n text → AreCells (ts ++ t ∷ []) (Ok n) (texts ++ text ∷ [])
-cells_last n [] [] t text a h = (h, tt)
-cells_last n [] (x ∷ texts) t text a h = absurd a
-cells_last n (s ∷ ts) [] t text a h = absurd a
-cells_last n (s ∷ ts) (x ∷ texts) t text a h = (a.0, cells_last n ts texts t text a.1 h)
-
--- one more cell
-pub cells_more : (n : ℤ) (ts : List Target) (i : ℕ) (d : Target) (made made2 : List CellText) (cell : CellText)
-    → i < length ts → AreCells (take i ts) (Ok n) (map cell_bytes made) → IsCell (get_or ts i d) n (cell_bytes cell)
-    → made2 ≡ made ++ cell ∷ [] → AreCells (take (i + 1) ts) (Ok n) (map cell_bytes made2)
-cells_more n ts i d made made2 cell lt h is e =
-    rw (e, map-append cell_bytes made (cell ∷ []), take_more ts i d lt)
-    (cells_last n (take i ts) (map cell_bytes made) (get_or ts i d) (cell_bytes cell) h is)

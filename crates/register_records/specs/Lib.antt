@@ -4,7 +4,6 @@ pub mod Seals
 pub mod Entries
 pub mod DatedTexts
 pub mod Outcomes
-pub mod CellTexts
 pub mod Seen
 pub mod Lines
 pub mod Columns

@@ -9,7 +9,6 @@
 #![tactic(auto)]
 
 mod causes;
-mod cell_texts;
 mod converting;
 mod csv_lines;
 mod dated_texts;
@@ -34,7 +33,6 @@ mod table_columns;
 mod target_lists;
 mod writing;
 
-pub use cell_texts::CellText;
 pub use converting::convert;
 pub use ends::{Cause, Note, SourceEnd};
 pub use entries::{Body, Entry};

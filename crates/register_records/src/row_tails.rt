@@ -15,7 +15,8 @@ ghost use Rattle.register_records.specs.TableColumns.{IsCellField, column_texts,
 ghost use Rattle.register_records.specs.declared.row_tails.TheConstants.{CELL_ROOM, TAIL_ROOM};
 
 use crate::setups::Setup;
-use crate::table_columns::{TailColumn, tail_columns};
+use crate::short_lists::ShortList;
+use crate::table_columns::{CELLS_PLACE, TailColumn, tail_columns};
 use crate::target_lists::TargetList;
 use date_texts::laws::{cells_are_plain, one_cell};
 use date_texts::{MAX_CELL, MAX_TARGETS, Refusal, Target, write_cell_within};
@@ -80,7 +81,10 @@ fn is_same_outcome(outcome: Result<Day, Refusal>, other: Result<Day, Refusal>) -
 }
 
 impl RowTail {
-    ghost use Rattle.register_records.specs.RowTails.{cells_of, fields_of};
+    ghost use Rattle.std.specs.Prelude.{drop, map};
+    ghost use Rattle.std.specs.List.{position_or_len};
+    ghost use Rattle.register_records.specs.Columns.{tail_order};
+    ghost use Rattle.register_records.specs.RowTails.{cells_of, fields_of, is_cells};
     ghost use Rattle.register_records.specs.ShortLists.{items_in};
     ghost use Rattle.register_records.specs.Views.{targets_of};
 
@@ -108,6 +112,23 @@ impl RowTail {
         ensures short { length result.now ≤ TAIL_ROOM }
     {
         &self.buffer[..self.len as usize]
+    }
+
+    /// So many fields, from the first cell on.
+    pub fn cells(&self, count: usize) -> ShortList<&[u8]>
+        requires { count ≤ MAX_TARGETS }
+        ensures { map (λ cell. cell.now) (items_in result)
+            ≡ take count (drop (position_or_len is_cells tail_order) (fields_of self.now)) }
+    {
+        let delimiter = self.delimiter;
+        let parts = self.buffer[..self.len as usize].split(|byte| *byte == delimiter);
+        // Nothing stands before the first delimiter.
+        let fields = parts.skip(1);
+        let mut cells = ShortList::new(&self.buffer[..0]);
+        'cells: for cell in fields.skip(CELLS_PLACE).take(count) {
+            cells.push(cell);
+        }
+        cells
     }
 
     /// Lets the fields go.

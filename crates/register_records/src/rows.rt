@@ -2,7 +2,6 @@
 
 ghost use Rattle.std.specs.Prelude.{◌≡◌, ◌≤◌, IfSome, Result, length, map};
 ghost use Rattle.date_texts.specs.declared.target.TheConstants.{MAX_TARGETS};
-ghost use Rattle.register_records.specs.CellTexts.{cell_bytes};
 ghost use Rattle.date_texts.specs.declared.refusal.Refusal.{Refusal};
 ghost use Rattle.register_records.specs.DatedTexts.{AreIn};
 ghost use Rattle.register_records.specs.Entries.{Texts, body_seen};
@@ -12,7 +11,6 @@ ghost use Rattle.register_records.specs.ShortLists.{items_in};
 ghost use Rattle.register_records.specs.Seen.{entry_seen, outcome_seen, row_made};
 ghost use Rattle.register_records.specs.TableColumns.{tail_texts};
 
-use crate::cell_texts::CellText;
 use crate::dated_texts::DatedText;
 use crate::ends::Note;
 use crate::entries::{Body, Entry};
@@ -57,21 +55,6 @@ fn day_of_body(body: &Body) -> Result<Day, Refusal>
             };
             day_of_date(&date)
         }
-    }
-}
-
-/// Makes a list the cells of an outcome: one for each target on a day, and none with a refusal.
-#[inline(never)]
-fn make_cells(cells: &mut ShortList<CellText>, targets: &[Target], outcome: Result<Day, Refusal>)
-    requires few { length targets.now ≤ MAX_TARGETS }
-    ensures { AreCells targets.now (outcome_seen outcome) (map cell_bytes (items_in cells.new)) }
-{
-    cells.clear();
-    let Ok(day) = outcome else {
-        return;
-    };
-    for target in targets {
-        cells.push_cell(*target, day);
     }
 }
 
@@ -226,14 +209,16 @@ impl Row {
     }
 
     /// The cells, one for each target; a refused row has none.
-    pub fn cells(&self) -> ShortList<CellText>
-        ensures value { map cell_bytes (items_in result) ≡ (row_seen self.now).cells }
+    pub fn cells(&self) -> ShortList<&[u8]>
+        ensures value { map (λ cell. cell.now) (items_in result) ≡ (row_seen self.now).cells }
         ensures row { ∥ IsRowOf (row_targets self.now) (entry_seen self.now.entry) (row_seen self.now) ∥₁ }
     {
-        one_cell();
-        let mut cells = ShortList::new(CellText::copied(""));
-        make_cells(&mut cells, self.targets.as_slice(), self.outcome);
-        cells
+        let count = if self.outcome.is_ok() {
+            self.targets.as_slice().len()
+        } else {
+            0
+        };
+        self.tail.cells(count)
     }
 
     /// The fields of the row behind those of its entry, as a table with its tail's delimiter has them.

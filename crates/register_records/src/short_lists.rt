@@ -3,9 +3,7 @@
 ghost use Rattle.std.specs.Prelude.{◌≡◌, ◌≤◌, ◌<◌, ◌∷◌, ◌++◌, [], ⊤, length};
 ghost use Rattle.date_texts.specs.declared.target.TheConstants.{MAX_TARGETS};
 
-use crate::cell_texts::CellText;
-use date_texts::{MAX_TARGETS, Target};
-use day_numbers::Day;
+use date_texts::MAX_TARGETS;
 use std::alloc::AllocError;
 
 /// At most as many items as there are targets, in order. Behind them stand blanks.
@@ -48,39 +46,12 @@ impl<T: Copy> ShortList<T> {
         &self.items[..self.count as usize]
     }
 
-    /// Lets the items go.
-    pub fn clear(&mut self)
-        ensures { items_in self.new ≡ [] }
-    {
-        self.count = 0;
-    }
-
     /// Appends an item.
     pub fn push(&mut self, item: T)
         requires { length (items_in self.old) < MAX_TARGETS }
         ensures { items_in self.new ≡ items_in self.old ++ item ∷ [] }
     {
         self.items[self.count as usize] = item;
-        self.count += 1;
-    }
-}
-
-impl ShortList<CellText> {
-    ghost use Rattle.date_texts.specs.Cells.{IsCell};
-    ghost use Rattle.register_records.specs.CellTexts.{cell_bytes};
-    ghost use Rattle.register_records.specs.ShortLists.{items_in};
-    ghost use Rattle.register_records.specs.declared.cell_texts.CellText.{CellText};
-
-    /// Appends the cell of a day in the column of a target.
-    #[inline(always)]
-    pub fn push_cell(&mut self, target: Target, day: Day)
-        requires { length (items_in self.old) < MAX_TARGETS }
-        ensures { (made : CellText) × IsCell target day.number (cell_bytes made)
-            × (items_in self.new ≡ items_in self.old ++ made ∷ []) }
-    {
-        let next = self.count as usize;
-        let items = &mut self.items;
-        items[next].set(target, day);
         self.count += 1;
     }
 }

@@ -49,6 +49,9 @@ const TAIL_COLUMNS: [TailColumn; 4] = [
     TailColumn::Refusal,
 ];
 
+/// How many of them stand before the cells.
+pub(crate) const CELLS_PLACE: usize = 2;
+
 /// The columns that a table has of an entry, in order.
 pub(crate) fn entry_columns(form: Form) -> &'static [EntryColumn]
     ensures value { result.now ≡ entry_order form }

@@ -54,9 +54,11 @@ fn has_its_parts(row: &Row, setup: &Setup, other: &Setup) -> bool {
         && row.targets().len() == 2
         && row.outcome().is_ok_and(|day| day.number() == 577_736)
         && row.cells().as_slice().len() == 2
-        && row.cells().as_slice().first().is_some_and(|cell| {
-            cell.as_str() == "1582-10-15" && cell.as_bytes().len() == 10
-        })
+        && row
+            .cells()
+            .as_slice()
+            .first()
+            .is_some_and(|cell| *cell == "1582-10-15".as_bytes())
         && row.is_for(setup)
         && !row.is_for(other)
         && row.refusal_note().is_none()

@@ -184,7 +184,7 @@ impl<R: Read + Drop> SourceThreads<R> {
         let joined = Snapshot::of(&stripes);
         let sent = match reader {
             Ok(reader) => join_threads(rt, reader, stripes),
-            Err(fault) => stopped_after(0, fault.cause()),
+            Err(fault) => stopped_after(0, Cause::from(fault)),
         };
         JoinedThreads {
             source,
@@ -207,9 +207,7 @@ fn start_threads<'s, 'e, T: Host, R: Read + Send + Drop + 'e, G: Gate + Sync>(
     ensures unpopped { IfOk result (λ t. popped t.1.items ≡ 0) }
 {
     let (rt, alloc, setup) = (context.rt, context.alloc, context.setup);
-    let Ok(closed) = Vec::with_capacity(alloc, setup.stripes()) else {
-        return Err(StartFault::NoMemory);
-    };
+    let closed = Vec::with_capacity(alloc, setup.stripes())?;
     let (senders, stripes) = start_stripes(context)?;
     let task = ReaderTask {
         source: Snapshot::of(&source),

@@ -30,12 +30,8 @@ pub(crate) fn start_stripes<'s, 'e, T: Host, G: Gate + Sync>(
     ensures unpopped { IfOk result (λ r. popped r.1.items ≡ 0) }
 {
     let count = context.setup.stripes();
-    let Ok(mut stripes) = Vec::with_capacity(context.alloc, count) else {
-        return Err(StartFault::NoMemory);
-    };
-    let Ok(mut senders) = Vec::with_capacity(context.alloc, count) else {
-        return Err(StartFault::NoMemory);
-    };
+    let mut stripes = Vec::with_capacity(context.alloc, count)?;
+    let mut senders = Vec::with_capacity(context.alloc, count)?;
     for _ in 0..count {
         match Stripe::start(context) {
             Ok((sender, stripe)) => {

@@ -8,6 +8,7 @@ use crate::gates::Gate;
 use crate::running::{Host, RunContext};
 use lane_rings::{Closed, Item, Receiver, Sender, Unconfirmed, patient_lane};
 use register_records::{Cause, Entry, Row, Setup};
+use std::alloc::AllocError;
 use std::snapshot::Snapshot;
 use std::thread::{Promise, PromisedHandle, Threads};
 
@@ -46,14 +47,23 @@ pub(crate) enum StartFault {
     NoThread,
 }
 
-impl StartFault {
+impl From<AllocError> for StartFault {
+    ghost use Rattle.register_run.specs.declared.stripes.StartFault.TheVariants.{NoMemory};
+
+    ghost from_gives = { λ _ fault. fault ≡ NoMemory };
+
+    fn from(_: AllocError) -> StartFault {
+        StartFault::NoMemory
+    }
+}
+
+impl From<StartFault> for Cause {
     ghost use Rattle.register_run.specs.Stripes.{start_fault_cause};
 
-    /// The cause that the fault is.
-    pub(crate) fn cause(self) -> Cause
-        ensures { result ≡ start_fault_cause self }
-    {
-        match self {
+    ghost from_gives = { λ fault cause. cause ≡ start_fault_cause fault };
+
+    fn from(fault: StartFault) -> Cause {
+        match fault {
             StartFault::NoMemory => Cause::NoMemory,
             StartFault::NoThread => Cause::NoThread,
         }
@@ -114,18 +124,13 @@ impl Stripe {
         ensures setup { IfOk result (λ r. stripe_setup r.1 ≡ context.now.setup.now) }
     {
         let (rt, gate, setup) = (context.rt, context.gate, context.setup);
-        let Ok((sender, entries)) = patient_lane::<Entry>(
+        let (sender, entries) = patient_lane::<Entry>(
             context.alloc,
             setup.ring(),
             context.patience,
-        ) else {
-            return Err(StartFault::NoMemory);
-        };
+        )?;
         let further = context.patience.one_lane_downstream();
-        let Ok((row_sender, rows)) = patient_lane::<Row>(context.alloc, setup.ring(), further)
-        else {
-            return Err(StartFault::NoMemory);
-        };
+        let (row_sender, rows) = patient_lane::<Row>(context.alloc, setup.ring(), further)?;
         let feeding = Snapshot::of(&sender);
         let lanes = ConverterLanes {
             entries: Snapshot::of(&entries),

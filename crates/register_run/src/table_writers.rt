@@ -1,9 +1,10 @@
 //! The table of a source, as far as it was written.
 
-ghost use Rattle.std.specs.Prelude.{◌≡◌, ◌+◌, ◌<◌, ◌≤◌, ◌⊎◌, [], ◌∷◌, ◌++◌, None, Some, IfSome, true, false};
-ghost use Rattle.std.specs.Prelude.{vec_capacity, vec_len};
+ghost use Rattle.std.specs.Prelude.{◌≡◌, ◌≢◌, ◌↔◌, ◌+◌, ◌<◌, ◌≤◌, ◌⊎◌, [], ◌∷◌, ◌++◌, None, Some, IfErr, IfSome};
+ghost use Rattle.std.specs.Prelude.{true, false, vec_capacity, vec_len};
 ghost use Rattle.std.specs.Option.{is_some};
 ghost use Rattle.std.proofs.Props.{props};
+ghost use Rattle.register_records.specs.Causes.{row_fault_cause};
 ghost use Rattle.register_records.specs.Entries.{record_limit};
 ghost use Rattle.register_records.specs.Tables.{refusal_notes};
 ghost use Rattle.register_records.specs.Views.{row_seen, output_failed_in};
@@ -38,6 +39,19 @@ impl Course {
         match self {
             Course::Open => None,
             Course::Halted(cause) | Course::OutputFailed(cause) => Some(cause),
+        }
+    }
+
+    /// How the table goes on after a fault of its writer. A cause that was met before stays.
+    fn after(self, fault: RowFault) -> Course
+        ensures output { (output_failed result ≡ true) ↔ (fault ≡ RowFault.WriteFault) }
+        ensures first { IfSome (fault_of self) (λ c. fault_of result ≡ Some c) }
+        ensures cause { fault_of self ≡ None → fault_of result ≡ Some (row_fault_cause fault) }
+    {
+        let cause = self.fault().unwrap_or(Cause::from(fault));
+        match fault {
+            RowFault::WriteFault => Course::OutputFailed(cause),
+            RowFault::OutOfMemory | RowFault::Failed => Course::Halted(cause),
         }
     }
 }
@@ -119,7 +133,9 @@ impl<W: Output + Drop> TableWriter<W> {
             self.course = Course::Halted(Cause::Unconfirmed);
             return;
         }
-        self.append(row);
+        if let Err(fault) = self.append(row) {
+            self.course = self.course.after(fault);
+        }
     }
 
     /// Writes the heading, where that was not done and no fault was met.
@@ -136,35 +152,38 @@ impl<W: Output + Drop> TableWriter<W> {
         }
         match RowWriter::open(self.alloc, &mut self.output, &self.setup) {
             Ok(writer) => self.writer = Some(writer),
-            Err(RowFault::WriteFault) => self.course = Course::OutputFailed(Cause::SinkFault),
-            Err(_) => self.course = Course::Halted(Cause::NoMemory),
+            Err(fault) => self.course = self.course.after(fault),
         }
     }
 
     /// Appends the line of the next row to those that wait, and its note to the journal.
-    fn append(&mut self, row: &Row)
+    ///
+    /// # Errors
+    ///
+    /// The fault of the writer, and `OutOfMemory` where the journal is refused its memory; then the same lines wait as
+    /// before.
+    fn append(&mut self, row: &Row) -> Result<(), RowFault>
         requires unfailed { output_failed self.old.course ≡ false }
         requires number { row.now.entry.number ≡ self.old.rows + 1 }
         requires targets { row_targets row.now ≡ targets_of (made_by self.old) }
         ensures output { made_for self.new ≡ made_for self.old }
         ensures setup { made_by self.new ≡ made_by self.old }
+        ensures course { self.new.course ≡ self.old.course }
+        ensures fault { IfErr result (λ e. e ≢ RowFault.WriteFault) }
         ensures rows { (rows : List Row) → Holds self.old rows
             → Holds self.new rows ⊎ Holds self.new (rows ++ row.now ∷ []) }
     {
         tables_grow();
         let Some(writer) = &mut self.writer else {
-            return;
+            return Ok(());
         };
         let Ok(()) = self.journal.reserve(1) else {
-            self.course = Course::Halted(Cause::NoMemory);
-            return;
+            return Err(RowFault::OutOfMemory);
         };
-        let Ok(()) = writer.add(row) else {
-            self.course = Course::Halted(Cause::NoMemory);
-            return;
-        };
+        writer.add(row)?;
         push_refusal(&mut self.journal, row);
         self.rows = row.entry().number();
+        Ok(())
     }
 
     /// Writes the lines that wait in one call, where the output has not failed. A cause that was met before stays.
@@ -184,11 +203,8 @@ impl<W: Output + Drop> TableWriter<W> {
         if writer.pending_len() == 0 {
             return;
         }
-        if writer.send(&mut self.output).is_err() {
-            self.course = match self.course {
-                Course::Open => Course::OutputFailed(Cause::SinkFault),
-                Course::Halted(cause) | Course::OutputFailed(cause) => Course::OutputFailed(cause),
-            };
+        if let Err(fault) = writer.send(&mut self.output) {
+            self.course = self.course.after(fault);
         }
     }
 

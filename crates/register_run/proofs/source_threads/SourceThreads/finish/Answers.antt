@@ -22,7 +22,7 @@ returns-clause-passed g c =
       | in-Err w ↦
           subst (λ o. HasPassed text (format_of (started_by s)) o (Passed s)) (sym w.sent-is)
           (not_started text (format_of (started_by s)) (Passed s) w.in-Err.fault w.stopped_after-sent.result
-          (w.stopped_after-sent.ensures.1 ∙ ap Err w.cause.ensures))
+          (w.stopped_after-sent.ensures.1 ∙ ap Err w.from.ensures))
     ]
 
 pub returns-clause-staffed : goal.returns-clause-staffed
@@ -35,7 +35,7 @@ returns-clause-staffed g c =
           (ap (λ (x : Sent). x.outcome) w.sent-is) (rw w.in-Ok.is at s.reads).3 w.join_threads-sent.ensures.started
       | in-Err w ↦
           unstaffed s.setup.value s.stripes.items _ w.in-Err.fault _ (ap (λ v. v.items) c.of-joined.ensures)
-          (ap (λ (x : Sent). x.outcome) w.sent-is ∙ w.stopped_after-sent.ensures.1 ∙ ap Err w.cause.ensures)
+          (ap (λ (x : Sent). x.outcome) w.sent-is ∙ w.stopped_after-sent.ensures.1 ∙ ap Err w.from.ensures)
           (rw w.in-Err.is at s.unstarted)
     ]
 

@@ -15,7 +15,7 @@ returns-clause-rows g c = λ rows h.
           λ dry. stands_more g.W.Output layout old.given.value old.output c.in-Some.writer c.add.new.self rows row
           c.tables_grow.ensures
           (subst (λ w. IsTableSoFar g.W.Output layout old.given.value old.output w rows) c.in-Some.is (h.stands dry))
-          c.in-Ok-add.ensures.ok c.add.ensures.by c.requires.targets;
+          c.in_ok-add.ensures.ok c.add.ensures.by c.requires.targets;
       numbered = numbered_row rows row old.rows h.numbered h.counted c.requires.number;
       counted = counted_row rows row old.rows h.counted ∙ sym c.requires.number ∙ sym next;
       targets = targets_row (λ (r : Row). row_targets r ≡ targets_of old.setup) rows row h.targets c.requires.targets;

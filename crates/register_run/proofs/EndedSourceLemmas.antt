@@ -37,7 +37,7 @@ use Rattle.register_run.specs.declared.table_writers.TableWriter.{TableWriter}
 use Rattle.register_run.specs.Courses.{Differs, IsLowest, IsMet, fault_of, is_of_table, output_failed}
 use Rattle.register_run.specs.Headline.{IsAllOfTable, IsSourceEnd, causes_of_reading}
 use Rattle.register_run.specs.Histories.{Carries, IsMachineWithTable}
-use Rattle.register_run.specs.JoinedThreads.{HasGoodOutput, HasPassed, IsGiven, IsOfGiven, is_of_reading}
+use Rattle.register_run.specs.JoinedThreads.{IsNotOfOutput, HasPassed, IsGiven, IsOfGiven, is_of_reading}
 use Rattle.register_run.specs.JoinedThreads.{speaks_of_text}
 use Rattle.register_run.specs.TablesWritten.{AllSent, Holds, IsTableSoFar, entries_seen, rows_seen, waiting_of}
 use Rattle.register_run.proofs.FrontLemmas.{first_of_first, front_all, rows_front}
@@ -128,8 +128,8 @@ module _ (met : Met) (c : Cause) (of_table : IfSome met.fault (λ f. is_of_table
       absurd (let k = subst (λ f. IfSome f (λ d. is_of_table d ≡ true)) broke of_table in cc)
   met_by_threads other (inr (inr differs)) = absurd (let k = ap is_of_table differs.0 in cc)
 
-  sink_met : HasGoodOutput met.sent.outcome → IsMet met c → c ≡ cause.SinkFault → met.fault ≡ Some cause.SinkFault
-  sink_met good (inl speaks) e = absurd (subst HasGoodOutput speaks good e)
+  sink_met : IsNotOfOutput met.sent.outcome → IsMet met c → c ≡ cause.SinkFault → met.fault ≡ Some cause.SinkFault
+  sink_met good (inl speaks) e = absurd (subst IsNotOfOutput speaks good e)
   sink_met good (inr (inl broke)) e = broke ∙ ap Some e
   sink_met good (inr (inr differs)) e = absurd (let k = differs.0 in cc)
 
@@ -387,7 +387,7 @@ module _ {W : Type 0} (o : outputs.Ghosts W) (text : Option (List ℕ)) (table :
       (layout_of table.setup) text table.given.value table.output e ∥₁
   source_end (end.Broken c) whole lowest =
       broken_so (is_of_reading c) c refl (reading_met met c table.of_table lowest)
-      (sink_met met c table.of_table has.output_good lowest.0)
+      (sink_met met c table.of_table has.not_of_output lowest.0)
   source_end (end.Whole count refused journal) whole lowest =
       let good = faultless table.course whole.1 in
       let speaks : speaks_of_text passed.outcome ≡ true = ap speaks_of_text whole.0 in

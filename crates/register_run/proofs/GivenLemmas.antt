@@ -16,7 +16,7 @@ use Rattle.register_records.specs.declared.entries.Entry.{Entry}
 use Rattle.register_records.specs.declared.rows.Row.{Row}
 use Rattle.register_run.specs.Carried.{AreDealt}
 use Rattle.register_run.specs.Worlds.{World}
-use Rattle.register_run.specs.JoinedThreads.{HasGoodOutput, HasPassed, IsGiven, IsOfThreads, Sends}
+use Rattle.register_run.specs.JoinedThreads.{IsNotOfOutput, HasPassed, IsGiven, IsOfThreads, Sends}
 use Rattle.register_run.specs.JoinedThreads.{is_of_reading}
 use Rattle.register_run.specs.JoinedThreads.{speaks_of_text}
 use Rattle.register_run.specs.declared.reading.Sent.{Sent}
@@ -26,16 +26,16 @@ pub numbered_more : (k : ℕ) (given : List Numbered) (n : Numbered) → AreNumb
 numbered_more k [] n h e = (omega arith, tt)
 numbered_more k (first ∷ rest) n h e = (h.0, numbered_more (k + 1) rest n h.1 (omega arith))
 
--- the cause tells the fault
-fault_told : (f : EntryFault) (c : Cause) → c ≡ entry_fault_cause f
+-- the faults of reading that these causes are
+fault_of_cause : (f : EntryFault) (c : Cause) → c ≡ entry_fault_cause f
     → (c ≡ cause.BadHeader → f ≡ fault.BadHeader) × (c ≡ cause.TooManyRecords → f ≡ fault.TooManyRecords)
     × (c ≡ cause.NotSealed → f ≡ fault.NotSealed)
-fault_told fault.OutOfMemory c is = (λ e. cc, λ e. cc, λ e. cc)
-fault_told fault.ReadFault c is = (λ e. cc, λ e. cc, λ e. cc)
-fault_told fault.BadHeader c is = (λ e. refl, λ e. cc, λ e. cc)
-fault_told fault.TooManyRecords c is = (λ e. cc, λ e. refl, λ e. cc)
-fault_told fault.NotSealed c is = (λ e. cc, λ e. cc, λ e. refl)
-fault_told fault.Failed c is = (λ e. cc, λ e. cc, λ e. cc)
+fault_of_cause fault.OutOfMemory c is = (λ e. cc, λ e. cc, λ e. cc)
+fault_of_cause fault.ReadFault c is = (λ e. cc, λ e. cc, λ e. cc)
+fault_of_cause fault.BadHeader c is = (λ e. refl, λ e. cc, λ e. cc)
+fault_of_cause fault.TooManyRecords c is = (λ e. cc, λ e. refl, λ e. cc)
+fault_of_cause fault.NotSealed c is = (λ e. cc, λ e. cc, λ e. refl)
+fault_of_cause fault.Failed c is = (λ e. cc, λ e. cc, λ e. cc)
 
 -- what was sent, by its parts
 abbrev sent_of : ℕ → Result ℕ Cause → Sent
@@ -54,13 +54,13 @@ module _ (text : Option (List ℕ)) (format : Format) where
       → IsGiven text format sent []
   given_none f c is bad many unsealed sent (none, why) =
       subst (λ s. IsGiven text format s []) (made_so sent 0 (Err c) none why) (record {
-        counted = λ told. refl;
+        counted = λ speaks. refl;
         numbered = tt;
         first = inl refl;
         all = tt;
-        bad_header = λ e. (refl, bad ((fault_told f c is).0 e));
-        too_many = λ e. absurd (many ((fault_told f c is).1 e));
-        not_sealed = λ e. absurd (unsealed ((fault_told f c is).2 e));
+        bad_header = λ e. (refl, bad ((fault_of_cause f c is).0 e));
+        too_many = λ e. absurd (many ((fault_of_cause f c is).1 e));
+        not_sealed = λ e. absurd (unsealed ((fault_of_cause f c is).2 e));
       })
 
   stopped_so : (f : EntryFault) (c : Cause) (given : List Numbered) → c ≡ entry_fault_cause f
@@ -72,13 +72,13 @@ module _ (text : Option (List ℕ)) (format : Format) where
       × HasAllEntries format text given)
       → IsGiven text format (record { count = length given; outcome = Err c }) given
   stopped_so f c given is bad numbered first many unsealed = record {
-    counted = λ told. refl;
+    counted = λ speaks. refl;
     numbered = numbered;
     first = inr first;
     all = tt;
-    bad_header = λ e. absurd (bad ((fault_told f c is).0 e));
-    too_many = λ e. many ((fault_told f c is).1 e);
-    not_sealed = λ e. unsealed ((fault_told f c is).2 e);
+    bad_header = λ e. absurd (bad ((fault_of_cause f c is).0 e));
+    too_many = λ e. many ((fault_of_cause f c is).1 e);
+    not_sealed = λ e. unsealed ((fault_of_cause f c is).2 e);
   }
 
   -- the reading stopped after these entries
@@ -111,7 +111,7 @@ module _ (text : Option (List ℕ)) (format : Format) where
       → ∥ HasFirstEntries format text given ∥₁ → (n : ℕ)
       → ∥ IsGiven text format (record { count = n; outcome = Err cause.Unconfirmed }) given ∥₁
   given_gone given numbered first n = ∥∥₁_map first (λ f. record {
-    counted = λ told. cc;
+    counted = λ speaks. cc;
     numbered = numbered;
     first = inr f;
     all = tt;
@@ -125,7 +125,7 @@ module _ (text : Option (List ℕ)) (format : Format) where
       → ∥ HasFirstEntries format text given ∥₁ → ∥ HasEntries format text given ∥₁
       → ∥ IsGiven text format (record { count = n; outcome = Ok n }) given ∥₁
   given_all n given count numbered first all = ∥∥₁_elim first ∥∥₁_prop (λ f. ∥∥₁_map all (λ a. record {
-    counted = λ told. sym count;
+    counted = λ speaks. sym count;
     numbered = numbered;
     first = inr f;
     all = (count, a);
@@ -189,6 +189,6 @@ of_threads c (inr e) = (ap is_of_reading e, λ s. cc)
 pub passed_not : (text : Option (List ℕ)) (d : Format) (sent : Sent) (c : Cause) (took : Row → Type 0)
     → sent.outcome ≡ Err c → IsOfThreads c → HasPassed text d sent took
 passed_not text d sent c took why is = record {
-  output_good = subst HasGoodOutput (sym why) is.1;
-  rows = λ told. absurd (let k = is.0 in let t : is_of_reading c ≡ true = sym (ap speaks_of_text why) ∙ told in cc);
+  not_of_output = subst IsNotOfOutput (sym why) is.1;
+  rows = λ speaks. absurd (let k = is.0 in let t : is_of_reading c ≡ true = sym (ap speaks_of_text why) ∙ speaks in cc);
 }

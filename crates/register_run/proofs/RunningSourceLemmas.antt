@@ -54,7 +54,7 @@ module _ {R W : Type 0} {o : outputs.Ghosts W} where
         rows,
         is,
         record {
-          output_good = has'.output_good;
+          not_of_output = has'.not_of_output;
           rows = λ speaks. ∥∥₁_map (has'.rows speaks) (λ (given, so, all). (given, so, λ row c. all row (took row c)));
         },
         if_ok sent.outcome _ _ (λ count (machine, all). (machine, λ row c. all row (took row c))) carries',

@@ -56,11 +56,11 @@ pub record IsGiven (text : Option (List ℕ)) (format : Format) (sent : Sent) (g
   pub not_sealed : IfErr sent.outcome (λ c. c ≡ cause.NotSealed
       → (format.form ≡ Sealed) × IfSome text (λ t. IsNotSealed format t) × HasAllEntries format text given)
 
--- the output is not the cause
-abbrev pub HasGoodOutput : Result ℕ Cause → Type 0
-HasGoodOutput outcome = IfErr outcome (λ c. c ≡ cause.SinkFault → ⊥)
+-- the cause, if there is one, is no fault of the output
+abbrev pub IsNotOfOutput : Result ℕ Cause → Type 0
+IsNotOfOutput outcome = IfErr outcome (λ c. c ≡ cause.SinkFault → ⊥)
 
--- nor is a thread that did not start
+-- nor a thread that did not start
 abbrev pub HasStarted : Result ℕ Cause → Type 0
 HasStarted outcome = IfErr outcome (λ c. c ≡ cause.NoThread → ⊥)
 
@@ -80,7 +80,7 @@ HasSent text format sent closed =
 pub record IsReading (text : Option (List ℕ)) (format : Format) (lanes : List Lane) (r : Reading) : Type 0 where
   pub from : AreOfLanes lanes r.closed.items
   pub entries : ∥ HasSent text format r.sent r.closed.items ∥₁
-  pub output_good : HasGoodOutput r.sent.outcome
+  pub not_of_output : IsNotOfOutput r.sent.outcome
   pub started : HasStarted r.sent.outcome
 
 -- a converter which was given these two lanes may return this: its rows are those of the first entries that it took,
@@ -107,5 +107,5 @@ Passes text format sent took =
 -- the threads of a source have ended with this outcome: where it speaks of the text, all that the reader
 -- sent has passed on
 pub record HasPassed (text : Option (List ℕ)) (format : Format) (sent : Sent) (took : Row → Type 0) : Type 0 where
-  pub output_good : HasGoodOutput sent.outcome
+  pub not_of_output : IsNotOfOutput sent.outcome
   pub rows : speaks_of_text sent.outcome ≡ true → ∥ Passes text format sent took ∥₁

@@ -5,7 +5,7 @@ ghost use Rattle.std.specs.List.{AllZip};
 ghost use Rattle.lane_rings.specs.Lane.{sender_lane, sent};
 ghost use Rattle.register_records.specs.Views.{format_of};
 ghost use Rattle.register_run.specs.Carried.{HasEnded};
-ghost use Rattle.register_run.specs.JoinedThreads.{HasGoodOutput, HasStarted, IsReading, Sends};
+ghost use Rattle.register_run.specs.JoinedThreads.{IsNotOfOutput, HasStarted, IsReading, Sends};
 
 use crate::turns::turn_after;
 use lane_rings::{Closed, Sender};
@@ -87,7 +87,7 @@ fn send_entries<R: Read + Drop>(
     requires some { 0 < vec_len senders.old }
     requires fresh { All (λ s. sent s ≡ []) senders.old.items }
     ensures lanes { map sender_lane senders.new.items ≡ map sender_lane senders.old.items }
-    ensures output_good { HasGoodOutput result.outcome }
+    ensures not_of_output { IsNotOfOutput result.outcome }
     ensures started { HasStarted result.outcome }
     ensures sends { ∥ Sends (R.remaining source) (format_of setup.now) result senders.new.items ∥₁ }
 {

@@ -23,6 +23,6 @@ returns g c =
             λ w many.
                 dealt_ended w 0 given senders closed ends (deals w (many ∙ AllZip-long HasEnded senders closed ends)),
           ));
-      output_good = c.send_entries-sent.ensures.output_good;
+      not_of_output = c.send_entries-sent.ensures.not_of_output;
       started = c.send_entries-sent.ensures.started;
     }

@@ -7,7 +7,7 @@ use Rattle.register_run.proofs.source_threads.join_threads.Goals as goal
 
 pub returns-in-Ok-clause-passed : goal.returns-in-Ok-clause-passed
 returns-in-Ok-clause-passed g c = record {
-  output_good = c.join-closed.ensures.output_good;
+  not_of_output = c.join-closed.ensures.not_of_output;
   rows = λ speaks. ∥∥₁_map c.join-closed.ensures.entries (λ (given, is, deals). (
     given,
     is,

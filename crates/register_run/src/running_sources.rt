@@ -108,11 +108,16 @@ impl<R: Read + Drop, W: Output + Drop> RunningSource<R, W> {
         }
     }
 
-    /// Joins the threads and decides how the source ended.
+    /// Writes the lines that wait, joins the threads and decides how the source ended.
     pub(crate) fn finish(self, rt: &impl Threads) -> EndedSource<R, W>
         ensures { ended_case result ≡ case_of self }
     {
-        let RunningSource { threads, table, .. } = self;
+        let RunningSource {
+            threads,
+            mut table,
+            ..
+        } = self;
+        table.send();
         table.conclude(threads.finish(rt))
     }
 }

@@ -210,6 +210,7 @@ impl<W: Output + Drop> TableWriter<W> {
 
     /// What is left of the source, once its lines are written.
     pub(crate) fn conclude<R: Read + Drop>(self, joined: JoinedThreads<R>) -> EndedSource<R, W>
+        requires sent { AllSent self }
         requires passed { ∥ Concludes (R.remaining joined.source.value) self joined.sent
             joined.stripes.value.items ∥₁ }
         requires staffed { AreStaffed (made_by self) joined.sent.outcome joined.stripes.value.items }
@@ -222,8 +223,6 @@ impl<W: Output + Drop> TableWriter<W> {
             stripes,
             sent,
         } = joined;
-        let mut table = self;
-        table.send();
         let TableWriter {
             setup,
             given,
@@ -233,7 +232,7 @@ impl<W: Output + Drop> TableWriter<W> {
             rows,
             course,
             ..
-        } = table;
+        } = self;
         let setup = Snapshot::of(&setup);
         let met = Met {
             sent,

@@ -1,21 +1,25 @@
-use Rattle.std.proofs.Common.{subst, sym}
-use Rattle.register_records.specs.Views.{format_of}
+use Rattle.std.proofs.Common.{◌∙◌, subst, sym}
 use Rattle.std.specs.Prelude.{IfOk}
+use Rattle.register_records.specs.Views.{format_of}
 use Rattle.register_run.specs.Histories.{Carries}
 use Rattle.register_run.specs.SourceThreads.{AreStaffed, Passed, started_by}
 use Rattle.register_run.specs.JoinedThreads.{HasPassed}
-use Rattle.register_run.proofs.RunningSourceLemmas.{concludes}
+use Rattle.register_run.proofs.RunningSourceLemmas.{concludes, wrote_same}
 use Rattle.register_run.proofs.running_sources.RunningSource.finish.Goals as goal
 
 pub conclude-requires : goal.conclude-requires
 conclude-requires g c =
-    let s = c.args.self in let ends = c.finish.ensures in let p = c.finish.result in record {
+    let s = c.args.self in let ends = c.finish.ensures in let p = c.finish.result in
+    let by_one_setup = s.by_one_setup ∙ sym c.send.ensures.setup in record {
+      sent = c.send.ensures.sent;
       passed =
-          concludes s.threads s.table (g.R.Read.remaining p.source.value) p.sent p.stripes.value.items s.by_one_setup
+          concludes s.threads c.send.new.self (g.R.Read.remaining p.source.value) p.sent p.stripes.value.items
+          by_one_setup
           (subst (λ r. HasPassed (g.R.Read.remaining r) (format_of (started_by s.threads)) p.sent (Passed s.threads))
           (sym ends.source) ends.passed)
           (subst (λ r. IfOk p.sent.outcome (λ count.
           ∥ Carries (g.R.Read.remaining r) (started_by s.threads) count p.stripes.value.items (Passed s.threads) ∥₁))
-          (sym ends.source) ends.machine) s.wrote;
-      staffed = subst (λ t. AreStaffed t p.sent.outcome p.stripes.value.items) s.by_one_setup ends.staffed;
+          (sym ends.source) ends.machine)
+          (wrote_same s.threads s.threads s.table c.send.new.self (λ row took. took) c.send.ensures.rows s.wrote);
+      staffed = subst (λ t. AreStaffed t p.sent.outcome p.stripes.value.items) by_one_setup ends.staffed;
     }

@@ -4,39 +4,39 @@ use Rattle.std.proofs.Common.{ℕ, ◌+◌, length, map, false, true, Option, No
 use Rattle.std.specs.Prelude.{Bool, Err, MatchOption, Ok, OnErr, OnOk, Result, eqb, is_err}
 use Rattle.std.specs.List.{Contains}
 use Rattle.std.specs.Option.{option_eq}
-use Rattle.std.proofs.lemmas.List.{length_push, map-append}
+use Rattle.std.proofs.lemmas.List.{get_or-map, length-map, length_push, map-append}
 use Rattle.std.proofs.lemmas.List.Elements.{Contains-append_left}
 use mathlib.Core.List.{IsPrefix}
 use Rattle.lane_rings.proofs.EndLemmas.{entries_in_append, last_mark_append}
 use Rattle.lane_rings.specs.Items.{entries_in, last_mark}
-use Rattle.lane_rings.specs.Lane.{IsWhole, Lane, all_sent, taken, waiting}
+use Rattle.lane_rings.specs.Lane.{HasConfirmation, IsWhole, Lane, all_sent, closed_lane, sender_lane, sent, taken}
+use Rattle.lane_rings.specs.Lane.{waiting}
 use Rattle.lane_rings.specs.declared.item.Gone.{Gone}
 use Rattle.lane_rings.specs.declared.item.Item.{Item}
 use Rattle.lane_rings.specs.declared.item.Item.TheVariants as item
 use Rattle.lane_rings.specs.declared.item.Mark.TheVariants.{Counted, Stopped}
 use Rattle.lane_rings.specs.declared.sender.Closed.{Closed}
+use Rattle.lane_rings.specs.declared.sender.Sender.{Sender}
 use Rattle.register_records.specs.Seen.{entry_seen}
 use Rattle.register_records.specs.declared.entries.Entry.{Entry}
 use Rattle.register_records.specs.declared.rows.Row.{Row}
 use Rattle.register_run.specs.Stripes.{HasPassedOn, StartWithRow}
-use Rattle.register_run.specs.Carried.{AreOfAllTaken, AreOfTaken, HasEnd, carried, row_entries, rows_carried}
+use Rattle.register_run.specs.Carried.{AreOfAllTaken, AreOfTaken, HasEnd, HasEnded, carried, row_entries, rows_carried}
 use Rattle.register_run.specs.JoinedThreads.{IsConverting}
 use Rattle.register_run.specs.declared.stripes.Stripe.{Stripe}
 use Rattle.register_run.specs.declared.converting.Converting.{Converting}
-use Rattle.register_run.proofs.ItemLemmas.{took_next}
+use Rattle.register_run.proofs.ItemLemmas.{same_seen, took_next}
 
 module _ {T : Type 0} where
   -- one more item is an entry
   pub one_more : (items all : List (Item T)) (x : T) → all ≡ items ++ item.Entry x ∷ []
       → entries_in all ≡ entries_in items ++ x ∷ []
-  one_more items all x is = ap (λ (l : List (Item T)). entries_in l) is ∙ entries_in_append items (item.Entry x ∷ [])
+  one_more items all x is = rw (is, entries_in_append)
 
   -- one more item is no entry
   pub no_more : (items all : List (Item T)) (last : Item T) → entries_in (last ∷ []) ≡ [] → all ≡ items ++ last ∷ []
       → entries_in all ≡ entries_in items
-  no_more items all last none is =
-      ap (λ (l : List (Item T)). entries_in l) is ∙ entries_in_append items (last ∷ [])
-      ∙ ap (λ (l : List T). entries_in items ++ l) none ∙ append-nil (entries_in items)
+  no_more items all last none is = rw (is, entries_in_append, none, append-nil)
 
   -- an item that is an entry is one of the entries
   pub entry_within : (items : List (Item T)) (x : T) → Contains items (item.Entry x) → Contains (entries_in items) x
@@ -49,13 +49,19 @@ module _ {T : Type 0} where
   entry_within (item.Stop ∷ items) x (zero, below, is) = cc
   entry_within (item.Stop ∷ items) x (suc k, below, is) = entry_within items x (k, omega arith, is)
 
+-- what ended a lane is no entry
+pub ended_by : (s : Sender Entry) (c : Closed Entry) (last : Item Entry) → entries_in (last ∷ []) ≡ []
+    → (HasConfirmation c → closed_lane c ≡ Some (sender_lane s))
+    → (HasConfirmation c → all_sent c ≡ sent s ++ last ∷ []) → HasEnded s c
+ended_by s c last none lane is = record {
+  lane = lane;
+  sent = λ sure. ap (λ l. map entry_seen l) (no_more (sent s) (all_sent c) last none (is sure));
+}
+
 module _ {X Y : Type 0} (f : X → Y) where
   -- f of an element is one of those of all
   pub map_within : (xs : List X) (x : X) → Contains xs x → Contains (map f xs) (f x)
-  map_within [] x (k, below, is) = absurd (omega arith)
-  map_within (y ∷ xs) x (zero, below, is) = (0, omega arith, ap f is)
-  map_within (y ∷ xs) x (suc k, below, is) =
-      let more = map_within xs x (k, omega arith, is) in (suc more.0, omega (arith, more.1), more.2)
+  map_within xs x (k, below, is) = (k, omega (arith, length-map xs f), get_or-map f xs k x (f x) below ∙ ap f is)
 
   pub map_prefix : (xs ys : List X) → IsPrefix xs ys → IsPrefix (map f xs) (map f ys)
   map_prefix xs ys (rest, is) = (map f rest, sym (map-append f xs rest) ∙ ap (λ (l : List X). map f l) is)
@@ -66,21 +72,16 @@ prefix_within xs ys x (rest, is) h = subst (λ l. Contains l x) is (Contains-app
 -- one more item is a row
 rows_more : (items all : List (Item Row)) (made : Row) (e : Entry) → all ≡ items ++ item.Entry made ∷ []
     → made.entry ≡ e → row_entries all ≡ row_entries items ++ e ∷ []
-rows_more items all made e is of =
-    ap (λ (l : List Row). map (λ (row : Row). row.entry) l) (one_more items all made is)
-    ∙ map-append (λ (row : Row). row.entry) (entries_in items) (made ∷ [])
-    ∙ ap (λ (x : Entry). row_entries items ++ x ∷ []) of
+rows_more items all made e is of = rw (one_more items all made is, map-append, of)
 
 rows_none : (items all : List (Item Row)) (last : Item Row) → entries_in (last ∷ []) ≡ [] → all ≡ items ++ last ∷ []
     → row_entries all ≡ row_entries items
-rows_none items all last none is =
-    ap (λ (l : List Row). map (λ (row : Row). row.entry) l) (no_more items all last none is)
+rows_none items all last none is = rw (no_more items all last none is)
 
 -- nothing was sent, and nothing taken
 pub none_taken : (entries : List (Item Entry)) (rows : List (Item Row)) → entries ≡ [] → rows ≡ []
     → AreOfAllTaken entries rows
-none_taken entries rows none none' =
-    ap (λ (l : List (Item Row)). row_entries l) none' ∙ sym (ap (λ (l : List (Item Entry)). entries_in l) none)
+none_taken entries rows none none' = rw (none, none')
 
 -- the rows of all entries are those of the first of them
 pub first_of_all : (entries : List (Item Entry)) (rows : List (Item Row)) → AreOfAllTaken entries rows
@@ -93,34 +94,23 @@ pub row_sent : (entries all : List (Item Entry)) (rows more : List (Item Row)) (
     → OnOk r (more ≡ rows ++ item.Entry made ∷ []) → OnErr r (more ≡ rows) → made.entry ≡ e → AreOfAllTaken entries rows
     → AreOfTaken all more × (is_err r ≡ false → AreOfAllTaken all more)
 row_sent entries all rows more made e (Ok u) is ok gone of before =
-    let same : AreOfAllTaken all more =
-    rows_more rows more made e ok of ∙ ap (λ (l : List Entry). l ++ e ∷ []) before ∙ sym (one_more entries all e is) in
+    let same : AreOfAllTaken all more = rw (rows_more rows more made e ok of, before, one_more entries all e is) in
     (first_of_all all more same, λ sure. same)
-row_sent entries all rows more made e (Err g) is ok gone of before = (
-  (
-    e ∷ [],
-    ap (λ (l : List (Item Row)). row_entries l ++ e ∷ []) gone ∙ ap (λ (l : List Entry). l ++ e ∷ []) before
-        ∙ sym (one_more entries all e is),
-  ),
-  λ sure. cc,
-)
+row_sent entries all rows more made e (Err g) is ok gone of before =
+    ((e ∷ [], rw (gone, before, one_more entries all e is)), λ sure. cc)
 
 -- one more entry was taken, and no row sent
 pub row_left : (entries all : List (Item Entry)) (rows : List (Item Row)) (e : Entry)
     → all ≡ entries ++ item.Entry e ∷ [] → AreOfTaken entries rows → AreOfTaken all rows
-row_left entries all rows e is (rest, before) = (
-  rest ++ e ∷ [],
-  sym (append_assoc (row_entries rows) rest (e ∷ [])) ∙ ap (λ (l : List Entry). l ++ e ∷ []) before
-      ∙ sym (one_more entries all e is),
-)
+row_left entries all rows e is (rest, before) =
+    (rest ++ e ∷ [], rw (one_more entries all e is, ← before, append_assoc))
 
 -- the rows were ended, and no more entries taken
 module _ (entries all : List (Item Entry)) (rows more : List (Item Row)) (last : Item Row)
     (same : entries_in all ≡ entries_in entries) (none : entries_in (last ∷ []) ≡ []) (is : more ≡ rows ++ last ∷ [])
   where
     pub first_ended : AreOfTaken entries rows → AreOfTaken all more
-    first_ended (rest, before) =
-        (rest, ap (λ (l : List Entry). l ++ rest) (rows_none rows more last none is) ∙ before ∙ sym same)
+    first_ended (rest, before) = (rest, rw (rows_none rows more last none is, same) before)
 
     pub all_ended : AreOfAllTaken entries rows → AreOfAllTaken all more
     all_ended before = rows_none rows more last none is ∙ before ∙ sym same
@@ -142,6 +132,8 @@ row_taken old new (item.Entry row ∷ seen) rest starts is one =
 row_taken old new (item.End n ∷ seen) rest starts is one = absurd starts
 row_taken old new (item.Stop ∷ seen) rest starts is one = absurd starts
 
+pub ruleset passing = (same_seen, row_taken)
+
 -- with both lanes of a converter confirmed, its rows are those of the first entries that were sent, and of all of them
 -- where they end with an end
 module _ (from into : Lane) (stripe : Stripe) (fed : Closed Entry) (converting : Converting)
@@ -149,17 +141,14 @@ module _ (from into : Lane) (stripe : Stripe) (fed : Closed Entry) (converting :
     (second : IsWhole converting.closed stripe.rows) (none : waiting stripe.rows ≡ []) where
   all_passed : HasEnd (taken stripe.rows) → rows_carried (taken stripe.rows) ≡ carried (all_sent fed)
   all_passed ends =
-      ap (λ (l : List (Item Row)). rows_carried l) (sym second.equal)
-      ∙ ap (λ (l : List Entry). map entry_seen l)
-      (keeps.all second.confirmed (subst (λ l. HasEnd l) (sym second.equal) ends))
-      ∙ ap (λ (l : List (Item Entry)). carried l) (sym first.equal)
+      rw (← second.equal, first.equal)
+      (ap (λ (l : List Entry). map entry_seen l) (keeps.all second.confirmed (rw second.equal ends)))
 
   first_passed : IsPrefix (rows_carried (taken stripe.rows)) (carried (all_sent fed))
   first_passed =
-      subst (λ l. IsPrefix (rows_carried (taken stripe.rows)) (carried l)) (sym first.equal)
-      (subst (λ l. IsPrefix (rows_carried l) (carried (taken converting.entries))) second.equal
+      rw (← second.equal, first.equal)
       (map_prefix entry_seen (row_entries (all_sent converting.closed)) (entries_in (taken converting.entries))
-      (keeps.rows second.confirmed)))
+      (keeps.rows second.confirmed))
 
   ends_so : (items : List (Item Row)) (ended : Option ℕ) (count : ℕ) → items ≡ taken stripe.rows
       → MatchOption ended (last_mark items ≡ Some Stopped) (λ n. last_mark items ≡ Some (Counted n))

@@ -2,11 +2,12 @@
 use Rattle.std.proofs.Common.{◌≡◌, ◌∙◌, ◌+◌, ◌-◌, ◌<◌, ℕ, zero, suc, List, [], ◌∷◌, ◌++◌, append-nil, arith, get_or}
 use Rattle.std.proofs.Common.{set}
 use Rattle.std.proofs.Common.{ap, map, sym}
-use Rattle.std.specs.Prelude.{◌==◌, All, Bool, Err, Ok, OnErr, OnOk, Result, cond, false, is_err, true}
-use Rattle.std.specs.List.{AllZip, Contains, filter}
+use Rattle.std.specs.Prelude.{◌==◌, All, Err, Ok, OnErr, OnOk, Result, false, is_err, true}
+use Rattle.std.specs.List.{AllZip, Contains}
 use Rattle.std.proofs.lemmas.Bool.{eq-eqb, ne_eqb}
 use Rattle.std.proofs.lemmas.List.{map-append}
-use Rattle.std.proofs.lemmas.List.Elements.{All-head, All-tail, filter-append}
+use Rattle.std.proofs.lemmas.List.Elements.{All-contains, All-contains_itself, All-filter, All-head}
+use Rattle.std.proofs.lemmas.List.Elements.{All-tail, filter-append}
 use Rattle.lane_rings.specs.declared.sender.Closed.{Closed}
 use Rattle.lane_rings.specs.declared.sender.Sender.{Sender}
 use Rattle.lane_rings.specs.declared.item.Gone.{Gone}
@@ -103,20 +104,9 @@ dealt_ended w i given (s ∷ senders) [] ends all = absurd ends
 dealt_ended w i given (s ∷ senders) (c ∷ closed) ends all =
     (λ sure. ends.0.sent sure ∙ all.0, dealt_ended w (i + 1) given senders closed ends.1 all.1)
 
-next_within : {X : Type 0} (y : X) (xs : List X) (x : X) → Contains xs x → Contains (y ∷ xs) x
-next_within y xs x (k, below, is) = (suc k, omega (arith, below), is)
-
-kept_within : {X : Type 0} (b : Bool) (y : X) (kept xs : List X) (x : X) → (Contains kept x → Contains xs x)
-    → Contains (cond b (y ∷ kept) kept) x → Contains (y ∷ xs) x
-kept_within true y kept xs x more (zero, below, is) = (0, omega arith, is)
-kept_within true y kept xs x more (suc k, below, is) = next_within y xs x (more (k, omega (arith, below), is))
-kept_within false y kept xs x more h = next_within y xs x (more h)
-
-filter_within : {X : Type 0} (p : X → Bool) (xs : List X) (x : X) → Contains (filter p xs) x → Contains xs x
-filter_within p [] x h = h
-filter_within p (y ∷ xs) x h = kept_within (p y) y (filter p xs) xs x (filter_within p xs x) h
-
 -- what is dealt is of what is given
 pub dealt_within : (w : World) (i : ℕ) (given : List Numbered) (e : Numbered) → Contains (dealt w i given) e
     → Contains given e
-dealt_within w i given e h = filter_within (λ (n : Numbered). turn w (n.number - 1) == i) given e h
+dealt_within w i given e h =
+    All-contains (Contains given) (dealt w i given) e
+    (All-filter (λ (n : Numbered). turn w (n.number - 1) == i) (Contains given) given (All-contains_itself given)) h

@@ -1,11 +1,11 @@
 -- What is known of a source that has ended.
 use Rattle.std.proofs.Common.{◌≡◌, ◌≢◌, ◌∙◌, ap, refl, sym, subst, ℕ, List, [], ◌∷◌, ◌++◌, length, Option, None, Some}
 use Rattle.std.proofs.Common.{◌≤◌, inl, inr, arith, append-nil, length-append, map, ◌+◌, true, false, Bool}
-use Rattle.std.specs.Prelude.{Err, IfErr, IfOk, IfSome, Ok}
+use Rattle.std.specs.Prelude.{Err, IfOk, IfSome}
 use Rattle.std.specs.Option.{is_some}
 use Rattle.std.specs.List.{Contains, range_with_len}
 use Rattle.std.specs.Io.KnownBytes.{Appends, append_known}
-use Rattle.std.proofs.lemmas.Bool.{cases_eq}
+use Rattle.std.proofs.lemmas.Bool.{cases_eq, false_from_ne_true}
 use Rattle.std.proofs.lemmas.List.{length-map}
 use Rattle.std.proofs.lemmas.List.Elements.{All-contains, All-from_recursion, Contains-append_right}
 use Rattle.std.proofs.Props.{props}
@@ -13,14 +13,13 @@ use Rattle.std.proofs.Math.Logic.{∥∥₁_elim, ∥∥₁_map, ∥∥₁_prop}
 use Rattle.date_texts.specs.declared.target.Target.{Target}
 use Rattle.register_records.specs.declared.outputs.Output as outputs
 use Rattle.register_records.specs.declared.rows.Row.{Row}
-use Rattle.register_records.specs.declared.setups.Form.TheVariants.{Sealed}
 use Rattle.register_records.specs.declared.ends.Cause.{Cause}
 use Rattle.register_records.specs.declared.ends.Cause.TheVariants as cause
 use Rattle.register_records.specs.declared.ends.SourceEnd.{SourceEnd}
 use Rattle.register_records.specs.declared.ends.SourceEnd.TheVariants as end
 use Rattle.register_records.specs.declared.writing.RowWriter.{RowWriter}
-use Rattle.register_records.specs.Entries.{AreNumberedFrom, HasAllEntries, HasEntries, HasFirstEntries, HasNoHeader}
-use Rattle.register_records.specs.Entries.{HasTooMany, IsNotSealed, Numbered, record_limit}
+use Rattle.register_records.specs.Entries.{AreNumberedFrom, HasAllEntries, HasEntries, HasFirstEntries}
+use Rattle.register_records.specs.Entries.{Numbered, record_limit}
 use Rattle.register_records.specs.Outcomes.{AreRowsOf, IsRowOf}
 use Rattle.register_records.specs.Seen.{entry_seen}
 use Rattle.register_records.specs.Sources.{ArePartOfTable, Gains, IfBroken, IfWhole, IsFrontOfTable, IsTableOf}
@@ -34,13 +33,14 @@ use Rattle.register_run.specs.declared.table_writers.Course.{Course}
 use Rattle.register_run.specs.declared.table_writers.Course.TheVariants as course
 use Rattle.register_run.specs.declared.ended_sources.Met.{Met}
 use Rattle.register_run.specs.declared.table_writers.TableWriter.{TableWriter}
-use Rattle.register_run.specs.Courses.{Differs, IsLowest, IsMet, fault_of, is_of_table, output_failed}
+use Rattle.register_run.specs.Courses.{Differs, HasMetNone, IsLowest, IsMet, fault_of, is_of_table, output_failed}
 use Rattle.register_run.specs.Headline.{IsAllOfTable, IsSourceEnd, causes_of_reading}
 use Rattle.register_run.specs.Histories.{Carries, IsMachineWithTable}
 use Rattle.register_run.specs.JoinedThreads.{IsNotOfOutput, HasPassed, IsGiven, IsOfGiven, is_of_reading}
 use Rattle.register_run.specs.JoinedThreads.{speaks_of_text}
 use Rattle.register_run.specs.TablesWritten.{AllSent, Holds, IsTableSoFar, entries_seen, rows_seen, waiting_of}
 use Rattle.register_run.proofs.FrontLemmas.{first_of_first, front_all, rows_front}
+use Rattle.register_run.proofs.TableLemmas.{stands_none}
 
 -- rows that were made for these targets are the rows of their entries
 pub rows_are : (targets : List Target) (rows : List Row) → ((row : Row) → Contains rows row → row_targets row ≡ targets)
@@ -81,15 +81,6 @@ listed c h =
     All-contains each causes_of_reading c
     (All-from_recursion each causes_of_reading (refl, (refl, (refl, (refl, tt))))) h
 
-not_true : (b : Bool) → (b ≡ true → ⊥) → b ≡ false
-not_true true h = absurd (h refl)
-not_true false h = refl
-
-nothing_so : {W : Type 0} (o : outputs.Ghosts W) (layout : Layout) (given output : W) (w : Option RowWriter)
-    (rows : List Row) → is_some w ≡ false → IsTableSoFar o layout given output w rows → (output ≡ given) × (rows ≡ [])
-nothing_so o layout given output None rows e h = h
-nothing_so o layout given output (Some w) rows e h = absurd (cc)
-
 table_so : {W : Type 0} (o : outputs.Ghosts W) (layout : Layout) (given output : W) (w : Option RowWriter)
     (rows : List Row) → is_some w ≡ true → waiting_of w ≡ [] → IsTableSoFar o layout given output w rows
     → Appends (o.contents given) (o.contents output) (table_text layout (rows_seen rows)) × (o.is_flushed output ≡ true)
@@ -120,6 +111,13 @@ low cause.BadHeader e = cc
 low cause.TooManyRecords e = cc
 low cause.NotSealed e = cc
 
+-- the threads gave up for this cause of reading; the table has the rows of all entries that were read, and no heading
+-- without a row
+abbrev IsReadingMet : Met → Cause → Type 0
+IsReadingMet met c =
+    (met.sent.outcome ≡ Err c) × (met.fault ≡ None) × (met.headed ≡ true → met.rows ≢ 0)
+    × (met.rows ≡ met.sent.count)
+
 module _ (met : Met) (c : Cause) (of_table : IfSome met.fault (λ f. is_of_table f ≡ true)) where
   -- a cause that no table gives is the outcome of the threads
   met_by_threads : is_of_table c ≡ false → IsMet met c → met.sent.outcome ≡ Err c
@@ -143,7 +141,7 @@ module _ (met : Met) (c : Cause) (of_table : IfSome met.fault (λ f. is_of_table
         (subst (λ f. IfSome f (λ d. is_of_table d ≡ true)) e of_table) (lowest.1 d (inr (inl e))))
 
     read_outcome : met.sent.outcome ≡ Err c
-    read_outcome = met_by_threads (not_true (is_of_table c) (λ of. not_of_table c of (omega arith))) lowest.0
+    read_outcome = met_by_threads (false_from_ne_true (is_of_table c) (λ of. not_of_table c of (omega arith))) lowest.0
 
     unmet : Differs (Err c) met.sent.count met.headed met.rows → ⊥
     unmet differs =
@@ -156,8 +154,7 @@ module _ (met : Met) (c : Cause) (of_table : IfSome met.fault (λ f. is_of_table
     all_written : met.rows ≡ met.sent.count
     all_written = elim (cases_eq met.rows met.sent.count) [ inl e ↦ e | inr n ↦ absurd (unmet (inl n)) ]
 
-    reading_met : (met.sent.outcome ≡ Err c) × (met.fault ≡ None) × (met.headed ≡ true → met.rows ≢ 0)
-        × (met.rows ≡ met.sent.count)
+    reading_met : IsReadingMet met c
     reading_met = (read_outcome, none_broke met.fault refl, λ head zero. unmet (inr (head, zero)), all_written)
 
 -- cause 2 is the outcome of the threads
@@ -174,43 +171,63 @@ module _ {W : Type 0} (o : outputs.Ghosts W) (text : Option (List ℕ)) (table :
   abbrev met : Met
   met = record { sent = passed; fault = fault_of table.course; headed = headed; rows = table.rows }
 
+  abbrev layout : Layout
+  layout = layout_of table.setup
+
+  abbrev AreRows : Type 0
+  AreRows = AreRowsOf layout.targets (entries_seen rows) (rows_seen rows)
+
+  -- what the output has gained is so, and the source has ended so
+  abbrev Gained : (List ℕ → Type 0) → Type 0
+  Gained AreSo = Gains (o.contents table.given.value) (o.contents table.output) AreSo
+
+  abbrev EndsSo : SourceEnd → Type 0
+  EndsSo e = ∥ IsSourceEnd o layout text table.given.value table.output e ∥₁
+
   entries_len : length (entries_seen rows) ≡ table.rows
   entries_len = length-map rows (λ (row : Row). entry_seen row.entry) ∙ holds.counted
 
-  table_is : AreRowsOf (layout_of table.setup).targets (entries_seen rows) (rows_seen rows)
-      → IsTableOf (layout_of table.setup) (entries_seen rows) (rows_seen rows)
-      (table_text (layout_of table.setup) (rows_seen rows))
+  table_is : AreRows → IsTableOf layout (entries_seen rows) (rows_seen rows) (table_text layout (rows_seen rows))
   table_is are = record { numbered = numbers_are 1 (entries_seen rows) holds.numbered; converted = are; written = refl }
 
   unwritten : output_failed table.course ≡ false → is_some table.writer ≡ false
       → (table.output ≡ table.given.value) × (rows ≡ [])
   unwritten good none =
-      nothing_so o (layout_of table.setup) table.given.value table.output table.writer rows none (holds.stands good)
+      stands_none o layout table.given.value table.output table.writer rows none (holds.stands good)
 
   written : output_failed table.course ≡ false → is_some table.writer ≡ true
       → Appends (o.contents table.given.value) (o.contents table.output)
-      (table_text (layout_of table.setup) (rows_seen rows)) × (o.is_flushed table.output ≡ true)
+      (table_text layout (rows_seen rows)) × (o.is_flushed table.output ≡ true)
   written good some =
-      table_so o (layout_of table.setup) table.given.value table.output table.writer rows some (sent good)
-      (holds.stands good)
+      table_so o layout table.given.value table.output table.writer rows some (sent good) (holds.stands good)
 
-  in_order_so : (b : Bool) → is_some table.writer ≡ b → output_failed table.course ≡ false
-      → AreRowsOf (layout_of table.setup).targets (entries_seen rows) (rows_seen rows)
-      → Gains (o.contents table.given.value) (o.contents table.output) (ArePartOfTable (layout_of table.setup) None)
-  in_order_so false b good are = (
-    [],
-    inl refl,
-    appends_nothing (o.contents table.given.value) (o.contents table.output)
-        (ap o.contents (unwritten good b).0),
-  )
-  in_order_so true b good are = (
-    table_text (layout_of table.setup) (rows_seen rows),
-    inr (length (rows_seen rows), front_of_some (layout_of table.setup) rows holds.numbered are),
-    (written good b).0,
-  )
+  -- without a heading the output has gained nothing, and with one the table of the rows
+  gained_so : (AreSo : List ℕ → Type 0) (b : Bool) → is_some table.writer ≡ b → output_failed table.course ≡ false
+      → (rows ≡ [] → AreSo []) → (is_some table.writer ≡ true → AreSo (table_text layout (rows_seen rows)))
+      → Gained AreSo
+  gained_so AreSo false b good none some =
+      let (same, empty) = unwritten good b in
+      ([], none empty, appends_nothing (o.contents table.given.value) (o.contents table.output) (ap o.contents same))
+  gained_so AreSo true b good none some = (table_text layout (rows_seen rows), some b, (written good b).0)
+
+  in_order_so : output_failed table.course ≡ false → AreRows → Gained (ArePartOfTable layout None)
+  in_order_so good are =
+      gained_so (ArePartOfTable layout None) (is_some table.writer) refl good (λ none. inl refl)
+      (λ some. inr (length (rows_seen rows), front_of_some layout rows holds.numbered are))
+
+  front_so : (count : ℕ) → count ≡ length (rows_seen rows) → AreRows
+      → HasFirstEntries (format_of table.setup) text (entries_seen rows)
+      → IsFrontOfTable layout text count (table_text layout (rows_seen rows))
+  front_so count counted are first = record {
+    entries = entries_seen rows;
+    rows = rows_seen rows;
+    table = table_is are;
+    counted = counted;
+    first = first;
+  }
 
   not_failed : o.has_failed table.output ≡ false → output_failed table.course ≡ false
-  not_failed good = not_true (output_failed table.course) (λ s. let f = table.failed s in absurd (cc))
+  not_failed good = false_from_ne_true (output_failed table.course) (λ s. let f = table.failed s in absurd (cc))
 
   module _ (given : List Numbered) (is : IsGiven text (format_of table.setup) passed given)
       (all : (row : Row) → Contains rows row → IsOfGiven given row) where
@@ -228,100 +245,43 @@ module _ {W : Type 0} (o : outputs.Ghosts W) (text : Option (List ℕ)) (table :
       | inr f ↦ first_of_first (format_of table.setup) text given (entries_seen rows) taken_front.0 taken_front.1 f
     ]
 
-    part_so : (b : Bool) → is_some table.writer ≡ b → output_failed table.course ≡ false
-        → (headed ≡ true → table.rows ≢ 0)
-        → AreRowsOf (layout_of table.setup).targets (entries_seen rows) (rows_seen rows)
-        → Gains (o.contents table.given.value) (o.contents table.output) (ArePartOfTable (layout_of table.setup) text)
-    part_so false b good some are = (
-      [],
-      inl refl,
-      appends_nothing (o.contents table.given.value) (o.contents table.output)
-          (ap o.contents (unwritten good b).0),
-    )
-    part_so true b good some are = (
-      table_text (layout_of table.setup) (rows_seen rows),
-      inr (
-        length (rows_seen rows),
-        record {
-          entries = entries_seen rows;
-          rows = rows_seen rows;
-          table = table_is are;
-          counted = refl;
-          first = first_so (some (is_headed ∙ b));
-        },
-      ),
-      (written good b).0,
-    )
-
-  -- rows were written behind a heading
-  headed_so : (b : Bool) → is_some table.writer ≡ b → output_failed table.course ≡ false → table.rows ≢ 0
-      → is_some table.writer ≡ true
-  headed_so true b good some = b
-  headed_so false b good some =
-      absurd (some (let none : length rows ≡ 0 = ap length (unwritten good b).1 in let h = holds.counted in
-      omega arith))
+    part_so : output_failed table.course ≡ false → (headed ≡ true → table.rows ≢ 0) → AreRows
+        → Gained (ArePartOfTable layout text)
+    part_so good some are =
+        gained_so (ArePartOfTable layout text) (is_some table.writer) refl good (λ none. inl refl)
+        (λ has. inr (length (rows_seen rows), front_so _ refl are (first_so (some (is_headed ∙ has)))))
 
   -- as many rows were written as there may be
   most_so : length rows ≡ record_limit → output_failed table.course ≡ false
-      → HasFirstEntries (format_of table.setup) text (entries_seen rows)
-      → AreRowsOf (layout_of table.setup).targets (entries_seen rows) (rows_seen rows)
-      → Gains (o.contents table.given.value) (o.contents table.output)
-      (IsFrontOfTable (layout_of table.setup) text record_limit)
+      → HasFirstEntries (format_of table.setup) text (entries_seen rows) → AreRows
+      → Gained (IsFrontOfTable layout text record_limit)
   most_so most good first are =
-      let some : table.rows ≢ 0 = λ zero. let h = holds.counted in omega (arith, most, h, zero) in (
-        table_text (layout_of table.setup) (rows_seen rows),
-        record {
-          entries = entries_seen rows;
-          rows = rows_seen rows;
-          table = table_is are;
-          counted = sym most ∙ sym (length-map rows row_seen);
-          first = first;
-        },
-        (written good (headed_so (is_some table.writer) refl good some)).0,
-      )
+      gained_so (IsFrontOfTable layout text record_limit) (is_some table.writer) refl good
+      (λ none. absurd (let zero : length rows ≡ 0 = ap length none in omega (arith, most, zero)))
+      (λ some. front_so record_limit (sym most ∙ sym (length-map rows row_seen)) are first)
 
   -- the rows of all entries were written
-  all_so : (b : Bool) → is_some table.writer ≡ b → output_failed table.course ≡ false
-      → HasAllEntries (format_of table.setup) text (entries_seen rows)
-      → AreRowsOf (layout_of table.setup).targets (entries_seen rows) (rows_seen rows)
-      → Gains (o.contents table.given.value) (o.contents table.output) (IsAllOfTable (layout_of table.setup) text)
-  all_so false b good all are = (
-    [],
-    inl (refl, subst (λ rs. HasAllEntries (format_of table.setup) text (entries_seen rs)) (unwritten good b).1 all),
-    appends_nothing (o.contents table.given.value) (o.contents table.output)
-        (ap o.contents (unwritten good b).0),
-  )
-  all_so true b good all are = (
-    table_text (layout_of table.setup) (rows_seen rows),
-    inr (record { entries = entries_seen rows; rows = rows_seen rows; table = table_is are; all = all }),
-    (written good b).0,
-  )
+  all_so : output_failed table.course ≡ false → HasAllEntries (format_of table.setup) text (entries_seen rows)
+      → AreRows → Gained (IsAllOfTable layout text)
+  all_so good all are =
+      gained_so (IsAllOfTable layout text) (is_some table.writer) refl good
+      (λ none. inl (refl, subst (λ rs. HasAllEntries (format_of table.setup) text (entries_seen rs)) none all))
+      (λ some. inr (record { entries = entries_seen rows; rows = rows_seen rows; table = table_is are; all = all }))
 
-  reading_so : (c : Cause) → is_of_reading c ≡ true
-      → (passed.outcome ≡ Err c) × (fault_of table.course ≡ None) × (headed ≡ true → table.rows ≢ 0)
-      × (table.rows ≡ passed.count)
-      → ∥ IsSourceEnd o (layout_of table.setup) text table.given.value table.output
-      (end.Broken c) ∥₁
+  reading_so : (c : Cause) → is_of_reading c ≡ true → IsReadingMet met c → EndsSo (end.Broken c)
   reading_so c reading fact =
       let good = faultless table.course fact.1 in
       let speaks : speaks_of_text passed.outcome ≡ true = ap speaks_of_text fact.0 ∙ reading in
       ∥∥₁_elim (has.rows speaks) ∥∥₁_prop
-      (λ (given, is, all). ∥∥₁_map (rows_are (layout_of table.setup).targets rows holds.targets) (λ are.
-      let bad =
-      subst (λ p. IfErr p (λ d. d ≡ cause.BadHeader
-      → (given ≡ []) × IfSome text (λ t. HasNoHeader (format_of table.setup) t))) fact.0 is.bad_header in
-      let many =
-      subst (λ p. IfErr p (λ d. d ≡ cause.TooManyRecords
-      → (length given ≡ record_limit) × IfSome text (λ t. HasTooMany (format_of table.setup) t))) fact.0 is.too_many in
-      let unsealed =
-      subst (λ p. IfErr p (λ d. d ≡ cause.NotSealed
-      → (table.setup.form ≡ Sealed) × IfSome text (λ t. IsNotSealed (format_of table.setup) t)
-      × HasAllEntries (format_of table.setup) text given)) fact.0 is.not_sealed in
+      (λ (given, is, all). ∥∥₁_map (rows_are layout.targets rows holds.targets) (λ are.
+      let bad = rw fact.0 at is.bad_header in
+      let many = rw fact.0 at is.too_many in
+      let unsealed = rw fact.0 at is.not_sealed in
       let front = taken_front given is all in
       let long : length given ≡ table.rows = is.counted speaks ∙ sym fact.3 in
       let same : given ≡ entries_seen rows =
       front_all given (entries_seen rows) front.0 front.1 (long ∙ sym entries_len) in record {
-        part = λ e. part_so given is all (is_some table.writer) refl good fact.2 are;
+        part = λ e. part_so given is all good fact.2 are;
         bad_header = λ e. (bad e).1;
         too_many = λ e.
             let most : table.rows ≡ record_limit = sym long ∙ (many e).0 in (
@@ -332,34 +292,27 @@ module _ {W : Type 0} (o : outputs.Ghosts W) (text : Option (List ℕ)) (table :
             let u = unsealed e in (
               u.0,
               u.1,
-              all_so (is_some table.writer) refl good
-                  (subst (λ es. HasAllEntries (format_of table.setup) text es) same u.2) are,
+              all_so good (subst (λ es. HasAllEntries (format_of table.setup) text es) same u.2) are,
             );
-        in_order = λ unfailed. in_order_so (is_some table.writer) refl good are;
+        in_order = λ unfailed. in_order_so good are;
         sink = λ e. absurd (let k : is_of_reading c ≡ false = ap is_of_reading e in cc);
         kept = λ e. table.good good;
       }))
 
   threads_so : (c : Cause) → is_of_reading c ≡ false
-      → (c ≡ cause.SinkFault → fault_of table.course ≡ Some cause.SinkFault)
-      → ∥ IsSourceEnd o (layout_of table.setup) text table.given.value table.output
-      (end.Broken c) ∥₁
-  threads_so c other sink = ∥∥₁_map (rows_are (layout_of table.setup).targets rows holds.targets) (λ are. record {
+      → (c ≡ cause.SinkFault → fault_of table.course ≡ Some cause.SinkFault) → EndsSo (end.Broken c)
+  threads_so c other sink = ∥∥₁_map (rows_are layout.targets rows holds.targets) (λ are. record {
     part = λ e. absurd (let k = listed c e in cc);
     bad_header = λ e. absurd (let k : is_of_reading c ≡ true = ap is_of_reading e in cc);
     too_many = λ e. absurd (let k : is_of_reading c ≡ true = ap is_of_reading e in cc);
     not_sealed = λ e. absurd (let k : is_of_reading c ≡ true = ap is_of_reading e in cc);
-    in_order = λ good. in_order_so (is_some table.writer) refl (not_failed good) are;
+    in_order = λ good. in_order_so (not_failed good) are;
     sink = λ e. table.failed (table.sink_fault (sink e));
     kept = λ e. absurd (let k = listed c e in cc);
   })
 
-  broken_so : (b : Bool) (c : Cause) → is_of_reading c ≡ b
-      → (is_of_reading c ≡ true → (passed.outcome ≡ Err c) × (fault_of table.course ≡ None)
-      × (headed ≡ true → table.rows ≢ 0) × (table.rows ≡ passed.count))
-      → (c ≡ cause.SinkFault → fault_of table.course ≡ Some cause.SinkFault)
-      → ∥ IsSourceEnd o (layout_of table.setup) text table.given.value table.output
-      (end.Broken c) ∥₁
+  broken_so : (b : Bool) (c : Cause) → is_of_reading c ≡ b → (is_of_reading c ≡ true → IsReadingMet met c)
+      → (c ≡ cause.SinkFault → fault_of table.course ≡ Some cause.SinkFault) → EndsSo (end.Broken c)
   broken_so true c b reading sink = reading_so c b (reading b)
   broken_so false c b reading sink = threads_so c b sink
 
@@ -372,19 +325,15 @@ module _ {W : Type 0} (o : outputs.Ghosts W) (text : Option (List ℕ)) (table :
       let fact =
       reading_met met c table.of_table lowest (ap is_of_reading same) in
       let speaks : speaks_of_text passed.outcome ≡ true = ap speaks_of_text fact.0 ∙ ap is_of_reading same in (
-        not_true (is_some table.writer) (λ some. ∥∥₁_elim (has.rows speaks) (Prim.hlevel props) (λ (given, so, all).
-            let bad =
-            subst (λ p. IfErr p (λ d. d ≡ cause.BadHeader
-            → (given ≡ []) × IfSome text (λ t. HasNoHeader (format_of table.setup) t))) fact.0 so.bad_header in
+        false_from_ne_true (is_some table.writer) (λ some.
+            ∥∥₁_elim (has.rows speaks) (Prim.hlevel props) (λ (given, so, all).
+            let bad = rw fact.0 at so.bad_header in
             fact.2 (is_headed ∙ some) (none_given given so all (bad same).0))),
         faultless table.course fact.1,
       )
 
-  pub source_end : (e : SourceEnd)
-      → IfWhole e (λ count refused notes. (passed.outcome ≡ Ok count) × (fault_of table.course ≡ None) × (headed ≡ true)
-      × (count ≡ table.rows) × (refused ≡ length notes) × (notes ≡ table.journal.items))
-      → IfBroken e (IsLowest (IsMet met)) → ∥ IsSourceEnd o
-      (layout_of table.setup) text table.given.value table.output e ∥₁
+  pub source_end : (e : SourceEnd) → IfWhole e (HasMetNone met table.journal.items)
+      → IfBroken e (IsLowest (IsMet met)) → EndsSo e
   source_end (end.Broken c) whole lowest =
       broken_so (is_of_reading c) c refl (reading_met met c table.of_table lowest)
       (sink_met met c table.of_table has.not_of_output lowest.0)
@@ -392,16 +341,14 @@ module _ {W : Type 0} (o : outputs.Ghosts W) (text : Option (List ℕ)) (table :
       let good = faultless table.course whole.1 in
       let speaks : speaks_of_text passed.outcome ≡ true = ap speaks_of_text whole.0 in
       ∥∥₁_elim (has.rows speaks) ∥∥₁_prop
-      (λ (given, is, all). ∥∥₁_map (rows_are (layout_of table.setup).targets rows holds.targets) (λ are.
-      let ended =
-      subst (λ p. IfOk p (λ n. (n ≡ length given)
-      × HasEntries (format_of table.setup) text given)) whole.0 is.all in
+      (λ (given, is, all). ∥∥₁_map (rows_are layout.targets rows holds.targets) (λ are.
+      let ended = rw whole.0 at is.all in
       let front = taken_front given is all in
       let len : length given ≡ length (entries_seen rows) = sym ended.0 ∙ whole.3 ∙ sym entries_len in
       let same = front_all given (entries_seen rows) front.0 front.1 len in
       let bytes = written good (sym is_headed ∙ whole.2) in record {
         table = (
-          table_text (layout_of table.setup) (rows_seen rows),
+          table_text layout (rows_seen rows),
           record {
             entries = entries_seen rows;
             rows = rows_seen rows;
@@ -421,25 +368,22 @@ module _ {W : Type 0} (o : outputs.Ghosts W) (text : Option (List ℕ)) (table :
   pub with_table : (stripes : List Stripe)
       → IfOk passed.outcome (λ count. ∥ Carries text table.setup count stripes (λ row. Contains rows row) ∥₁)
       → (e : SourceEnd)
-      → IfWhole e (λ count refused notes. (passed.outcome ≡ Ok count) × (fault_of table.course ≡ None) × (headed ≡ true)
-      × (count ≡ table.rows) × (refused ≡ length notes) × (notes ≡ table.journal.items))
+      → IfWhole e (HasMetNone met table.journal.items)
       → ∥ IfWhole e (λ count refused notes.
       IsMachineWithTable text table.setup (o.contents table.given.value) (o.contents table.output) count stripes) ∥₁
   with_table stripes carries (end.Broken c) whole = ∣ tt ∣₁
   with_table stripes carries (end.Whole count refused journal) whole =
-      let carried =
-      subst (λ p. IfOk p (λ n. ∥ Carries text table.setup n stripes (λ row. Contains rows row) ∥₁)) whole.0 carries in
-      ∥∥₁_elim carried ∥∥₁_prop
-      (λ (machine, all). ∥∥₁_map (rows_are (layout_of table.setup).targets rows holds.targets) (λ are.
+      ∥∥₁_elim (rw whole.0 at carries) ∥∥₁_prop
+      (λ (machine, all). ∥∥₁_map (rows_are layout.targets rows holds.targets) (λ are.
       let front = rows_front machine.given rows machine.numbered holds.numbered all in
       let len : length machine.given ≡ length (entries_seen rows) = machine.counted ∙ whole.3 ∙ sym entries_len in
       let same = front_all machine.given (entries_seen rows) front.0 front.1 len in (
         machine,
         rows_seen rows,
         (
-          table_text (layout_of table.setup) (rows_seen rows),
-          subst (λ es. IsTableOf (layout_of table.setup) es (rows_seen rows)
-              (table_text (layout_of table.setup) (rows_seen rows))) (sym same) (table_is are),
+          table_text layout (rows_seen rows),
+          subst (λ es. IsTableOf layout es (rows_seen rows) (table_text layout (rows_seen rows))) (sym same)
+              (table_is are),
           (written (faultless table.course whole.1) (sym is_headed ∙ whole.2)).0,
         ),
       )))

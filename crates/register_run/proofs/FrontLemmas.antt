@@ -1,7 +1,8 @@
 -- Entries that are numbered in order are the first of those among which they stand.
-use Rattle.std.proofs.Common.{◌≡◌, ◌∙◌, ap, refl, sym, subst, ℕ, zero, suc, ◌+◌, ◌≤◌, List, [], ◌∷◌, ◌++◌, length}
+use Rattle.std.proofs.Common.{◌≡◌, ◌∙◌, ap, refl, sym, ℕ, zero, suc, ◌+◌, ◌≤◌, List, [], ◌∷◌, ◌++◌, length}
 use Rattle.std.proofs.Common.{arith, append_assoc, length-append, append-nil, Option}
 use Rattle.std.specs.List.{Contains}
+use Rattle.std.proofs.lemmas.List.Elements.{All-contains, All-contains_itself, All-map, All-weaker}
 use Rattle.register_records.specs.Entries.{AreNumberedFrom, Format, HasFirstEntries, Numbered}
 use Rattle.register_records.specs.Seen.{entry_seen}
 use Rattle.register_records.specs.declared.rows.Row.{Row}
@@ -40,10 +41,10 @@ front (y ∷ ys) (x ∷ xs) k g n all =
 pub each_entry : (P : Numbered → Type 0) (rows : List Row)
     → ((row : Row) → Contains rows row → P (entry_seen row.entry)) → (n : Numbered)
     → Contains (entries_seen rows) n → P n
-each_entry P [] all n c = absurd (omega (arith, c.1))
-each_entry P (row ∷ rest) all n (zero, below, is) = subst P is (all row (0, omega arith, refl))
-each_entry P (row ∷ rest) all n (suc i, below, is) =
-    each_entry P rest (λ r c. all r (suc c.0, omega (arith, c.1), c.2)) n (i, omega arith, is)
+each_entry P rows all n c =
+    let entry : Row → Numbered = λ row. entry_seen row.entry in
+    All-contains P (entries_seen rows) n
+    (All-map P entry rows (All-weaker (Contains rows) (λ row. P (entry row)) all rows (All-contains_itself rows))) c
 
 -- the entries of rows that were taken, as a front of those given
 pub rows_front : (given : List Numbered) (rows : List Row) → AreNumberedFrom 1 given

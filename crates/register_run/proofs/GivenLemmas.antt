@@ -1,5 +1,5 @@
 -- What a reader gave of a text, by how it ended.
-use Rattle.std.proofs.Common.{◌≡◌, ◌⊎◌, ◌∙◌, ap, subst, sym, refl, true, ℕ, ◌+◌, List, [], ◌∷◌, ◌++◌, length}
+use Rattle.std.proofs.Common.{◌≡◌, ◌∙◌, ap, subst, sym, refl, true, ℕ, ◌+◌, List, [], ◌∷◌, ◌++◌, length}
 use Rattle.std.proofs.Common.{Option, inl, inr, arith}
 use Rattle.std.specs.Prelude.{Err, IfSome, Ok, Result}
 use Rattle.std.proofs.Math.Logic.{∥∥₁_elim, ∥∥₁_map, ∥∥₁_prop}
@@ -134,27 +134,17 @@ module _ (text : Option (List ℕ)) (format : Format) where
     not_sealed = tt;
   }))
 
--- what holds of one text and format holds of the same
-along : (P : Option (List ℕ) → Format → Type 0) (text text' : Option (List ℕ)) (d d' : Format) → text' ≡ text → d' ≡ d
-    → P text' d' → P text d
-along P text text' d d' e f h = subst (λ t. P t d) e (subst (λ n. P text' n) f h)
-
 module _ (text text' : Option (List ℕ)) (d d' : Format) (same : text' ≡ text) (by : d' ≡ d) (given old : List Numbered)
     (kept : given ≡ old) (numbered : AreNumberedFrom 1 old)
     (first : ∥ HasFirstEntries d' text' given ∥₁) (senders : List (Sender Entry))
     (deals : (w : World) → w.converters ≡ length senders → AreDealt w 0 old senders) where
   first' : ∥ HasFirstEntries d text old ∥₁
-  first' =
-      subst (λ g. ∥ HasFirstEntries d text g ∥₁) kept
-      (along (λ o n. ∥ HasFirstEntries n o given ∥₁) text text' d d' same by first)
+  first' = rw (same, by, kept) at first
 
   pub sends_all : (n : ℕ) → n ≡ length old → ∥ HasEntries d' text' given ∥₁
       → ∥ Sends text d (record { count = n; outcome = Ok n }) senders ∥₁
   sends_all n count all =
-      let all' =
-      subst (λ g. ∥ HasEntries d text g ∥₁) kept
-      (along (λ o n. ∥ HasEntries n o given ∥₁) text text' d d' same by all) in
-      ∥∥₁_map (given_all text d n old count numbered first' all') (λ is. (old, is, deals))
+      ∥∥₁_map (given_all text d n old count numbered first' (rw (same, by, kept) at all)) (λ is. (old, is, deals))
 
   pub sends_stopped : (f : EntryFault) (c : Cause) → c ≡ entry_fault_cause f → (f ≡ fault.BadHeader → ⊥)
       → (f ≡ fault.TooManyRecords → (length old ≡ record_limit) × ∥ IfSome text' (λ t. HasTooMany d' t) ∥₁)
@@ -162,28 +152,14 @@ module _ (text text' : Option (List ℕ)) (d d' : Format) (same : text' ≡ text
       → (f ≡ fault.NotSealed → ∥ HasAllEntries d' text' given ∥₁) → (sent : Sent)
       → sent.count ≡ length old → sent.outcome ≡ Err c → ∥ Sends text d sent senders ∥₁
   sends_stopped f c is bad many unsealed above sent counted why =
-      let many' : f ≡ fault.TooManyRecords → (length old ≡ record_limit) × ∥ IfSome text (λ t. HasTooMany d t) ∥₁ =
-      λ e. let m = many e in
-      (m.0, along (λ o n. ∥ IfSome o (λ t. HasTooMany n t) ∥₁) text text' d d' same by m.1) in
-      let unsealed' =
-      λ (e : f ≡ fault.NotSealed). along (λ o n. (n.form ≡ Sealed)
-      × ∥ IfSome o (λ t. IsNotSealed n t) ∥₁) text text' d d' same by (unsealed e) in
-      let above' =
-      λ (e : f ≡ fault.NotSealed).
-      subst (λ g. ∥ HasAllEntries d text g ∥₁) kept
-      (along (λ o n. ∥ HasAllEntries n o given ∥₁) text text' d d' same by (above e)) in
       subst (λ s. ∥ Sends text d s senders ∥₁) (made_so sent (length old) (Err c) counted why)
-      (∥∥₁_map (given_stopped text d f c old is bad many' unsealed' above' numbered first') (λ is'. (old, is', deals)))
+      (∥∥₁_map (given_stopped text d f c old is bad (rw (same, by) at many) (rw (same, by) at unsealed)
+      (rw (same, by, kept) at above) numbered first') (λ is'. (old, is', deals)))
 
   pub sends_gone : (sent : Sent) → sent.outcome ≡ Err cause.Unconfirmed → ∥ Sends text d sent senders ∥₁
   sends_gone sent why =
       subst (λ s. ∥ Sends text d s senders ∥₁) (made_so sent sent.count (Err cause.Unconfirmed) refl why)
       (∥∥₁_map (given_gone text d old numbered first' sent.count) (λ is. (old, is, deals)))
-
--- neither running out of memory nor a lane that is not confirmed is given by the reader alone or by the output
-pub of_threads : (c : Cause) → (c ≡ cause.NoMemory) ⊎ (c ≡ cause.Unconfirmed) → IsOfThreads c
-of_threads c (inl e) = (ap is_of_reading e, λ s. cc)
-of_threads c (inr e) = (ap is_of_reading e, λ s. cc)
 
 -- an outcome that does not speak of the text says nothing
 pub passed_not : (text : Option (List ℕ)) (d : Format) (sent : Sent) (c : Cause) (took : Row → Type 0)

@@ -20,7 +20,7 @@ use Rattle.register_run.specs.declared.running_sources.RunningSource.{RunningSou
 use Rattle.register_run.specs.Cases.{Case, case, case_of, cases, end_of, ended_case, output_of, ran_of}
 use Rattle.register_run.specs.Headline.{AtEachPlace, IsSourceEnd}
 use Rattle.register_run.specs.Histories.{AreOfMachine, IsMachineWithTable}
-use Rattle.register_run.specs.Reports.{IsReport, IsReportOfMachine, IsReportOfThreads, stripes_of}
+use Rattle.register_run.specs.Reports.{IsReport, IsReportOfMachine, IsReportOfThreads}
 use Rattle.register_run.specs.Threads.{AreThreads, AreThreadsOf}
 
 module _ {R W : Type 0} {o : outputs.Ghosts W} where
@@ -51,6 +51,8 @@ module _ {R W : Type 0} {o : outputs.Ghosts W} where
       ap (λ xs. map case_of xs ++ cases setup left outs) n ∙ ap (λ xs. cases setup xs outs) l
       ∙ ap (λ ys. cases setup sources ys) m
 
+pub ruleset starts = (start_begin, start_more, start_end)
+
 -- what is known of the source at a place
 abbrev pub Known : {R W : Type 0} → reads.Ghosts R → outputs.Ghosts W → Setup → R → W → W → SourceEnd → Type 0
 Known r o setup source before after e =
@@ -75,70 +77,52 @@ abbrev stripes_in : Ran → List Stripe
 stripes_in ran = ran.stripes.value.items
 
 module _ {R W : Type 0} {r : reads.Ghosts R} {o : outputs.Ghosts W} (setup : Setup) where
-  -- what holds of no source, and of one more where it holds of the others, holds of all
-  at_each : (P : List (EndedSource R W r o) → List R → List W → Type 0) → P [] [] []
-      → ((one : EndedSource R W r o) (source : R) (before : W) (all : List (EndedSource R W r o)) (sources : List R)
-      (given : List W) → ended_case one ≡ case source before setup → P all sources given
-      → P (one ∷ all) (source ∷ sources) (before ∷ given))
-      → (all : List (EndedSource R W r o)) (sources : List R) (given : List W) → length sources ≡ length given
-      → map ended_case all ≡ cases setup sources given → P all sources given
-  at_each P none more [] [] [] len is = none
-  at_each P none more [] [] (y ∷ ys) len is = absurd (omega arith)
-  at_each P none more [] (x ∷ xs) [] len is = absurd (omega arith)
-  at_each P none more [] (x ∷ xs) (y ∷ ys) len is = absurd (cc)
-  at_each P none more (one ∷ rest) [] given len is = absurd (cc)
-  at_each P none more (one ∷ rest) (x ∷ xs) [] len is = absurd (cc)
-  at_each P none more (one ∷ rest) (x ∷ xs) (y ∷ ys) len is =
-      let first : ended_case one ≡ case x y setup = cc in let others : map ended_case rest ≡ cases setup xs ys = cc in
-      more one x y rest xs ys first (at_each P none more rest xs ys (omega arith) others)
-
-  module _ (all : List (EndedSource R W r o)) (sources : List R) (given : List W) (len : length sources ≡ length given)
-      (is : map ended_case all ≡ cases setup sources given) where
+  -- what is known of all sources, place by place
+  record AreKnown (all : List (EndedSource R W r o)) (sources : List R) (given : List W) : Type 0 where
     places : AtEachPlace (Known r o setup) sources given (map output_of all) (map end_of all)
-    places =
-        at_each (λ all sources given. AtEachPlace (Known r o setup) sources given (map output_of all) (map end_of all))
-        tt
-        (λ one x y rest xs ys first others. (
+    marks : map o.own_mark (map output_of all) ≡ map o.own_mark given
+    setups : map (λ ran. ran.setup.value) (map ran_of all) ≡ map (λ source. setup) sources
+    machine : AreOfMachine r o setup sources given (map output_of all) (map end_of all)
+        (map stripes_in (map ran_of all))
+    threads : AreThreads setup (map end_of all) (map ran_of all)
+
+  are_known : (all : List (EndedSource R W r o)) (sources : List R) (given : List W) → length sources ≡ length given
+      → map ended_case all ≡ cases setup sources given → AreKnown all sources given
+  are_known [] [] [] len is = record { places = tt; marks = refl; setups = refl; machine = tt; threads = tt }
+  are_known [] [] (y ∷ ys) len is = absurd (omega arith)
+  are_known [] (x ∷ xs) [] len is = absurd (omega arith)
+  are_known [] (x ∷ xs) (y ∷ ys) len is = absurd (cc)
+  are_known (one ∷ rest) [] given len is = absurd (cc)
+  are_known (one ∷ rest) (x ∷ xs) [] len is = absurd (cc)
+  are_known (one ∷ rest) (x ∷ xs) (y ∷ ys) len is =
+      let first : ended_case one ≡ case x y setup = cc in let others : map ended_case rest ≡ cases setup xs ys = cc in
+      let known = are_known rest xs ys (omega arith) others in
+      let mark : o.own_mark one.output ≡ o.own_mark y = one.marked ∙ ap (λ (k : Case R W). o.own_mark k.output) first in
+      let same : one.ran.setup.value ≡ setup = ap (λ (k : Case R W). k.setup) first in record {
+        places = (
           subst (λ (k : Case R W). Known r o k.setup k.source k.output one.output one.end) first
               (one.untouched, one.source_end),
-          others,
-        )) all sources given len is
-
-    marks_kept : map o.own_mark (map output_of all) ≡ map o.own_mark given
-    marks_kept =
-        at_each (λ all sources given. map o.own_mark (map output_of all) ≡ map o.own_mark given) refl
-        (λ one x y rest xs ys first others.
-        ap (λ m. m ∷ map o.own_mark (map output_of rest))
-        (one.marked ∙ ap (λ (k : Case R W). o.own_mark k.output) first)
-        ∙ ap (λ ms. o.own_mark y ∷ ms) others) all sources given len is
-
-    setups_kept : map (λ ran. ran.setup.value) (map ran_of all) ≡ map (λ source. setup) sources
-    setups_kept =
-        at_each (λ all sources given. map (λ ran. ran.setup.value) (map ran_of all) ≡ map (λ source. setup) sources)
-        refl
-        (λ one x y rest xs ys first others.
-        ap (λ s. s ∷ map (λ ran. ran.setup.value) (map ran_of rest)) (ap (λ (k : Case R W). k.setup) first)
-        ∙ ap (λ ss. setup ∷ ss) others) all sources given len is
-
-    pub of_machine : AreOfMachine r o setup sources given (map output_of all) (map end_of all)
-        (map stripes_in (map ran_of all))
-    of_machine =
-        at_each (λ all sources given.
-        AreOfMachine r o setup sources given (map output_of all) (map end_of all) (map stripes_in (map ran_of all))) tt
-        (λ one x y rest xs ys first others. (
+          known.places,
+        );
+        marks = ap (λ m. m ∷ map o.own_mark (map output_of rest)) mark ∙ ap (λ ms. o.own_mark y ∷ ms) known.marks;
+        setups =
+            ap (λ s. s ∷ map (λ ran. ran.setup.value) (map ran_of rest)) same ∙ ap (λ ss. setup ∷ ss) known.setups;
+        machine = (
           subst (λ (k : Case R W). ∥ IfWhole one.end (λ count refused journal.
               IsMachineWithTable (r.remaining k.source) k.setup (o.contents k.output) (o.contents one.output) count
               (stripes_in one.ran)) ∥₁) first one.machine,
-          others,
-        )) all sources given len is
-
-    threads_kept : AreThreads setup (map end_of all) (map ran_of all)
-    threads_kept =
-        at_each (λ all sources given. AreThreads setup (map end_of all) (map ran_of all)) tt
-        (λ one x y rest xs ys first others. (
+          known.machine,
+        );
+        threads = (
           subst (λ (k : Case R W). ∥ AreThreadsOf k.setup one.end one.ran ∥₁) first one.threads,
-          others,
-        )) all sources given len is
+          known.threads,
+        );
+      }
+
+  module _ (all : List (EndedSource R W r o)) (sources : List R) (given : List W) (len : length sources ≡ length given)
+      (is : map ended_case all ≡ cases setup sources given) where
+    known : AreKnown all sources given
+    known = are_known all sources given len is
 
     module _ (report : Report W) (ends : report.ends.items ≡ map end_of all) (by : report.ran.items ≡ map ran_of all)
       where
@@ -146,22 +130,15 @@ module _ {R W : Type 0} {r : reads.Ghosts R} {o : outputs.Ghosts W} (setup : Set
             → ((report.verdict ≡ Complete) ↔ All (λ e. is_whole_end e ≡ true) report.ends.items)
             → IsReport r o setup sources given report
         report_of wrote verdict = record {
-          places = subst (λ es. AtEachPlace (Known r o setup) sources given report.outputs.items es) (sym ends)
-              (subst (λ ws. AtEachPlace (Known r o setup) sources given ws (map end_of all)) (sym wrote) places);
-          marks = ap (map o.own_mark) wrote ∙ marks_kept;
-          by_setup = ap (map (λ ran. ran.setup.value)) by ∙ setups_kept;
+          places = rw (wrote, ends) known.places;
+          marks = ap (map o.own_mark) wrote ∙ known.marks;
+          by_setup = ap (map (λ ran. ran.setup.value)) by ∙ known.setups;
           verdict = verdict;
         }
 
         pub report_of_machine : report.outputs.items ≡ map output_of all
             → IsReportOfMachine r o setup sources given report
-        report_of_machine wrote =
-            subst (λ ws. AreOfMachine r o setup sources given ws report.ends.items (stripes_of report)) (sym wrote)
-            (subst (λ es. AreOfMachine r o setup sources given (map output_of all) es (stripes_of report)) (sym ends)
-            (subst (λ rs. AreOfMachine r o setup sources given (map output_of all) (map end_of all) (map stripes_in rs))
-            (sym by) of_machine))
+        report_of_machine wrote = rw (wrote, ends, by) known.machine
 
         pub report_of_threads : IsReportOfThreads setup report
-        report_of_threads =
-            subst (λ es. AreThreads setup es report.ran.items) (sym ends)
-            (subst (λ rs. AreThreads setup (map end_of all) rs) (sym by) threads_kept)
+        report_of_threads = rw (ends, by) known.threads

@@ -4,7 +4,7 @@ use mathlib.Core.Bool.{beq}
 use Rattle.std.specs.Prelude.{◌==◌, Bool, Err, IfOk, Ok, Option, Result, if◌then◌else◌, is_ok, length, nat_le}
 use Rattle.std.specs.Prelude.{nat_lt, replicate}
 use Rattle.std.proofs.Math.Logic.{∥∥₁_map}
-use Rattle.std.proofs.lemmas.Bool.{leb-true, lt-ltb}
+use Rattle.std.proofs.lemmas.Bool.{and_parts, leb-true, lt-ltb}
 use Rattle.std.proofs.lemmas.List.{length-map, length-replicate}
 use Rattle.std.proofs.lemmas.Slice.Zip.{AllZip-long}
 use Rattle.lane_rings.specs.declared.sender.Closed.{Closed}
@@ -26,7 +26,7 @@ use Rattle.register_run.specs.Histories.{Carries, HaveHistories}
 use Rattle.register_run.specs.JoinedThreads.{AreOfLanes, HasSent}
 use Rattle.register_run.specs.Worlds.{World}
 use Rattle.register_run.specs.declared.stripes.Stripe.{Stripe}
-use Rattle.register_run.proofs.StripeLemmas.{and_left, took_dealt}
+use Rattle.register_run.proofs.StripeLemmas.{took_dealt}
 
 -- what is dealt by numbers is what is dealt by places
 dealt_part : (w : World) (j k : ℕ) (entries : List Numbered) → AreNumberedFrom (k + 1) entries
@@ -74,7 +74,8 @@ of_machine given count ring stripes closed some staffed numbered on deals w is m
 
 some_room : (setup : Setup) → 0 < setup.ring
 some_room setup =
-    let least = leb-true 1 setup.ring (and_left (nat_le 1 setup.ring) (nat_le setup.ring largest_ring) setup.rings) in
+    let least =
+    leb-true 1 setup.ring (and_parts (nat_le 1 setup.ring) (nat_le setup.ring largest_ring) setup.rings).0 in
     omega (arith, least)
 
 pub staff : (setup : Setup) (stripes : List Stripe) → map stripe_setup stripes ≡ replicate setup.stripes setup

@@ -1,16 +1,11 @@
 -- Items of lanes, as they are seen and taken.
-use Rattle.std.proofs.Common.{◌≡◌, ◌∙◌, ap, sym, subst, refl, zero, suc, List, [], ◌∷◌, ◌++◌, append_assoc, arith, lit<}
+use Rattle.std.proofs.Common.{◌≡◌, ◌∙◌, ap, sym, subst, refl, List, [], ◌∷◌, ◌++◌, append_assoc, arith, lit<}
 use Rattle.std.proofs.Common.{◌+◌}
 use Rattle.std.proofs.Common.{length, length-append, take, take_at}
 use Rattle.std.specs.List.{Contains}
 use mathlib.Core.List.{IsPrefix}
 use Rattle.std.proofs.lemmas.List.Elements.{Contains-append_left, Contains-append_right}
 use Rattle.lane_rings.specs.declared.item.Item.{Item}
-
--- the one element of a list
-pub only : {X : Type 0} (x y : X) → Contains (x ∷ []) y → x ≡ y
-only x y (zero, below, is) = is
-only x y (suc k, below, is) = absurd (omega arith)
 
 module _ {T : Type 0} where
   -- a look takes nothing, and what it saw before it sees still

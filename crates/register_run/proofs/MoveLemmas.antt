@@ -1,9 +1,10 @@
 -- Items that are moved from the front of one list to the end of another.
 use Rattle.std.proofs.Common.{◌≡◌, ◌∙◌, ◌+◌, ◌++◌, ◌∷◌, [], ℕ, List, ap, append_assoc, arith, length, map, replicate}
-use Rattle.std.proofs.Common.{subst, sym}
+use Rattle.std.proofs.Common.{get_or, set, subst, sym}
+use Rattle.std.proofs.Math.Seq.{map-set_same}
 use Rattle.std.specs.Prelude.{All}
 use Rattle.std.proofs.lemmas.List.{append-nil, map-append, replicate-append-replicate}
-use Rattle.std.proofs.lemmas.List.Elements.{All-append, All-cons}
+use Rattle.std.proofs.lemmas.List.Elements.{All-push}
 
 -- one more, where each is made into another, and both are seen as values of one kind
 pub made_more : {X Y Z : Type 0} (f : X → Z) (h : Y → Z) (all : List Z) (done new : List X) (one : X)
@@ -26,6 +27,11 @@ seen_more h all done new one left rest item n s l e =
     ∙ ap (λ x. done ++ (x ∷ map h rest)) s
     ∙ ap (λ xs. done ++ map h xs) (sym l) ∙ e
 
+-- another one in the place of one, which is seen as the same value
+pub set_same : {X Z : Type 0} (f : X → Z) (xs : List X) (i : ℕ) (new was : X) → f new ≡ f was → was ≡ get_or xs i was
+    → map f (set xs i new) ≡ map f xs
+set_same f xs i new was same here = map-set_same f xs i new was (same ∙ ap f here)
+
 -- once none is left, all are made
 pub all_made : {Y Z : Type 0} (h : Y → Z) (all done : List Z) (left : List Y) → length left ≡ 0
     → done ++ map h left ≡ all → done ≡ all
@@ -43,9 +49,7 @@ both_more f h xs new ys more x y n m s e =
 -- what holds of each item of a list holds of each of one more
 pub each_more : {X : Type 0} (P : X → Type 0) (xs new : List X) (x : X) → new ≡ xs ++ x ∷ [] → All P xs → P x
     → All P new
-each_more P xs new x n each one =
-    subst (All P) (sym n)
-    (All-append P xs (x ∷ []) each (All-cons P x [] one (λ k d below. absurd (omega arith))))
+each_more P xs new x n each one = subst (All P) (sym n) (All-push P xs x each one)
 
 -- one more at the end of a list of which all are seen as one value
 pub all_more : {X Z : Type 0} (f : X → Z) (xs new : List X) (x : X) (z : Z) (n : ℕ) → new ≡ xs ++ x ∷ [] → f x ≡ z
@@ -53,3 +57,5 @@ pub all_more : {X Z : Type 0} (f : X → Z) (xs new : List X) (x : X) (z : Z) (n
 all_more f xs new x z n more is all =
     ap (λ zs. map f zs) more ∙ map-append f xs (x ∷ []) ∙ ap (λ zs. zs ++ (f x ∷ [])) all
     ∙ ap (λ y. replicate n z ++ (y ∷ [])) is ∙ replicate-append-replicate n 1 z
+
+pub ruleset one_more = (both_more, each_more, all_more)

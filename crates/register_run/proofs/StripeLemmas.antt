@@ -1,8 +1,7 @@
 -- Rows that were taken from one of several stripes, and what is left of the senders of several lanes.
 use Rattle.std.proofs.Common.{◌≡◌, sym, subst, ℕ, zero, suc, ◌<◌, ◌+◌, List, [], ◌∷◌, ◌++◌, inl, inr, set, get_or}
-use Rattle.std.proofs.Common.{length, map, append_assoc, append-nil, arith, refl, true, ap, ◌∙◌}
-use Rattle.std.proofs.Math.Seq.{map-set_same}
-use Rattle.std.specs.Prelude.{◌&&◌, Bool, Err, false, IfSome, None, Option, Some}
+use Rattle.std.proofs.Common.{length, map, append-nil, arith, refl, true}
+use Rattle.std.specs.Prelude.{Bool, Err}
 use Rattle.std.specs.List.{AllZip, Contains}
 use Rattle.lane_rings.specs.Items.{entries_in}
 use Rattle.lane_rings.specs.declared.item.Item.TheVariants as item
@@ -23,6 +22,7 @@ use Rattle.register_run.specs.Worlds.{World}
 use Rattle.register_run.specs.JoinedThreads.{AreOfLanes, IsOfGiven}
 use Rattle.register_run.proofs.CarriedLemmas.{entry_within, map_within, prefix_within}
 use Rattle.register_run.proofs.DealtLemmas.{dealt_within}
+use Rattle.register_run.proofs.MoveLemmas.{set_same}
 
 pub any_set : (stripes : List Stripe) (i : ℕ) (new d : Stripe) (row : Row)
     → (StripeTook (get_or stripes i d) row → StripeTook new row) → AnyTook stripes row → AnyTook (set stripes i new) row
@@ -36,8 +36,8 @@ any_set (stripe ∷ rest) (suc i) new d row kept (inr b) = inr (any_set rest i n
 pub same_stripes : (stripes : List Stripe) (at : ℕ) (new was : Stripe) → was ≡ get_or stripes at was
     → IsSameStripe was new → AreSameStripes stripes (set stripes at new)
 same_stripes stripes at new was here same = record {
-  lanes = map-set_same feeding_lane stripes at new was (same.lane ∙ ap feeding_lane here);
-  setups = map-set_same stripe_setup stripes at new was (same.setup ∙ ap stripe_setup here);
+  lanes = set_same feeding_lane stripes at new was same.lane here;
+  setups = set_same stripe_setup stripes at new was same.setup here;
   kept = λ row h. any_set stripes at new was row
       (λ a. same.kept row (subst (λ x. StripeTook x row) (sym here) a)) h;
 }
@@ -48,27 +48,8 @@ any_here [] i d row below h = absurd (omega arith)
 any_here (stripe ∷ rest) zero d row below h = inl h
 any_here (stripe ∷ rest) (suc i) d row below h = inr (any_here rest i d row (omega arith) h)
 
-pub some_here : {B : Type 0} (stripes : List Stripe) (i : ℕ) (d : Stripe) (found : Option B) (row_of : B → Row)
-    → i < length stripes
-    → IfSome found (λ b. StripeTook (get_or stripes i d) (row_of b)) → IfSome found (λ b. AnyTook stripes (row_of b))
-some_here stripes i d None row_of below h = tt
-some_here stripes i d (Some b) row_of below h = any_here stripes i d (row_of b) below h
-
 -- the same of two lists, place by place
 module _ {X Y : Type 0} (P : X → Y → Type 0) where
-  pub zip_begin : (xs left : List X) (ys : List Y) → left ≡ xs → ys ≡ [] → (more : List Y) → AllZip P left more
-      → AllZip P xs (ys ++ more)
-  zip_begin xs left ys ex ey more h =
-      subst (λ l. AllZip P xs (l ++ more)) (sym ey) (subst (λ l. AllZip P l more) ex h)
-
-  pub zip_more : (all left : List X) (x : X) (rest : List X) (ys new : List Y) (y : Y) → left ≡ x ∷ rest
-      → new ≡ ys ++ y ∷ [] → P x y → ((more : List Y) → AllZip P left more → AllZip P all (ys ++ more))
-      → (more : List Y) → AllZip P rest more → AllZip P all (new ++ more)
-  zip_more all left x rest ys new y ex ey here k more h =
-      subst (λ l. AllZip P all (l ++ more)) (sym ey)
-      (subst (λ l. AllZip P all l) (sym (append_assoc ys (y ∷ []) more))
-      (k (y ∷ more) (subst (λ l. AllZip P l (y ∷ more)) (sym ex) (here, h))))
-
   none_left : (left : List X) → length left ≡ 0 → AllZip P left []
   none_left [] e = tt
   none_left (x ∷ rest) e = absurd (omega arith)
@@ -85,29 +66,8 @@ ended_lanes [] (c ∷ closed) h = h
 ended_lanes (s ∷ senders) [] h = h
 ended_lanes (s ∷ senders) (c ∷ closed) h = (h.0.lane, ended_lanes senders closed h.1)
 
-pub from_tail : (stripes : List Stripe) (stripe : Stripe) (rest : List Stripe) (closed : List (Closed Entry))
-    (one : Closed Entry)
-    (more : List (Closed Entry)) → stripes ≡ stripe ∷ rest → closed ≡ one ∷ more
-    → AreOfLanes (map feeding_lane stripes) closed → AreOfLanes (map feeding_lane rest) more
-from_tail stripes stripe rest closed one more e f h =
-    (subst (λ c. AreOfLanes (map feeding_lane (stripe ∷ rest)) c) f
-    (subst (λ a. AreOfLanes (map feeding_lane a) closed) e h)).1
-
 -- stripes that are joined one after the other, with what is left of the senders that fed them
-pub begin_passed : (stripes left : List Stripe) (closed rest : List (Closed Entry)) → left ≡ stripes → rest ≡ closed
-    → (b : Bool) → HavePassedOn b left rest → HavePassedOn b stripes closed
-begin_passed stripes left closed rest e f b h =
-    subst (λ a. HavePassedOn b a closed) e (subst (λ c. HavePassedOn b left c) f h)
-
-pub and_left : (a b : Bool) → (a && b) ≡ true → a ≡ true
-and_left true b e = refl
-and_left false b e = e
-
-pub and_right : (a b : Bool) → (a && b) ≡ true → b ≡ true
-and_right true b e = e
-and_right false b e = cc
-
-for_less : (a b : Bool) (stripe : Stripe) (one : Closed Entry) → (b ≡ true → a ≡ true) → HasPassedOn a stripe one
+pub for_less : (a b : Bool) (stripe : Stripe) (one : Closed Entry) → (b ≡ true → a ≡ true) → HasPassedOn a stripe one
     → HasPassedOn b stripe one
 for_less a b stripe one fewer h = record {
   confirmed = h.confirmed;
@@ -115,16 +75,6 @@ for_less a b stripe one fewer h = record {
   all = λ e. h.all (fewer e);
   none_waits = h.none_waits;
 }
-
-pub more_passed : (stripes left : List Stripe) (stripe : Stripe) (rest : List Stripe)
-    (closed left' : List (Closed Entry))
-    (one : Closed Entry) (rest' : List (Closed Entry)) (a : Bool) → left ≡ stripe ∷ rest → left' ≡ one ∷ rest'
-    → HasPassedOn a stripe one → (b : Bool) → (b ≡ true → a ≡ true)
-    → (HavePassedOn b left left' → HavePassedOn b stripes closed)
-    → HavePassedOn b rest rest' → HavePassedOn b stripes closed
-more_passed stripes left stripe rest closed left' one rest' a e f here b fewer k h =
-    k (subst (λ l. HavePassedOn b l left') (sym e) (subst (λ l. HavePassedOn b (stripe ∷ rest) l) (sym f)
-    (for_less a b stripe one fewer here, h)))
 
 pub end_passed : (left : List Stripe) (left' : List (Closed Entry)) → length left ≡ 0
     → AreOfLanes (map feeding_lane left) left' → (b : Bool) → HavePassedOn b left left'

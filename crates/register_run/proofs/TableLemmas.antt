@@ -5,7 +5,7 @@ use Rattle.std.specs.Option.{is_some}
 use Rattle.std.specs.List.{Contains}
 use Rattle.std.specs.Io.KnownBytes.{Appends, append_known}
 use Rattle.std.proofs.lemmas.List.{length-map, map-append}
-use Rattle.std.proofs.lemmas.List.Elements.{Contains-append_cases}
+use Rattle.std.proofs.lemmas.List.Elements.{Contains-push_cases}
 use Rattle.register_records.specs.declared.outputs.Output as outputs
 use Rattle.register_records.specs.declared.rows.Row.{Row}
 use Rattle.register_records.specs.declared.setups.Form.TheVariants.{Plain}
@@ -19,7 +19,6 @@ use Rattle.register_records.specs.Tables.{table_text}
 use Rattle.register_records.specs.Views.{line_of, row_seen, row_targets, waiting_in, writes_by}
 use Rattle.register_run.specs.TablesWritten.{IsTableSoFar, entries_seen, rows_seen}
 use Rattle.register_run.proofs.GivenLemmas.{numbered_more}
-use Rattle.register_run.proofs.ItemLemmas.{only}
 
 -- known bytes, and bytes that wait behind them
 appends_heading : (given output new : Option (List ℕ)) (pending heading lines : List ℕ) → output ≡ given
@@ -50,7 +49,8 @@ no_notes = refl
 
 -- no heading was written
 pub stands_none : {W : Type 0} (o : outputs.Ghosts W) (layout : Layout) (given output : W) (w : Option RowWriter)
-    (rows : List Row) → is_some w ≡ false → IsTableSoFar o layout given output w rows → IsTableSoFar o layout given output None rows
+    (rows : List Row) → is_some w ≡ false → IsTableSoFar o layout given output w rows
+    → IsTableSoFar o layout given output None rows
 stands_none o layout given output None rows e h = h
 stands_none o layout given output (Some w) rows e h = absurd (cc)
 
@@ -84,11 +84,9 @@ module _ {W : Type 0} (o : outputs.Ghosts W) (layout : Layout) (given : W) where
       ∙ (grow layout (rows_seen rows) (row_seen row)).0 in
       let waits : waiting_in new ≡ waiting_in w ++ row_line layout (row_seen row) =
       more ∙ ap (λ b. waiting_in w ++ b) line in (
-        subst (λ t. Appends (o.contents given) (append_known (o.contents output) (waiting_in new)) t) (sym table)
-            (subst (λ p. Appends (o.contents given) (append_known (o.contents output) p)
-            (table_text layout (rows_seen rows) ++ row_line layout (row_seen row))) (sym waits)
+        rw (table, waits)
             (appends_more (o.contents given) (o.contents output) (waiting_in w) (row_line layout (row_seen row))
-            (table_text layout (rows_seen rows)) h.0)),
+            (table_text layout (rows_seen rows)) h.0),
         h.1,
         by ∙ h.2,
       )
@@ -97,15 +95,13 @@ module _ {W : Type 0} (o : outputs.Ghosts W) (layout : Layout) (given : W) where
 pub numbered_row : (rows : List Row) (row : Row) (n : ℕ) → AreNumberedFrom 1 (entries_seen rows) → length rows ≡ n
     → (entry_seen row.entry).number ≡ n + 1 → AreNumberedFrom 1 (entries_seen (rows ++ row ∷ []))
 numbered_row rows row n h count number =
-    let seen = map-append (λ (r : Row). entry_seen r.entry) rows (row ∷ []) in
     let len : length (entries_seen rows) ≡ length rows = length-map rows (λ (r : Row). entry_seen r.entry) in
-    subst (λ es. AreNumberedFrom 1 es) (sym seen)
-    (numbered_more 1 (entries_seen rows) (entry_seen row.entry) h (omega arith))
+    rw map-append (numbered_more 1 (entries_seen rows) (entry_seen row.entry) h (omega arith))
 
 pub targets_row : (P : Row → Type 0) (rows : List Row) (row : Row) → ((r : Row) → Contains rows r → P r) → P row
     → (r : Row) → Contains (rows ++ row ∷ []) r → P r
 targets_row P rows row all here r h =
-    elim (Contains-append_cases rows (row ∷ []) r h) [ inl a ↦ all r a | inr b ↦ subst P (only row r b) here ]
+    elim (Contains-push_cases rows row r h) [ inl a ↦ all r a | inr e ↦ subst P e here ]
 
 pub noted_row : (rows : List Row) (row : Row) (old new : List Note) → TablesGrow → old ≡ journal_of (rows_seen rows)
     → new ≡ old ++ refusal_notes (row_seen row).number (row_seen row).outcome

@@ -1,8 +1,8 @@
 -- What is known of the threads of a source, by how it ended.
 use Rattle.std.proofs.Common.{◌≡◌, ◌⊎◌, ◌∙◌, ◌≤◌, ◌<◌, ℕ, zero, suc, List, [], ◌∷◌, ap, arith}
 use Rattle.std.proofs.Common.{inl, inr, length, map, refl, replicate, subst, sym, true}
-use Rattle.std.specs.Prelude.{All, Err, IfSome, None, Ok, nat_le}
-use Rattle.std.proofs.lemmas.Bool.{leb-true}
+use Rattle.std.specs.Prelude.{All, Err, IfSome, nat_le}
+use Rattle.std.proofs.lemmas.Bool.{and_parts, leb-true}
 use Rattle.std.proofs.lemmas.List.Elements.{All-cons}
 use Rattle.register_records.specs.Sources.{IfBroken, IfWhole, cause_number}
 use Rattle.register_records.specs.SetupRules.{most_stripes}
@@ -13,21 +13,20 @@ use Rattle.register_records.specs.declared.ends.Note.{Note}
 use Rattle.register_records.specs.declared.ends.SourceEnd.{SourceEnd}
 use Rattle.register_records.specs.declared.ends.SourceEnd.TheVariants as end
 use Rattle.register_run.specs.Stripes.{stripe_setup}
-use Rattle.register_run.specs.Courses.{IsLowest, IsMet, is_of_table}
+use Rattle.register_run.specs.Courses.{HasMetNone, IsLowest, IsMet, is_of_table}
 use Rattle.register_run.specs.SourceThreads.{AreStaffed}
 use Rattle.register_run.specs.JoinedThreads.{HasStarted}
 use Rattle.register_run.specs.Threads.{AreThreadsOf, HasRing}
 use Rattle.register_run.specs.declared.stripes.Stripe.{Stripe}
 use Rattle.register_run.specs.declared.reports.Ran.{Ran}
 use Rattle.register_run.specs.declared.ended_sources.Met.{Met}
-use Rattle.register_run.proofs.StripeLemmas.{and_left}
 use Rattle.register_run.proofs.HistoryLemmas.{staff}
 use Rattle.register_run.proofs.EndedSourceLemmas.{thread_outcome}
 
 some_stripe : (setup : Setup) → 0 < setup.stripes
 some_stripe setup =
     let least = leb-true 1 setup.stripes
-    (and_left (nat_le 1 setup.stripes) (nat_le setup.stripes most_stripes) setup.striped) in
+    (and_parts (nat_le 1 setup.stripes) (nat_le setup.stripes most_stripes) setup.striped).0 in
     omega (arith, least)
 
 -- stripes that were started by a setup have its ring
@@ -55,9 +54,8 @@ lowest_two cause.NotSealed low = absurd (omega (arith, low))
 module _ (setup : Setup) (met : Met) (journal : List Note) (of_table : IfSome met.fault (λ f. is_of_table f ≡ true))
   where
     low_end : (e : SourceEnd) (c : Cause) → cause_number c ≤ 2 → met.sent.outcome ≡ Err c
-        → IfWhole e (λ count refused notes. (met.sent.outcome ≡ Ok count) × (met.fault ≡ None) × (met.headed ≡ true)
-        × (count ≡ met.rows) × (refused ≡ length notes) × (notes ≡ journal))
-        → IfBroken e (IsLowest (IsMet met)) → (e ≡ end.Broken cause.NoMemory) ⊎ (e ≡ end.Broken cause.NoThread)
+        → IfWhole e (HasMetNone met journal) → IfBroken e (IsLowest (IsMet met))
+        → (e ≡ end.Broken cause.NoMemory) ⊎ (e ≡ end.Broken cause.NoThread)
     low_end (end.Whole count refused notes) c low outcome whole lowest = absurd (let ok = whole.0 in cc)
     low_end (end.Broken b) c low outcome whole lowest =
         let below = lowest.1 c (inl outcome) in
@@ -68,9 +66,7 @@ module _ (setup : Setup) (met : Met) (journal : List Note) (of_table : IfSome me
 
     pub threads_of : (ran : Ran) (e : SourceEnd) → ran.met.value ≡ met
         → AreStaffed setup met.sent.outcome ran.stripes.value.items
-        → IfWhole e (λ count refused notes. (met.sent.outcome ≡ Ok count) × (met.fault ≡ None) × (met.headed ≡ true)
-        × (count ≡ met.rows) × (refused ≡ length notes) × (notes ≡ journal))
-        → IfBroken e (IsLowest (IsMet met)) → AreThreadsOf setup e ran
+        → IfWhole e (HasMetNone met journal) → IfBroken e (IsLowest (IsMet met)) → AreThreadsOf setup e ran
     threads_of ran e is_met (inl (staffed, started)) whole lowest = record {
       stripes = λ some. staff setup ran.stripes.value.items staffed;
       rings = rings_of setup ran.stripes.value.items setup.stripes staffed;

@@ -1,8 +1,10 @@
 -- How far a table goes on, and for which cause a source breaks off.
-use Rattle.std.specs.Prelude.{◌≡◌, ◌≢◌, ◌≤◌, ◌⊎◌, ℕ, Bool, false, true, Option, None, Some, Result, Ok, Err}
+use Rattle.std.specs.Prelude.{◌≡◌, ◌≢◌, ◌≤◌, ◌⊎◌, ℕ, Bool, false, true, List, Option, None, Some, Result}
+use Rattle.std.specs.Prelude.{Ok, Err, length}
 use Rattle.register_records.specs.Sources.{cause_number}
 use Rattle.register_records.specs.declared.ends.Cause.{Cause}
 use Rattle.register_records.specs.declared.ends.Cause.TheVariants as cause
+use Rattle.register_records.specs.declared.ends.Note.{Note}
 use Rattle.register_run.specs.declared.table_writers.Course.{Course}
 use Rattle.register_run.specs.declared.table_writers.Course.TheVariants as course
 use Rattle.register_run.specs.declared.ended_sources.Met.{Met}
@@ -37,6 +39,13 @@ abbrev pub IsMet : Met → Cause → Type 0
 IsMet met c =
     (met.sent.outcome ≡ Err c) ⊎ (met.fault ≡ Some c)
     ⊎ ((c ≡ cause.Unconfirmed) × (met.fault ≡ None) × Differs met.sent.outcome met.sent.count met.headed met.rows)
+
+-- a source has met no cause: its threads ended with a count, its table did not break off, and has the heading and so
+-- many rows; so many were refused, by this journal
+abbrev pub HasMetNone : Met → List Note → ℕ → ℕ → List Note → Type 0
+HasMetNone met journal count refused notes =
+    (met.sent.outcome ≡ Ok count) × (met.fault ≡ None) × (met.headed ≡ true) × (count ≡ met.rows)
+    × (refused ≡ length notes) × (notes ≡ journal)
 
 -- the lowest of these causes
 abbrev pub IsLowest : (Cause → Type 0) → Cause → Type 0

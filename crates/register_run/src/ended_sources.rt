@@ -5,7 +5,7 @@ ghost use Rattle.register_records.specs.Sources.{IfBroken, IfWhole, cause_number
 ghost use Rattle.register_records.specs.Views.{layout_of};
 ghost use Rattle.register_records.specs.declared.ends.Cause.TheVariants as cause;
 ghost use Rattle.register_records.specs.declared.ends.SourceEnd.TheVariants as ended;
-ghost use Rattle.register_run.specs.Courses.{IsLowest, IsMet};
+ghost use Rattle.register_run.specs.Courses.{HasMetNone, IsLowest, IsMet};
 ghost use Rattle.register_run.specs.Headline.{IsSourceEnd};
 ghost use Rattle.register_run.specs.Histories.{IsMachineWithTable};
 ghost use Rattle.register_run.specs.Threads.{AreThreadsOf};
@@ -59,10 +59,7 @@ pub(crate) fn lower(one: Cause, other: Cause) -> Cause
 /// How a source ended: by what was met of it, and by the journal of the rows that were written.
 pub(crate) fn end_of_source(met: Met, journal: Vec<Note>) -> SourceEnd
     requires few { vec_len journal ≤ met.rows }
-    ensures whole { IfWhole result (λ count refused notes. (met.sent.outcome ≡ Ok count) × (met.fault ≡ None)
-        × (met.headed ≡ true)
-        × (count ≡ met.rows)
-        × (refused ≡ length notes) × (notes ≡ journal.items)) }
+    ensures whole { IfWhole result (HasMetNone met journal.items) }
     ensures broken { IfBroken result (IsLowest (IsMet met)) }
 {
     let Met {

@@ -47,6 +47,7 @@ fn patience_for(rt: &impl Threads, sources: usize) -> Patience {
 }
 
 /// Starts the threads of each source.
+#[tactic(auto, using(crate::proofs::HeadlineLemmas::starts))]
 fn start_all<'s, 'e, T: Host, R: Read + Send + Drop + 'e, W: Output + Drop, G: Gate + Sync>(
     context: &RunContext<'s, 'e, T, G>,
     sources: Vec<R>,
@@ -71,6 +72,7 @@ fn start_all<'s, 'e, T: Host, R: Read + Send + Drop + 'e, W: Output + Drop, G: G
 }
 
 /// Visits each source once. Returns whether there was an item at one of them.
+#[tactic(auto, using(crate::proofs::MoveLemmas::set_same))]
 fn visit_all<R: Read + Drop, W: Output + Drop>(
     running_sources: &mut Vec<RunningSource<R, W>>,
 ) -> bool

@@ -18,6 +18,7 @@ use std::thread::Threads;
 /// # Errors
 ///
 /// `NoMemory` where a list or a lane is refused its memory, and `NoThread` where a thread does not start.
+#[tactic(auto, using(crate::proofs::MoveLemmas::one_more, crate::proofs::PoppedLemmas::unpopped_more))]
 pub(crate) fn start_stripes<'s, 'e, T: Host, G: Gate + Sync>(
     context: &RunContext<'s, 'e, T, G>,
 ) -> Result<(Vec<Sender<Entry>>, Vec<Stripe>), StartFault>
@@ -61,6 +62,7 @@ pub(crate) fn look_at(stripes: &mut Vec<Stripe>, at: usize) -> Look
 }
 
 /// The row that a look at the stripe at this place found.
+#[tactic(auto, using(crate::proofs::StripeLemmas::any_here))]
 pub(crate) fn row_at(stripes: &[Stripe], at: usize) -> Option<&Row>
     requires { at < length stripes.now }
     ensures { IfSome result (λ row. AnyTook stripes.now row.now) }

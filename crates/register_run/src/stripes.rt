@@ -212,7 +212,7 @@ impl Stripe {
     }
 
     /// Takes the row that a look found.
-    #[tactic(auto, using(crate::proofs::ItemLemmas::same_seen), unfolding(crate::specs::Stripes::StripeTook))]
+    #[tactic(auto, using(crate::proofs::CarriedLemmas::passing), unfolding(crate::specs::Stripes::StripeTook))]
     pub(crate) fn pass(&mut self)
         requires { IsRowNext self.old }
         ensures same { IsSameStripe self.old self.new }

@@ -1,7 +1,7 @@
 use Rattle.std.proofs.Common.{◌∙◌, ap, refl, sym, Some}
 use Rattle.lane_rings.specs.Items.{entries_in}
 use Rattle.lane_rings.specs.declared.item.Item.TheVariants as item
-use Rattle.lane_rings.specs.Lane.{all_sent, sent, taken, waiting}
+use Rattle.lane_rings.specs.Lane.{sent, taken}
 use Rattle.register_run.proofs.CarriedLemmas.{all_ended, first_ended, first_of_all, none_taken, row_left, row_sent}
 use Rattle.register_run.proofs.ConvertingLemmas.{mark_taken, stops}
 use Rattle.register_run.proofs.ItemLemmas.{took_next}
@@ -9,25 +9,19 @@ use Rattle.register_run.proofs.converting.convert_entries.Goals as goal
 
 pub loop-init : goal.loop-init
 loop-init g c =
-    let all = none_taken (taken c.args.entries) (sent c.args.rows) c.requires.none_taken c.requires.none_sent in
-    record {
-      from = refl;
-      into = refl;
-      rows = first_of_all (taken c.args.entries) (sent c.args.rows) all;
-      all = λ there. all;
-    }
+    let entries = taken c.args.entries in let rows = sent c.args.rows in
+    let all = none_taken entries rows c.requires.none_taken c.requires.none_sent in
+    record { from = refl; into = refl; rows = first_of_all entries rows all; all = λ there. all }
 
 pub loop-preserved-then-not-gone : goal.loop-preserved-then-not-gone
 loop-preserved-then-not-gone g c =
     let next = rw c.in-Some-Entry.field-0-is at c.in-Some-Entry.ensures.next in
     let is =
-    took_next (taken c.loop.entries) (taken c.wait.new.self) (waiting c.wait.new.self) (taken c.pass.new.self)
-    (waiting c.pass.new.self) (item.Entry c.in-Some-Entry.entry) c.wait.ensures.taken next c.pass.ensures.taken
+    took_next _ _ _ _ _ (item.Entry c.in-Some-Entry.entry) c.wait.ensures.taken next c.pass.ensures.taken
     c.pass.ensures.one in
     let went =
-    row_sent (taken c.loop.entries) (taken c.pass.new.self) (sent c.loop.rows) (sent c.send_copy.new.self)
-    c.renew.new.self c.in-Some-Entry.entry c.send_copy.result is c.send_copy.ensures.ok c.send_copy.ensures.gone
-    c.renew.ensures.entry (c.loop.invariant.all c.if-not-gone.true) in record {
+    row_sent _ _ _ _ c.renew.new.self c.in-Some-Entry.entry c.send_copy.result is c.send_copy.ensures.ok
+    c.send_copy.ensures.gone c.renew.ensures.entry (c.loop.invariant.all c.if-not-gone.true) in record {
       from = c.pass.ensures.lane ∙ c.wait.ensures.lane ∙ c.loop.invariant.from;
       into = c.send_copy.ensures.lane ∙ c.loop.invariant.into;
       rows = went.0;
@@ -38,14 +32,11 @@ pub loop-preserved : goal.loop-preserved
 loop-preserved g c =
     let next = rw c.in-Some-Entry.field-0-is at c.in-Some-Entry.ensures.next in
     let is =
-    took_next (taken c.loop.entries) (taken c.wait.new.self) (waiting c.wait.new.self) (taken c.pass.new.self)
-    (waiting c.pass.new.self) (item.Entry c.in-Some-Entry.entry) c.wait.ensures.taken next c.pass.ensures.taken
+    took_next _ _ _ _ _ (item.Entry c.in-Some-Entry.entry) c.wait.ensures.taken next c.pass.ensures.taken
     c.pass.ensures.one in record {
       from = c.pass.ensures.lane ∙ c.wait.ensures.lane ∙ c.loop.invariant.from;
       into = c.loop.invariant.into;
-      rows =
-          row_left (taken c.loop.entries) (taken c.pass.new.self) (sent c.loop.rows) c.in-Some-Entry.entry is
-          c.loop.invariant.rows;
+      rows = row_left _ _ (sent c.loop.rows) c.in-Some-Entry.entry is c.loop.invariant.rows;
       all = λ there. (let n = c.if-not-gone.false in cc);
     }
 
@@ -57,39 +48,37 @@ returns-then-is_err g c =
 
 pub returns-in-Some-End : goal.returns-in-Some-End
 returns-in-Some-End g c =
-    let rows = c.loop.rows in let closed = c.close-closed in let new = c.pass-in-Some-End.new.self in
-    let count = c.in-Some-End.count in
+    let closed = c.close-closed.ensures in let pass = c.pass-in-Some-End.ensures in
+    let count = c.in-Some-End.count in let now = taken c.pass-in-Some-End.new.self in
     let same =
-    mark_taken (taken c.loop.entries) (taken c.wait.new.self) (waiting c.wait.new.self) (taken new) (waiting new)
-    (item.End count) refl c.wait.ensures.taken (rw c.in-Some-End.field-0-is at c.in-Some-End.ensures.next)
-    c.pass-in-Some-End.ensures.taken c.pass-in-Some-End.ensures.one in record {
-      handed = c.pass-in-Some-End.ensures.lane ∙ c.wait.ensures.lane ∙ c.loop.invariant.from;
-      closed = λ sure. closed.ensures.lane sure ∙ ap (λ l. Some l) c.loop.invariant.into;
-      rows = λ sure. first_ended (taken c.loop.entries) (taken new) (sent rows) (all_sent closed.result)
-          (item.End count)
-          same refl (closed.ensures.sent sure) c.loop.invariant.rows;
-      all = λ sure ends. all_ended (taken c.loop.entries) (taken new) (sent rows) (all_sent closed.result)
-          (item.End count)
-          same refl (closed.ensures.sent sure) (c.loop.invariant.all c.if-gone.false);
+    mark_taken _ _ _ _ _ (item.End count) refl c.wait.ensures.taken
+    (rw c.in-Some-End.field-0-is at c.in-Some-End.ensures.next) pass.taken pass.one in record {
+      handed = pass.lane ∙ c.wait.ensures.lane ∙ c.loop.invariant.from;
+      closed = λ sure. closed.lane sure ∙ ap (λ l. Some l) c.loop.invariant.into;
+      rows = λ sure.
+          first_ended (taken c.loop.entries) now (sent c.loop.rows) _ (item.End count) same refl (closed.sent sure)
+          c.loop.invariant.rows;
+      all = λ sure ends.
+          all_ended (taken c.loop.entries) now (sent c.loop.rows) _ (item.End count) same refl (closed.sent sure)
+          (c.loop.invariant.all c.if-gone.false);
     }
 
 pub returns-then-gone : goal.returns-then-gone
 returns-then-gone g c =
-    let new = c.pass-in-Some-End.new.self in
-    stops _ _ (taken c.loop.entries) new c.loop.rows c.stop-closed-then-gone.result
-    (c.pass-in-Some-End.ensures.lane ∙ c.wait.ensures.lane ∙ c.loop.invariant.from) c.loop.invariant.into
-    c.stop-closed-then-gone.ensures.lane c.stop-closed-then-gone.ensures.sent
-    (mark_taken (taken c.loop.entries) (taken c.wait.new.self) (waiting c.wait.new.self) (taken new) (waiting new)
-    (item.End c.in-Some-End.count) refl c.wait.ensures.taken
-    (rw c.in-Some-End.field-0-is at c.in-Some-End.ensures.next)
-    c.pass-in-Some-End.ensures.taken c.pass-in-Some-End.ensures.one) c.loop.invariant.rows
+    let pass = c.pass-in-Some-End in let stop = c.stop-closed-then-gone in
+    stops _ _ (taken c.loop.entries) pass.new.self c.loop.rows stop.result
+    (pass.ensures.lane ∙ c.wait.ensures.lane ∙ c.loop.invariant.from) c.loop.invariant.into stop.ensures.lane
+    stop.ensures.sent
+    (mark_taken _ _ _ _ _ (item.End c.in-Some-End.count) refl c.wait.ensures.taken
+    (rw c.in-Some-End.field-0-is at c.in-Some-End.ensures.next) pass.ensures.taken pass.ensures.one)
+    c.loop.invariant.rows
 
 pub returns-in-Some-Stop : goal.returns-in-Some-Stop
 returns-in-Some-Stop g c =
-    let new = c.pass-in-Some-Stop.new.self in
-    stops _ _ (taken c.loop.entries) new c.loop.rows c.stop-closed-in-Some-Stop.result
-    (c.pass-in-Some-Stop.ensures.lane ∙ c.wait.ensures.lane ∙ c.loop.invariant.from) c.loop.invariant.into
-    c.stop-closed-in-Some-Stop.ensures.lane c.stop-closed-in-Some-Stop.ensures.sent
-    (mark_taken (taken c.loop.entries) (taken c.wait.new.self) (waiting c.wait.new.self) (taken new) (waiting new)
-    item.Stop refl c.wait.ensures.taken (rw c.in-Some-Stop.field-0-is at c.in-Some-Stop.ensures.next)
-    c.pass-in-Some-Stop.ensures.taken c.pass-in-Some-Stop.ensures.one) c.loop.invariant.rows
+    let pass = c.pass-in-Some-Stop in let stop = c.stop-closed-in-Some-Stop in
+    stops _ _ (taken c.loop.entries) pass.new.self c.loop.rows stop.result
+    (pass.ensures.lane ∙ c.wait.ensures.lane ∙ c.loop.invariant.from) c.loop.invariant.into stop.ensures.lane
+    stop.ensures.sent
+    (mark_taken _ _ _ _ _ item.Stop refl c.wait.ensures.taken
+    (rw c.in-Some-Stop.field-0-is at c.in-Some-Stop.ensures.next) pass.ensures.taken pass.ensures.one)
+    c.loop.invariant.rows

@@ -1,24 +1,22 @@
-use Rattle.std.proofs.Common.{◌∙◌, rules, sym}
+use Rattle.std.proofs.Common.{◌∙◌, ◌∷◌, append_assoc, rules, sym}
 use Rattle.std.specs.Vec.Iter.{into_iter_items}
 use Rattle.register_run.specs.Carried.{HasEnded}
-use Rattle.register_run.proofs.StripeLemmas.{zip_begin, zip_end, zip_more}
+use Rattle.register_run.proofs.StripeLemmas.{zip_end}
 use Rattle.register_run.proofs.reading.close_all.Goals as goal
 
 pub loop-sender-init : goal.loop-sender-init
 loop-sender-init g c = record {
   room = search rules;
-  ended =
-      zip_begin HasEnded c.args.senders.items _ c.args.closed.items
-      c.into_iter-sender-iterator.ensures.into_iter_gives.0 c.requires.none;
+  ended = λ more h.
+      rw c.requires.none (rw c.into_iter-sender-iterator.ensures.into_iter_gives.0 at h);
 }
 
 pub loop-sender-preserved : goal.loop-sender-preserved
 loop-sender-preserved g c = record {
   room = search rules;
-  ended =
-      zip_more HasEnded c.args.senders.items _ c.in-Some.sender _ c.loop-sender.closed.items
-      c.push_reserved.new.self.items c.close_one.result c.in-Some.ensures.steps.0 c.push_reserved.ensures.items
-      c.close_one.ensures c.loop-sender.invariant.ended;
+  ended = λ more h. rw (c.push_reserved.ensures.items, append_assoc)
+      (c.loop-sender.invariant.ended (c.close_one.result ∷ more)
+      (rw c.in-Some.ensures.steps.0 (c.close_one.ensures, h)));
 }
 
 pub returns : goal.returns

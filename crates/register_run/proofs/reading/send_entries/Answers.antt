@@ -1,13 +1,13 @@
 use Rattle.std.proofs.Common.{◌≡◌, ◌∙◌, ◌-◌, [], ◌∷◌, ap, refl, sym, subst, arith, length}
 use Rattle.std.proofs.Common.{false, length-append, rules, true}
-use Rattle.std.proofs.Math.Seq.{map-set_same}
 use Rattle.std.proofs.lemmas.List.{length-set}
 use Rattle.lane_rings.specs.Lane.{sender_lane}
 use Rattle.register_records.specs.Entries.{AreNumberedFrom, Numbered}
 use Rattle.register_records.specs.Seen.{entry_seen}
-use Rattle.register_records.specs.Views.{format_of, given_of, reads_by, text_of}
+use Rattle.register_records.specs.Views.{format_of, given_of}
 use Rattle.register_run.specs.Carried.{AreDealt}
 use Rattle.register_run.proofs.DealtLemmas.{dealt_none, dealt_send, dealt_unsent}
+use Rattle.register_run.proofs.MoveLemmas.{set_same}
 use Rattle.register_run.proofs.GivenLemmas.{given_none, numbered_more, sends_all, sends_gone, sends_stopped}
 use Rattle.striped_lanes.specs.Machine.{turn}
 use Rattle.register_run.proofs.reading.send_entries.Goals as goal
@@ -27,35 +27,28 @@ returns-in-Ok-false-clause-sends g c =
     let none : c.in-Ok-false.field-0 ≡ false = search rules in
     let all = (rw none at reads.all) refl in
     let kept = (rw none at reads.ends) refl in
-    sends_all (g.R.Read.remaining c.args.source) (text_of new) (format_of c.args.setup.now) (reads_by new)
-    (c.read_next.ensures.reads.text.0 ∙ inv.text) (c.read_next.ensures.reads.text.1 ∙ inv.by)
-    (given_of new) (given_of c.loop.entries) kept.1 inv.numbered new.first c.loop.senders.items inv.deals c.loop.count
-    inv.count all
+    sends_all _ _ _ _ (c.read_next.ensures.reads.text.0 ∙ inv.text) (c.read_next.ensures.reads.text.1 ∙ inv.by)
+    (given_of new) _ kept.1 inv.numbered new.first _ inv.deals c.loop.count inv.count all
 
 pub returns-in-Err-read_next-clause-sends : goal.returns-in-Err-read_next-clause-sends
 returns-in-Err-read_next-clause-sends g c =
     let inv = c.loop.invariant in let new = c.read_next.new.self in
-    sends_stopped (g.R.Read.remaining c.args.source) (text_of new) (format_of c.args.setup.now) (reads_by new)
-    (c.read_next.ensures.reads.text.0 ∙ inv.text) (c.read_next.ensures.reads.text.1 ∙ inv.by)
-    (given_of new) (given_of c.loop.entries) c.in-Err-read_next.ensures.reads.kept inv.numbered new.first c.loop.senders.items
-    inv.deals
-    c.in-Err-read_next.fault _ c.from-in-Err-read_next.ensures c.in-Err-read_next.ensures.reads.no_header
-    c.in-Err-read_next.ensures.reads.many c.in-Err-read_next.ensures.reads.not_sealed c.in-Err-read_next.ensures.reads.above
-    c.stopped_after-in-Err-read_next.result (c.stopped_after-in-Err-read_next.ensures.0 ∙ inv.count) c.stopped_after-in-Err-read_next.ensures.1
+    let reads = c.in-Err-read_next.ensures.reads in let stopped = c.stopped_after-in-Err-read_next in
+    sends_stopped _ _ _ _ (c.read_next.ensures.reads.text.0 ∙ inv.text) (c.read_next.ensures.reads.text.1 ∙ inv.by)
+    (given_of new) _ reads.kept inv.numbered new.first _ inv.deals
+    c.in-Err-read_next.fault _ c.from-in-Err-read_next.ensures reads.no_header reads.many reads.not_sealed reads.above
+    stopped.result (stopped.ensures.0 ∙ inv.count) stopped.ensures.1
 
 pub returns-then-is_err-clause-lanes : goal.returns-then-is_err-clause-lanes
 returns-then-is_err-clause-lanes g c =
-    let items = c.loop.senders.items in let at = c.turn_after-turn.result in
-    map-set_same sender_lane items
-    at c.send_copy.new.self c.index_mut-sender.result.now
-    (c.send_copy.ensures.lane ∙ ap sender_lane c.index_mut-sender.ensures.value) ∙ c.loop.invariant.lanes
+    set_same sender_lane c.loop.senders.items c.turn_after-turn.result _ _ c.send_copy.ensures.lane
+    c.index_mut-sender.ensures.value ∙ c.loop.invariant.lanes
 
 pub returns-then-is_err-clause-sends : goal.returns-then-is_err-clause-sends
 returns-then-is_err-clause-sends g c =
     let inv = c.loop.invariant in let was = c.loop.entries in
     let items = c.loop.senders.items in let at = c.turn_after-turn.result in
-    sends_gone (g.R.Read.remaining c.args.source) (text_of was) (format_of c.args.setup.now) (reads_by was)
-    inv.text inv.by (given_of was) (given_of was) refl inv.numbered was.first _
+    sends_gone _ _ _ _ inv.text inv.by (given_of was) (given_of was) refl inv.numbered was.first _
     (λ w many. dealt_unsent w at (given_of was) items c.send_copy.new.self c.index_mut-sender.result.now
     c.send_copy.result c.index_mut-sender.ensures.value (sym c.is_err.ensures.value ∙ c.if-is_err.true)
     c.send_copy.ensures.gone
@@ -76,9 +69,7 @@ loop-preserved g c =
     (let a = c.len.ensures in let o = c.loop.senders.ok.0 in omega arith) in record {
       len = inv.len;
       lanes =
-          map-set_same sender_lane items
-          at c.send_copy.new.self c.index_mut-sender.result.now
-          (c.send_copy.ensures.lane ∙ ap sender_lane c.index_mut-sender.ensures.value) ∙ inv.lanes;
+          set_same sender_lane items at _ _ c.send_copy.ensures.lane c.index_mut-sender.ensures.value ∙ inv.lanes;
       text = c.read_next.ensures.reads.text.0 ∙ inv.text;
       by = c.read_next.ensures.reads.text.1 ∙ inv.by;
       goes = reads.fails;
@@ -89,8 +80,8 @@ loop-preserved g c =
           (let n = number.0 in omega arith));
       deals = λ w is.
           let before = is ∙ length-set items at c.send_copy.new.self in
-          dealt_send w at (given_of c.loop.entries) (given_of new) items c.send_copy.new.self c.index_mut-sender.result.now
-          c.read_next.new.entry c.send_copy.result c.index_mut-sender.ensures.value
+          dealt_send w at (given_of c.loop.entries) (given_of new) items c.send_copy.new.self
+          c.index_mut-sender.result.now c.read_next.new.entry c.send_copy.result c.index_mut-sender.ensures.value
           (sym c.is_err.ensures.value ∙ c.if-is_err.false) gives
           (sym (c.turn_after-turn.ensures.machine w (before ∙ many) ∙ ap (λ n. turn w (n - 1)) same))
           c.send_copy.ensures.ok (inv.deals w before);

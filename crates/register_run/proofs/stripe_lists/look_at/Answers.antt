@@ -3,5 +3,4 @@ use Rattle.register_run.proofs.stripe_lists.look_at.Goals as goal
 
 pub returns-clause-same : goal.returns-clause-same
 returns-clause-same c =
-    same_stripes c.args.stripes.now.items c.args.at c.look.new.self c.index_mut-stripe.result.now
-    c.index_mut-stripe.ensures.value c.look.ensures.same
+    same_stripes c.args.stripes.now.items c.args.at _ _ c.index_mut-stripe.ensures.value c.look.ensures.same

@@ -1,4 +1,3 @@
-use Rattle.lane_rings.specs.Lane.{taken, waiting}
 use Rattle.lane_rings.specs.declared.item.Item.TheVariants as item
 use Rattle.std.proofs.Common.{rules}
 use Rattle.register_run.specs.Stripes.{StripeTook}
@@ -11,8 +10,7 @@ returns-in-Ok-true-clause-same c = record {
   lane = search rules;
   setup = search rules;
   kept = λ row h. c.take_found.ensures.same.kept row
-      (seen_kept (taken c.args.self.now.rows) (taken c.look.new.self) (waiting c.args.self.now.rows)
-      (waiting c.look.new.self) c.look.ensures.taken c.look.ensures.waiting (item.Entry row) h);
+      (seen_kept _ _ _ _ c.look.ensures.taken c.look.ensures.waiting (item.Entry row) h);
 }
 
 pub returns-in-Ok-false-clause-same : goal.returns-in-Ok-false-clause-same
@@ -20,8 +18,7 @@ unfolding StripeTook
 returns-in-Ok-false-clause-same c = record {
   lane = search rules;
   setup = search rules;
-  kept = λ row h. seen_kept (taken c.args.self.now.rows) (taken c.look.new.self) (waiting c.args.self.now.rows)
-      (waiting c.look.new.self) c.look.ensures.taken c.look.ensures.waiting (item.Entry row) h;
+  kept = λ row. seen_kept _ _ _ _ c.look.ensures.taken c.look.ensures.waiting (item.Entry row);
 }
 
 pub returns-in-Err-clause-same : goal.returns-in-Err-clause-same
@@ -29,6 +26,5 @@ unfolding StripeTook
 returns-in-Err-clause-same c = record {
   lane = search rules;
   setup = search rules;
-  kept = λ row h. seen_kept (taken c.args.self.now.rows) (taken c.look.new.self) (waiting c.args.self.now.rows)
-      (waiting c.look.new.self) c.look.ensures.taken c.look.ensures.waiting (item.Entry row) h;
+  kept = λ row. seen_kept _ _ _ _ c.look.ensures.taken c.look.ensures.waiting (item.Entry row);
 }

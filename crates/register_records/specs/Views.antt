@@ -65,8 +65,8 @@ writes_by w = record { delimiter = w.lines.delimiter; form = w.form }
 abbrev pub writer_failed : RowWriter → Bool
 writer_failed w = has_stopped w.state
 
-abbrev pub output_failed_in : RowWriter → Bool
-output_failed_in w = output_failed w.state
+abbrev pub has_output_failed : RowWriter → Bool
+has_output_failed w = output_failed w.state
 
 -- the bytes of the lines that wait to be sent
 abbrev pub waiting_in : RowWriter → List ℕ

@@ -58,7 +58,7 @@ pub struct RowWriter {
 impl RowWriter {
     ghost use Rattle.register_records.specs.Tables.{heading_line};
     ghost use Rattle.register_records.specs.Views.{format_of, layout_of, line_of};
-    ghost use Rattle.register_records.specs.Views.{output_failed_in, waiting_in, writer_failed, writes_by};
+    ghost use Rattle.register_records.specs.Views.{has_output_failed, waiting_in, writer_failed, writes_by};
 
     /// Writes the heading and flushes it.
     ///
@@ -109,7 +109,7 @@ impl RowWriter {
         ensures short { OnOk result (length (waiting_in self.new) ≤ length (waiting_in self.old) + 1024) }
         ensures kept { OnErr result (waiting_in self.new ≡ waiting_in self.old) }
         ensures by { writes_by self.new ≡ writes_by self.old }
-        ensures sunk { output_failed_in self.new ≡ output_failed_in self.old }
+        ensures output_failed { has_output_failed self.new ≡ has_output_failed self.old }
         ensures fails { writer_failed self.new ≡ is_err result }
         ensures memory { writer_failed self.old ≡ false → IfErr result (λ e. e ≡ RowFault.OutOfMemory) }
         ensures roomy { length (waiting_in self.old) ≤ 16384 → IfErr result (λ e. e ≢ RowFault.OutOfMemory) }
@@ -147,10 +147,10 @@ impl RowWriter {
         ensures by { writes_by self.new ≡ writes_by self.old }
         ensures goes { OnOk result (W.has_failed output.new ≡ W.has_failed output.old) }
         ensures fails { writer_failed self.new ≡ (writer_failed self.old || is_err result) }
-        ensures sinks { output_failed_in self.new ≡ is_err result }
+        ensures output_failed { has_output_failed self.new ≡ is_err result }
         ensures fault { IfErr result (λ e. e ≡ RowFault.WriteFault → W.has_failed output.new ≡ true) }
-        ensures told { output_failed_in self.old ≡ false → IfErr result (λ e. e ≡ RowFault.WriteFault) }
-        ensures failed { output_failed_in self.old ≡ true
+        ensures first_fault { has_output_failed self.old ≡ false → IfErr result (λ e. e ≡ RowFault.WriteFault) }
+        ensures failed { has_output_failed self.old ≡ true
             → (result ≡ Err RowFault.Failed) × (output.new ≡ output.old) × (self.new ≡ self.old) }
         ensures mark { W.own_mark output.new ≡ W.own_mark output.old }
     {
@@ -178,13 +178,13 @@ impl RowWriter {
         ensures flushed { OnOk result (W.is_flushed output.new ≡ true) }
         ensures by { writes_by self.new ≡ writes_by self.old }
         ensures goes { OnOk result
-            ((W.has_failed output.new ≡ W.has_failed output.old) × (output_failed_in self.new ≡ false)) }
+            ((W.has_failed output.new ≡ W.has_failed output.old) × (has_output_failed self.new ≡ false)) }
         ensures fails { writer_failed self.new ≡ is_err result }
         ensures memory { IfErr result (λ e. e ≡ RowFault.OutOfMemory → (output.new ≡ output.old)
-            × (waiting_in self.new ≡ waiting_in self.old) × (output_failed_in self.new ≡ output_failed_in self.old)) }
+            × (waiting_in self.new ≡ waiting_in self.old) × (has_output_failed self.new ≡ has_output_failed self.old)) }
         ensures roomy { length (waiting_in self.old) ≤ 16384 → IfErr result (λ e. e ≢ RowFault.OutOfMemory) }
         ensures fault { IfErr result (λ e. e ≡ RowFault.WriteFault
-            → (W.has_failed output.new ≡ true) × (output_failed_in self.new ≡ true)) }
+            → (W.has_failed output.new ≡ true) × (has_output_failed self.new ≡ true)) }
         ensures only_failed { writer_failed self.old ≡ false → IfErr result (λ e. e ≢ RowFault.Failed) }
         ensures failed { writer_failed self.old ≡ true
             → (result ≡ Err RowFault.Failed) × (output.new ≡ output.old) × (self.new ≡ self.old) }

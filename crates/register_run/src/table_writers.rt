@@ -7,7 +7,7 @@ ghost use Rattle.std.proofs.Props.{props};
 ghost use Rattle.register_records.specs.Causes.{row_fault_cause};
 ghost use Rattle.register_records.specs.Entries.{record_limit};
 ghost use Rattle.register_records.specs.Tables.{refusal_notes};
-ghost use Rattle.register_records.specs.Views.{row_seen, output_failed_in};
+ghost use Rattle.register_records.specs.Views.{row_seen, has_output_failed};
 ghost use Rattle.register_records.specs.declared.ends.Cause.TheVariants as cause;
 ghost use Rattle.register_run.specs.Courses.{fault_of, is_of_table, output_failed};
 
@@ -73,7 +73,7 @@ pub(crate) struct TableWriter<W: Output> {
     ghost failed: { output_failed course ≡ true → W.has_failed output ≡ true },
     ghost good: { output_failed course ≡ false → W.has_failed output ≡ W.has_failed given.value },
     ghost unfailed: { output_failed course ≡ false
-        → IfSome writer (λ w. output_failed_in w ≡ false) } by { Prim.hlevel props },
+        → IfSome writer (λ w. has_output_failed w ≡ false) } by { Prim.hlevel props },
     ghost untouched: { is_some writer ≡ false → output_failed course ≡ false → output ≡ given.value },
     ghost sink_fault: { fault_of course ≡ Some cause.SinkFault → output_failed course ≡ true },
     ghost of_table: { IfSome (fault_of course) (λ c. is_of_table c ≡ true) } by { Prim.hlevel props },

@@ -37,7 +37,7 @@ returns-in-Err-clause-too_many g c begun heading is =
     let inv = c.entries.invariant in
     let past = c.in-Err.ensures.many is in (
       told_of (λ format text. IfSome text (λ t. HasTooMany format t)) _ _ _ _ inv.text refl past.1,
-      rw (c.in-Err.ensures.kept (λ sunk. cc (is, sunk)))
+      rw (c.in-Err.ensures.kept (λ failed. cc (is, failed)))
           (first_rows _ _ _ _ _ _ _ _ _ (inv.come begun heading) inv.text inv.ready.1 c.entries.entries.first
           (sym past.0)),
     )
@@ -48,6 +48,6 @@ returns-in-Err-clause-not_sealed g c begun heading is =
     let lacks = c.in-Err.ensures.not_sealed is in (
       lacks.0,
       told_of (λ format text. IfSome text (λ t. IsNotSealed format t)) _ _ _ _ inv.text refl lacks.1,
-      rw (c.in-Err.ensures.kept (λ sunk. cc (is, sunk)))
+      rw (c.in-Err.ensures.kept (λ failed. cc (is, failed)))
           (all_rows _ _ _ _ _ _ _ _ _ (inv.come begun heading) inv.text refl refl lacks.2),
     )

@@ -1,20 +1,27 @@
 -- Texts that hold no byte that calls for quotes.
-use Rattle.std.proofs.Common.{◌≡◌, ◌∙◌, ◌-◌, ℕ, List, [], ◌∷◌, true, false, refl, sym, ap, arith, take, drop}
-use Rattle.std.specs.Prelude.{⊤, Bool, Err, Ok, Result, if◌then◌else◌}
-use Rattle.std.proofs.lemmas.Bool.{or_from, or_parts}
+use Rattle.std.proofs.Common.{◌≡◌, ◌∙◌, ◌+◌, ◌*◌, ◌/◌, ◌-◌, ◌<◌, ◌≤◌, ◌++◌, ℕ, zero, suc, List, [], ◌∷◌, Option}
+use Rattle.std.proofs.Common.{None, Some, true, false, refl, sym, ap, subst, arith, length, take, drop, get_or}
+use Rattle.std.specs.Prelude.{⊤, Bool, Err, IfSome, IsAscii, Ok, Result, if◌then◌else◌}
+use Rattle.std.specs.Option.{option_map_or}
+use Rattle.std.proofs.lemmas.Bool.{and_parts, or_from, or_parts}
 use Rattle.std.proofs.lemmas.Bool.Decides.{nat_tests}
-use Rattle.std.proofs.lemmas.List.Folds.{list_any-append}
-use Rattle.std.proofs.lemmas.List.{take-append-drop}
-use Rattle.std.specs.List.{list_any}
+use Rattle.std.proofs.lemmas.List.Folds.{list_all-append, list_all_more}
+use Rattle.std.proofs.lemmas.List.{drop-drop, take-append-drop}
+use Rattle.std.proofs.Math.Seq.{take-add}
+use Rattle.std.specs.Simd.{first_chunks}
+use Rattle.std.proofs.lemmas.Str.{IsUtf8-from_ascii, is_utf8-from_IsUtf8}
+use Rattle.std.proofs.lemmas.Str.Ascii.{IsAscii-cons, IsAscii-nil}
+use Rattle.std.specs.Str.{is_utf8}
+use Rattle.std.specs.List.{list_all, list_any}
 use Rattle.std.specs.Result.{result_ok}
 use Rattle.csv.specs.Records.{cut_from}
 use Rattle.csv.specs.Writing.{needs_byte, needs_quotes}
 use Rattle.date_texts.specs.declared.refusal.Refusal.{Refusal}
 use Rattle.date_texts.specs.declared.refusal.Refusal.TheVariants as refusal
-use Rattle.register_records.specs.BareTexts.{has_special, is_special_byte}
-use Rattle.register_records.specs.Entries.{are_short, are_utf8, body_of}
+use Rattle.register_records.specs.BareTexts.{IsPlain, has_special, is_plain_byte, is_special_byte}
+use Rattle.register_records.specs.Entries.{are_short, are_utf8, body_of, body_of_texts}
 use Rattle.register_records.specs.LineRoom.{writing}
-use Rattle.register_records.specs.Records.{Fields, Texts}
+use Rattle.register_records.specs.Records.{Fields, Texts, texts_of}
 use Rattle.register_records.specs.SetupRules.{is_delimiter}
 use Rattle.register_records.specs.Columns.{shown}
 use Rattle.register_records.specs.declared.setups.Form.{Form}
@@ -35,56 +42,127 @@ bare_text d h (c ∷ text) p =
     let both = or_parts (is_special_byte c) (list_any is_special_byte text) p in
     rw (bare_byte d c h both.0, bare_text d h text both.1) refl
 
--- a part of a text without such a byte
-bare_part : (k s : ℕ) (bytes : List ℕ) → IsBare bytes → IsBare (take k (drop s bytes))
-bare_part k s bytes h =
-    let behind = or_parts _ _ (sym (list_any-append is_special_byte (take s bytes) (drop s bytes))
-    ∙ ap (list_any is_special_byte) (take-append-drop s bytes) ∙ h) in
-    let front = or_parts _ _ (sym (list_any-append is_special_byte (take k (drop s bytes)) (drop k (drop s bytes)))
-    ∙ ap (list_any is_special_byte) (take-append-drop k (drop s bytes)) ∙ behind.1) in
-    front.0
+-- a plain text is ASCII, and none of its bytes does
+plain_byte_ascii : (b : ℕ) → is_plain_byte b ≡ true → b < 128
+plain_byte_ascii b h = grind (arith, nat_tests)
 
--- the fields are such
-abbrev AreBare : Fields → Type 0
-AreBare [] = ⊤
-AreBare (f ∷ fs) = IsBare f × AreBare fs
+plain_byte_bare : (b : ℕ) → is_plain_byte b ≡ true → is_special_byte b ≡ false
+plain_byte_bare b h = grind (arith, nat_tests)
 
--- the fields of a record whose bytes are such
-bare_fields : (s : ℕ) (ends bytes : List ℕ) → IsBare bytes → AreBare (cut_from s ends bytes)
+plain_ascii : (text : List ℕ) → IsPlain text → IsAscii text
+plain_ascii [] h = IsAscii-nil
+plain_ascii (b ∷ text) h =
+    let both = and_parts (is_plain_byte b) (list_all is_plain_byte text) h in
+    IsAscii-cons b text (plain_byte_ascii b both.0) (plain_ascii text both.1)
+
+plain_bare : (text : List ℕ) → IsPlain text → IsBare text
+plain_bare [] h = refl
+plain_bare (b ∷ text) h =
+    let both = and_parts (is_plain_byte b) (list_all is_plain_byte text) h in
+    or_from _ _ (plain_byte_bare b both.0) (plain_bare text both.1)
+
+-- the two parts of a plain text
+plain_halves : (n : ℕ) (text : List ℕ) → IsPlain text → IsPlain (take n text) × IsPlain (drop n text)
+plain_halves n text h =
+    let both = and_parts (list_all is_plain_byte (take n text)) (list_all is_plain_byte (drop n text))
+    (sym (list_all-append is_plain_byte (take n text) (drop n text))
+    ∙ ap (list_all is_plain_byte) (take-append-drop n text) ∙ h) in
+    (both.0, both.1)
+
+-- the fields of a plain record are plain
+abbrev ArePlainFields : Fields → Type 0
+ArePlainFields [] = ⊤
+ArePlainFields (f ∷ fs) = IsPlain f × ArePlainFields fs
+
+plain_fields : (s : ℕ) (ends bytes : List ℕ) → IsPlain bytes → ArePlainFields (cut_from s ends bytes)
 unfolding cut_from
-bare_fields s [] bytes h = tt
-bare_fields s (end ∷ ends) bytes h = (bare_part (end - s) s bytes h, bare_fields end ends bytes h)
+plain_fields s [] bytes h = tt
+plain_fields s (end ∷ ends) bytes h =
+    ((plain_halves (end - s) (drop s bytes) (plain_halves s bytes h).1).0, plain_fields end ends bytes h)
 
+abbrev ArePlainTexts : Texts → Type 0
+ArePlainTexts t = IsPlain t.id × IsPlain t.calendar × IsPlain t.date × IsPlain t.note
+
+plain_texts : (form : Form) (fs : Fields) → ArePlainFields fs → IfSome (texts_of form fs) ArePlainTexts
+plain_texts Plain [] h = tt
+plain_texts Plain (a ∷ []) h = tt
+plain_texts Plain (a ∷ b ∷ []) h = tt
+plain_texts Plain (a ∷ b ∷ c ∷ []) h = (h.0, h.1.0, h.1.1.0, refl)
+plain_texts Plain (a ∷ b ∷ c ∷ d ∷ rest) h = tt
+plain_texts Sealed [] h = tt
+plain_texts Sealed (a ∷ []) h = tt
+plain_texts Sealed (a ∷ b ∷ []) h = tt
+plain_texts Sealed (a ∷ b ∷ c ∷ []) h = tt
+plain_texts Sealed (a ∷ b ∷ c ∷ d ∷ []) h = (h.0, h.1.0, h.1.1.0, h.1.1.1.0)
+plain_texts Sealed (a ∷ b ∷ c ∷ d ∷ e ∷ rest) h = tt
+
+plain_record : (form : Form) (ends bytes : List ℕ) → IsPlain bytes
+    → IfSome (texts_of form (cut_from 0 ends bytes)) ArePlainTexts
+plain_record form ends bytes h = plain_texts form (cut_from 0 ends bytes) (plain_fields 0 ends bytes h)
+
+-- so they are UTF-8
+plain_utf8 : (text : List ℕ) → IsPlain text → is_utf8 text ≡ true
+plain_utf8 text h = is_utf8-from_IsUtf8 text (IsUtf8-from_ascii text (plain_ascii text h))
+
+pub utf8_texts : (form : Form) (ends bytes : List ℕ) (t : Texts) → texts_of form (cut_from 0 ends bytes) ≡ Some t
+    → IsPlain bytes → are_utf8 t ≡ true
+utf8_texts form ends bytes t e h =
+    let plain : ArePlainTexts t = rw e at (plain_record form ends bytes h) in
+    rw (plain_utf8 _ plain.0, plain_utf8 _ plain.1, plain_utf8 _ plain.2, plain_utf8 _ plain.3) refl
+
+-- and its body holds no byte that calls for quotes
 bare_if : (t : Texts) → (short utf8 : Bool) → has_special (Ok t) ≡ false
     → has_special (if short then (if utf8 then Ok t else Err refusal.NotUtf8) else Err refusal.FieldTooLong) ≡ false
 bare_if t true true h = h
 bare_if t true false h = refl
 bare_if t false utf8 h = refl
 
-four : (t : Texts) → IsBare t.id → IsBare t.calendar → IsBare t.date → IsBare t.note → has_special (Ok t) ≡ false
-four t a b c d = or_from _ _ a (or_from _ _ b (or_from _ _ c d))
+bare_option : (o : Option Texts) → IfSome o ArePlainTexts
+    → has_special (option_map_or body_of_texts o (Err refusal.FieldCount)) ≡ false
+bare_option None h = refl
+bare_option (Some t) h =
+    bare_if t (are_short t) (are_utf8 t)
+    (or_from _ _ (plain_bare t.id h.0) (or_from _ _ (plain_bare t.calendar h.1)
+    (or_from _ _ (plain_bare t.date h.2) (plain_bare t.note h.3))))
 
-bare_texts : (form : Form) (fs : Fields) → AreBare fs → has_special (body_of form fs) ≡ false
-bare_texts Plain [] h = refl
-bare_texts Plain (a ∷ []) h = refl
-bare_texts Plain (a ∷ b ∷ []) h = refl
-bare_texts Plain (a ∷ b ∷ c ∷ []) h =
-    let t : Texts = record { id = a; calendar = b; date = c; note = [] } in
-    bare_if t (are_short t) (are_utf8 t) (four t h.0 h.1.0 h.1.1.0 refl)
-bare_texts Plain (a ∷ b ∷ c ∷ d ∷ rest) h = refl
-bare_texts Sealed [] h = refl
-bare_texts Sealed (a ∷ []) h = refl
-bare_texts Sealed (a ∷ b ∷ []) h = refl
-bare_texts Sealed (a ∷ b ∷ c ∷ []) h = refl
-bare_texts Sealed (a ∷ b ∷ c ∷ d ∷ []) h =
-    let t : Texts = record { id = a; calendar = b; date = c; note = d } in
-    bare_if t (are_short t) (are_utf8 t) (four t h.0 h.1.0 h.1.1.0 h.1.1.1.0)
-bare_texts Sealed (a ∷ b ∷ c ∷ d ∷ e ∷ rest) h = refl
-
--- the body of a record whose bytes are such
-pub bare_record : (form : Form) (ends bytes : List ℕ) → IsBare bytes
+pub bare_record : (form : Form) (ends bytes : List ℕ) → IsPlain bytes
     → has_special (body_of form (cut_from 0 ends bytes)) ≡ false
-bare_record form ends bytes h = bare_texts form (cut_from 0 ends bytes) (bare_fields 0 ends bytes h)
+bare_record form ends bytes h = bare_option (texts_of form (cut_from 0 ends bytes)) (plain_record form ends bytes h)
+
+-- a text is plain by its chunks, and by as many bytes at its end
+abbrev pub ArePlain : List (List ℕ) → Type 0
+ArePlain chunks = list_all (λ (chunk : List ℕ). list_all is_plain_byte chunk) chunks ≡ true
+
+pub plain_more : (chunks : List (List ℕ)) (i : ℕ) (d : List ℕ) → i < length chunks → ArePlain (take i chunks)
+    → IsPlain (get_or chunks i d) → ArePlain (take (i + 1) chunks)
+plain_more chunks i d lt h k =
+    list_all_more (λ (chunk : List ℕ). list_all is_plain_byte chunk) chunks i d lt ∙ cc (h, k)
+
+plain_join : (a b : List ℕ) → IsPlain a → IsPlain b → IsPlain (a ++ b)
+plain_join a b h k = list_all-append is_plain_byte a b ∙ cc (h, k)
+
+plain_front : (count : ℕ) (text : List ℕ) → ArePlain (first_chunks 16 count text) → IsPlain (take (count * 16) text)
+plain_front zero text h = refl
+plain_front (suc count) text h =
+    let parts = and_parts (list_all is_plain_byte (take 16 text))
+    (list_all (λ (chunk : List ℕ). list_all is_plain_byte chunk) (first_chunks 16 count (drop 16 text))) h in
+    let whole : suc count * 16 ≡ 16 + count * 16 = omega arith in
+    rw (whole, take-add 16 (count * 16) text)
+    (plain_join (take 16 text) (take (count * 16) (drop 16 text)) parts.0 (plain_front count (drop 16 text) parts.1))
+
+pub plain_by_chunks : (text : List ℕ) (chunks : List (List ℕ)) → 16 ≤ length text
+    → chunks ≡ first_chunks 16 (length text / 16) text → IsPlain (drop (length text - 16) text) → ArePlain chunks
+    → IsPlain text
+plain_by_chunks text chunks long is h k =
+    let start = length text - 16 in
+    let end = length text / 16 * 16 in
+    let front : IsPlain (take end text) = plain_front (length text / 16) text (rw (← is) k) in
+    let place : start + (end - start) ≡ end = omega arith in
+    let same : drop (end - start) (drop start text) ≡ drop end text =
+    drop-drop (end - start) start text ∙ ap (λ m. drop m text) place in
+    subst IsPlain (take-append-drop end text)
+    (plain_join (take end text) (drop end text) front
+    (subst IsPlain same (plain_halves (end - start) (drop start text) h).1))
 
 -- the texts of a body that holds no such byte need no quotes in a table
 pub unquoted : (d : ℕ) → is_delimiter d ≡ true → (body : Result Texts Refusal) → has_special body ≡ false

@@ -1,11 +1,11 @@
 //! An entry, and how it is made of a record.
 
-ghost use Rattle.std.specs.Prelude.{◌≡◌, ◌≤◌, ◌↔◌, [], length, IfSome, IsAscii, IsSome, IsTrue, Ok};
+ghost use Rattle.std.specs.Prelude.{◌≡◌, ◌≤◌, ◌↔◌, [], length, IfSome, IsSome, IsTrue, Ok};
 ghost use Rattle.std.specs.Prelude.{true, false};
-ghost use Rattle.std.specs.List.{list_any};
+ghost use Rattle.std.specs.List.{list_all};
 ghost use Rattle.std.specs.Str.{is_utf8};
-ghost use Rattle.csv.specs.Records.{fields_of};
-ghost use Rattle.register_records.specs.BareTexts.{has_special, is_special_byte};
+ghost use Rattle.csv.specs.Records.{fields_of, text_of};
+ghost use Rattle.register_records.specs.BareTexts.{IsPlain, has_special, is_plain_byte};
 ghost use Rattle.register_records.specs.Entries.{are_fit, body_of, body_seen, may_hold, record_limit};
 
 use crate::record_fields::RecordFields;
@@ -26,6 +26,9 @@ pub const DATE_LIMIT: usize = 32;
 
 /// The most bytes of a note, before anything is trimmed.
 pub const NOTE_LIMIT: usize = 80;
+
+/// How many bytes are looked at together.
+const CHUNK: usize = 16;
 
 /// The most entries of a source.
 pub const MAX_RECORDS: u32 = 1_000_000;
@@ -96,9 +99,10 @@ impl Entry {
         requires limited { number ≤ record_limit }
         ensures { (self.new.number ≡ number) × (body_seen self.new.body ≡ body_of form (fields_of csv_record.now)) }
     {
+        let plain = are_plain_by_chunks(csv_record.as_slice());
         self.number = number;
-        self.bare = is_bare(csv_record.as_slice());
-        self.body.set(csv_record, form);
+        self.bare = plain;
+        self.body.set(csv_record, form, plain);
     }
 
     /// The number, from 1 to 1,000,000.
@@ -125,22 +129,39 @@ impl Entry {
     }
 }
 
-/// Whether a byte calls for quotes in some table: a delimiter, a quote, or one that ends a line.
-fn may_be_special(byte: u8) -> bool
-    ensures { result ≡ is_special_byte byte }
+/// Whether a byte is a space or a visible character of ASCII, and no delimiter and no quote: it calls for quotes in no
+/// table. It has no branches, so that a chunk of bytes is looked at as one.
+fn is_plain(byte: u8) -> bool
+    ensures { result ≡ is_plain_byte byte }
 {
-    matches!(byte, b',' | b';' | b'\t' | b'"' | b'\r' | b'\n')
+    (b' ' <= byte) & (byte <= b'~') & (byte != b',') & (byte != b';') & (byte != b'"')
 }
 
-/// Whether no byte of a text calls for quotes. It goes on to the end, since a loop of one length is fast.
-fn is_bare(text: &[u8]) -> bool
-    ensures { result ≡ true → list_any is_special_byte text.now ≡ false }
+/// Whether all bytes of a text are such. It goes on to the end, since a loop of one length is fast.
+#[inline(always)]
+fn are_plain(text: &[u8]) -> bool
+    ensures { result ≡ list_all is_plain_byte text.now }
 {
-    let mut bare = true;
+    let mut plain = true;
     'bytes: for byte in text {
-        bare &= !may_be_special(*byte);
+        plain &= is_plain(*byte);
     }
-    bare
+    plain
+}
+
+/// The same, chunk by chunk: a chunk takes no longer than two bytes alone. The last may overlap the one before it.
+fn are_plain_by_chunks(text: &[u8]) -> bool
+    ensures { result ≡ true → IsPlain text.now }
+{
+    let Some((_, last)) = text.split_last_chunk::<CHUNK>() else {
+        return are_plain(text);
+    };
+    let (front, _) = text.as_chunks::<CHUNK>();
+    let mut plain = are_plain(last);
+    'chunks: for chunk in front {
+        plain &= are_plain(chunk);
+    }
+    plain
 }
 
 /// Whether a text is within its limit, which by its type it is.
@@ -171,29 +192,15 @@ fn is_allowed(body: &Body) -> bool
     }
 }
 
-/// Whether a field is UTF-8. One that is known to be ASCII is not looked at.
+/// Copies a field, which is UTF-8, to a text.
 #[inline(always)]
-fn is_text(field: &[u8], is_ascii: bool) -> bool
-    requires { is_ascii ≡ true → IsAscii field.now }
-    ensures { result ≡ is_utf8 field.now }
-{
-    is_ascii || str::from_utf8(field).is_ok()
-}
-
-/// Copies a field to a text, where it is UTF-8, and says whether it is.
-#[inline(always)]
-fn copy_text<const N: usize>(copy: &mut ArrayString<N>, field: &[u8], is_ascii: bool) -> bool
+fn copy_text<const N: usize>(copy: &mut ArrayString<N>, field: &[u8])
     requires fits { length field.now ≤ N }
-    requires ascii { is_ascii ≡ true → IsAscii field.now }
-    ensures is_text { result ≡ is_utf8 field.now }
-    ensures copied { result ≡ true → copy.new.bytes ≡ field.now }
+    requires is_text { is_utf8 field.now ≡ true }
+    ensures { copy.new.bytes ≡ field.now }
 {
-    let is_text = is_text(field, is_ascii);
-    if is_text {
-        copy.clear();
-        copy.push_str(unsafe { str::from_utf8_unchecked(field) });
-    }
-    is_text
+    copy.clear();
+    copy.push_str(unsafe { str::from_utf8_unchecked(field) });
 }
 
 impl Body {
@@ -210,8 +217,9 @@ impl Body {
         }
     }
 
-    /// Makes this body that of a record.
-    fn set(&mut self, csv_record: &ByteRecord, form: Form)
+    /// Makes this body that of a record, which may be known to be plain.
+    fn set(&mut self, csv_record: &ByteRecord, form: Form, plain: bool)
+        requires { plain ≡ true → IsPlain (text_of csv_record.now) }
         ensures value { body_seen self.new ≡ body_of form (fields_of csv_record.now) }
         ensures held { IsTrue (may_hold self.new) }
     {
@@ -227,6 +235,10 @@ impl Body {
             *self = Body::Refused(Refusal::FieldTooLong);
             return;
         }
+        if !fields.are_texts(plain) {
+            *self = Body::Refused(Refusal::NotUtf8);
+            return;
+        }
         if matches!(self, Body::Refused(_)) {
             *self = Body::blank();
         }
@@ -236,12 +248,11 @@ impl Body {
             date,
             note,
         } = self
-            && !(copy_text(id, fields.id, fields.is_ascii)
-                && copy_text(calendar, fields.calendar, fields.is_ascii)
-                && copy_text(date, fields.date, fields.is_ascii)
-                && copy_text(note, fields.note, fields.is_ascii))
         {
-            *self = Body::Refused(Refusal::NotUtf8);
+            copy_text(id, fields.id);
+            copy_text(calendar, fields.calendar);
+            copy_text(date, fields.date);
+            copy_text(note, fields.note);
         }
     }
 }

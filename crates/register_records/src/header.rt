@@ -40,7 +40,6 @@ pub(crate) fn is_header(csv_record: &ByteRecord, form: Form) -> bool
             calendar,
             date,
             note,
-            ..
         },
     ) = RecordFields::of(csv_record, form)
     else {

@@ -1,11 +1,20 @@
 //! The fields of a record by what they hold.
 
-ghost use Rattle.std.specs.Prelude.{◌≡◌, IsAscii, MatchOption, None, Some, true};
+ghost use Rattle.std.specs.Prelude.{◌≡◌, MatchOption, None, Some, true};
+ghost use Rattle.std.specs.Str.{is_utf8};
 ghost use Rattle.csv.specs.Records.{fields_of};
 ghost use Rattle.register_records.specs.Records.{texts_of};
 
 use crate::setups::Form;
 use csv::ByteRecord;
+use std::str;
+
+/// Whether a field is UTF-8.
+fn is_text(field: &[u8]) -> bool
+    ensures { result ≡ is_utf8 field.now }
+{
+    str::from_utf8(field).is_ok()
+}
 
 /// The fields of a record. The note is empty where the form has none.
 #[derive(Drop)]
@@ -14,13 +23,10 @@ pub(crate) struct RecordFields<'a> {
     pub(crate) calendar: &'a [u8],
     pub(crate) date: &'a [u8],
     pub(crate) note: &'a [u8],
-    // Whether all their bytes are known to be ASCII.
-    pub(crate) is_ascii: bool,
-    pub ghost ascii: { is_ascii ≡ true
-        → IsAscii id.now × IsAscii calendar.now × IsAscii date.now × IsAscii note.now },
 }
 
 impl<'a> RecordFields<'a> {
+    ghost use Rattle.register_records.specs.Entries.{are_utf8};
     ghost use Rattle.register_records.specs.Seen.{fields_seen};
 
     /// The fields of a record that has as many as the form wants.
@@ -31,7 +37,6 @@ impl<'a> RecordFields<'a> {
         if csv_record.len() != form.field_count() {
             return None;
         }
-        let is_ascii = csv_record.as_slice().is_ascii();
         let id = csv_record.get(0)?;
         let calendar = csv_record.get(1)?;
         let date = csv_record.get(2)?;
@@ -41,15 +46,26 @@ impl<'a> RecordFields<'a> {
                 calendar,
                 date,
                 note: b"",
-                is_ascii,
             }),
             Form::Sealed => Some(RecordFields {
                 id,
                 calendar,
                 date,
                 note: csv_record.get(3)?,
-                is_ascii,
             }),
         }
+    }
+
+    /// Whether all are UTF-8. Those of a plain record, which are ASCII, are not looked at.
+    #[inline(always)]
+    pub(crate) fn are_texts(&self, plain: bool) -> bool
+        requires { plain ≡ true → are_utf8 (fields_seen self.now) ≡ true }
+        ensures { result ≡ are_utf8 (fields_seen self.now) }
+    {
+        plain
+            || is_text(self.id)
+                && is_text(self.calendar)
+                && is_text(self.date)
+                && is_text(self.note)
     }
 }

@@ -1,8 +1,7 @@
 use Rattle.std.proofs.Common.{◌≡◌, ◌<◌, ◌∙◌, ap, arith, length, lit<}
 use Rattle.csv.specs.Records.{fields_of}
 use Rattle.register_records.specs.Records.{field_count}
-use Rattle.std.proofs.lemmas.Str.Ascii.{IsAscii-nil}
-use Rattle.register_records.proofs.FieldLemmas.{ascii_at, field_there, one_of_three, plain_texts, sealed_texts}
+use Rattle.register_records.proofs.FieldLemmas.{field_there, one_of_three, plain_texts, sealed_texts}
 use Rattle.register_records.proofs.record_fields.RecordFields.of.Goals as goal
 
 pub returns-in_err-id : goal.returns-in_err-id
@@ -38,27 +37,3 @@ returns-in_ok-get-in-Sealed c =
     (sealed_texts fields _ _ _ _ (long ∙ ap field_count c.in-Sealed.is)
     c.in_ok-id.ensures.value c.in_ok-calendar.ensures.value c.in_ok-date.ensures.value
     c.in_ok-get-in-Sealed.ensures.value)
-
-pub invariant_of-result : goal.invariant_of-result
-invariant_of-result c = record {
-  ascii = λ is.
-      let at = ascii_at c.is_ascii-is_ascii.result c.args.csv_record.now.ends c.args.csv_record.now.bytes
-      (rw (← c.as_slice.ensures) c.is_ascii-is_ascii.ensures.cases) is in (
-        at 0 _ c.in_ok-id.ensures.value,
-        at 1 _ c.in_ok-calendar.ensures.value,
-        at 2 _ c.in_ok-date.ensures.value,
-        IsAscii-nil,
-      );
-}
-
-pub invariant_of-result-in-Sealed : goal.invariant_of-result-in-Sealed
-invariant_of-result-in-Sealed c = record {
-  ascii = λ is.
-      let at = ascii_at c.is_ascii-is_ascii.result c.args.csv_record.now.ends c.args.csv_record.now.bytes
-      (rw (← c.as_slice.ensures) c.is_ascii-is_ascii.ensures.cases) is in (
-        at 0 _ c.in_ok-id.ensures.value,
-        at 1 _ c.in_ok-calendar.ensures.value,
-        at 2 _ c.in_ok-date.ensures.value,
-        at 3 _ c.in_ok-get-in-Sealed.ensures.value,
-      );
-}

@@ -117,11 +117,12 @@ fn put_year_digits(buffer: &mut [u8], at: usize, number: u32) -> usize
     ensures value { IsPut buffer.old buffer.new at result (padded 4 number) }
     ensures few { result ≤ at + 5 }
 {
-    if number < 10_000 {
-        return put_four_digits(buffer, at, number);
-    }
-    let after = put_byte(buffer, at, b'0' + (number / 10_000) as u8);
-    put_four_digits(buffer, after, number % 10_000)
+    let (after, last) = if number < 10_000 {
+        (at, number)
+    } else {
+        (put_byte(buffer, at, b'0' + (number / 10_000) as u8), number % 10_000)
+    };
+    put_four_digits(buffer, after, last)
 }
 
 /// Writes a year to the front.

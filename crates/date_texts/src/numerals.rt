@@ -6,6 +6,7 @@ ghost use Rattle.date_texts.specs.Reading.{digits_at as digits_spec, number_at a
 ghost use Rattle.date_texts.specs.Reading.{after_byte as after_spec, all_read, seen_number, seen_rest, seen_year};
 
 /// The number that `number` and at most `more` digits at the front spell, and the bytes after them.
+#[inline(always)]
 fn digits_at(more: u8, number: u32, bytes: &[u8]) -> (u32, &[u8])
     requires few { more ≤ 4 }
     requires small { number < 10 ^ (5 - more) }
@@ -30,6 +31,7 @@ fn digits_at(more: u8, number: u32, bytes: &[u8]) -> (u32, &[u8])
 }
 
 /// A number of one to `more + 1` digits at the front, and the bytes after it.
+#[inline(always)]
 #[tactic(auto, unfolding(crate::specs::Reading::number_at))]
 pub fn number_at(more: u8, bytes: &[u8]) -> Option<(u32, &[u8])>
     requires { more ≤ 4 }

@@ -1,6 +1,6 @@
 -- Hebrew new years in days from the Monday of the epoch.
-use Rattle.std.proofs.Common.{◌≡◌, ℕ, zero, suc, ◌+◌, ◌-◌, ◌*◌, ◌/◌, ◌%◌, ◌≤◌, Bool, true, false, not, ◌&&◌, ◌||◌, ◌==◌}
-use Rattle.std.proofs.Common.{nat_le, nat_lt, cond, if◌then◌else◌, refl, arith, ℤ, pos, ◌+ℤ◌}
+use Rattle.std.proofs.Common.{◌≡◌, ℕ, zero, suc, ◌+◌, ◌-◌, ◌*◌, ◌/◌, ◌%◌, ◌≤◌, ◌<◌, Bool, true, false, not, ◌&&◌, ◌||◌}
+use Rattle.std.proofs.Common.{◌==◌, nat_le, nat_lt, cond, if◌then◌else◌, refl, ◌∙◌, arith, ℤ, pos, ◌+ℤ◌}
 use Rattle.std.proofs.lemmas.Bool.Decides.{nat_tests}
 use Rattle.day_numbers.specs.Days.{weekday_number}
 use Rattle.day_numbers.proofs.SignedArithmeticLemmas.{signed_arith}
@@ -60,13 +60,63 @@ put_off true false d t days from p q = grind (arith, nat_tests)
 put_off false true d t days from p q = grind (arith, nat_tests)
 put_off false false d t days from p q = grind (arith, nat_tests)
 
-pub put_off_by : (leap after_leap : Bool) (d t days from r : ℕ)
-    → days ≡ (if is_closed d || falls_on_place 1 d then 1 else 2)
-    → from ≡ (if not leap && falls_on_place 2 d then 9_924
-    else (if after_leap && falls_on_place 1 d then 16_789 else (if is_closed d then 0 else 19_440)))
-    → r ≡ (if nat_le from t then d + days else d) → epoch +ℤ pos r ≡ postponed leap after_leap (epoch +ℤ pos d) t
-put_off_by leap after_leap d t days from r p q e =
-    rw (postponed_after leap after_leap d t, ← put_off leap after_leap d t days from p q, e) refl
+pub weekday_cases : (P : ℕ → Type 0) → P 0 → P 1 → P 2 → P 3 → P 4 → P 5 → P 6 → (r : ℕ) → r < 7 → P r
+weekday_cases P p q r s t u v zero h = p
+weekday_cases P p q r s t u v (suc zero) h = q
+weekday_cases P p q r s t u v (suc (suc zero)) h = r
+weekday_cases P p q r s t u v (suc (suc (suc zero))) h = s
+weekday_cases P p q r s t u v (suc (suc (suc (suc zero)))) h = t
+weekday_cases P p q r s t u v (suc (suc (suc (suc (suc zero))))) h = u
+weekday_cases P p q r s t u v (suc (suc (suc (suc (suc (suc zero)))))) h = v
+weekday_cases P p q r s t u v (suc (suc (suc (suc (suc (suc (suc k))))))) h = absurd (omega arith)
+
+-- the day that a year opens on, whose molad is on day d and this weekday: put off by so many days from a time on
+abbrev days_off : ℕ → ℕ
+days_off w = if ((w == 0) || (w == 3) || (w == 5)) || (w == 1) then 1 else 2
+
+abbrev from_time : Bool → Bool → ℕ → ℕ
+from_time leap after_leap w =
+    if not leap && (w == 2) then 9_924
+    else (if after_leap && (w == 1) then 16_789 else (if (w == 0) || (w == 3) || (w == 5) then 0 else 19_440))
+
+abbrev pub opens_on : Bool → Bool → ℕ → ℕ → ℕ → ℕ
+opens_on leap after_leap w d t = if nat_le (from_time leap after_leap w) t then d + days_off w else d
+
+pub opening_is : (leap after_leap : Bool) (d t : ℕ)
+    → opens_on leap after_leap ((d + 1) % 7) d t ≡ opening leap after_leap d t
+opening_is leap after_leap d t =
+    put_off leap after_leap d t (days_off ((d + 1) % 7)) (from_time leap after_leap ((d + 1) % 7)) refl refl
+
+-- the same by the days after the Monday of its week, from the parts between noon of the Saturday before and the molad
+abbrev pub days_from_monday : Bool → Bool → ℕ → ℕ
+days_from_monday leap after_leap time =
+    if nat_lt time (if after_leap then 49_189 else 51_840) then 0
+    else (if nat_lt time (if leap then 77_760 else 68_244) then 1 else (if nat_lt time 129_600 then 3 else 5))
+
+IsWeekBy : Bool → Bool → (d q t w : ℕ) → Type 0
+IsWeekBy leap after_leap d q t w =
+    d + 1 ≡ 7 * q + w → 7 * (q + (25_920 * w + t + 6_480) / 181_440)
+    + days_from_monday leap after_leap ((25_920 * w + t + 6_480) % 181_440) ≡ opens_on leap after_leap w d t
+
+week_by : (leap after_leap : Bool) (d q t : ℕ) → t < 25_920 → (w : ℕ) → w < 7 → IsWeekBy leap after_leap d q t w
+unfolding IsWeekBy
+week_by leap after_leap d q t h =
+    weekday_cases (IsWeekBy leap after_leap d q t)
+    (λ e. grind (arith, nat_tests)) (λ e. grind (arith, nat_tests)) (λ e. grind (arith, nat_tests))
+    (λ e. grind (arith, nat_tests)) (λ e. grind (arith, nat_tests)) (λ e. grind (arith, nat_tests))
+    (λ e. grind (arith, nat_tests))
+
+opens_by_week : (leap after_leap : Bool) (parts : ℕ)
+    → 7 * ((32_400 + parts) / 181_440) + days_from_monday leap after_leap ((32_400 + parts) % 181_440)
+    ≡ opening leap after_leap (parts / 25_920) (parts % 25_920)
+unfolding IsWeekBy
+opens_by_week leap after_leap parts =
+    let d = parts / 25_920 in
+    let from = 25_920 * ((d + 1) % 7) + parts % 25_920 + 6_480 in
+    let week : (32_400 + parts) / 181_440 ≡ (d + 1) / 7 + from / 181_440 = omega arith in
+    let time : (32_400 + parts) % 181_440 ≡ from % 181_440 = omega arith in
+    rw (week, time) (week_by leap after_leap d ((d + 1) / 7) (parts % 25_920) (omega arith) ((d + 1) % 7) (omega arith)
+    (omega arith)) ∙ opening_is leap after_leap d (parts % 25_920)
 
 -- the parts from that Monday to the molad of the year after n years, and the days to that new year
 abbrev pub parts_after : ℕ → ℕ
@@ -106,17 +156,15 @@ after_leap_by_part : (n : ℕ) → nat_lt ((235 * n + 1) % 19) 7 ≡ is_leap_yea
 after_leap_by_part n = grind (arith, nat_tests)
 
 -- what the code finds by one quotient is the new year
-pub new_year_by : (year d t r : ℕ) → 1 ≤ year → d ≡ (5_604 + 765_433 * ((235 * year - 234) / 19)) / 25_920
-    → t ≡ (5_604 + 765_433 * ((235 * year - 234) / 19)) % 25_920
-    → epoch +ℤ pos r
-    ≡ postponed (nat_le 12 ((235 * year - 234) % 19)) (nat_lt ((235 * year - 234) % 19) 7) (epoch +ℤ pos d) t
+pub new_year_by : (year r : ℕ) → 1 ≤ year
+    → r ≡ 7 * ((38_004 + 765_433 * ((235 * year - 234) / 19)) / 181_440)
+    + days_from_monday (nat_le 12 ((235 * year - 234) % 19)) (nat_lt ((235 * year - 234) % 19) 7)
+    ((38_004 + 765_433 * ((235 * year - 234) / 19)) % 181_440)
     → epoch +ℤ pos r ≡ new_year_of year
-unfolding new_year_of
-new_year_by zero d t r low p q e = absurd (omega arith)
-new_year_by (suc n) d t r low p q e =
+unfolding new_year_after
+new_year_by zero r low e = absurd (omega arith)
+new_year_by (suc n) r low e =
     let same : 235 * suc n - 234 ≡ 235 * n + 1 = omega arith in
-    let before : suc n - 1 ≡ n = omega arith in
-    let parts = rw same at p in
-    let time = rw same at q in
-    let opens = rw (same, leap_by_part n, after_leap_by_part n) at e in
-    rw (months_closed n, before, ← parts, ← time) opens
+    let parts : 38_004 + 765_433 * ((235 * n + 1) / 19) ≡ 32_400 + parts_after n = omega arith in
+    let days = rw (same, leap_by_part n, after_leap_by_part n, parts) at e in
+    rw (new_year_is n, days, opens_by_week (is_leap_year (suc n)) (is_leap_year n) (parts_after n)) refl

@@ -1,6 +1,6 @@
 -- The lengths of Hebrew years.
-use Rattle.std.proofs.Common.{◌≡◌, ℕ, zero, suc, ◌+◌, ◌-◌, ◌*◌, ◌/◌, ◌%◌, ◌≤◌, ◌<◌, Bool, true, false, not, ◌&&◌, ◌||◌}
-use Rattle.std.proofs.Common.{◌==◌, if◌then◌else◌, nat_le}
+use Rattle.std.proofs.Common.{◌≡◌, ℕ, zero, suc, ◌+◌, ◌-◌, ◌*◌, ◌/◌, ◌%◌, ◌≤◌, ◌<◌, Bool, true, false}
+use Rattle.std.proofs.Common.{if◌then◌else◌}
 use Rattle.std.proofs.Common.{refl, sym, ap, ◌∙◌, arith, ℤ, pos, ◌+ℤ◌, ◌-ℤ◌, ◌<ℤ◌, ◌≤ℤ◌, unsigned_abs, ◌⊎◌, inl, inr}
 use Rattle.std.specs.Prelude.{Contains}
 use Rattle.std.proofs.lemmas.Bool.Decides.{nat_tests}
@@ -9,40 +9,13 @@ use Rattle.day_numbers.proofs.RulesLemmas.{years_zero, years_suc}
 use Rattle.day_numbers.proofs.SignedArithmeticLemmas.{signed_arith}
 use Rattle.lunar_calendars.specs.Hebrew.{IsYearLength, is_leap_year, epoch, new_year_of, days_in_year, months_by_length}
 use Rattle.lunar_calendars.specs.Hebrew.{months_of_year, year_lengths, hebrew_rules}
-use Rattle.lunar_calendars.proofs.NewYearLemmas.{opening, put_off, parts_after, new_year_after, new_year_is}
-use Rattle.lunar_calendars.proofs.NewYearLemmas.{first_new_year, new_year_bounds}
+use Rattle.lunar_calendars.proofs.NewYearLemmas.{weekday_cases, opens_on, opening, opening_is, parts_after}
+use Rattle.lunar_calendars.proofs.NewYearLemmas.{new_year_after, new_year_is, first_new_year, new_year_bounds}
 
 -- n lies from low to high above m
 pub record IsFrom (low high m n : ℕ) : Type 0 where
   pub least : m + low ≤ n
   pub most : n ≤ m + high
-
-weekday_cases : (P : ℕ → Type 0) → P 0 → P 1 → P 2 → P 3 → P 4 → P 5 → P 6 → (r : ℕ) → r < 7 → P r
-weekday_cases P p q r s t u v zero h = p
-weekday_cases P p q r s t u v (suc zero) h = q
-weekday_cases P p q r s t u v (suc (suc zero)) h = r
-weekday_cases P p q r s t u v (suc (suc (suc zero))) h = s
-weekday_cases P p q r s t u v (suc (suc (suc (suc zero)))) h = t
-weekday_cases P p q r s t u v (suc (suc (suc (suc (suc zero))))) h = u
-weekday_cases P p q r s t u v (suc (suc (suc (suc (suc (suc zero)))))) h = v
-weekday_cases P p q r s t u v (suc (suc (suc (suc (suc (suc (suc k))))))) h = absurd (omega arith)
-
--- the day that a year opens on, whose molad is on day d and this weekday: put off by so many days from a time on
-abbrev days_off : ℕ → ℕ
-days_off w = if ((w == 0) || (w == 3) || (w == 5)) || (w == 1) then 1 else 2
-
-abbrev from_time : Bool → Bool → ℕ → ℕ
-from_time leap after_leap w =
-    if not leap && (w == 2) then 9_924
-    else (if after_leap && (w == 1) then 16_789 else (if (w == 0) || (w == 3) || (w == 5) then 0 else 19_440))
-
-abbrev opens_on : Bool → Bool → ℕ → ℕ → ℕ → ℕ
-opens_on leap after_leap w d t = if nat_le (from_time leap after_leap w) t then d + days_off w else d
-
-opening_is : (leap after_leap : Bool) (d t : ℕ)
-    → opens_on leap after_leap ((d + 1) % 7) d t ≡ opening leap after_leap d t
-opening_is leap after_leap d t =
-    put_off leap after_leap d t (days_off ((d + 1) % 7)) (from_time leap after_leap ((d + 1) % 7)) refl refl
 
 -- from a new year to the next, where the molad of the first is t parts into day d, on the weekday w, and the time of
 -- the next, u parts, is or is not past midnight once more

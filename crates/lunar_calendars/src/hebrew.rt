@@ -1,10 +1,10 @@
 //! The Hebrew calendar: new years by the molad and what puts them off, and the months from one to the next.
 
 ghost use Rattle.std.specs.Prelude.{◌≡◌, ◌≤◌, ◌<◌, ◌+◌, pos, ◌+ℤ◌, ◌-ℤ◌, ◌≤ℤ◌, ◌<ℤ◌, IsTrue, length};
-ghost use Rattle.std.specs.Prelude.{ℕ, Bool, Contains, not, ◌&&◌, ◌||◌, ◌==◌, if◌then◌else◌, slice_index, take};
+ghost use Rattle.std.specs.Prelude.{ℕ, Bool, Contains, nat_lt, if◌then◌else◌, slice_index, take};
 ghost use Rattle.day_numbers.specs.Rules.{total_days, are_months, year_start};
 ghost use Rattle.day_numbers.proofs.DateLemmas.{rules_one_to_one};
-ghost use Rattle.lunar_calendars.specs.Hebrew.{is_leap_year, epoch, postponed, new_year_of, days_in_year, year_lengths};
+ghost use Rattle.lunar_calendars.specs.Hebrew.{is_leap_year, epoch, new_year_of, days_in_year, year_lengths};
 ghost use Rattle.lunar_calendars.specs.Hebrew.{IsYearLength, months_by_length, hebrew_rules};
 
 use day_numbers::by_rules::CalendarByRules;
@@ -25,45 +25,32 @@ const EPOCH: i64 = -1_373_427;
 
 /// A day begins at 6 in the evening before, and has 24 hours of 1080 parts.
 const PARTS_OF_DAY: u64 = 25_920;
+/// Seven days.
+const PARTS_OF_WEEK: u64 = 7 * PARTS_OF_DAY;
 /// 29 days, 12 hours and 793 parts, the time from one mean new moon to the next.
 const PARTS_OF_MONTH: u64 = 765_433;
-/// 18 hours into the day.
-const NOON: u32 = 19_440;
 
-/// Weekdays are counted from Sunday as 0.
-const MONDAY: u32 = 1;
-
-/// By how many days a year is put off whose molad is on this weekday, and from which time of that day on it is.
+/// How many days after Monday a year opens, from the parts between noon of the Saturday before and its molad.
 ///
-/// No year opens on a Sunday, a Wednesday or a Friday, and none on the day of a molad at noon or later, so
-/// each weekday of a molad has one time from which the year is put off. A molad of a day that is not allowed
-/// puts it off to the next day at any time. From noon, a Monday's puts it off to Tuesday, and a Tuesday's,
-/// Thursday's or Saturday's past the next day, which is not allowed. Two come earlier: a Tuesday's in a common
-/// year, which would have 356 days, from 9 hours and 204 parts, and a Monday's after a leap year, which would
-/// have had 382 days, from 15 hours and 589 parts.
-fn postponement(leap: bool, after_leap: bool, weekday: u32) -> (u32, u32)
-    requires { weekday < 7 }
-    ensures days { result.0 ≡ (if (weekday == 0) || (weekday == 3) || (weekday == 5) || (weekday == 1) then 1 else 2) }
-    ensures from { result.1 ≡ (if not leap && (weekday == 2) then 9_924
-        else if after_leap && (weekday == 1) then 16_789
-        else if (weekday == 0) || (weekday == 3) || (weekday == 5) then 0 else 19_440) }
+/// No year opens on a Sunday, a Wednesday or a Friday, and none on the day of a molad at noon, 18 hours into the day,
+/// or later: it opens on the first other day whose noon comes after the molad. Two of these times come earlier: for a
+/// Tuesday in a common year, which would have 356 days, at 9 hours and 204 parts, and for a Monday after a leap year,
+/// which would have had 382 days, at 15 hours and 589 parts.
+fn days_from_monday(leap: bool, after_leap: bool, time: u64) -> u32
+    ensures { result ≡ (if nat_lt time (if after_leap then 49_189 else 51_840) then 0
+        else if nat_lt time (if leap then 77_760 else 68_244) then 1 else if nat_lt time 129_600 then 3 else 5) }
 {
-    let monday = if after_leap { 16_789 } else { NOON };
-    let tuesday = if leap { NOON } else { 9_924 };
-    let from = [0, monday, tuesday, 0, NOON, 0, NOON][weekday as usize];
-    // The next day is allowed after a day that is not, and after a Monday.
-    let days = if from == 0 || weekday == MONDAY { 1 } else { 2 };
-    (days, from)
-}
-
-/// The day that a year opens on, from the day and the time of its molad.
-fn opening_day(leap: bool, after_leap: bool, day: u32, time: u32) -> u32
-    requires { day ≤ 49_999_998 }
-    ensures opens { epoch +ℤ pos result ≡ postponed leap after_leap (epoch +ℤ pos day) time }
-    ensures near { result ≤ day + 2 }
-{
-    let (days, from) = postponement(leap, after_leap, (day + 1) % 7);
-    if time >= from { day + days } else { day }
+    let monday = if after_leap { 49_189 } else { 2 * PARTS_OF_DAY };
+    let tuesday = if leap { 3 * PARTS_OF_DAY } else { 68_244 };
+    if time < monday {
+        0
+    } else if time < tuesday {
+        1
+    } else if time < 5 * PARTS_OF_DAY {
+        3
+    } else {
+        5
+    }
 }
 
 /// The day of the new year.
@@ -76,13 +63,10 @@ fn new_year(year: u32) -> u32
     // A year has 12 months and 7 nineteenths of one. A leap year is one in which these nineteenths become a month more.
     let nineteenths = 235 * year - 234;
     let part = nineteenths % 19;
-    let molad = 5_604 + PARTS_OF_MONTH * (nineteenths / 19) as u64;
-    opening_day(
-        part >= 12,
-        part < 7,
-        (molad / PARTS_OF_DAY) as u32,
-        (molad % PARTS_OF_DAY) as u32,
-    )
+    // Counted from noon of the Saturday before year 1, whose molad comes 30 hours and 5604 parts later.
+    let parts = 38_004 + PARTS_OF_MONTH * (nineteenths / 19) as u64;
+    let weeks = (parts / PARTS_OF_WEEK) as u32;
+    7 * weeks + days_from_monday(part >= 12, part < 7, parts % PARTS_OF_WEEK)
 }
 
 /// The days of a year.

@@ -30,14 +30,14 @@ pub fn month_at(is_leap: bool, place: u16) -> (u8, u8)
     ensures sum { days_before_month (twelve_months_of is_leap) result.0 + result.1 ≡ place + 1 }
     ensures small { (result.0 ≤ 99) × (result.1 ≤ 99) }
 {
-    // With a February of 30 days, the months before the month of index i have (367 * i + 5) / 12 days.
+    // With a February of 30 days, the months before the month of index i have (367 * i + 5) / 12 days, and each day
+    // takes 12 of what 367 leaves.
     let leap_days = is_leap as u16;
     let place = if place < 59 + leap_days {
         place
     } else {
         place + 2 - leap_days
     };
-    let index = (12 * place + 6) / 367;
-    let before = (367 * index + 5) / 12;
-    (index as u8 + 1, (place - before) as u8 + 1)
+    let scaled = 12 * place as u32 + 6;
+    ((scaled / 367) as u8 + 1, (scaled % 367 / 12) as u8 + 1)
 }

@@ -1,5 +1,6 @@
 -- Julian years in closed form.
-use Rattle.std.proofs.Common.{◌≡◌, ◌==◌, zero, suc, refl, ap, ◌∙◌, arith, ℤ, pos, negsuc, neg_ℤ, ◌+ℤ◌, ◌-ℤ◌, ◌*ℤ◌, ◌≤ℤ◌, ◌<ℤ◌}
+use Rattle.std.proofs.Common.{◌≡◌, ◌==◌, ℕ, zero, suc, ◌*◌, ◌/◌, refl, ap, arith}
+use Rattle.std.proofs.Common.{ℤ, pos, negsuc, neg_ℤ, ◌+ℤ◌, ◌-ℤ◌, ◌*ℤ◌, ◌≤ℤ◌, ◌<ℤ◌}
 use Rattle.std.proofs.lemmas.Bool.Decides.{nat_tests}
 use Rattle.std.specs.Int.{int_div_euclid}
 use Rattle.day_numbers.specs.Dates.{IsBetween}
@@ -34,17 +35,17 @@ before_next (negsuc zero) h = refl
 before_next (negsuc (suc n)) h = omega (arith, signed_arith)
 
 -- the years before n fill at most the days before n, and one more year fills more
-quotient : (n b : ℤ) → b ≡ int_div_euclid (pos 4 *ℤ n +ℤ pos 7) (pos 1461)
+quotient : (n b : ℤ) (k : ℕ) → pos k ≡ pos 4 *ℤ n +ℤ pos 146_100_007 → b ≡ pos (k / 1461) -ℤ pos 100_000
     → ((pos 365 *ℤ b +ℤ int_div_euclid b (pos 4) -ℤ pos 1) ≤ℤ n)
     × (n <ℤ (pos 365 *ℤ (b +ℤ pos 1) +ℤ int_div_euclid (b +ℤ pos 1) (pos 4) -ℤ pos 1))
-quotient n b e = omega (arith, signed_arith, e)
+quotient n b k e f = omega (arith, signed_arith, e, f)
 
 -- so the year after them holds the day n
-pub julian_year_on : (n y x q : ℤ) → HasYear without_zero y → years_before y ≡ q → q ≡ int_div_euclid x (pos 1461)
-    → x ≡ pos 4 *ℤ n +ℤ pos 7 → (year_start julian_rules y ≤ℤ n)
-    × (n <ℤ (year_start julian_rules y +ℤ pos (year_length julian_rules y)))
-julian_year_on n y x q h e d k =
-    let q = quotient n (years_before y) (e ∙ d ∙ ap (λ z. int_div_euclid z (pos 1461)) k) in
+pub julian_year_on : (n y : ℤ) (k : ℕ) → HasYear without_zero y → pos k ≡ pos 4 *ℤ n +ℤ pos 146_100_007
+    → years_before y ≡ pos (k / 1461) -ℤ pos 100_000
+    → (year_start julian_rules y ≤ℤ n) × (n <ℤ (year_start julian_rules y +ℤ pos (year_length julian_rules y)))
+julian_year_on n y k h e f =
+    let q = quotient n (years_before y) k e f in
     let next : closed (next_year without_zero y)
     ≡ pos 365 *ℤ (years_before y +ℤ pos 1) +ℤ int_div_euclid (years_before y +ℤ pos 1) (pos 4)
     -ℤ pos 1 = ap (λ z. pos 365 *ℤ z +ℤ int_div_euclid z (pos 4) -ℤ pos 1) (before_next y h) in
@@ -56,6 +57,6 @@ before_near (pos n) h = omega (arith, signed_arith)
 before_near (negsuc n) h = omega (arith, signed_arith)
 
 -- the code's sum is the first day of the year
-pub julian_sum : (y b q z : ℤ) → HasYear without_zero y → b ≡ years_before y → q ≡ int_div_euclid b (pos 4)
-    → z ≡ pos 365 *ℤ b +ℤ q -ℤ pos 1 → z ≡ year_start julian_rules y
-julian_sum y b q z h e f g = g ∙ rw (f, e) refl ∙ julian_start y h
+pub julian_sum : (y z : ℤ) (k : ℕ) → HasYear without_zero y → pos k ≡ years_before y +ℤ pos 100_000
+    → z ≡ pos (1461 * k / 4) -ℤ pos 36_525_001 → z ≡ year_start julian_rules y
+julian_sum y z k h e f = omega (arith, signed_arith, e, f, julian_start y h)

@@ -59,8 +59,9 @@ fn first_of_year(year: i32) -> i64
     ensures value { result ≡ start julian_rules year }
     ensures near { IsBetween (neg_ℤ (pos 100_000_000)) (pos 100_000_000) result }
 {
-    let before = years_before(year);
-    365 * before + before.div_euclid(4) - 1
+    // Counted from 100000 years before year 1, as the years of a day, so that neither number is negative.
+    let years = (years_before(year) + 100_000) as u32;
+    (1461 * years / 4) as i64 - 36_525_001
 }
 
 impl RuledCalendar for Julian {
@@ -83,7 +84,8 @@ impl RuledCalendar for Julian {
     }
 
     fn year_on(&self, day: i64) -> i32 {
-        year_after((4 * day + 7).div_euclid(1461))
+        let years = (4 * day + 146_100_007) as u32 / 1461;
+        year_after(years as i64 - 100_000)
     }
 
     fn month_at(&self, year: Year, place: u16) -> (u8, u8) {

@@ -68,4 +68,5 @@ week_date_is n m y p d e s short r =
     let days = from_monday n m e in
     let number : week_day_number y (p / 7 + 1) d ≡ n = omega (arith, signed_arith, weeks, r, days) in
     let year = in_week_year n m y e (omega (arith, signed_arith, s)) (omega (arith, signed_arith, s, short)) in
-    ((omega arith, omega (arith, signed_arith, days, r), omega (arith, signed_arith, days, r), rw number year.1), number)
+    let low : 1 ≤ d = omega (arith, signed_arith, days, r) in
+    ((omega arith, low, omega (arith, signed_arith, days, r), rw number year.1), number)

@@ -9,5 +9,7 @@ returns c =
     let n64 : FitsSigned w64 c.to_unix_epoch_day.result = omega (arith, signed_arith) in
     let value = rw c.to_plain.ensures at c.to_unix_epoch_day.ensures.value in
     let day = jiff_day c.args.date in
-    let range = jiff_range c.args.date in
-    record { value = omega (arith, signed_arith, value, day); in_range = omega (arith, signed_arith, value, day, range) }
+    record {
+      value = omega (arith, signed_arith, value, day);
+      in_range = omega (arith, signed_arith, value, day, jiff_range c.args.date);
+    }

@@ -4,31 +4,17 @@ use Rattle.day_numbers.proofs.SignedArithmeticLemmas.{signed_arith}
 use Rattle.solar_calendars.proofs.GregorianLemmas.{jiff_in_year, jiff_place, year_short}
 use Rattle.solar_calendars.proofs.gregorian.year_and_days_before.Goals as goal
 
-pub returns-clause-value : goal.returns-clause-value
-returns-clause-value c =
-    let y : FitsSigned w16 c.year.result = search rules in
-    let y32 : FitsSigned w32 c.year.result = omega (arith, signed_arith) in
-    let n : FitsSigned w64 c.args.day = c.ranges.day in
-    let number = simp to_z-of_z at c.jiff_date_on-date.ensures in
-    let place = jiff_place c.jiff_date_on-date.result in
-    simp to_z-of_z (rw c.year.ensures (omega (arith, ints, place, number)))
-
-pub returns-clause-within : goal.returns-clause-within
-returns-clause-within c =
+pub returns : goal.returns
+returns c =
     let y : FitsSigned w16 c.year.result = search rules in
     let y32 : FitsSigned w32 c.year.result = omega (arith, signed_arith) in
     let n : FitsSigned w64 c.args.day = c.ranges.day in
     let number = simp to_z-of_z at c.jiff_date_on-date.ensures in
     let place = jiff_place c.jiff_date_on-date.result in
     let inside = jiff_in_year c.jiff_date_on-date.result c.args.day number in
-    simp to_z-of_z (rw c.year.ensures (omega (arith, ints, place, number, inside)))
-
-pub returns-clause-few : goal.returns-clause-few
-returns-clause-few c =
-    let y : FitsSigned w16 c.year.result = search rules in
-    let y32 : FitsSigned w32 c.year.result = omega (arith, signed_arith) in
-    let n : FitsSigned w64 c.args.day = c.ranges.day in
-    let number = simp to_z-of_z at c.jiff_date_on-date.ensures in
-    let place = jiff_place c.jiff_date_on-date.result in
-    let inside = jiff_in_year c.jiff_date_on-date.result c.args.day number in
-    omega (arith, ints, place, number, inside, year_short c.jiff_date_on-date.result.year)
+    record {
+      near = search rules;
+      value = simp to_z-of_z (rw c.year.ensures (omega (arith, ints, place, number)));
+      within = simp to_z-of_z (rw c.year.ensures (omega (arith, ints, place, number, inside)));
+      few = omega (arith, ints, place, number, inside, year_short c.jiff_date_on-date.result.year);
+    }

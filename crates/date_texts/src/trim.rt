@@ -8,10 +8,7 @@ pub fn trimmed(text: &[u8]) -> &[u8]
     ensures { result.now ≡ trimmed_text text.now }
 {
     let mut inner = text;
-    while let [b' ' | b'\t', rest @ ..] = inner {
-        inner = rest;
-    }
-    while let [rest @ .., b' ' | b'\t'] = inner {
+    while let [b' ' | b'\t', rest @ ..] | [rest @ .., b' ' | b'\t'] = inner {
         inner = rest;
     }
     inner

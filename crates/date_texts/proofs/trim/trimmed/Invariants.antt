@@ -1,6 +1,5 @@
 use Rattle.std.proofs.Common.{◌≡◌, length}
 use Rattle.date_texts.specs.Trimmed.{trimmed}
-use Rattle.date_texts.proofs.TextWords.{trim_end}
 use Rattle.date_texts.proofs.trim.trimmed.Given as goal
 
 abbrev pub invariant-loop-inner : goal.invariant-loop-inner
@@ -8,9 +7,3 @@ invariant-loop-inner l = trimmed l.inner ≡ trimmed l.text
 
 abbrev pub decreases-loop-inner : goal.decreases-loop-inner
 decreases-loop-inner l = length l.inner
-
-abbrev pub invariant-loop-inner-2 : goal.invariant-loop-inner-2
-invariant-loop-inner-2 l = trim_end l.inner ≡ trimmed l.text
-
-abbrev pub decreases-loop-inner-2 : goal.decreases-loop-inner-2
-decreases-loop-inner-2 l = length l.inner

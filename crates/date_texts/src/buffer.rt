@@ -97,18 +97,6 @@ pub fn put_number(buffer: &mut [u8], at: usize, number: u16) -> usize
     put_two_digits(buffer, after, (number % 100) as u8)
 }
 
-/// Writes a number as four digits.
-#[inline(always)]
-fn put_four_digits(buffer: &mut [u8], at: usize, number: u32) -> usize
-    requires room { at + 4 ≤ length buffer.old }
-    requires small { number < 10_000 }
-    ensures value { IsPut buffer.old buffer.new at result (padded 4 number) }
-    ensures next { result ≡ at + 4 }
-{
-    let after = put_two_digits(buffer, at, (number / 100) as u8);
-    put_two_digits(buffer, after, (number % 100) as u8)
-}
-
 /// Writes the digits of a year.
 #[inline(always)]
 fn put_year_digits(buffer: &mut [u8], at: usize, number: u32) -> usize
@@ -120,9 +108,11 @@ fn put_year_digits(buffer: &mut [u8], at: usize, number: u32) -> usize
     let (after, last) = if number < 10_000 {
         (at, number)
     } else {
-        (put_byte(buffer, at, b'0' + (number / 10_000) as u8), number % 10_000)
+        let after = put_byte(buffer, at, b'0' + (number / 10_000) as u8);
+        (after, number % 10_000)
     };
-    put_four_digits(buffer, after, last)
+    let after = put_two_digits(buffer, after, (last / 100) as u8);
+    put_two_digits(buffer, after, (last % 100) as u8)
 }
 
 /// Writes a year to the front.

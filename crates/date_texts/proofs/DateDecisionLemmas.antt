@@ -73,7 +73,9 @@ has_place year month SecondSixth = is_true (has_two_sixths year month)
 
 is_roman_date : (year : ℤ) (month : ℕ) (name : RomanName) → Is (IsRomanDate year month name)
 is_roman_date year month name =
-    in_words (all_four (is_year without_zero year) (is_at_most 1 month) (is_at_most month 12) (has_place year month name))
+    let parts =
+    all_four (is_year without_zero year) (is_at_most 1 month) (is_at_most month 12) (has_place year month name) in
+    in_words parts
     (λ h. (placed year month name h.0 h.1 h.2).1 h.3)
     (λ r. let h = month_of year month name r in (h.0, h.1, h.2, (placed year month name h.0 h.1 h.2).0 r))
 

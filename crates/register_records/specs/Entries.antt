@@ -19,7 +19,7 @@ pub record Format : Type 0 where
   pub delimiter : ℕ
   pub form : Form
 
--- the records that csv defines for a text, by its defaults but for this delimiter
+-- the records that csv defines for a text, by its defaults with this delimiter
 abbrev pub text_records : ℕ → List ℕ → List Fields
 text_records delimiter text = records (record default_config { delimiter = delimiter }) (strip_bom text)
 

@@ -13,7 +13,7 @@ use Rattle.register_records.specs.declared.table_columns.EntryColumn.TheVariants
 use Rattle.register_records.specs.declared.table_columns.TailColumn.{TailColumn}
 use Rattle.register_records.specs.declared.table_columns.TailColumn.TheVariants.{Cells, DayNumber, Refusal, Weekday}
 
--- as csv writes by its defaults, but for the delimiter
+-- as csv writes by its defaults, with this delimiter
 abbrev pub writing : ℕ → WriterBuilder
 writing delimiter = with_delimiter default_writer delimiter
 

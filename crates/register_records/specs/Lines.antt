@@ -3,7 +3,7 @@ use Rattle.std.specs.Prelude.{◌==◌, ℕ, List, drop}
 use Rattle.std.specs.List.{slice_split}
 use Rattle.csv.specs.Writing.{default_writer, row_text, with_delimiter}
 
--- the line of these fields, by csv's defaults but for the delimiter: a field is quoted where it must be, and the line
+-- the line of these fields, by csv's defaults with this delimiter: a field is quoted where it must be, and the line
 -- ends with a line feed
 abbrev pub line_text : ℕ → List (List ℕ) → List ℕ
 line_text delimiter fields = row_text (with_delimiter default_writer delimiter) fields

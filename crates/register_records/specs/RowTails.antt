@@ -1,4 +1,4 @@
--- What a clause sees of a `RowTail`. No public contract cites this file, but for the cells of a row.
+-- What a clause sees of a `RowTail`. No public contract cites this file, except for the cells of a row.
 use Rattle.std.specs.Prelude.{Bool, true, false, ℕ, List, [], drop, length, take, Result, Ok, Err}
 use Rattle.std.specs.List.{position_or_len}
 use Rattle.day_numbers.specs.declared.day.Day.{Day}

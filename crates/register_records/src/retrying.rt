@@ -5,7 +5,7 @@ ghost use Rattle.std.specs.Prelude.{◌≡◌};
 use std::io;
 use std::io::{ErrorKind, Read};
 
-/// Reads as the reader in it does, but for a read that was interrupted, as by a signal: that one is tried again.
+/// Reads as the reader in it does; a read that was interrupted, as by a signal, is tried again.
 #[derive(Drop)]
 pub(crate) struct Retrying<R> {
     inner: R,

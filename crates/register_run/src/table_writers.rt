@@ -125,7 +125,9 @@ impl<W: Output + Drop> TableWriter<W> {
         ensures rows { (rows : List Row) → Holds self.old rows
             → Holds self.new rows ⊎ Holds self.new (rows ++ row.now ∷ []) }
     {
-        self.write_heading();
+        if self.writer.is_none() {
+            self.write_heading();
+        }
         let Course::Open = self.course else {
             return;
         };

@@ -6,7 +6,7 @@ use Rattle.csv.specs.declared.writer.WriterBuilder.{WriterBuilder}
 use Rattle.register_records.specs.Lines.{line_text}
 use Rattle.register_sheets.specs.declared.lines.Lines.{Lines}
 
--- as csv writes by its defaults, but for the delimiter, and with records of any length
+-- as csv writes by its defaults, with this delimiter and with records of any length
 abbrev pub writing : ℕ → WriterBuilder
 writing delimiter = with_flexible (with_delimiter default_writer delimiter) true
 

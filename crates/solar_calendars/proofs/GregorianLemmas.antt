@@ -130,7 +130,7 @@ jiff_valid y m d near = (
       (near, omega (arith, signed_arith, low), omega (arith, signed_arith, h.1, (valid_month y m d low).0 h.2)),
 )
 
--- and jiff's day numbers are theirs, but for where they begin
+-- and jiff's day numbers are theirs, counted from another day
 pub jiff_number : (y : ℤ) (m d : ℕ) → negsuc 9999 ≤ℤ y → 1 ≤ m → m ≤ 12 → 1 ≤ d
     → days_from_civil y m d +ℤ pos 719_163 ≡ day_number_of gregorian_rules y m d
 jiff_number y m d low a b first =

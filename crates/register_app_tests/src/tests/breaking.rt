@@ -378,7 +378,7 @@ fn is_of_memory(line: &[u8]) -> bool {
         && (line.ends_with(b": cause 1\n") || line.ends_with(b": cause 2\n"))
 }
 
-/// Whether each line on standard error is one that is wanted, but for one of a source that is refused memory.
+/// Whether each line on standard error is wanted, or is that of one source that is refused memory.
 fn are_lines_of_memory(errors: &[u8], wanted: &[u8]) -> bool {
     let mut of_memory = 0u32;
     for line in errors.split_inclusive(|byte| *byte == b'\n') {

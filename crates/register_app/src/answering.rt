@@ -16,12 +16,12 @@ ghost use Rattle.register_arguments.specs.Requests.{AreWrong, IsFaultOf, MeanJus
 use crate::refusals::Refusal;
 use crate::reporting::report_ends;
 use arrayvec::ArrayString;
-use register_files::{FileStore, Opened, open_files};
-use register_records::{Output, send};
-use register_run::{MAX_SOURCES, Ran, Report, Verdict, run};
 use register_arguments::{
     HELP, Job, MAX_FILES, MEMORY_FAULT, PRINT_FAULT, Request, RequestFault, VERSION, read_request,
 };
+use register_files::{FileStore, Opened, open_files};
+use register_records::{Output, send};
+use register_run::{MAX_SOURCES, Ran, Report, Verdict, run};
 use std::alloc::Global;
 use std::io::Read;
 use std::sync::Wait;
@@ -153,8 +153,8 @@ fn print_page<W: Output, E: Output>(
     }
 }
 
-/// Reports how the sources of a run have ended, and returns the status. There is nothing to report where all are whole and
-/// no summary is asked for.
+/// Reports how the sources of a run have ended, and returns the status. There is nothing to report where all are whole
+/// and no summary is asked for.
 fn report_run<W, E: Output>(errors: &mut E, summary: bool, report: &Report<W>) -> u8
     requires verdict { (report.now.verdict ≡ Verdict.Complete)
         ↔ All (λ e. is_whole_end e ≡ true) report.now.ends.items }
@@ -346,7 +346,8 @@ pub fn answer<
     store: &P,
     errors: &mut E,
 ) -> Outcome<W>
-    // The bytes of what is written to are known, so that no clause on them is empty; there are none yet, and none failed.
+    // The bytes of what is written to are known, so that no clause on them is empty; there are none yet, and nothing has
+    // failed.
     requires fresh { IsFresh W.Output output }
     requires fresh_errors { IsFresh E.Output errors.old }
 

@@ -9,8 +9,8 @@ ghost use Rattle.register_arguments.specs.CommandLine.{AreTaken, bare_command, c
 ghost use Rattle.register_arguments.specs.CommandLine.{option_rule, values_in, values_of, word_rule};
 ghost use Rattle.register_arguments.specs.Faults.{fault_of_error};
 ghost use Rattle.register_arguments.specs.Requests.{AreFilesToConvert, AreTargetsOf, Ask, FailFirst, IsFileFault};
-ghost use Rattle.register_arguments.specs.Requests.{IsFirstFileTwice, IsNamedTwice, IsTargetFault, MeanJust, meaning_of};
-ghost use Rattle.register_arguments.specs.Requests.{task_of, value_checks, values_by, wrong};
+ghost use Rattle.register_arguments.specs.Requests.{IsFirstFileTwice, IsNamedTwice, IsTargetFault, MeanJust};
+ghost use Rattle.register_arguments.specs.Requests.{meaning_of, task_of, value_checks, values_by, wrong};
 
 use crate::option_values::{Delimiter, Ring, Stripes, chosen, read_targets};
 use crate::request_faults::RequestFault;

@@ -35,7 +35,10 @@ const REFUSED: [Refused; 26] = [
     Refused { arguments: &["a", "a"], reported: "register: file named twice: a\n" },
     Refused { arguments: &["a", "b", "a", "b"], reported: "register: file named twice: a\n" },
     Refused { arguments: &["a", "b", "b", "a"], reported: "register: file named twice: b\n" },
-    Refused { arguments: &["a", "--summary", "--", "--summary", "a", "--summary"], reported: "register: file named twice: a\n" },
+    Refused {
+        arguments: &["a", "--summary", "--", "--summary", "a", "--summary"],
+        reported: "register: file named twice: a\n",
+    },
     // The first fault in the order of the checks, whatever the order of the arguments.
     Refused { arguments: &["a", "a", "--ring", "0", "--to", "x"], reported: "register: unknown target: x\n" },
     Refused { arguments: &["--ring", "0", "--to", "iso,iso"], reported: "register: target named twice: iso\n" },

@@ -4,9 +4,7 @@ use Rattle.std.specs.Prelude.{IfErr, IfSome, IsErrAnd, IsSomeAnd}
 use Rattle.clap.proofs.TakesLemmas.{passed_up}
 use Rattle.register_arguments.specs.CommandLine.{Values}
 use Rattle.register_arguments.specs.Faults.{Fault, fault_of_error}
-use Rattle.register_arguments.specs.Requests.{values_by}
-use Rattle.register_arguments.specs.Requests.{FailFirst}
-use Rattle.register_arguments.specs.Requests.{value_checks}
+use Rattle.register_arguments.specs.Requests.{FailFirst, value_checks, values_by}
 use Rattle.register_arguments.specs.declared.request_faults.RequestFault.{RequestFault}
 use Rattle.register_arguments.specs.declared.requests.Job.{Job}
 use Rattle.register_arguments.proofs.OptionLemmas.{found_first, if_some}

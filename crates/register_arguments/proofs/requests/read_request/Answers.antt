@@ -5,8 +5,8 @@ use Rattle.std.specs.String.{string_bytes}
 use Rattle.clap.proofs.TakesLemmas.{passed_up}
 use Rattle.register_arguments.specs.CommandLine.{Values}
 use Rattle.register_arguments.specs.Faults.{fault_of_error, usage}
-use Rattle.register_arguments.specs.Requests.{task_of, values_by}
-use Rattle.register_arguments.specs.Requests.{Ask, FailFirst, MeanJust, help, table, value_checks, version, wrong}
+use Rattle.register_arguments.specs.Requests.{Ask, FailFirst, MeanJust, help, table, task_of, value_checks, values_by}
+use Rattle.register_arguments.specs.Requests.{version, wrong}
 use Rattle.register_arguments.specs.declared.request_faults.RequestFault.{RequestFault}
 use Rattle.register_arguments.specs.declared.requests.Request.{Request}
 use Rattle.register_arguments.proofs.ArgumentLemmas.{asks_help, asks_version, mean_just, misuses, found_just}

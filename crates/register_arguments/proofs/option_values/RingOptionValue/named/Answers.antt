@@ -5,5 +5,5 @@ use Rattle.register_arguments.proofs.option_values.RingOptionValue.named.Goals a
 
 pub invariant_of-result : goal.invariant_of-result
 invariant_of-result c = record {
-  fits = named_within largest_ring c.args.word.now c.in-Some.size ((c.number_named.ensures c.in-Some.size).0 c.in-Some.is);
+  fits = named_within largest_ring c.args.word.now _ ((c.number_named.ensures _).0 c.in-Some.is);
 }

@@ -5,9 +5,9 @@
 #![tactic(auto)]
 
 use register_app::answer;
+use register_arguments::MEMORY_FAULT;
 use register_files::{Destination, Disk, LoggedWriter, Source, lines_to};
 use register_records::PlainOutput;
-use register_arguments::MEMORY_FAULT;
 use std::fs::OpenOptions;
 use std::process::ExitCode;
 use std::rt::{Env, Files};

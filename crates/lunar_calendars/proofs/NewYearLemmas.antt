@@ -1,6 +1,6 @@
 -- Hebrew new years in days from the Monday of the epoch.
 use Rattle.std.proofs.Common.{◌≡◌, ℕ, zero, suc, ◌+◌, ◌-◌, ◌*◌, ◌/◌, ◌%◌, ◌≤◌, ◌<◌, Bool, true, false, not, ◌&&◌, ◌||◌}
-use Rattle.std.proofs.Common.{◌==◌, nat_le, nat_lt, cond, if◌then◌else◌, refl, ◌∙◌, arith, ℤ, pos, ◌+ℤ◌}
+use Rattle.std.proofs.Common.{◌==◌, nat_le, nat_lt, cond, if◌then◌else◌, refl, arith, ℤ, pos, ◌+ℤ◌}
 use Rattle.std.proofs.lemmas.Bool.Decides.{nat_tests}
 use Rattle.day_numbers.specs.Days.{weekday_number}
 use Rattle.day_numbers.proofs.SignedArithmeticLemmas.{signed_arith}
@@ -48,19 +48,7 @@ postponed_after leap after_leap d t =
     (chosen (not leap && falls_on_place 2 d && nat_le 9_924 t) _ _ _ _ (later d 2)
     (chosen (after_leap && falls_on_place 1 d && nat_le 16_789 t) _ _ _ _ (later d 1) (next_allowed_after noon)))
 
--- the same by the days that a year is put off by and the time of the molad from which it is
-pub put_off : (leap after_leap : Bool) (d t days from : ℕ)
-    → days ≡ (if is_closed d || falls_on_place 1 d then 1 else 2)
-    → from ≡ (if not leap && falls_on_place 2 d then 9_924
-    else (if after_leap && falls_on_place 1 d then 16_789 else (if is_closed d then 0 else 19_440)))
-    → (if nat_le from t then d + days else d) ≡ opening leap after_leap d t
-unfolding allowed
-put_off true true d t days from p q = grind (arith, nat_tests)
-put_off true false d t days from p q = grind (arith, nat_tests)
-put_off false true d t days from p q = grind (arith, nat_tests)
-put_off false false d t days from p q = grind (arith, nat_tests)
-
-pub weekday_cases : (P : ℕ → Type 0) → P 0 → P 1 → P 2 → P 3 → P 4 → P 5 → P 6 → (r : ℕ) → r < 7 → P r
+weekday_cases : (P : ℕ → Type 0) → P 0 → P 1 → P 2 → P 3 → P 4 → P 5 → P 6 → (r : ℕ) → r < 7 → P r
 weekday_cases P p q r s t u v zero h = p
 weekday_cases P p q r s t u v (suc zero) h = q
 weekday_cases P p q r s t u v (suc (suc zero)) h = r
@@ -69,23 +57,6 @@ weekday_cases P p q r s t u v (suc (suc (suc (suc zero)))) h = t
 weekday_cases P p q r s t u v (suc (suc (suc (suc (suc zero))))) h = u
 weekday_cases P p q r s t u v (suc (suc (suc (suc (suc (suc zero)))))) h = v
 weekday_cases P p q r s t u v (suc (suc (suc (suc (suc (suc (suc k))))))) h = absurd (omega arith)
-
--- the day that a year opens on, whose molad is on day d and this weekday: put off by so many days from a time on
-abbrev days_off : ℕ → ℕ
-days_off w = if ((w == 0) || (w == 3) || (w == 5)) || (w == 1) then 1 else 2
-
-abbrev from_time : Bool → Bool → ℕ → ℕ
-from_time leap after_leap w =
-    if not leap && (w == 2) then 9_924
-    else (if after_leap && (w == 1) then 16_789 else (if (w == 0) || (w == 3) || (w == 5) then 0 else 19_440))
-
-abbrev pub opens_on : Bool → Bool → ℕ → ℕ → ℕ → ℕ
-opens_on leap after_leap w d t = if nat_le (from_time leap after_leap w) t then d + days_off w else d
-
-pub opening_is : (leap after_leap : Bool) (d t : ℕ)
-    → opens_on leap after_leap ((d + 1) % 7) d t ≡ opening leap after_leap d t
-opening_is leap after_leap d t =
-    put_off leap after_leap d t (days_off ((d + 1) % 7)) (from_time leap after_leap ((d + 1) % 7)) refl refl
 
 -- the same by the days after the Monday of its week, from the parts between noon of the Saturday before and the molad
 abbrev pub days_from_monday : Bool → Bool → ℕ → ℕ
@@ -96,17 +67,17 @@ days_from_monday leap after_leap time =
 IsWeekBy : Bool → Bool → (d q t w : ℕ) → Type 0
 IsWeekBy leap after_leap d q t w =
     d + 1 ≡ 7 * q + w → 7 * (q + (25_920 * w + t + 6_480) / 181_440)
-    + days_from_monday leap after_leap ((25_920 * w + t + 6_480) % 181_440) ≡ opens_on leap after_leap w d t
+    + days_from_monday leap after_leap ((25_920 * w + t + 6_480) % 181_440) ≡ opening leap after_leap d t
 
 week_by : (leap after_leap : Bool) (d q t : ℕ) → t < 25_920 → (w : ℕ) → w < 7 → IsWeekBy leap after_leap d q t w
-unfolding IsWeekBy
+unfolding IsWeekBy allowed
 week_by leap after_leap d q t h =
     weekday_cases (IsWeekBy leap after_leap d q t)
     (λ e. grind (arith, nat_tests)) (λ e. grind (arith, nat_tests)) (λ e. grind (arith, nat_tests))
     (λ e. grind (arith, nat_tests)) (λ e. grind (arith, nat_tests)) (λ e. grind (arith, nat_tests))
     (λ e. grind (arith, nat_tests))
 
-opens_by_week : (leap after_leap : Bool) (parts : ℕ)
+pub opens_by_week : (leap after_leap : Bool) (parts : ℕ)
     → 7 * ((32_400 + parts) / 181_440) + days_from_monday leap after_leap ((32_400 + parts) % 181_440)
     ≡ opening leap after_leap (parts / 25_920) (parts % 25_920)
 unfolding IsWeekBy
@@ -116,7 +87,7 @@ opens_by_week leap after_leap parts =
     let week : (32_400 + parts) / 181_440 ≡ (d + 1) / 7 + from / 181_440 = omega arith in
     let time : (32_400 + parts) % 181_440 ≡ from % 181_440 = omega arith in
     rw (week, time) (week_by leap after_leap d ((d + 1) / 7) (parts % 25_920) (omega arith) ((d + 1) % 7) (omega arith)
-    (omega arith)) ∙ opening_is leap after_leap d (parts % 25_920)
+    (omega arith))
 
 -- the parts from that Monday to the molad of the year after n years, and the days to that new year
 abbrev pub parts_after : ℕ → ℕ

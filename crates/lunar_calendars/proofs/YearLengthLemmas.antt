@@ -9,7 +9,7 @@ use Rattle.day_numbers.proofs.RulesLemmas.{years_zero, years_suc}
 use Rattle.day_numbers.proofs.SignedArithmeticLemmas.{signed_arith}
 use Rattle.lunar_calendars.specs.Hebrew.{IsYearLength, is_leap_year, epoch, new_year_of, days_in_year, months_by_length}
 use Rattle.lunar_calendars.specs.Hebrew.{months_of_year, year_lengths, hebrew_rules}
-use Rattle.lunar_calendars.proofs.NewYearLemmas.{weekday_cases, opens_on, opening, opening_is, parts_after}
+use Rattle.lunar_calendars.proofs.NewYearLemmas.{days_from_monday, opens_by_week, parts_after}
 use Rattle.lunar_calendars.proofs.NewYearLemmas.{new_year_after, new_year_is, first_new_year, new_year_bounds}
 
 -- n lies from low to high above m
@@ -17,49 +17,18 @@ pub record IsFrom (low high m n : ℕ) : Type 0 where
   pub least : m + low ≤ n
   pub most : n ≤ m + high
 
--- from a new year to the next, where the molad of the first is t parts into day d, on the weekday w, and the time of
--- the next, u parts, is or is not past midnight once more
-IsStep : (leap a c : Bool) (past d t u w : ℕ) → Type 0
-IsStep leap a c past d t u w =
-    IsFrom (if leap then 383 else 353) (if leap then 385 else 355) (opens_on leap a w d t)
-    (opens_on c leap ((w + (if leap then 5 else 4) + past) % 7) (d + (if leap then 383 else 354) + past) u)
-
-year_step : (leap a c : Bool) (past d t u : ℕ) → t < 25_920 → u < 25_920 → past ≤ 1
-    → 25_920 * past + u ≡ t + (if leap then 23_269 else 9_516) → (w : ℕ) → w < 7 → IsStep leap a c past d t u w
-unfolding IsStep
-year_step false a c past d t u h k m e =
-    weekday_cases (IsStep false a c past d t u)
-    (grind (arith, nat_tests)) (grind (arith, nat_tests)) (grind (arith, nat_tests)) (grind (arith, nat_tests))
-    (grind (arith, nat_tests)) (grind (arith, nat_tests)) (grind (arith, nat_tests))
-year_step true a c past d t u h k m e =
-    weekday_cases (IsStep true a c past d t u)
-    (grind (arith, nat_tests)) (grind (arith, nat_tests)) (grind (arith, nat_tests)) (grind (arith, nat_tests))
-    (grind (arith, nat_tests)) (grind (arith, nat_tests)) (grind (arith, nat_tests))
-
--- the months of a year have so many days and parts, of whole weeks and a few days
-year_parts : (leap : Bool)
-    → (765_433 * (if leap then 13 else 12) ≡ 25_920 * (if leap then 383 else 354) + (if leap then 23_269 else 9_516))
-    × ((if leap then 383 else 354) ≡ 7 * (if leap then 54 else 50) + (if leap then 5 else 4))
-    × ((if leap then 23_269 else 9_516) ≤ 25_920)
-year_parts true = (refl, refl, omega arith)
-year_parts false = (refl, refl, omega arith)
+-- from a new year to the next, by the parts from noon of a Saturday to the molad of each
+year_by_weeks : (leap after_leap next_leap : Bool) (x y : ℕ) → y ≡ x + 765_433 * (if leap then 13 else 12)
+    → IsFrom (if leap then 383 else 353) (if leap then 385 else 355)
+    (7 * (x / 181_440) + days_from_monday leap after_leap (x % 181_440))
+    (7 * (y / 181_440) + days_from_monday next_leap leap (y % 181_440))
+year_by_weeks false after_leap next_leap x y e =
+    record { least = grind (arith, nat_tests); most = grind (arith, nat_tests) }
+year_by_weeks true after_leap next_leap x y e =
+    record { least = grind (arith, nat_tests); most = grind (arith, nat_tests) }
 
 from_same : (low high m n i j : ℕ) → m ≡ i → n ≡ j → IsFrom low high m n → IsFrom low high i j
 from_same low high m n i j p q s = rw (← p, ← q) s
-
-year_from : (leap a c : Bool) (d t d' t' : ℕ) → t < 25_920
-    → d' ≡ d + (if leap then 383 else 354) + (t + (if leap then 23_269 else 9_516)) / 25_920
-    → t' ≡ (t + (if leap then 23_269 else 9_516)) % 25_920
-    → IsFrom (if leap then 383 else 353) (if leap then 385 else 355) (opening leap a d t) (opening c leap d' t')
-unfolding IsStep
-year_from leap a c d t d' t' h e f =
-    let year = year_parts leap in
-    let past = (t + (if leap then 23_269 else 9_516)) / 25_920 in
-    let step =
-    year_step leap a c past d t t' h (omega (arith, f)) (omega (arith, year)) (omega (arith, f))
-    ((d + 1) % 7) (omega arith) in
-    let weekday : ((d + 1) % 7 + (if leap then 5 else 4) + past) % 7 ≡ (d' + 1) % 7 = omega (arith, e, year) in
-    from_same _ _ _ _ _ _ (opening_is leap a d t) (opening_is c leap d' t') (rw (weekday, ← e) at step)
 
 -- the parts from a molad to the next year's
 parts_step : (n : ℕ) (leap : Bool) → is_leap_year (suc n) ≡ leap
@@ -70,11 +39,12 @@ step_by : (n : ℕ) (leap : Bool) → is_leap_year (suc n) ≡ leap
     → IsFrom (if leap then 383 else 353) (if leap then 385 else 355) (new_year_after n) (new_year_after (suc n))
 unfolding new_year_after
 step_by n leap e =
-    let more = parts_step n leap e in
-    let year = year_parts leap in
-    rw e (year_from leap (is_leap_year n) (is_leap_year (suc (suc n))) (parts_after n / 25_920) (parts_after n % 25_920)
-    (parts_after (suc n) / 25_920) (parts_after (suc n) % 25_920) (omega arith) (omega (arith, more, year))
-    (omega (arith, more, year)))
+    let next_leap = is_leap_year (suc (suc n)) in
+    let days =
+    year_by_weeks leap (is_leap_year n) next_leap (32_400 + parts_after n) (32_400 + parts_after (suc n))
+    (omega (arith, parts_step n leap e)) in
+    rw e (from_same _ _ _ _ _ _ (opens_by_week leap (is_leap_year n) (parts_after n))
+    (opens_by_week next_leap leap (parts_after (suc n))) days)
 
 year_grows : (n : ℕ) → IsFrom (if is_leap_year (suc n) then 383 else 353) (if is_leap_year (suc n) then 385 else 355)
     (new_year_after n) (new_year_after (suc n))

@@ -1,4 +1,4 @@
--- Texts that hold no byte that calls for quotes.
+-- Texts that hold no byte that calls for quotes, and plain texts, which are ASCII besides.
 use Rattle.std.proofs.Common.{◌≡◌, ◌∙◌, ◌+◌, ◌*◌, ◌/◌, ◌-◌, ◌<◌, ◌≤◌, ◌++◌, ℕ, zero, suc, List, [], ◌∷◌, Option}
 use Rattle.std.proofs.Common.{None, Some, true, false, refl, sym, ap, subst, arith, length, take, drop, get_or}
 use Rattle.std.specs.Prelude.{⊤, Bool, Err, IfSome, IsAscii, Ok, Result, if◌then◌else◌}

@@ -1,6 +1,6 @@
 -- Which file serves which public clause:
---   RecordsLeftLemmas, FieldLemmas, HeaderLemmas, SealLemmas, EntryStepLemmas, StepLemmas: `gives`, `number` and `all`
---     of `ReadsNext`, for `EntryReader::read_next`. GivenLemmas: what it has given.
+--   RecordsLeftLemmas, FieldLemmas, BareLemmas, HeaderLemmas, SealLemmas, EntryStepLemmas, StepLemmas: `gives`,
+--     `number` and `all` of `ReadsNext`, for `EntryReader::read_next`. GivenLemmas: what it has given.
 --   OutcomeLemmas: that a row is the row of its entry, for `convert`.
 --   RowTailLemmas, LineLemmas, BareLemmas: that a line is the fields of its row, for `put`, `add` and `open` of
 --   `RowWriter`.

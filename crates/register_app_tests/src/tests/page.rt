@@ -107,7 +107,7 @@ fn has_line(
     alloc: Global,
     list: &str,
     number: u8,
-    sentence: impl Display,
+    sentence: &impl Display,
 ) -> Result<bool, AllocError> {
     let line = format!(in alloc; "\n    {number}  {sentence}")?;
     Ok(list.contains(line.as_str()))
@@ -118,14 +118,14 @@ fn the_page_explains_refusals_and_causes_as_the_library_does(rt: HostRuntime) ->
     let refusals = list_between("why it was not:\n", "\nOptions:\n").unwrap_or("");
     for refusal in REFUSALS {
         assert!(rt;
-            has_line(rt.alloc(), refusals, refusal.number(), refusal)?,
+            has_line(rt.alloc(), refusals, refusal.number(), &refusal)?,
             "{refusal}"
         );
     }
     let causes = list_between("Causes:\n", "\nExample:").unwrap_or("");
     for cause in CAUSES {
         assert!(rt;
-            has_line(rt.alloc(), causes, cause.number(), cause)?,
+            has_line(rt.alloc(), causes, cause.number(), &cause)?,
             "{cause}"
         );
     }

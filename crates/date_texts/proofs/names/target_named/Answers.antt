@@ -16,6 +16,7 @@ returns-in-Some c =
 pub returns : goal.returns
 returns c =
     let found = find_from_yields_List (has_name (str_to_ascii_lowercase c.trimmed-name.result.now)) _ _ _
-    c.find.ensures.ran (YieldsList-from_slice all_targets cc) (λ x b q k. search (rules, tests, compared)) in
+    c.find.ensures.ran (YieldsList-from_slice all_targets cc)
+    (λ x b q k. (search (rules, k), compared b x.now c.trimmed-name.result.now (search (rules, tests, k)))) in
     λ target. named_by_search c.copied.result c.trimmed-name.result.now c.args.text.now target
     (c.copied.ensures ∙ found) (c.trimmed-name.ensures ∙ ap trimmed c.as_bytes.ensures.value)

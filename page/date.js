@@ -4,12 +4,13 @@
 
 (() => {
   const { at, fill, made } = page;
-  const READ = register.TARGETS.slice(0, 12);
   const every = [...register.TARGETS.keys()];
   let asked = 0;
   let saying = 0;
 
-  for (const name of READ) at('date-calendar').append(made('option', WORDS.calendars[name], { value: name }));
+  for (const name of register.CALENDARS) {
+    at('date-calendar').append(made('option', WORDS.calendars[name], { value: name }));
+  }
   at('date-calendar').value = 'julian';
 
   // What is told aloud waits until the typing rests.

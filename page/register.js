@@ -4,10 +4,12 @@
 'use strict';
 
 function registerCalls(global) {
-  const TARGETS = ['gregorian', 'iso', 'julian', 'coptic', 'ethiopic', 'egyptian', 'armenian', 'islamic', 'hebrew',
-    'longcount', 'french', 'roman', 'haab', 'tzolkin'];
+  // In which a date can be written. The columns are these, and two more.
+  const CALENDARS = ['gregorian', 'iso', 'julian', 'coptic', 'ethiopic', 'egyptian', 'armenian', 'islamic', 'hebrew',
+    'longcount', 'french', 'roman'];
+  const TARGETS = [...CALENDARS, 'haab', 'tzolkin'];
   const PAGE = 65536;
-  // What the module's memory can have: places of 32 bits, but for the last page.
+  // What the module's memory can have: places of 32 bits, without the last page.
   const MOST = 2 ** 32 - PAGE;
 
   // Fields that are turned into bytes, or back, at once.
@@ -280,7 +282,7 @@ function registerCalls(global) {
     return PAGE + size + Math.min(lines, 1000001) * (28 + 12 * columns);
   }
 
-  global.register = { TARGETS, NoMemory, opened, guessed };
+  global.register = { CALENDARS, TARGETS, NoMemory, opened, guessed };
 }
 
 registerCalls(typeof self === 'undefined' ? globalThis : self);

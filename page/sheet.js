@@ -5,7 +5,6 @@
 
 (() => {
   const { at, fill, made, plain } = page;
-  const READ = register.TARGETS.slice(0, 12);
   const BESIDE = ['rd', 'weekday', ...register.TARGETS];
   const MOST_BYTES = 2 ** 28;
   let file = null;
@@ -50,7 +49,7 @@
     at('sheet-id').replaceChildren(first(), ...columns(), option(WORDS.rowNumber, '-1'));
     at('sheet-date').replaceChildren(first(), ...columns());
     at('sheet-calendar').replaceChildren(first(), group(WORDS.ofColumn, columns()),
-      group(WORDS.ofAll, READ.map((name) => option(WORDS.calendars[name], name))));
+      group(WORDS.ofAll, register.CALENDARS.map((name) => option(WORDS.calendars[name], name))));
   }
 
   // Reads the sheet anew, and shows how it begins.
@@ -87,7 +86,7 @@
     const [id, calendar, date] = ['sheet-id', 'sheet-calendar', 'sheet-date'].map((name) => at(name).value);
     if (id === '' || calendar === '' || date === '') return null;
     const named = [...at('sheet-names').querySelectorAll('select')].filter((it) => it.value !== '');
-    const isForAll = READ.includes(calendar);
+    const isForAll = register.CALENDARS.includes(calendar);
     return {
       id: Number(id),
       calendar: isForAll ? -1 : Number(calendar),
@@ -103,7 +102,7 @@
     const calendar = at('sheet-calendar').value;
     at('sheet-names').replaceChildren();
     at('sheet-names-box').hidden = true;
-    if (calendar === '' || READ.includes(calendar)) return;
+    if (calendar === '' || register.CALENDARS.includes(calendar)) return;
     const said = await asked('unknown', { column: Number(calendar) });
     if (said === null || at('sheet-calendar').value !== calendar) return;
     if (said.fault) {
@@ -115,7 +114,7 @@
       const label = plain('label', WORDS.unknownName(name, count), { htmlFor: `sheet-name-${i}` });
       const select = made('select', undefined, { id: `sheet-name-${i}` });
       select.dataset.name = name;
-      select.append(option(WORDS.leave, ''), ...READ.map((it) => option(WORDS.calendars[it], it)));
+      select.append(option(WORDS.leave, ''), ...register.CALENDARS.map((it) => option(WORDS.calendars[it], it)));
       box.append(label, select);
     });
     if (said.answer.more) box.append(made('p', WORDS.tooManyNames(said.answer.more)));

@@ -1,19 +1,15 @@
 -- What the calls that read a record's texts say of its outcome.
-use Rattle.std.proofs.Common.{◌≡◌, ℕ, List, Option, Some, None, refl, sym, ◌∙◌}
-use Rattle.std.proofs.Common.{IfOk, IfSome}
-use Rattle.std.proofs.Math.Logic.{∥∥₁_map}
+use Rattle.std.proofs.Common.{◌≡◌, ℕ, List, IfOk, Option, Some, None, refl}
 use Rattle.std.specs.Prelude.{◌↔◌, ℤ, IsOk, Result, Ok, Err}
 use Rattle.day_numbers.specs.Days.{IsDayNumber}
 use Rattle.day_numbers.specs.declared.day.Day.{Day}
 use Rattle.date_texts.specs.Calendars.{calendar_name}
 use Rattle.date_texts.specs.Dates.{IsDateOfCalendar, day_number_of_date}
-use Rattle.register_records.specs.DatedTexts.{AreIn}
-use Rattle.register_records.specs.declared.dated_texts.DatedText.{DatedText}
 use Rattle.register_records.specs.Entries.{Texts}
 use Rattle.date_texts.specs.Names.{IsNamed}
-use Rattle.register_records.specs.Outcomes.{AreCells, IsOutcome, Says}
+use Rattle.register_records.specs.Outcomes.{IsOutcome, Says}
 use Rattle.register_records.specs.Outcomes as outcome
-use Rattle.register_records.specs.Seen.{outcome_seen}
+use Rattle.register_records.specs.Seen.{HaveOneDate, outcome_seen}
 use Rattle.date_texts.specs.declared.calendar.Calendar.{Calendar}
 use Rattle.date_texts.specs.declared.date.Date.{Date}
 use Rattle.date_texts.specs.declared.refusal.Refusal.{Refusal}
@@ -60,23 +56,22 @@ module _ (t : Texts) (c : Calendar) (d : Date) where
   day_outcome s (Err refusal.DateText) h = absurd (other_refusal refusal.DateText (λ e. cc) (λ e. cc) h)
 
 -- a body has the outcome of another with the same calendar and date
-pub outcome_of_same : (d : DatedText) (b c : Result Texts Refusal) (o : Result ℤ Refusal) → AreIn d b → AreIn d c
-    → IsOutcome b o → IsOutcome c o
-outcome_of_same d b (Err r) o here there is = absurd there
-outcome_of_same d b (Ok u) o here there (outcome.refused {r = r}) = absurd here
-outcome_of_same d b (Ok u) o here there (outcome.unknown_calendar {t = t} none) =
-    outcome.unknown_calendar (rw (here.0 ∙ sym there.0) at none)
-outcome_of_same d b (Ok u) o here there (outcome.no_date_text {t = t} c named none) =
-    outcome.no_date_text c (rw (here.0 ∙ sym there.0) at named) (rw (here.1 ∙ sym there.1) at none)
-outcome_of_same d b (Ok u) o here there (outcome.no_such_date {t = t} c date says none) =
-    outcome.no_such_date c date (rw (here.0 ∙ sym there.0, here.1 ∙ sym there.1) at says) none
-outcome_of_same d b (Ok u) o here there (outcome.out_of_range {t = t} c date says is out) =
-    outcome.out_of_range c date (rw (here.0 ∙ sym there.0, here.1 ∙ sym there.1) at says) is out
-outcome_of_same d b (Ok u) o here there (outcome.accepted {t = t} c date says is within) =
-    outcome.accepted c date (rw (here.0 ∙ sym there.0, here.1 ∙ sym there.1) at says) is within
-
-pub outcome_for_same : (before : Option DatedText) (b : Result Texts Refusal) (o : Result ℤ Refusal)
-    → IfSome before (λ d. AreIn d b) → ∥ IsOutcome b o ∥₁
-    → IfSome before (λ d. (c : Result Texts Refusal) → AreIn d c → ∥ IsOutcome c o ∥₁)
-outcome_for_same None b o here said = tt
-outcome_for_same (Some d) b o here said = λ c there. ∥∥₁_map said (λ is. outcome_of_same d b c o here there is)
+pub outcome_of_same : (b c : Result Texts Refusal) (o : Result ℤ Refusal) → HaveOneDate b c → IsOutcome b o
+    → IsOutcome c o
+outcome_of_same b (Err r) o same (outcome.refused {r = q}) = absurd same
+outcome_of_same b (Err r) o same (outcome.unknown_calendar {t = t} none) = absurd same
+outcome_of_same b (Err r) o same (outcome.no_date_text {t = t} c named none) = absurd same
+outcome_of_same b (Err r) o same (outcome.no_such_date {t = t} c date says none) = absurd same
+outcome_of_same b (Err r) o same (outcome.out_of_range {t = t} c date says is out) = absurd same
+outcome_of_same b (Err r) o same (outcome.accepted {t = t} c date says is within) = absurd same
+outcome_of_same b (Ok u) o same (outcome.refused {r = q}) = absurd same
+outcome_of_same b (Ok u) o same (outcome.unknown_calendar {t = t} none) =
+    outcome.unknown_calendar (rw same.0 at none)
+outcome_of_same b (Ok u) o same (outcome.no_date_text {t = t} c named none) =
+    outcome.no_date_text c (rw same.0 at named) (rw same.1 at none)
+outcome_of_same b (Ok u) o same (outcome.no_such_date {t = t} c date says none) =
+    outcome.no_such_date c date (rw (same.0, same.1) at says) none
+outcome_of_same b (Ok u) o same (outcome.out_of_range {t = t} c date says is out) =
+    outcome.out_of_range c date (rw (same.0, same.1) at says) is out
+outcome_of_same b (Ok u) o same (outcome.accepted {t = t} c date says is within) =
+    outcome.accepted c date (rw (same.0, same.1) at says) is within

@@ -2,7 +2,6 @@ pub mod Records
 pub mod Headers
 pub mod Seals
 pub mod Entries
-pub mod DatedTexts
 pub mod Outcomes
 pub mod Seen
 pub mod Lines

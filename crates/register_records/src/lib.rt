@@ -11,7 +11,6 @@
 mod causes;
 mod converting;
 mod csv_lines;
-mod dated_texts;
 mod ends;
 mod entries;
 pub mod faults;

@@ -1,17 +1,14 @@
 //! The row of an entry, and how it is made.
 
-ghost use Rattle.std.specs.Prelude.{◌≡◌, ◌≤◌, IfSome, Result, length, map};
+ghost use Rattle.std.specs.Prelude.{◌≡◌, ◌≤◌, length, map, true};
 ghost use Rattle.date_texts.specs.declared.target.TheConstants.{MAX_TARGETS};
-ghost use Rattle.date_texts.specs.declared.refusal.Refusal.{Refusal};
-ghost use Rattle.register_records.specs.DatedTexts.{AreIn};
-ghost use Rattle.register_records.specs.Entries.{Texts, body_seen};
+ghost use Rattle.register_records.specs.Entries.{body_seen};
 ghost use Rattle.register_records.specs.Outcomes.{AreCells, IsOutcome, IsRowOf};
 ghost use Rattle.register_records.specs.RowTails.{cells_of, fields_of};
 ghost use Rattle.register_records.specs.ShortLists.{items_in};
-ghost use Rattle.register_records.specs.Seen.{entry_seen, outcome_seen, row_made};
+ghost use Rattle.register_records.specs.Seen.{HaveOneDate, entry_seen, outcome_seen, row_made};
 ghost use Rattle.register_records.specs.TableColumns.{tail_texts};
 
-use crate::dated_texts::DatedText;
 use crate::ends::Note;
 use crate::entries::{Body, Entry};
 use crate::reading::{EntryFault, EntryReader};
@@ -58,42 +55,57 @@ fn day_of_body(body: &Body) -> Result<Day, Refusal>
     }
 }
 
-/// The outcome of a body. It is that of the row before where the entry before had the same calendar and date, as in a
-/// register in order of time.
+/// Whether two bodies have the same calendar and date, as they stand in them. The lengths come first, which differ in
+/// most registers of many calendars.
 #[inline(always)]
-fn next_outcome(
-    before: Option<DatedText>,
-    outcome: Result<Day, Refusal>,
-    body: &Body,
-) -> Result<Day, Refusal>
-    requires { IfSome before (λ texts. (other : Result Texts Refusal) → AreIn texts other
-        → ∥ IsOutcome other (outcome_seen outcome) ∥₁) }
+fn have_one_date(body: &Body, other: &Body) -> bool
+    ensures { result ≡ true → HaveOneDate (body_seen body.now) (body_seen other.now) }
+{
+    let Body::Fields { calendar, date, .. } = body else {
+        return false;
+    };
+    let Body::Fields {
+        calendar: other_calendar,
+        date: other_date,
+        ..
+    } = other
+    else {
+        return false;
+    };
+    calendar.len() == other_calendar.len()
+        && date.len() == other_date.len()
+        && date.as_str() == other_date.as_str()
+        && calendar.as_str() == other_calendar.as_str()
+}
+
+/// The outcome of a body: that of the body before where both have the same calendar and date, as in a register in order
+/// of time.
+#[inline(always)]
+fn next_outcome(before: &Body, outcome: Result<Day, Refusal>, body: &Body) -> Result<Day, Refusal>
+    requires { ∥ IsOutcome (body_seen before.now) (outcome_seen outcome) ∥₁ }
     ensures { IsOutcome (body_seen body.now) (outcome_seen result) }
 {
     one_calendar();
     one_date_text();
     one_cell();
-    if let Some(texts) = before
-        && texts.are_in(body)
-    {
+    if have_one_date(before, body) {
         return outcome;
     }
     day_of_body(body)
 }
 
-/// Converts an entry for the setup's targets, where the outcome, the targets and the tail of the row before lie.
-/// `before` has the texts of that row's entry.
+/// Makes this outcome, these targets and this tail, which are those of a row, those of an entry with the next outcome,
+/// for the setup's targets.
 #[inline(always)]
 fn reconvert(
     entry: &Entry,
-    before: Option<DatedText>,
+    next: Result<Day, Refusal>,
     outcome: &mut Result<Day, Refusal>,
     targets: &mut TargetList,
     tail: &mut RowTail,
     setup: &Setup,
 )
-    requires outcome { IfSome before (λ texts. (other : Result Texts Refusal) → AreIn texts other
-        → ∥ IsOutcome other (outcome_seen outcome.old) ∥₁) }
+    requires outcome { IsOutcome (body_seen entry.now.body) (outcome_seen next) }
     requires cells { ∥ AreCells (items_in targets.old.items) (outcome_seen outcome.old)
         (cells_of (items_in targets.old.items) outcome.old tail.old) ∥₁ }
     requires written { fields_of tail.old ≡ tail_texts (items_in targets.old.items) (outcome_seen outcome.old)
@@ -104,7 +116,6 @@ fn reconvert(
     ensures written { fields_of tail.new ≡ tail_texts (items_in targets.new.items) (outcome_seen outcome.new)
         (cells_of (items_in targets.new.items) outcome.new tail.new) }
 {
-    let next = next_outcome(before, *outcome, entry.body());
     tail.renew(targets, *outcome, setup, next);
     *outcome = next;
     *targets = setup.target_list();
@@ -143,11 +154,11 @@ impl Row {
         ensures targets { row_targets self.new ≡ targets_of setup.now }
         ensures row { IsRowOf (targets_of setup.now) (entry_seen entry.now) (row_seen self.new) }
     {
-        let before = DatedText::of(self.entry.body());
+        let next = next_outcome(self.entry.body(), self.outcome, entry.body());
         self.entry = *entry;
         reconvert(
             entry,
-            before,
+            next,
             &mut self.outcome,
             &mut self.targets,
             &mut self.tail,
@@ -171,12 +182,13 @@ impl Row {
         ensures row { result ≡ Ok true
             → IsRowOf (targets_of setup.now) (entry_seen self.new.entry) (row_seen self.new) }
     {
-        let before = DatedText::of(self.entry.body());
+        let before = *self.entry.body();
         let found = entries.read_next(&mut self.entry);
         if let Ok(true) = found {
+            let next = next_outcome(&before, self.outcome, self.entry.body());
             reconvert(
                 &self.entry,
-                before,
+                next,
                 &mut self.outcome,
                 &mut self.targets,
                 &mut self.tail,

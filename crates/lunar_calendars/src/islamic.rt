@@ -74,10 +74,10 @@ impl YearRule for Islamic {
     }
 
     fn month_at(_year: u32, place: u16) -> (u8, u8) {
-        // By turns of 30 and 29 days, the months before the month of index i have (59 * i + 1) / 2.
-        let index = (11 * place + 5) / 325;
-        let before = (59 * index + 1) / 2;
-        (index as u8 + 1, (place - before) as u8 + 1)
+        // By turns of 30 and 29 days, the months before the month of index i have (325 * i + 5) / 11, and each day takes
+        // 11 of what 325 leaves.
+        let scaled = 11 * place as u32 + 5;
+        ((scaled / 325) as u8 + 1, (scaled % 325 / 11) as u8 + 1)
     }
 }
 

@@ -60,30 +60,6 @@ placed y m (Kalends k) h a b =
         first.1 ((far p.0).1 (omega (arith, p, small_prior y m h a b)), omega (arith, signed_arith, back_is two k p.0)),
       ),
     )
-placed y m (Nones k) h a b =
-    let first = first_from y (roman_day_number y m (Nones k)) m (Nones k) (h, a, b) in (
-      λ r.
-          let s = first.0 r.4 in (omega (arith, signed_arith, s), omega (arith, signed_arith, s, ides_small m)),
-      λ p. (
-        h,
-        a,
-        b,
-        λ e. absurd (cc),
-        first.1 (omega (arith, signed_arith, p, ides_small m), omega (arith, signed_arith, p)),
-      ),
-    )
-placed y m (Ides k) h a b =
-    let first = first_from y (roman_day_number y m (Ides k)) m (Ides k) (h, a, b) in (
-      λ r.
-          let s = first.0 r.4 in (omega (arith, signed_arith, s), omega (arith, signed_arith, s, ides_small m)),
-      λ p. (
-        h,
-        a,
-        b,
-        λ e. absurd (cc),
-        first.1 (omega (arith, signed_arith, p, ides_small m), omega (arith, signed_arith, p)),
-      ),
-    )
 placed y m SecondSixth h a b =
     let first = first_from y (roman_day_number y m SecondSixth) m SecondSixth (h, a, b) in
     let s = by_sides (kalends y m) (ides (year_of_month_before y m) (month_before m))
@@ -95,6 +71,18 @@ placed y m SecondSixth h a b =
         b,
         λ e. p,
         first.1 (s.1 (omega (arith, small_prior y m h a b)), omega (arith, signed_arith)),
+      ),
+    )
+placed y m name h a b =
+    let first = first_from y (roman_day_number y m name) m name (h, a, b) in (
+      λ r.
+          let s = first.0 r.4 in (omega (arith, signed_arith, s), omega (arith, signed_arith, s, ides_small m)),
+      λ p. (
+        h,
+        a,
+        b,
+        λ e. absurd (cc),
+        first.1 (omega (arith, signed_arith, p, ides_small m), omega (arith, signed_arith, p)),
       ),
     )
 

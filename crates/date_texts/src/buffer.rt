@@ -123,12 +123,12 @@ pub fn put_year(buffer: &mut [u8], year: i32) -> usize
     ensures value { IsPut buffer.old buffer.new 0 result (canonical_year year) }
     ensures few { result ≤ 6 }
 {
-    let at = if year < 0 {
-        put_byte(buffer, 0, b'-')
+    let (at, number) = if year < 0 {
+        (put_byte(buffer, 0, b'-'), year.unsigned_abs())
     } else {
-        0
+        (0, year as u32)
     };
-    put_year_digits(buffer, at, year.unsigned_abs())
+    put_year_digits(buffer, at, number)
 }
 
 /// The text of a few bytes, each of which is plain.

@@ -130,14 +130,14 @@ impl Entry {
 }
 
 /// Whether a byte is a space or a visible character of ASCII, and no delimiter and no quote: it calls for quotes in no
-/// table. It has no branches, so that a chunk of bytes is looked at as one.
+/// table. The code has no branches, so that a chunk of bytes is looked at as one.
 fn is_plain(byte: u8) -> bool
     ensures { result ≡ is_plain_byte byte }
 {
     (b' ' <= byte) & (byte <= b'~') & (byte != b',') & (byte != b';') & (byte != b'"')
 }
 
-/// Whether all bytes of a text are such. It goes on to the end, since a loop of one length is fast.
+/// Whether all bytes of a text are plain. The loop goes on to the end, since one of fixed length is fast.
 #[inline(always)]
 fn are_plain(text: &[u8]) -> bool
     ensures { result ≡ list_all is_plain_byte text.now }

@@ -33,8 +33,7 @@ pub fn every_text_has_table()
     ensures { EveryTextHasTable }
 {}
 
-/// A cell of a calendar that is not empty, in a record as a date of that calendar, gives the cell's day
-/// again.
+/// A cell of a calendar, unless it is empty, gives its day again where it stands in a record as a date of that calendar.
 pub fn cells_read_back()
     ensures { CellsReadBack }
 {

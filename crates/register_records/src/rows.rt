@@ -94,8 +94,8 @@ fn next_outcome(before: &Body, outcome: Result<Day, Refusal>, body: &Body) -> Re
     day_of_body(body)
 }
 
-/// Makes this outcome, these targets and this tail, which are those of a row, those of an entry with the next outcome,
-/// for the setup's targets.
+/// Turns the outcome, the targets and the tail of a row into those of an entry with the next outcome, for the setup's
+/// targets.
 #[inline(always)]
 fn reconvert(
     entry: &Entry,
@@ -278,7 +278,7 @@ impl Row {
     ///
     /// # Errors
     ///
-    /// Out of memory, with the journal as it was, which never comes where the journal has room for one more.
+    /// Out of memory, with the journal as it was, but never where the journal has room for one more.
     pub fn push_refusal(&self, journal: &mut Vec<Note>) -> Result<(), AllocError>
         ensures items { OnOk result (journal.new.items
             ≡ journal.old.items ++ refusal_notes (row_seen self.now).number (row_seen self.now).outcome) }

@@ -90,7 +90,7 @@ impl SetupFault {
 impl Setup {
     ghost use Rattle.register_records.specs.Views.{targets_of};
 
-    /// A setup for these targets, in this order; none is allowed. Each ring holds `ring` items, from 1
+    /// A setup for these targets, in this order; there may be none. Each ring holds `ring` items, from 1
     /// to 4096; `delimiter`, a comma, a semicolon or a tab, stands between two fields of the input and of
     /// the output; each source of a run has `stripes` converters, from 1 to 4; and each register has this
     /// `form`.

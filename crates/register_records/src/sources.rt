@@ -160,7 +160,7 @@ fn write_rows<R: Read + Drop, W: Output>(
     }
 }
 
-/// Writes the table of the text that a reader gives to an output: the heading once the header was
+/// Writes to an output the table of the text that a reader gives: the heading once the header was
 /// accepted, and then the row of each record as soon as it was read. Each row is one line, made whole,
 /// offered and flushed. The conversion stops at the first fault, and what was written before it stays.
 ///

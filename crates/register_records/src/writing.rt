@@ -28,7 +28,7 @@ pub enum RowFault {
     Failed,
 }
 
-/// Where no more bytes of lines wait, one more line takes no memory.
+/// Up to so many bytes of lines that wait, one more line takes no memory.
 pub const MOST_WAITING: usize = 16 * 1024;
 
 /// How many bytes of lines may wait before more memory is taken for them.
@@ -102,8 +102,8 @@ impl RowWriter {
     ///
     /// # Errors
     ///
-    /// `OutOfMemory`, which never comes where at most 16 KiB of lines wait, `MOST_WAITING`, and `Failed` after a fault;
-    /// then the same lines wait as before.
+    /// `OutOfMemory`, never where at most 16 KiB of lines wait, `MOST_WAITING`, and `Failed` after a fault; then the same
+    /// lines wait as before.
     pub fn add(&mut self, row: &Row) -> Result<(), RowFault>
         ensures ok { OnOk result (waiting_in self.new ≡ waiting_in self.old ++ line_of self.old row.now) }
         ensures short { OnOk result (length (waiting_in self.new) ≤ length (waiting_in self.old) + 1024) }
@@ -169,7 +169,7 @@ impl RowWriter {
     ///
     /// # Errors
     ///
-    /// `OutOfMemory`, with the output as it was, which never comes where at most `MOST_WAITING` bytes of lines wait;
+    /// `OutOfMemory`, with the output as it was, but never where at most `MOST_WAITING` bytes of lines wait;
     /// `WriteFault` where the output has failed; and `Failed` after a fault: then nothing is written.
     pub fn put<W: Output>(&mut self, output: &mut W, row: &Row) -> Result<(), RowFault>
         ensures ok { OnOk result (Appends (W.contents output.old) (W.contents output.new)

@@ -11,7 +11,7 @@ use thiserror::Error;
 /// Whether all sources of a run are whole.
 #[derive(Clone, Copy, PartialEq, Eq, Debug)]
 pub enum Verdict {
-    /// Every source is whole, also where there is none.
+    /// Every source is whole, even where there is none.
     Complete,
     /// A source is broken.
     Incomplete,

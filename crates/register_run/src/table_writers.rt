@@ -27,7 +27,7 @@ pub(crate) enum Course {
     Open,
     /// No more is added, for this cause. The output has not failed.
     Halted(Cause),
-    /// The output has failed. This cause is reported, the first that was met.
+    /// The output has failed. This cause, the first that was met, stays.
     OutputFailed(Cause),
 }
 

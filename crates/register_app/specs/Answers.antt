@@ -60,7 +60,7 @@ pub record IsConverted {R W E : Type 0} (r : reads.Ghosts R) (o : outputs.Ghosts
         → Appends (e.contents before) (e.contents after) (lines_from task.summary 1 report.ends.items)
     pub quiet : status ≡ 0 → task.summary ≡ false → after ≡ before
 
--- sources were opened by the names of a task and outputs made by them, none of which goes to one of the files or to the
+-- sources were opened by the names of a task and outputs made by them, none of which goes to its own source or to the
 -- file of another output, as far as names were told apart; and then the sources were converted
 pub record AreConverted {R W E : Type 0} (r : reads.Ghosts R) (o : outputs.Ghosts W) (e : outputs.Ghosts E)
     (IsOpened : List ℕ → R → Type 0) (IsMade : List ℕ → ℕ → W → Type 0) (AreApart : List ℕ → List ℕ → Type 0)

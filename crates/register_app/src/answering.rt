@@ -326,7 +326,7 @@ fn convert_files<
 /// - 1 where a conversion broke off, with the line `source N: cause C` for each such source in order, or the page
 ///   could not be printed;
 /// - 2 where the arguments were refused, with one line of the program's own or the text of clap;
-/// - 3 where a file could not be opened or made, a table would go to one of the files or to the file of another table,
+/// - 3 where a file could not be opened or made, a table would go to its own register or to the file of another table,
 ///   or memory ran out before the run, with one line.
 ///
 /// Nothing is read where the status is 2 or 3, or where the arguments ask for a page. A fault of `errors` changes

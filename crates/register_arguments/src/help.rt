@@ -73,7 +73,7 @@ Exit status:
 
     0  every register was converted to its end, refused records included
     1  a register broke off: for each, standard error has the line
-       source N: cause C
+       source N: cause C; or this page could not be printed
     2  the command line was refused; standard error says why
     3  a file could not be opened or made, or out of memory at the start
 
@@ -89,9 +89,8 @@ cause 4 its last line may be cut. Causes:
        id,calendar,date,note), but other names or order, more columns,
        another delimiter, UTF-16, a title line; nothing is written
     7  there are more than 1,000,000 records; the first 1,000,000 are there
-    8  the seal is missing or wrong: with --sealed, the last line is not
-       END,N with the right number and the delimiter; the records before it
-       are there
+    8  the seal is missing or wrong: with --sealed, the last line is not END,N
+       with the right number and delimiter; the records before it are there
 
 Example: the text
 

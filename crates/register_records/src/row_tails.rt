@@ -231,8 +231,8 @@ impl RowTail {
         }
     }
 
-    /// Turns this tail, of an outcome for some targets, into that of the next outcome for the setup's. It stays where both
-    /// are the same, as for a second entry on a day in a register in order of time.
+    /// Turns this tail, of an outcome for some targets, into that of the next outcome for the setup's. It stays where
+    /// these and the delimiter are the same, as for a second entry on a day in a register in order of time.
     #[inline(always)]
     pub fn renew(
         &mut self,

@@ -47,7 +47,7 @@ impl<T: Copy> ShortList<T> {
     }
 
     /// Appends an item.
-    pub fn push(&mut self, item: T)
+    pub(crate) fn push(&mut self, item: T)
         requires { length (items_in self.old) < MAX_TARGETS }
         ensures { items_in self.new ≡ items_in self.old ++ item ∷ [] }
     {

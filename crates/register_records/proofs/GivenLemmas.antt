@@ -1,18 +1,17 @@
 -- What a step of a reader of entries does to those that it gave.
-use Rattle.std.proofs.Common.{◌≡◌, suc, ◌<◌, ◌≤◌, ◌+◌, ◌++◌, ℕ, List, [], ◌∷◌, length, Option, Some, None, true}
+use Rattle.std.proofs.Common.{◌≡◌, ◌<◌, ◌≤◌, ◌+◌, ◌++◌, ℕ, List, [], ◌∷◌, length, Option, Some, None, true}
 use Rattle.std.proofs.Common.{refl, sym, subst, ap, ◌∙◌, arith, append_assoc}
 use Rattle.std.specs.Prelude.{IfSome, nat_lt, option_map}
 use Rattle.std.proofs.Math.Logic.{∥∥₁_map}
 use Rattle.std.proofs.lemmas.Bool.Decides.{nat_tests}
 use Rattle.std.proofs.lemmas.List.{append-nil, append_cancel_left, length-append}
-use Rattle.std.specs.declared.snapshot.Snapshot.{Snapshot}
 use Rattle.register_records.specs.Headers.{IsHeader}
 use Rattle.register_records.specs.Entries.{Fields, Format, HasAllEntries, HasEntries, HasFirstEntries, HasRecords}
 use Rattle.register_records.specs.Entries.{HasTooMany, IsNotSealed, Numbered, body_of, body_seen, entries_from}
 use Rattle.register_records.specs.Entries.{entries_of, record_limit, text_records}
 use Rattle.register_records.specs.Seals.{AreClosed, before_seal, entry_records, is_seal}
 use Rattle.register_records.specs.Seen.{entry_seen}
-use Rattle.register_records.specs.ReadingState.{entries_shown, format_by}
+use Rattle.register_records.specs.ReadingState.{format_by}
 use Rattle.register_records.specs.ReadingState.{Ends, EndsAt, Gives, HasEntry, IsNoSeal, LacksSeal, HasRead, TakesFirst}
 use Rattle.register_records.specs.declared.entries.Entry.{Entry}
 use Rattle.register_records.specs.declared.reading.ReaderState.{ReaderState}
@@ -270,16 +269,6 @@ module _ (format : Format) where
   going : (text : Option (List ℕ)) (state : ReaderState) (left : Option (List Fields)) (given : List Numbered)
       → state ≡ states.Open → HasRead format text state left given → HasRead format text states.Open left given
   going text state left given e s = rw e at s
-
--- an entry that a snapshot was taken of
-pub shown_more : (given : List (Snapshot Entry)) (s : Snapshot Entry) (e : Entry) → s.value ≡ e
-    → entries_shown (given ++ s ∷ []) ≡ entries_shown given ++ entry_seen e ∷ []
-shown_more [] s e h = rw h refl
-shown_more (x ∷ given) s e h = ap (λ (t : List Numbered). entry_seen x.value ∷ t) (shown_more given s e h)
-
-pub shown_length : (given : List (Snapshot Entry)) → length (entries_shown given) ≡ length given
-shown_length [] = refl
-shown_length (x ∷ given) = ap suc (shown_length given)
 
 entry_is : (form : Form) (e : Entry) (k : ℕ) (f : Fields) → e.number ≡ k + 1
     → body_seen e.body ≡ body_of form f

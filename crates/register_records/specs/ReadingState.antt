@@ -1,7 +1,6 @@
 -- What an `EntryReader` knows of what it has yet to give. No public contract cites this file.
 use Rattle.std.specs.Prelude.{◌≡◌, ◌⊎◌, ◌<◌, ◌+◌, ◌++◌, ⊤, Bool, true, false, ℕ, List, [], ◌∷◌, length, Option, Some}
-use Rattle.std.specs.Prelude.{None, IfSome, IsTrue, map, option_map}
-use Rattle.std.specs.declared.snapshot.Snapshot.{Snapshot}
+use Rattle.std.specs.Prelude.{None, IfSome, IsTrue, option_map}
 use Rattle.csv.specs.Reading.{Ready, is_flexible, reader_config, reader_state, reader_trim, records_from, source_of}
 use Rattle.csv.specs.Reading.{took_first}
 use Rattle.csv.specs.declared.error.ErrorKind.{ErrorKind}
@@ -13,7 +12,6 @@ use Rattle.csv.specs.declared.reader.Trim.TheVariants as trim
 use Rattle.register_records.specs.Entries.{Fields, Format, HasEntries, HasRecords, Numbered, body_of, body_seen}
 use Rattle.register_records.specs.Entries.{entries_from}
 use Rattle.register_records.specs.Seals.{Agrees, entry_records, is_seal}
-use Rattle.register_records.specs.Seen.{entry_seen}
 use Rattle.register_records.specs.declared.entries.Entry.{Entry}
 use Rattle.register_records.specs.declared.setups.Form.{Form}
 use Rattle.register_records.specs.declared.setups.Form.TheVariants.{Plain, Sealed}
@@ -21,10 +19,6 @@ use Rattle.register_records.specs.declared.reading.EntryFault.{EntryFault}
 use Rattle.register_records.specs.declared.reading.EntryFault.TheVariants as fault
 use Rattle.register_records.specs.declared.reading.ReaderState.{ReaderState}
 use Rattle.register_records.specs.declared.reading.ReaderState.TheVariants as states
-
--- the entries that snapshots were taken of
-abbrev pub entries_shown : List (Snapshot Entry) → List Numbered
-entries_shown given = map (λ (s : Snapshot Entry). entry_seen s.value) given
 
 -- a delimiter and a form
 abbrev pub format_by : ℕ → Form → Format

@@ -1,16 +1,14 @@
 -- What a clause sees of the types of this crate.
-use Rattle.std.specs.Prelude.{Bool, ℕ, List, Option, map}
-use Rattle.std.specs.declared.snapshot.Snapshot.{Snapshot}
+use Rattle.std.specs.Prelude.{Bool, ℕ, List, Option}
 use Rattle.std.specs.declared.io.traits.Read.{Ghosts}
 use Rattle.date_texts.specs.declared.target.Target.{Target}
 use Rattle.register_records.specs.RowTails.{cells_of}
 use Rattle.register_records.specs.Entries.{Format, Numbered}
 use Rattle.register_records.specs.Outcomes.{TableRow}
-use Rattle.register_records.specs.Seen.{entry_seen, has_ended, has_failed, has_stopped, output_failed, row_made}
+use Rattle.register_records.specs.Seen.{has_ended, has_failed, has_stopped, output_failed, row_made}
 use Rattle.register_records.specs.ShortLists.{items_in}
 use Rattle.register_records.specs.TableColumns.{tail_texts}
 use Rattle.register_records.specs.Tables.{Layout, row_line}
-use Rattle.register_records.specs.declared.entries.Entry.{Entry}
 use Rattle.register_records.specs.declared.reading.EntryReader.{EntryReader}
 use Rattle.register_records.specs.declared.rows.Row.{Row}
 use Rattle.register_records.specs.declared.setups.Setup.{Setup}
@@ -44,7 +42,7 @@ reader_ended r = has_ended r.state
 
 -- the entries that it gave so far, in order
 abbrev pub given_of : {R : Type 0} {g : Ghosts R} → EntryReader R g → List Numbered
-given_of r = map (λ (s : Snapshot Entry). entry_seen s.value) r.given.items
+given_of r = r.given
 
 -- a row's targets, and the row as a table has it
 abbrev pub row_targets : Row → List Target

@@ -13,6 +13,7 @@ mod converting;
 mod csv_lines;
 mod ends;
 mod entries;
+mod entry_logs;
 pub mod faults;
 mod flush_tokens;
 mod header;

@@ -1,18 +1,19 @@
 //! The entries of a text, in order.
 
 ghost use Rattle.std.specs.Prelude.{◌≡◌, ◌≢◌, ◌+◌, ◌≤◌, [], true, false, length, OnOk, IfOk, IfErr, IfSome, Ok, Err};
-ghost use Rattle.std.specs.Prelude.{Option, vec_capacity};
+ghost use Rattle.std.specs.Prelude.{Option};
 ghost use Rattle.csv.specs.Reading.{error_kind, has_failed, stops_reader};
 ghost use Rattle.csv.specs.Records.{fields_of};
 ghost use Rattle.register_records.specs.Entries.{HasFirstEntries, record_limit};
 ghost use Rattle.register_records.specs.ReadingState.{Ends, Gives, HasBegun, HasEntry, IsLive, IsOfReading};
 ghost use Rattle.register_records.specs.ReadingState.{LacksSeal, Reads, HasRead};
-ghost use Rattle.register_records.specs.ReadingState.{entries_shown, fault_of, format_by, records_left};
+ghost use Rattle.register_records.specs.ReadingState.{fault_of, format_by, records_left};
 ghost use Rattle.register_records.specs.Retrying.{inner_remaining};
 ghost use Rattle.register_records.specs.Seals.{Agrees, is_seal as is_seal_record};
 ghost use Rattle.register_records.specs.declared.reading.ReaderState.{ReaderState};
 
 use crate::entries::{Entry, MAX_RECORDS};
+use crate::entry_logs::EntryLog;
 use crate::header::is_header;
 use crate::retrying::Retrying;
 use crate::seals::{agrees, is_seal};
@@ -76,19 +77,20 @@ pub struct EntryReader<R: Read> {
     record: ByteRecord,
     delimiter: u8,
     form: Form,
-    // The reader as it was given, and the entries given: what they hold has no bytes.
-    source: Snapshot<R>,
-    given: Vec<Snapshot<Entry>>,
     state: ReaderState,
+    // How many entries were given.
+    count: u32,
+    // For clauses alone: the reader underneath as it was, and the entries given.
+    source: Snapshot<R>,
+    given: EntryLog,
     ghost live: { state ≢ ReaderState.Failed → HasBegun records },
-    ghost few: { length given.items ≤ record_limit },
-    ghost room: { record_limit ≤ vec_capacity given },
+    ghost counted: { length given ≡ count },
+    ghost few: { count ≤ record_limit },
     ghost has_read: { ∥ HasRead (format_by delimiter form) (R.remaining source.value) state
-        (records_left (inner_remaining R.remaining) records) (entries_shown given.items) ∥₁ },
+        (records_left (inner_remaining R.remaining) records) given ∥₁ },
     // The entries given are the first of the text, and where the bytes of the reader are not known, those of some
     // records.
-    pub ghost first: { ∥ HasFirstEntries (format_by delimiter form) (R.remaining source.value)
-        (entries_shown given.items) ∥₁ },
+    pub ghost first: { ∥ HasFirstEntries (format_by delimiter form) (R.remaining source.value) given ∥₁ },
 }
 
 /// What an error of csv's reader that stops it means.
@@ -244,18 +246,15 @@ impl<R: Read + Drop> EntryReader<R> {
         if !found || !is_header(&record, setup.form()) {
             return Err(EntryFault::BadHeader);
         }
-        // Room for all entries, which takes no memory.
-        let Ok(given) = Vec::with_capacity(alloc, MAX_RECORDS as usize) else {
-            return Err(EntryFault::OutOfMemory);
-        };
         Ok(EntryReader {
             records,
             record,
             delimiter: setup.delimiter(),
             form: setup.form(),
-            source,
-            given,
             state: ReaderState::Open,
+            count: 0,
+            source,
+            given: EntryLog::new(),
         })
     }
 
@@ -283,10 +282,18 @@ impl<R: Read + Drop> EntryReader<R> {
             ReaderState::Ended => return Ok(false),
             ReaderState::Failed => return Err(EntryFault::Failed),
         }
-        let count = self.given.len() as u32;
-        let found = read_entry(&mut self.records, &mut self.record, self.form, count, entry);
+        let found = read_entry(
+            &mut self.records,
+            &mut self.record,
+            self.form,
+            self.count,
+            entry,
+        );
         match found {
-            Ok(true) => self.given.push_reserved(Snapshot::of(entry)),
+            Ok(true) => {
+                self.count += 1;
+                self.given.push(entry);
+            }
             Ok(false) => self.state = ReaderState::Ended,
             Err(_) => self.state = ReaderState::Failed,
         }

@@ -3,9 +3,10 @@ use Rattle.std.specs.Prelude.{IfSome}
 use Rattle.std.specs.Io.KnownBytes.{Appends}
 use Rattle.date_texts.specs.declared.target.Target.{Target}
 use Rattle.register_records.specs.Causes.{entry_fault_cause}
-use Rattle.register_records.specs.Entries.{Format, HasAllEntries, HasEntries, IsNotSealed}
+use Rattle.register_records.specs.Entries.{Format, HasAllEntries, HasEntries, IsNotSealed, Numbered}
 use Rattle.register_records.specs.Tables.{row_line}
-use Rattle.register_records.specs.Views.{format_of, given_of, layout_of, line_of, row_seen, row_targets}
+use Rattle.register_records.specs.Views.{format_of, given_of, layout_of, line_of, reads_by, row_seen, row_targets}
+use Rattle.register_records.specs.Views.{text_of}
 use Rattle.register_records.proofs.ProgressLemmas.{only_not_sealed, step, told_of}
 use Rattle.register_records.proofs.StepLemmas.{told_on}
 use Rattle.register_records.proofs.sources.convert_next.Goals as goal
@@ -15,11 +16,13 @@ returns-then-not-branch-clause-end g c _ =
     let reads = c.in_ok-read_next.ensures.reads in
     let none : c.in_ok-read_next.field-0 ≡ false = search rules in
     let all = (rw none at reads.all) refl in
-    let kept = (rw none at reads.ends) refl in (
+    let kept = (rw none at reads.ends) refl in
+    let read = c.read_next.new.entries in (
       refl,
       refl,
       told_of (λ (format : Format) (text : Option (List ℕ)). HasEntries format text (given_of c.args.entries.now))
-          _ _ _ _ reads.text.0 (reads.text.1 ∙ c.requires.ready.1) (rw kept.1 at all),
+          _ _ _ _ reads.text.0 (reads.text.1 ∙ c.requires.ready.1)
+          (subst (λ (given : List Numbered). ∥ HasEntries (reads_by read) (text_of read) given ∥₁) kept.1 all),
     )
 
 pub returns-clause-row : goal.returns-clause-row
@@ -46,6 +49,7 @@ returns-in_err-read_next-clause-not_sealed g c =
     let reads = c.in_err-read_next.ensures.reads in
     let fault = c.in_err-read_next.field-0.0 in
     let by = reads.text.1 ∙ c.requires.ready.1 in
+    let read = c.read_next.new.entries in
     told_on _ (entry_fault_cause fault) _ c.from_residual.ensures.1 (λ is.
     let which = only_not_sealed fault _ refl is in
     let lacks = reads.not_sealed which in (
@@ -53,5 +57,7 @@ returns-in_err-read_next-clause-not_sealed g c =
       told_of (λ (format : Format) (text : Option (List ℕ)). IfSome text (λ t. IsNotSealed format t)) _ _ _ _
           reads.text.0 by lacks.1,
       told_of (λ (format : Format) (text : Option (List ℕ)). HasAllEntries format text (given_of c.args.entries.now))
-          _ _ _ _ reads.text.0 by (rw reads.kept at (reads.above which)),
+          _ _ _ _ reads.text.0 by
+          (subst (λ (given : List Numbered). ∥ HasAllEntries (reads_by read) (text_of read) given ∥₁) reads.kept
+          (reads.above which)),
     ))

@@ -1,10 +1,9 @@
-use Rattle.std.proofs.Common.{◌≡◌, ◌∙◌, ap, arith, inr, rules, sym, true, false}
+use Rattle.std.proofs.Common.{◌≡◌, ◌∙◌, ap, arith, length, inr, rules, sym, true, false}
 use Rattle.csv.specs.Reading.{default_config, is_flexible, names_headers, reader_config, reader_trim}
 use Rattle.csv.specs.declared.reader.Trim.TheVariants as trim
 use Rattle.csv.specs.Records.{fields_of}
 use Rattle.register_records.specs.ReadingState.{records_left}
 use Rattle.register_records.specs.Retrying.{inner_remaining}
-use Rattle.register_records.specs.ReadingState.{entries_shown}
 use Rattle.register_records.specs.Views.{format_of}
 use Rattle.register_records.proofs.EntryStepLemmas.{at_start, refuses, refuses_none}
 use Rattle.register_records.proofs.GivenLemmas.{first_step, may_first}
@@ -50,14 +49,14 @@ invariant_of-result g c =
     first_step (g.R.Read.remaining c.args.reader) (g.R.Read.remaining c.of-source.result.value)
     (records_left (inner_remaining g.R.Read.remaining) c.read_record.new.records)
     c.args.setup.now.delimiter c.delimiter-3.result c.form.result c.form-2.result
-    (entries_shown c.in-Ok.given.items) (fields_of c.read_record.new.csv_record)
+    c.new-2.result (fields_of c.read_record.new.csv_record)
     (ap g.R.Read.remaining c.of-source.ensures) c.delimiter-3.ensures.value
-    (c.form-2.ensures ∙ sym c.form.ensures) (ap entries_shown c.in-Ok.ensures.items)
+    (c.form-2.ensures ∙ sym c.form.ensures) c.new-2.ensures
     (found _ _ _ _ read c.if-not-found.false) (c.is_header.ensures.0 c.if-not-is_header.false) in
     record {
       live = λ _. c.in_ok-found.ensures.live;
-      few = rw c.in-Ok.ensures.items (omega arith);
-      room = c.in-Ok.ensures.capacity;
+      counted = ap length c.new-2.ensures;
+      few = omega arith;
       has_read = has_read;
       first = may_first _ _ _ _ _ has_read;
     }

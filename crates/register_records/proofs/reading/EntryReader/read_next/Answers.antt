@@ -1,44 +1,38 @@
-use Rattle.std.proofs.Common.{◌≡◌, ◌<◌, ◌∙◌, ◌∷◌, [], ap, arith, length, length-append, refl, rules, sym}
+use Rattle.std.proofs.Common.{◌≡◌, ◌∙◌, ◌∷◌, [], ap, arith, length, length-append, refl, rules, sym}
 use Rattle.std.proofs.Common.{false, true}
-use Rattle.register_records.specs.Entries.{record_limit}
 use Rattle.register_records.specs.ReadingState.{records_left}
 use Rattle.register_records.specs.Retrying.{inner_remaining}
-use Rattle.register_records.specs.ReadingState.{entries_shown, format_by}
-use Rattle.register_records.specs.Views.{given_of}
+use Rattle.register_records.specs.ReadingState.{format_by}
+use Rattle.register_records.specs.Seen.{entry_seen}
 use Rattle.register_records.proofs.GivenLemmas.{may_above, may_all, may_end, may_ended, may_fail, may_first, may_lack}
-use Rattle.register_records.proofs.GivenLemmas.{may_many, may_more, shown_length, shown_more}
+use Rattle.register_records.proofs.GivenLemmas.{may_many, may_more}
 use Rattle.register_records.proofs.reading.EntryReader.read_next.Goals as goal
 
 pub returns-in-Ended-clause-reads : goal.returns-in-Ended-clause-reads
 returns-in-Ended-clause-reads g c =
     let self = c.args.self.now in
     let all = may_ended (g.R.Read.remaining self.source.value) (format_by self.delimiter self.form) self.state
-    (records_left (inner_remaining g.R.Read.remaining) self.records) (given_of self) self.has_read c.in-Ended.is in
+    (records_left (inner_remaining g.R.Read.remaining) self.records) self.given self.has_read c.in-Ended.is in
     search (rules, all)
 
 pub invariant_of-self : goal.invariant_of-self
 invariant_of-self g c =
     let self = c.args.self.now in
-    let pushed = c.push_reserved.ensures.items in
-    let more =
-    ap entries_shown pushed ∙ shown_more self.given.items c.of.result c.read_entry-found.new.entry c.of.ensures in
-    let longer = ap length pushed ∙ length-append self.given.items (c.of.result ∷ []) in
+    let longer = ap length c.push.ensures ∙ length-append self.given (entry_seen c.read_entry-found.new.entry ∷ []) in
     let found : c.in-Ok-true.field-0 ≡ true = search rules in
     let gives = (rw found at c.in-Ok-true.ensures.gives) refl in
     let number = (rw found at c.in-Ok-true.ensures.number) refl in
-    let left : length self.given.items < record_limit = omega (arith, number.0, number.1, c.len-count.ensures) in
     let has_read =
     may_more (g.R.Read.remaining self.source.value) (format_by self.delimiter self.form) self.state
     (records_left (inner_remaining g.R.Read.remaining) self.records)
-    (given_of self) self.has_read c.in-Open.is c.len-count.result
-    (omega (arith, c.len-count.ensures, shown_length self.given.items))
+    self.given self.has_read c.in-Open.is self.count (sym self.counted)
     (records_left (inner_remaining g.R.Read.remaining) c.read_entry-found.new.records)
-    (entries_shown c.push_reserved.new.self.items) c.read_entry-found.new.entry gives
-    (omega (arith, number.0, number.1)) more in
+    c.push.new.self c.read_entry-found.new.entry gives
+    (omega (arith, number.0, number.1)) c.push.ensures in
     record {
       live = λ _. c.in-Ok-true.ensures.live;
-      few = omega (arith, longer, left);
-      room = rw c.push_reserved.ensures.capacity self.room;
+      counted = omega (arith, longer, self.counted);
+      few = omega (arith, number.0, number.1);
       has_read = has_read;
       first = may_first _ _ _ _ _ has_read;
     }
@@ -50,16 +44,15 @@ invariant_of-self-in-Ok-false-clause-has_read g c =
     let ends = (rw none at c.in-Ok-false.ensures.ends) refl in
     may_end (g.R.Read.remaining self.source.value) (format_by self.delimiter self.form) self.state
     (records_left (inner_remaining g.R.Read.remaining) self.records)
-    (given_of self) self.has_read c.in-Open.is c.len-count.result
-    (omega (arith, c.len-count.ensures, shown_length self.given.items))
-    (rw (shown_length self.given.items) self.few) _ ends
+    self.given self.has_read c.in-Open.is self.count
+    (sym self.counted) (rw self.counted self.few) _ ends
 
 pub invariant_of-self-in-Err-clause-has_read : goal.invariant_of-self-in-Err-clause-has_read
 invariant_of-self-in-Err-clause-has_read g c =
     let self = c.args.self.now in
     may_fail (g.R.Read.remaining self.source.value) (format_by self.delimiter self.form) self.state
-    (records_left (inner_remaining g.R.Read.remaining) self.records) (given_of self) self.has_read _
-    (given_of self) refl
+    (records_left (inner_remaining g.R.Read.remaining) self.records) self.given self.has_read _
+    self.given refl
 
 pub returns-in-Ok-false-clause-reads : goal.returns-in-Ok-false-clause-reads
 returns-in-Ok-false-clause-reads g c =
@@ -69,16 +62,13 @@ returns-in-Ok-false-clause-reads g c =
     let all =
     may_all (g.R.Read.remaining self.source.value) (format_by self.delimiter self.form) self.state
     (records_left (inner_remaining g.R.Read.remaining) self.records)
-    (given_of self) self.has_read c.in-Open.is c.len-count.result
-    (omega (arith, c.len-count.ensures, shown_length self.given.items))
-    (rw (shown_length self.given.items) self.few) ends in
+    self.given self.has_read c.in-Open.is self.count
+    (sym self.counted) (rw self.counted self.few) ends in
     search (rules, all)
 
 pub returns-in-Err-clause-reads : goal.returns-in-Err-clause-reads
 returns-in-Err-clause-reads g c =
     let self = c.args.self.now in
-    let counted : c.len-count.result ≡ length (given_of self) =
-    omega (arith, c.len-count.ensures, shown_length self.given.items) in
     let lacks = rw c.in-Err.is at c.read_entry-found.ensures.not_sealed in
     let full = rw c.in-Err.is at c.read_entry-found.ensures.many in
     let never = rw c.in-Err.is at c.read_entry-found.ensures.never in
@@ -90,23 +80,23 @@ returns-in-Err-clause-reads g c =
       ends = λ e. absurd (cc);
       all = λ e. absurd (cc);
       many = λ e. (
-        sym counted ∙ (full e).0,
+        self.counted ∙ (full e).0,
         may_many (g.R.Read.remaining self.source.value)
             (format_by self.delimiter self.form) self.state
             (records_left (inner_remaining g.R.Read.remaining) self.records)
-            (given_of self) self.has_read c.in-Open.is c.len-count.result counted (full e).1 (full e).0,
+            self.given self.has_read c.in-Open.is self.count (sym self.counted) (full e).1 (full e).0,
       );
       not_sealed = λ e. (
         (lacks e).0,
         may_lack (g.R.Read.remaining self.source.value) (format_by self.delimiter self.form) self.state
             (records_left (inner_remaining g.R.Read.remaining) self.records)
-            (given_of self) self.has_read c.in-Open.is c.len-count.result counted
-            (rw (shown_length self.given.items) self.few) (lacks e).1,
+            self.given self.has_read c.in-Open.is self.count (sym self.counted)
+            (rw self.counted self.few) (lacks e).1,
       );
       above = λ e.
           may_above (g.R.Read.remaining self.source.value) (format_by self.delimiter self.form) self.state
           (records_left (inner_remaining g.R.Read.remaining) self.records)
-          (given_of self) self.has_read c.in-Open.is c.len-count.result counted (lacks e).1;
+          self.given self.has_read c.in-Open.is self.count (sym self.counted) (lacks e).1;
       fails = refl;
       only_failed = λ _. never.1;
       no_header = never.0;

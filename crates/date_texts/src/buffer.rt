@@ -11,6 +11,7 @@ ghost use Rattle.date_texts.specs.Cells.{is_plain};
 ghost use Rattle.date_texts.specs.Numerals.{padded, canonical_year};
 
 use arrayvec::ArrayString;
+use byte_copies::copy_to_front;
 
 /// The most bytes of a date's text: those of a long count of five times four digits.
 pub const MAX_TEXT: usize = 24;
@@ -48,10 +49,7 @@ pub fn put_text(buffer: &mut [u8], at: usize, text: &str) -> usize
     requires { at + length text.now ≤ length buffer.old }
     ensures { IsPut buffer.old buffer.new at result text.now }
 {
-    let bytes = text.as_bytes();
-    let end = at + bytes.len();
-    buffer[at..end].copy_from_slice(bytes);
-    end
+    at + copy_to_front(&mut buffer[at..], text.as_bytes())
 }
 
 /// Writes a number as two digits.

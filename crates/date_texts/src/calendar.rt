@@ -107,6 +107,7 @@ impl Calendar {
     ///
     /// `NoSuchDate` exactly where the calendar has no such date; `OutOfRange` exactly where it has the
     /// date and the day number is not from -3652424 to 3652059.
+    #[inline(always)]
     pub(crate) fn day_of(self, date: Ymd) -> Result<Day, DateFault>
         ensures { IsDayOf (IsDateBy (reckoning self) date) (day_number_by (reckoning self) date)
             DateFault.NoSuchDate DateFault.OutOfRange result }

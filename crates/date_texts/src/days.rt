@@ -19,6 +19,7 @@ use solar_calendars::{roman_day_of, roman_on};
 ///
 /// `NoSuchDate` exactly where the date's calendar has no such date, whatever its day would be;
 /// `OutOfRange` exactly where it has the date and the day number is not from -3652424 to 3652059.
+#[inline(always)]
 pub fn day_of_date(date: &Date) -> Result<Day, Refusal>
     ensures { IsDayOf (IsDateOfCalendar date.now) (day_number_of_date date.now)
         Refusal.NoSuchDate Refusal.OutOfRange result }

@@ -44,6 +44,7 @@ fn target_spelled(name: &[u8]) -> Option<Target>
 
 /// The target that a text names: the target's name in letters of either ASCII case, with any spaces and
 /// tabs before and after it. `None` exactly where the text names no target.
+#[inline(always)]
 pub fn target_named(text: &str) -> Option<Target>
     ensures { (target : Target) → (result ≡ Some target) ↔ IsNamed text.now (target_name target) }
 {
@@ -59,6 +60,7 @@ pub fn target_named(text: &str) -> Option<Target>
 
 /// The calendar that a text names, as [`target_named`] reads a name. `None` exactly where the text names
 /// no calendar.
+#[inline(always)]
 pub fn calendar_named(text: &str) -> Option<Calendar>
     ensures { (calendar : Calendar) → (result ≡ Some calendar) ↔ IsNamed text.now (calendar_name calendar) }
 {

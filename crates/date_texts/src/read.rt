@@ -14,6 +14,7 @@ use crate::roman_text::roman_date_at;
 use crate::trim::trimmed;
 
 /// The date that a text without blanks at its ends says in a calendar.
+#[inline(always)]
 fn date_at(calendar: Calendar, text: &[u8]) -> Option<Date>
     ensures { (date : Date) → (result ≡ Some date) ↔ SaysDate calendar text.now date }
 {
@@ -47,6 +48,7 @@ fn date_at(calendar: Calendar, text: &[u8]) -> Option<Date>
 /// let slashed = read_date(Calendar::Julian, "1582/10/05");
 /// assert_eq!(rt; slashed, Err(Refusal::DateText));
 /// ```
+#[inline(always)]
 pub fn read_date(calendar: Calendar, text: &str) -> Result<Date, Refusal>
     ensures value { (date : Date) → (result ≡ Ok date) ↔ IsDateText calendar text.now date }
     ensures refused { (result ≡ Err Refusal.DateText) ↔ ((date : Date) → ¬ (IsDateText calendar text.now date)) }

@@ -5,11 +5,11 @@ use Rattle.day_numbers.specs.Days.{IsDayNumber}
 use Rattle.day_numbers.specs.declared.day.Day.{Day}
 use Rattle.date_texts.specs.Calendars.{calendar_name}
 use Rattle.date_texts.specs.Dates.{IsDateOfCalendar, day_number_of_date}
-use Rattle.register_records.specs.Entries.{Texts}
+use Rattle.register_records.specs.Entries.{HaveOneDate, Texts}
 use Rattle.date_texts.specs.Names.{IsNamed}
 use Rattle.register_records.specs.Outcomes.{IsOutcome, Says}
 use Rattle.register_records.specs.Outcomes as outcome
-use Rattle.register_records.specs.Seen.{HaveOneDate, outcome_seen}
+use Rattle.register_records.specs.Seen.{outcome_seen}
 use Rattle.date_texts.specs.declared.calendar.Calendar.{Calendar}
 use Rattle.date_texts.specs.declared.date.Date.{Date}
 use Rattle.date_texts.specs.declared.refusal.Refusal.{Refusal}

@@ -59,6 +59,11 @@ body_seen (body.Fields id calendar date note) =
     Ok (record { id = id.bytes; calendar = calendar.bytes; date = date.bytes; note = note.bytes })
 body_seen (body.Refused r) = Err r
 
+-- two bodies have the same calendar's name and the same date
+abbrev pub HaveOneDate : Result Texts Refusal → Result Texts Refusal → Type 0
+HaveOneDate (Ok t) (Ok u) = (t.calendar ≡ u.calendar) × (t.date ≡ u.date)
+HaveOneDate body other = ⊥
+
 -- a body holds texts, or one of the refusals 1 to 3, which come before a calendar is looked for
 abbrev pub may_hold : Body → Bool
 may_hold (body.Fields id calendar date note) = true

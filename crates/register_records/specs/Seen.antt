@@ -1,5 +1,5 @@
 -- What a clause sees of an `Entry` and of the parts of a `Row`.
-use Rattle.std.specs.Prelude.{◌≡◌, Bool, true, false, ℕ, ℤ, List, Result, Ok, Err}
+use Rattle.std.specs.Prelude.{Bool, true, false, ℕ, ℤ, List, Result, Ok, Err}
 use Rattle.day_numbers.specs.declared.day.Day.{Day}
 use Rattle.date_texts.specs.declared.refusal.Refusal.{Refusal}
 use Rattle.register_records.specs.Entries.{Numbered, body_seen}
@@ -37,11 +37,6 @@ output_failed other = false
 -- the entry as a text has it
 abbrev pub entry_seen : Entry → Numbered
 entry_seen e = record { number = e.number; body = body_seen e.body }
-
--- two bodies have the same calendar's name and the same date
-abbrev pub HaveOneDate : Result Texts Refusal → Result Texts Refusal → Type 0
-HaveOneDate (Ok t) (Ok u) = (t.calendar ≡ u.calendar) × (t.date ≡ u.date)
-HaveOneDate body other = ⊥
 
 -- the number of the day, or the refusal
 abbrev pub outcome_seen : Result Day Refusal → Result ℤ Refusal

@@ -6,7 +6,7 @@ ghost use Rattle.std.specs.List.{list_all};
 ghost use Rattle.std.specs.Str.{is_utf8};
 ghost use Rattle.csv.specs.Records.{fields_of, text_of};
 ghost use Rattle.register_records.specs.BareTexts.{IsPlain, has_special, is_plain_byte};
-ghost use Rattle.register_records.specs.Entries.{are_fit, body_of, body_seen, may_hold, record_limit};
+ghost use Rattle.register_records.specs.Entries.{HaveOneDate, are_fit, body_of, body_seen, may_hold, record_limit};
 
 use crate::record_fields::RecordFields;
 use crate::setups::Form;
@@ -93,16 +93,20 @@ impl Entry {
         }
     }
 
-    /// Makes this entry that of a record, where it lies: an entry is large.
-    pub(crate) fn set(&mut self, number: u32, csv_record: &ByteRecord, form: Form)
+    /// Makes this entry that of a record, where it lies: an entry is large. Returns true only where its calendar and its
+    /// date are those of the entry before it.
+    #[inline(always)]
+    pub(crate) fn set(&mut self, number: u32, csv_record: &ByteRecord, form: Form) -> bool
         requires from_one { 1 ≤ number }
         requires limited { number ≤ record_limit }
-        ensures { (self.new.number ≡ number) × (body_seen self.new.body ≡ body_of form (fields_of csv_record.now)) }
+        ensures value { (self.new.number ≡ number)
+            × (body_seen self.new.body ≡ body_of form (fields_of csv_record.now)) }
+        ensures same_date { result ≡ true → HaveOneDate (body_seen self.old.body) (body_seen self.new.body) }
     {
         let plain = are_plain_by_chunks(csv_record.as_slice());
         self.number = number;
         self.bare = plain;
-        self.body.set(csv_record, form, plain);
+        self.body.set(csv_record, form, plain)
     }
 
     /// The number, from 1 to 1,000,000.
@@ -150,6 +154,7 @@ fn are_plain(text: &[u8]) -> bool
 }
 
 /// The same, chunk by chunk: a chunk takes no longer than two bytes alone. The last may overlap the one before it.
+#[inline(always)]
 fn are_plain_by_chunks(text: &[u8]) -> bool
     ensures { result ≡ true → IsPlain text.now }
 {
@@ -192,6 +197,14 @@ fn is_allowed(body: &Body) -> bool
     }
 }
 
+/// Whether a text is that of a field.
+#[inline(always)]
+fn is_same<const N: usize>(text: &ArrayString<N>, field: &[u8]) -> bool
+    ensures { (result ≡ true) ↔ (text.now.bytes ≡ field.now) }
+{
+    text.as_str().as_bytes() == field
+}
+
 /// Copies a field, which is UTF-8, to a text.
 #[inline(always)]
 fn copy_text<const N: usize>(copy: &mut ArrayString<N>, field: &[u8])
@@ -217,15 +230,18 @@ impl Body {
         }
     }
 
-    /// Makes this body that of a record, which may be known to be plain.
-    fn set(&mut self, csv_record: &ByteRecord, form: Form, plain: bool)
+    /// Makes this body that of a record, which may be known to be plain. Returns true only where its calendar and its date
+    /// are those of the body before it. The lengths come first, which differ in most registers of many calendars.
+    #[inline(always)]
+    fn set(&mut self, csv_record: &ByteRecord, form: Form, plain: bool) -> bool
         requires { plain ≡ true → IsPlain (text_of csv_record.now) }
         ensures value { body_seen self.new ≡ body_of form (fields_of csv_record.now) }
         ensures held { IsTrue (may_hold self.new) }
+        ensures same_date { result ≡ true → HaveOneDate (body_seen self.old) (body_seen self.new) }
     {
         let Some(fields) = RecordFields::of(csv_record, form) else {
             *self = Body::Refused(Refusal::FieldCount);
-            return;
+            return false;
         };
         if fields.id.len() > ID_LIMIT
             || fields.calendar.len() > CALENDAR_LIMIT
@@ -233,26 +249,38 @@ impl Body {
             || fields.note.len() > NOTE_LIMIT
         {
             *self = Body::Refused(Refusal::FieldTooLong);
-            return;
+            return false;
         }
         if !fields.are_texts(plain) {
             *self = Body::Refused(Refusal::NotUtf8);
-            return;
+            return false;
         }
-        if matches!(self, Body::Refused(_)) {
+        let was_refused = matches!(self, Body::Refused(_));
+        if was_refused {
             *self = Body::blank();
         }
-        if let Body::Fields {
+        let Body::Fields {
             id,
             calendar,
             date,
             note,
         } = self
-        {
-            copy_text(id, fields.id);
-            copy_text(calendar, fields.calendar);
-            copy_text(date, fields.date);
+        else {
+            return false;
+        };
+        copy_text(id, fields.id);
+        note.clear();
+        if !fields.note.is_empty() {
             copy_text(note, fields.note);
         }
+        if calendar.len() == fields.calendar.len()
+            && is_same(date, fields.date)
+            && is_same(calendar, fields.calendar)
+        {
+            return !was_refused;
+        }
+        copy_text(calendar, fields.calendar);
+        copy_text(date, fields.date);
+        false
     }
 }

@@ -4,7 +4,7 @@ ghost use Rattle.std.specs.Prelude.{◌≡◌, ◌≢◌, ◌+◌, ◌≤◌, []
 ghost use Rattle.std.specs.Prelude.{Option};
 ghost use Rattle.csv.specs.Reading.{error_kind, has_failed, stops_reader};
 ghost use Rattle.csv.specs.Records.{fields_of};
-ghost use Rattle.register_records.specs.Entries.{HasFirstEntries, record_limit};
+ghost use Rattle.register_records.specs.Entries.{HasFirstEntries, HaveOneDate, body_seen, record_limit};
 ghost use Rattle.register_records.specs.ReadingState.{Ends, Gives, HasBegun, HasEntry, IsLive, IsOfReading};
 ghost use Rattle.register_records.specs.ReadingState.{LacksSeal, Reads, HasRead};
 ghost use Rattle.register_records.specs.ReadingState.{fault_of, format_by, records_left};
@@ -78,8 +78,9 @@ pub struct EntryReader<R: Read> {
     delimiter: u8,
     form: Form,
     state: ReaderState,
-    // How many entries were given.
+    // How many entries were given, and whether the last has the calendar and the date of what lay in its place.
     count: u32,
+    same_date: bool,
     // For clauses alone: the reader underneath as it was, and the entries given.
     source: Snapshot<R>,
     given: EntryLog,
@@ -170,8 +171,9 @@ fn number_after(count: u32) -> Result<u32, EntryFault>
     Ok(count + 1)
 }
 
-/// Reads the entry after so many into `entry`. Returns `false` where the records end as the form wants it. After a seal
-/// it asks for one more record. Where no entry was read, `entry` stays as it was.
+/// Reads the entry after so many into `entry`, and finds whether its calendar and its date are those of what lay there.
+/// Returns `false` where the records end as the form wants it. After a seal it asks for one more record. Where no entry
+/// was read, `entry` stays as it was.
 #[inline(always)]
 fn read_entry<R: Read>(
     records: &mut Reader<Retrying<R>>,
@@ -179,6 +181,7 @@ fn read_entry<R: Read>(
     form: Form,
     count: u32,
     entry: &mut Entry,
+    same_date: &mut bool,
 ) -> Result<bool, EntryFault>
     requires live { HasBegun records.old }
     requires few { count ≤ record_limit }
@@ -188,6 +191,8 @@ fn read_entry<R: Read>(
         (records_left (inner_remaining R.remaining) records.new) entry.new }
     ensures number { result ≡ Ok true → (entry.new.number ≡ count + 1) × (entry.new.number ≤ record_limit) }
     ensures same { result ≢ Ok true → entry.new ≡ entry.old }
+    ensures same_date { result ≡ Ok true → same_date.new ≡ true
+        → HaveOneDate (body_seen entry.old.body) (body_seen entry.new.body) }
     ensures ends { result ≡ Ok false → Ends form count (records_left (inner_remaining R.remaining) records.old) }
     ensures many { IfErr result (λ e. e ≡ EntryFault.TooManyRecords → (count ≡ record_limit)
         × IfSome (records_left (inner_remaining R.remaining) records.old) (HasEntry form)) }
@@ -207,7 +212,7 @@ fn read_entry<R: Read>(
         return Ok(false);
     }
     let number = number_after(count)?;
-    entry.set(number, csv_record, form);
+    *same_date = entry.set(number, csv_record, form);
     Ok(true)
 }
 
@@ -253,6 +258,7 @@ impl<R: Read + Drop> EntryReader<R> {
             form: setup.form(),
             state: ReaderState::Open,
             count: 0,
+            same_date: false,
             source,
             given: EntryLog::new(),
         })
@@ -276,6 +282,10 @@ impl<R: Read + Drop> EntryReader<R> {
         ensures ended { reader_ended self.old ≡ true → (result ≡ Ok false) × (self.new ≡ self.old) }
         ensures failed { reader_failed self.old ≡ true → (result ≡ Err EntryFault.Failed) × (self.new ≡ self.old) }
         ensures read_fault { IfErr result (λ e. e ≡ EntryFault.ReadFault → has_failed self.new.records ≡ true) }
+
+        // A second entry on a day is known by its texts.
+        ensures same_date { result ≡ Ok true → self.new.same_date ≡ true
+            → HaveOneDate (body_seen entry.old.body) (body_seen entry.new.body) }
     {
         match self.state {
             ReaderState::Open => (),
@@ -288,6 +298,7 @@ impl<R: Read + Drop> EntryReader<R> {
             self.form,
             self.count,
             entry,
+            &mut self.same_date,
         );
         match found {
             Ok(true) => {
@@ -298,6 +309,13 @@ impl<R: Read + Drop> EntryReader<R> {
             Err(_) => self.state = ReaderState::Failed,
         }
         found
+    }
+
+    /// Whether the entry that was read last has the calendar and the date of what lay in its place.
+    pub(crate) fn same_date(&self) -> bool
+        ensures { result ≡ self.now.same_date }
+    {
+        self.same_date
     }
 
     /// The next entry, or `None` at the end of the text, and again after it: `read_next` into an entry of its own.

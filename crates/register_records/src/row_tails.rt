@@ -18,6 +18,7 @@ use crate::setups::Setup;
 use crate::short_lists::ShortList;
 use crate::table_columns::{CELLS_PLACE, TailColumn, tail_columns};
 use crate::target_lists::TargetList;
+use byte_copies::copy_to_front;
 use date_texts::laws::{cells_are_plain, one_cell};
 use date_texts::{MAX_CELL, MAX_TARGETS, Refusal, Target, write_cell_within};
 use day_numbers::Day;
@@ -153,7 +154,7 @@ impl RowTail {
         let at = self.len as usize;
         let end = at + 1 + field.len();
         self.buffer[at] = self.delimiter;
-        self.buffer[at + 1..end].copy_from_slice(field);
+        copy_to_front(&mut self.buffer[at + 1..end], field);
         self.len = end as u16;
     }
 

@@ -2,11 +2,11 @@
 
 ghost use Rattle.std.specs.Prelude.{◌≡◌, ◌≤◌, length, map, true};
 ghost use Rattle.date_texts.specs.declared.target.TheConstants.{MAX_TARGETS};
-ghost use Rattle.register_records.specs.Entries.{body_seen};
+ghost use Rattle.register_records.specs.Entries.{HaveOneDate, body_seen};
 ghost use Rattle.register_records.specs.Outcomes.{AreCells, IsOutcome, IsRowOf};
 ghost use Rattle.register_records.specs.RowTails.{cells_of, fields_of};
 ghost use Rattle.register_records.specs.ShortLists.{items_in};
-ghost use Rattle.register_records.specs.Seen.{HaveOneDate, entry_seen, outcome_seen, row_made};
+ghost use Rattle.register_records.specs.Seen.{entry_seen, outcome_seen, row_made};
 ghost use Rattle.register_records.specs.TableColumns.{tail_texts};
 
 use crate::ends::Note;
@@ -21,6 +21,7 @@ use date_texts::{MAX_TARGETS, Refusal, Target, calendar_named, day_of_date, read
 use day_numbers::Day;
 use std::alloc::AllocError;
 use std::io::Read;
+use std::snapshot::Snapshot;
 
 /// An entry converted: its day, and the cells of that day for the targets that the row was made for;
 /// or the first refusal that applies. A row always is the row of its entry.
@@ -37,6 +38,8 @@ pub struct Row {
 }
 
 /// The day of a body, or the first refusal that applies.
+// One function for each caller, with all that it calls in it.
+#[inline(never)]
 fn day_of_body(body: &Body) -> Result<Day, Refusal>
     ensures { IsOutcome (body_seen body.now) (outcome_seen result) }
 {
@@ -78,17 +81,23 @@ fn have_one_date(body: &Body, other: &Body) -> bool
         && calendar.as_str() == other_calendar.as_str()
 }
 
-/// The outcome of a body: that of the body before where both have the same calendar and date, as in a register in order
-/// of time.
+/// The outcome of a body: that of the body before where both are known to have the same calendar and date, as in a
+/// register in order of time.
 #[inline(always)]
-fn next_outcome(before: &Body, outcome: Result<Day, Refusal>, body: &Body) -> Result<Day, Refusal>
-    requires { ∥ IsOutcome (body_seen before.now) (outcome_seen outcome) ∥₁ }
+fn next_outcome(
+    before: Snapshot<Body>,
+    outcome: Result<Day, Refusal>,
+    body: &Body,
+    same_date: bool,
+) -> Result<Day, Refusal>
+    requires known { ∥ IsOutcome (body_seen before.value) (outcome_seen outcome) ∥₁ }
+    requires same_date { same_date ≡ true → HaveOneDate (body_seen before.value) (body_seen body.now) }
     ensures { IsOutcome (body_seen body.now) (outcome_seen result) }
 {
     one_calendar();
     one_date_text();
     one_cell();
-    if have_one_date(before, body) {
+    if same_date {
         return outcome;
     }
     day_of_body(body)
@@ -154,7 +163,9 @@ impl Row {
         ensures targets { row_targets self.new ≡ targets_of setup.now }
         ensures row { IsRowOf (targets_of setup.now) (entry_seen entry.now) (row_seen self.new) }
     {
-        let next = next_outcome(self.entry.body(), self.outcome, entry.body());
+        let same_date = have_one_date(self.entry.body(), entry.body());
+        let before = Snapshot::of(self.entry.body());
+        let next = next_outcome(before, self.outcome, entry.body(), same_date);
         self.entry = *entry;
         reconvert(
             entry,
@@ -182,10 +193,11 @@ impl Row {
         ensures row { result ≡ Ok true
             → IsRowOf (targets_of setup.now) (entry_seen self.new.entry) (row_seen self.new) }
     {
-        let before = *self.entry.body();
+        let before = Snapshot::of(self.entry.body());
         let found = entries.read_next(&mut self.entry);
         if let Ok(true) = found {
-            let next = next_outcome(&before, self.outcome, self.entry.body());
+            let same_date = entries.same_date();
+            let next = next_outcome(before, self.outcome, self.entry.body(), same_date);
             reconvert(
                 &self.entry,
                 next,

@@ -7,12 +7,12 @@ pub returns-clause-value : goal.returns-clause-value
 returns-clause-value c =
     let self = c.args.self.now in
     (grown self.delimiter c.args.field.now (tail_bytes self) _ c.requires.plain self.plain
-    (rw c.copy_from_slice.ensures.after
+    (rw (c.copy_to_front.ensures.whole (omega arith))
     (put_field self.buffer c.args.field.now self.len self.delimiter _ (omega arith)))).fields
 
 pub invariant_of-self-clause-plain : goal.invariant_of-self-clause-plain
 invariant_of-self-clause-plain c =
     let self = c.args.self.now in
     (grown self.delimiter c.args.field.now (tail_bytes self) _ c.requires.plain self.plain
-    (rw c.copy_from_slice.ensures.after
+    (rw (c.copy_to_front.ensures.whole (omega arith))
     (put_field self.buffer c.args.field.now self.len self.delimiter _ (omega arith)))).plain

@@ -1,6 +1,6 @@
 -- The fields of a tail, while they are appended, and the cells among them.
 use Rattle.std.proofs.Common.{◌≡◌, ◌<◌, ◌≤◌, ◌+◌, ◌++◌, ℕ, List, [], ◌∷◌, true, false, refl, sym, ap, ◌∙◌}
-use Rattle.std.proofs.Common.{add-one, arith, append-nil, drop, drop-cons, get_or, length, length-drop}
+use Rattle.std.proofs.Common.{add-one, append_assoc, arith, append-nil, drop, drop-cons, get_or, length, length-drop}
 use Rattle.std.proofs.Common.{map, subst}
 use Rattle.std.proofs.Common.{set, take}
 use Rattle.std.specs.Prelude.{◌==◌, ℤ, pos, negsuc, zero, suc, Bool, IsTrue, nat_le, cond, Ok, Err, Result}
@@ -93,23 +93,27 @@ one_more_part d (b ∷ bytes) field h =
     [ true ↦ refl | false ↦ part_behind b (slice_split (cuts d) bytes) field (some_parts d bytes) ]
     )
 
--- the fields of some bytes, and of one more behind them
-pub record Grown (d : ℕ) (field old new : List ℕ) : Type 0 where
-  pub fields : fields_behind d new ≡ fields_behind d old ++ field ∷ []
+-- bytes to which these fields were appended
+pub record Grown (d : ℕ) (more : List (List ℕ)) (old new : List ℕ) : Type 0 where
+  pub fields : fields_behind d new ≡ fields_behind d old ++ more
   pub plain : new ≡ text d (fields_behind d new)
 
-pub grown : (d : ℕ) (field old new : List ℕ) → needs_quotes (writing d) field ≡ false
-    → old ≡ text d (fields_behind d old) → new ≡ old ++ d ∷ field → Grown d field old new
-grown d field old new h before is =
-    let fields : fields_behind d new ≡ fields_behind d old ++ field ∷ [] =
-    ap (fields_behind d) is ∙ ap (drop 1) (one_more_part d old field h)
-    ∙ part_after_first (slice_split (cuts d) old) field (some_parts d old) in
-    let bytes : new ≡ text d (fields_behind d old) ++ text d (field ∷ []) =
-    is ∙ ap (λ (t : List ℕ). t ++ d ∷ field) before
-    ∙ ap (λ (t : List ℕ). text d (fields_behind d old) ++ t) (sym (one_field d field h)) in
+pub none_yet : (d : ℕ) (old : List ℕ) → old ≡ text d (fields_behind d old) → Grown d [] old old
+none_yet d old is = record { fields = sym (append-nil _); plain = is }
+
+pub grown : (d : ℕ) (more : List (List ℕ)) (field old bytes new : List ℕ) → needs_quotes (writing d) field ≡ false
+    → Grown d more old bytes → new ≡ bytes ++ d ∷ field → Grown d (more ++ field ∷ []) old new
+grown d more field old bytes new h before is =
+    let fields : fields_behind d new ≡ fields_behind d bytes ++ field ∷ [] =
+    ap (fields_behind d) is ∙ ap (drop 1) (one_more_part d bytes field h)
+    ∙ part_after_first (slice_split (cuts d) bytes) field (some_parts d bytes) in
+    let whole : new ≡ text d (fields_behind d bytes) ++ text d (field ∷ []) =
+    is ∙ ap (λ (t : List ℕ). t ++ d ∷ field) before.plain
+    ∙ ap (λ (t : List ℕ). text d (fields_behind d bytes) ++ t) (sym (one_field d field h)) in
     record {
-      fields = fields;
-      plain = bytes ∙ sym (more_fields_text d (fields_behind d old) (field ∷ [])) ∙ ap (text d) (sym fields);
+      fields = fields ∙ ap (λ (t : List (List ℕ)). t ++ field ∷ []) before.fields
+          ∙ append_assoc (fields_behind d old) more (field ∷ []);
+      plain = whole ∙ sym (more_fields_text d (fields_behind d bytes) (field ∷ [])) ∙ ap (text d) (sym fields);
     }
 
 -- a field that is put behind a delimiter
@@ -118,13 +122,6 @@ pub put_field : (places field : List ℕ) (at d k : ℕ) → at < length places
 put_field places field at d k lt =
     put_after places field at d k (length field) lt (omega arith)
     ∙ ap (λ (t : List ℕ). take at places ++ d ∷ t) (take_all (length field) field (omega arith))
-
--- one that is put behind a delimiter in the room of a cell
-pub put_cell : (places room : List ℕ) (at d k n : ℕ) → at < length places → n ≤ length room
-    → take (at + (1 + n)) (put_mid (at + 1) k (set places at d) room) ≡ take at places ++ d ∷ take n room
-put_cell places room at d k n lt few =
-    let same : at + (1 + n) ≡ at + 1 + n = omega arith in
-    rw same (put_after places room at d k n lt few)
 
 -- a day number has eight bytes at most, and a refusal's one
 pub day_length : (z : ℤ) → IsDayNumber z → length (signed_decimal z) ≤ 8

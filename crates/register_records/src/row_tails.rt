@@ -70,6 +70,27 @@ fn write_field(room: &mut [u8], target: Target, outcome: Result<Day, Refusal>) -
     }
 }
 
+/// Writes a delimiter to a place in the bytes of a tail, and behind it what stands in the column of a target. Returns
+/// where that ends: what lies behind is written over by the next field.
+#[inline(always)]
+fn put_cell(
+    bytes: &mut [u8; TAIL_ROOM],
+    at: usize,
+    delimiter: u8,
+    target: Target,
+    outcome: Result<Day, Refusal>,
+) -> usize
+    requires { at + CELL_ROOM ≤ TAIL_ROOM }
+    ensures value { (cell : List ℕ) × IsCellField (outcome_seen outcome) target cell
+        × (take result bytes.new ≡ take at bytes.old ++ delimiter ∷ cell) }
+    ensures grows { result ≤ at + CELL_ROOM }
+{
+    bytes[at] = delimiter;
+    let room = &mut bytes[at + 1..at + CELL_ROOM];
+    let len = write_field(room, target, outcome);
+    at + 1 + len as usize
+}
+
 /// Whether two outcomes are one.
 fn is_same_outcome(outcome: Result<Day, Refusal>, other: Result<Day, Refusal>) -> bool
     ensures { result ≡ true → outcome_seen outcome ≡ outcome_seen other }
@@ -158,24 +179,6 @@ impl RowTail {
         self.len = end as u16;
     }
 
-    /// Appends what stands in the column of a target, written where it stays. What lies behind its text is written over
-    /// by the next field.
-    #[inline(always)]
-    fn push_cell(&mut self, target: Target, outcome: Result<Day, Refusal>)
-        requires { self.old.len + CELL_ROOM ≤ TAIL_ROOM }
-        ensures value { (cell : List ℕ) × IsCellField (outcome_seen outcome) target cell
-            × (fields_of self.new ≡ fields_of self.old ++ cell ∷ []) }
-        ensures grows { self.new.len ≤ self.old.len + CELL_ROOM }
-        ensures delimiter { self.new.delimiter ≡ self.old.delimiter }
-    {
-        cells_are_plain();
-        let at = self.len as usize;
-        self.buffer[at] = self.delimiter;
-        let room = &mut self.buffer[at + 1..at + 1 + MAX_CELL];
-        let len = write_field(room, target, outcome);
-        self.len += 1 + len as u16;
-    }
-
     /// Appends the cells, which a refused row has not.
     fn push_cells(&mut self, targets: &[Target], outcome: Result<Day, Refusal>)
         requires few { length targets.now ≤ MAX_TARGETS }
@@ -187,9 +190,14 @@ impl RowTail {
         ensures delimiter { self.new.delimiter ≡ self.old.delimiter }
     {
         one_cell();
+        cells_are_plain();
+        let delimiter = self.delimiter;
+        let mut end = self.len as usize;
+        let bytes = &mut self.buffer;
         'cells: for target in targets {
-            self.push_cell(*target, outcome);
+            end = put_cell(bytes, end, delimiter, *target, outcome);
         }
+        self.len = end as u16;
     }
 
     /// Appends what stands in a column of a tail. A refused row has no day, and an accepted one no refusal.

@@ -10,7 +10,7 @@ use Rattle.std.proofs.lemmas.Bool.{or_parts}
 use Rattle.std.proofs.lemmas.Bool.Decides.{nat_tests}
 use Rattle.std.proofs.lemmas.Fmt.{length-decimal-le, length_signed_le}
 use Rattle.std.proofs.lemmas.Int.{ints}
-use Rattle.std.proofs.lemmas.List.{at_drop_more, take_all, take_at}
+use Rattle.std.proofs.lemmas.List.{take_all, take_at}
 use Rattle.std.proofs.lemmas.List.Splits.{length-slice_split}
 use Rattle.std.proofs.Math.Logic.{∥∥₁_elim}
 use Rattle.std.proofs.Props.{props}
@@ -29,17 +29,15 @@ use Rattle.date_texts.specs.Laws.{CellsArePlain, OneCell}
 use Rattle.register_records.specs.RowTails.{cells_of, fields_of, is_cells}
 use Rattle.register_records.specs.Columns.{Column, cell_columns, tail_order}
 use Rattle.register_records.specs.TableColumns.{IsCellField, column_texts, row_with, tail_texts}
-use Rattle.register_records.specs.LineRoom.{columns_room, plain_room, writing}
+use Rattle.register_records.specs.LineRoom.{writing}
 use Rattle.register_records.specs.Lines.{fields_behind}
 use Rattle.register_records.specs.Outcomes.{AreCells}
 use Rattle.register_records.specs.Seen.{outcome_seen}
 use Rattle.register_records.specs.SetupRules.{is_delimiter}
 use Rattle.register_records.specs.declared.row_tails.RowTail.{RowTail}
-use Rattle.register_records.specs.declared.row_tails.TheConstants.{TAIL_ROOM}
-use Rattle.register_records.specs.declared.table_columns.TailColumn.{TailColumn}
 use Rattle.register_records.specs.declared.table_columns.TailColumn.TheVariants.{Cells, Refusal as RefusalColumn}
 use Rattle.register_records.proofs.EveryTableLemmas.{has_cells}
-use Rattle.register_records.proofs.LineLemmas.{more_fields_text, one_more_column, plain_bytes, plain_text, put_after}
+use Rattle.register_records.proofs.LineLemmas.{more_fields_text, plain_bytes, plain_text, put_after}
 
 -- the bytes of fields behind delimiters
 abbrev pub text : ℕ → List (List ℕ) → List ℕ
@@ -98,22 +96,32 @@ pub record Grown (d : ℕ) (more : List (List ℕ)) (old new : List ℕ) : Type 
   pub fields : fields_behind d new ≡ fields_behind d old ++ more
   pub plain : new ≡ text d (fields_behind d new)
 
-pub none_yet : (d : ℕ) (old : List ℕ) → old ≡ text d (fields_behind d old) → Grown d [] old old
-none_yet d old is = record { fields = sym (append-nil _); plain = is }
-
-pub grown : (d : ℕ) (more : List (List ℕ)) (field old bytes new : List ℕ) → needs_quotes (writing d) field ≡ false
-    → Grown d more old bytes → new ≡ bytes ++ d ∷ field → Grown d (more ++ field ∷ []) old new
-grown d more field old bytes new h before is =
-    let fields : fields_behind d new ≡ fields_behind d bytes ++ field ∷ [] =
-    ap (fields_behind d) is ∙ ap (drop 1) (one_more_part d bytes field h)
-    ∙ part_after_first (slice_split (cuts d) bytes) field (some_parts d bytes) in
-    let whole : new ≡ text d (fields_behind d bytes) ++ text d (field ∷ []) =
-    is ∙ ap (λ (t : List ℕ). t ++ d ∷ field) before.plain
-    ∙ ap (λ (t : List ℕ). text d (fields_behind d bytes) ++ t) (sym (one_field d field h)) in
+pub grown : (d : ℕ) (field old new : List ℕ) → needs_quotes (writing d) field ≡ false
+    → old ≡ text d (fields_behind d old) → new ≡ old ++ d ∷ field → Grown d (field ∷ []) old new
+grown d field old new h before is =
+    let fields : fields_behind d new ≡ fields_behind d old ++ field ∷ [] =
+    ap (fields_behind d) is ∙ ap (drop 1) (one_more_part d old field h)
+    ∙ part_after_first (slice_split (cuts d) old) field (some_parts d old) in
+    let bytes : new ≡ text d (fields_behind d old) ++ text d (field ∷ []) =
+    is ∙ ap (λ (t : List ℕ). t ++ d ∷ field) before
+    ∙ ap (λ (t : List ℕ). text d (fields_behind d old) ++ t) (sym (one_field d field h)) in
     record {
-      fields = fields ∙ ap (λ (t : List (List ℕ)). t ++ field ∷ []) before.fields
+      fields = fields;
+      plain = bytes ∙ sym (more_fields_text d (fields_behind d old) (field ∷ [])) ∙ ap (text d) (sym fields);
+    }
+
+pub not_grown : (d : ℕ) (old : List ℕ) → old ≡ text d (fields_behind d old) → Grown d [] old old
+not_grown d old is = record { fields = sym (append-nil _); plain = is }
+
+pub grown_more : (d : ℕ) (more : List (List ℕ)) (field old bytes new : List ℕ)
+    → needs_quotes (writing d) field ≡ false → Grown d more old bytes → new ≡ bytes ++ d ∷ field
+    → Grown d (more ++ field ∷ []) old new
+grown_more d more field old bytes new h before is =
+    let last = grown d field bytes new h before.plain is in
+    record {
+      fields = last.fields ∙ ap (λ (t : List (List ℕ)). t ++ field ∷ []) before.fields
           ∙ append_assoc (fields_behind d old) more (field ∷ []);
-      plain = whole ∙ sym (more_fields_text d (fields_behind d bytes) (field ∷ [])) ∙ ap (text d) (sym fields);
+      plain = last.plain;
     }
 
 -- a field that is put behind a delimiter
@@ -204,16 +212,6 @@ no_cells r place (t ∷ ts) (x ∷ fields) a =
     let nothing : x ≡ [] = a.0 in
     cc (more, nothing)
 
--- there is room for the columns that are left
-pub room_left : (columns : List TailColumn) (i : ℕ) (e : TailColumn) (old new : ℕ) → i < length columns
-    → new ≤ old + plain_room (get_or columns i e) → old + columns_room plain_room (drop i columns) ≤ TAIL_ROOM
-    → new + columns_room plain_room (drop (i + 1) columns) ≤ TAIL_ROOM
-room_left columns i e old new lt grows room =
-    let split : columns_room plain_room (drop i columns)
-    ≡ plain_room (get_or columns i e) + columns_room plain_room (drop (i + 1) columns) =
-    at_drop_more (columns_room plain_room) columns i e lt in
-    omega arith
-
 -- as many stand beside a list as it has items
 as_many : {A B : Type 0} (R : A → B → Type 0) (xs : List A) (ys : List B) → AllZip R xs ys → length ys ≡ length xs
 as_many R [] [] all = refl
@@ -240,19 +238,10 @@ pub one_cells : OneCell → (o : Result ℤ Refusal) (ts : List Target) (xs ys :
 one_cells law (Err r) ts xs ys a b = a ∙ sym b
 one_cells law (Ok n) ts xs ys a b = one_beside (λ t cell. IsCell t n cell) (λ t x y. law t n x y) ts xs ys a b
 
--- what stands in one more column of a tail, whatever its cells are
-pub one_more_written : (ts : List Target) (o : Result ℤ Refusal) (i : ℕ) (e : TailColumn) (old new : List (List ℕ))
-    → i < length tail_order
-    → ((cells : List (List ℕ)) → AreCells ts o cells
-    → new ≡ old ++ column_texts ts o cells (get_or tail_order i e))
-    → ((cells : List (List ℕ)) → AreCells ts o cells
-    → old ≡ flat_map (column_texts ts o cells) (take i tail_order))
-    → (cells : List (List ℕ)) → AreCells ts o cells
-    → new ≡ flat_map (column_texts ts o cells) (take (i + 1) tail_order)
-one_more_written ts o i e old new inside more before cells are =
-    more cells are ∙ ap (λ (fields : List (List ℕ)). fields ++ column_texts ts o cells (get_or tail_order i e))
-    (before cells are)
-    ∙ one_more_column (column_texts ts o cells) [] tail_order i e inside
+-- what was appended in four steps
+pub four_texts : {A : Type 0} {none one two three four : List A} (a b c d : List A) → none ≡ [] → one ≡ none ++ a
+    → two ≡ one ++ b → three ≡ two ++ c → four ≡ three ++ d → four ≡ a ++ (b ++ (c ++ (d ++ [])))
+four_texts a b c d e f g h i = rw (i, h, g, f, e) (simp (append_assoc, append-nil))
 
 -- what stands in the column of each target is what stands in those of the cells
 pub shown_cells : OneCell → (o : Result ℤ Refusal) (ts : List Target) (fields cells : List (List ℕ))

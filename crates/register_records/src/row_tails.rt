@@ -16,7 +16,7 @@ ghost use Rattle.register_records.specs.declared.row_tails.TheConstants.{CELL_RO
 
 use crate::setups::Setup;
 use crate::short_lists::ShortList;
-use crate::table_columns::{CELLS_PLACE, TailColumn, tail_columns};
+use crate::table_columns::{CELLS_PLACE, TailColumn};
 use crate::target_lists::TargetList;
 use byte_copies::copy_to_front;
 use date_texts::laws::{cells_are_plain, one_cell};
@@ -201,6 +201,7 @@ impl RowTail {
     }
 
     /// Appends what stands in a column of a tail. A refused row has no day, and an accepted one no refusal.
+    #[inline(always)]
     fn push_column(&mut self, column: TailColumn, targets: &[Target], outcome: Result<Day, Refusal>)
         requires few { length targets.now ≤ MAX_TARGETS }
         requires room { self.old.len + plain_room column ≤ TAIL_ROOM }
@@ -235,9 +236,10 @@ impl RowTail {
         ensures delimiter { self.new.delimiter ≡ delimiter }
     {
         self.clear(delimiter);
-        'columns: for column in tail_columns() {
-            self.push_column(*column, targets, outcome);
-        }
+        self.push_column(TailColumn::DayNumber, targets, outcome);
+        self.push_column(TailColumn::Weekday, targets, outcome);
+        self.push_column(TailColumn::Cells, targets, outcome);
+        self.push_column(TailColumn::Refusal, targets, outcome);
     }
 
     /// Turns this tail, of an outcome for some targets, into that of the next outcome for the setup's. It stays where

@@ -6,13 +6,13 @@ use Rattle.date_texts.specs.declared.target.Target.{Target}
 use Rattle.register_records.specs.RowTails.{fields_of, tail_bytes}
 use Rattle.register_records.specs.Seen.{outcome_seen}
 use Rattle.register_records.specs.TableColumns.{IsCellField}
-use Rattle.register_records.proofs.RowTailLemmas.{grown, none_yet, one_more_beside, plain_field, shown_cells}
+use Rattle.register_records.proofs.RowTailLemmas.{grown_more, not_grown, one_more_beside, plain_field, shown_cells}
 use Rattle.register_records.proofs.row_tails.RowTail.push_cells.Goals as goal
 
 pub cells-init : goal.cells-init
 cells-init c =
     let self = c.args.self.now in
-    record { made = ([], tt, none_yet self.delimiter (tail_bytes self) self.plain); room = omega arith }
+    record { made = ([], tt, not_grown self.delimiter (tail_bytes self) self.plain); room = omega arith }
 
 pub cells-preserved : goal.cells-preserved
 cells-preserved c =
@@ -29,7 +29,7 @@ cells-preserved c =
         subst (λ (ts : List Target). AllZip (IsCellField o) ts (made ++ cell ∷ []))
             (sym (take_more targets i _ c.cells-test.true))
             (one_more_beside (IsCellField o) (take i targets) made _ cell are is),
-        grown self.delimiter made cell (tail_bytes self) _ _
+        grown_more self.delimiter made cell (tail_bytes self) _ _
             (plain_field c.cells_are_plain.ensures self.delimiter self.separated o _ cell is) before more,
       );
       room = omega (arith, c.put_cell-end.ensures.grows, inv.room);

@@ -8,7 +8,7 @@ use Rattle.std.proofs.lemmas.Int.{ints}
 use Rattle.std.proofs.lemmas.Bool.{and_parts}
 use Rattle.std.proofs.lemmas.Bool.Decides.{nat_tests}
 use Rattle.std.proofs.lemmas.Fmt.{decimal_by_steps}
-use Rattle.std.proofs.lemmas.List.{flat_map_more, map-append, take_more, take_more_set, take-append-le}
+use Rattle.std.proofs.lemmas.List.{at_drop_more, flat_map_more, map-append, take_more, take_all, take_more_set, take-append-le}
 use Rattle.std.proofs.lemmas.List.{length-take-le}
 use Rattle.std.proofs.lemmas.Simd.{map-map}
 use Rattle.std.proofs.Math.Seq.{take-append-add}
@@ -18,12 +18,15 @@ use Rattle.std.specs.List.{flat_map, list_all}
 use Rattle.csv.specs.Writing.{field_text, fields_text, is_blank, needs_byte, needs_quotes, row_body}
 use Rattle.csv.proofs.WriteFacts.{fields-snoc}
 use Rattle.day_numbers.specs.Days.{IsDayNumber}
-use Rattle.register_records.specs.LineRoom.{columns_room, entry_room, number_room, quoted_room, writing}
+use Rattle.register_records.specs.LineRoom.{columns_room, entry_room, name_limit, number_room, quoted_room, writing}
 use Rattle.register_records.specs.Lines.{line_text}
 use Rattle.register_records.specs.SetupRules.{is_delimiter}
 use Rattle.date_texts.specs.Cells.{is_plain}
-use Rattle.date_texts.specs.Calendars.{target_name}
+use Rattle.date_texts.specs.Calendars.{calendar_name, target_name}
+use Rattle.date_texts.specs.declared.calendar.Calendar.{Calendar as OwnCalendar}
+use Rattle.date_texts.specs.declared.calendar.Calendar.TheVariants.{Gregorian}
 use Rattle.date_texts.specs.declared.target.Target.{Target}
+use Rattle.date_texts.specs.declared.target.Target.TheVariants.{Date as DateTarget, Haab, Tzolkin}
 use Rattle.register_records.specs.Columns.{Column, cell_columns, columns, entry_column, entry_order, tail_column}
 use Rattle.register_records.specs.Columns.{tail_order}
 use Rattle.register_records.specs.TableColumns.{column_texts, entry_field, entry_name, heading, laid_out}
@@ -69,6 +72,16 @@ ended d before (a ∷ []) old new some is n = absurd (omega arith)
 ended d before (a ∷ b ∷ rest) old new some is n =
     rw (n, is) (append_assoc before (body d (a ∷ b ∷ rest)) (10 ∷ []))
 
+-- there is room for the columns behind one that was written
+pub room_for_rest : {C : Type 0} (room : C → ℕ) (columns : List C) (i : ℕ) (e : C) (old new limit : ℕ)
+    → i < length columns → new ≤ old + room (get_or columns i e) → old + columns_room room (drop i columns) ≤ limit
+    → new + columns_room room (drop (i + 1) columns) ≤ limit
+room_for_rest room columns i e old new limit lt grows before =
+    let split : columns_room room (drop i columns)
+    ≡ room (get_or columns i e) + columns_room room (drop (i + 1) columns) =
+    at_drop_more (columns_room room) columns i e lt in
+    omega arith
+
 -- one more of the fields that the items of a list give
 pub one_item : {X : Type 0} (f : X → List ℕ) (d : ℕ) (before : List ℕ) (first : List (List ℕ)) (xs : List X) (i : ℕ)
     (e : X) (field new : List ℕ) → i < length xs → field ≡ f (get_or xs i e)
@@ -109,6 +122,16 @@ pub more_fields : (d : ℕ) (before : List ℕ) (fields more : List (List ℕ)) 
 more_fields d before [] more old new some is n = absurd (omega arith)
 more_fields d before (f ∷ fields) more old new some is n =
     rw (n, is, more_fields_text d fields more) (simp append_assoc refl)
+
+-- bytes that are written at a place: what lies before, and they
+pub put_there : (room bytes : List ℕ) (at k : ℕ) → at ≤ length room
+    → take (at + length bytes) (put_mid at k room bytes) ≡ take at room ++ bytes
+put_there room bytes at k le =
+    let front : at ≡ length (take at room) = omega (arith, length-take-le at room le) in
+    ap (λ n. take (n + length bytes) (put_mid at k room bytes)) front
+    ∙ take-append-add (take at room) _ (length bytes)
+    ∙ ap (λ (t : List ℕ). take at room ++ t)
+    (take-append-le (length bytes) bytes _ (omega arith) ∙ take_all (length bytes) bytes (omega arith))
 
 -- a byte is set in a list, and others are written from the place after it: what lies before, the byte, and some of them
 pub put_after : (room places : List ℕ) (at d k count : ℕ) → at < length room → count ≤ length places
@@ -173,11 +196,11 @@ pub first_number : (form : Form) (e : EntryColumn) → get_or (entry_order form)
 first_number Plain e = refl
 first_number Sealed e = refl
 
-pub first_field : (form : Form) (f : EntryColumn → List ℕ) (d e : ℕ) (before field bytes : List ℕ) → e ≡ d
+pub first_field : (form : Form) (f : EntryColumn → List ℕ) (d : ℕ) (before field bytes : List ℕ)
     → needs_quotes (writing d) field ≡ false → field ≡ f Number → bytes ≡ before ++ field
-    → bytes ≡ before ++ body e (map f (take 1 (entry_order form)))
-first_field Plain f d e before field bytes same h is b = rw (same, ← is) (only_field d before field bytes h b)
-first_field Sealed f d e before field bytes same h is b = rw (same, ← is) (only_field d before field bytes h b)
+    → bytes ≡ before ++ body d (map f (take 1 (entry_order form)))
+first_field Plain f d before field bytes h is b = rw (← is) (only_field d before field bytes h b)
+first_field Sealed f d before field bytes h is b = rw (← is) (only_field d before field bytes h b)
 
 -- there is room for those that follow
 pub room_behind : (form : Form) → number_room + columns_room quoted_room (drop 1 (entry_order form)) ≤ entry_room
@@ -252,3 +275,13 @@ fields_in_parts form ts row =
     in_parts (λ (c : Column). c.field row) form ts
     ∙ ap (λ (fields : List (List ℕ)). map (entry_field row) (entry_order form) ++ fields)
     (same_of_all _ (column_texts ts row.outcome row.cells) (same_fields row ts) tail_order)
+
+-- the names of the targets are short
+short_calendar : (calendar : OwnCalendar) → length (calendar_name calendar) ≤ name_limit
+short_calendar Gregorian = omega arith
+short_calendar calendar = omega arith
+
+pub short_name : (t : Target) → length (target_name t) ≤ name_limit
+short_name (DateTarget calendar) = short_calendar calendar
+short_name Haab = omega arith
+short_name Tzolkin = omega arith

@@ -1,6 +1,6 @@
 -- How a line is written, and how many bytes its fields take at most. No public contract cites this file.
-use Rattle.std.specs.Prelude.{◌+◌, ◌*◌, ℕ, List, [], ◌∷◌, drop}
-use Rattle.csv.specs.Writing.{default_writer, with_delimiter}
+use Rattle.std.specs.Prelude.{◌≡◌, ◌≤◌, ◌+◌, ◌*◌, ◌++◌, ℕ, List, [], ◌∷◌, drop, length}
+use Rattle.csv.specs.Writing.{default_writer, row_body, with_delimiter}
 use Rattle.csv.specs.declared.writer.WriterBuilder.{WriterBuilder}
 use Rattle.date_texts.specs.declared.target.TheConstants.{MAX_TARGETS}
 use Rattle.register_records.specs.Columns.{entry_order}
@@ -16,6 +16,16 @@ use Rattle.register_records.specs.declared.table_columns.TailColumn.TheVariants.
 -- as csv writes by its defaults, with this delimiter
 abbrev pub writing : ℕ → WriterBuilder
 writing delimiter = with_delimiter default_writer delimiter
+
+-- bytes that are those that stood before, and then these fields with the delimiter between two of them
+abbrev pub Begins : ℕ → List ℕ → List (List ℕ) → List ℕ → Type 0
+Begins delimiter before fields bytes = bytes ≡ before ++ row_body (writing delimiter) fields
+
+-- a line of a field or more gained these
+abbrev pub GainsFields : ℕ → List (List ℕ) → List ℕ → List ℕ → Type 0
+GainsFields delimiter more old new =
+    (before : List ℕ) (fields : List (List ℕ)) → 1 ≤ length fields → Begins delimiter before fields old
+    → Begins delimiter before (fields ++ more) new
 
 -- a field with this many bytes: two quotes, and each byte twice
 abbrev pub field_room : ℕ → ℕ
@@ -51,3 +61,14 @@ columns_room room (column ∷ columns) = room column + columns_room room columns
 -- what a row has of its entry: the number, and the texts
 abbrev pub entry_room : ℕ
 entry_room = number_room + columns_room quoted_room (drop 1 (entry_order Sealed))
+
+-- the names that head columns, of which each has so many bytes at most
+abbrev pub name_limit : ℕ
+name_limit = 16
+
+abbrev pub name_room : TailColumn → ℕ
+name_room Cells = MAX_TARGETS * (1 + field_room name_limit)
+name_room column = 1 + field_room name_limit
+
+abbrev pub entry_name_room : ℕ
+entry_name_room = 5 * (1 + field_room name_limit)

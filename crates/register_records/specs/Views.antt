@@ -1,5 +1,5 @@
 -- What a clause sees of the types of this crate.
-use Rattle.std.specs.Prelude.{Bool, ℕ, List, Option}
+use Rattle.std.specs.Prelude.{Bool, ℕ, List, Option, take}
 use Rattle.std.specs.declared.io.traits.Read.{Ghosts}
 use Rattle.date_texts.specs.declared.target.Target.{Target}
 use Rattle.register_records.specs.RowTails.{cells_of}
@@ -68,7 +68,7 @@ has_output_failed w = output_failed w.state
 
 -- the bytes of the lines that wait to be sent
 abbrev pub waiting_in : RowWriter → List ℕ
-waiting_in w = w.lines.bytes.items
+waiting_in w = take w.lines.len w.lines.bytes.items
 
 -- the line that it makes of a row
 abbrev pub line_of : RowWriter → Row → List ℕ

@@ -1,24 +1,28 @@
 //! Lines of fields, as csv's writer would write them.
 //!
-//! They are made by hand, in memory that is used again: the writer of `csv` can be had back only by consuming it.
+//! They are made by hand, in memory that is used again: the writer of `csv` can be had back only by consuming it. All of
+//! the memory is written once, so that a byte is put by a store, and a text by a copy.
 
-ghost use Rattle.std.specs.Prelude.{◌≡◌, ◌≤◌, ◌+◌, ◌++◌, ◌∷◌, [], ℕ, List, true, false, length};
-ghost use Rattle.std.specs.Prelude.{IfOk, IsOk, OnOk, vec_capacity, vec_len};
+ghost use Rattle.std.specs.Prelude.{◌≡◌, ◌≤◌, ◌<◌, ◌+◌, ◌^◌, ◌++◌, ◌∷◌, [], List, true, false, length, take};
+ghost use Rattle.std.specs.Prelude.{IfOk, IsOk, OnOk, vec_len};
 ghost use Rattle.csv.specs.Writing as Spec;
-ghost use Rattle.csv.specs.Writing.{fields_text};
-ghost use Rattle.register_records.specs.LineRoom.{field_room, writing};
-ghost use Rattle.register_records.specs.Lines.{line_text};
+ghost use Rattle.register_records.specs.LineRoom.{GainsFields, field_room, writing};
 ghost use Rattle.register_records.specs.SetupRules.{is_delimiter};
 
 use std::alloc::{AllocError, Global};
 
 const QUOTE: u8 = b'"';
 
-/// Lines that wait, and the fields so far of one more behind them, in memory that serves again.
+/// Lines that wait, in memory that serves again.
 #[derive(Drop)]
 pub(crate) struct CsvLines {
-    bytes: Vec<u8>,
-    delimiter: u8,
+    /// The bytes of the lines, and room behind them.
+    pub(crate) bytes: Vec<u8>,
+    /// How many bytes the lines have.
+    pub(crate) len: usize,
+    /// The byte between two fields.
+    pub(crate) delimiter: u8,
+    ghost held: { len ≤ vec_len bytes },
     ghost separated: { is_delimiter delimiter ≡ true },
 }
 
@@ -36,78 +40,118 @@ fn needs_quotes(delimiter: u8, field: &[u8]) -> bool
     field.iter().any(|b| is_special(delimiter, *b))
 }
 
-/// Appends a byte of a quoted field: a quote is doubled.
-fn push_escaped(line: &mut Vec<u8>, delimiter: u8, b: u8) -> Result<(), AllocError>
-    ensures value { OnOk result (line.new.items ≡ line.old.items ++ Spec.escaped (writing delimiter) (b ∷ [])) }
-    ensures room { vec_len line.old + 2 ≤ vec_capacity line.old → IsOk result }
-    ensures grows { OnOk result (vec_len line.new ≤ vec_len line.old + 2) }
-    ensures capacity { vec_capacity line.old ≤ vec_capacity line.new }
+/// Puts bytes at this place as they stand, and returns the place behind them.
+#[inline(always)]
+pub(crate) fn put(room: &mut [u8], at: usize, bytes: &[u8]) -> usize
+    requires { at + length bytes.now ≤ length room.old }
+    ensures value { take result room.new ≡ take at room.old ++ bytes.now }
+    ensures end { result ≡ at + length bytes.now }
+    ensures len { length room.new ≡ length room.old }
 {
-    if b == QUOTE {
-        line.push(QUOTE)?;
-        line.push(QUOTE)?;
-    } else {
-        line.push(b)?;
-    }
-    Ok(())
+    let end = at + bytes.len();
+    room[at..end].copy_from_slice(bytes);
+    end
 }
 
-/// Appends a field, quoted where it must be.
+/// Puts one byte there.
+#[inline(always)]
+pub(crate) fn put_byte(room: &mut [u8], at: usize, byte: u8) -> usize
+    requires { at < length room.old }
+    ensures value { take result room.new ≡ take at room.old ++ byte ∷ [] }
+    ensures end { result ≡ at + 1 }
+    ensures len { length room.new ≡ length room.old }
+{
+    room[at] = byte;
+    at + 1
+}
+
+/// Puts a byte of a quoted field there: a quote is doubled.
+fn put_escaped(room: &mut [u8], at: usize, delimiter: u8, byte: u8) -> usize
+    requires { at + 2 ≤ length room.old }
+    ensures value { take result room.new ≡ take at room.old ++ Spec.escaped (writing delimiter) (byte ∷ []) }
+    ensures short { result ≤ at + 2 }
+    ensures len { length room.new ≡ length room.old }
+{
+    if byte == QUOTE {
+        let at = put_byte(room, at, QUOTE);
+        return put_byte(room, at, QUOTE);
+    }
+    put_byte(room, at, byte)
+}
+
+/// Puts a field there, quoted where it must be.
 // Not inlined, so that what most fields need stays small.
 #[inline(never)]
-fn push_field(line: &mut Vec<u8>, delimiter: u8, field: &[u8]) -> Result<(), AllocError>
-    ensures value { OnOk result (line.new.items ≡ line.old.items ++ Spec.field_text (writing delimiter) field.now) }
-    ensures room { vec_len line.old + field_room (length field.now) ≤ vec_capacity line.old → IsOk result }
-    ensures grows { OnOk result (vec_len line.new ≤ vec_len line.old + field_room (length field.now)) }
-    ensures capacity { vec_capacity line.old ≤ vec_capacity line.new }
+fn put_quotable(room: &mut [u8], at: usize, delimiter: u8, field: &[u8]) -> usize
+    requires { at + field_room (length field.now) ≤ length room.old }
+    ensures value { take result room.new ≡ take at room.old ++ Spec.field_text (writing delimiter) field.now }
+    ensures short { result ≤ at + field_room (length field.now) }
+    ensures len { length room.new ≡ length room.old }
 {
     if !needs_quotes(delimiter, field) {
-        line.extend_from_slice(field)?;
-        return Ok(());
+        return put(room, at, field);
     }
-    line.push(QUOTE)?;
+    let mut end = put_byte(room, at, QUOTE);
     'bytes: for b in field {
-        push_escaped(line, delimiter, *b)?;
+        end = put_escaped(room, end, delimiter, *b);
     }
-    line.push(QUOTE)?;
-    Ok(())
+    put_byte(room, end, QUOTE)
+}
+
+/// Puts one more field of a line there, behind a delimiter, and quoted where it must be. It is looked through for bytes
+/// that call for quotes, unless it is known to have none.
+#[inline(always)]
+pub(crate) fn put_field(
+    room: &mut [u8],
+    at: usize,
+    delimiter: u8,
+    field: &[u8],
+    bare: bool,
+) -> usize
+    requires bare { bare ≡ true → Spec.needs_quotes (writing delimiter) field.now ≡ false }
+    requires room { at + (1 + field_room (length field.now)) ≤ length room.old }
+    ensures value { GainsFields delimiter (field.now ∷ []) (take at room.old) (take result room.new) }
+    ensures short { result ≤ at + (1 + field_room (length field.now)) }
+    ensures len { length room.new ≡ length room.old }
+{
+    let at = put_byte(room, at, delimiter);
+    if bare {
+        return put(room, at, field);
+    }
+    put_quotable(room, at, delimiter, field)
 }
 
 impl CsvLines {
-    ghost use Rattle.register_records.specs.LineViews.{Begins, GainsFields, line_bytes, line_capacity};
-    ghost use Rattle.register_records.specs.LineViews.{line_delimiter, line_len};
+    ghost use Rattle.register_records.specs.LineViews.{line_bytes, line_capacity, line_delimiter, line_len};
 
     /// No line yet, in memory for so many bytes. This delimiter will separate the fields.
     pub fn new(alloc: Global, delimiter: u8, room: usize) -> Result<CsvLines, AllocError>
         requires { is_delimiter delimiter ≡ true }
         ensures delimiter { IfOk result (λ lines. line_delimiter lines ≡ delimiter) }
         ensures none { IfOk result (λ lines. line_bytes lines ≡ []) }
+        ensures len { IfOk result (λ lines. line_len lines ≡ 0) }
         ensures room { IfOk result (λ lines. room ≤ line_capacity lines) }
     {
-        let bytes = Vec::with_capacity(alloc, room)?;
-        Ok(CsvLines { bytes, delimiter })
+        let bytes = Vec::from_elem(alloc, 0, room)?;
+        Ok(CsvLines {
+            bytes,
+            len: 0,
+            delimiter,
+        })
     }
 
     /// The bytes so far.
     pub fn as_slice(&self) -> &[u8]
         ensures { result.now ≡ line_bytes self.now }
     {
-        self.bytes.as_slice()
+        &self.bytes[..self.len]
     }
 
     /// How many they are.
     pub fn len(&self) -> usize
         ensures { result ≡ length (line_bytes self.now) }
     {
-        self.bytes.len()
-    }
-
-    /// The byte between two fields.
-    pub fn delimiter(&self) -> u8
-        ensures value { result ≡ line_delimiter self.now }
-        ensures separated { is_delimiter result ≡ true }
-    {
-        self.delimiter
+        self.len
     }
 
     /// Lets the lines go, and keeps their memory.
@@ -116,64 +160,22 @@ impl CsvLines {
         ensures kept { line_delimiter self.new ≡ line_delimiter self.old }
         ensures capacity { line_capacity self.new ≡ line_capacity self.old }
     {
-        self.bytes.clear();
+        self.len = 0;
     }
 
     /// Takes memory for so many bytes more, where there is not enough.
     pub fn reserve(&mut self, room: usize) -> Result<(), AllocError>
+        requires { room < 2 ^ 32 }
         ensures value { line_bytes self.new ≡ line_bytes self.old }
         ensures kept { line_delimiter self.new ≡ line_delimiter self.old }
         ensures room { OnOk result (line_len self.new + room ≤ line_capacity self.new) }
         ensures capacity { line_capacity self.old ≤ line_capacity self.new }
         ensures roomy { line_len self.old + room ≤ line_capacity self.old → IsOk result }
     {
-        self.bytes.reserve(room)
-    }
-
-    /// Appends bytes as they stand.
-    pub fn extend(&mut self, bytes: &[u8]) -> Result<(), AllocError>
-        ensures value { OnOk result (line_bytes self.new ≡ line_bytes self.old ++ bytes.now) }
-        ensures fields { (more : List (List ℕ)) → bytes.now ≡ fields_text (writing (line_delimiter self.old)) more
-            → OnOk result (GainsFields more self.old self.new) }
-        ensures kept { line_delimiter self.new ≡ line_delimiter self.old }
-        ensures room { line_len self.old + length bytes.now ≤ line_capacity self.old → IsOk result }
-        ensures grows { OnOk result (line_len self.new ≤ line_len self.old + length bytes.now) }
-        ensures capacity { line_capacity self.old ≤ line_capacity self.new }
-    {
-        self.bytes.extend_from_slice(bytes)?;
-        Ok(())
-    }
-
-    /// Appends one more field, quoted where it must be. It is looked through for bytes that call for quotes, unless it
-    /// is known to have none.
-    #[inline(always)]
-    pub fn push(&mut self, field: &[u8], bare: bool) -> Result<(), AllocError>
-        requires { bare ≡ true → Spec.needs_quotes (writing (line_delimiter self.old)) field.now ≡ false }
-        ensures value { OnOk result (GainsFields (field.now ∷ []) self.old self.new) }
-        ensures kept { line_delimiter self.new ≡ line_delimiter self.old }
-        ensures room { line_len self.old + (1 + field_room (length field.now)) ≤ line_capacity self.old → IsOk result }
-        ensures grows { OnOk result (line_len self.new ≤ line_len self.old + (1 + field_room (length field.now))) }
-        ensures capacity { line_capacity self.old ≤ line_capacity self.new }
-    {
-        self.bytes.push(self.delimiter)?;
-        if bare {
-            self.bytes.extend_from_slice(field)?;
+        let end = self.len + room;
+        if end <= self.bytes.len() {
             return Ok(());
         }
-        push_field(&mut self.bytes, self.delimiter, field)?;
-        Ok(())
-    }
-
-    /// Ends a line of two fields or more: a line of one empty field would need quotes.
-    pub fn end(&mut self) -> Result<(), AllocError>
-        ensures value { (before : List ℕ) (fields : List (List ℕ)) → 2 ≤ length fields → Begins before fields self.old
-            → OnOk result (line_bytes self.new ≡ before ++ line_text (line_delimiter self.old) fields) }
-        ensures kept { line_delimiter self.new ≡ line_delimiter self.old }
-        ensures room { line_len self.old + 1 ≤ line_capacity self.old → IsOk result }
-        ensures grows { OnOk result (line_len self.new ≤ line_len self.old + 1) }
-        ensures capacity { line_capacity self.old ≤ line_capacity self.new }
-    {
-        self.bytes.push(b'\n')?;
-        Ok(())
+        self.bytes.resize(end, 0)
     }
 }

@@ -1,139 +1,154 @@
 //! The lines of a table: its heading and its rows.
 
-ghost use Rattle.std.specs.Prelude.{◌≡◌, ◌≤◌, ◌+◌, ◌∷◌, ◌++◌, [], ℕ, List, length, map, IsOk, OnOk, true, false};
+ghost use Rattle.std.specs.Prelude.{◌≡◌, ◌≤◌, ◌+◌, ◌++◌, ℕ, List, length, map, take, true};
+ghost use Rattle.date_texts.specs.declared.target.TheConstants.{MAX_TARGETS};
 ghost use Rattle.register_records.specs.Columns.{entry_order};
-ghost use Rattle.register_records.specs.LineRoom.{entry_room};
-ghost use Rattle.register_records.specs.LineViews.{Begins, GainsFields, line_bytes};
-ghost use Rattle.register_records.specs.LineViews.{line_capacity, line_delimiter, line_len};
+ghost use Rattle.register_records.specs.LineRoom.{Begins, GainsFields, entry_name_room, entry_room, name_room};
+ghost use Rattle.register_records.specs.LineViews.{line_bytes, line_capacity, line_delimiter, line_len};
 ghost use Rattle.register_records.specs.Lines.{line_text};
+ghost use Rattle.register_records.specs.SetupRules.{is_delimiter};
 ghost use Rattle.register_records.specs.TableColumns.{entry_field, entry_name, heading, row_fields, tail_names};
 ghost use Rattle.register_records.specs.Views.{row_seen, row_targets, tail_fields};
 ghost use Rattle.register_records.specs.declared.row_tails.TheConstants.{TAIL_ROOM};
 ghost use Rattle.register_records.specs.declared.row_lines.TheConstants.{LINE_ROOM};
 
-use crate::csv_lines::CsvLines;
+use crate::csv_lines::{CsvLines, put, put_byte, put_field};
 use crate::rows::Row;
 use crate::setups::Form;
 use crate::table_columns::{TailColumn, entry_columns, tail_columns};
 use date_texts::Target;
 use itoa::Buffer;
-use std::alloc::AllocError;
 
 /// Room for the longest line of a row, which has no more bytes than this, even where each byte of its texts is a quote.
 pub const LINE_ROOM: usize = 1024;
 
 /// Begins the line of the heading: the columns of the entries.
-fn begin_heading(lines: &mut CsvLines, form: Form) -> Result<(), AllocError>
-    ensures value { OnOk result (Begins (line_bytes lines.old) (map entry_name (entry_order form)) lines.new) }
-    ensures kept { line_delimiter lines.new ≡ line_delimiter lines.old }
-    ensures capacity { line_capacity lines.old ≤ line_capacity lines.new }
+fn put_entry_names(room: &mut [u8], at: usize, delimiter: u8, form: Form) -> usize
+    requires room { at + entry_name_room ≤ length room.old }
+    requires separated { is_delimiter delimiter ≡ true }
+    ensures value { Begins delimiter (take at room.old) (map entry_name (entry_order form)) (take result room.new) }
+    ensures short { result ≤ at + entry_name_room }
+    ensures len { length room.new ≡ length room.old }
 {
     let columns = entry_columns(form);
-    lines.extend(columns[0].name().as_bytes())?;
+    let mut end = put(room, at, columns[0].name().as_bytes());
     'columns: for i in 1..columns.len() {
-        lines.push(columns[i].name().as_bytes(), false)?;
+        end = put_field(room, end, delimiter, columns[i].name().as_bytes(), false);
     }
-    Ok(())
+    end
 }
 
-/// Appends the names of the targets, which head their columns.
-fn push_target_names(lines: &mut CsvLines, targets: &[Target]) -> Result<(), AllocError>
-    ensures value { OnOk result (GainsFields (tail_names targets.now TailColumn.Cells) lines.old lines.new) }
-    ensures kept { line_delimiter lines.new ≡ line_delimiter lines.old }
-    ensures capacity { line_capacity lines.old ≤ line_capacity lines.new }
+/// Puts the names of the targets, which head their columns.
+fn put_target_names(room: &mut [u8], at: usize, delimiter: u8, targets: &[Target]) -> usize
+    requires few { length targets.now ≤ MAX_TARGETS }
+    requires room { at + name_room TailColumn.Cells ≤ length room.old }
+    ensures value { GainsFields delimiter (tail_names targets.now TailColumn.Cells) (take at room.old)
+        (take result room.new) }
+    ensures short { result ≤ at + name_room TailColumn.Cells }
+    ensures len { length room.new ≡ length room.old }
 {
+    let mut end = at;
     'targets: for target in targets {
-        lines.push(target.name().as_bytes(), false)?;
+        end = put_field(room, end, delimiter, target.name().as_bytes(), false);
     }
-    Ok(())
+    end
 }
 
-/// Appends what heads a column of a tail: its name, or for the cells those of their targets.
-fn push_names(
-    lines: &mut CsvLines,
+/// Puts what heads a column of a tail: its name, or for the cells those of their targets.
+fn put_names(
+    room: &mut [u8],
+    at: usize,
+    delimiter: u8,
     column: TailColumn,
     targets: &[Target],
-) -> Result<(), AllocError>
-    ensures value { OnOk result (GainsFields (tail_names targets.now column) lines.old lines.new) }
-    ensures kept { line_delimiter lines.new ≡ line_delimiter lines.old }
-    ensures capacity { line_capacity lines.old ≤ line_capacity lines.new }
+) -> usize
+    requires few { length targets.now ≤ MAX_TARGETS }
+    requires room { at + name_room column ≤ length room.old }
+    ensures value { GainsFields delimiter (tail_names targets.now column) (take at room.old) (take result room.new) }
+    ensures short { result ≤ at + name_room column }
+    ensures len { length room.new ≡ length room.old }
 {
     match column {
-        TailColumn::DayNumber => lines.push(b"rd", false),
-        TailColumn::Weekday => lines.push(b"weekday", false),
-        TailColumn::Cells => push_target_names(lines, targets),
-        TailColumn::Refusal => lines.push(b"refusal", false),
+        TailColumn::DayNumber => put_field(room, at, delimiter, b"rd", false),
+        TailColumn::Weekday => put_field(room, at, delimiter, b"weekday", false),
+        TailColumn::Cells => put_target_names(room, at, delimiter, targets),
+        TailColumn::Refusal => put_field(room, at, delimiter, b"refusal", false),
     }
 }
 
-/// Appends the line of the heading.
-pub(crate) fn make_heading(
-    lines: &mut CsvLines,
-    form: Form,
-    targets: &[Target],
-) -> Result<(), AllocError>
-    ensures value { OnOk result (line_bytes lines.new
-        ≡ line_bytes lines.old ++ line_text (line_delimiter lines.old) (heading form targets.now)) }
+/// Appends the line of the heading, where there is memory for it.
+pub(crate) fn make_heading(lines: &mut CsvLines, form: Form, targets: &[Target])
+    requires few { length targets.now ≤ MAX_TARGETS }
+    requires room { line_len lines.old + LINE_ROOM ≤ line_capacity lines.old }
+    ensures value { line_bytes lines.new
+        ≡ line_bytes lines.old ++ line_text (line_delimiter lines.old) (heading form targets.now) }
     ensures kept { line_delimiter lines.new ≡ line_delimiter lines.old }
-    ensures capacity { line_capacity lines.old ≤ line_capacity lines.new }
+    ensures capacity { line_capacity lines.new ≡ line_capacity lines.old }
 {
-    begin_heading(lines, form)?;
+    let room = lines.bytes.as_mut_slice();
+    let mut end = put_entry_names(room, lines.len, lines.delimiter, form);
     'columns: for column in tail_columns() {
-        push_names(lines, *column, targets)?;
+        end = put_names(room, end, lines.delimiter, *column, targets);
     }
-    lines.end()?;
-    Ok(())
+    lines.len = put_byte(room, end, b'\n');
 }
 
 /// Begins the line of a row: its number and its texts.
-fn begin_line(lines: &mut CsvLines, form: Form, row: &Row) -> Result<(), AllocError>
-    requires { line_len lines.old + LINE_ROOM ≤ line_capacity lines.old }
-    ensures value { OnOk result (Begins (line_bytes lines.old)
-        (map (entry_field (row_seen row.now)) (entry_order form)) lines.new) }
-    ensures kept { line_delimiter lines.new ≡ line_delimiter lines.old }
-    ensures room { IsOk result }
-    ensures short { line_len lines.new ≤ line_len lines.old + entry_room }
-    ensures capacity { line_capacity lines.old ≤ line_capacity lines.new }
+#[inline(always)]
+fn put_entry(room: &mut [u8], at: usize, delimiter: u8, form: Form, row: &Row) -> usize
+    requires room { at + entry_room ≤ length room.old }
+    requires separated { is_delimiter delimiter ≡ true }
+    ensures value { Begins delimiter (take at room.old) (map (entry_field (row_seen row.now)) (entry_order form))
+        (take result room.new) }
+    ensures short { result ≤ at + entry_room }
+    ensures len { length room.new ≡ length room.old }
 {
     let bare = row.entry().is_bare();
     let mut buffer = Buffer::new();
     let number = buffer.format(row.entry().number());
     let columns = entry_columns(form);
-    lines.extend(columns[0].field(number, row).as_bytes())?;
+    let mut end = put(room, at, columns[0].field(number, row).as_bytes());
     'columns: for i in 1..columns.len() {
-        lines.push(columns[i].field(number, row).as_bytes(), bare)?;
+        end = put_field(
+            room,
+            end,
+            delimiter,
+            columns[i].field(number, row).as_bytes(),
+            bare,
+        );
     }
-    Ok(())
+    end
 }
 
-/// Appends the fields of a row behind those of its entry: they are copied as they were written for a table with this
+/// Puts the fields of a row behind those of its entry: they are copied as they were written for a table with this
 /// delimiter, and written anew for another.
-fn push_tail(lines: &mut CsvLines, row: &Row) -> Result<(), AllocError>
-    ensures value { OnOk result (GainsFields (tail_fields row.now) lines.old lines.new) }
-    ensures kept { line_delimiter lines.new ≡ line_delimiter lines.old }
-    ensures room { line_len lines.old + TAIL_ROOM ≤ line_capacity lines.old → IsOk result }
-    ensures grows { OnOk result (line_len lines.new ≤ line_len lines.old + TAIL_ROOM) }
-    ensures capacity { line_capacity lines.old ≤ line_capacity lines.new }
+#[inline(always)]
+fn put_tail(room: &mut [u8], at: usize, delimiter: u8, row: &Row) -> usize
+    requires room { at + TAIL_ROOM ≤ length room.old }
+    requires separated { is_delimiter delimiter ≡ true }
+    ensures value { GainsFields delimiter (tail_fields row.now) (take at room.old) (take result room.new) }
+    ensures short { result ≤ at + TAIL_ROOM }
+    ensures len { length room.new ≡ length room.old }
 {
-    if row.tail().delimiter() == lines.delimiter() {
-        lines.extend(row.tail().as_slice())
+    if row.tail().delimiter() == delimiter {
+        put(room, at, row.tail().as_slice())
     } else {
-        lines.extend(row.tail_with(lines.delimiter()).as_slice())
+        put(room, at, row.tail_with(delimiter).as_slice())
     }
 }
 
 /// Appends the line of a row, where there is memory for it.
-pub(crate) fn make_row(lines: &mut CsvLines, form: Form, row: &Row) -> Result<(), AllocError>
+pub(crate) fn make_row(lines: &mut CsvLines, form: Form, row: &Row)
     requires { line_len lines.old + LINE_ROOM ≤ line_capacity lines.old }
-    ensures value { OnOk result (line_bytes lines.new ≡ line_bytes lines.old ++ line_text (line_delimiter lines.old)
-        (row_fields form (row_targets row.now) (row_seen row.now))) }
+    ensures value { line_bytes lines.new ≡ line_bytes lines.old ++ line_text (line_delimiter lines.old)
+        (row_fields form (row_targets row.now) (row_seen row.now)) }
     ensures kept { line_delimiter lines.new ≡ line_delimiter lines.old }
-    ensures room { IsOk result }
     ensures short { line_len lines.new ≤ line_len lines.old + LINE_ROOM }
-    ensures capacity { line_capacity lines.old ≤ line_capacity lines.new }
+    ensures capacity { line_capacity lines.new ≡ line_capacity lines.old }
 {
-    begin_line(lines, form, row)?;
-    push_tail(lines, row)?;
-    lines.end()?;
-    Ok(())
+    let delimiter = lines.delimiter;
+    let room = lines.bytes.as_mut_slice();
+    let entry_end = put_entry(room, lines.len, delimiter, form, row);
+    let end = put_tail(room, entry_end, delimiter, row);
+    lines.len = put_byte(room, end, b'\n');
 }

@@ -4,7 +4,7 @@
 ghost use Rattle.std.specs.Prelude.{◌≡◌, ◌≤◌, length};
 ghost use Rattle.std.specs.Fmt.{decimal};
 ghost use Rattle.register_records.specs.Columns.{entry_order, tail_order};
-ghost use Rattle.register_records.specs.LineRoom.{entry_limit};
+ghost use Rattle.register_records.specs.LineRoom.{entry_limit, name_limit};
 ghost use Rattle.register_records.specs.TableColumns.{entry_field, entry_name};
 ghost use Rattle.register_records.specs.Views.{row_seen};
 
@@ -73,7 +73,8 @@ pub(crate) fn tail_columns() -> &'static [TailColumn]
 impl EntryColumn {
     /// The name, which heads the column.
     pub fn name(self) -> &'static str
-        ensures { result.now ≡ entry_name self }
+        ensures value { result.now ≡ entry_name self }
+        ensures short { length result.now ≤ name_limit }
     {
         match self {
             EntryColumn::Number => "row",

@@ -84,9 +84,7 @@ impl RowWriter {
         let Ok(mut lines) = CsvLines::new(alloc, setup.delimiter(), ROOM) else {
             return Err(RowFault::OutOfMemory);
         };
-        if make_heading(&mut lines, setup.form(), setup.targets()).is_err() {
-            return Err(RowFault::OutOfMemory);
-        }
+        make_heading(&mut lines, setup.form(), setup.targets());
         if send(output, lines.as_slice()).is_err() {
             return Err(RowFault::WriteFault);
         }
@@ -122,9 +120,7 @@ impl RowWriter {
             self.state = WriterState::OutOfMemory;
             return Err(RowFault::OutOfMemory);
         }
-        let Ok(()) = make_row(&mut self.lines, self.form, row) else {
-            unreachable!();
-        };
+        make_row(&mut self.lines, self.form, row);
         Ok(())
     }
 

@@ -93,9 +93,9 @@ pub(crate) fn make_heading(lines: &mut CsvLines, form: Form, targets: &[Target])
     lines.len = put_byte(room, end, b'\n');
 }
 
-/// Begins the line of a row: its number and its texts.
+/// Begins the line of a row in a table of this form.
 #[inline(always)]
-fn put_entry(room: &mut [u8], at: usize, delimiter: u8, form: Form, row: &Row) -> usize
+fn put_entry_in(room: &mut [u8], at: usize, delimiter: u8, form: Form, row: &Row) -> usize
     requires room { at + entry_room ≤ length room.old }
     requires separated { is_delimiter delimiter ≡ true }
     ensures value { Begins delimiter (take at room.old) (map (entry_field (row_seen row.now)) (entry_order form))
@@ -118,6 +118,23 @@ fn put_entry(room: &mut [u8], at: usize, delimiter: u8, form: Form, row: &Row) -
         );
     }
     end
+}
+
+/// Begins the line of a row: its number and its texts.
+#[inline(always)]
+fn put_entry(room: &mut [u8], at: usize, delimiter: u8, form: Form, row: &Row) -> usize
+    requires room { at + entry_room ≤ length room.old }
+    requires separated { is_delimiter delimiter ≡ true }
+    ensures value { Begins delimiter (take at room.old) (map (entry_field (row_seen row.now)) (entry_order form))
+        (take result room.new) }
+    ensures short { result ≤ at + entry_room }
+    ensures len { length room.new ≡ length room.old }
+{
+    // There is code for each form, in which the columns are known.
+    match form {
+        Form::Plain => put_entry_in(room, at, delimiter, Form::Plain, row),
+        Form::Sealed => put_entry_in(room, at, delimiter, Form::Sealed, row),
+    }
 }
 
 /// Puts the fields of a row behind those of its entry: they are copied as they were written for a table with this

@@ -5,7 +5,7 @@ use Rattle.register_records.specs.TableColumns.{entry_field}
 use Rattle.register_records.specs.Views.{row_seen}
 use Rattle.register_records.specs.declared.table_columns.EntryColumn.{EntryColumn}
 use Rattle.register_records.proofs.LineLemmas.{first_field, first_number, plain_column, plain_decimal, room_behind}
-use Rattle.register_records.proofs.row_lines.put_entry.Goals as goal
+use Rattle.register_records.proofs.row_lines.put_entry_in.Goals as goal
 
 pub columns-init : goal.columns-init
 columns-init c =

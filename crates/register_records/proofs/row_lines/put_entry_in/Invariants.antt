@@ -3,7 +3,7 @@ use Rattle.register_records.specs.Columns.{entry_order}
 use Rattle.register_records.specs.LineRoom.{Begins, columns_room, entry_room, quoted_room}
 use Rattle.register_records.specs.TableColumns.{entry_field}
 use Rattle.register_records.specs.Views.{row_seen}
-use Rattle.register_records.proofs.row_lines.put_entry.Given as goal
+use Rattle.register_records.proofs.row_lines.put_entry_in.Given as goal
 
 abbrev pub invariant-columns : goal.invariant-columns
 invariant-columns l =

@@ -9,6 +9,7 @@ ghost use Rattle.csv.specs.Writing as Spec;
 ghost use Rattle.register_records.specs.LineRoom.{GainsFields, field_room, writing};
 ghost use Rattle.register_records.specs.SetupRules.{is_delimiter};
 
+use byte_copies::copy_to_front;
 use std::alloc::{AllocError, Global};
 
 const QUOTE: u8 = b'"';
@@ -49,7 +50,7 @@ pub(crate) fn put(room: &mut [u8], at: usize, bytes: &[u8]) -> usize
     ensures len { length room.new ≡ length room.old }
 {
     let end = at + bytes.len();
-    room[at..end].copy_from_slice(bytes);
+    copy_to_front(&mut room[at..end], bytes);
     end
 }
 

@@ -4,4 +4,4 @@ use Rattle.register_records.proofs.csv_lines.put.Goals as goal
 
 pub returns-clause-value : goal.returns-clause-value
 returns-clause-value c =
-    rw c.copy_from_slice.ensures.after (put_there c.args.room.now c.args.bytes.now c.args.at _ (omega arith))
+    rw (c.copy_to_front.ensures.whole (omega arith)) (put_there c.args.room.now c.args.bytes.now c.args.at _ (omega arith))

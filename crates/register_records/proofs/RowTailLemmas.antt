@@ -38,6 +38,7 @@ use Rattle.register_records.specs.declared.row_tails.RowTail.{RowTail}
 use Rattle.register_records.specs.declared.table_columns.TailColumn.TheVariants.{Cells, Refusal as RefusalColumn}
 use Rattle.register_records.proofs.EveryTableLemmas.{has_cells}
 use Rattle.register_records.proofs.LineLemmas.{more_fields_text, plain_bytes, plain_text, put_after}
+use Rattle.register_records.proofs.LineLemmas.{plain_day, plain_decimal}
 
 -- the bytes of fields behind delimiters
 abbrev pub text : ℕ → List (List ℕ) → List ℕ
@@ -131,11 +132,34 @@ put_field places field at d k lt =
     put_after places field at d k (length field) lt (omega arith)
     ∙ ap (λ (t : List ℕ). take at places ++ d ∷ t) (take_all (length field) field (omega arith))
 
--- a day number has eight bytes at most, and a refusal's one
-pub day_length : (z : ℤ) → IsDayNumber z → length (signed_decimal z) ≤ 8
+-- a text that needs no quotes, with so many bytes at most
+pub record Fits (d limit : ℕ) (text : List ℕ) : Type 0 where
+  pub plain : needs_quotes (writing d) text ≡ false
+  pub short : length text ≤ limit
+
+-- a day number has eight
+day_length : (z : ℤ) → IsDayNumber z → length (signed_decimal z) ≤ 8
 day_length (pos n) r = length_signed_le 7 (pos n) (omega (arith, ints, r.0, r.1)) (omega (arith, ints, r.0, r.1))
 day_length (negsuc n) r = length_signed_le 7 (negsuc n) (omega (arith, ints, r.0, r.1)) (omega (arith, ints, r.0, r.1))
 
+pub day_fits : (d : ℕ) → is_delimiter d ≡ true → (z : ℤ) → IsDayNumber z → Fits d 8 (signed_decimal z)
+day_fits d h z r = record { plain = plain_day d h z r; short = day_length z r }
+
+-- the name of a weekday has nine
+abbrev is_short : List ℕ → Bool
+is_short name = nat_le (length name) 9
+
+short_length : (name : List ℕ) → IsTrue (is_short name) → length name ≤ 9
+short_length name h = grind (arith, nat_tests)
+
+pub weekday_fits : (d : ℕ) → is_delimiter d ≡ true → (number : ℕ) → Fits d 9 (get_or weekday_names number [])
+unfolding words
+weekday_fits d h number = record {
+  plain = plain_bytes d h _ (each_name (list_all is_plain) weekday_names number refl refl);
+  short = short_length _ (each_name is_short weekday_names number refl refl);
+}
+
+-- the number of a refusal has one
 refusal_below : (r : Refusal) → refusal_number r < 10
 refusal_below refused.FieldCount = omega arith
 refusal_below refused.FieldTooLong = omega arith
@@ -145,26 +169,13 @@ refusal_below refused.DateText = omega arith
 refusal_below refused.NoSuchDate = omega arith
 refusal_below refused.OutOfRange = omega arith
 
-pub refusal_length : (r : Refusal) → length (decimal (refusal_number r)) ≤ 1
-refusal_length r =
+pub refusal_fits : (d : ℕ) → is_delimiter d ≡ true → (r : Refusal) → Fits d 1 (decimal (refusal_number r))
+refusal_fits d h r =
     let below = refusal_below r in
-    length-decimal-le 1 (refusal_number r) (omega arith) (omega (arith, below)) (omega (arith, below))
-
--- the name of a weekday has nine, and needs no quotes
-abbrev is_short : List ℕ → Bool
-is_short name = nat_le (length name) 9
-
-short_length : (name : List ℕ) → IsTrue (is_short name) → length name ≤ 9
-short_length name h = grind (arith, nat_tests)
-
-pub weekday_length : (number : ℕ) → length (get_or weekday_names number []) ≤ 9
-unfolding words
-weekday_length number = short_length _ (each_name is_short weekday_names number refl refl)
-
-pub plain_weekday : (d : ℕ) → is_delimiter d ≡ true → (number : ℕ)
-    → needs_quotes (writing d) (get_or weekday_names number []) ≡ false
-unfolding words
-plain_weekday d h number = plain_bytes d h _ (each_name (list_all is_plain) weekday_names number refl refl)
+    record {
+      plain = plain_decimal d h (refusal_number r) (omega (arith, below));
+      short = length-decimal-le 1 (refusal_number r) (omega arith) (omega (arith, below)) (omega (arith, below));
+    }
 
 -- one more that stands beside one more
 pub one_more_beside : {A B : Type 0} (R : A → B → Type 0) (xs : List A) (ys : List B) (x : A) (y : B) → AllZip R xs ys

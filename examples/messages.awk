@@ -1,7 +1,7 @@
-# Gathers what `register --summary FILE 2> FILE.told` said of many registers: a line for each that broke off, a line for
-# each whose rows are not its lines under the header, as after an open quote, and the sum of all.
-# Usage: awk -f examples/told.awk many/*.told
-{ file = substr(FILENAME, 1, length(FILENAME) - length(".told")) }
+# Gathers what `register --summary FILE 2> FILE.messages` said of many registers: a line for each that broke off, a line
+# for each whose rows are not its lines under the header, as after an open quote, and the sum of all.
+# Usage: awk -f examples/messages.awk many/*.messages
+{ file = substr(FILENAME, 1, length(FILENAME) - length(".messages")) }
 /^source 1: [0-9]+ rows, / {
   whole++
   rows += $3

@@ -24,6 +24,7 @@ use Rattle.register_records.specs.LineRoom.{writing}
 use Rattle.register_records.specs.Records.{Fields, Texts, texts_of}
 use Rattle.register_records.specs.SetupRules.{is_delimiter}
 use Rattle.register_records.specs.Columns.{shown}
+use Rattle.register_records.specs.declared.entries.TheConstants.{CHUNK}
 use Rattle.register_records.specs.declared.setups.Form.{Form}
 use Rattle.register_records.specs.declared.setups.Form.TheVariants.{Plain, Sealed}
 
@@ -141,22 +142,24 @@ plain_more chunks i d lt h k =
 plain_join : (a b : List ℕ) → IsPlain a → IsPlain b → IsPlain (a ++ b)
 plain_join a b h k = list_all-append is_plain_byte a b ∙ cc (h, k)
 
-plain_front : (count : ℕ) (text : List ℕ) → ArePlain (first_chunks 16 count text) → IsPlain (take (count * 16) text)
+plain_front : (count : ℕ) (text : List ℕ) → ArePlain (first_chunks CHUNK count text)
+    → IsPlain (take (count * CHUNK) text)
 plain_front zero text h = refl
 plain_front (suc count) text h =
-    let parts = and_parts (list_all is_plain_byte (take 16 text))
-    (list_all (λ (chunk : List ℕ). list_all is_plain_byte chunk) (first_chunks 16 count (drop 16 text))) h in
-    let whole : suc count * 16 ≡ 16 + count * 16 = omega arith in
-    rw (whole, take-add 16 (count * 16) text)
-    (plain_join (take 16 text) (take (count * 16) (drop 16 text)) parts.0 (plain_front count (drop 16 text) parts.1))
+    let parts = and_parts (list_all is_plain_byte (take CHUNK text))
+    (list_all (λ (chunk : List ℕ). list_all is_plain_byte chunk) (first_chunks CHUNK count (drop CHUNK text))) h in
+    let whole : suc count * CHUNK ≡ CHUNK + count * CHUNK = omega arith in
+    rw (whole, take-add CHUNK (count * CHUNK) text)
+    (plain_join (take CHUNK text) (take (count * CHUNK) (drop CHUNK text)) parts.0
+    (plain_front count (drop CHUNK text) parts.1))
 
-pub plain_by_chunks : (text : List ℕ) (chunks : List (List ℕ)) → 16 ≤ length text
-    → chunks ≡ first_chunks 16 (length text / 16) text → IsPlain (drop (length text - 16) text) → ArePlain chunks
-    → IsPlain text
+pub plain_by_chunks : (text : List ℕ) (chunks : List (List ℕ)) → CHUNK ≤ length text
+    → chunks ≡ first_chunks CHUNK (length text / CHUNK) text → IsPlain (drop (length text - CHUNK) text)
+    → ArePlain chunks → IsPlain text
 plain_by_chunks text chunks long is h k =
-    let start = length text - 16 in
-    let end = length text / 16 * 16 in
-    let front : IsPlain (take end text) = plain_front (length text / 16) text (rw (← is) k) in
+    let start = length text - CHUNK in
+    let end = length text / CHUNK * CHUNK in
+    let front : IsPlain (take end text) = plain_front (length text / CHUNK) text (rw (← is) k) in
     let place : start + (end - start) ≡ end = omega arith in
     let same : drop (end - start) (drop start text) ≡ drop end text =
     drop-drop (end - start) start text ∙ ap (λ m. drop m text) place in

@@ -4,7 +4,7 @@
 --   OutcomeLemmas: that a row is the row of its entry, for `convert`.
 --   RowTailLemmas, LineLemmas, BareLemmas: that a line is the fields of its row, for `put`, `add` and `open` of
 --   `RowWriter`.
---   TargetPlaceLemmas: `is_for` of `Row`.
+--   TargetRankLemmas: `is_for` of `Row`.
 --   ProgressLemmas: `whole`, `numbers`, `part` and `not_sealed` of `convert_source`, and the law `tables_grow`.
 --   SomeRecordsLemmas: the rows of entries are those of some records, for `in_order` of a run.
 --   OneTableLemmas, EveryTableLemmas, ReadBackLemmas, NoLossLemmas, OneFateLemmas: the laws `one_table`,
@@ -20,7 +20,7 @@ pub mod BareLemmas
 pub mod LineLemmas
 pub mod RowTailLemmas
 pub mod OutcomeLemmas
-pub mod TargetPlaceLemmas
+pub mod TargetRankLemmas
 pub mod ProgressLemmas
 pub mod SomeRecordsLemmas
 pub mod OneTableLemmas

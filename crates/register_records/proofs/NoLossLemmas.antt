@@ -54,7 +54,7 @@ one_number (x ∷ []) n m a b = absurd a
 one_number (x ∷ y ∷ []) n m a b = a.value ∙ sym b.value
 one_number (x ∷ y ∷ z ∷ rest) n m a b = absurd a
 
--- of these records only the last is a seal
+-- only the last of these records is a seal
 only_seal : (header : Fields) (after : List Fields) (seal r : Fields) → IsHeader Sealed header → is_seal r ≡ true
     → IsOne r (header ∷ (before_seal after ++ seal ∷ [])) → r ≡ seal
 only_seal header after seal r ok is (inl e) =

@@ -21,7 +21,7 @@ pub no_calendar : (name : List ℕ) (found : Option Calendar) → found ≡ None
     → (calendar : Calendar) → ¬ (IsNamed name (calendar_name calendar))
 no_calendar name found e h calendar named = let some = (h calendar).1 named in cc
 
--- of a date, one of the three holds: it is none, or its day is in the range, or it is not
+-- one of the three holds of a date: it is none, or its day is in the range, or it is not
 one_of_three : {A B : Type 0} → ¬ (A × B) → ¬ (¬ A) → ¬ (A × ¬ B) → ⊥
 one_of_three both some out = some (λ a. out (a, λ b. both (a, b)))
 

@@ -93,12 +93,12 @@ step layout old now now2 entries journal x row p n r a =
     }
 
 -- what the last call leaves
-pub finish : (layout : Layout) (e : Format) (text told old now : Option (List ℕ)) (entries given : List Numbered)
+pub finish : (layout : Layout) (e : Format) (text known old now : Option (List ℕ)) (entries given : List Numbered)
     (journal : List Note) (count refused : ℕ)
-    → Progress layout old now entries journal → told ≡ text → e ≡ layout.format → given ≡ entries
-    → ∥ HasEntries e told given ∥₁ → count ≡ length entries → refused ≡ length journal
+    → Progress layout old now entries journal → known ≡ text → e ≡ layout.format → given ≡ entries
+    → ∥ HasEntries e known given ∥₁ → count ≡ length entries → refused ≡ length journal
     → ∥ Gains old now (IsWholeTable layout text count refused journal) ∥₁
-finish layout e text told old now entries given journal count refused p a b f h c r =
+finish layout e text known old now entries given journal count refused p a b f h c r =
     ∥∥₁_map (rw (a, b, f) at h) (λ accepted. (
       p.bytes,
       record {
@@ -114,12 +114,12 @@ finish layout e text told old now entries given journal count refused p a b f h 
     ))
 
 -- what was written is a front of the table
-pub first_rows : (layout : Layout) (e : Format) (text told old now : Option (List ℕ)) (entries : List Numbered)
+pub first_rows : (layout : Layout) (e : Format) (text known old now : Option (List ℕ)) (entries : List Numbered)
     (journal : List Note) (count : ℕ)
-    → Progress layout old now entries journal → told ≡ text → e ≡ layout.format
-    → ∥ HasFirstEntries e told entries ∥₁ → count ≡ length entries
+    → Progress layout old now entries journal → known ≡ text → e ≡ layout.format
+    → ∥ HasFirstEntries e known entries ∥₁ → count ≡ length entries
     → ∥ Gains old now (IsFrontOfTable layout text count) ∥₁
-first_rows layout e text told old now entries journal count p a b h c =
+first_rows layout e text known old now entries journal count p a b h c =
     ∥∥₁_map (rw (a, b) at h) (λ first. (
       p.bytes,
       record { entries = entries; rows = p.rows; table = p.table; counted = c ∙ sym p.counted; first = first },
@@ -130,20 +130,20 @@ part_of : (layout : Layout) (text old now : Option (List ℕ)) (count : ℕ)
     → Gains old now (IsFrontOfTable layout text count) → Gains old now (ArePartOfTable layout text)
 part_of layout text old now count (bytes, front, gained) = (bytes, inr (count, front), gained)
 
-pub front : (layout : Layout) (e : Format) (text told old now : Option (List ℕ)) (entries : List Numbered)
+pub front : (layout : Layout) (e : Format) (text known old now : Option (List ℕ)) (entries : List Numbered)
     (journal : List Note)
-    → Progress layout old now entries journal → told ≡ text → e ≡ layout.format
-    → ∥ HasFirstEntries e told entries ∥₁ → ∥ Gains old now (ArePartOfTable layout text) ∥₁
-front layout e text told old now entries journal p a b h =
-    ∥∥₁_map (first_rows layout e text told old now entries journal (length entries) p a b h refl)
+    → Progress layout old now entries journal → known ≡ text → e ≡ layout.format
+    → ∥ HasFirstEntries e known entries ∥₁ → ∥ Gains old now (ArePartOfTable layout text) ∥₁
+front layout e text known old now entries journal p a b h =
+    ∥∥₁_map (first_rows layout e text known old now entries journal (length entries) p a b h refl)
     (part_of layout text old now (length entries))
 
 -- and where no entry is left, the table of all entries
-pub all_rows : (layout : Layout) (e : Format) (text told old now : Option (List ℕ)) (entries given : List Numbered)
+pub all_rows : (layout : Layout) (e : Format) (text known old now : Option (List ℕ)) (entries given : List Numbered)
     (journal : List Note)
-    → Progress layout old now entries journal → told ≡ text → e ≡ layout.format → given ≡ entries
-    → ∥ HasAllEntries e told given ∥₁ → ∥ Gains old now (IsTableOfAll layout text) ∥₁
-all_rows layout e text told old now entries given journal p a b f h =
+    → Progress layout old now entries journal → known ≡ text → e ≡ layout.format → given ≡ entries
+    → ∥ HasAllEntries e known given ∥₁ → ∥ Gains old now (IsTableOfAll layout text) ∥₁
+all_rows layout e text known old now entries given journal p a b f h =
     ∥∥₁_map (rw (a, b, f) at h) (λ all. (
       p.bytes,
       record { entries = entries; rows = p.rows; table = p.table; all = all },
@@ -155,9 +155,9 @@ pub nothing : (layout : Layout) (text old now : Option (List ℕ)) → Appends o
     → ∥ Gains old now (ArePartOfTable layout text) ∥₁
 nothing layout text old now a = ∣ ([], inl refl, a) ∣₁
 
-pub told_of : (Is : Format → Option (List ℕ) → Type 0) (d e : Format) (text told : Option (List ℕ)) → told ≡ text
-    → e ≡ d → ∥ Is e told ∥₁ → ∥ Is d text ∥₁
-told_of Is d e text told a b h = rw (a, b) at h
+pub known_of : (Is : Format → Option (List ℕ) → Type 0) (d e : Format) (text known : Option (List ℕ)) → known ≡ text
+    → e ≡ d → ∥ Is e known ∥₁ → ∥ Is d text ∥₁
+known_of Is d e text known a b h = rw (a, b) at h
 
 -- a fault of a row that is no fault of the output, nor one that an earlier call reported
 pub only_memory : (f : RowFault) (c : Cause) → c ≡ row_fault_cause f → (c ≡ cause.SinkFault → ⊥) → (f ≡ row.Failed → ⊥)

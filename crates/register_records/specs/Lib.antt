@@ -23,5 +23,5 @@ pub mod ReadingState
 pub mod Conversions
 pub mod Retrying
 pub mod ShortLists
-pub mod TargetPlaces
+pub mod TargetRanks
 pub mod Faults

@@ -6,6 +6,6 @@ use Rattle.register_records.specs.declared.retrying.Retrying.{Retrying}
 abbrev pub inner_reader : {R : Type 0} → Retrying R → R
 inner_reader r = r.inner
 
--- what the reader in it tells of the bytes to come
+-- what is known of the bytes that the reader in it will give
 abbrev pub inner_remaining : {R : Type 0} → (R → Option (List ℕ)) → Retrying R → Option (List ℕ)
 inner_remaining remaining r = remaining r.inner

@@ -1,4 +1,4 @@
--- The seal of a sealed register: the record that tells how many records stand between the header and it.
+-- The seal of a sealed register: the record that says how many records stand between the header and it.
 use Rattle.std.specs.Prelude.{◌≡◌, ℕ, List, [], ◌∷◌, ◌++◌, Bool, false, ⊤, IsTrue, codes, length, if◌then◌else◌}
 use Rattle.std.specs.Str.{bytes_eq}
 use Rattle.date_texts.specs.Numerals.{IsNumeral}

@@ -6,6 +6,17 @@ ghost use Rattle.register_records.specs.Causes.{entry_fault_cause, row_fault_cau
 use crate::ends::Cause;
 use crate::reading::EntryFault;
 use crate::writing::RowFault;
+use std::alloc::AllocError;
+
+impl From<AllocError> for Cause {
+    ghost use Rattle.register_records.specs.declared.ends.Cause.TheVariants.{NoMemory};
+
+    ghost from_gives = { λ _ cause. cause ≡ NoMemory };
+
+    fn from(_: AllocError) -> Cause {
+        Cause::NoMemory
+    }
+}
 
 impl From<EntryFault> for Cause {
     ghost from_gives = { λ fault cause. cause ≡ entry_fault_cause fault };

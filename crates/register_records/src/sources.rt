@@ -46,9 +46,7 @@ fn write_row<W: Output>(
     ensures sink { IfErr result (λ c. c ≡ Cause.SinkFault → W.has_failed output.new ≡ true) }
     ensures mark { W.own_mark output.new ≡ W.own_mark output.old }
 {
-    if row.push_refusal(journal).is_err() {
-        return Err(Cause::NoMemory);
-    }
+    row.push_refusal(journal)?;
     writer.put(output, row)?;
     Ok(())
 }
@@ -120,7 +118,7 @@ fn write_rows<R: Read + Drop, W: Output>(
         (IsWholeTable (layout_of setup.now) (text_of entries.old) rows refused journal) ∥₁) }
     ensures numbers { IfWhole result (λ rows refused journal.
         (rows ≤ record_limit) × (refused ≤ rows) × (refused ≡ length journal)) }
-    ensures handed_on { IfWhole result (λ rows refused journal. W.is_flushed output.new ≡ true) }
+    ensures flushed { IfWhole result (λ rows refused journal. W.is_flushed output.new ≡ true) }
     ensures part { (begun : Option (List ℕ))
         → Appends begun (W.contents output.old) (heading_line (layout_of setup.now))
         → IfBroken result (λ c. (c ≢ Cause.SinkFault) → ∥ Gains begun (W.contents output.new)
@@ -189,7 +187,7 @@ pub fn convert_source<R: Read + Drop, W: Output>(
         (IsWholeTable (layout_of setup.now) (R.remaining reader) rows refused journal) ∥₁) }
     ensures numbers { IfWhole result (λ rows refused journal.
         (rows ≤ record_limit) × (refused ≤ rows) × (refused ≡ length journal)) }
-    ensures handed_on { IfWhole result (λ rows refused journal. W.is_flushed output.new ≡ true) }
+    ensures flushed { IfWhole result (λ rows refused journal. W.is_flushed output.new ≡ true) }
 
     // A source that is broken otherwise than by its output leaves a front of the table, or nothing.
     ensures part { IfBroken result (λ c. (c ≢ Cause.SinkFault) → ∥ Gains (W.contents output.old) (W.contents output.new)

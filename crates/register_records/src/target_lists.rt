@@ -1,31 +1,31 @@
-//! The targets of a setup and of a row, with the place of each among all targets: two lists are compared by these.
+//! The targets of a setup and of a row, with the rank of each among all targets: two lists are compared by these.
 
 ghost use Rattle.std.specs.Prelude.{◌≡◌, ◌≤◌, ◌↔◌, length, true};
 ghost use Rattle.std.specs.Int.{to_le_bytes, w64};
 ghost use Rattle.date_texts.specs.declared.target.TheConstants.{MAX_TARGETS};
 ghost use Rattle.register_records.specs.ShortLists.{items_in};
-ghost use Rattle.register_records.specs.declared.target_lists.TheConstants.{PLACE_ROOM, WORD_LEN};
-ghost use Rattle.register_records.specs.TargetPlaces.{place_of, places_in};
+ghost use Rattle.register_records.specs.declared.target_lists.TheConstants.{RANK_ROOM, WORD_LEN};
+ghost use Rattle.register_records.specs.TargetRanks.{rank_of, ranks_in};
 
 use crate::short_lists::ShortList;
 use date_texts::laws::default_targets;
 use date_texts::{MAX_TARGETS, Target};
 
-/// The bytes of a word: so many places are compared at once.
+/// The bytes of a word: so many ranks are compared at once.
 const WORD_LEN: usize = 8;
 
-/// How many words have room for the place of each target.
-const PLACE_WORDS: usize = (MAX_TARGETS + WORD_LEN - 1) / WORD_LEN;
+/// How many words have room for the rank of each target.
+const RANK_WORDS: usize = (MAX_TARGETS + WORD_LEN - 1) / WORD_LEN;
 
-/// Room for the places.
-const PLACE_ROOM: usize = PLACE_WORDS * WORD_LEN;
+/// Room for the ranks.
+const RANK_ROOM: usize = RANK_WORDS * WORD_LEN;
 
-/// Targets in order, and the place of each, with 0 behind the last.
+/// Targets in order, and the rank of each, with 0 behind the last.
 #[derive(Clone, Copy)]
 pub(crate) struct TargetList {
     items: ShortList<Target>,
-    places: [u8; PLACE_ROOM],
-    ghost placed: { places ≡ places_in PLACE_ROOM (items_in items) },
+    ranks: [u8; RANK_ROOM],
+    ghost ranked: { ranks ≡ ranks_in RANK_ROOM (items_in items) },
 }
 
 impl TargetList {
@@ -35,12 +35,12 @@ impl TargetList {
         ensures { items_in result.items ≡ targets.now }
     {
         let mut items = ShortList::new(Target::Haab);
-        let mut places = [0; PLACE_ROOM];
+        let mut ranks = [0; RANK_ROOM];
         'targets: for i in 0..targets.len() {
             items.push(targets[i]);
-            places[i] = place(targets[i]);
+            ranks[i] = rank(targets[i]);
         }
-        TargetList { items, places }
+        TargetList { items, ranks }
     }
 
     /// The targets.
@@ -56,10 +56,10 @@ impl TargetList {
         ensures { (result ≡ true) ↔ (items_in self.now.items ≡ items_in other.now.items) }
     {
         let mut is_same = true;
-        'words: for i in 0..PLACE_WORDS {
+        'words: for i in 0..RANK_WORDS {
             let at = i * WORD_LEN;
-            is_same &= word(&self.places[at..at + WORD_LEN])
-                == word(&other.places[at..at + WORD_LEN]);
+            is_same &= word(&self.ranks[at..at + WORD_LEN])
+                == word(&other.ranks[at..at + WORD_LEN]);
         }
         is_same
     }
@@ -76,12 +76,12 @@ fn word(bytes: &[u8]) -> u64
     u64::from_le_bytes(word)
 }
 
-/// The place of a target among all targets, from 1.
-fn place(target: Target) -> u8
-    ensures { result ≡ place_of target }
+/// The rank of a target among all targets, from 1.
+fn rank(target: Target) -> u8
+    ensures { result ≡ rank_of target }
 {
     default_targets();
-    'places: for i in 0..MAX_TARGETS {
+    'ranks: for i in 0..MAX_TARGETS {
         if Target::ALL[i].name() == target.name() {
             return i as u8 + 1;
         }

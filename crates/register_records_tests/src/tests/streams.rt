@@ -37,8 +37,8 @@ impl Read for Nervous<'_> {
             return Err(io::Error::from(ErrorKind::Interrupted));
         }
         match (self.rest.split_first(), buf.first_mut()) {
-            (Some((byte, rest)), Some(place)) => {
-                *place = *byte;
+            (Some((byte, rest)), Some(slot)) => {
+                *slot = *byte;
                 self.rest = rest;
                 Ok(1)
             }

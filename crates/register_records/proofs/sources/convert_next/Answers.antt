@@ -7,7 +7,7 @@ use Rattle.register_records.specs.Entries.{Format, HasAllEntries, HasEntries, Is
 use Rattle.register_records.specs.Tables.{row_line}
 use Rattle.register_records.specs.Views.{format_of, given_of, layout_of, line_of, reads_by, row_seen, row_targets}
 use Rattle.register_records.specs.Views.{text_of}
-use Rattle.register_records.proofs.ProgressLemmas.{only_not_sealed, step, told_of}
+use Rattle.register_records.proofs.ProgressLemmas.{only_not_sealed, step, known_of}
 use Rattle.register_records.proofs.StepLemmas.{told_on}
 use Rattle.register_records.proofs.sources.convert_next.Goals as goal
 
@@ -20,7 +20,7 @@ returns-then-not-branch-clause-end g c _ =
     let read = c.read_next.new.entries in (
       refl,
       refl,
-      told_of (λ (format : Format) (text : Option (List ℕ)). HasEntries format text (given_of c.args.entries.now))
+      known_of (λ (format : Format) (text : Option (List ℕ)). HasEntries format text (given_of c.args.entries.now))
           _ _ _ _ reads.text.0 (reads.text.1 ∙ c.requires.ready.1)
           (subst (λ (given : List Numbered). ∥ HasEntries (reads_by read) (text_of read) given ∥₁) kept.1 all),
     )
@@ -54,9 +54,9 @@ returns-in_err-read_next-clause-not_sealed g c =
     let which = only_not_sealed fault _ refl is in
     let lacks = reads.not_sealed which in (
       sym (ap (λ (format : Format). format.form) by) ∙ lacks.0,
-      told_of (λ (format : Format) (text : Option (List ℕ)). IfSome text (λ t. IsNotSealed format t)) _ _ _ _
+      known_of (λ (format : Format) (text : Option (List ℕ)). IfSome text (λ t. IsNotSealed format t)) _ _ _ _
           reads.text.0 by lacks.1,
-      told_of (λ (format : Format) (text : Option (List ℕ)). HasAllEntries format text (given_of c.args.entries.now))
+      known_of (λ (format : Format) (text : Option (List ℕ)). HasAllEntries format text (given_of c.args.entries.now))
           _ _ _ _ reads.text.0 by
           (subst (λ (given : List Numbered). ∥ HasAllEntries (reads_by read) (text_of read) given ∥₁) reads.kept
           (reads.above which)),

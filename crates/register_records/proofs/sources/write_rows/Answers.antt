@@ -1,7 +1,7 @@
 use Rattle.std.proofs.Common.{◌≡◌, refl, sym, arith, length, rules}
 use Rattle.std.specs.Prelude.{IfSome}
 use Rattle.register_records.specs.Entries.{HasTooMany, IsNotSealed}
-use Rattle.register_records.proofs.ProgressLemmas.{all_rows, finish, first_rows, front, start, told_of}
+use Rattle.register_records.proofs.ProgressLemmas.{all_rows, finish, first_rows, front, start, known_of}
 use Rattle.register_records.proofs.sources.write_rows.Goals as goal
 
 pub entries-init : goal.entries-init
@@ -36,7 +36,7 @@ pub returns-in-Err-clause-too_many : goal.returns-in-Err-clause-too_many
 returns-in-Err-clause-too_many g c begun heading is =
     let inv = c.entries.invariant in
     let past = c.in-Err.ensures.many is in (
-      told_of (λ format text. IfSome text (λ t. HasTooMany format t)) _ _ _ _ inv.text refl past.1,
+      known_of (λ format text. IfSome text (λ t. HasTooMany format t)) _ _ _ _ inv.text refl past.1,
       rw (c.in-Err.ensures.kept (λ failed. cc (is, failed)))
           (first_rows _ _ _ _ _ _ _ _ _ (inv.come begun heading) inv.text inv.ready.1 c.entries.entries.first
           (sym past.0)),
@@ -47,7 +47,7 @@ returns-in-Err-clause-not_sealed g c begun heading is =
     let inv = c.entries.invariant in
     let lacks = c.in-Err.ensures.not_sealed is in (
       lacks.0,
-      told_of (λ format text. IfSome text (λ t. IsNotSealed format t)) _ _ _ _ inv.text refl lacks.1,
+      known_of (λ format text. IfSome text (λ t. IsNotSealed format t)) _ _ _ _ inv.text refl lacks.1,
       rw (c.in-Err.ensures.kept (λ failed. cc (is, failed)))
           (all_rows _ _ _ _ _ _ _ _ _ (inv.come begun heading) inv.text refl refl lacks.2),
     )

@@ -3,19 +3,19 @@ use Rattle.std.proofs.lemmas.List.{take_all}
 use Rattle.date_texts.specs.declared.target.Target.{Target}
 use Rattle.register_records.specs.ShortLists.{items_in}
 use Rattle.register_records.specs.declared.short_lists.ShortList.{ShortList}
-use Rattle.register_records.specs.declared.target_lists.TheConstants.{PLACE_ROOM, WORD_LEN}
-use Rattle.register_records.specs.TargetPlaces.{places_in}
-use Rattle.register_records.proofs.TargetPlaceLemmas.{more_compared, one_list}
+use Rattle.register_records.specs.declared.target_lists.TheConstants.{RANK_ROOM, WORD_LEN}
+use Rattle.register_records.specs.TargetRanks.{ranks_in}
+use Rattle.register_records.proofs.TargetRankLemmas.{more_compared, one_list}
 use Rattle.register_records.proofs.target_lists.TargetList.is_same.Goals as goal
 
-short : (list : ShortList Target) → length (items_in list) ≤ PLACE_ROOM
+short : (list : ShortList Target) → length (items_in list) ≤ RANK_ROOM
 short list = omega (arith, length-take list.count list.items, list.few)
 
 pub words-preserved : goal.words-preserved
 words-preserved c =
     let at = c.words.i * WORD_LEN in
     let len : at + WORD_LEN - at ≡ WORD_LEN = omega arith in
-    more_compared c.words.is_same _ _ c.args.self.now.places c.args.other.now.places at _ (omega arith)
+    more_compared c.words.is_same _ _ c.args.self.now.ranks c.args.other.now.ranks at _ (omega arith)
     c.word.type_inv c.word-in-words.type_inv (rw len at c.word.ensures) (rw len at c.word-in-words.ensures)
     c.words.invariant
 
@@ -24,11 +24,11 @@ returns c =
     let a = c.args.self.now in
     let b = c.args.other.now in
     let end = c.words.i * WORD_LEN in
-    let all : length a.places ≡ PLACE_ROOM = search rules in
-    let other_all : length b.places ≡ PLACE_ROOM = search rules in
-    let whole = take_all end a.places (omega (arith, c.words-test.false)) in
-    let other_whole = take_all end b.places (omega (arith, c.words-test.false)) in (
-      λ e. one_list PLACE_ROOM _ _ (short a.items) (short b.items)
-          (sym a.placed ∙ sym whole ∙ c.words.invariant.0 e ∙ other_whole ∙ b.placed),
-      λ e. c.words.invariant.1 (whole ∙ a.placed ∙ ap (places_in PLACE_ROOM) e ∙ sym b.placed ∙ sym other_whole),
+    let all : length a.ranks ≡ RANK_ROOM = search rules in
+    let other_all : length b.ranks ≡ RANK_ROOM = search rules in
+    let whole = take_all end a.ranks (omega (arith, c.words-test.false)) in
+    let other_whole = take_all end b.ranks (omega (arith, c.words-test.false)) in (
+      λ e. one_list RANK_ROOM _ _ (short a.items) (short b.items)
+          (sym a.ranked ∙ sym whole ∙ c.words.invariant.0 e ∙ other_whole ∙ b.ranked),
+      λ e. c.words.invariant.1 (whole ∙ a.ranked ∙ ap (ranks_in RANK_ROOM) e ∙ sym b.ranked ∙ sym other_whole),
     )

@@ -5,4 +5,4 @@ use Rattle.register_records.proofs.target_lists.TargetList.is_same.Given as goal
 
 abbrev pub invariant-words : goal.invariant-words
 invariant-words l =
-    (l.is_same ≡ true) ↔ (take (l.i * WORD_LEN) l.self.places ≡ take (l.i * WORD_LEN) l.other.places)
+    (l.is_same ≡ true) ↔ (take (l.i * WORD_LEN) l.self.ranks ≡ take (l.i * WORD_LEN) l.other.ranks)

@@ -1,7 +1,7 @@
 use Rattle.std.proofs.Common.{◌∙◌, add-one, arith, sym}
 use Rattle.std.proofs.lemmas.List.{take_more}
-use Rattle.register_records.specs.declared.target_lists.TheConstants.{PLACE_ROOM}
-use Rattle.register_records.proofs.TargetPlaceLemmas.{more_places}
+use Rattle.register_records.specs.declared.target_lists.TheConstants.{RANK_ROOM}
+use Rattle.register_records.proofs.TargetRankLemmas.{more_ranks}
 use Rattle.register_records.proofs.target_lists.TargetList.new.Goals as goal
 
 pub targets-preserved : goal.targets-preserved
@@ -11,6 +11,6 @@ targets-preserved c =
     let targets = c.args.targets.now in
     record {
       items = (rw inv.items at c.push.ensures) ∙ sym (take_more targets i _ c.targets-test.true);
-      places = rw (inv.places, c.place.ensures, add-one) (more_places PLACE_ROOM targets i _ c.targets-test.true
+      ranks = rw (inv.ranks, c.rank.ensures, add-one) (more_ranks RANK_ROOM targets i _ c.targets-test.true
           (omega (arith, c.requires)));
     }

@@ -1,4 +1,4 @@
--- The places of targets among all targets. No public contract cites this file.
+-- The ranks of targets among all targets. No public contract cites this file.
 use Rattle.std.specs.Prelude.{◌+◌, Bool, ℕ, zero, suc, List, [], ◌∷◌}
 use Rattle.std.specs.List.{position_or_len}
 use Rattle.std.specs.Str.{bytes_eq}
@@ -9,12 +9,12 @@ use Rattle.date_texts.specs.declared.target.Target.{Target}
 abbrev pub have_one_name : Target → Target → Bool
 have_one_name target other = bytes_eq (target_name other) (target_name target)
 
--- the place of a target, from 1
-abbrev pub place_of : Target → ℕ
-place_of target = 1 + position_or_len (have_one_name target) all_targets
+-- the rank of a target, from 1
+abbrev pub rank_of : Target → ℕ
+rank_of target = 1 + position_or_len (have_one_name target) all_targets
 
 -- those of targets, in a list of so much room; behind the last stands 0
-abbrev pub places_in : ℕ → List Target → List ℕ
-places_in zero targets = []
-places_in (suc room) [] = 0 ∷ places_in room []
-places_in (suc room) (target ∷ targets) = place_of target ∷ places_in room targets
+abbrev pub ranks_in : ℕ → List Target → List ℕ
+ranks_in zero targets = []
+ranks_in (suc room) [] = 0 ∷ ranks_in room []
+ranks_in (suc room) (target ∷ targets) = rank_of target ∷ ranks_in room targets

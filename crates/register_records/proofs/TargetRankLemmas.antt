@@ -1,4 +1,4 @@
--- Targets have their own places, and places are those of one list of targets.
+-- Targets have their own ranks, and ranks are those of one list of targets.
 use Rattle.std.proofs.Common.{◌≡◌, ◌<◌, ◌≤◌, ◌+◌, ◌-◌, ℕ, List, [], ◌∷◌, refl, sym, ap, ◌∙◌, arith, drop, get_or}
 use Rattle.std.proofs.Common.{length, set, take, true}
 use Rattle.std.proofs.Math.Seq.{take-add}
@@ -18,50 +18,51 @@ use Rattle.date_texts.specs.declared.target.Target.TheVariants.{Haab}
 use Rattle.date_texts.specs.declared.target.TheConstants.{MAX_TARGETS}
 use Rattle.date_texts.proofs.ReadingLemmas.{some_inside}
 use Rattle.date_texts.proofs.TargetNameLemmas.{finds_own}
-use Rattle.register_records.specs.TargetPlaces.{have_one_name, place_of, places_in}
+use Rattle.register_records.specs.declared.target_lists.TheConstants.{WORD_LEN}
+use Rattle.register_records.specs.TargetRanks.{have_one_name, rank_of, ranks_in}
 
--- the place of a target is its own
-placed : (t : Target) → IsNumbered all_targets (place_of t) t
-placed t =
-    let before : place_of t - 1 ≡ position_or_len (have_one_name t) all_targets = omega arith in
+-- the rank of a target is its own
+ranked : (t : Target) → IsNumbered all_targets (rank_of t) t
+ranked t =
+    let before : rank_of t - 1 ≡ position_or_len (have_one_name t) all_targets = omega arith in
     (omega arith, rw before (sym (find_at (have_one_name t) all_targets) ∙ finds_own t))
 
 -- it stands there
 pub stands_first : (t : Target) → (k : ℕ) × (k < MAX_TARGETS) × (have_one_name t (get_or all_targets k Haab) ≡ true)
 stands_first t =
     let first = position_or_len (have_one_name t) all_targets in
-    let within : first < MAX_TARGETS = omega (arith, slice_get_within all_targets (place_of t - 1) t (placed t).1) in
+    let within : first < MAX_TARGETS = omega (arith, slice_get_within all_targets (rank_of t - 1) t (ranked t).1) in
     (first, within, passes_at_first (have_one_name t) all_targets Haab within)
 
-one_place : (t u : Target) → place_of t ≡ place_of u → t ≡ u
-one_place t u e =
-    some_inside (sym (placed t).1 ∙ ap (λ k. slice_get all_targets (k - 1)) e ∙ (placed u).1)
+one_rank : (t u : Target) → rank_of t ≡ rank_of u → t ≡ u
+one_rank t u e =
+    some_inside (sym (ranked t).1 ∙ ap (λ k. slice_get all_targets (k - 1)) e ∙ (ranked u).1)
 
 pub one_list : (room : ℕ) (ts us : List Target) → length ts ≤ room → length us ≤ room
-    → places_in room ts ≡ places_in room us → ts ≡ us
+    → ranks_in room ts ≡ ranks_in room us → ts ≡ us
 one_list zero [] [] few other e = refl
 one_list zero [] (u ∷ us) few other e = absurd (omega (arith, other))
 one_list zero (t ∷ ts) us few other e = absurd (omega (arith, few))
 one_list (suc room) [] [] few other e = refl
 one_list (suc room) [] (u ∷ us) few other e =
-    let first : 0 ≡ place_of u = cc in absurd (omega (arith, (placed u).0, first))
+    let first : 0 ≡ rank_of u = cc in absurd (omega (arith, (ranked u).0, first))
 one_list (suc room) (t ∷ ts) [] few other e =
-    let first : place_of t ≡ 0 = cc in absurd (omega (arith, (placed t).0, first))
+    let first : rank_of t ≡ 0 = cc in absurd (omega (arith, (ranked t).0, first))
 one_list (suc room) (t ∷ ts) (u ∷ us) few other e =
-    let first : place_of t ≡ place_of u = cc in
-    let rest : places_in room ts ≡ places_in room us = cc in
-    let head = one_place t u first in
+    let first : rank_of t ≡ rank_of u = cc in
+    let rest : ranks_in room ts ≡ ranks_in room us = cc in
+    let head = one_rank t u first in
     let tail = one_list room ts us (omega (arith, few)) (omega (arith, other)) rest in
     cc (head, tail)
 
--- one more place
-pub more_places : (room : ℕ) (ts : List Target) (i : ℕ) (e : Target) → i < length ts → length ts ≤ room
-    → set (places_in room (take i ts)) i (place_of (get_or ts i e)) ≡ places_in room (take (suc i) ts)
-more_places zero ts i e lt few = absurd (omega (arith, lt, few))
-more_places (suc room) [] i e lt few = absurd (omega (arith, lt))
-more_places (suc room) (t ∷ ts) zero e lt few = refl
-more_places (suc room) (t ∷ ts) (suc i) e lt few =
-    ap (λ (places : List ℕ). place_of t ∷ places) (more_places room ts i e (omega (arith, lt)) (omega (arith, few)))
+-- one more rank
+pub more_ranks : (room : ℕ) (ts : List Target) (i : ℕ) (e : Target) → i < length ts → length ts ≤ room
+    → set (ranks_in room (take i ts)) i (rank_of (get_or ts i e)) ≡ ranks_in room (take (suc i) ts)
+more_ranks zero ts i e lt few = absurd (omega (arith, lt, few))
+more_ranks (suc room) [] i e lt few = absurd (omega (arith, lt))
+more_ranks (suc room) (t ∷ ts) zero e lt few = refl
+more_ranks (suc room) (t ∷ ts) (suc i) e lt few =
+    ap (λ (ranks : List ℕ). rank_of t ∷ ranks) (more_ranks room ts i e (omega (arith, lt)) (omega (arith, few)))
 
 -- words of the same bytes are the same
 one_word : (v w : ℕ) → v < 2 ^ 64 → w < 2 ^ 64 → to_le_bytes w64 v ≡ to_le_bytes w64 w → v ≡ w
@@ -69,12 +70,12 @@ one_word v w small other e =
     sym (from_le_bytes-to_le_bytes_8 v small) ∙ ap (from_le_bytes w64) e ∙ from_le_bytes-to_le_bytes_8 w other
 
 -- one more word of two lists of bytes is compared
-pub more_compared : (same : Bool) (v w : ℕ) (xs ys : List ℕ) (n k : ℕ) → k ≡ n + 8 → v < 2 ^ 64 → w < 2 ^ 64
-    → to_le_bytes w64 v ≡ take 8 (drop n xs) → to_le_bytes w64 w ≡ take 8 (drop n ys)
+pub more_compared : (same : Bool) (v w : ℕ) (xs ys : List ℕ) (n k : ℕ) → k ≡ n + WORD_LEN → v < 2 ^ 64 → w < 2 ^ 64
+    → to_le_bytes w64 v ≡ take WORD_LEN (drop n xs) → to_le_bytes w64 w ≡ take WORD_LEN (drop n ys)
     → (same ≡ true) ↔ (take n xs ≡ take n ys) → ((same && v == w) ≡ true) ↔ (take k xs ≡ take k ys)
 more_compared same v w xs ys n k is small other here there before =
-    let split : take k xs ≡ take n xs ++ take 8 (drop n xs) = rw is (take-add n 8 xs) in
-    let split2 : take k ys ≡ take n ys ++ take 8 (drop n ys) = rw is (take-add n 8 ys) in (
+    let split : take k xs ≡ take n xs ++ take WORD_LEN (drop n xs) = rw is (take-add n WORD_LEN xs) in
+    let split2 : take k ys ≡ take n ys ++ take WORD_LEN (drop n ys) = rw is (take-add n WORD_LEN ys) in (
       λ e.
           let both = and_parts same (v == w) e in
           let first = before.0 both.0 in
@@ -83,8 +84,8 @@ more_compared same v w xs ys n k is small other here there before =
       λ e.
           let first : take n xs ≡ take n ys =
           sym (take-take n k xs (omega arith)) ∙ ap (λ (l : List ℕ). take n l) e ∙ take-take n k ys (omega arith) in
-          let last : take 8 (drop n xs) ≡ take 8 (drop n ys) =
-          sym (drop-take n 8 xs) ∙ rw is at (ap (λ (l : List ℕ). drop n l) e) ∙ drop-take n 8 ys in
+          let last : take WORD_LEN (drop n xs) ≡ take WORD_LEN (drop n ys) =
+          sym (drop-take n WORD_LEN xs) ∙ rw is at (ap (λ (l : List ℕ). drop n l) e) ∙ drop-take n WORD_LEN ys in
           let one = one_word v w small other (here ∙ last ∙ sym there) in
           rw (before.1 first, eq-eqb v w one) refl,
     )

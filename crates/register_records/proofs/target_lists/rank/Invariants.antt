@@ -1,0 +1,8 @@
+use Rattle.std.proofs.Common.{◌≡◌, ◌<◌, ℕ, false, get_or}
+use Rattle.date_texts.specs.Calendars.{all_targets}
+use Rattle.date_texts.specs.declared.target.Target.TheVariants.{Haab}
+use Rattle.register_records.specs.TargetRanks.{have_one_name}
+use Rattle.register_records.proofs.target_lists.rank.Given as goal
+
+abbrev pub invariant-ranks : goal.invariant-ranks
+invariant-ranks l = (k : ℕ) → k < l.i → have_one_name l.target (get_or all_targets k Haab) ≡ false

@@ -1,8 +1,9 @@
 -- What a contract sees of the two ends of a lane, and of what is left of its sender.
 --
 -- A lane has two lists of items, sent and taken. Making it leaves both empty. A push into its ring that succeeds
--- appends an item to those sent, and a pop that succeeds appends its answer to those taken. A push that finds the ring
--- full, a pop that finds it empty and a look change neither. Once the sender has finished, what was sent is fixed.
+-- appends an item to those sent, and a pop that succeeds appends the one that it returns to those taken. A push that
+-- finds the ring full, a pop that finds it empty and a look change neither. Once the sender has finished, what was sent
+-- is fixed.
 use Rattle.std.specs.Prelude.{◌≡◌, ℕ, List, [], Option, Some, option_map, IsSome}
 use Rattle.std.specs.Option.{option_map_or}
 use Rattle.std.specs.declared.alloc.Global.{Global}

@@ -37,7 +37,7 @@ pub fn lane<T: Drop>(alloc: Global, capacity: usize) -> Result<(Sender<T>, Recei
 }
 
 /// A lane as [`lane`] makes it, whose sender waits with this patience, and whose receiver with that of a thread one
-/// lane further.
+/// lane downstream.
 ///
 /// # Errors
 ///

@@ -51,7 +51,7 @@ impl<T> Receiver<T> {
 
     /// Takes the next item, if one is there now, and never waits.
     ///
-    /// It answers `Gone` where the sender is no more and all that it sent was taken, also after an `End` or a `Stop`.
+    /// It returns `Gone` where the sender is no more and all that it sent was taken, also after an `End` or a `Stop`.
     pub fn try_take(&mut self) -> Result<Option<Item<T>>, Gone<()>>
         ensures lane { receiver_lane self.new ≡ receiver_lane self.old }
         ensures ok { IfOk result (λ found.
@@ -67,7 +67,7 @@ impl<T> Receiver<T> {
 
     /// Waits for the next item and takes it.
     ///
-    /// While nothing is there it waits as [`Patience`] does. It answers `Gone` where `try_take` does.
+    /// While nothing is there it waits as [`Patience`] does. It returns `Gone` where `try_take` does.
     pub fn take(&mut self, rt: &(impl Wait + Clock + CpuClock)) -> Result<Item<T>, Gone<()>>
         ensures lane { receiver_lane self.new ≡ receiver_lane self.old }
         ensures ok { IfOk result (λ item. taken self.new ≡ taken self.old ++ item ∷ []) }
@@ -80,7 +80,7 @@ impl<T> Receiver<T> {
     /// Waits until an item is next, and leaves it in the lane: [`next`](Self::next) lends it and [`pass`](Self::pass)
     /// takes it.
     ///
-    /// It waits as `take` does, and answers `Gone` where `try_take` does.
+    /// It waits as `take` does, and returns `Gone` where `try_take` does.
     pub fn wait(&mut self, rt: &(impl Wait + Clock + CpuClock)) -> Result<(), Gone<()>>
         ensures lane { receiver_lane self.new ≡ receiver_lane self.old }
         ensures taken { taken self.new ≡ taken self.old }
@@ -99,7 +99,7 @@ impl<T> Receiver<T> {
 
     /// Looks whether an item is next, and never waits.
     ///
-    /// It answers `Gone` where `try_take` does.
+    /// It returns `Gone` where `try_take` does.
     pub fn look(&mut self) -> Result<bool, Gone<()>>
         ensures lane { receiver_lane self.new ≡ receiver_lane self.old }
         ensures taken { taken self.new ≡ taken self.old }

@@ -28,7 +28,7 @@ impl<T> Sender<T> {
 
     /// Waits for room and sends an entry.
     ///
-    /// While the ring is full it waits as [`Patience`] does. Where the receiver was dropped it answers `Gone` with the
+    /// While the ring is full it waits as [`Patience`] does. Where the receiver was dropped it returns `Gone` with the
     /// entry, also where the ring has room.
     pub fn send(&mut self, rt: &(impl Wait + Clock + CpuClock), entry: T) -> Result<(), Gone<T>>
         ensures lane { sender_lane self.new ≡ sender_lane self.old }
@@ -69,7 +69,7 @@ impl<T: Copy> Sender<T> {
 
     /// Waits for room and sends a copy of an entry, which is made once, where it goes to: an entry may be large.
     ///
-    /// It waits as `send` does. Where the receiver was dropped it answers `Gone`, also where the ring has room.
+    /// It waits as `send` does. Where the receiver was dropped it returns `Gone`, also where the ring has room.
     pub fn send_copy(
         &mut self,
         rt: &(impl Wait + Clock + CpuClock),
@@ -94,7 +94,7 @@ impl<T: Drop> Sender<T> {
 
     /// Waits for room and ends the lane: `count` goes with the end, and nothing follows it.
     ///
-    /// It waits as `send` does. Where the receiver was dropped the answer has no confirmation.
+    /// It waits as `send` does. Where the receiver was dropped the `Closed` has no confirmation.
     pub fn close(self, rt: &(impl Wait + Clock + CpuClock), count: u64) -> Closed<T>
         ensures lane { HasConfirmation result → closed_lane result ≡ Some (sender_lane self) }
         ensures sent { HasConfirmation result → all_sent result ≡ sent self ++ End count ∷ [] }
@@ -104,7 +104,7 @@ impl<T: Drop> Sender<T> {
 
     /// Waits for room and ends the lane of a sender that gives up: nothing follows.
     ///
-    /// It waits as `send` does. Where the receiver was dropped the answer has no confirmation.
+    /// It waits as `send` does. Where the receiver was dropped the `Closed` has no confirmation.
     pub fn stop(self, rt: &(impl Wait + Clock + CpuClock)) -> Closed<T>
         ensures lane { HasConfirmation result → closed_lane result ≡ Some (sender_lane self) }
         ensures sent { HasConfirmation result → all_sent result ≡ sent self ++ Stop ∷ [] }

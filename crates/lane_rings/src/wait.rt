@@ -39,7 +39,7 @@ const LONG_NAP: u64 = 100;
 /// From this many sources on a run has many more threads than a machine has processors.
 const MANY_SOURCES: usize = 5;
 
-/// By how many microseconds a nap is longer one lane further from the reader, where threads share processors. The
+/// By how many microseconds a nap is longer one lane downstream of the reader, where threads share processors. The
 /// system ends naps that end near one another together, and the one that is due first runs first: so the threads run in
 /// the order of their lanes, and each finds what the one before it has left.
 const LONGER_BY_A_LANE: u64 = 15;
@@ -85,7 +85,7 @@ struct YieldEnd {
 #[derive(Clone, Copy, Debug)]
 pub struct Patience {
     processors: u32,
-    // A nap in microseconds, and by how much it is longer one lane further.
+    // A nap in microseconds, and by how much it is longer one lane downstream.
     nap: u64,
     longer: u64,
     // The looks of this wait that were followed by the next one at once.
@@ -122,7 +122,7 @@ impl Patience {
         }
     }
 
-    /// For a thread that is one lane further from the reader.
+    /// For the thread one lane downstream.
     pub fn one_lane_downstream(self) -> Patience {
         Patience {
             nap: self.nap.saturating_add(self.longer),

@@ -231,7 +231,7 @@ fn naps_grow_beside_others_that_stay(rt: HostRuntime) {
     assert!(rt; naps_grow());
 }
 
-// The naps of the reader's thread and of those one and two lanes further.
+// The naps of the reader's thread and of those one and two lanes downstream.
 fn naps_by_lane(sources: usize, processors: usize) -> [u64; 3] {
     let reader = Patience::for_run(sources, processors);
     let converter = reader.one_lane_downstream();
@@ -244,7 +244,7 @@ fn naps_by_lane(sources: usize, processors: usize) -> [u64; 3] {
 }
 
 #[test]
-fn naps_are_longer_one_lane_further_where_threads_share_processors(rt: HostRuntime) {
+fn naps_are_longer_one_lane_downstream_where_threads_share_processors(rt: HostRuntime) {
     assert!(rt; naps_by_lane(1, 2) == [1, 16, 31]);
     assert!(rt; naps_by_lane(5, 2) == [100, 115, 130]);
     assert!(rt; naps_by_lane(1, 4) == [1, 1, 1]);

@@ -15,7 +15,7 @@ trait Host: Wait + Clock + CpuClock {}
 
 impl<T: Wait + Clock + CpuClock> Host for T {}
 
-// The functions below answer whether all is as it is wanted, and promise no more than that a lane stays the same: a
+// The functions below return whether all is as it is wanted, and promise no more than that a lane stays the same: a
 // test that asserted each value itself would be long to prove.
 
 // How a sender leaves its lane.

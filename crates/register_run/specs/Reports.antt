@@ -1,5 +1,5 @@
 -- What a run returns.
-use Rattle.std.specs.Prelude.{◌≡◌, ◌↔◌, ℕ, List, All, IsErrAnd, Result, Vec, map, true}
+use Rattle.std.specs.Prelude.{◌≡◌, ◌≢◌, ◌≤◌, ◌<◌, ◌↔◌, ℕ, List, All, IsErrAnd, Result, Vec, map, true, vec_len}
 use Rattle.std.specs.declared.alloc.Global.{Global}
 use Rattle.std.specs.declared.io.traits.Read as reads
 use Rattle.register_records.specs.Sources.{is_whole_end}
@@ -58,3 +58,12 @@ module _ {R W : Type 0} where
   -- the run did not begin, with a fault of this kind
   abbrev pub IsRefusedAs : RunFaultKind → Result (Report W) (RunFault R W) → Type 0
   IsRefusedAs kind result = IsErrAnd result (λ fault. fault.kind ≡ kind)
+
+  -- it does so exactly for more than 32 sources
+  abbrev pub RefusesSources : Vec R Global → Result (Report W) (RunFault R W) → Type 0
+  RefusesSources sources result = IsRefusedAs TooManySources result ↔ (32 < vec_len sources)
+
+  -- and exactly for at most 32 sources and another number of outputs
+  abbrev pub RefusesOutputs : Vec R Global → Vec W Global → Result (Report W) (RunFault R W) → Type 0
+  RefusesOutputs sources outputs result =
+      IsRefusedAs OutputCount result ↔ ((vec_len sources ≤ 32) × (vec_len outputs ≢ vec_len sources))

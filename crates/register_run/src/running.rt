@@ -1,10 +1,11 @@
 //! The run over a list of sources.
 
-ghost use Rattle.std.specs.Prelude.{◌≡◌, ◌≢◌, ◌<◌, ◌≤◌, ◌↔◌, [], All, IfErr, IfOk, map, true};
+ghost use Rattle.std.specs.Prelude.{◌≡◌, ◌≤◌, ◌↔◌, [], All, IfErr, IfOk, map, true};
 ghost use Rattle.std.specs.Prelude.{vec_capacity, vec_len};
 ghost use Rattle.register_records.specs.Sources.{is_whole_end};
 ghost use Rattle.register_run.specs.Cases.{case_of, cases, end_of, ended_case, output_of, ran_of};
-ghost use Rattle.register_run.specs.Reports.{HandsBack, IsRefusedAs, IsReport, IsReportOfMachine, IsReportOfThreads};
+ghost use Rattle.register_run.specs.Reports.{HandsBack, IsReport, IsReportOfMachine, IsReportOfThreads};
+ghost use Rattle.register_run.specs.Reports.{RefusesOutputs, RefusesSources};
 
 use crate::ended_sources::EndedSource;
 use crate::gates::{Gate, Open};
@@ -252,7 +253,7 @@ fn run_all<'s, 'e, T: Host, R: Read + Send + Drop + 'e, W: Output + Drop, G: Gat
         ..
     } = lists;
     let mut running_sources = start_all(context, sources, outputs, running_sources);
-    // This thread is two lanes further than the readers.
+    // This thread is two lanes downstream of the readers.
     let patience = context.patience.one_lane_downstream().one_lane_downstream();
     visit_until_ended(context.rt, patience, &mut running_sources);
     let ended_sources = finish_all(context.rt, running_sources, ended_sources);
@@ -328,9 +329,8 @@ pub fn run_gated<
     ensures machine { IfOk result (IsReportOfMachine R.Read W.Output setup.now sources.items outputs.items) }
     ensures threads { IfOk result (IsReportOfThreads setup.now) }
     ensures unchanged { IfErr result (HandsBack sources outputs) }
-    ensures too_many_sources { IsRefusedAs RunFaultKind.TooManySources result ↔ (32 < vec_len sources) }
-    ensures output_count { IsRefusedAs RunFaultKind.OutputCount result
-        ↔ ((vec_len sources ≤ 32) × (vec_len outputs ≢ vec_len sources)) }
+    ensures too_many_sources { RefusesSources sources result }
+    ensures output_count { RefusesOutputs sources outputs result }
 {
     let count = sources.len();
     if count > MAX_SOURCES {
@@ -384,9 +384,8 @@ pub fn run<T: Threads + Wait + Clock + CpuClock + Sync, R: Read + Send + Drop, W
 
     // A run that did not begin.
     ensures unchanged { IfErr result (HandsBack sources outputs) }
-    ensures too_many_sources { IsRefusedAs RunFaultKind.TooManySources result ↔ (32 < vec_len sources) }
-    ensures output_count { IsRefusedAs RunFaultKind.OutputCount result
-        ↔ ((vec_len sources ≤ 32) × (vec_len outputs ≢ vec_len sources)) }
+    ensures too_many_sources { RefusesSources sources result }
+    ensures output_count { RefusesOutputs sources outputs result }
 {
     run_gated(rt, alloc, sources, outputs, setup, &Open)
 }

@@ -129,8 +129,8 @@ impl Stripe {
             setup.ring(),
             context.patience,
         )?;
-        let further = context.patience.one_lane_downstream();
-        let (row_sender, rows) = patient_lane::<Row>(context.alloc, setup.ring(), further)?;
+        let downstream = context.patience.one_lane_downstream();
+        let (row_sender, rows) = patient_lane::<Row>(context.alloc, setup.ring(), downstream)?;
         let feeding = Snapshot::of(&sender);
         let lanes = ConverterLanes {
             entries: Snapshot::of(&entries),

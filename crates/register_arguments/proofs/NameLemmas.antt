@@ -50,7 +50,7 @@ pub names_of_split : (list : List ℕ) (s t : Split ℕ) → t ≡ s → split_t
 names_of_split list s t same text more pattern = YieldsList-at same
     (YieldsList-from_str_split 44 list (lit< tt) text more pattern)
 
--- of no targets none is named twice
+-- none of no targets is named twice
 pub never_twice : ¬ NamesTwice []
 never_twice twice = absurd (omega (arith, twice.3))
 

@@ -14,18 +14,18 @@ option_rule name = record (new_rule name) { long = Some name; value_names = 1 }
 abbrev pub flag_rule : Text → Rule
 flag_rule name = record (new_rule name) { long = Some name; action = Some SetTrue }
 
--- a word alone, as often as wanted
-abbrev pub word_rule : Text → Rule
-word_rule name = record (new_rule name) { value_names = 1; action = Some Append }
+-- an argument that is no option, as often as wanted
+abbrev pub files_rule : Text → Rule
+files_rule name = record (new_rule name) { value_names = 1; action = Some Append }
 
 -- the rules of the arguments: four options with a value each, two flags, and files
 abbrev pub argument_rules : List Rule
 argument_rules =
     option_rule (codes "to") ∷ option_rule (codes "ring") ∷ option_rule (codes "stripes")
     ∷ option_rule (codes "delimiter") ∷ flag_rule (codes "sealed") ∷ flag_rule (codes "summary")
-    ∷ word_rule (codes "file") ∷ []
+    ∷ files_rule (codes "file") ∷ []
 
--- a command with a version, and no word for the program's own name
+-- a command with a version, and no argument for the program's own name
 abbrev pub bare_command : App
 bare_command = let new = new_app (codes "register") in
     record new { top = record new.top { no_binary_name = true; has_version = true } }

@@ -40,9 +40,13 @@ status_of_fault error = option_map_or (λ fault. 2) (fault_of_error error) 3
 abbrev pub program_line : List ℕ → List ℕ
 program_line text = codes "register: " ++ (text ++ 10 ∷ [])
 
+-- that memory ran out
+abbrev pub memory_line : List ℕ
+memory_line = program_line (codes "out of memory")
+
 -- the line on standard error; on arguments that are not taken, clap says more
 abbrev pub error_line : RequestFault → Option (List ℕ)
-error_line request_fault.OutOfMemory = Some (program_line (codes "out of memory"))
+error_line request_fault.OutOfMemory = Some memory_line
 error_line (request_fault.Usage error) = None
 error_line (request_fault.UnknownTarget name) = Some (program_line (codes "unknown target: " ++ name.now))
 error_line (request_fault.TargetTwice target) = Some (program_line (codes "target named twice: " ++ target_name target))

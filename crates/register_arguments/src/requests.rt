@@ -6,7 +6,7 @@ ghost use Rattle.std.specs.String.{string_bytes};
 ghost use Rattle.clap.specs.Words.{FailsBy, HasKind, all_of, app_of, fault_of, first_of, found_of, matches_of, one_of};
 ghost use Rattle.clap.specs.Words.{rows_of, rule_of};
 ghost use Rattle.register_arguments.specs.CommandLine.{AreTaken, bare_command, command_line, flag_rule, is_set};
-ghost use Rattle.register_arguments.specs.CommandLine.{option_rule, values_in, values_of, word_rule};
+ghost use Rattle.register_arguments.specs.CommandLine.{files_rule, option_rule, values_in, values_of};
 ghost use Rattle.register_arguments.specs.Faults.{fault_of_error};
 ghost use Rattle.register_arguments.specs.Requests.{AreFilesToConvert, AreTargetsOf, Ask, FailFirst, IsFileFault};
 ghost use Rattle.register_arguments.specs.Requests.{IsFirstFileTwice, IsNamedTwice, IsTargetFault, MeanJust};
@@ -79,7 +79,7 @@ fn flag<'a>(alloc: Global, name: &'a str) -> Arg<'a>
 
 /// The arguments that are no options, as many as there are.
 fn files_argument<'a>(alloc: Global, name: &'a str, value: &'a str) -> Arg<'a>
-    ensures rule { rule_of result ≡ word_rule name.entry.now }
+    ensures rule { rule_of result ≡ files_rule name.entry.now }
     ensures local { result.global ≡ false }
 {
     Arg::new(alloc, name)

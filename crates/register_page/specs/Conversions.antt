@@ -54,15 +54,15 @@ pub record IsConverted (layout : Layout) (text old new : List ℕ) (it : Convert
       × ∥ Puts old new it.length (IsTableOfAll layout (Some text)) ∥₁)
   pub never : IfBroken it.end (λ c. (c ≢ cause.NoThread) × (c ≢ cause.Unconfirmed))
 
--- what is answered to what was asked: the first fault that it has, with the room as it was, or the conversion
-abbrev pub IsAnswer : List ℕ → ℕ → Bool → List ℕ → List ℕ → List ℕ → Result Converted Fault → Type 0
-IsAnswer columns delimiter sealed text old new (Err fault.NoSuchColumn) =
+-- what is returned for what was asked: the first fault that it has, with the room as it was, or the conversion
+abbrev pub IsReturned : List ℕ → ℕ → Bool → List ℕ → List ℕ → List ℕ → Result Converted Fault → Type 0
+IsReturned columns delimiter sealed text old new (Err fault.NoSuchColumn) =
     (goes_beyond columns ≡ true) × (new ≡ old)
-IsAnswer columns delimiter sealed text old new (Err fault.ColumnTwice) =
+IsReturned columns delimiter sealed text old new (Err fault.ColumnTwice) =
     (goes_beyond columns ≡ false) × NamesTwice (targets_at columns) × (new ≡ old)
-IsAnswer columns delimiter sealed text old new (Err fault.Delimiter) =
+IsReturned columns delimiter sealed text old new (Err fault.Delimiter) =
     (goes_beyond columns ≡ false) × ¬ (NamesTwice (targets_at columns)) × (is_delimiter delimiter ≡ false)
     × (new ≡ old)
-IsAnswer columns delimiter sealed text old new (Ok it) =
+IsReturned columns delimiter sealed text old new (Ok it) =
     (goes_beyond columns ≡ false) × ¬ (NamesTwice (targets_at columns)) × (is_delimiter delimiter ≡ true)
     × IsConverted (layout_by columns delimiter sealed) text old new it

@@ -2,7 +2,7 @@
 
 ghost use Rattle.std.specs.Prelude.{◌≡◌, []};
 ghost use Rattle.register_records.specs.Views.{layout_of};
-ghost use Rattle.register_page.specs.Conversions.{IsAnswer, IsConverted, sound_part};
+ghost use Rattle.register_page.specs.Conversions.{IsConverted, IsReturned, sound_part};
 
 use crate::requests::{Fault, setup_for};
 use crate::rooms::put;
@@ -95,7 +95,7 @@ pub fn convert_text(
     sealed: bool,
     room: &mut [u8],
 ) -> Result<Converted, Fault>
-    ensures { IsAnswer columns.now delimiter sealed text.now room.old room.new result }
+    ensures { IsReturned columns.now delimiter sealed text.now room.old room.new result }
 {
     let setup = setup_for(columns, delimiter, sealed)?;
     Ok(convert_by(alloc, text, &setup, room))

@@ -35,7 +35,7 @@ abbrev pub ReportsEnd : Report → SourceEnd → ℕ → Type 0
 ReportsEnd report (end.Whole rows refused journal) bytes = Says report 0 bytes rows refused journal.items
 ReportsEnd report (end.Broken cause) bytes = Says report (cause_number cause) bytes 0 0 []
 
--- the report of what was answered: 0 for a whole table, 1 to 8 for a cause, and behind these the faults
+-- the report of what was returned: 0 for a whole table, 1 to 8 for a cause, and behind these the faults
 abbrev pub Reports : Report → Result Converted Fault → Type 0
 Reports report (Ok it) = ReportsEnd report it.end it.length
 Reports report (Err fault) = Says report (8 + fault_number fault) 0 0 0 []

@@ -6,11 +6,11 @@ use Rattle.register_page.specs.Rooms.{with_front}
 use Rattle.register_sheets.specs.Sheets.{all_chosen, widest}
 use Rattle.register_page_exports.specs.declared.sheets.PickReport.{PickReport}
 
--- this text was put to the front of the room, and its length is told
+-- this text was put to the front of the room, and its length is reported
 abbrev pub PutsText : List ℕ → List ℕ → List ℕ → ℕ → Type 0
-PutsText text old new told = (told ≡ length text) × (new ≡ with_front text old)
+PutsText text old new reported = (reported ≡ length text) × (new ≡ with_front text old)
 
--- the fields at these places of these records were put to the front of the rooms, and their numbers are told
+-- the fields at these places of these records were put to the front of the rooms, and their numbers are reported
 pub record PutsFields (places : List ℕ) (records : List Fields) (bytes_old bytes_new : List ℕ)
     (lengths_old lengths_new : List ℕ) (report : PickReport)
     : Type 0 where
@@ -21,7 +21,7 @@ pub record PutsFields (places : List ℕ) (records : List Fields) (bytes_old byt
   pub records_are : report.records ≡ length records
   pub widest_is : report.widest ≡ widest records
 
--- nothing was put, and no number told but why
+-- nothing was put, and only the reason is reported
 pub record PutsNothing (bytes_old bytes_new : List ℕ) (lengths_old lengths_new : List ℕ) (report : PickReport)
     : Type 0 where
   pub why : (report.ending ≡ 1) ⊎ (report.ending ≡ 2)

@@ -2,7 +2,7 @@
 #![tactic(auto)]
 
 ghost use Rattle.std.specs.Prelude.{Err, Ok, Result};
-ghost use Rattle.register_page.specs.Conversions.{IsAnswer, journal_in};
+ghost use Rattle.register_page.specs.Conversions.{IsReturned, journal_in};
 ghost use Rattle.register_page.specs.declared.converting.Converted.{Converted};
 ghost use Rattle.register_page.specs.declared.requests.Fault.{Fault};
 ghost use Rattle.register_page_exports.specs.Reports.{AreCounts, Reports, ReportsEnd};
@@ -27,7 +27,7 @@ pub struct Counts {
     pub out_of_range: usize,
 }
 
-/// How a conversion ended. A number that tells nothing is 0.
+/// How a conversion ended. A number that says nothing is 0.
 #[repr(C)]
 #[derive(Clone, Copy)]
 pub struct Report {
@@ -36,7 +36,7 @@ pub struct Report {
     pub ending: usize,
     /// How many bytes were made. Where they are more than the room, it is as it was.
     pub length: usize,
-    /// Of a whole table its rows, how many of them are refused, and for what.
+    /// The rows of a whole table, how many of them are refused, and for what.
     pub rows: usize,
     pub refused: usize,
     pub refused_with: Counts,
@@ -113,9 +113,9 @@ pub extern "C" fn register_convert(
     room: &mut [u8],
     report: &mut Report,
 )
-    // The report is that of an answer to what was asked, with the room as the answer says.
-    ensures { (answer : Result Converted Fault) × Reports report.new answer
-        × IsAnswer columns.now delimiter sealed text.now room.old room.new answer }
+    // The report is that of what is returned for what was asked, with the room as that says.
+    ensures { (returned : Result Converted Fault) × Reports report.new returned
+        × IsReturned columns.now delimiter sealed text.now room.old room.new returned }
 {
     *report = match convert_text(alloc, text, columns, delimiter, sealed, room) {
         Ok(converted) => report_of(&converted),

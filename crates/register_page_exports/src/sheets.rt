@@ -12,7 +12,7 @@ use register_page::put;
 use register_sheets::{Picked, SheetFault, join, pick, write};
 use std::alloc::Global;
 
-/// What was picked. Where there are more bytes or fields than places in the room for them, it is as it was.
+/// What was picked. Where there are more bytes or fields than fit into the room for them, it is as it was.
 #[repr(C)]
 #[derive(Clone, Copy)]
 pub struct PickReport {

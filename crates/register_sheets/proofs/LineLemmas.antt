@@ -10,7 +10,7 @@ use Rattle.csv.specs.declared.writer.QuoteStyle.TheVariants as style
 use Rattle.csv.proofs.WriteFacts.{blank-more, row-final, row-more}
 use Rattle.register_records.specs.Lines.{line_text}
 use Rattle.register_sheets.specs.LineViews.{Begins, EndsLine, GainsFields, writing}
-use Rattle.register_sheets.specs.declared.lines.Lines.{Lines}
+use Rattle.register_sheets.specs.declared.lines.SheetLines.{SheetLines}
 
 -- a line is the same text whether records may differ in length or not
 same_escaped : (d : ℕ) (field : List ℕ)
@@ -82,18 +82,18 @@ same_test (suc (suc n)) =
     rw (a, b, c, d) refl
 
 -- what a line holds
-abbrev held : Lines → Option (List ℕ)
+abbrev held : SheetLines → Option (List ℕ)
 held lines = text_written (λ v. Some v.items) lines.writer
 
 -- no line, and none begun
-pub none_begun : (d : ℕ) (lines : Lines) → writer_setup lines.writer ≡ writing d → held lines ≡ Some []
+pub none_begun : (d : ℕ) (lines : SheetLines) → writer_setup lines.writer ≡ writing d → held lines ≡ Some []
     → fields_written lines.writer ≡ 0 → has_written lines.writer ≡ false → Begins d [] [] lines
 unfolding is_blank
 none_begun d lines setup bytes count wrote =
     record { setup = setup; bytes = bytes; counted = count; blank = rw wrote refl }
 
 -- one more field
-pub one_gained : (field : List ℕ) (old new : Lines)
+pub one_gained : (field : List ℕ) (old new : SheetLines)
     → (((writer_setup old.writer).style ≢ style.NonNumeric) → Appends (held old) (held new)
     (next_sep (writer_setup old.writer) (fields_written old.writer) ++ field_text (writer_setup old.writer) field))
     → writer_setup new.writer ≡ writer_setup old.writer
@@ -116,16 +116,16 @@ one_gained field old new text same count wrote stays d before fields begun =
           (λ none. (rw begun.setup at wrote) none plain) stays);
     }
 
-pub none_gained : (lines : Lines) → GainsFields [] lines lines
+pub none_gained : (lines : SheetLines) → GainsFields [] lines lines
 none_gained lines d before fields begun = rw append-nil begun
 
-pub both_gained : (more last : List (List ℕ)) (old mid new : Lines) → GainsFields more old mid
+pub both_gained : (more last : List (List ℕ)) (old mid new : SheetLines) → GainsFields more old mid
     → GainsFields last mid new → GainsFields (more ++ last) old new
 both_gained more last old mid new a b d before fields begun =
     rw (← append_assoc fields more last) (b d before (fields ++ more) (a d before fields begun))
 
 -- the end of a line
-pub line_ended : (old new : Lines)
+pub line_ended : (old new : SheetLines)
     → Appends (held old) (held new)
     (tail_text (writer_setup old.writer) (has_written old.writer) (fields_written old.writer))
     → writer_setup new.writer ≡ writer_setup old.writer → fields_written new.writer ≡ 0

@@ -5,7 +5,7 @@ ghost use Rattle.register_sheets.specs.FieldViews.{fields_left};
 ghost use Rattle.register_sheets.specs.Fields.{fields_by};
 ghost use Rattle.register_sheets.specs.LineViews.{GainsFields};
 
-use crate::lines::Lines;
+use crate::lines::SheetLines;
 use std::alloc::AllocError;
 
 /// What is left of a list of fields: their bytes, one behind the other, and the length of each.
@@ -37,7 +37,7 @@ impl<'a> FieldsLeft<'a> {
     }
 
     /// Appends the next fields, so many, to a line.
-    pub fn push_next(&mut self, count: usize, lines: &mut Lines) -> Result<(), AllocError>
+    pub fn push_next(&mut self, count: usize, lines: &mut SheetLines) -> Result<(), AllocError>
         ensures line { OnOk result (GainsFields (take count (fields_left self.old)) lines.old lines.new) }
         ensures left { OnOk result (fields_left self.new ≡ drop count (fields_left self.old)) }
     {

@@ -8,13 +8,13 @@ ghost use Rattle.register_sheets.specs.LineViews.{GainsFields};
 ghost use Rattle.register_sheets.specs.Sheets.{filled, joined, records_text};
 
 use crate::field_lists::FieldsLeft;
-use crate::lines::Lines;
+use crate::lines::SheetLines;
 use crate::reading::{field_at, read_next, records_of};
 use csv::ByteRecord;
 use std::alloc::{AllocError, Global};
 
 /// Appends the fields of a record to a line, and empty ones behind them up to `fill` in all.
-fn push_own(lines: &mut Lines, record: &ByteRecord, fill: usize) -> Result<(), AllocError>
+fn push_own(lines: &mut SheetLines, record: &ByteRecord, fill: usize) -> Result<(), AllocError>
     ensures { OnOk result (GainsFields (filled fill (fields_of record.now)) lines.old lines.new) }
 {
     'own: for place in 0..record.len() {
@@ -53,7 +53,7 @@ pub fn join(
     let mut records = records_of(alloc, sheet, delimiter);
     let mut record = ByteRecord::new(alloc);
     let mut fields = FieldsLeft::new(bytes, lengths);
-    let mut lines = Lines::new(alloc, delimiter);
+    let mut lines = SheetLines::new(alloc, delimiter);
     'records: loop {
         if !read_next(&mut records, &mut record)? {
             return lines.into_text();

@@ -8,20 +8,20 @@ use std::alloc::{AllocError, Global};
 
 /// Lines, and the fields so far of one more behind them.
 #[derive(Drop)]
-pub(crate) struct Lines {
+pub(crate) struct SheetLines {
     writer: Writer<Vec<u8>>,
 }
 
-impl Lines {
+impl SheetLines {
     /// No line yet. This byte will stand between two fields.
-    pub fn new(alloc: Global, delimiter: u8) -> Lines
+    pub fn new(alloc: Global, delimiter: u8) -> SheetLines
         ensures { Begins delimiter [] [] result }
     {
         let writer = WriterBuilder::new()
             .delimiter(delimiter)
             .flexible(true)
             .from_writer(Vec::new(alloc));
-        Lines { writer }
+        SheetLines { writer }
     }
 
     /// Appends one more field, quoted where it must be.

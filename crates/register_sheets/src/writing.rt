@@ -6,7 +6,7 @@ ghost use Rattle.register_sheets.specs.Fields.{fields_by};
 ghost use Rattle.register_sheets.specs.Sheets.{groups, records_text};
 
 use crate::field_lists::FieldsLeft;
-use crate::lines::Lines;
+use crate::lines::SheetLines;
 use crate::reading::SheetFault;
 use std::alloc::Global;
 
@@ -38,7 +38,7 @@ pub fn write(
         return Err(SheetFault::NoWidth);
     }
     let mut fields = FieldsLeft::new(bytes, lengths);
-    let mut lines = Lines::new(alloc, delimiter);
+    let mut lines = SheetLines::new(alloc, delimiter);
     'groups: for _ in 0..lengths.len().div_ceil(width) {
         fields.push_next(width, &mut lines)?;
         lines.end()?;

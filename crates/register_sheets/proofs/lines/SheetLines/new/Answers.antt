@@ -2,7 +2,7 @@ use Rattle.std.proofs.Common.{◌∙◌, ap, refl, true}
 use Rattle.csv.specs.Writing.{with_delimiter, with_flexible}
 use Rattle.csv.specs.declared.writer.WriterBuilder.{WriterBuilder}
 use Rattle.register_sheets.proofs.LineLemmas.{none_begun}
-use Rattle.register_sheets.proofs.lines.Lines.new.Goals as goal
+use Rattle.register_sheets.proofs.lines.SheetLines.new.Goals as goal
 
 pub returns : goal.returns
 returns c =

@@ -1,6 +1,6 @@
 use Rattle.register_sheets.proofs.LineLemmas.{one_gained}
-use Rattle.register_sheets.proofs.lines.Lines.push.Goals as goal
-use Rattle.register_sheets.proofs.lines.Lines.push.Goals.{in-Ok, in-Err}
+use Rattle.register_sheets.proofs.lines.SheetLines.push.Goals as goal
+use Rattle.register_sheets.proofs.lines.SheetLines.push.Goals.{in-Ok, in-Err}
 
 pub returns : goal.returns
 returns c = elim c.match-write_field.branch [

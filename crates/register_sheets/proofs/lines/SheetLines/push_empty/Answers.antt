@@ -2,7 +2,7 @@ use Rattle.std.proofs.Common.{ℕ, List, [], ◌∷◌, sym}
 use Rattle.std.specs.Prelude.{replicate}
 use Rattle.std.proofs.lemmas.List.{replicate_more}
 use Rattle.register_sheets.proofs.LineLemmas.{both_gained, none_gained}
-use Rattle.register_sheets.proofs.lines.Lines.push_empty.Goals as goal
+use Rattle.register_sheets.proofs.lines.SheetLines.push_empty.Goals as goal
 
 pub fields-init : goal.fields-init
 fields-init c = none_gained _

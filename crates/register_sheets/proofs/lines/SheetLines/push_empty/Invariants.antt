@@ -1,6 +1,6 @@
 use Rattle.std.specs.Prelude.{[], replicate}
 use Rattle.register_sheets.specs.LineViews.{GainsFields}
-use Rattle.register_sheets.proofs.lines.Lines.push_empty.Given as goal
+use Rattle.register_sheets.proofs.lines.SheetLines.push_empty.Given as goal
 
 abbrev pub invariant-fields : goal.invariant-fields
 invariant-fields l = GainsFields (replicate l.counter []) l.fn.self l.self

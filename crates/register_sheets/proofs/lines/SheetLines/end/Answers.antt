@@ -1,6 +1,6 @@
 use Rattle.register_sheets.proofs.LineLemmas.{line_ended}
-use Rattle.register_sheets.proofs.lines.Lines.end.Goals as goal
-use Rattle.register_sheets.proofs.lines.Lines.end.Goals.{in-Ok, in-Err}
+use Rattle.register_sheets.proofs.lines.SheetLines.end.Goals as goal
+use Rattle.register_sheets.proofs.lines.SheetLines.end.Goals.{in-Ok, in-Err}
 
 pub returns : goal.returns
 returns c = elim c.match-end_record.branch [

@@ -1,10 +1,10 @@
 -- When arguments are refused, and what is reported then.
-use Rattle.std.proofs.Common.{◌≡◌, ◌≢◌, ◌⊎◌, inl, inr, List, Option, Some, None, ℕ, codes, refl}
+use Rattle.std.proofs.Common.{◌≡◌, ◌≢◌, ◌⊎◌, inl, inr, List, Option, Some, None, ℕ, refl}
 use Rattle.std.specs.Prelude.{◌↔◌, IfSome}
 use Rattle.std.specs.Option.{option_map_or}
 use Rattle.std.specs.Io.KnownBytes.{Appends}
 use Rattle.clap.specs.Words.{Text}
-use Rattle.register_arguments.specs.Faults.{Fault, program_line}
+use Rattle.register_arguments.specs.Faults.{Fault, memory_line}
 use Rattle.register_arguments.specs.Requests.{AreWrong, IsFaultOf, MeanJust, Meaning, wrong}
 use Rattle.register_arguments.specs.declared.request_faults.RequestFault.TheVariants as request_fault
 use Rattle.register_app.specs.Answers.{IsReported}
@@ -33,7 +33,7 @@ is_wrong arguments (Some fault) just = (just (wrong fault)).0 refl
 
 -- where memory ran out, that is why
 pub out_of_memory : (arguments : List Text) (before after : Option (List ℕ))
-    → Appends before after (program_line (codes "out of memory")) → IsReported arguments 3 before after
+    → Appends before after memory_line → IsReported arguments 3 before after
 out_of_memory arguments before after line = record {
   why = refusal.Arguments request_fault.OutOfMemory;
   status_of = refl;

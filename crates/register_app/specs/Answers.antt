@@ -50,7 +50,7 @@ pub record IsConverted {R W E : Type 0} (r : reads.Ghosts R) (o : outputs.Ghosts
     pub setup : Setup
     pub asked : IsSetupOf task setup
     pub report : Report W
-    pub settled : IsReport r o setup sources given report
+    pub reports : IsReport r o setup sources given report
     pub machine : AreOfMachine r o setup sources given report.outputs.items report.ends.items (stripes_of report)
     pub threads : AreThreads setup report.ends.items report.ran.items
     pub outputs : written ≡ report.outputs.items

@@ -1,6 +1,7 @@
 -- Why nothing is done, and what standard error gets of it.
 use Rattle.std.specs.Prelude.{◌≡◌, ◌++◌, ℕ, List, codes, IfSome, Option, Some, None, slice_get}
-use Rattle.register_arguments.specs.Faults.{Fault, error_line, fault_of_error, program_line, status_of_fault}
+use Rattle.register_arguments.specs.Faults.{Fault, error_line, fault_of_error, memory_line, program_line}
+use Rattle.register_arguments.specs.Faults.{status_of_fault}
 use Rattle.register_arguments.specs.Requests.{MeanJust, Task, table}
 use Rattle.register_files.specs.Openings.{missing_file}
 use Rattle.register_files.specs.declared.opening.FileFault.TheVariants as file_fault
@@ -28,7 +29,7 @@ line_of_refusal (refusal.Arguments error) = error_line error
 line_of_refusal (refusal.Files (file_fault.CannotOpen file)) = Some (program_line (codes "cannot open " ++ file.now))
 line_of_refusal (refusal.Files (file_fault.CannotMake file)) =
     Some (program_line (codes "cannot make " ++ (file.now ++ codes ".out.csv")))
-line_of_refusal (refusal.Files file_fault.OutOfMemory) = Some (program_line (codes "out of memory"))
+line_of_refusal (refusal.Files file_fault.OutOfMemory) = Some memory_line
 
 -- the file that cannot be opened or made, where that is why, is one of those whose tables the arguments ask for
 abbrev pub IsOfAsked : List (List ℕ) → Refusal → Type 0

@@ -1,7 +1,7 @@
 //! What the program does with its arguments: it prints a page, or converts, and returns how that ended.
 
 ghost use Rattle.std.specs.Prelude.{◌≡◌, ◌≢◌, ◌≤◌, ◌⊎◌, ◌↔◌, ℕ, List, [], ◌∷◌, All, true, false, map, length, vec_len};
-ghost use Rattle.std.specs.Prelude.{IfSome, codes};
+ghost use Rattle.std.specs.Prelude.{IfSome};
 ghost use Rattle.std.specs.Io.KnownBytes.{Appends};
 ghost use Rattle.std.specs.String.{string_bytes};
 ghost use Rattle.register_app.specs.Answers.{AreConverted, AreFilesAnswered, IsConverted, IsInputAnswered};
@@ -10,7 +10,7 @@ ghost use Rattle.register_records.specs.Sources.{is_whole_end};
 ghost use Rattle.register_files.specs.Openings.{AreMade, IsFresh, IsNewlyMade};
 ghost use Rattle.register_app.specs.Refusals.{IsOfAsked, fault_of_refusal, status_of_refusal};
 ghost use Rattle.register_app.specs.Reports.{lines_from};
-ghost use Rattle.register_arguments.specs.Faults.{program_line};
+ghost use Rattle.register_arguments.specs.Faults.{memory_line};
 ghost use Rattle.register_arguments.specs.Requests.{AreWrong, IsFaultOf, MeanJust, Task, most_files, table, task_of};
 
 use crate::refusals::Refusal;
@@ -75,7 +75,7 @@ fn version_line_text() -> ArrayString<32>
 /// Reports that memory ran out. A fault of `errors` is let go: there is nowhere else to report it.
 fn report_out_of_memory<E: Output>(errors: &mut E)
     ensures line { E.has_failed errors.new ≡ false
-        → Appends (E.contents errors.old) (E.contents errors.new) (program_line (codes "out of memory")) }
+        → Appends (E.contents errors.old) (E.contents errors.new) memory_line }
     ensures mark { E.own_mark errors.new ≡ E.own_mark errors.old }
 {
     let _ = send(errors, MEMORY_FAULT.as_bytes());

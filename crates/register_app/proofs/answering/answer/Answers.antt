@@ -103,7 +103,7 @@ returns-in-Err-clause-refused g c =
     λ had. is_refused (map string_bytes c.args.arguments.now) (fault_of_error c.in-Err.fault) c.refuse.result.status
     c.in-Err.ensures.refused c.refuse.ensures.status had
 
--- standard error: of a page nothing, of a run that memory ran out or a file was missing, and else what is wrong
+-- standard error: nothing of a page; that memory ran out or a file was missing; and else what is wrong
 pub returns-in-Ok-Help-clause-reported : goal.returns-in-Ok-Help-clause-reported
 returns-in-Ok-Help-clause-reported g c = λ high.
     elim c.print_page.ensures.statuses

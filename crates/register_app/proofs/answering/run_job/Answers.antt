@@ -28,12 +28,12 @@ converted : {R W E : Type 0} (r : reads.Ghosts R) (o : outputs.Ghosts W) (e : ou
     → Appends (e.contents before) (e.contents after) (lines_from task.summary 1 report.ends.items))
     → (status ≡ 0 → task.summary ≡ false → after ≡ before)
     → IsConverted r o e task status sources given report.outputs.items report.ran.items before after
-converted r o e task status sources given before after setup report settled machine threads asked complete lines quiet =
+converted r o e task status sources given before after setup report reports machine threads asked complete lines quiet =
     record {
       setup = setup;
       asked = asked;
       report = report;
-      settled = settled;
+      reports = reports;
       machine = machine;
       threads = threads;
       outputs = refl;

@@ -248,12 +248,12 @@ fn day_numbered(number: &str) -> Option<Day> {
 
 /// Whether this is the cell of the day in the target's column, as a text and at the front of a cell's room.
 fn has_cell(target: Target, day: Day, text: &str) -> bool {
-    let mut places = [b'?'; MAX_CELL];
-    let count = write_cell(&mut places, target, day);
+    let mut buffer = [b'?'; MAX_CELL];
+    let count = write_cell(&mut buffer, target, day);
     let mut too_few = [b'?'; MAX_CELL - 1];
     cell(target, day).as_str() == text
-        && places.get(..count as usize) == Some(text.as_bytes())
-        && write_cell_within(&mut places, target, day) == Some(count)
+        && buffer.get(..count as usize) == Some(text.as_bytes())
+        && write_cell_within(&mut buffer, target, day) == Some(count)
         && write_cell_within(&mut too_few, target, day).is_none()
 }
 

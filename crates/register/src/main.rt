@@ -19,7 +19,7 @@ fn arguments_of<R: Env + AllocGlobal>(rt: &R) -> io::Result<Vec<String>> {
     Ok(arguments)
 }
 
-/// Reports why the arguments could not be read: memory ran out, status 3, or a word that is no text, status 2.
+/// Reports why the arguments could not be read: memory ran out, status 3, or one is not UTF-8, status 2.
 fn unread_arguments(rt: &impl Eprint, error: &io::Error) -> ExitCode {
     if error.kind() == io::ErrorKind::OutOfMemory {
         let _ = eprint!(rt; "{MEMORY_FAULT}");

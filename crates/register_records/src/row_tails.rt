@@ -201,6 +201,7 @@ impl RowTail {
     }
 
     /// Appends what stands in a column of a tail. A refused row has no day, and an accepted one no refusal.
+    // Inlined, so that each call has the arm of its own column alone.
     #[inline(always)]
     fn push_column(&mut self, column: TailColumn, targets: &[Target], outcome: Result<Day, Refusal>)
         requires few { length targets.now ≤ MAX_TARGETS }
@@ -236,6 +237,7 @@ impl RowTail {
         ensures delimiter { self.new.delimiter ≡ delimiter }
     {
         self.clear(delimiter);
+        // One by one, in the order of `tail_columns`: a loop over them would choose the arm again for each row.
         self.push_column(TailColumn::DayNumber, targets, outcome);
         self.push_column(TailColumn::Weekday, targets, outcome);
         self.push_column(TailColumn::Cells, targets, outcome);

@@ -19,7 +19,7 @@ pub(crate) fn sample(alloc: Global) -> io::Result<Vec<Day>> {
     Ok(days)
 }
 
-/// The time since a moment. Where the clock fails it tells 0: a caller that left at each of its faults would cost the
+/// The time since a moment. Where the clock fails it is 0: a caller that left at each of its faults would cost the
 /// prover much.
 #[derive(Clone, Copy)]
 pub(crate) struct Watch {

@@ -71,13 +71,13 @@ fn make<R: Files>(rt: &R, alloc: Global, kind: &str, count: &str, to: &str) -> i
     Ok(true)
 }
 
-/// Does what the words ask for.
+/// Does what the arguments ask for.
 fn run<R: Threads + Wait + Sync + Files + Clock + CpuClock + Print>(
     rt: &R,
     alloc: Global,
-    words: &[&str],
+    arguments: &[&str],
 ) -> io::Result<bool> {
-    match words {
+    match arguments {
         [] => run_all(rt, alloc),
         ["calendars", count] => {
             measure_calendars(rt, alloc, count.parse().ok())?;
@@ -104,12 +104,12 @@ fn run<R: Threads + Wait + Sync + Files + Clock + CpuClock + Print>(
 
 fn main(rt: HostRuntime) -> io::Result<()> {
     let alloc = rt.alloc();
-    let arguments: Vec<String> = env::args(&rt)?.skip(1).collect(alloc)?;
-    let mut words: Vec<&str> = Vec::new(alloc);
-    for argument in &arguments {
-        words.push(argument.as_str())?;
+    let owned: Vec<String> = env::args(&rt)?.skip(1).collect(alloc)?;
+    let mut arguments: Vec<&str> = Vec::new(alloc);
+    for argument in &owned {
+        arguments.push(argument.as_str())?;
     }
-    if !run(&rt, alloc, words.as_slice())? {
+    if !run(&rt, alloc, arguments.as_slice())? {
         println!(rt; "nothing measured")?;
     }
     Ok(())

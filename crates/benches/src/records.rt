@@ -24,14 +24,14 @@ fn setup(every_target: bool) -> Option<Setup> {
 }
 
 /// Prints what a conversion took that began with the watch and gave so many rows.
-fn tell<R: Clock + Print>(rt: &R, watch: &Watch, what: &str, rows: u32) -> io::Result<()> {
+fn print_rate<R: Clock + Print>(rt: &R, watch: &Watch, what: &str, rows: u32) -> io::Result<()> {
     let nanoseconds = watch.nanoseconds(rt);
     let each = nanoseconds / u128::from(rows.max(1));
     let rate = u128::from(rows) * 1_000_000_000 / nanoseconds.max(1);
     println!(rt; "{what:<24} {each:>6} ns a record {rate:>9} records a second")
 }
 
-/// Converts a source and answers how many rows it has, or 0 where it broke off.
+/// Converts a source and returns how many rows it has, or 0 where it broke off.
 fn rows_of<R: Read + Drop, W: Output>(
     alloc: Global,
     input: R,
@@ -59,7 +59,7 @@ fn measure<R: Clock + Print>(
     let watch = Watch::start(rt);
     let (rows, refused) = rows_of(alloc, text, &mut output, &setup);
     if let Some(name) = what {
-        tell(rt, &watch, name, rows)?;
+        print_rate(rt, &watch, name, rows)?;
         let bytes = output.bytes();
         println!(rt; "{rows} rows, {refused} refused, {bytes} bytes")?;
     }
@@ -71,7 +71,7 @@ pub(crate) fn from_memory<R: Clock + Print>(
     rt: &R,
     alloc: Global,
     records: u32,
-    told: bool,
+    shown: bool,
 ) -> io::Result<bool> {
     let mixed = register(alloc, Kind::Mixed, records)?;
     let gregorian = register(alloc, Kind::Gregorian, records)?;
@@ -82,7 +82,7 @@ pub(crate) fn from_memory<R: Clock + Print>(
         (&gregorian, true, "gregorian, every target"),
         (&gregorian, false, "gregorian, no target"),
     ] {
-        let what = if told { Some(name) } else { None };
+        let what = if shown { Some(name) } else { None };
         whole &= measure(rt, alloc, text.as_slice(), every_target, what)?;
     }
     Ok(whole)
@@ -108,7 +108,7 @@ pub(crate) fn over_files<R: Files + Clock + Print>(
     } else {
         "file, no target"
     };
-    tell(rt, &watch, name, rows)?;
+    print_rate(rt, &watch, name, rows)?;
     Ok(rows > 0)
 }
 
@@ -129,6 +129,6 @@ pub(crate) fn by_lines<R: Files + Clock + Print>(
         output.write_all(line)?;
         lines = lines.saturating_add(1);
     }
-    tell(rt, &watch, "one write a line", lines)?;
+    print_rate(rt, &watch, "one write a line", lines)?;
     Ok(true)
 }

@@ -121,9 +121,9 @@ fn are_same(end: &SourceEnd, ran: &[u8], wanted: &SourceEnd, alone: &[u8]) -> bo
     }
     let lines = alone.iter().filter(|byte| **byte == b'\n').count();
     if lines == 0 {
-        let told = cause_of(end);
+        let cause = cause_of(end);
         return cause_of(wanted) == Some(Cause::SinkFault)
-            && (told == Some(Cause::ReadFault) || told == Some(Cause::NotSealed));
+            && (cause == Some(Cause::ReadFault) || cause == Some(Cause::NotSealed));
     }
     lines == 1 && are_same_ends(end, wanted)
 }
@@ -150,7 +150,7 @@ fn random_plans(alloc: Global, random: &mut Random, form: Form) -> io::Result<Ve
     Ok(plans)
 }
 
-/// Converts sources of one seed both ways. The answer is how many sources there were, or none where two differ.
+/// Converts sources of one seed both ways. Returns how many sources there were, or none where two differ.
 fn compare<R: Threads + Wait + Clock + CpuClock + Sync + Print>(
     rt: &R,
     alloc: Global,

@@ -20,7 +20,7 @@ struct DateText {
     date: Date,
 }
 
-/// The dates of a calendar on a sample of days. Each method makes a call for each of them, and answers a sum of what
+/// The dates of a calendar on a sample of days. Each method makes a call for each of them, and returns a sum of what
 /// the calls gave, so that none is left out.
 #[derive(Drop)]
 struct Dates {

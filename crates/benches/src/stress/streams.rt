@@ -35,8 +35,8 @@ impl Read for Pieces<'_> {
         let wanted = 1 + self.random.below(longest) as usize;
         let given = wanted.min(buf.len()).min(self.text.len());
         let (piece, rest) = self.text.split_at(given);
-        for (place, byte) in buf.iter_mut().zip(piece) {
-            *place = *byte;
+        for (slot, byte) in buf.iter_mut().zip(piece) {
+            *slot = *byte;
         }
         self.text = rest;
         Ok(given)

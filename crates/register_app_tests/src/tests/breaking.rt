@@ -310,14 +310,14 @@ const CANNOT_PRINT: &[u8] = b"register: cannot write to standard output\n";
 fn hear_page(
     rt: &(impl Threads + Wait + Clock + CpuClock + Sync),
     alloc: Global,
-    word: &str,
+    argument: &str,
     output: Break,
     errors: Break,
 ) -> Result<Heard<Breaking, Breaking>, AllocError> {
     let text: &'static [u8] = b"";
     let output = Breaking::new(alloc, output)?;
     let errors = Breaking::new(alloc, errors)?;
-    hear(rt, alloc, &[word], text, output, &NoFiles, errors)
+    hear(rt, alloc, &[argument], text, output, &NoFiles, errors)
 }
 
 /// Whether a page gets this status where standard output and standard error break there, with as much of the page on
@@ -325,11 +325,11 @@ fn hear_page(
 fn is_printed_until(
     rt: &(impl Threads + Wait + Clock + CpuClock + Sync),
     alloc: Global,
-    (word, page): (&str, &str),
+    (argument, page): (&str, &str),
     (output, errors): (Break, Break),
     status: u8,
 ) -> bool {
-    let Ok(heard) = hear_page(rt, alloc, word, output, errors) else {
+    let Ok(heard) = hear_page(rt, alloc, argument, output, errors) else {
         return false;
     };
     let printed = heard.output.bytes.as_slice();
@@ -343,7 +343,7 @@ fn is_printed_until(
 
 #[test]
 fn a_page_that_cannot_be_printed_is_reported(rt: HostRuntime) {
-    for (word, page) in PAGES {
+    for (argument, page) in PAGES {
         let size = page.len();
         for (output, errors, status) in [
             (Break::After(0), NOWHERE, 1),
@@ -355,16 +355,16 @@ fn a_page_that_cannot_be_printed_is_reported(rt: HostRuntime) {
             (Break::After(size), Break::After(0), 0),
         ] {
             assert!(rt;
-                is_printed_until(&rt, rt.alloc(), (word, page), (output, errors), status),
-                "{word}, {output:?}"
+                is_printed_until(&rt, rt.alloc(), (argument, page), (output, errors), status),
+                "{argument}, {output:?}"
             );
         }
         // Standard error breaks too, at each byte.
         for room in 0..CANNOT_PRINT.len() {
             let places = (Break::After(0), Break::After(room));
             assert!(rt;
-                is_printed_until(&rt, rt.alloc(), (word, page), places, 1),
-                "{word}, after {room}"
+                is_printed_until(&rt, rt.alloc(), (argument, page), places, 1),
+                "{argument}, after {room}"
             );
         }
     }
@@ -459,10 +459,10 @@ fn is_printed_or_reported(heard: &Heard<Breaking, Breaking>, page: &str) -> bool
 fn is_page_of_any_memory(
     rt: &(impl Threads + Wait + Clock + CpuClock + Sync),
     alloc: Global,
-    word: &str,
+    argument: &str,
     page: &str,
 ) -> bool {
-    match hear_page(rt, alloc, word, NOWHERE, NOWHERE) {
+    match hear_page(rt, alloc, argument, NOWHERE, NOWHERE) {
         Ok(heard) => is_printed_or_reported(&heard, page),
         Err(_) => true,
     }
@@ -471,10 +471,10 @@ fn is_page_of_any_memory(
 // The same of a page.
 #[test]
 fn a_page_that_is_refused_memory_is_reported(rt: HostRuntime) {
-    for (word, page) in [("--help", HELP), ("--version", "register 1.1.0\n")] {
+    for (argument, page) in [("--help", HELP), ("--version", "register 1.1.0\n")] {
         assert!(rt;
-            is_page_of_any_memory(&rt, rt.alloc(), word, page),
-            "{word}"
+            is_page_of_any_memory(&rt, rt.alloc(), argument, page),
+            "{argument}"
         );
     }
 }

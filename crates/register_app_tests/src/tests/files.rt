@@ -250,14 +250,14 @@ fn files_are_no_more_than_32(rt: HostRuntime) -> Result<(), Fail> {
     Ok(())
 }
 
-/// Whether 32 files of one record each get their tables with this word.
+/// Whether 32 files of one record each get their tables with this argument.
 fn give_many(
     rt: &(impl Threads + Wait + Clock + CpuClock + Sync),
     alloc: Global,
-    word: &'static str,
+    argument: &'static str,
 ) -> Result<bool, AllocError> {
     let mut arguments = Vec::new(alloc);
-    arguments.push(word)?;
+    arguments.push(argument)?;
     arguments.push("--to=gregorian")?;
     arguments.extend_from_slice(&MANY_FILES)?;
     Ok(give_as_wanted(rt, alloc, arguments.as_slice(), &MANY))
@@ -265,8 +265,8 @@ fn give_many(
 
 #[test]
 fn as_many_files_as_there_may_be_get_their_tables(rt: HostRuntime) -> Result<(), Fail> {
-    for word in ["--stripes=1", "--stripes=4"] {
-        assert!(rt; give_many(&rt, rt.alloc(), word)?, "{word}");
+    for argument in ["--stripes=1", "--stripes=4"] {
+        assert!(rt; give_many(&rt, rt.alloc(), argument)?, "{argument}");
     }
     Ok(())
 }

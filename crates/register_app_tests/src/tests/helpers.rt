@@ -25,8 +25,8 @@ pub const ONE_ROW: &[u8] = b"\
 /// The arguments of a command line.
 pub fn arguments_of(alloc: Global, arguments: &[&str]) -> Result<Vec<String>, AllocError> {
     let mut copied = Vec::new(alloc);
-    for word in arguments {
-        copied.push(String::from_str(alloc, word)?)?;
+    for argument in arguments {
+        copied.push(String::from_str(alloc, argument)?)?;
     }
     Ok(copied)
 }

@@ -29,13 +29,15 @@ use Rattle.date_texts.specs.declared.target.Target.{Target}
 use Rattle.date_texts.specs.declared.target.Target.TheVariants.{Date as DateTarget, Haab, Tzolkin}
 use Rattle.register_records.specs.Columns.{Column, cell_columns, columns, entry_column, entry_order, tail_column}
 use Rattle.register_records.specs.Columns.{tail_order}
-use Rattle.register_records.specs.TableColumns.{column_texts, entry_field, entry_name, heading, laid_out}
+use Rattle.register_records.specs.TableColumns.{body_shown, column_texts, entry_field, entry_name, field_shown}
+use Rattle.register_records.specs.TableColumns.{heading, laid_out}
 use Rattle.register_records.specs.TableColumns.{row_fields, row_with, tail_names, tail_texts}
 use Rattle.register_records.specs.Outcomes.{TableRow}
 use Rattle.register_records.specs.declared.setups.Form.{Form}
 use Rattle.register_records.specs.declared.setups.Form.TheVariants.{Plain, Sealed}
 use Rattle.register_records.specs.declared.table_columns.EntryColumn.{EntryColumn}
 use Rattle.register_records.specs.declared.table_columns.EntryColumn.TheVariants.{Calendar, Date, Id, Note, Number}
+use Rattle.register_records.specs.declared.table_columns.EntryFields.{EntryFields}
 use Rattle.register_records.specs.declared.table_columns.TailColumn.{TailColumn}
 use Rattle.register_records.specs.declared.table_columns.TailColumn.TheVariants.{Cells}
 use Rattle.register_records.specs.BareTexts.{has_special}
@@ -207,13 +209,14 @@ pub room_behind : (form : Form) → number_room + columns_room quoted_room (drop
 room_behind Plain = omega arith
 room_behind Sealed = omega arith
 
-pub plain_column : (d : ℕ) → is_delimiter d ≡ true → (row : TableRow) → row.number < 2 ^ 64
-    → has_special row.body ≡ false → (column : EntryColumn) → needs_quotes (writing d) (entry_field row column) ≡ false
-plain_column d h row lt bare Number = plain_decimal d h row.number lt
-plain_column d h row lt bare Id = (unquoted d h row.body bare).0
-plain_column d h row lt bare Calendar = (unquoted d h row.body bare).1
-plain_column d h row lt bare Date = (unquoted d h row.body bare).2
-plain_column d h row lt bare Note = (unquoted d h row.body bare).3
+pub plain_column : (d : ℕ) → is_delimiter d ≡ true → (fields : EntryFields)
+    → needs_quotes (writing d) fields.number.now ≡ false → has_special (body_shown fields) ≡ false
+    → (column : EntryColumn) → needs_quotes (writing d) (field_shown fields column) ≡ false
+plain_column d h fields number bare Number = number
+plain_column d h fields number bare Id = (unquoted d h (body_shown fields) bare).0
+plain_column d h fields number bare Calendar = (unquoted d h (body_shown fields) bare).1
+plain_column d h fields number bare Date = (unquoted d h (body_shown fields) bare).2
+plain_column d h fields number bare Note = (unquoted d h (body_shown fields) bare).3
 
 pub some_columns : {X : Type 0} (form : Form) (f : EntryColumn → X) → 1 ≤ length (map f (entry_order form))
 some_columns Plain f = omega arith

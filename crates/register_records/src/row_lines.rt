@@ -1,21 +1,26 @@
 //! The lines of a table: its heading and its rows.
 
-ghost use Rattle.std.specs.Prelude.{◌≡◌, ◌≤◌, ◌+◌, ◌++◌, ℕ, List, length, map, take, true};
+ghost use Rattle.std.specs.Prelude.{◌≡◌, ◌≤◌, ◌+◌, ◌++◌, ℕ, List, length, map, take, true, false};
+ghost use Rattle.csv.specs.Writing.{needs_quotes};
 ghost use Rattle.date_texts.specs.declared.target.TheConstants.{MAX_TARGETS};
+ghost use Rattle.register_records.specs.BareTexts.{has_special};
 ghost use Rattle.register_records.specs.Columns.{entry_order};
 ghost use Rattle.register_records.specs.LineRoom.{Begins, GainsFields, entry_name_room, entry_room, name_room};
+ghost use Rattle.register_records.specs.LineRoom.{number_room, writing};
 ghost use Rattle.register_records.specs.LineViews.{line_bytes, line_capacity, line_delimiter, line_len};
 ghost use Rattle.register_records.specs.Lines.{line_text};
 ghost use Rattle.register_records.specs.SetupRules.{is_delimiter};
-ghost use Rattle.register_records.specs.TableColumns.{entry_field, entry_name, heading, row_fields, tail_names};
+ghost use Rattle.register_records.specs.TableColumns.{body_shown, entry_field, entry_name, field_shown, heading};
+ghost use Rattle.register_records.specs.TableColumns.{row_fields, tail_names};
 ghost use Rattle.register_records.specs.Views.{row_seen, row_targets, tail_fields};
 ghost use Rattle.register_records.specs.declared.row_tails.TheConstants.{TAIL_ROOM};
 ghost use Rattle.register_records.specs.declared.row_lines.TheConstants.{LINE_ROOM};
 
 use crate::csv_lines::{CsvLines, put, put_byte, put_field};
+use crate::entries::Body;
 use crate::rows::Row;
 use crate::setups::Form;
-use crate::table_columns::{TailColumn, entry_columns, tail_columns};
+use crate::table_columns::{EntryFields, EntryTexts, TailColumn, entry_columns, tail_columns};
 use date_texts::Target;
 use itoa::Buffer;
 
@@ -93,31 +98,64 @@ pub(crate) fn make_heading(lines: &mut CsvLines, form: Form, targets: &[Target])
     lines.len = put_byte(room, end, b'\n');
 }
 
-/// Begins the line of a row in a table of this form.
+/// Begins the line of a row by the fields of an entry. Bare ones are not looked through for bytes that call for quotes.
 #[inline(always)]
-fn put_entry_in(room: &mut [u8], at: usize, delimiter: u8, form: Form, row: &Row) -> usize
+fn put_columns(
+    room: &mut [u8],
+    at: usize,
+    delimiter: u8,
+    form: Form,
+    fields: EntryFields<'_>,
+    bare: bool,
+) -> usize
     requires room { at + entry_room ≤ length room.old }
     requires separated { is_delimiter delimiter ≡ true }
-    ensures value { Begins delimiter (take at room.old) (map (entry_field (row_seen row.now)) (entry_order form))
+    requires short { length fields.number.now ≤ number_room }
+    requires number { needs_quotes (writing delimiter) fields.number.now ≡ false }
+    requires bare { bare ≡ true → has_special (body_shown fields) ≡ false }
+    ensures value { Begins delimiter (take at room.old) (map (field_shown fields.entry) (entry_order form))
         (take result room.new) }
     ensures short { result ≤ at + entry_room }
     ensures len { length room.new ≡ length room.old }
 {
-    let bare = row.entry().is_bare();
-    let mut buffer = Buffer::new();
-    let number = buffer.format(row.entry().number());
     let columns = entry_columns(form);
-    let mut end = put(room, at, columns[0].field(number, row).as_bytes());
+    let mut end = put(room, at, columns[0].field(fields).as_bytes());
     'columns: for i in 1..columns.len() {
         end = put_field(
             room,
             end,
             delimiter,
-            columns[i].field(number, row).as_bytes(),
+            columns[i].field(fields).as_bytes(),
             bare,
         );
     }
     end
+}
+
+/// The same, by code for each form in which the columns are known.
+#[inline(always)]
+fn put_fields(
+    room: &mut [u8],
+    at: usize,
+    delimiter: u8,
+    form: Form,
+    fields: EntryFields<'_>,
+    bare: bool,
+) -> usize
+    requires room { at + entry_room ≤ length room.old }
+    requires separated { is_delimiter delimiter ≡ true }
+    requires short { length fields.number.now ≤ number_room }
+    requires number { needs_quotes (writing delimiter) fields.number.now ≡ false }
+    requires bare { bare ≡ true → has_special (body_shown fields) ≡ false }
+    ensures value { Begins delimiter (take at room.old) (map (field_shown fields.entry) (entry_order form))
+        (take result room.new) }
+    ensures short { result ≤ at + entry_room }
+    ensures len { length room.new ≡ length room.old }
+{
+    match form {
+        Form::Plain => put_columns(room, at, delimiter, Form::Plain, fields, bare),
+        Form::Sealed => put_columns(room, at, delimiter, Form::Sealed, fields, bare),
+    }
 }
 
 /// Begins the line of a row: its number and its texts.
@@ -130,10 +168,38 @@ fn put_entry(room: &mut [u8], at: usize, delimiter: u8, form: Form, row: &Row) -
     ensures short { result ≤ at + entry_room }
     ensures len { length room.new ≡ length room.old }
 {
-    // There is code for each form, in which the columns are known.
-    match form {
-        Form::Plain => put_entry_in(room, at, delimiter, Form::Plain, row),
-        Form::Sealed => put_entry_in(room, at, delimiter, Form::Sealed, row),
+    let bare = row.entry().is_bare();
+    let mut buffer = Buffer::new();
+    let number = buffer.format(row.entry().number());
+    match row.entry().body() {
+        Body::Fields {
+            id,
+            calendar,
+            date,
+            note,
+        } => {
+            let texts = Some(EntryTexts {
+                id,
+                calendar,
+                date,
+                note,
+            });
+            put_fields(
+                room,
+                at,
+                delimiter,
+                form,
+                EntryFields { number, texts },
+                bare,
+            )
+        }
+        Body::Refused(_) => {
+            let fields = EntryFields {
+                number,
+                texts: None,
+            };
+            put_fields(room, at, delimiter, form, fields, bare)
+        }
     }
 }
 

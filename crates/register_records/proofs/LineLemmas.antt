@@ -8,8 +8,8 @@ use Rattle.std.proofs.lemmas.Int.{ints}
 use Rattle.std.proofs.lemmas.Bool.{and_parts}
 use Rattle.std.proofs.lemmas.Bool.Decides.{nat_tests}
 use Rattle.std.proofs.lemmas.Fmt.{decimal_by_steps}
-use Rattle.std.proofs.lemmas.List.{at_drop_more, flat_map_more, map-append, take_more, take_all, take_more_set, take-append-le}
-use Rattle.std.proofs.lemmas.List.{length-take-le}
+use Rattle.std.proofs.lemmas.List.{at_drop_more, flat_map_more, length-take-le, map-append, take_all, take_more}
+use Rattle.std.proofs.lemmas.List.{take_more_set, take-append-le}
 use Rattle.std.proofs.lemmas.Simd.{map-map}
 use Rattle.std.proofs.Math.Seq.{take-append-add}
 use borrow.Rule.Slice.PartMut.{put_mid}
@@ -227,9 +227,9 @@ pub same_body : (d : ℕ) (before : List ℕ) (fields wanted : List (List ℕ)) 
     → bytes ≡ before ++ body d fields → bytes ≡ before ++ body d wanted
 same_body d before fields wanted bytes e h = h ∙ ap (λ (fields : List (List ℕ)). before ++ body d fields) e
 
-pub same_line : (d e : ℕ) (before : List ℕ) (fields wanted : List (List ℕ)) (bytes : List ℕ) → d ≡ e
-    → fields ≡ wanted → bytes ≡ before ++ line_text d fields → bytes ≡ before ++ line_text e wanted
-same_line d e before fields wanted bytes p q h = rw (← p, ← q) h
+pub same_line : (d : ℕ) (before : List ℕ) (fields wanted : List (List ℕ)) (bytes : List ℕ) → fields ≡ wanted
+    → bytes ≡ before ++ line_text d fields → bytes ≡ before ++ line_text d wanted
+same_line d before fields wanted bytes e h = rw (← e) h
 
 pub some_fields : (fields more : List (List ℕ)) → 1 ≤ length fields → 1 ≤ length (fields ++ more)
 some_fields fields more some = rw (length-append fields more) (omega arith)

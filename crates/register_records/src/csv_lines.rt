@@ -1,7 +1,7 @@
 //! Lines of fields, as csv's writer would write them.
 //!
-//! They are made by hand, in memory that is used again: the writer of `csv` can be had back only by consuming it. All of
-//! the memory is written once, so that a byte is put by a store, and a text by a copy.
+//! They are made by hand, in memory that is used again: the writer of `csv` can be had back only by consuming it. All
+//! of the memory is filled once, so that a byte is put by a store, and a text by a copy.
 
 ghost use Rattle.std.specs.Prelude.{◌≡◌, ◌≤◌, ◌<◌, ◌+◌, ◌^◌, ◌++◌, ◌∷◌, [], List, true, false, length, take};
 ghost use Rattle.std.specs.Prelude.{IfOk, IsOk, OnOk, vec_len};

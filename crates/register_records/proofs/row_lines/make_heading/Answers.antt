@@ -1,4 +1,4 @@
-use Rattle.std.proofs.Common.{◌≡◌, ◌++◌, ◌∙◌, List, ap, append-nil, arith, map, refl, rules, sym, take}
+use Rattle.std.proofs.Common.{◌≡◌, ◌++◌, ◌∙◌, List, ap, append-nil, arith, map, rules, sym, take}
 use Rattle.std.specs.List.{flat_map}
 use Rattle.std.proofs.lemmas.List.{take_all, with_items_is}
 use Rattle.register_records.specs.Columns.{entry_order, tail_order}
@@ -50,6 +50,6 @@ returns-clause-value c =
     ap (λ (columns : List TailColumn). entries ++ flat_map names columns) all
     ∙ sym (heading_names c.args.form c.args.targets.now) in
     ap (take c.put_byte-lines.result) (with_items_is c.args.lines.now.bytes c.put_byte-lines.new.room (search rules))
-    ∙ same_line d d before fields (heading c.args.form c.args.targets.now) _ refl whole
+    ∙ same_line d before fields (heading c.args.form c.args.targets.now) _ whole
     (ended d before fields _ _ (rw whole (two_names c.args.form c.args.targets.now)) c.columns.invariant.begun
     c.put_byte-lines.ensures.value)

@@ -1,4 +1,4 @@
-use Rattle.std.proofs.Common.{◌++◌, ◌∙◌, ap, map, refl, rules, sym, take}
+use Rattle.std.proofs.Common.{◌++◌, ◌∙◌, ap, map, rules, sym, take}
 use Rattle.std.proofs.lemmas.List.{with_items_is}
 use Rattle.register_records.specs.Columns.{entry_order}
 use Rattle.register_records.specs.TableColumns.{entry_field, row_fields, tail_texts}
@@ -18,6 +18,6 @@ returns-clause-value c =
     let begun = rw c.as_mut_slice-room.ensures.value at c.put_entry-entry_end.ensures.value in
     let all = c.put_tail-end.ensures.value before entry (some_columns c.args.form (entry_field row)) begun in
     ap (take c.put_byte-lines.result) (with_items_is c.args.lines.now.bytes c.put_byte-lines.new.room (search rules))
-    ∙ same_line d d before fields (row_fields c.args.form targets row) _ refl
+    ∙ same_line d before fields (row_fields c.args.form targets row) _
     (sym (fields_in_parts c.args.form targets row))
     (ended d before fields _ _ (two_of entry _ _ _) all c.put_byte-lines.ensures.value)

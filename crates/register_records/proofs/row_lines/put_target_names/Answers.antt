@@ -31,7 +31,7 @@ pub put_field-end-requires-clause-room : goal.put_field-end-requires-clause-room
 put_field-end-requires-clause-room c =
     let inv = c.targets.invariant in
     let limit : length c.name.result.now ≤ name_limit = rw c.name.ensures (short_name _) in
-    omega (arith, inv.short, inv.len, c.requires.room, c.requires.few, c.targets-test.true, c.as_bytes.ensures.len, limit)
+    omega (arith, inv.short, inv.len, c.requires, c.targets-test.true, c.as_bytes.ensures.len, limit)
 
 pub returns-clause-value : goal.returns-clause-value
 returns-clause-value c =

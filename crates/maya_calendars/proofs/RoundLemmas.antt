@@ -1,7 +1,9 @@
 -- Rounds by remainders: what is a place by a remainder of the days moves one place on each day.
-use Rattle.std.proofs.Common.{◌≡◌, ℕ, zero, suc, ◌+◌, ◌-◌, ◌<◌, ◌%◌, ◌==◌, if◌then◌else◌, sym, subst, ap}
-use Rattle.std.proofs.Common.{zero-add, ◌≤◌, ◌∙◌, arith, add-one, ℤ, pos, negsuc, ◌+ℤ◌, ◌-ℤ◌, unsigned_abs}
-use Rattle.std.proofs.Math.Nat.{mod-add-mod, mod_self, mod-eq_of_lt}
+use Rattle.std.proofs.Common.{◌≡◌, ℕ, zero, suc, ◌+◌, ◌-◌, ◌*◌, ◌/◌, ◌<◌, ◌%◌, ◌==◌, if◌then◌else◌, sym, subst, ap}
+use Rattle.std.proofs.Common.{zero-add, ◌≤◌, ◌∙◌, arith, add-one, inl, inr, ℤ, pos, negsuc, ◌+ℤ◌, ◌-ℤ◌, unsigned_abs}
+use Rattle.std.proofs.Math.Nat.{mod-add-mod, mod_self, mod-eq_of_lt, add-mul, mod-add-div', add-mul-mod_self_right}
+use Rattle.std.proofs.lemmas.Nat.{mod-mul-add}
+use Rattle.std.proofs.lemmas.Bool.{cases_lt}
 use Rattle.std.specs.Fn.{iterate}
 use Rattle.std.specs.Int.{int_rem_euclid}
 use Rattle.std.proofs.lemmas.Bool.Decides.{nat_tests}
@@ -117,12 +119,31 @@ round_number_is n k first day e h =
     (by_first n k first e h) (sym (after_days_are (number_after n) (number_before n) (number_by n k)
     (by_each_day n k some) (by_undone n k some) (day -ℤ epoch)))
 
+-- a place is the same so many rounds later, where no number is negative
+later_place : (n k x : ℕ) (z : ℤ) → 0 < n → pos x ≡ z +ℤ pos (k * n) → x % n ≡ place_in n z
+later_place n k x (pos a) h e =
+    let same : x ≡ a + k * n = omega (arith, ints, e) in rw same (add-mul-mod_self_right a k n)
+later_place n k x (negsuc a) h e =
+    let rest = mod-add-div' a n in
+    let below : a % n < n = omega arith in
+    elim (cases_lt (a / n) k) [
+      | inl less ↦
+          let j = k - a / n - 1 in
+          let rounds : k ≡ a / n + (j + 1) = omega arith in
+          let split = rw (← rounds) at (add-mul (a / n) (j + 1) n) in
+          let same : x ≡ j * n + (n - 1 - a % n) = omega (arith, ints, e, rest, below, split, add-mul j 1 n) in
+          rw same (mod-mul-add j n (n - 1 - a % n) (omega (arith, below)))
+      | inr more ↦
+          let rounds : a / n ≡ k + (a / n - k) = omega arith in
+          absurd (omega (arith, ints, e, rest, rw (← rounds) at (add-mul k (a / n - k) n)))
+    ]
+
 -- also as it is computed
-pub number_from_remainder : (n k first : ℕ) (day z d r : ℤ) → r ≡ int_rem_euclid z d → z ≡ (day -ℤ epoch) +ℤ pos k
-    → d ≡ pos n → k + 1 ≡ first → first ≤ n → unsigned_abs r + 1 ≡ round_number n first day
-number_from_remainder n k first day z d r e f g h l =
-    let remainder : int_rem_euclid z d ≡ int_rem_euclid ((day -ℤ epoch) +ℤ pos k) (pos n) = cc in
-    ap (λ x. unsigned_abs x + 1) (e ∙ remainder) ∙ round_number_is n k first day h l
+pub number_from_remainder : (n k first rounds x : ℕ) (day : ℤ) → pos x ≡ ((day -ℤ epoch) +ℤ pos k) +ℤ pos (rounds * n)
+    → k + 1 ≡ first → first ≤ n → x % n + 1 ≡ round_number n first day
+number_from_remainder n k first rounds x day e h l =
+    ap (λ place. place + 1) (later_place n rounds x ((day -ℤ epoch) +ℤ pos k) (omega arith) e)
+    ∙ round_number_is n k first day h l
 
 -- which moves one place on each day
 pub round_number_each_day : (n k first : ℕ) → k + 1 ≡ first → first ≤ n

@@ -9,11 +9,11 @@ ghost use Rattle.maya_calendars.specs.Places.{ArePlaces};
 /// are.
 #[derive(Clone, Copy, PartialEq, Eq, Debug)]
 pub struct LongCount {
-    baktun: u16,
-    katun: u16,
-    tun: u16,
-    uinal: u16,
-    kin: u16,
+    pub(crate) baktun: u16,
+    pub(crate) katun: u16,
+    pub(crate) tun: u16,
+    pub(crate) uinal: u16,
+    pub(crate) kin: u16,
     pub ghost places: { ArePlaces baktun katun tun uinal kin },
 }
 

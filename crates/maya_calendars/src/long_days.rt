@@ -51,16 +51,14 @@ pub fn long_on(day: Day) -> Option<LongCount>
         return None;
     }
     let days = days as u32;
-    let baktun = days / 144_000;
-    let katun = days / 7_200 % 20;
-    let tun = days / 360 % 20;
-    let uinal = days / 20 % 18;
-    let kin = days % 20;
-    LongCount::new(
-        baktun as u16,
-        katun as u16,
-        tun as u16,
-        uinal as u16,
-        kin as u16,
-    )
+    let uinals = days / 20;
+    let tuns = uinals / 18;
+    let katuns = tuns / 20;
+    Some(LongCount {
+        baktun: (katuns / 20) as u16,
+        katun: (katuns % 20) as u16,
+        tun: (tuns % 20) as u16,
+        uinal: (uinals % 18) as u16,
+        kin: (days % 20) as u16,
+    })
 }

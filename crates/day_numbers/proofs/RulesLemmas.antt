@@ -236,14 +236,6 @@ date_unique r y z m k d j h g e =
     let part = month_unique (r.months y) m k d j h.1 h.2 g'.1 g'.2 (omega (arith, signed_arith, e')) in
     (same, part.0, part.1)
 
-total_bound : (m : Month) (ms : List Month) → (IsTrue (are_months ms) → total_days ms ≤ 99 * length ms)
-    → IsTrue (are_months (m ∷ ms)) → total_days (m ∷ ms) ≤ 99 * length (m ∷ ms)
-total_bound m ms more h = grind (arith, nat_tests)
-
-pub total_le : (ms : List Month) → IsTrue (are_months ms) → total_days ms ≤ 99 * length ms
-total_le [] h = omega arith
-total_le (m ∷ ms) h = total_bound m ms (total_le ms) h
-
 has_day_from : (s : Years) (e : ℤ) (f : ℤ → ℕ) (y n : ℤ) → HasYear s y → start_of_year s e f y ≤ℤ n
     → IsSinceFirstDay (first_day_by s e) n
 has_day_from from_one e f (pos (suc k)) n h le =
@@ -282,15 +274,16 @@ pub sum_is_start : (e : ℤ) (f : ℤ → ℕ) (y z b : ℤ) (n s : ℕ) → s �
 unfolding start_of_year
 sum_is_start e f y z b n s p q r t = rw r (omega (arith, signed_arith, p, q, t))
 
--- and the years that the days fill end before the year of a day
-pub sum_in_year : (e : ℤ) (f : ℤ → ℕ) (d b : ℤ) (n k : ℕ) → days_of_years f n ≤ k → k < days_of_years f (n + 1) → b ≡ e
-    → d ≡ b +ℤ pos k → (start_of_year from_one e f (pos (suc n)) ≤ℤ d)
-    × (d <ℤ (start_of_year from_one e f (pos (suc n)) +ℤ pos (f (pos (suc n)))))
+-- and a date's number is that of its day, by the days of the years before and its place in the year
+pub day_from_one : (e b n : ℤ) (months : ℤ → List Month) (years days place m d : ℕ)
+    → days_of_years (λ y. total_days (months y)) years + place ≡ days
+    → days_before_month (months (pos (years + 1))) m + d ≡ place + 1 → b ≡ e → n ≡ b +ℤ pos days
+    → day_number_of (record { epoch = e; years = from_one; months = months }) (pos (suc years)) m d ≡ n
 unfolding start_of_year
-sum_in_year e f d b n k p q r t =
-    let next : n + 1 ≡ suc n = omega arith in
-    let before = rw next at q in
-    omega (arith, signed_arith, p, before, r, t, years_suc f n)
+day_from_one e b n months years days place m d sum placed p q =
+    let next : years + 1 ≡ suc years = omega arith in
+    let before = rw next at placed in
+    omega (arith, signed_arith, sum, before, p, q)
 
 pub year_from_one : (y : ℤ) → HasYear from_one y → pos 1 ≤ℤ y
 year_from_one (pos (suc n)) h = omega (arith, signed_arith)

@@ -19,12 +19,13 @@ pub trait YearRule {
         ensures value { result ≡ days_of (λ y. total_days (months_of y)) years }
         ensures near { result ≤ 50_000_000 };
 
-    /// How many whole years the first `days` days from the epoch on fill; `days` is at most 6000000.
-    fn years_in(days: u32) -> u32
+    /// How many whole years the first `days` days from the epoch on fill, and how many days are left; `days` is at most
+    /// 6000000.
+    fn years_in(days: u32) -> (u32, u16)
         requires { days ≤ 6_000_000 }
-        ensures near { result ≤ 99_998 }
-        ensures after { days_of (λ y. total_days (months_of y)) result ≤ days }
-        ensures before { days < days_of (λ y. total_days (months_of y)) (result + 1) };
+        ensures near { result.0 ≤ 99_998 }
+        ensures sum { days_of (λ y. total_days (months_of y)) result.0 + result.1 ≡ days }
+        ensures inside { result.1 < total_days (months_of (pos (result.0 + 1))) };
 
     /// The months of a year from 1 to 99999, in the order in which they run.
     fn months(year: u32) -> &'static [Month]
@@ -80,12 +81,10 @@ impl<C: FromYearOne> RuledCalendar for C {
         }
     }
 
-    fn year_on(&self, day: i64) -> i32 {
-        let years_before = C::Years::years_in((day - self.epoch()) as u32);
-        years_before as i32 + 1
-    }
-
-    fn month_at(&self, year: Year, place: u16) -> (u8, u8) {
-        C::Years::month_at(year.number as u32, place)
+    fn parts_on(&self, day: i64) -> (i32, u8, u8) {
+        let (years_before, place) = C::Years::years_in((day - self.epoch()) as u32);
+        let year = years_before + 1;
+        let (month, day) = C::Years::month_at(year, place);
+        (year as i32, month, day)
     }
 }

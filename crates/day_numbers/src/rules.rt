@@ -1,7 +1,7 @@
 //! Calendars that are given by rules: an epoch, which years there are, and the months of each year.
 //!
 //! The definitions sum these lists, and no closed formula stands in them. A calendar says in
-//! [`RuledCalendar`] by which formulas it finds a year by its number and by one of its days, and
+//! [`RuledCalendar`] by which formulas it finds a year by its number and the date on a day, and
 //! [`day_by_rules`] and [`date_by_rules`] are then `day_of` and `date_on` of its `ArithmeticCalendar`.
 
 ghost use Rattle.std.specs.Prelude.{◌≡◌, ◌↔◌, ◌≤◌, ◌<◌, ◌+◌, ℤ, pos, neg_ℤ, ◌+ℤ◌, ◌≤ℤ◌, ◌<ℤ◌, IsTrue, IsSome};
@@ -67,48 +67,15 @@ pub trait RuledCalendar {
         ensures few { length result.months.now ≤ 13 }
         ensures numbered { IsTrue (are_months result.months.now) };
 
-    /// The number of the year that the day with this fixed day number lies in. The day is from -3652424 to 3652059, and
-    /// one that the calendar has a date on.
-    fn year_on(&self, day: i64) -> i32
+    /// The year, the month and the day of the date on the day with this fixed day number. The day is from -3652424 to
+    /// 3652059, and one that the calendar has a date on.
+    fn parts_on(&self, day: i64) -> (i32, u8, u8)
         requires in_range { IsDayNumber day }
         requires has { HasDayOf rules day }
-        ensures has { HasYear rules.years result }
-        ensures in_range { IsYear result }
-        ensures after { start rules result ≤ℤ day }
-        ensures before { day <ℤ (start rules result +ℤ pos (year_length rules result)) };
-
-    /// The year that the day with this fixed day number lies in, which is a day as for [`year_on`](Self::year_on).
-    fn year_with(&self, day: i64) -> Year
-        requires in_range { IsDayNumber day }
-        requires has { HasDayOf rules day }
-        ensures has { HasYear rules.years result.number }
-        ensures in_range { IsYear result.number }
-        ensures start { result.start ≡ start rules result.number }
-        ensures months { result.months.now ≡ rules.months result.number }
-        ensures after { result.start ≤ℤ day }
-        ensures before { day <ℤ (result.start +ℤ pos (total_days result.months.now)) }
-
-        ensures few { length result.months.now ≤ 13 }
-        ensures numbered { IsTrue (are_months result.months.now) }
-    {
-        self.year(self.year_on(day))
-    }
-
-    /// The number of the month that a place in the year lies in, counted from 0, and its day of that month. The year is
-    /// one of the calendar's, and the place is less than its days.
-    fn month_at(&self, year: Year, place: u16) -> (u8, u8)
-        requires has { HasYear rules.years year.number }
-        requires in_range { IsYear year.number }
-        requires months { year.months.now ≡ rules.months year.number }
-        requires numbered { IsTrue (are_months year.months.now) }
-        requires inside { place < total_days year.months.now }
-        ensures first { 1 ≤ result.1 }
-        ensures last { result.1 ≤ days_of_month year.months.now result.0 }
-        ensures sum { days_before_month year.months.now result.0 + result.1 ≡ place + 1 }
-        ensures small { (result.0 ≤ 99) × (result.1 ≤ 99) }
-    {
-        month_at_place(year.months, place)
-    }
+        ensures year { IsYear result.0 }
+        ensures small { (result.1 ≤ 99) × (result.2 ≤ 99) }
+        ensures date { IsDateOf rules result.0 result.1 result.2 }
+        ensures day { day_number_of rules result.0 result.1 result.2 ≡ day };
 }
 
 /// The days of the months before the month of this number, and that month's days; all the days and 0
@@ -126,26 +93,6 @@ pub fn month_by_number(months: &[Month], number: u8) -> (u16, u8)
         before += month.days as u16;
     }
     (before, 0)
-}
-
-/// The number of the month that a place in the year lies in, counted from 0, and its day of that month.
-fn month_at_place(months: &[Month], place: u16) -> (u8, u8)
-    requires inside { place < total_days months.now }
-    requires numbered { IsTrue (are_months months.now) }
-    ensures first { 1 ≤ result.1 }
-    ensures last { result.1 ≤ days_of_month months.now result.0 }
-    ensures sum { days_before_month months.now result.0 + result.1 ≡ place + 1 }
-    ensures small { (result.0 ≤ 99) × (result.1 ≤ 99) }
-{
-    let mut left = place;
-    for month in months {
-        let days = month.days as u16;
-        if left < days {
-            return (month.number, left as u8 + 1);
-        }
-        left -= days;
-    }
-    unreachable!()
 }
 
 /// The fixed day number of a date, where the calendar has it.
@@ -193,10 +140,8 @@ fn some_date_by_rules<C: RuledCalendar>(calendar: &C, day: Day) -> Option<Ymd>
     if !calendar.has_day(number) {
         return None;
     }
-    let year = calendar.year_with(number);
-    let place = number - year.start;
-    let (month, day) = calendar.month_at(year, place as u16);
-    Ymd::new(year.number, month, day)
+    let (year, month, day) = calendar.parts_on(number);
+    Some(Ymd { year, month, day })
 }
 
 /// `date_on` of a calendar that is given by rules: the one date whose day this is, or `None` exactly

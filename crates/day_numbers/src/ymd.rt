@@ -11,9 +11,9 @@ ghost use Rattle.day_numbers.specs.Dates.{IsYear, IsYmd};
 /// [`ArithmeticCalendar`]: crate::ArithmeticCalendar
 #[derive(Clone, Copy, PartialEq, Eq, Debug)]
 pub struct Ymd {
-    year: i32,
-    month: u8,
-    day: u8,
+    pub(crate) year: i32,
+    pub(crate) month: u8,
+    pub(crate) day: u8,
     pub ghost year_in: { IsYear year },
     pub ghost month_in: { month ≤ 99 },
     pub ghost day_in: { day ≤ 99 },

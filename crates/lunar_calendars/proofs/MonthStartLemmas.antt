@@ -1,23 +1,14 @@
 -- Where the months of a Hebrew year begin, and which one a place in the year lies in.
 use Rattle.std.proofs.Common.{◌≡◌, ℕ, zero, suc, ◌+◌, ◌-◌, ◌*◌, ◌/◌, ◌<◌, ◌≤◌, Bool, true, false, List, [], ◌∷◌, length}
-use Rattle.std.proofs.Common.{IsTrue, refl, ap, arith, add-one, ◌⊎◌, inl, inr, take, get_or, cond, leb, ℤ, pos, negsuc}
+use Rattle.std.proofs.Common.{IsTrue, refl, ap, arith, add-one, ◌⊎◌, inl, inr, take, get_or, cond, leb}
 use Rattle.std.specs.Prelude.{slice_index}
 use mir.Val.{bool_byte}
 use Rattle.std.proofs.lemmas.Bool.{cases_lt}
 use Rattle.std.proofs.lemmas.Bool.Decides.{nat_tests}
 use Rattle.day_numbers.specs.declared.rules.Month.{Month}
-use Rattle.day_numbers.specs.Rules.{HasYear, from_one, total_days, days_of_month, days_before_month, has_number}
+use Rattle.day_numbers.specs.Rules.{total_days, days_of_month, days_before_month, has_number}
 use Rattle.day_numbers.specs.Rules.{are_months}
-use Rattle.lunar_calendars.specs.Hebrew.{IsYearLength, is_leap_year, days_in_year, months_by_length, hebrew_rules}
-use Rattle.lunar_calendars.proofs.YearLengthLemmas.{length_of_year}
-
--- the months of a year from 1 on are those of a year with so many days
-pub by_length : (y : ℤ) (ms : List Month) → HasYear from_one y → ms ≡ hebrew_rules.months y
-    → (leap : Bool) × (days : ℕ) × IsYearLength leap days × (ms ≡ months_by_length leap days)
-by_length (pos zero) ms h e = absurd h
-by_length (pos (suc n)) ms h e =
-    let length = length_of_year (suc n) (omega arith) in (is_leap_year (suc n), days_in_year (suc n), length, e)
-by_length (negsuc n) ms h e = absurd h
+use Rattle.lunar_calendars.specs.Hebrew.{months_by_length}
 
 -- each month has 29 or 30 days
 abbrev pub AreEven : List Month → Type 0
@@ -184,16 +175,18 @@ placed ms place index start h numbers at e =
 abbrev pub index_of : List ℕ → ℕ → ℕ
 index_of starts place = place / 30 + bool_byte (leb (slice_index starts (place / 30 + 1)) place)
 
--- that month, in a year from 1 on
-pub placed_by : (y : ℤ) (ms : List Month) (starts : List ℕ) (place : ℕ) → HasYear from_one y
-    → ms ≡ hebrew_rules.months y → IsTrue (are_months ms) → place < total_days ms
-    → ((i : ℕ) → i ≤ length ms → slice_index starts i ≡ total_days (take i ms))
-    → IsPlacedIn ms place (slice_index starts (index_of starts place)) (month_of ms (index_of starts place)).number
-placed_by y ms starts place has e numbers inside starts_are =
+-- that month, in a year with so many days
+pub placed_by : (leap : Bool) (days : ℕ) (starts : List ℕ) (place : ℕ) → IsTrue (are_months (months_by_length leap days))
+    → place < total_days (months_by_length leap days)
+    → ((i : ℕ) → i ≤ length (months_by_length leap days)
+    → slice_index starts i ≡ total_days (take i (months_by_length leap days)))
+    → IsPlacedIn (months_by_length leap days) place (slice_index starts (index_of starts place))
+    (month_of (months_by_length leap days) (index_of starts place)).number
+placed_by leap days starts place numbers inside starts_are =
+    let ms = months_by_length leap days in
     let index = index_of starts place in
-    let by = by_length y ms has e in
-    let evens : AreEven ms = rw by.3 (even by.0 by.1) in
-    let few : length ms ≤ 13 = rw by.3 (twelve by.0 by.1) in
     let at =
-    holds ms place index (slice_index starts (place / 30 + 1)) evens few inside (starts_are (place / 30 + 1)) refl in
-    placed ms place index (slice_index starts index) evens numbers at (starts_are index (omega (arith, at.inside)))
+    holds ms place index (slice_index starts (place / 30 + 1)) (even leap days) (twelve leap days) inside
+    (starts_are (place / 30 + 1)) refl in
+    placed ms place index (slice_index starts index) (even leap days) numbers at
+    (starts_are index (omega (arith, at.inside)))

@@ -1,10 +1,12 @@
 -- The lengths of Hebrew years.
 use Rattle.std.proofs.Common.{◌≡◌, ℕ, zero, suc, ◌+◌, ◌-◌, ◌*◌, ◌/◌, ◌%◌, ◌≤◌, ◌<◌, Bool, true, false}
-use Rattle.std.proofs.Common.{if◌then◌else◌}
+use Rattle.std.proofs.Common.{if◌then◌else◌, leb}
 use Rattle.std.proofs.Common.{refl, sym, ap, ◌∙◌, arith, ℤ, pos, ◌+ℤ◌, ◌-ℤ◌, ◌<ℤ◌, ◌≤ℤ◌, unsigned_abs, ◌⊎◌, inl, inr}
 use Rattle.std.specs.Prelude.{Contains}
+use mir.Val.{bool_byte}
 use Rattle.std.proofs.lemmas.Bool.Decides.{nat_tests}
-use Rattle.day_numbers.specs.Rules.{total_days, days_of_years, start_of_year, year_start}
+use Rattle.day_numbers.specs.Rules.{total_days, days_of_years, start_of_year, year_start, days_before_month}
+use Rattle.day_numbers.specs.Rules.{day_number_of}
 use Rattle.day_numbers.proofs.RulesLemmas.{years_zero, years_suc}
 use Rattle.day_numbers.proofs.SignedArithmeticLemmas.{signed_arith}
 use Rattle.lunar_calendars.specs.Hebrew.{IsYearLength, is_leap_year, epoch, new_year_of, days_in_year, months_by_length}
@@ -34,6 +36,11 @@ from_same low high m n i j p q s = rw (← p, ← q) s
 parts_step : (n : ℕ) (leap : Bool) → is_leap_year (suc n) ≡ leap
     → parts_after (suc n) ≡ parts_after n + 765_433 * (if leap then 13 else 12)
 parts_step n leap e = grind (arith, nat_tests, e)
+
+by_week : (n : ℕ) → 7 * ((32_400 + parts_after n) / 181_440)
+    + days_from_monday (is_leap_year (suc n)) (is_leap_year n) ((32_400 + parts_after n) % 181_440) ≡ new_year_after n
+unfolding new_year_after
+by_week n = opens_by_week (is_leap_year (suc n)) (is_leap_year n) (parts_after n)
 
 step_by : (n : ℕ) (leap : Bool) → is_leap_year (suc n) ≡ leap
     → IsFrom (if leap then 383 else 353) (if leap then 385 else 355) (new_year_after n) (new_year_after (suc n))
@@ -65,7 +72,7 @@ length_of : (n : ℕ) → IsYearLength (is_leap_year (suc n)) (days_in_year (suc
 length_of n = (omega (arith, (year_grows n).least, days_more n), omega (arith, (year_grows n).most, days_more n))
 
 -- the months of a year fill it
-total_by : (leap : Bool) (days : ℕ) → IsYearLength leap days → total_days (months_by_length leap days) ≡ days
+pub total_by : (leap : Bool) (days : ℕ) → IsYearLength leap days → total_days (months_by_length leap days) ≡ days
 total_by false days h = grind (arith, nat_tests)
 total_by true days h = grind (arith, nat_tests)
 
@@ -89,6 +96,13 @@ pub year_start_is : (year : ℕ) → 1 ≤ year → new_year_of year ≡ year_st
 unfolding start_of_year
 year_start_is zero low = absurd (omega arith)
 year_start_is (suc n) low = new_year_is n ∙ ap (λ days. epoch +ℤ pos days) (sym (days_before n))
+
+-- and a date's number is that of its day, by the new year and the place in the year
+pub day_at : (year day place m d : ℕ) (n : ℤ) → 1 ≤ year → epoch +ℤ pos day ≡ new_year_of year
+    → days_before_month (months_of_year year) m + d ≡ place + 1 → n ≡ epoch +ℤ pos (day + place)
+    → day_number_of hebrew_rules (pos year) m d ≡ n
+day_at year day place m d n low opens sum e =
+    omega (arith, signed_arith, year_start_is year low, opens, sum, e)
 
 end_by : (x y : ℤ) (m n days : ℕ) → y ≡ epoch +ℤ pos n → x ≡ epoch +ℤ pos m → m + days ≡ n → y ≡ x +ℤ pos days
 end_by x y m n days p q h = omega (arith, signed_arith, p, q, h)
@@ -125,16 +139,48 @@ estimate days (suc (suc n)) e =
           omega (arith, signed_arith, e, new_year_is n, new_year_bounds n),
     )
 
-pub difference_is : (year m n : ℕ) → 1 ≤ year → epoch +ℤ pos m ≡ new_year_of year
-    → epoch +ℤ pos n ≡ new_year_of (year + 1) → n - m ≡ days_in_year year
-difference_is year m n low p q = omega (arith, signed_arith, p, q, end_of_year year low)
+-- one week more, where the parts that the weeks leave are those of a week or more
+one_more : (more parts : ℕ) → more ≡ bool_byte (leb 181_440 parts) → parts < 362_880
+    → (more * 181_440 ≤ parts) × (parts < more * 181_440 + 181_440)
+one_more more parts e h = grind (arith, nat_tests)
 
-days_bound : (leap : Bool) (days : ℕ) → IsYearLength leap days → days ≤ 385
-days_bound false days h = omega (arith, h)
-days_bound true days h = omega (arith, h)
+-- so the code's difference is the days of the year
+days_after : (n time weeks rest more d e r : ℕ) → time ≡ (32_400 + parts_after n) % 181_440
+    → 181_440 * weeks + rest ≡ 765_433 * (if is_leap_year (suc n) then 13 else 12) → rest < 181_440
+    → more ≡ bool_byte (leb 181_440 (time + rest))
+    → d ≡ days_from_monday (is_leap_year (suc n)) (is_leap_year n) time
+    → e ≡ days_from_monday (is_leap_year (suc (suc n))) (is_leap_year (suc n)) (time + rest - more * 181_440)
+    → r ≡ 7 * (weeks + more) + e - d → r ≡ days_in_year (suc n)
+days_after n time weeks rest more d e r t w h m p q k =
+    let step = parts_step n (is_leap_year (suc n)) refl in
+    let week = one_more more (time + rest) m (omega (arith, t, h)) in
+    let weeks_to : (32_400 + parts_after (suc n)) / 181_440 ≡ (32_400 + parts_after n) / 181_440 + (weeks + more) =
+    omega (arith, step, t, w, week) in
+    let next_time : time + rest - more * 181_440 ≡ (32_400 + parts_after (suc n)) % 181_440 =
+    omega (arith, step, t, w, week) in
+    omega (
+      arith,
+      weeks_to,
+      rw t at p,
+      rw next_time at q,
+      k,
+      by_week n,
+      by_week (suc n),
+      days_more n,
+    )
 
-pub days_at_most : (year : ℕ) → 1 ≤ year → days_in_year year ≤ 385
-days_at_most year low = days_bound (is_leap_year year) (days_in_year year) (length_of_year year low)
+pub days_by : (year time weeks rest more d e r : ℕ) → 1 ≤ year
+    → time ≡ (38_004 + 765_433 * ((235 * year - 234) / 19)) % 181_440
+    → 181_440 * weeks + rest ≡ 765_433 * (if is_leap_year year then 13 else 12) → rest < 181_440
+    → more ≡ bool_byte (leb 181_440 (time + rest))
+    → d ≡ days_from_monday (is_leap_year year) (is_leap_year (year - 1)) time
+    → e ≡ days_from_monday (is_leap_year (year + 1)) (is_leap_year year) (time + rest - more * 181_440)
+    → r ≡ 7 * (weeks + more) + e - d → r ≡ days_in_year year
+days_by zero time weeks rest more d e r low t w h m p q k = absurd (omega arith)
+days_by (suc n) time weeks rest more d e r low t w h m p q k =
+    let before : suc n - 1 ≡ n = omega arith in
+    let after : suc n + 1 ≡ suc (suc n) = omega arith in
+    days_after n time weeks rest more d e r (omega (arith, t)) w h m (rw before at p) (rw after at q) k
 
 -- a day before a new year is not before year 1
 pub after_year_one : (year day n : ℕ) → 1 ≤ year → epoch +ℤ pos n ≡ new_year_of year → day < n → 2 ≤ year
@@ -143,7 +189,7 @@ after_year_one (suc zero) day n low e h = absurd (omega (arith, signed_arith, e,
 after_year_one (suc (suc year)) day n low e h = omega arith
 
 -- one of the six lengths
-three : (low days : ℕ) → low ≤ days → days ≤ low + 2 → (days ≡ low) ⊎ ((days ≡ low + 1) ⊎ (days ≡ low + 2))
+pub three : (low days : ℕ) → low ≤ days → days ≤ low + 2 → (days ≡ low) ⊎ ((days ≡ low + 1) ⊎ (days ≡ low + 2))
 three low days h k = grind arith
 
 pub one_of_six : (leap : Bool) (days : ℕ) → IsYearLength leap days → Contains year_lengths days

@@ -1,2 +1,3 @@
 pub mod Islamic
 pub mod Hebrew
+pub mod HebrewOpenings

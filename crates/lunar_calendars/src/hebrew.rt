@@ -1,11 +1,12 @@
 //! The Hebrew calendar: new years by the molad and what puts them off, and the months from one to the next.
 
-ghost use Rattle.std.specs.Prelude.{◌≡◌, ◌≤◌, ◌<◌, ◌+◌, pos, ◌+ℤ◌, ◌-ℤ◌, ◌≤ℤ◌, ◌<ℤ◌, IsTrue, length};
-ghost use Rattle.std.specs.Prelude.{ℕ, Bool, Contains, nat_lt, if◌then◌else◌, slice_index, take};
-ghost use Rattle.day_numbers.specs.Rules.{total_days, are_months, year_start};
+ghost use Rattle.std.specs.Prelude.{◌≡◌, ◌≤◌, ◌<◌, ◌+◌, ◌-◌, ◌*◌, pos, ◌+ℤ◌, ◌-ℤ◌, ◌<ℤ◌, IsTrue, length};
+ghost use Rattle.std.specs.Prelude.{ℕ, Contains, nat_lt, if◌then◌else◌, slice_index, take};
+ghost use Rattle.day_numbers.specs.Rules.{total_days, are_months, year_start, days_of_month, days_before_month};
 ghost use Rattle.day_numbers.proofs.DateLemmas.{rules_one_to_one};
 ghost use Rattle.lunar_calendars.specs.Hebrew.{is_leap_year, epoch, new_year_of, days_in_year, year_lengths};
 ghost use Rattle.lunar_calendars.specs.Hebrew.{IsYearLength, months_by_length, hebrew_rules};
+ghost use Rattle.lunar_calendars.specs.HebrewOpenings.{IsOpening};
 
 use day_numbers::by_rules::CalendarByRules;
 use day_numbers::months;
@@ -53,31 +54,89 @@ fn days_from_monday(leap: bool, after_leap: bool, time: u64) -> u32
     }
 }
 
-/// The day of the new year.
-fn new_year(year: u32) -> u32
-    requires low { 1 ≤ year }
-    requires high { year ≤ 100_000 }
-    ensures value { epoch +ℤ pos result ≡ new_year_of year }
-    ensures near { result ≤ 50_000_000 }
-{
-    // A year has 12 months and 7 nineteenths of one. A leap year is one in which these nineteenths become a month more.
-    let nineteenths = 235 * year - 234;
-    let part = nineteenths % 19;
-    // Counted from noon of the Saturday before year 1, whose molad comes 30 hours and 5604 parts later.
-    let parts = 38_004 + PARTS_OF_MONTH * (nineteenths / 19) as u64;
-    let weeks = (parts / PARTS_OF_WEEK) as u32;
-    7 * weeks + days_from_monday(part >= 12, part < 7, parts % PARTS_OF_WEEK)
+/// When a year opens.
+#[derive(Clone, Copy)]
+struct Opening {
+    year: u32,
+    /// The day of the new year.
+    day: u32,
+    /// What the months before the year leave, in nineteenths of a month.
+    part: u64,
+    /// What the weeks before its molad leave, in parts from noon of a Saturday.
+    time: u64,
+    ghost low: { 1 ≤ year },
+    ghost high: { year ≤ 100_000 },
+    ghost near: { day ≤ 50_000_000 },
+    ghost opens: { IsOpening year day part time },
 }
 
-/// The days of a year.
-#[tactic(auto, using(crate::proofs::YearLengthLemmas::end_of_year))]
-fn days_of_year(year: u32) -> u16
-    requires low { 1 ≤ year }
-    requires high { year ≤ 99_999 }
-    ensures value { result ≡ days_in_year year }
-    ensures length { IsYearLength (is_leap_year year) result }
+impl Opening {
+    /// When the year opens.
+    fn of_year(year: u32) -> Opening
+        requires low { 1 ≤ year }
+        requires high { year ≤ 100_000 }
+        ensures { result.year ≡ year }
+    {
+        // A year has 12 months and 7 nineteenths of one. A leap year is one in which these become a month more.
+        let nineteenths = (235 * year - 234) as u64;
+        let part = nineteenths % 19;
+        // Counted from noon of the Saturday before year 1, whose molad comes 30 hours and 5604 parts later.
+        let parts = 38_004 + PARTS_OF_MONTH * (nineteenths / 19);
+        let weeks = (parts / PARTS_OF_WEEK) as u32;
+        let time = parts % PARTS_OF_WEEK;
+        let day = 7 * weeks + days_from_monday(part >= 12, part < 7, time);
+        Opening {
+            year,
+            day,
+            part,
+            time,
+        }
+    }
+
+    /// Whether the year is a leap year.
+    fn is_leap(self) -> bool
+        ensures { result ≡ is_leap_year self.year }
+    {
+        self.part >= 12
+    }
+
+    /// Whether the year before is a leap year.
+    fn is_after_leap(self) -> bool
+        ensures { result ≡ is_leap_year (self.year - 1) }
+    {
+        self.part < 7
+    }
+
+    /// Whether the year after is a leap year.
+    fn is_before_leap(self) -> bool
+        ensures { result ≡ is_leap_year (self.year + 1) }
+    {
+        self.part >= 5 && self.part < 12
+    }
+
+    /// The days of the year, by the weeks to the next molad.
+    fn days(self) -> u16
+        ensures value { result ≡ days_in_year self.year }
+        ensures length { IsYearLength (is_leap_year self.year) result }
+    {
+        let leap = self.is_leap();
+        let (weeks, rest) = weeks_of_months(leap);
+        let end = self.time + rest;
+        let one_more = (end >= PARTS_OF_WEEK) as u64;
+        let next_time = end - one_more * PARTS_OF_WEEK;
+        let next = 7 * (weeks + one_more as u32)
+            + days_from_monday(self.is_before_leap(), leap, next_time);
+        (next - days_from_monday(leap, self.is_after_leap(), self.time)) as u16
+    }
+}
+
+/// The whole weeks of the months of a year, and the parts that these leave.
+fn weeks_of_months(leap: bool) -> (u32, u64)
+    ensures value { 181_440 * result.0 + result.1 ≡ 765_433 * (if leap then 13 else 12) }
+    ensures rest { result.1 < 181_440 }
+    ensures near { result.0 ≤ 54 }
 {
-    (new_year(year + 1) - new_year(year)) as u16
+    if leap { (54, 152_869) } else { (50, 113_196) }
 }
 
 /// The months of a year with so many days in Heshvan (8), in Kislev (9) and in the months of Adar. In a common year a
@@ -114,77 +173,66 @@ static STARTS: [[u16; 14]; 6] = [
     [0, 30, 60, 90, 119, 149, 179, 208, 238, 267, 297, 326, 356, 385],
 ];
 
-/// The place in a year of these months at which each of them begins.
-fn starts_of(months: &[Month]) -> &'static [u16; 14]
-    requires { (leap : Bool) × (days : ℕ) × IsYearLength leap days × (months.now ≡ months_by_length leap days) }
-    ensures { (index : ℕ) → index ≤ length months.now
-        → slice_index result.now index ≡ total_days (take index months.now) }
-{
-    let leap = (months.len() == 13) as usize;
-    // Heshvan and Kislev have 58 days in a short year, 59 in a regular one and 60 in a long one.
-    let days = (months[1].days + months[2].days) as usize;
-    &STARTS[3 * leap + days - 58]
-}
-
 /// The months of a year with so many days, in the order in which they run.
-fn months_of_length(days: u16) -> &'static [Month]
-    requires { (leap : Bool) × IsYearLength leap days }
-    ensures value { (leap : Bool) → IsYearLength leap days → result.now ≡ months_by_length leap days }
+fn months_of_length(leap: bool, days: u16) -> &'static [Month]
+    requires { IsYearLength leap days }
+    ensures value { result.now ≡ months_by_length leap days }
     ensures few { length result.now ≤ 13 }
     ensures numbered { IsTrue (are_months result.now) }
 {
-    if days < 383 {
-        &YEARS[(days - 353) as usize][..12]
-    } else {
+    if leap {
         &YEARS[(days - 380) as usize]
+    } else {
+        &YEARS[(days - 353) as usize][..12]
     }
 }
 
-/// The year of this number, from its new year and the next.
-#[tactic(auto, using(crate::proofs::YearLengthLemmas::end_of_year))]
-fn year_between(number: u32, start: u32, end: u32) -> Year
-    requires low { 1 ≤ number }
-    requires high { number ≤ 99_999 }
-    requires near { start ≤ 50_000_000 }
-    requires opens { epoch +ℤ pos start ≡ new_year_of number }
-    requires ends { epoch +ℤ pos end ≡ new_year_of (number + 1) }
-    ensures number { result.number ≡ pos number }
-    ensures start { result.start ≡ epoch +ℤ pos start }
-    ensures first { result.start ≡ year_start hebrew_rules (pos number) }
-    ensures months { result.months.now ≡ hebrew_rules.months (pos number) }
-    ensures days { start + total_days result.months.now ≡ end }
-
-    ensures few { length result.months.now ≤ 13 }
-    ensures numbered { IsTrue (are_months result.months.now) }
+/// The place at which each month begins in a year with so many days.
+fn starts_of_length(leap: bool, days: u16) -> &'static [u16; 14]
+    requires { IsYearLength leap days }
+    ensures { (index : ℕ) → index ≤ length (months_by_length leap days)
+        → slice_index result.now index ≡ total_days (take index (months_by_length leap days)) }
 {
-    Year {
-        number: number as i32,
-        start: EPOCH + start as i64,
-        months: months_of_length((end - start) as u16),
+    if leap {
+        &STARTS[(days - 380) as usize]
+    } else {
+        &STARTS[(days - 353) as usize]
     }
 }
 
-/// The year that the day lies in.
-#[tactic(auto, using(crate::proofs::YearLengthLemmas::estimate))]
-fn year_of_day(day: u32) -> Year
-    requires { day ≤ 6_000_000 }
-    ensures low { pos 1 ≤ℤ result.number }
-    ensures high { result.number ≤ℤ pos 99_999 }
-    ensures first { result.start ≡ year_start hebrew_rules result.number }
-    ensures months { result.months.now ≡ hebrew_rules.months result.number }
-    ensures after { result.start ≤ℤ (epoch +ℤ pos day) }
-    ensures before { (epoch +ℤ pos day) <ℤ (result.start +ℤ pos (total_days result.months.now)) }
+/// The month that a place in the year lies in, counted from 0, and its day of that month, where the year has so many
+/// days.
+fn month_at(leap: bool, days: u16, place: u16) -> (u8, u8)
+    requires length { IsYearLength leap days }
+    requires inside { place < days }
+    ensures first { 1 ≤ result.1 }
+    ensures last { result.1 ≤ days_of_month (months_by_length leap days) result.0 }
+    ensures sum { days_before_month (months_by_length leap days) result.0 + result.1 ≡ place + 1 }
+    ensures small { (result.0 ≤ 99) × (result.1 ≤ 99) }
+{
+    let months = months_of_length(leap, days);
+    let starts = starts_of_length(leap, days);
+    // Every month has 30 days or one less, so that this is the index of the month or one less.
+    let least = place as usize / 30;
+    let index = least + (place >= starts[least + 1]) as usize;
+    (months[index].number, (place - starts[index]) as u8 + 1)
+}
 
-    ensures few { length result.months.now ≤ 13 }
-    ensures numbered { IsTrue (are_months result.months.now) }
+/// When the year that the day lies in opens.
+#[tactic(auto, using(crate::proofs::YearLengthLemmas::estimate))]
+fn year_of_day(day: u32) -> Opening
+    requires { day ≤ 6_000_000 }
+    ensures high { result.year ≤ 99_999 }
+    ensures after { result.day ≤ day }
+    ensures before { (epoch +ℤ pos day) <ℤ new_year_of (result.year + 1) }
 {
     // A mean year has 35975351 / 98496 days: the year found by it is right, or the one after.
-    let number = ((day as u64 + 29) * 98_496 / 35_975_351) as u32 + 1;
-    let start = new_year(number);
-    if day < start {
-        return year_between(number - 1, new_year(number - 1), start);
+    let latest = ((day as u64 + 29) * 98_496 / 35_975_351) as u32 + 1;
+    let opening = Opening::of_year(latest);
+    if day < opening.day {
+        return Opening::of_year(latest - 1);
     }
-    year_between(number, start, new_year(number + 1))
+    opening
 }
 
 impl RuledCalendar for Hebrew {
@@ -199,24 +247,23 @@ impl RuledCalendar for Hebrew {
     }
 
     fn year(&self, number: i32) -> Year {
-        let number = number as u32;
-        year_between(number, new_year(number), new_year(number + 1))
+        let opening = Opening::of_year(number as u32);
+        Year {
+            number,
+            start: EPOCH + opening.day as i64,
+            months: months_of_length(opening.is_leap(), opening.days()),
+        }
     }
 
-    fn year_on(&self, day: i64) -> i32 {
-        self.year_with(day).number
-    }
-
-    fn year_with(&self, day: i64) -> Year {
-        year_of_day((day - EPOCH) as u32)
-    }
-
-    fn month_at(&self, year: Year, place: u16) -> (u8, u8) {
-        let starts = starts_of(year.months);
-        // Every month has 30 days or one less, so that this is the index of the month or one less.
-        let least = place as usize / 30;
-        let index = least + (place >= starts[least + 1]) as usize;
-        (year.months[index].number, (place - starts[index]) as u8 + 1)
+    fn parts_on(&self, day: i64) -> (i32, u8, u8) {
+        let day = (day - EPOCH) as u32;
+        let opening = year_of_day(day);
+        let (month, day) = month_at(
+            opening.is_leap(),
+            opening.days(),
+            (day - opening.day) as u16,
+        );
+        (opening.year as i32, month, day)
     }
 }
 
@@ -248,7 +295,7 @@ pub fn hebrew_new_year(year: u32) -> i64
     ensures value { result ≡ new_year_of year }
     ensures start { result ≡ year_start hebrew_rules (pos year) }
 {
-    EPOCH + new_year(year) as i64
+    EPOCH + Opening::of_year(year).day as i64
 }
 
 /// The days of the Hebrew year `year`, which is from 1 to 99999: those from its new year to the next, 353, 354, 355,
@@ -261,5 +308,5 @@ pub fn hebrew_year_length(year: u32) -> u16
     ensures one_of_six { Contains year_lengths result }
     ensures sum { result ≡ total_days (hebrew_rules.months (pos year)) }
 {
-    days_of_year(year)
+    Opening::of_year(year).days()
 }

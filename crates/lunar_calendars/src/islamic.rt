@@ -43,17 +43,6 @@ fn days_of_years(years: u32) -> u32
     354 * years + (11 * years + 14) / 30
 }
 
-/// How many whole years the first `days` days of the calendar fill.
-#[tactic(auto, using(crate::proofs::IslamicYearLemmas::islamic_days))]
-fn years_in(days: u32) -> u32
-    requires { days ≤ 6_000_000 }
-    ensures near { result ≤ 99_998 }
-    ensures after { days_of (λ year. total_days (months_of_year (unsigned_abs year))) result ≤ days }
-    ensures before { days < days_of (λ year. total_days (months_of_year (unsigned_abs year))) (result + 1) }
-{
-    (30 * days + 15) / 10_631
-}
-
 impl YearRule for Islamic {
     ghost months_of = { islamic_rules.months };
 
@@ -61,8 +50,11 @@ impl YearRule for Islamic {
         days_of_years(years)
     }
 
-    fn years_in(days: u32) -> u32 {
-        years_in(days)
+    #[tactic(auto, using(crate::proofs::IslamicYearLemmas::islamic_days))]
+    fn years_in(days: u32) -> (u32, u16) {
+        // The years before year n have (10631 * n + 14) / 30 days, and each day takes 30 of what 10631 leaves.
+        let scaled = 30 * days + 15;
+        (scaled / 10_631, (scaled % 10_631 / 30) as u16)
     }
 
     fn months(year: u32) -> &'static [Month] {

@@ -1,5 +1,5 @@
 -- The days of French years in closed form.
-use Rattle.std.proofs.Common.{◌≡◌, ℕ, zero, suc, ◌+◌, ◌-◌, ◌*◌, ◌/◌, ◌≤◌, ◌<◌, cond, arith, pos}
+use Rattle.std.proofs.Common.{◌≡◌, ℕ, zero, suc, ◌+◌, ◌*◌, ◌/◌, cond, arith, pos}
 use Rattle.std.proofs.lemmas.Bool.Decides.{nat_tests}
 use Rattle.day_numbers.specs.Rules.{days_of_years, total_days}
 use Rattle.day_numbers.proofs.RulesLemmas.{years_zero, years_suc}
@@ -17,9 +17,3 @@ pub french_sum : (n : ℕ) → days_of_years (λ y. total_days (thirteen_months 
 french_sum zero = omega (arith, years_zero (length_by is_french_leap))
 french_sum (suc n) =
     omega (arith, years_suc (length_by is_french_leap) n, length_is is_french_leap (suc n), leap_step n, french_sum n)
-
--- the whole years that the days fill are this estimate or one less
-pub estimate : (days most : ℕ) → most ≡ 4_000 * (days + 2) / 1_460_969
-    → (days < days_of_years (λ y. total_days (thirteen_months (is_french_leap y))) (most + 1))
-    × (1 ≤ most → days_of_years (λ y. total_days (thirteen_months (is_french_leap y))) (most - 1) ≤ days)
-estimate days most e = omega (arith, e, french_sum (most + 1), french_sum (most - 1))

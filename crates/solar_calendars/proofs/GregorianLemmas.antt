@@ -1,20 +1,20 @@
 -- Gregorian years in closed form, and jiff's dates by the rules.
-use Rattle.std.proofs.Common.{◌≡◌, ◌↔◌, ℕ, zero, suc, ◌+◌, ◌-◌, ◌/◌, ◌≤◌, Bool, refl, sym, ◌∙◌, cond, arith, ℤ, pos}
-use Rattle.std.proofs.Common.{negsuc, neg_ℤ, ◌+ℤ◌, ◌-ℤ◌, ◌*ℤ◌, ◌≤ℤ◌, ◌<ℤ◌}
+use Rattle.std.proofs.Common.{◌≡◌, ◌↔◌, ℕ, zero, suc, ◌+◌, ◌-◌, ◌*◌, ◌/◌, ◌≤◌, ◌<◌, Bool, refl, sym, ◌∙◌, cond, arith, ℤ, pos}
+use Rattle.std.proofs.Common.{negsuc, neg_ℤ, ◌+ℤ◌, ◌-ℤ◌, ◌*ℤ◌, ◌≤ℤ◌}
 use Rattle.std.proofs.lemmas.Bool.Decides.{nat_tests}
 use Rattle.std.specs.Int.{int_div_euclid}
 use Rattle.day_numbers.specs.Dates.{IsBetween}
 use Rattle.day_numbers.specs.Days.{IsDayNumber}
 use Rattle.day_numbers.specs.Rules.{with_zero, HasYear, IsDateOf, year_length, year_start, days_of_month}
 use Rattle.day_numbers.specs.Rules.{days_before_month, day_number_of}
-use Rattle.day_numbers.proofs.RulesLemmas.{next_year, start_is, start_is_from, date_in_year}
+use Rattle.day_numbers.proofs.RulesLemmas.{next_year, start_is, start_is_from, start_next}
 use Rattle.day_numbers.proofs.SignedArithmeticLemmas.{signed_arith}
 use Rattle.solar_calendars.specs.TwelveMonths.{twelve_months}
 use Rattle.solar_calendars.specs.Gregorian.{gregorian_rules, is_gregorian_leap}
 use Rattle.jiff_core.specs.Calendar.{is_leap_year, days_in_year, days_in_month, days_of_months, day_count}
 use Rattle.jiff_core.specs.Calendar.{days_from_civil, IsDate}
 use Rattle.jiff_core.specs.declared.civil.date.Date.{Date}
-use Rattle.jiff_core.specs.Date.{epoch_day, ordinal}
+use Rattle.jiff_core.specs.Date.{epoch_day}
 use Rattle.jiff_core.proofs.DateLemmas.{epoch_day_range}
 use Rattle.jiff_core.proofs.CalendarLemmas.{day_count-next_year, days_from_civil-day_count, days_of_months_table}
 use Rattle.jiff_core.proofs.CalendarLemmas.{day_count-day_of_year}
@@ -57,6 +57,28 @@ gregorian_next (negsuc (suc n)) h = omega (arith, signed_arith, length_is (negsu
 
 pub gregorian_start : (y : ℤ) → HasYear with_zero y → closed y ≡ year_start gregorian_rules y
 gregorian_start y h = start_is with_zero _ _ closed refl gregorian_next y h
+
+next_is : (y : ℤ) → next_year with_zero y ≡ y +ℤ pos 1
+next_is (pos n) = omega (arith, signed_arith)
+next_is (negsuc zero) = refl
+next_is (negsuc (suc n)) = omega (arith, signed_arith)
+
+-- a year begins after the days of the one before
+pub january : (y : ℤ) → year_start gregorian_rules (y +ℤ pos 1)
+    ≡ year_start gregorian_rules y +ℤ pos (365 + cond (is_gregorian_leap y) 1 0)
+january y = rw (← next_is y, ← length_is y) (start_next with_zero _ _ y (any_year y))
+
+-- the year and the place in it of a day, counted from 1 January -9999
+pub in_years : (y n : ℤ) (days years place : ℕ) → y ≡ pos years -ℤ pos 9_999 → n ≡ pos days -ℤ pos 3_652_424
+    → 365 * years + years / 4 + years / 400 + place ≡ days + years / 100
+    → days + (years + 1) / 100 < 365 * (years + 1) + (years + 1) / 4 + (years + 1) / 400
+    → (year_start gregorian_rules y +ℤ pos place ≡ n) × (place < year_length gregorian_rules y)
+in_years y n days years place e f sum inside =
+    let start = gregorian_start y (any_year y) in
+    let next = gregorian_start (y +ℤ pos 1) (any_year (y +ℤ pos 1)) in (
+      omega (arith, signed_arith, start, e, f, sum),
+      omega (arith, signed_arith, start, next, january y, length_is y, e, sum, inside),
+    )
 
 -- jiff's leap years are the rules'
 pub leap_same : (y : ℤ) → is_gregorian_leap y ≡ is_leap_year y
@@ -148,11 +170,6 @@ pub jiff_day : (d : Date) → epoch_day d +ℤ pos 719_163 ≡ day_number_of gre
 jiff_day d =
     jiff_number d.year d.month d.day (omega (arith, signed_arith, d.year_in)) d.month_in.0 d.month_in.1 d.day_in.0
 
--- a date is its year's first day and its place in the year
-pub jiff_place : (d : Date) → day_number_of gregorian_rules d.year d.month d.day +ℤ pos 1
-    ≡ day_number_of gregorian_rules d.year 1 1 +ℤ pos (ordinal d)
-jiff_place d = omega (arith, signed_arith, month_before d.year d.month d.month_in.0 d.month_in.1)
-
 pub jiff_range : (d : Date) → IsDayNumber (day_number_of gregorian_rules d.year d.month d.day)
 jiff_range d = omega (arith, signed_arith, jiff_day d, epoch_day_range d)
 
@@ -161,8 +178,3 @@ pub jiff_date_valid : (d : Date) → IsDateOf gregorian_rules d.year d.month d.d
 jiff_date_valid d =
     (jiff_valid d.year d.month d.day d.year_in).0
     (d.year_in, omega (arith, signed_arith, d.month_in), omega (arith, signed_arith, d.day_in))
-
--- and lies before the end of its year
-pub jiff_in_year : (d : Date) (n : ℤ) → day_number_of gregorian_rules d.year d.month d.day ≡ n
-    → n <ℤ (year_start gregorian_rules d.year +ℤ pos (year_length gregorian_rules d.year))
-jiff_in_year d n e = rw e at ((date_in_year gregorian_rules d.year d.month d.day (jiff_date_valid d)).1)

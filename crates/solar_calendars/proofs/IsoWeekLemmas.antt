@@ -1,24 +1,14 @@
 -- Each day lies in the year of weeks of its week's Thursday.
-use Rattle.std.proofs.Common.{◌≡◌, ℕ, zero, suc, ◌+◌, ◌-◌, ◌*◌, ◌/◌, ◌≤◌, ◌<◌, Option, Some, None, IsSome, IfSome, cond}
-use Rattle.std.proofs.Common.{refl, sym, ap, ◌∙◌, arith, ℤ, pos, negsuc, ◌+ℤ◌, ◌≤ℤ◌, ◌<ℤ◌}
+use Rattle.std.proofs.Common.{◌≡◌, ℕ, ◌+◌, ◌-◌, ◌*◌, ◌/◌, ◌≤◌, ◌<◌, Option, Some, None, IsSome, IfSome}
+use Rattle.std.proofs.Common.{sym, ap, ◌∙◌, arith, ℤ, pos, ◌+ℤ◌, ◌≤ℤ◌, ◌<ℤ◌}
 use Rattle.day_numbers.specs.Days.{IsDayNumber}
-use Rattle.day_numbers.specs.Rules.{with_zero, year_start, year_length}
+use Rattle.day_numbers.specs.Rules.{year_start, year_length}
 use Rattle.day_numbers.specs.declared.ymd.Ymd.{Ymd}
-use Rattle.day_numbers.proofs.RulesLemmas.{next_year, start_next}
 use Rattle.day_numbers.proofs.SignedArithmeticLemmas.{signed_arith}
-use Rattle.solar_calendars.specs.Gregorian.{gregorian_rules, is_gregorian_leap}
+use Rattle.solar_calendars.specs.Gregorian.{gregorian_rules}
 use Rattle.solar_calendars.specs.IsoWeek.{monday_on_or_before, week_year_start, IsWeekDate, week_day_number}
 use Rattle.solar_calendars.specs.IsoWeekLaw.{one_week_date}
-use Rattle.solar_calendars.proofs.GregorianLemmas.{any_year, length_is}
-
-next_is : (y : ℤ) → next_year with_zero y ≡ y +ℤ pos 1
-next_is (pos n) = omega (arith, signed_arith)
-next_is (negsuc zero) = refl
-next_is (negsuc (suc n)) = omega (arith, signed_arith)
-
-january : (y : ℤ) → year_start gregorian_rules (y +ℤ pos 1)
-    ≡ year_start gregorian_rules y +ℤ pos (365 + cond (is_gregorian_leap y) 1 0)
-january y = rw (← next_is y, ← length_is y) (start_next with_zero _ _ y (any_year y))
+use Rattle.solar_calendars.proofs.GregorianLemmas.{january, length_is}
 
 -- the week date on a day is the only one
 pub only_week_date : (o : Option Ymd) (n : ℤ) → IsSome o

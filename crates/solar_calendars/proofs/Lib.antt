@@ -1,5 +1,6 @@
 -- Which file serves which public clause:
 --   ThirteenMonthsLemmas: `day_of` and `date_on` of Coptic, Ethiopic, Egyptian and Armenian, by the starts of years.
+--   CenturyLemmas: years by their centuries; for Gregorian, IsoWeek and French.
 --   FrenchLemmas: the same of French, upon ThirteenMonthsLemmas.
 --   GregorianLemmas: `day_of` and `date_on` of Gregorian, by `jiff` and by the rules.
 --   JulianLemmas: `day_of` and `date_on` of Julian, by the starts of years.
@@ -8,6 +9,7 @@
 --     it: the clauses of `roman_day_of` and `roman_on`, and the law `one_roman_date`.
 --   KnownDateExamples: the definitions computed on known dates; it serves no clause.
 pub mod ThirteenMonthsLemmas
+pub mod CenturyLemmas
 pub mod FrenchLemmas
 pub mod GregorianLemmas
 pub mod JulianLemmas

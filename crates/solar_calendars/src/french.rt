@@ -3,6 +3,7 @@
 ghost use Rattle.std.specs.Prelude.{◌+◌, ◌*◌};
 ghost use Rattle.solar_calendars.specs.French.{is_french_leap};
 
+use crate::centuries;
 use crate::thirteen_months::LeapRule;
 
 /// The leap rule of [`French`](crate::French).
@@ -24,12 +25,9 @@ impl LeapRule for FrenchLeapYears {
         365 * years + years / 4 + years / 400 - years / 100 - years / 4_000
     }
 
-    fn years_in(days: u32) -> u32 {
-        let most = (4_000 * (days as u64 + 2) / 1_460_969) as u32;
-        if Self::days_of_years(most) <= days {
-            most
-        } else {
-            most - 1
-        }
+    fn years_in(days: u32) -> (u32, u16) {
+        // In rounds of 4000 years, of which the last has no leap day.
+        let (years, place) = centuries::years_in(days % 1_460_969);
+        (4_000 * (days / 1_460_969) + years, place as u16)
     }
 }

@@ -8,8 +8,9 @@ ghost use Rattle.day_numbers.specs.Rules.{first_day_of};
 ghost use Rattle.day_numbers.proofs.DateLemmas.{rules_one_date, rules_have_days};
 ghost use Rattle.solar_calendars.specs.Gregorian.{gregorian_rules, is_gregorian_leap};
 
+use crate::centuries::years_in;
 use crate::twelve_months::twelve_months;
-use day_numbers::rules::{RuledCalendar, Year, day_by_rules};
+use day_numbers::rules::{RuledCalendar, Year, date_by_rules, day_by_rules};
 use day_numbers::{ArithmeticCalendar, DateFault, Day, Ymd};
 use jiff::civil::Date;
 
@@ -82,25 +83,16 @@ fn jiff_date_on(day: i64) -> Date
 }
 
 /// The year that the day with this fixed day number lies in, and how many days of the year come before it.
-pub fn year_and_days_before(day: i64) -> (i32, u16)
+pub fn year_and_days_before(day: i64) -> (i32, u32)
     requires { IsDayNumber day }
     ensures near { IsYear result.0 }
     ensures value { start gregorian_rules result.0 +ℤ pos result.1 ≡ day }
     ensures within { result.1 < year_length gregorian_rules result.0 }
     ensures few { result.1 ≤ 365 }
 {
-    let date = jiff_date_on(day);
-    (date.year() as i32, date.day_of_year() as u16 - 1)
-}
-
-/// The date on a day, by jiff.
-fn ymd_on(day: Day) -> Option<Ymd>
-    ensures dated { IsSome result ↔ HasDayOf gregorian_rules day.number }
-    ensures value { IfSome result (λ date. IsDateOf gregorian_rules date.year date.month date.day
-        × (day_number_of gregorian_rules date.year date.month date.day ≡ day.number)) }
-{
-    let date = jiff_date_on(day.number());
-    Ymd::new(date.year() as i32, date.month() as u8, date.day() as u8)
+    // Counted from 1 January -9999, the first day.
+    let (years, days_before) = years_in((day + 3_652_424) as u32);
+    (years as i32 - 9_999, days_before)
 }
 
 impl RuledCalendar for Gregorian {
@@ -122,8 +114,9 @@ impl RuledCalendar for Gregorian {
         }
     }
 
-    fn year_on(&self, day: i64) -> i32 {
-        year_and_days_before(day).0
+    fn parts_on(&self, day: i64) -> (i32, u8, u8) {
+        let date = jiff_date_on(day);
+        (date.year() as i32, date.month() as u8, date.day() as u8)
     }
 }
 
@@ -149,6 +142,6 @@ impl ArithmeticCalendar for Gregorian {
     }
 
     fn date_on(&self, day: Day) -> Option<Ymd> {
-        ymd_on(day)
+        date_by_rules(self, day)
     }
 }

@@ -66,6 +66,15 @@ fn number_of_week_date(date: Ymd) -> Option<i64>
     }
 }
 
+/// The fixed day number of the Monday on or before a day, by whole numbers.
+fn monday_of_week(day: i64) -> i64
+    requires { IsDayNumber day }
+    ensures { result ≡ monday_of day }
+{
+    // Counted from 1 January -9999, the first day and a Monday.
+    day - ((day + 3_652_424) as u32 % 7) as i64
+}
+
 /// The day of the week of a day, from 1, where this Monday begins the week.
 fn weekday_from(day: i64, monday: i64) -> u8
     requires in_range { IsDayNumber day }
@@ -84,7 +93,7 @@ fn week_date_on(day: Day) -> Option<Ymd>
         × (week_day_number date.year date.month date.day ≡ day.number)) }
 {
     let number = day.number();
-    let monday = monday_on_or_before(number);
+    let monday = monday_of_week(number);
     // A week lies in the Gregorian year of its Thursday, and week 1 is the one with the first Thursday of the year.
     let (year, days_before) = year_and_days_before(monday + 3);
     let week = (days_before / 7 + 1) as u8;

@@ -83,13 +83,13 @@ impl RuledCalendar for Julian {
         }
     }
 
-    fn year_on(&self, day: i64) -> i32 {
-        let years = (4 * day + 146_100_007) as u32 / 1461;
-        year_after(years as i64 - 100_000)
-    }
-
-    fn month_at(&self, year: Year, place: u16) -> (u8, u8) {
-        month_at(is_leap(year.number), place)
+    fn parts_on(&self, day: i64) -> (i32, u8, u8) {
+        // The years before year n, counted as in `first_of_year`, have 1461 * n / 4 days, and each day takes 4 of what
+        // 1461 leaves.
+        let scaled = (4 * day + 146_100_007) as u32;
+        let years = scaled / 1461;
+        let (month, day) = month_at(years % 4 == 3, (scaled % 1461 / 4) as u16);
+        (year_after(years as i64 - 100_000), month, day)
     }
 }
 

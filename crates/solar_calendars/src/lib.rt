@@ -7,6 +7,7 @@
 //! [`roman_on`] do for it what the trait does for the others.
 #![tactic(auto)]
 
+mod centuries;
 mod french;
 mod gregorian;
 mod iso_week;

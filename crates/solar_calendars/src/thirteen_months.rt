@@ -46,12 +46,13 @@ pub trait LeapRule {
         ensures value { result ≡ days_of (λ y. total_days (thirteen_months_of (is_leap_year y))) years }
         ensures near { result ≤ 50_000_000 };
 
-    /// How many whole years the first `days` days from the epoch on fill; `days` is at most 6000000.
-    fn years_in(days: u32) -> u32
+    /// How many whole years the first `days` days from the epoch on fill, and how many days are left; `days` is at most
+    /// 6000000.
+    fn years_in(days: u32) -> (u32, u16)
         requires { days ≤ 6_000_000 }
-        ensures near { result ≤ 99_998 }
-        ensures after { days_of (λ y. total_days (thirteen_months_of (is_leap_year y))) result ≤ days }
-        ensures before { days < days_of (λ y. total_days (thirteen_months_of (is_leap_year y))) (result + 1) };
+        ensures near { result.0 ≤ 99_998 }
+        ensures sum { days_of (λ y. total_days (thirteen_months_of (is_leap_year y))) result.0 + result.1 ≡ days }
+        ensures inside { result.1 < total_days (thirteen_months_of (is_leap_year (pos (result.0 + 1)))) };
 }
 
 /// The third of every four years is a leap year: 3, 7, 11, ..
@@ -68,8 +69,10 @@ impl LeapRule for ThirdOfFour {
         365 * years + (years + 1) / 4
     }
 
-    fn years_in(days: u32) -> u32 {
-        (4 * days + 2) / 1461
+    fn years_in(days: u32) -> (u32, u16) {
+        // The years before year n have (1461 * n + 1) / 4 days, and each day takes 4 of what 1461 leaves.
+        let scaled = 4 * days + 2;
+        (scaled / 1461, (scaled % 1461 / 4) as u16)
     }
 }
 
@@ -87,8 +90,8 @@ impl LeapRule for NoLeapYear {
         365 * years
     }
 
-    fn years_in(days: u32) -> u32 {
-        days / 365
+    fn years_in(days: u32) -> (u32, u16) {
+        (days / 365, (days % 365) as u16)
     }
 }
 
@@ -102,7 +105,7 @@ impl<L: LeapRule> YearRule for ThirteenMonths<L> {
         L::days_of_years(years)
     }
 
-    fn years_in(days: u32) -> u32 {
+    fn years_in(days: u32) -> (u32, u16) {
         L::years_in(days)
     }
 

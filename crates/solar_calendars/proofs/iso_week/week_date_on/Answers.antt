@@ -8,36 +8,36 @@ use Rattle.solar_calendars.proofs.iso_week.week_date_on.Goals as goal
 pub year_and_days_before-year-requires : goal.year_and_days_before-year-requires
 year_and_days_before-year-requires c =
     let n : FitsSigned w64 c.number-number.result = search rules in
-    let m : FitsSigned w64 c.monday_on_or_before-monday.result = search rules in
-    let thursday : FitsSigned w64 (c.monday_on_or_before-monday.result +ℤ pos 3) = omega (arith, signed_arith) in
-    let monday = simp to_z-of_z at c.monday_on_or_before-monday.ensures in
+    let m : FitsSigned w64 c.monday_of_week-monday.result = search rules in
+    let thursday : FitsSigned w64 (c.monday_of_week-monday.result +ℤ pos 3) = omega (arith, signed_arith) in
+    let monday = simp to_z-of_z at c.monday_of_week-monday.ensures in
     let range : IsDayNumber c.number-number.result = search rules in
-    simp to_z-of_z (thursday_in_range c.number-number.result c.monday_on_or_before-monday.result range monday)
+    simp to_z-of_z (thursday_in_range c.number-number.result c.monday_of_week-monday.result range monday)
 
 pub weekday_from-requires-clause-to : goal.weekday_from-requires-clause-to
 weekday_from-requires-clause-to c =
     let n : FitsSigned w64 c.number-number.result = search rules in
-    let m : FitsSigned w64 c.monday_on_or_before-monday.result = search rules in
-    let monday = simp to_z-of_z at c.monday_on_or_before-monday.ensures in
+    let m : FitsSigned w64 c.monday_of_week-monday.result = search rules in
+    let monday = simp to_z-of_z at c.monday_of_week-monday.ensures in
     simp to_z-of_z (omega (
       arith,
       signed_arith,
-      from_monday c.number-number.result c.monday_on_or_before-monday.result
+      from_monday c.number-number.result c.monday_of_week-monday.result
           monday,
     ))
 
 pub returns-clause-value : goal.returns-clause-value
 returns-clause-value c =
     let n : FitsSigned w64 c.number-number.result = search rules in
-    let m : FitsSigned w64 c.monday_on_or_before-monday.result = search rules in
+    let m : FitsSigned w64 c.monday_of_week-monday.result = search rules in
     let y : FitsSigned w32 c.year_and_days_before-year.result.0 = search rules in
-    let thursday : FitsSigned w64 (c.monday_on_or_before-monday.result +ℤ pos 3) = omega (arith, signed_arith) in
-    let monday = simp to_z-of_z at c.monday_on_or_before-monday.ensures in
+    let thursday : FitsSigned w64 (c.monday_of_week-monday.result +ℤ pos 3) = omega (arith, signed_arith) in
+    let monday = simp to_z-of_z at c.monday_of_week-monday.ensures in
     let place = simp to_z-of_z at c.year_and_days_before-year.ensures.value in
     let days = simp to_z-of_z at c.weekday_from.ensures.value in
     let value = simp to_z-of_z at c.new.ensures.value in
     let date =
-    week_date_is c.number-number.result c.monday_on_or_before-monday.result c.year_and_days_before-year.result.0
+    week_date_is c.number-number.result c.monday_of_week-monday.result c.year_and_days_before-year.result.0
     c.year_and_days_before-year.result.1 c.weekday_from.result monday place
     c.year_and_days_before-year.ensures.within days in
     IfSome_then c.new.result value (λ d e. rw (e.0, e.1, e.2, ← c.number-number.ensures.value) date)

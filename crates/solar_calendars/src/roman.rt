@@ -5,9 +5,10 @@
 //! one name.
 
 ghost use Rattle.std.specs.Prelude.{◌≡◌, ◌↔◌, ◌≤◌, ◌<◌, ◌+◌, ◌-◌, pos, neg_ℤ, ◌-ℤ◌};
-ghost use Rattle.std.specs.Prelude.{IsSome, IfSome};
+ghost use Rattle.std.specs.Prelude.{IsSome, IfSome, ◌==◌, ◌&&◌};
 ghost use Rattle.day_numbers.specs.Dates.{IsBetween, IsDayOf, IsYear};
 ghost use Rattle.day_numbers.specs.Rules.{HasYear, without_zero};
+ghost use Rattle.solar_calendars.specs.Julian.{is_julian_leap};
 ghost use Rattle.solar_calendars.specs.Roman.{day_of_ides as ides_spec, has_two_sixths as two_sixths, count_of};
 ghost use Rattle.solar_calendars.specs.Roman.{roman_day_number, IsRomanDate};
 ghost use Rattle.solar_calendars.specs.RomanPlaces.{day_of_nones as nones_spec};
@@ -24,21 +25,23 @@ use crate::twelve_months::twelve_months;
 use day_numbers::rules::{RuledCalendar, month_by_number};
 use day_numbers::{ArithmeticCalendar, DateFault, Day};
 
-/// The day of the month of the Nones.
-fn day_of_nones(month: u8) -> u8
-    ensures { result ≡ nones_spec month }
-{
-    match month {
-        3 | 5 | 7 | 10 => 7,
-        _ => 5,
-    }
-}
+/// The day of the Ides in each month, January first.
+static IDES: [u8; 12] = [13, 13, 15, 13, 15, 13, 15, 13, 13, 15, 13, 13];
 
 /// The day of the month of the Ides.
 fn day_of_ides(month: u8) -> u8
+    requires { (1 ≤ month) × (month ≤ 12) }
     ensures { result ≡ ides_spec month }
 {
-    day_of_nones(month) + 8
+    IDES[month as usize - 1]
+}
+
+/// The day of the month of the Nones.
+fn day_of_nones(month: u8) -> u8
+    requires { (1 ≤ month) × (month ≤ 12) }
+    ensures { result ≡ nones_spec month }
+{
+    day_of_ides(month) - 8
 }
 
 /// Whether two days before the Kalends of the month are the sixth.
@@ -60,12 +63,22 @@ fn kalends(year: i32, month: u8) -> i64
     year.start + before as i64
 }
 
+/// Whether the month is February of a leap year.
+fn is_leap_february(year: i32, month: u8) -> bool
+    ensures { result ≡ ((month == 2) && is_julian_leap year) }
+{
+    month == 2 && is_leap(year)
+}
+
 /// How many days the month has.
 fn length_of_month(year: i32, month: u8) -> u8
     requires { (1 ≤ month) × (month ≤ 12) }
     ensures { result ≡ month_length year month }
 {
-    twelve_months(is_leap(year))[month as usize - 1].days
+    if is_leap_february(year, month) {
+        return 29;
+    }
+    twelve_months(false)[month as usize - 1].days
 }
 
 /// How many days the month before a month has.
@@ -194,7 +207,8 @@ pub fn roman_day_of(date: &RomanDate) -> Result<Day, DateFault>
 
 /// The name of a day up to the Ides of its month.
 fn name_within(month: u8, day: u8) -> RomanName
-    requires { (1 ≤ day) × (day ≤ ides_spec month) }
+    requires month { (1 ≤ month) × (month ≤ 12) }
+    requires day { (1 ≤ day) × (day ≤ ides_spec month) }
     ensures value { result ≡ within_spec (ides_spec month) day }
     ensures small { count_of result ≤ 99 }
 {
@@ -247,12 +261,19 @@ fn roman_date(year: i32, month: u8, day: u8) -> RomanDate
     ensures { parts_of result ≡ parts_on year month day }
 {
     if day <= day_of_ides(month) {
-        return RomanDate::new(year, month, name_within(month, day)).unwrap();
+        let name = name_within(month, day);
+        return RomanDate { year, month, name };
     }
-    let is_leap_february = month == 2 && is_leap(year);
-    let name = name_after(is_leap_february, length_of_month(year, month), day);
-    let next_month = if month == 12 { 1 } else { month + 1 };
-    RomanDate::new(year_of_next_month(year, month), next_month, name).unwrap()
+    let name = name_after(
+        is_leap_february(year, month),
+        length_of_month(year, month),
+        day,
+    );
+    RomanDate {
+        year: year_of_next_month(year, month),
+        month: if month == 12 { 1 } else { month + 1 },
+        name,
+    }
 }
 
 /// The Roman date of a day: the one valid date whose day this is.

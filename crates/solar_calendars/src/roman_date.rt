@@ -22,9 +22,9 @@ pub enum RomanName {
 /// a date of the Julian calendar.
 #[derive(Clone, Copy, PartialEq, Eq, Debug)]
 pub struct RomanDate {
-    year: i32,
-    month: u8,
-    name: RomanName,
+    pub(crate) year: i32,
+    pub(crate) month: u8,
+    pub(crate) name: RomanName,
     pub ghost year_in: { IsYear year },
     pub ghost month_in: { month ≤ 99 },
     pub ghost count_in: { count_of name ≤ 99 },

@@ -11,6 +11,7 @@ use Rattle.day_numbers.proofs.RulesLemmas.{years_zero, years_suc}
 use Rattle.day_numbers.proofs.SignedArithmeticLemmas.{signed_arith}
 use Rattle.lunar_calendars.specs.Hebrew.{IsYearLength, is_leap_year, epoch, new_year_of, days_in_year, months_by_length}
 use Rattle.lunar_calendars.specs.Hebrew.{months_of_year, year_lengths, hebrew_rules}
+use Rattle.lunar_calendars.specs.HebrewOpenings.{IsOpening}
 use Rattle.lunar_calendars.proofs.NewYearLemmas.{days_from_monday, opens_by_week, parts_after}
 use Rattle.lunar_calendars.proofs.NewYearLemmas.{new_year_after, new_year_is, first_new_year, new_year_bounds}
 
@@ -144,43 +145,39 @@ one_more : (more parts : ℕ) → more ≡ bool_byte (leb 181_440 parts) → par
     → (more * 181_440 ≤ parts) × (parts < more * 181_440 + 181_440)
 one_more more parts e h = grind (arith, nat_tests)
 
--- so the code's difference is the days of the year
-days_after : (n time weeks rest more d e r : ℕ) → time ≡ (32_400 + parts_after n) % 181_440
+-- so the code's sum is the next new year
+days_after : (n day monday time weeks rest more e r : ℕ) → day ≡ new_year_after n
+    → monday ≡ 7 * ((32_400 + parts_after n) / 181_440) → time ≡ (32_400 + parts_after n) % 181_440
     → 181_440 * weeks + rest ≡ 765_433 * (if is_leap_year (suc n) then 13 else 12) → rest < 181_440
     → more ≡ bool_byte (leb 181_440 (time + rest))
-    → d ≡ days_from_monday (is_leap_year (suc n)) (is_leap_year n) time
     → e ≡ days_from_monday (is_leap_year (suc (suc n))) (is_leap_year (suc n)) (time + rest - more * 181_440)
-    → r ≡ 7 * (weeks + more) + e - d → r ≡ days_in_year (suc n)
-days_after n time weeks rest more d e r t w h m p q k =
+    → r ≡ monday + 7 * (weeks + more) + e → r ≡ day + days_in_year (suc n)
+days_after n day monday time weeks rest more e r o s t w h m q k =
     let step = parts_step n (is_leap_year (suc n)) refl in
     let week = one_more more (time + rest) m (omega (arith, t, h)) in
     let weeks_to : (32_400 + parts_after (suc n)) / 181_440 ≡ (32_400 + parts_after n) / 181_440 + (weeks + more) =
     omega (arith, step, t, w, week) in
     let next_time : time + rest - more * 181_440 ≡ (32_400 + parts_after (suc n)) % 181_440 =
     omega (arith, step, t, w, week) in
-    omega (
-      arith,
-      weeks_to,
-      rw t at p,
-      rw next_time at q,
-      k,
-      by_week n,
-      by_week (suc n),
-      days_more n,
-    )
+    omega (arith, o, s, weeks_to, rw next_time at q, k, by_week (suc n), days_more n)
 
-pub days_by : (year time weeks rest more d e r : ℕ) → 1 ≤ year
-    → time ≡ (38_004 + 765_433 * ((235 * year - 234) / 19)) % 181_440
+pub days_by : (year day monday part time weeks rest more e r : ℕ) → 1 ≤ year → IsOpening year day monday part time
     → 181_440 * weeks + rest ≡ 765_433 * (if is_leap_year year then 13 else 12) → rest < 181_440
     → more ≡ bool_byte (leb 181_440 (time + rest))
-    → d ≡ days_from_monday (is_leap_year year) (is_leap_year (year - 1)) time
     → e ≡ days_from_monday (is_leap_year (year + 1)) (is_leap_year year) (time + rest - more * 181_440)
-    → r ≡ 7 * (weeks + more) + e - d → r ≡ days_in_year year
-days_by zero time weeks rest more d e r low t w h m p q k = absurd (omega arith)
-days_by (suc n) time weeks rest more d e r low t w h m p q k =
-    let before : suc n - 1 ≡ n = omega arith in
+    → r ≡ monday + 7 * (weeks + more) + e → r ≡ day + days_in_year year
+days_by zero day monday part time weeks rest more e r low o w h m q k = absurd (omega arith)
+days_by (suc n) day monday part time weeks rest more e r low o w h m q k =
     let after : suc n + 1 ≡ suc (suc n) = omega arith in
-    days_after n time weeks rest more d e r (omega (arith, t)) w h m (rw before at p) (rw after at q) k
+    days_after n day monday time weeks rest more e r (omega (arith, signed_arith, o.0, new_year_is n))
+    (omega (arith, o.1)) (omega (arith, o.3)) w h m (rw after at q) k
+
+days_bound : (leap : Bool) (days : ℕ) → IsYearLength leap days → days ≤ 385
+days_bound false days h = omega (arith, h)
+days_bound true days h = omega (arith, h)
+
+pub days_at_most : (year : ℕ) → 1 ≤ year → days_in_year year ≤ 385
+days_at_most year low = days_bound (is_leap_year year) (days_in_year year) (length_of_year year low)
 
 -- a day before a new year is not before year 1
 pub after_year_one : (year day n : ℕ) → 1 ≤ year → epoch +ℤ pos n ≡ new_year_of year → day < n → 2 ≤ year

@@ -60,14 +60,16 @@ struct Opening {
     year: u32,
     /// The day of the new year.
     day: u32,
+    /// The Monday of the week of its molad, which begins at noon of a Saturday.
+    monday: u32,
     /// What the months before the year leave, in nineteenths of a month.
-    part: u64,
-    /// What the weeks before its molad leave, in parts from noon of a Saturday.
+    part: u32,
+    /// What the weeks before the molad leave, in parts.
     time: u64,
     ghost low: { 1 ≤ year },
     ghost high: { year ≤ 100_000 },
     ghost near: { day ≤ 50_000_000 },
-    ghost opens: { IsOpening year day part time },
+    ghost opens: { IsOpening year day monday part time },
 }
 
 impl Opening {
@@ -78,16 +80,17 @@ impl Opening {
         ensures { result.year ≡ year }
     {
         // A year has 12 months and 7 nineteenths of one. A leap year is one in which these become a month more.
-        let nineteenths = (235 * year - 234) as u64;
+        let nineteenths = 235 * year - 234;
         let part = nineteenths % 19;
         // Counted from noon of the Saturday before year 1, whose molad comes 30 hours and 5604 parts later.
-        let parts = 38_004 + PARTS_OF_MONTH * (nineteenths / 19);
-        let weeks = (parts / PARTS_OF_WEEK) as u32;
+        let parts = 38_004 + PARTS_OF_MONTH * (nineteenths / 19) as u64;
+        let monday = 7 * (parts / PARTS_OF_WEEK) as u32;
         let time = parts % PARTS_OF_WEEK;
-        let day = 7 * weeks + days_from_monday(part >= 12, part < 7, time);
+        let day = monday + days_from_monday(part >= 12, part < 7, time);
         Opening {
             year,
             day,
+            monday,
             part,
             time,
         }
@@ -98,13 +101,6 @@ impl Opening {
         ensures { result ≡ is_leap_year self.year }
     {
         self.part >= 12
-    }
-
-    /// Whether the year before is a leap year.
-    fn is_after_leap(self) -> bool
-        ensures { result ≡ is_leap_year (self.year - 1) }
-    {
-        self.part < 7
     }
 
     /// Whether the year after is a leap year.
@@ -124,9 +120,8 @@ impl Opening {
         let end = self.time + rest;
         let one_more = (end >= PARTS_OF_WEEK) as u64;
         let next_time = end - one_more * PARTS_OF_WEEK;
-        let next = 7 * (weeks + one_more as u32)
-            + days_from_monday(self.is_before_leap(), leap, next_time);
-        (next - days_from_monday(leap, self.is_after_leap(), self.time)) as u16
+        let monday = self.monday + 7 * (weeks + one_more as u32);
+        (monday + days_from_monday(self.is_before_leap(), leap, next_time) - self.day) as u16
     }
 }
 
@@ -142,24 +137,25 @@ fn weeks_of_months(leap: bool) -> (u32, u64)
 /// The months of a year with so many days in Heshvan (8), in Kislev (9) and in the months of Adar. In a common year a
 /// month 13 of no days follows them, which is none of the year's months.
 macro_rules! hebrew_months {
-    (heshvan: $heshvan:literal, kislev: $kislev:literal, $($adar:literal: $days:literal),+ $(; no $none:literal)?) => {
+    (heshvan: $heshvan:literal, kislev: $kislev:literal, $($adar:literal: $days:literal),+ ; no $($none:literal),+) => {
         months![
             7: 30, 8: $heshvan, 9: $kislev, 10: 29, 11: 30,
             $($adar: $days,)+
             1: 30, 2: 29, 3: 30, 4: 29, 5: 30, 6: 29,
-            $($none: 0)?
+            $($none: 0),+
         ]
     };
 }
 
 /// The months of a short, a regular and a long year, which are the first 12, and the 13 months of such leap years.
-static YEARS: [[Month; 13]; 6] = [
-    hebrew_months!(heshvan: 29, kislev: 29, 12: 29; no 13),
-    hebrew_months!(heshvan: 29, kislev: 30, 12: 29; no 13),
-    hebrew_months!(heshvan: 30, kislev: 30, 12: 29; no 13),
-    hebrew_months!(heshvan: 29, kislev: 29, 12: 30, 13: 29),
-    hebrew_months!(heshvan: 29, kislev: 30, 12: 30, 13: 29),
-    hebrew_months!(heshvan: 30, kislev: 30, 12: 30, 13: 29),
+// Of one size with `STARTS`, so that both rows are found by one product.
+static YEARS: [[Month; 14]; 6] = [
+    hebrew_months!(heshvan: 29, kislev: 29, 12: 29; no 13, 14),
+    hebrew_months!(heshvan: 29, kislev: 30, 12: 29; no 13, 14),
+    hebrew_months!(heshvan: 30, kislev: 30, 12: 29; no 13, 14),
+    hebrew_months!(heshvan: 29, kislev: 29, 12: 30, 13: 29; no 14),
+    hebrew_months!(heshvan: 29, kislev: 30, 12: 30, 13: 29; no 14),
+    hebrew_months!(heshvan: 30, kislev: 30, 12: 30, 13: 29; no 14),
 ];
 
 /// The place in the year at which each of these months begins, and at the end the length of the year.
@@ -181,7 +177,7 @@ fn months_of_length(leap: bool, days: u16) -> &'static [Month]
     ensures numbered { IsTrue (are_months result.now) }
 {
     if leap {
-        &YEARS[(days - 380) as usize]
+        &YEARS[(days - 380) as usize][..13]
     } else {
         &YEARS[(days - 353) as usize][..12]
     }

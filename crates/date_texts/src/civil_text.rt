@@ -44,6 +44,7 @@ fn after_mark(grammar: Grammar, bytes: &[u8]) -> Option<&[u8]>
 }
 
 /// The year, month and day that the bytes spell, or the year, week and weekday.
+#[inline(always)]
 #[tactic(auto, unfolding(crate::specs::CivilReading::civil_at))]
 fn civil_at(grammar: Grammar, bytes: &[u8]) -> Option<(i32, u8, u8)>
     ensures value { result ≡ civil_spec grammar bytes.now }
@@ -56,6 +57,7 @@ fn civil_at(grammar: Grammar, bytes: &[u8]) -> Option<(i32, u8, u8)>
 }
 
 /// The date that a text without blanks at its ends says in a calendar of civil or week dates, whose grammar this is.
+#[inline(always)]
 pub fn civil_date_at(calendar: Calendar, grammar: Grammar, text: &[u8]) -> Option<Date>
     requires own { grammar ≡ grammar_spec calendar }
     requires civil { IsCivil calendar }

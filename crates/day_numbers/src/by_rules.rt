@@ -25,6 +25,7 @@ impl<C: CalendarByRules> ArithmeticCalendar for C {
 
     ghost dates_have_days = { C.one_to_one.1 };
 
+    #[inline(always)]
     fn day_of(&self, date: Ymd) -> Result<Day, DateFault> {
         day_by_rules(self, date)
     }

@@ -11,7 +11,7 @@ use crate::outputs::{Output, send};
 use crate::row_lines::{LINE_ROOM, make_heading, make_row};
 use crate::rows::Row;
 use crate::setups::{Form, Setup};
-use std::alloc::Global;
+use std::alloc::{AllocError, Global};
 use thiserror::Error;
 
 /// Why writing rows stopped.
@@ -26,6 +26,16 @@ pub enum RowFault {
     /// An earlier call returned a fault.
     #[error("an earlier call failed")]
     Failed,
+}
+
+impl From<AllocError> for RowFault {
+    ghost use Rattle.register_records.specs.declared.writing.RowFault.TheVariants.{OutOfMemory};
+
+    ghost from_gives = { λ _ fault. fault ≡ OutOfMemory };
+
+    fn from(_: AllocError) -> RowFault {
+        RowFault::OutOfMemory
+    }
 }
 
 /// Up to so many bytes of lines that wait, one more line takes no memory.
@@ -81,9 +91,7 @@ impl RowWriter {
         ensures never { IfErr result (λ e. e ≢ RowFault.Failed) }
         ensures mark { W.own_mark output.new ≡ W.own_mark output.old }
     {
-        let Ok(mut lines) = CsvLines::new(alloc, setup.delimiter(), ROOM) else {
-            return Err(RowFault::OutOfMemory);
-        };
+        let mut lines = CsvLines::new(alloc, setup.delimiter(), ROOM)?;
         make_heading(&mut lines, setup.form(), setup.targets());
         if send(output, lines.as_slice()).is_err() {
             return Err(RowFault::WriteFault);

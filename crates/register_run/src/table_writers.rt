@@ -179,9 +179,7 @@ impl<W: Output + Drop> TableWriter<W> {
         let Some(writer) = &mut self.writer else {
             return Ok(());
         };
-        let Ok(()) = self.journal.reserve(1) else {
-            return Err(RowFault::OutOfMemory);
-        };
+        self.journal.reserve(1)?;
         writer.add(row)?;
         push_refusal(&mut self.journal, row);
         self.rows = row.entry().number();

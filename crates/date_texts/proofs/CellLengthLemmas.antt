@@ -1,5 +1,5 @@
 -- The lengths of cells.
-use Rattle.std.proofs.Common.{ℕ, ◌-◌, ◌≤◌, List, ◌∷◌, ◌++◌, Bool, IsTrue, ℤ, refl, ap}
+use Rattle.std.proofs.Common.{ℕ, ◌+◌, ◌-◌, ◌≤◌, List, ◌∷◌, ◌++◌, Bool, IsTrue, ℤ, refl, ap}
 use Rattle.std.proofs.Common.{arith, length, length-append}
 use Rattle.std.specs.Prelude.{nat_le}
 use Rattle.std.specs.Fmt.{decimal}
@@ -8,6 +8,7 @@ use Rattle.day_numbers.specs.Numbered.{name_of_number, words}
 use Rattle.day_numbers.proofs.NameLemmas.{each_name}
 use Rattle.maya_calendars.specs.HaabNames.{month_names}
 use Rattle.maya_calendars.specs.TzolkinNames.{name_texts}
+use Rattle.maya_calendars.specs.declared.long_count.LongCount.{LongCount}
 use Rattle.maya_calendars.specs.Laws.{HaabDaysInRange, TzolkinNumbersInRange}
 use Rattle.date_texts.specs.declared.calendar.Calendar.{Calendar}
 use Rattle.date_texts.specs.declared.date.Date.{Date}
@@ -70,7 +71,7 @@ roman_length text z m name h =
     )
 
 -- the decimal digits of a number of four digits
-four_digits : (n : ℕ) → n ≤ 9_999 → length (decimal n) ≤ 4
+pub four_digits : (n : ℕ) → n ≤ 9_999 → length (decimal n) ≤ 4
 four_digits n small = (decimal_numeral 4 n (omega arith) (omega arith) (omega arith)).few
 
 long_length : (p q r s t : ℕ) → p ≤ 9_999 → q ≤ 19 → r ≤ 19 → s ≤ 17 → t ≤ 19 → length (canonical_long p q r s t) ≤ 16
@@ -83,6 +84,30 @@ long_length p q r s t a b c d e =
       one_or_two r (omega arith),
       one_or_two s (omega arith),
       one_or_two t (omega arith),
+    )
+
+-- and room behind for the row of the last place
+pub long_room : (p q r s t : ℕ) → p ≤ 99 → q ≤ 19 → r ≤ 19 → s ≤ 17 → t ≤ 19
+    → length (canonical_long p q r s t) + 4 ≤ 16 + length (decimal t)
+long_room p q r s t a b c d e =
+    omega (
+      arith,
+      length-append {A = ℕ},
+      one_or_two p a,
+      one_or_two q (omega arith),
+      one_or_two r (omega arith),
+      one_or_two s (omega arith),
+    )
+
+pub text_room : (n : LongCount) → length (canonical_text (Long n)) + 4 ≤ 24 + length (decimal n.kin)
+text_room n =
+    omega (
+      arith,
+      length-append {A = ℕ},
+      four_digits n.baktun n.places.0,
+      four_digits n.katun n.places.1,
+      four_digits n.tun n.places.2,
+      four_digits n.uinal n.places.3,
     )
 
 -- the text of any date

@@ -8,9 +8,11 @@
 --   CellLengthLemmas: the law `cells_are_short`, and with it the room in `cell` and `write_cell`.
 --   CellByteLemmas: the law `cells_are_plain`.
 --   PairLemmas, WritingLemmas, BufferLemmas: the digits and pieces in `write_date` and `write_cell`.
+--   PlaceLemmas: the places of long counts there.
 --   DecisionLemmas, DateDecisionLemmas: what can be decided of numbers, texts and dates, for the laws of the crates
 --     above.
 pub mod PairLemmas
+pub mod PlaceLemmas
 pub mod TextWords
 pub mod ReadingLemmas
 pub mod CivilReadingLemmas

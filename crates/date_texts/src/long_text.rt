@@ -1,12 +1,12 @@
-//! Long counts as text: five buffer, joined by dots.
+//! Long counts as text: five places, joined by dots.
 
-ghost use Rattle.std.specs.Prelude.{◌≡◌, ◌↔◌, ◌≤◌, ◌+◌, ◌∷◌, IfSome, Some, length};
+ghost use Rattle.std.specs.Prelude.{◌≡◌, ◌↔◌, ◌≤◌, ◌<◌, ◌+◌, ◌∷◌, IfSome, Some, length};
 ghost use Rattle.std.specs.Fmt.{decimal};
 ghost use Rattle.maya_calendars.specs.Places.{ArePlaces};
 ghost use Rattle.date_texts.specs.declared.calendar.Calendar.TheVariants.{Longcount};
 ghost use Rattle.date_texts.specs.declared.date.Date.{Date};
 ghost use Rattle.date_texts.specs.DateText.{SaysDate, canonical_text};
-ghost use Rattle.date_texts.specs.Buffers.{IsPut};
+ghost use Rattle.date_texts.specs.Buffers.{IsPut, place_row as place_row_of};
 ghost use Rattle.date_texts.specs.LongReading.{long_at as long_spec, place_at as place_spec};
 ghost use Rattle.date_texts.specs.Reading.{seen_number};
 
@@ -49,13 +49,40 @@ pub fn long_date_at(text: &[u8]) -> Option<Date>
     Some(Date::Long(count))
 }
 
+/// A dot and each place under 20, with blanks to three bytes, and how many bytes the two have.
+#[rattlefmt::skip]
+static PLACES: [[u8; 4]; 20] = [
+    *b".0 \x02", *b".1 \x02", *b".2 \x02", *b".3 \x02", *b".4 \x02",
+    *b".5 \x02", *b".6 \x02", *b".7 \x02", *b".8 \x02", *b".9 \x02",
+    *b".10\x03", *b".11\x03", *b".12\x03", *b".13\x03", *b".14\x03",
+    *b".15\x03", *b".16\x03", *b".17\x03", *b".18\x03", *b".19\x03",
+];
+
+/// The row of a place in this table.
+#[inline(always)]
+fn place_row(place: u16) -> &'static [u8; 4]
+    requires { place < 20 }
+    ensures { result.now ≡ place_row_of place }
+{
+    &PLACES[place as usize]
+}
+
 /// Writes a dot and a place of a long count.
 #[inline(always)]
 fn put_place(buffer: &mut [u8], at: usize, place: u16) -> usize
-    requires room { at + 1 + length (decimal place) ≤ length buffer.old }
+    requires room { at + 5 ≤ length buffer.old }
     requires small { place ≤ 9_999 }
     ensures { IsPut buffer.old buffer.new at result (46 ∷ decimal place) }
 {
+    if place < 20 {
+        // The whole row is written, and the next place over what lies behind this one.
+        let row = place_row(place);
+        let second = put_byte(buffer, at, row[0]);
+        let third = put_byte(buffer, second, row[1]);
+        let fourth = put_byte(buffer, third, row[2]);
+        put_byte(buffer, fourth, row[3]);
+        return at + row[3] as usize;
+    }
     let after = put_byte(buffer, at, b'.');
     put_number(buffer, after, place)
 }
@@ -63,7 +90,7 @@ fn put_place(buffer: &mut [u8], at: usize, place: u16) -> usize
 /// Writes a long count to the front.
 #[inline(always)]
 pub fn put_long(buffer: &mut [u8], count: LongCount) -> usize
-    requires { length (canonical_text (Date.Long count)) ≤ length buffer.old }
+    requires { length (canonical_text (Date.Long count)) + 4 ≤ length buffer.old + length (decimal count.kin) }
     ensures { IsPut buffer.old buffer.new 0 result (canonical_text (Date.Long count)) }
 {
     let after = put_number(buffer, 0, count.baktun());

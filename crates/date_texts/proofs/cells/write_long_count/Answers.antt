@@ -7,7 +7,9 @@ use Rattle.date_texts.specs.declared.calendar.Calendar.TheVariants.{Longcount}
 use Rattle.date_texts.specs.declared.target.Target.TheVariants.{Date as DateTarget}
 use Rattle.date_texts.specs.declared.date.Date.TheVariants.{Long}
 use Rattle.date_texts.specs.DateText.{canonical_text}
+use Rattle.std.proofs.lemmas.Int.{ints}
 use Rattle.date_texts.proofs.CellLemmas.{since_first_in}
+use Rattle.date_texts.proofs.CellLengthLemmas.{long_room}
 use Rattle.date_texts.proofs.cells.write_long_count.Goals as goal
 
 short_text : CellsAreShort → (n : ℤ) (count : LongCount) → IsLongCount count → long_day count ≡ n
@@ -18,7 +20,10 @@ short_text law n count is day =
 pub put_long-requires : goal.put_long-requires
 put_long-requires c =
     let (is, day) = c.in-Some.ensures.value in
-    omega (arith, short_text c.cells_are_short.ensures _ c.in-Some.count is day, c.requires)
+    let count = c.in-Some.count in
+    let few : count.baktun ≤ 99 = omega (arith, ints, day, c.args.day.in_range) in
+    let room = long_room count.baktun count.katun count.tun count.uinal count.kin few is.0 is.1 is.2 is.3 in
+    omega (arith, room, c.requires)
 
 pub overflow_cast-result : goal.overflow_cast-result
 overflow_cast-result c =

@@ -1,5 +1,20 @@
-use Rattle.date_texts.proofs.BufferLemmas.{put_then}
+use Rattle.std.proofs.Common.{arith}
+use Rattle.date_texts.proofs.BufferLemmas.{put_same, put_then}
+use Rattle.date_texts.proofs.CellLengthLemmas.{four_digits}
+use Rattle.date_texts.proofs.PlaceLemmas.{put_front, row_text}
 use Rattle.date_texts.proofs.long_text.put_place.Goals as goal
+
+pub returns-then-place-lt20 : goal.returns-then-place-lt20
+returns-then-place-lt20 c =
+    let (rest, bytes, count) = row_text c.args.place c.if-place-lt20.true in
+    let row = put_then c.put_byte-second.ensures (put_then c.put_byte-third.ensures
+    (put_then c.put_byte-fourth.ensures c.put_byte.ensures)) in
+    rw (c.place_row-row.ensures, count) (put_front _ rest (omega arith)
+    (put_same bytes (rw c.place_row-row.ensures at row)))
+
+pub put_number-requires-clause-room : goal.put_number-requires-clause-room
+put_number-requires-clause-room c =
+    omega (arith, four_digits c.args.place c.requires.small, c.put_byte-after.ensures.follows)
 
 pub returns : goal.returns
 returns c = put_then c.put_byte-after.ensures c.put_number.ensures

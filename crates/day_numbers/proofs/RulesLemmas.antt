@@ -1,11 +1,11 @@
 -- What follows from a calendar's rules, for every calendar.
-use Rattle.std.proofs.Common.{◌≡◌, ℕ, zero, suc, ◌+◌, ◌-◌, ◌*◌, ◌<◌, ◌≤◌, List, [], ◌∷◌, length, IsTrue, refl, sym}
+use Rattle.std.proofs.Common.{◌≡◌, ℕ, zero, suc, ◌+◌, ◌-◌, ◌≤◌, List, [], ◌∷◌, refl, sym}
 use Rattle.std.proofs.Common.{subst, ap, ◌∙◌, arith, ℤ, pos, negsuc, ◌+ℤ◌, ◌-ℤ◌, ◌<ℤ◌, ◌≤ℤ◌, neg_ℤ, unsigned_abs}
 use Rattle.std.proofs.lemmas.Int.{by_lt_z}
 use Rattle.std.proofs.lemmas.Bool.Decides.{nat_tests}
 use Rattle.day_numbers.specs.Rules.{Years, from_one, with_zero, without_zero, Rules, HasYear, total_days, days_of_month}
 use Rattle.day_numbers.specs.Rules.{days_before_month, days_of_years, year_before, start_of_year, year_length}
-use Rattle.day_numbers.specs.Rules.{year_start, IsDateOf, day_number_of, are_months, HasDayOf, first_day_by}
+use Rattle.day_numbers.specs.Rules.{year_start, IsDateOf, day_number_of, HasDayOf, first_day_by}
 use Rattle.day_numbers.specs.Days.{IsSinceFirstDay}
 use Rattle.day_numbers.specs.declared.rules.Month.{Month}
 use Rattle.day_numbers.proofs.SignedArithmeticLemmas.{signed_arith}

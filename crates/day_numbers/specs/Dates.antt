@@ -22,10 +22,10 @@ abbrev pub fault_number : DateFault → ℕ
 fault_number NoSuchDate = 6
 fault_number OutOfRange = 7
 
--- the answer to which day a date has, where n is the day number of a date that the calendar has: the day; or one fault
--- where it has no such date, and another where it has the date and n is out of range
-pub record IsDayOf {F : Type 0} (IsDate : Type 0) (n : ℤ) (unknown outside : F) (answer : Result Day F) : Type 0 where
-  pub succeeds : IsOk answer ↔ (IsDate × IsDayNumber n)
-  pub value : IfOk answer (λ day. day.number ≡ n)
-  pub no_such_date : (answer ≡ Err unknown) ↔ ¬ IsDate
-  pub out_of_range : (answer ≡ Err outside) ↔ (IsDate × ¬ (IsDayNumber n))
+-- the result of asking for the day of a date, where n is the day number of a date that the calendar has: the day; or
+-- one fault where it has no such date, and another where it has the date and n is out of range
+pub record IsDayOf {F : Type 0} (IsDate : Type 0) (n : ℤ) (unknown outside : F) (result : Result Day F) : Type 0 where
+  pub succeeds : IsOk result ↔ (IsDate × IsDayNumber n)
+  pub value : IfOk result (λ day. day.number ≡ n)
+  pub no_such_date : (result ≡ Err unknown) ↔ ¬ IsDate
+  pub out_of_range : (result ≡ Err outside) ↔ (IsDate × ¬ (IsDayNumber n))

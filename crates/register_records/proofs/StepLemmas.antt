@@ -18,9 +18,9 @@ pub found_none : (left after : Option (List Fields)) (b : Bool) (f : Fields) →
 found_none left after b f h e = rw e at h
 
 -- a fault that was handed on
-pub told_on : {T E : Type 0} (r : Result T E) (e : E) (P : E → Type 0) → IsErrAnd r (λ x. x ≡ e) → P e → IfErr r P
-told_on (Ok x) e P h p = tt
-told_on (Err x) e P h p = rw h p
+pub passed_on : {T E : Type 0} (r : Result T E) (e : E) (P : E → Type 0) → IsErrAnd r (λ x. x ≡ e) → P e → IfErr r P
+passed_on (Ok x) e P h p = tt
+passed_on (Err x) e P h p = rw h p
 
 -- what holds of a list whose first record was taken
 of_first : (left mid : Option (List Fields)) (f : Fields) (P : List Fields → Type 0) → TakesFirst left mid f

@@ -1,11 +1,12 @@
 use Rattle.std.proofs.Common.{◌≡◌, ◌-◌, drop, length, take, true}
 use Rattle.register_records.specs.BareTexts.{IsPlain}
+use Rattle.register_records.specs.declared.entries.TheConstants.{CHUNK}
 use Rattle.register_records.proofs.BareLemmas.{ArePlain}
 use Rattle.register_records.proofs.entries.are_plain_by_chunks.Given as goal
 
 abbrev pub invariant-chunks : goal.invariant-chunks
 invariant-chunks l =
     record {
-      last : l.plain ≡ true → IsPlain (drop (length l.text - 16) l.text);
+      last : l.plain ≡ true → IsPlain (drop (length l.text - CHUNK) l.text);
       front : l.plain ≡ true → ArePlain (take l.chunk-index l.front);
     }

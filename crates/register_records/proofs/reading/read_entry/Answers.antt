@@ -4,7 +4,7 @@ use Rattle.register_records.specs.ReadingState.{IsNoSeal}
 use Rattle.register_records.specs.declared.setups.Form.TheVariants.{Sealed}
 use Rattle.register_records.proofs.StepLemmas.{entry_left, found, found_none, no_seal_left, other_no_seal}
 use Rattle.register_records.proofs.StepLemmas.{plain_no_seal}
-use Rattle.register_records.proofs.StepLemmas.{seal_ends, seal_lacks, told_on}
+use Rattle.register_records.proofs.StepLemmas.{seal_ends, seal_lacks, passed_on}
 use Rattle.register_records.proofs.reading.read_entry.Goals as goal
 use Rattle.register_records.proofs.reading.read_entry.Goals.{else-eq-via-else-eq, else-eq-via-then-eq+else-is_seal}
 
@@ -30,7 +30,7 @@ returns-then-is_seal-clause-ends g c _ =
 
 pub returns-in_err-read_behind_seal-clause-not_sealed : goal.returns-in_err-read_behind_seal-clause-not_sealed
 returns-in_err-read_behind_seal-clause-not_sealed g c =
-    told_on _ c.in_err-read_behind_seal.field-0.0 _ c.from_residual-in_err-read_behind_seal.ensures.1 (λ e.
+    passed_on _ c.in_err-read_behind_seal.field-0.0 _ c.from_residual-in_err-read_behind_seal.ensures.1 (λ e.
     let some : c.in_ok-read_record.field-0 ≡ true = search rules in
     let first = found _ _ _ _ c.in_ok-read_record.ensures.reads some in
     let sealed : c.args.form ≡ Sealed = search rules in
@@ -41,7 +41,7 @@ returns-in_err-read_behind_seal-clause-not_sealed g c =
 
 pub returns-in_err-number-clause-many : goal.returns-in_err-number-clause-many
 returns-in_err-number-clause-many g c =
-    told_on _ c.in_err-number.field-0.0 _ c.from_residual-in_err-number.ensures.1 (λ _.
+    passed_on _ c.in_err-number.field-0.0 _ c.from_residual-in_err-number.ensures.1 (λ _.
     let some : c.in_ok-read_record.field-0 ≡ true = search rules in
     let first = found _ _ _ _ c.in_ok-read_record.ensures.reads some in
     let other : IsNoSeal c.args.form (fields_of c.read_record.new.csv_record)

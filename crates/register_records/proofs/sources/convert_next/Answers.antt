@@ -8,7 +8,7 @@ use Rattle.register_records.specs.Tables.{row_line}
 use Rattle.register_records.specs.Views.{format_of, given_of, layout_of, line_of, reads_by, row_seen, row_targets}
 use Rattle.register_records.specs.Views.{text_of}
 use Rattle.register_records.proofs.ProgressLemmas.{only_not_sealed, step, known_of}
-use Rattle.register_records.proofs.StepLemmas.{told_on}
+use Rattle.register_records.proofs.StepLemmas.{passed_on}
 use Rattle.register_records.proofs.sources.convert_next.Goals as goal
 
 pub returns-then-not-branch-clause-end : goal.returns-then-not-branch-clause-end
@@ -50,7 +50,7 @@ returns-in_err-read_next-clause-not_sealed g c =
     let fault = c.in_err-read_next.field-0.0 in
     let by = reads.text.1 ∙ c.requires.ready.1 in
     let read = c.read_next.new.entries in
-    told_on _ (entry_fault_cause fault) _ c.from_residual.ensures.1 (λ is.
+    passed_on _ (entry_fault_cause fault) _ c.from_residual.ensures.1 (λ is.
     let which = only_not_sealed fault _ refl is in
     let lacks = reads.not_sealed which in (
       sym (ap (λ (format : Format). format.form) by) ∙ lacks.0,

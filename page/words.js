@@ -122,7 +122,7 @@ const WORDS = {
 
   // The reason of each refusal, from 1, and what to do on this page.
   refusals: [
-    'it has not three fields; in a sealed register, not four',
+    'it does not have three fields; in a sealed register, four',
     'its id is over 40 bytes, its calendar over 16, its date over 32 or its note over 80; `é` and a Hebrew letter ' +
       'have 2 bytes',
     'a field is not UTF-8',

@@ -1,6 +1,6 @@
 //! Copies of short texts.
 //!
-//! Most texts of a table have from 4 to 16 bytes. A call that copies any number of bytes costs more there than the copy.
+//! Most texts of a table have from 4 to 16 bytes. A call that copies any number of bytes costs more than such a copy.
 #![tactic(auto)]
 
 ghost use Rattle.std.specs.Prelude.{◌≡◌, ◌≤◌, ◌+◌, ◌++◌, length, take, drop};
@@ -39,8 +39,8 @@ fn copy_whole(room: &mut [u8], text: &[u8])
     }
 }
 
-/// Copies a text to the front of a room, or as many of its first bytes as there is room for. Returns how many bytes were
-/// copied; those behind them stay as they were.
+/// Copies a text to the front of a room, or as many of its first bytes as there is room for. Returns how many bytes
+/// were copied; those behind them stay as they were.
 #[inline(always)]
 pub fn copy_to_front(room: &mut [u8], text: &[u8]) -> usize
     ensures fits { length text.now ≤ length room.old → result ≡ length text.now }

@@ -67,7 +67,8 @@ fn place_row(place: u16) -> &'static [u8; 4]
     &PLACES[place as usize]
 }
 
-/// Writes a dot and a place of a long count.
+/// Writes a dot and a place of a long count. For a place under 20 four bytes are written, of which the last one or two
+/// are no part of the text.
 #[inline(always)]
 fn put_place(buffer: &mut [u8], at: usize, place: u16) -> usize
     requires room { at + 5 ≤ length buffer.old }
@@ -87,7 +88,7 @@ fn put_place(buffer: &mut [u8], at: usize, place: u16) -> usize
     put_number(buffer, after, place)
 }
 
-/// Writes a long count to the front.
+/// Writes a long count to the front. Up to two bytes behind it are overwritten.
 #[inline(always)]
 pub fn put_long(buffer: &mut [u8], count: LongCount) -> usize
     requires { length (canonical_text (Date.Long count)) + 4 ≤ length buffer.old + length (decimal count.kin) }

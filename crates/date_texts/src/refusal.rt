@@ -8,8 +8,8 @@ use thiserror::Error;
 /// Why a record is refused. A record is refused by the first that applies, in this order.
 #[derive(Clone, Copy, PartialEq, Eq, Debug, Error)]
 pub enum Refusal {
-    /// The record has not as many fields as a register of its form.
-    #[error("the record has not three fields; in a sealed register, not four")]
+    /// The record does not have as many fields as a register of its form.
+    #[error("the record does not have three fields; in a sealed register, four")]
     FieldCount,
     /// A field is over its limit in bytes.
     #[error("a field is too long")]

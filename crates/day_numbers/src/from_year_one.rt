@@ -1,4 +1,4 @@
-//! Calendars whose years begin with year 1, in whole numbers from the epoch on.
+//! Calendars whose years begin with year 1, in unsigned numbers from the epoch on.
 
 ghost use Rattle.std.specs.Prelude.{◌≡◌, ◌≤◌, ◌<◌, ◌+◌, List, ℤ, pos, neg_ℤ, IsTrue, length};
 ghost use Rattle.day_numbers.specs.Dates.{IsBetween};
@@ -35,8 +35,8 @@ pub trait YearRule {
         ensures few { length result.now ≤ 13 }
         ensures numbered { IsTrue (are_months result.now) };
 
-    /// The number of the month that a place in the year lies in, counted from 0, and its day of that month; the year is
-    /// from 1 to 99999, and the place is less than its days.
+    /// The number of the month in which a day of the year lies, and its day of that month. `place` says how many days
+    /// of the year, which is from 1 to 99999, come before it.
     fn month_at(year: u32, place: u16) -> (u8, u8)
         requires low { 1 ≤ year }
         requires high { year ≤ 99_999 }

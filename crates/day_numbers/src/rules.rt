@@ -4,13 +4,12 @@
 //! [`RuledCalendar`] by which formulas it finds a year by its number and the date on a day, and
 //! [`day_by_rules`] and [`date_by_rules`] are then `day_of` and `date_on` of its `ArithmeticCalendar`.
 
-ghost use Rattle.std.specs.Prelude.{◌≡◌, ◌↔◌, ◌≤◌, ◌<◌, ◌+◌, ℤ, pos, neg_ℤ, ◌+ℤ◌, ◌≤ℤ◌, ◌<ℤ◌, IsTrue, IsSome};
-ghost use Rattle.std.specs.Prelude.{IfSome, Some, length};
+ghost use Rattle.std.specs.Prelude.{◌≡◌, ◌↔◌, ◌≤◌, pos, neg_ℤ, IsTrue, IsSome, IfSome, Some, length};
 ghost use Rattle.day_numbers.specs.declared.ymd.Ymd.{Ymd};
 ghost use Rattle.day_numbers.specs.Days.{IsDayNumber};
 ghost use Rattle.day_numbers.specs.Dates.{IsBetween, IsDayOf, IsYear};
 ghost use Rattle.day_numbers.specs.Rules.{Rules, HasYear, HasDayOf, IsDateOf, day_number_of, year_start as start};
-ghost use Rattle.day_numbers.specs.Rules.{year_length, total_days, days_of_month, days_before_month, are_months};
+ghost use Rattle.day_numbers.specs.Rules.{days_of_month, days_before_month, are_months};
 
 use crate::calendar::DateFault;
 use crate::day::Day;
@@ -31,8 +30,8 @@ macro_rules! months {
     };
 }
 
-/// A year of a calendar: its number, the fixed day number of its first day, and its months in the order in
-/// which they run.
+/// A year of a calendar: its number, from -99999 to 99999, the fixed day number of its first day, from -100000000 to
+/// 100000000, and its months in the order in which they run.
 #[derive(Clone, Copy, Debug)]
 pub struct Year {
     pub number: i32,
@@ -129,7 +128,7 @@ pub fn day_by_rules<C: RuledCalendar>(calendar: &C, date: Ymd) -> Result<Day, Da
     }
 }
 
-/// A date on a day, where the calendar has one.
+/// A date on a day, where the calendar has one. That it is the only one follows in [`date_by_rules`].
 #[inline(always)]
 fn some_date_by_rules<C: RuledCalendar>(calendar: &C, day: Day) -> Option<Ymd>
     ensures dated { IsSome result ↔ HasDayOf C.rules day.number }

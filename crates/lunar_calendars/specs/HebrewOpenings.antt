@@ -1,4 +1,4 @@
--- When a Hebrew year opens, by the numbers that the code finds it from.
+-- When a Hebrew year opens, by the numbers that the code finds it from. No public contract cites this file.
 use Rattle.std.specs.Prelude.{◌≡◌, ℕ, ◌+◌, ◌-◌, ◌*◌, ◌/◌, ◌%◌, pos, ◌+ℤ◌}
 use Rattle.lunar_calendars.specs.Hebrew.{epoch, new_year_of}
 

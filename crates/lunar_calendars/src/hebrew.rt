@@ -1,6 +1,6 @@
 //! The Hebrew calendar: new years by the molad and what puts them off, and the months from one to the next.
 
-ghost use Rattle.std.specs.Prelude.{◌≡◌, ◌≤◌, ◌<◌, ◌+◌, ◌-◌, ◌*◌, pos, ◌+ℤ◌, ◌-ℤ◌, ◌<ℤ◌, IsTrue, length};
+ghost use Rattle.std.specs.Prelude.{◌≡◌, ◌≤◌, ◌<◌, ◌+◌, ◌*◌, pos, ◌+ℤ◌, ◌-ℤ◌, ◌<ℤ◌, IsTrue, length};
 ghost use Rattle.std.specs.Prelude.{ℕ, Contains, nat_lt, if◌then◌else◌, slice_index, take};
 ghost use Rattle.day_numbers.specs.Rules.{total_days, are_months, year_start, days_of_month, days_before_month};
 ghost use Rattle.day_numbers.proofs.DateLemmas.{rules_one_to_one};
@@ -24,7 +24,7 @@ pub struct Hebrew;
 /// The fixed day number of the first day of year 1, a Monday. In this file days are counted from it, as 0.
 const EPOCH: i64 = -1_373_427;
 
-/// A day begins at 6 in the evening before, and has 24 hours of 1080 parts.
+/// The parts of a day, which begins at 6 in the evening before and has 24 hours of 1080 parts.
 const PARTS_OF_DAY: u64 = 25_920;
 /// Seven days.
 const PARTS_OF_WEEK: u64 = 7 * PARTS_OF_DAY;
@@ -134,8 +134,8 @@ fn weeks_of_months(leap: bool) -> (u32, u64)
     if leap { (54, 152_869) } else { (50, 113_196) }
 }
 
-/// The months of a year with so many days in Heshvan (8), in Kislev (9) and in the months of Adar. In a common year a
-/// month 13 of no days follows them, which is none of the year's months.
+/// The months of a year with so many days in Heshvan (8), in Kislev (9) and in the months of Adar. Behind them stand
+/// months of no days, 13 and 14 in a common year and 14 in a leap year, which are none of the year's months.
 macro_rules! hebrew_months {
     (heshvan: $heshvan:literal, kislev: $kislev:literal, $($adar:literal: $days:literal),+ ; no $($none:literal),+) => {
         months![
@@ -196,8 +196,8 @@ fn starts_of_length(leap: bool, days: u16) -> &'static [u16; 14]
     }
 }
 
-/// The month that a place in the year lies in, counted from 0, and its day of that month, where the year has so many
-/// days.
+/// The number of the month in which a day of the year lies, and its day of that month. `place` says how many days of
+/// the year, which has so many days, come before it.
 fn month_at(leap: bool, days: u16, place: u16) -> (u8, u8)
     requires length { IsYearLength leap days }
     requires inside { place < days }
@@ -222,7 +222,7 @@ fn year_of_day(day: u32) -> Opening
     ensures after { result.day ≤ day }
     ensures before { (epoch +ℤ pos day) <ℤ new_year_of (result.year + 1) }
 {
-    // A mean year has 35975351 / 98496 days: the year found by it is right, or the one after.
+    // A mean year has 35975351 / 98496 days: the year found by it is the right one, or the one after the right one.
     let latest = ((day as u64 + 29) * 98_496 / 35_975_351) as u32 + 1;
     let opening = Opening::of_year(latest);
     if day < opening.day {

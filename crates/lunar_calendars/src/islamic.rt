@@ -1,6 +1,6 @@
 //! The Islamic calendar: twelve months a year, and its leap years in rounds of 30.
 
-ghost use Rattle.std.specs.Prelude.{◌≡◌, ◌≤◌, ◌<◌, ◌+◌, unsigned_abs};
+ghost use Rattle.std.specs.Prelude.{◌≡◌, ◌≤◌, unsigned_abs};
 ghost use Rattle.day_numbers.specs.Rules.{days_of_years as days_of, total_days};
 ghost use Rattle.day_numbers.proofs.DateLemmas.{rules_one_to_one};
 ghost use Rattle.lunar_calendars.specs.Islamic.{is_leap_year, months_of_year, islamic_rules};
@@ -52,7 +52,7 @@ impl YearRule for Islamic {
 
     #[tactic(auto, using(crate::proofs::IslamicYearLemmas::islamic_days))]
     fn years_in(days: u32) -> (u32, u16) {
-        // The years before year n have (10631 * n + 14) / 30 days, and each day takes 30 of what 10631 leaves.
+        // The years 1 to n have (10631 * n + 14) / 30 days, and each day takes 30 of what 10631 leaves.
         let scaled = 30 * days + 15;
         (scaled / 10_631, (scaled % 10_631 / 30) as u16)
     }
@@ -66,8 +66,8 @@ impl YearRule for Islamic {
     }
 
     fn month_at(_year: u32, place: u16) -> (u8, u8) {
-        // By turns of 30 and 29 days, the months before the month of index i have (325 * i + 5) / 11, and each day takes
-        // 11 of what 325 leaves.
+        // By turns of 30 and 29 days, the months before the month of index i have (325 * i + 5) / 11, and each day
+        // takes 11 of what 325 leaves.
         let scaled = 11 * place as u32 + 5;
         ((scaled / 325) as u8 + 1, (scaled % 325 / 11) as u8 + 1)
     }

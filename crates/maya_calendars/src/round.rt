@@ -16,6 +16,6 @@ pub fn number_on(day: Day, first: u16, length: u16) -> u16
 {
     // So many rounds later a day has the same number, and none is before the day 0.0.0.0.0.
     let later = 10_000_000 * length as i64;
-    let days = (days_since_epoch(day) + first as i64 - 1) + later;
+    let days = days_since_epoch(day) + first as i64 - 1 + later;
     (days as u32 % length as u32) as u16 + 1
 }

@@ -38,7 +38,7 @@ weekday, and the same day in each calendar asked for; a day before the first
 day of a calendar has an empty field there. The last column is empty where
 the date was converted. Else it has the first reason why it was not:
 
-    1  the record has not three fields; in a sealed register, not four
+    1  the record does not have three fields; in a sealed register, four
     2  a field is too long: the id over 40 bytes, the calendar over 16, the
        date over 32 or the note over 80
     3  a field is not UTF-8

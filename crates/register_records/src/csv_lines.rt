@@ -3,7 +3,7 @@
 //! They are made by hand, in memory that is used again: the writer of `csv` can be had back only by consuming it. All
 //! of the memory is filled once, so that a byte is put by a store, and a text by a copy.
 
-ghost use Rattle.std.specs.Prelude.{◌≡◌, ◌≤◌, ◌<◌, ◌+◌, ◌^◌, ◌++◌, ◌∷◌, [], List, true, false, length, take};
+ghost use Rattle.std.specs.Prelude.{◌≡◌, ◌≤◌, ◌<◌, ◌+◌, ◌^◌, ◌++◌, ◌∷◌, [], true, false, length, take};
 ghost use Rattle.std.specs.Prelude.{IfOk, IsOk, OnOk, vec_len};
 ghost use Rattle.csv.specs.Writing as Spec;
 ghost use Rattle.register_records.specs.LineRoom.{GainsFields, field_room, writing};
@@ -54,7 +54,7 @@ pub(crate) fn put(room: &mut [u8], at: usize, bytes: &[u8]) -> usize
     end
 }
 
-/// Puts one byte there.
+/// Puts one byte at this place, and returns the place behind it.
 #[inline(always)]
 pub(crate) fn put_byte(room: &mut [u8], at: usize, byte: u8) -> usize
     requires { at < length room.old }
@@ -66,7 +66,7 @@ pub(crate) fn put_byte(room: &mut [u8], at: usize, byte: u8) -> usize
     at + 1
 }
 
-/// Puts a byte of a quoted field there: a quote is doubled.
+/// Puts a byte of a quoted field at this place: a quote is doubled.
 fn put_escaped(room: &mut [u8], at: usize, delimiter: u8, byte: u8) -> usize
     requires { at + 2 ≤ length room.old }
     ensures value { take result room.new ≡ take at room.old ++ Spec.escaped (writing delimiter) (byte ∷ []) }
@@ -80,7 +80,7 @@ fn put_escaped(room: &mut [u8], at: usize, delimiter: u8, byte: u8) -> usize
     put_byte(room, at, byte)
 }
 
-/// Puts a field there, quoted where it must be.
+/// Puts a field at this place, quoted where it must be.
 // Not inlined, so that what most fields need stays small.
 #[inline(never)]
 fn put_quotable(room: &mut [u8], at: usize, delimiter: u8, field: &[u8]) -> usize
@@ -99,8 +99,8 @@ fn put_quotable(room: &mut [u8], at: usize, delimiter: u8, field: &[u8]) -> usiz
     put_byte(room, end, QUOTE)
 }
 
-/// Puts one more field of a line there, behind a delimiter, and quoted where it must be. It is looked through for bytes
-/// that call for quotes, unless it is known to have none.
+/// Puts one more field of a line at this place, behind a delimiter, and quoted where it must be. It is looked through
+/// for bytes that call for quotes, unless it is known to have none.
 #[inline(always)]
 pub(crate) fn put_field(
     room: &mut [u8],

@@ -43,7 +43,7 @@ pub enum Body {
         date: ArrayString<DATE_LIMIT>,
         note: ArrayString<NOTE_LIMIT>,
     },
-    /// The record was refused before a calendar was looked for: `FieldCount` where it has not three
+    /// The record was refused before a calendar was looked for: `FieldCount` where it does not have three
     /// fields, or four under a sealed form, else `FieldTooLong` where one is over its limit in bytes,
     /// else `NotUtf8` where one is no UTF-8.
     Refused(Refusal),
@@ -93,8 +93,8 @@ impl Entry {
         }
     }
 
-    /// Makes this entry that of a record, where it lies: an entry is large. Returns true only where its calendar and its
-    /// date are those of the entry before it.
+    /// Makes this entry that of a record, where it lies: an entry is large. Returns true only where its calendar and
+    /// its date are those of the entry before it.
     #[inline(always)]
     pub(crate) fn set(&mut self, number: u32, csv_record: &ByteRecord, form: Form) -> bool
         requires from_one { 1 ≤ number }
@@ -230,8 +230,9 @@ impl Body {
         }
     }
 
-    /// Makes this body that of a record, which may be known to be plain. Returns true only where its calendar and its date
-    /// are those of the body before it. The lengths come first, which differ in most registers of many calendars.
+    /// Makes this body that of a record, which may be known to be plain. Returns true only where its calendar and its
+    /// date are those of the body before it. The length of the calendar's name is compared first: it differs in most
+    /// registers of many calendars.
     #[inline(always)]
     fn set(&mut self, csv_record: &ByteRecord, form: Form, plain: bool) -> bool
         requires { plain ≡ true → IsPlain (text_of csv_record.now) }
@@ -270,6 +271,7 @@ impl Body {
         };
         copy_text(id, fields.id);
         note.clear();
+        // Most notes are empty: no call.
         if !fields.note.is_empty() {
             copy_text(note, fields.note);
         }

@@ -15,7 +15,7 @@ struct Given {
     entry: Snapshot<Entry>,
 }
 
-/// The entries given, in order. It holds none of them: a log has as many bytes as a flag.
+/// The entries given, in order. It keeps none of them in memory: a log takes one byte.
 #[derive(Drop)]
 #[cycle(entry_log)]
 pub(crate) struct EntryLog {
@@ -31,7 +31,8 @@ impl Model for EntryLog {
 
     ghost Value = { List Numbered };
 
-    ghost view = { λ log. option_map_or (λ given. given.before.value ++ entry_seen given.entry.value ∷ []) log.last [] };
+    ghost view = { λ log.
+        option_map_or (λ given. given.before.value ++ entry_seen given.entry.value ∷ []) log.last [] };
 
     ghost size = { length };
 

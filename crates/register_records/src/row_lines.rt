@@ -24,10 +24,10 @@ use crate::table_columns::{EntryFields, EntryTexts, TailColumn, entry_columns, t
 use date_texts::Target;
 use itoa::Buffer;
 
-/// Room for the longest line of a row, which has no more bytes than this, even where each byte of its texts is a quote.
+/// Room in bytes for the longest line, of the heading or of a row, even where each byte of a row's texts is a quote.
 pub const LINE_ROOM: usize = 1024;
 
-/// Begins the line of the heading: the columns of the entries.
+/// Begins the line of the heading: the names of the columns that show an entry.
 fn put_entry_names(room: &mut [u8], at: usize, delimiter: u8, form: Form) -> usize
     requires room { at + entry_name_room ≤ length room.old }
     requires separated { is_delimiter delimiter ≡ true }
@@ -81,7 +81,7 @@ fn put_names(
     }
 }
 
-/// Appends the line of the heading, where there is memory for it.
+/// Appends the line of the heading. There must be memory for `LINE_ROOM` bytes more.
 pub(crate) fn make_heading(lines: &mut CsvLines, form: Form, targets: &[Target])
     requires few { length targets.now ≤ MAX_TARGETS }
     requires room { line_len lines.old + LINE_ROOM ≤ line_capacity lines.old }
@@ -132,7 +132,7 @@ fn put_columns(
     end
 }
 
-/// The same, by code for each form in which the columns are known.
+/// The same, with code of its own for each form, in which the columns are known.
 #[inline(always)]
 fn put_fields(
     room: &mut [u8],
@@ -171,6 +171,7 @@ fn put_entry(room: &mut [u8], at: usize, delimiter: u8, form: Form, row: &Row) -
     let bare = row.entry().is_bare();
     let mut buffer = Buffer::new();
     let number = buffer.format(row.entry().number());
+    // A call in each arm, so that no column asks again whether there are texts.
     match row.entry().body() {
         Body::Fields {
             id,
@@ -220,7 +221,7 @@ fn put_tail(room: &mut [u8], at: usize, delimiter: u8, row: &Row) -> usize
     }
 }
 
-/// Appends the line of a row, where there is memory for it.
+/// Appends the line of a row. There must be memory for `LINE_ROOM` bytes more.
 pub(crate) fn make_row(lines: &mut CsvLines, form: Form, row: &Row)
     requires { line_len lines.old + LINE_ROOM ≤ line_capacity lines.old }
     ensures value { line_bytes lines.new ≡ line_bytes lines.old ++ line_text (line_delimiter lines.old)

@@ -38,7 +38,7 @@ pub struct Row {
 }
 
 /// The day of a body, or the first refusal that applies.
-// One function for each caller, with all that it calls in it.
+// One function for all callers, into which all that it calls is inlined.
 #[inline(never)]
 fn day_of_body(body: &Body) -> Result<Day, Refusal>
     ensures { IsOutcome (body_seen body.now) (outcome_seen result) }

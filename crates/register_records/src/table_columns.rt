@@ -1,5 +1,5 @@
-//! The columns of a table: their order, their names, and what stands in those of an entry. The heading and the rows go
-//! through the same lists.
+//! The columns of a table: their order, their names, and what stands in those of an entry. The heading, and what a row
+//! has of its entry, go through these lists. A tail is appended column by column in the same order, which is proved.
 
 ghost use Rattle.std.specs.Prelude.{◌≡◌, ◌≤◌, length};
 ghost use Rattle.register_records.specs.Columns.{entry_order, tail_order};

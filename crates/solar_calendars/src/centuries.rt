@@ -10,7 +10,7 @@ pub fn years_in(days: u32) -> (u32, u32)
     ensures inside { days + (result.0 + 1) / 100
         < 365 * (result.0 + 1) + (result.0 + 1) / 4 + (result.0 + 1) / 400 }
 {
-    // n centuries have 146097 * n / 4 days, and n years of a century 1461 * n / 4. Each day takes 4 of what these leave.
+    // n centuries have 146097 * n / 4 days, and n years of a century 1461 * n / 4. Each day takes 4 of what they leave.
     let scaled = 4 * days + 3;
     let in_century = 4 * (scaled % 146_097 / 4) + 3;
     (

@@ -1,9 +1,10 @@
 //! The Gregorian calendar: dates and days by `jiff` where it has them, and else by a formula for the start of a year.
+//! The year of a day alone, which week dates ask for, is found by centuries.
 
 ghost use Rattle.std.specs.Prelude.{◌≡◌, ◌≤◌, ◌<◌, pos, neg_ℤ, ◌+ℤ◌, ◌*ℤ◌, ◌↔◌, IsSome, IfSome};
 ghost use Rattle.day_numbers.specs.Days.{IsDayNumber};
 ghost use Rattle.day_numbers.specs.Dates.{IsBetween, IsYear};
-ghost use Rattle.day_numbers.specs.Rules.{IsDateOf, day_number_of, year_start as start, year_length, HasDayOf};
+ghost use Rattle.day_numbers.specs.Rules.{IsDateOf, day_number_of, year_start as start, year_length};
 ghost use Rattle.day_numbers.specs.Rules.{first_day_of};
 ghost use Rattle.day_numbers.proofs.DateLemmas.{rules_one_date, rules_have_days};
 ghost use Rattle.solar_calendars.specs.Gregorian.{gregorian_rules, is_gregorian_leap};
@@ -33,8 +34,7 @@ fn is_leap(year: i32) -> bool
         && in_four_centuries != 300
 }
 
-/// How many leap days the years from year 1 on have, of so many years; less than 0 for years before
-/// year 1.
+/// The leap days of so many years from year 1 on; for -n years, less than 0, minus those of the n years before year 1.
 fn leap_days(years: i64) -> i64
     requires { IsBetween (neg_ℤ (pos 100_001)) (pos 100_001) years }
     ensures value { start gregorian_rules (years +ℤ pos 1) ≡ pos 365 *ℤ years +ℤ result +ℤ pos 1 }

@@ -66,7 +66,7 @@ fn number_of_week_date(date: Ymd) -> Option<i64>
     }
 }
 
-/// The fixed day number of the Monday on or before a day, by whole numbers.
+/// The same as [`monday_on_or_before`] for a day in range, by an unsigned remainder.
 fn monday_of_week(day: i64) -> i64
     requires { IsDayNumber day }
     ensures { result ≡ monday_of day }

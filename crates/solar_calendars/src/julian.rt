@@ -59,7 +59,7 @@ fn first_of_year(year: i32) -> i64
     ensures value { result ≡ start julian_rules year }
     ensures near { IsBetween (neg_ℤ (pos 100_000_000)) (pos 100_000_000) result }
 {
-    // Counted from 100000 years before year 1, as the years of a day, so that neither number is negative.
+    // Counted from 100000 years before year 1, as in `parts_on`, so that no number is negative.
     let years = (years_before(year) + 100_000) as u32;
     (1461 * years / 4) as i64 - 36_525_001
 }

@@ -70,7 +70,7 @@ impl LeapRule for ThirdOfFour {
     }
 
     fn years_in(days: u32) -> (u32, u16) {
-        // The years before year n have (1461 * n + 1) / 4 days, and each day takes 4 of what 1461 leaves.
+        // The years 1 to n have (1461 * n + 1) / 4 days, and each day takes 4 of what 1461 leaves.
         let scaled = 4 * days + 2;
         (scaled / 1461, (scaled % 1461 / 4) as u16)
     }

@@ -22,7 +22,8 @@ pub fn twelve_months(is_leap: bool) -> &'static [Month]
     if is_leap { &LEAP } else { &COMMON }
 }
 
-/// The number of the month that a place in the year lies in, counted from 0, and its day of that month.
+/// The number of the month in which a day of the year lies, and its day of that month. `place` says how many days of
+/// the year come before it.
 pub fn month_at(is_leap: bool, place: u16) -> (u8, u8)
     requires { place < total_days (twelve_months_of is_leap) }
     ensures first { 1 ≤ result.1 }

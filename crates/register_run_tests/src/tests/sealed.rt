@@ -21,7 +21,7 @@ const HEADING: &str = "row,id,calendar,date,note,rd,weekday,gregorian,refusal\n"
 
 const ROWS: &str = "1,a,julian,1582-10-05,parish book,577736,Friday,1582-10-15,\n2,,,,,,,,1\n";
 
-/// The row of a third record that has not four fields.
+/// The row of a third record that does not have four fields.
 const THIRD_ROW: &str = "3,,,,,,,,1\n";
 
 /// What stands behind the two records, the cause that is reported, 0 where the register is whole, and what stands in

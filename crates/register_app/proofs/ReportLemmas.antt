@@ -16,10 +16,7 @@ pub lines_more : (summary : Bool) (ends : List SourceEnd) (i : ℕ) (e : SourceE
     → e ≡ get_or ends i e
     → text ++ lines_from summary (i + 1) (drop i ends) ≡ all
     → (text ++ line_of_end summary (i + 1) e) ++ lines_from summary (i + 1 + 1) (drop (i + 1) ends) ≡ all
-lines_more summary ends i e text all lt at is =
-    append_assoc text (line_of_end summary (i + 1) e) (lines_from summary (i + 1 + 1) (drop (i + 1) ends))
-    ∙ ap (λ (l : List SourceEnd). text ++ lines_from summary (i + 1) l)
-    (ap (λ (x : SourceEnd). x ∷ drop (i + 1) ends) at ∙ sym (drop_more ends i e lt)) ∙ is
+lines_more summary ends i e text all lt at is = grind (arith, append_assoc, drop, drop_more)
 
 drop_past : (ends : List SourceEnd) (i : ℕ) → length ends ≤ i → drop i ends ≡ []
 drop_past [] zero le = refl
@@ -30,9 +27,7 @@ drop_past (e ∷ ends) (suc i) le = drop_past ends i (omega (arith, le))
 -- past the last end no line is left
 pub lines_end : (summary : Bool) (ends : List SourceEnd) (i : ℕ) (text all : List ℕ) → length ends ≤ i
     → text ++ lines_from summary (i + 1) (drop i ends) ≡ all → text ≡ all
-lines_end summary ends i text all le is =
-    sym (append-nil text) ∙ sym (ap (λ (l : List SourceEnd). text ++ lines_from summary (i + 1) l)
-    (drop_past ends i le)) ∙ is
+lines_end summary ends i text all le is = grind (arith, append-nil text, drop_past ends i le)
 
 -- without a summary, sources that are all whole have no line
 pub no_lines : (ends : List SourceEnd) (place : ℕ) → All (λ e. is_whole_end e ≡ true) ends

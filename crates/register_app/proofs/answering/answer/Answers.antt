@@ -105,29 +105,16 @@ returns-in-Err-clause-refused g c =
 
 -- standard error: nothing of a page; that memory ran out or a file was missing; and else what is wrong
 pub returns-in-Ok-Help-clause-reported : goal.returns-in-Ok-Help-clause-reported
-returns-in-Ok-Help-clause-reported g c = λ high.
-    elim c.print_page.ensures.statuses
-    [ inl zero ↦ absurd (omega (arith, high, zero)) | inr one ↦ absurd (omega (arith, high, one)) ]
+returns-in-Ok-Help-clause-reported g c = search rules
 
 pub returns-in-Ok-Version-clause-reported : goal.returns-in-Ok-Version-clause-reported
-returns-in-Ok-Version-clause-reported g c = λ high.
-    elim c.print_page-in-Ok-Version.ensures.statuses
-    [ inl zero ↦ absurd (omega (arith, high, zero)) | inr one ↦ absurd (omega (arith, high, one)) ]
+returns-in-Ok-Version-clause-reported g c = search rules
 
 pub returns-then-is_empty-clause-reported : goal.returns-then-is_empty-clause-reported
-returns-then-is_empty-clause-reported g c = λ high good.
-    c.convert_input.ensures.reported
-    (at_most_three c.convert_input.result.status high c.convert_input.ensures.statuses) good
-    (map string_bytes c.args.arguments.now)
+returns-then-is_empty-clause-reported g c = search (rules, at_most_three, map)
 
 pub returns-else-is_empty-clause-reported : goal.returns-else-is_empty-clause-reported
-returns-else-is_empty-clause-reported g c = λ high good.
-    let arguments = map string_bytes c.args.arguments.now in
-    let just : MeanJust arguments (table (task_of c.in-Ok-Convert.job))
-    = search (rules, c.in-Ok-Convert.ensures.asked) in
-    c.convert_files.ensures.reported
-    (at_most_three c.convert_files.result.status high c.convert_files.ensures.statuses) good
-    arguments just
+returns-else-is_empty-clause-reported g c = search (rules, map, at_most_three)
 
 pub returns-in-Err-clause-reported : goal.returns-in-Err-clause-reported
 returns-in-Err-clause-reported g c = λ high good.
@@ -143,9 +130,4 @@ returns-else-is_empty-clause-unwritten g c = λ three.
     elim (c.convert_files.ensures.unwritten three) [ inl none ↦ inl none | inr made ↦ inr (task, just, made) ]
 
 pub returns-else-is_empty-clause-none : goal.returns-else-is_empty-clause-none
-returns-else-is_empty-clause-none g c = λ two.
-    elim c.convert_files.ensures.statuses [
-      | inl zero ↦ absurd (omega (arith, two, zero))
-      | inr (inl one) ↦ absurd (omega (arith, two, one))
-      | inr (inr three) ↦ absurd (omega (arith, two, three))
-    ]
+returns-else-is_empty-clause-none g c = search rules

@@ -50,10 +50,7 @@ returns-in-Ok-clause-converted g c = λ begun.
     c.report_run-status.ensures.lines c.report_run-status.ensures.quiet
 
 pub returns-in-Ok-clause-len : goal.returns-in-Ok-clause-len
-returns-in-Ok-clause-len g c =
-    let same = (lengths_of _ _ _ _ _ c.in-Ok.ensures.report.places).0 in
-    let written = c.in-Ok.report.outputs.ok.0 in let given = c.args.outputs.ok.0 in
-    omega (arith, same)
+returns-in-Ok-clause-len g c = grind (arith, lengths_of)
 
 -- a run that did not begin was refused memory
 pub returns-in-Err-clause-reported : goal.returns-in-Err-clause-reported

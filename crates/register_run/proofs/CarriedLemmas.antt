@@ -44,10 +44,8 @@ module _ {T : Type 0} where
   entry_within (item.Entry y ∷ items) x (zero, below, is) = (0, omega arith, cc)
   entry_within (item.Entry y ∷ items) x (suc k, below, is) =
       let more = entry_within items x (k, omega arith, is) in (suc more.0, omega (arith, more.1), more.2)
-  entry_within (item.End n ∷ items) x (zero, below, is) = cc
-  entry_within (item.End n ∷ items) x (suc k, below, is) = entry_within items x (k, omega arith, is)
-  entry_within (item.Stop ∷ items) x (zero, below, is) = cc
-  entry_within (item.Stop ∷ items) x (suc k, below, is) = entry_within items x (k, omega arith, is)
+  entry_within (other ∷ items) x (zero, below, is) = cc
+  entry_within (other ∷ items) x (suc k, below, is) = entry_within items x (k, omega arith, is)
 
 -- what ended a lane is no entry
 pub ended_by : (s : Sender Entry) (c : Closed Entry) (last : Item Entry) → entries_in (last ∷ []) ≡ []
@@ -124,13 +122,11 @@ stop_is_no_end entries rows all is (n, ends) =
 -- an item that was next was taken, and it is a row
 pub row_taken : (old new seen rest : List (Item Row)) → StartWithRow seen → new ++ rest ≡ old ++ seen
     → length new ≡ length old + 1 → length (entries_in new) ≡ length (entries_in old) + 1
-row_taken old new [] rest starts is one = absurd starts
 row_taken old new (item.Entry row ∷ seen) rest starts is one =
     ap length (one_more old new row
     (took_next old old (item.Entry row ∷ seen) new rest (item.Entry row) refl (seen, refl) is one))
     ∙ length_push (entries_in old) row
-row_taken old new (item.End n ∷ seen) rest starts is one = absurd starts
-row_taken old new (item.Stop ∷ seen) rest starts is one = absurd starts
+row_taken old new seen rest starts is one = absurd starts
 
 pub ruleset passing = (same_seen, row_taken)
 

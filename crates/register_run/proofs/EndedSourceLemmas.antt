@@ -71,9 +71,8 @@ appends_waited (Some xs) None pending table e h = h
 appends_waited (Some xs) (Some ys) pending table e h = sym (append-nil ys) ∙ ap (λ p. ys ++ p) (sym e) ∙ h
 
 faultless : (c : Course) → fault_of c ≡ None → output_failed c ≡ false
-faultless course.Open e = refl
-faultless (course.Halted c) e = refl
 faultless (course.OutputFailed c) e = cc
+faultless c e = refl
 
 listed : (c : Cause) → Contains causes_of_reading c → is_of_reading c ≡ true
 listed c h =
@@ -92,24 +91,12 @@ table_so o layout given output (Some w) rows e none h = (
 
 -- the causes of reading are higher than those of a table
 high : (c : Cause) → is_of_reading c ≡ true → 5 ≤ cause_number c
-high cause.NoMemory e = cc
-high cause.NoThread e = cc
-high cause.Unconfirmed e = cc
-high cause.SinkFault e = cc
-high cause.ReadFault e = omega arith
-high cause.BadHeader e = omega arith
-high cause.TooManyRecords e = omega arith
-high cause.NotSealed e = omega arith
+high cause.NoMemory e = grind arith
+high c e = grind arith
 
 low : (c : Cause) → is_of_table c ≡ true → cause_number c ≤ 4
-low cause.NoMemory e = omega arith
-low cause.NoThread e = cc
-low cause.Unconfirmed e = omega arith
-low cause.SinkFault e = omega arith
-low cause.ReadFault e = cc
-low cause.BadHeader e = cc
-low cause.TooManyRecords e = cc
-low cause.NotSealed e = cc
+low cause.NoMemory e = grind arith
+low c e = grind arith
 
 -- the threads gave up for this cause of reading; the table has the rows of all entries that were read, and no heading
 -- without a row

@@ -31,11 +31,7 @@ fault_of_cause : (f : EntryFault) (c : Cause) → c ≡ entry_fault_cause f
     → (c ≡ cause.BadHeader → f ≡ fault.BadHeader) × (c ≡ cause.TooManyRecords → f ≡ fault.TooManyRecords)
     × (c ≡ cause.NotSealed → f ≡ fault.NotSealed)
 fault_of_cause fault.OutOfMemory c is = (λ e. cc, λ e. cc, λ e. cc)
-fault_of_cause fault.ReadFault c is = (λ e. cc, λ e. cc, λ e. cc)
-fault_of_cause fault.BadHeader c is = (λ e. refl, λ e. cc, λ e. cc)
-fault_of_cause fault.TooManyRecords c is = (λ e. cc, λ e. refl, λ e. cc)
-fault_of_cause fault.NotSealed c is = (λ e. cc, λ e. cc, λ e. refl)
-fault_of_cause fault.Failed c is = (λ e. cc, λ e. cc, λ e. cc)
+fault_of_cause f c is = (λ e. cc, λ e. cc, λ e. cc)
 
 -- what was sent, by its parts
 abbrev sent_of : ℕ → Result ℕ Cause → Sent
@@ -98,13 +94,8 @@ module _ (text : Option (List ℕ)) (format : Format) where
       ∥∥₁_elim first ∥∥₁_prop (λ s. ∥∥₁_elim (above refl) ∥∥₁_prop (λ a.
       ∥∥₁_map (unsealed refl).1 (λ u.
       stopped_so fault.NotSealed c given is bad numbered s (λ e. cc) (λ e. ((unsealed refl).0, u, a)))))
-  given_stopped fault.OutOfMemory c given is bad many unsealed above numbered first =
-      ∥∥₁_map first (λ s. stopped_so fault.OutOfMemory c given is bad numbered s (λ e. cc) (λ e. cc))
-  given_stopped fault.ReadFault c given is bad many unsealed above numbered first =
-      ∥∥₁_map first (λ s. stopped_so fault.ReadFault c given is bad numbered s (λ e. cc) (λ e. cc))
-  given_stopped fault.BadHeader c given is bad many unsealed above numbered first = absurd (bad refl)
-  given_stopped fault.Failed c given is bad many unsealed above numbered first =
-      ∥∥₁_map first (λ s. stopped_so fault.Failed c given is bad numbered s (λ e. cc) (λ e. cc))
+  given_stopped f c given is bad many unsealed above numbered first =
+      ∥∥₁_map first (λ s. stopped_so f c given is bad numbered s (λ e. cc) (λ e. cc))
 
   -- a converter was gone after these entries
   pub given_gone : (given : List Numbered) → AreNumberedFrom 1 given

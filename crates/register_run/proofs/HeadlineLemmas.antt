@@ -64,14 +64,9 @@ pub lengths_of : {R W : Type 0} (Holds : R → W → W → SourceEnd → Type 0)
     (ends : List SourceEnd) → AtEachPlace Holds sources given written ends
     → (length written ≡ length given) × (length ends ≡ length sources)
 lengths_of Holds [] [] [] [] h = (refl, refl)
-lengths_of Holds [] [] [] (e ∷ es) h = absurd h
-lengths_of Holds [] [] (w ∷ ws) es h = absurd h
-lengths_of Holds [] (g ∷ gs) ws es h = absurd h
-lengths_of Holds (r ∷ rs) [] ws es h = absurd h
-lengths_of Holds (r ∷ rs) (g ∷ gs) [] es h = absurd h
-lengths_of Holds (r ∷ rs) (g ∷ gs) (w ∷ ws) [] h = absurd h
 lengths_of Holds (r ∷ rs) (g ∷ gs) (w ∷ ws) (e ∷ es) h =
     let more = lengths_of Holds rs gs ws es h.1 in (ap suc more.0, ap suc more.1)
+lengths_of Holds sources given written ends h = absurd h
 
 abbrev stripes_in : Ran → List Stripe
 stripes_in ran = ran.stripes.value.items
@@ -89,11 +84,6 @@ module _ {R W : Type 0} {r : reads.Ghosts R} {o : outputs.Ghosts W} (setup : Set
   are_known : (all : List (EndedSource R W r o)) (sources : List R) (given : List W) → length sources ≡ length given
       → map ended_case all ≡ cases setup sources given → AreKnown all sources given
   are_known [] [] [] len is = record { places = tt; marks = refl; setups = refl; machine = tt; threads = tt }
-  are_known [] [] (y ∷ ys) len is = absurd (omega arith)
-  are_known [] (x ∷ xs) [] len is = absurd (omega arith)
-  are_known [] (x ∷ xs) (y ∷ ys) len is = absurd (cc)
-  are_known (one ∷ rest) [] given len is = absurd (cc)
-  are_known (one ∷ rest) (x ∷ xs) [] len is = absurd (cc)
   are_known (one ∷ rest) (x ∷ xs) (y ∷ ys) len is =
       let first : ended_case one ≡ case x y setup = cc in let others : map ended_case rest ≡ cases setup xs ys = cc in
       let known = are_known rest xs ys (omega arith) others in
@@ -118,6 +108,7 @@ module _ {R W : Type 0} {r : reads.Ghosts R} {o : outputs.Ghosts W} (setup : Set
           known.threads,
         );
       }
+  are_known all sources given len is = absurd (grind arith)
 
   module _ (all : List (EndedSource R W r o)) (sources : List R) (given : List W) (len : length sources ≡ length given)
       (is : map ended_case all ≡ cases setup sources given) where

@@ -18,7 +18,7 @@ use Rattle.striped_lanes.specs.Histories.{entries_over, rows_over}
 use Rattle.striped_lanes.specs.Machine.{Actor, start, turn}
 use Rattle.striped_lanes.specs.Places.{table_rows}
 use Rattle.striped_lanes.specs.Schedules.{run}
-use Rattle.striped_lanes.proofs.OneByOneLemmas.{all_entries, all_popped, all_rows, one_by_one}
+use Rattle.striped_lanes.proofs.OneByOneLemmas.{all_over, one_by_one}
 use Rattle.striped_lanes.proofs.PartLemmas.{part}
 use Rattle.register_run.specs.Stripes.{AnyTook, HasPassedOn, HavePassedOn, feeding_lane, stripe_setup}
 use Rattle.register_run.specs.Carried.{WereDealt, dealt}
@@ -62,13 +62,12 @@ of_machine : (given : List Numbered) (count ring : ℕ) (stripes : List Stripe) 
     × HaveHistories w schedule 0 stripes closed
 of_machine given count ring stripes closed some staffed numbered on deals w is many size =
     let room : nat_lt 0 w.ring ≡ true = lt-ltb 0 w.ring (omega (arith, some, size)) in
-    let schedule = one_by_one w 0 given in (
+    let schedule = one_by_one w 0 given in let over = all_over w room given [] 0 [] is refl refl in (
       schedule,
-      all_popped w room given [] 0 [] is refl refl ∙ ap (map w.row_of) (sym is),
+      (over 0).2 ∙ ap (map w.row_of) (sym is),
       have_histories w schedule given 0 stripes closed
-          (λ j. all_entries w room given [] 0 [] is refl refl j ∙ sym (dealt_part w j 0 given numbered))
-          (λ j. all_rows w room given [] 0 [] is refl refl j
-          ∙ ap (λ (l : List Numbered). map w.row_of l) (sym (dealt_part w j 0 given numbered)))
+          (λ j. (over j).0 ∙ sym (dealt_part w j 0 given numbered))
+          (λ j. (over j).1 ∙ ap (λ (l : List Numbered). map w.row_of l) (sym (dealt_part w j 0 given numbered)))
           on (deals w (many ∙ sym staffed ∙ sym (AllZip-long (HasPassedOn true) stripes closed on))),
     )
 
@@ -107,5 +106,4 @@ joined_of_machine text setup stripes closed n (Ok count) true complete same is s
       },
       took_dealt given true stripes closed deals on,
     ))
-joined_of_machine text setup stripes closed n (Ok count) false true same is staffed from sent on = cc
-joined_of_machine text setup stripes closed n (Ok count) false false same is staffed from sent on = cc
+joined_of_machine text setup stripes closed n (Ok count) false complete same is staffed from sent on = cc

@@ -44,12 +44,7 @@ rings_of setup (stripe ∷ stripes) (suc n) is =
 lowest_two : (c : Cause) → cause_number c ≤ 2 → (c ≡ cause.NoMemory) ⊎ (c ≡ cause.NoThread)
 lowest_two cause.NoMemory low = inl refl
 lowest_two cause.NoThread low = inr refl
-lowest_two cause.Unconfirmed low = absurd (omega (arith, low))
-lowest_two cause.SinkFault low = absurd (omega (arith, low))
-lowest_two cause.ReadFault low = absurd (omega (arith, low))
-lowest_two cause.BadHeader low = absurd (omega (arith, low))
-lowest_two cause.TooManyRecords low = absurd (omega (arith, low))
-lowest_two cause.NotSealed low = absurd (omega (arith, low))
+lowest_two c low = absurd (omega (arith, low))
 
 module _ (setup : Setup) (met : Met) (journal : List Note) (of_table : IfSome met.fault (λ f. is_of_table f ≡ true))
   where

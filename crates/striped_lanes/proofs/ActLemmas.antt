@@ -1,7 +1,8 @@
 -- Each act changes nothing, or takes one entry one place forward and keeps the invariant.
+use Rattle.std.proofs.Common.{rules}
 use Rattle.std.proofs.Common.{◌≡◌, ◌<◌, ◌+◌, ◌++◌, ℕ, suc, List, [], ◌∷◌, length, Option, Some, None}
 use Rattle.std.proofs.Common.{refl, sym, ap, ◌∙◌, inl, inr, arith, append_assoc}
-use Rattle.std.specs.Prelude.{map, option_to_list, nat_lt, ◌%◌, slice_get}
+use Rattle.std.specs.Prelude.{map, option_to_list, ◌%◌, slice_get}
 use Rattle.std.proofs.lemmas.Bool.{ltb-true, lt-ltb}
 use Rattle.std.proofs.lemmas.List.{append-nil, length-append, length-map, length_push, map-append}
 use Rattle.std.proofs.lemmas.Nat.{mod_below}
@@ -27,50 +28,54 @@ module _ {E R : Type 0} (w : World E R) (some_converters : 0 < w.converters) (s 
   push_steps : (i : ℕ) (x : E) → i ≡ turn w s.pushed → slice_get w.entries s.pushed ≡ Some x
       → length (s.stripes i).entry_lane < w.ring → Steps w s (after_push s i x)
   push_steps i x on_turn e room =
-      let c = w.converters in
-      let t = s.stripes i in
-      let u : Stripe E R = record t { entry_lane = t.entry_lane ++ x ∷ [] } in
-      let d = length v.done in
-      let all : w.entries ≡ (v.done ++ v.between) ++ v.left =
-      v.entries ∙ sym (append_assoc v.done v.between v.left) in
-      let at : s.pushed ≡ length (v.done ++ v.between) = v.pushed ∙ sym (length-append v.done v.between) in
-      let next : slice_get v.left 0 ≡ Some x =
-      sym (slice_get_rest (v.done ++ v.between) v.left) ∙ (rw (all, at) at e) in
-      let (more, left_is) = first_is v.left x next in
-      let k = v.stripes i in
-      let split : (j : ℕ) → part c j d (v.between ++ x ∷ []) ≡ part c j d v.between ++ part c j s.pushed (x ∷ []) =
-      λ j. rw v.pushed (part_append c j d v.between (x ∷ [])) in
-      let own : Holds w (part c i d (v.between ++ x ∷ [])) u =
-      record {
+      let c = w.converters in let t = s.stripes i in let u : Stripe E R = record t {
+        entry_lane = t.entry_lane ++ x ∷
+            [];
+      } in let d = length v.done in let all : w.entries ≡ (v.done ++ v.between) ++ v.left = v.entries ∙ sym
+      (append_assoc v.done v.between v.left) in let at : s.pushed ≡ length (v.done ++ v.between) = v.pushed ∙ sym
+      (length-append v.done v.between) in let next : slice_get v.left 0 ≡ Some x = sym (slice_get_rest (v.done ++
+      v.between) v.left) ∙ (rw (all, at) at e) in let (more, left_is) = first_is v.left x next in let k = v.stripes i
+      in let split : (j : ℕ) → part c j d (v.between ++ x ∷ []) ≡ part c j d v.between ++ part c j s.pushed (x ∷ []) =
+      λ j. rw v.pushed (part_append c j d v.between (x ∷ [])) in let own : Holds w (part c i d (v.between ++ x ∷ []))
+      u = record {
         converted = k.converted;
         rows = k.rows;
-        all =
-            sym (split i
-            ∙ rw (part_own c i s.pushed x [] (sym on_turn), ← k.all)
-            (append_assoc k.converted _ _
-            ∙ ap (λ (l : List E). k.converted ++ l) (append_assoc (option_to_list t.hand) t.entry_lane _)));
+        all = sym (split i ∙ rw (
+          part_own c i s.pushed x [] (sym
+              on_turn),
+          ← k.all,
+        ) (append_assoc k.converted _ _ ∙ ap (λ (l : List E). k.converted ++ l) (append_assoc
+            (option_to_list t.hand) t.entry_lane _)));
         room = omega (arith, room, length_push t.entry_lane x);
-        row_room = k.row_room;
-      } in
-      let others : (j : ℕ) → (j ≡ i → ⊥) → Holds w (part c j d (v.between ++ x ∷ [])) (s.stripes j) =
-      λ j n.
-      rw (split j, part_other c j s.pushed x [] (λ q. n (sym (on_turn ∙ q))), append-nil (part c j d v.between))
-      (v.stripes j) in
-      let grown = put_further w s.stripes i u (omega (arith, on_turn, mod_below s.pushed c some_converters)) in
-      record {
+        row_room =
+            k.row_room;
+      } in let others : (j : ℕ) → (j ≡ i → ⊥) → Holds w (part c j d (v.between ++ x ∷ [])) (s.stripes j) =
+      λ j n. rw (
+        split j,
+        part_other c j s.pushed x [] (λ q. n (sym (on_turn ∙ q))),
+        append-nil (part c j d
+            v.between),
+      ) (v.stripes j) in record {
         kept = record {
           done = v.done;
           between = v.between ++ x ∷ [];
           left = more;
-          entries =
-              v.entries
-              ∙ (ap (λ (l : List E). v.done ++ (v.between ++ l)) left_is
-              ∙ ap (λ (l : List E). v.done ++ l) (sym (append_assoc v.between (x ∷ []) more)));
+          entries = v.entries ∙ (ap (λ (l : List E). v.done ++ (v.between ++ l)) left_is ∙ ap (λ (l : List E). v.done ++
+              l) (sym (append_assoc v.between (x ∷ []) more)));
           pushed = omega (arith, v.pushed, length_push v.between x);
           popped = v.popped;
           stripes = put_holds w (λ j. part c j d (v.between ++ x ∷ [])) s.stripes i u own others;
         };
-        further = omega (arith, grown, length_push t.entry_lane x);
+        further = omega (
+          arith,
+          (put_further w s.stripes i u (omega (
+            arith,
+            on_turn,
+            mod_below s.pushed c
+                some_converters,
+          ))),
+          length_push t.entry_lane x,
+        );
       }
 
   -- a converter
@@ -107,13 +112,7 @@ module _ {E R : Type 0} (w : World E R) (some_converters : 0 < w.converters) (s 
       ap (λ (o : Option E). length (option_to_list o)) hand_is in
       stripe_steps i (record t { entry_lane = lane; hand = Some x })
       (omega (arith, ap length all, length-append k.converted (x ∷ lane)))
-      (record {
-        converted = k.converted;
-        rows = k.rows;
-        all = all;
-        room = omega (arith, k.room, lane_long);
-        row_room = k.row_room;
-      })
+      (search rules)
       (omega (arith, lane_long, none))
 
   push_row_steps : (i : ℕ) (x : E) → (s.stripes i).hand ≡ Some x → length (s.stripes i).row_lane < w.ring
@@ -142,58 +141,53 @@ module _ {E R : Type 0} (w : World E R) (some_converters : 0 < w.converters) (s 
   pop_row_steps : (i : ℕ) (row : R) (lane : List R) → i ≡ turn w (length s.popped)
       → (s.stripes i).row_lane ≡ row ∷ lane → Steps w s (after_pop s i row lane)
   pop_row_steps i row lane on_turn e =
-      let c = w.converters in
-      let t = s.stripes i in
-      let u : Stripe E R = record t { row_lane = lane } in
-      let d = length v.done in
-      let k = v.stripes i in
-      let (x, out, out_is, row_is, lane_is) = map_first w.row_of k.converted row lane (sym e ∙ k.rows) in
-      let popped_is : length s.popped ≡ d = ap length v.popped ∙ length-map v.done w.row_of in
-      let own_turn : d % c ≡ i = rw (← popped_is) (sym on_turn) in
-      let (more, between_is, rest_is) =
+      let c = w.converters in let t = s.stripes i in let u : Stripe E R = record t { row_lane = lane } in let d =
+      length v.done in let k = v.stripes i in let (x, out, out_is, row_is, lane_is) = map_first w.row_of k.converted
+      row lane (sym e ∙ k.rows) in let popped_is : length s.popped ≡ d = ap length v.popped ∙ length-map v.done
+      w.row_of in let own_turn : d % c ≡ i = rw (← popped_is) (sym on_turn) in let (more, between_is, rest_is) =
       part_head c i d v.between (out ++ (option_to_list t.hand ++ t.entry_lane)) x own_turn (rw out_is at k.all) in
-      let count : length (v.done ++ x ∷ []) ≡ d + 1 = length_push v.done x in
-      let long : length t.row_lane ≡ suc (length lane) = ap length e in
-      let own : Holds w (part c i (length (v.done ++ x ∷ [])) more) u =
-      record {
+      let count : length (v.done ++ x ∷ []) ≡ d + 1 = length_push v.done x in let long : length t.row_lane ≡ suc
+      (length lane) = ap length e in let own : Holds w (part c i (length (v.done ++ x ∷ [])) more) u = record {
         converted = out;
         rows = lane_is;
         all = rw count rest_is;
         room = k.room;
-        row_room = omega (arith, k.row_room, long);
-      } in
-      let others : (j : ℕ) → (j ≡ i → ⊥) → Holds w (part c j (length (v.done ++ x ∷ [])) more) (s.stripes j) =
-      λ j n.
-      let same : part c j d v.between ≡ part c j (d + 1) more =
-      ap (λ (l : List E). part c j d l) between_is ∙ part_other c j d x more (λ q. n (sym q ∙ own_turn)) in
-      rw count (rw same at (v.stripes j)) in
-      let fewer = put_further w s.stripes i u (rw (← own_turn) (mod_below d c some_converters)) in
+        row_room = omega (
+          arith,
+          k.row_room,
+          long,
+        );
+      } in let others : (j : ℕ) → (j ≡ i → ⊥) → Holds w (part c j (length (v.done ++ x ∷ [])) more) (s.stripes
+      j) = λ j n. let same : part c j d v.between ≡ part c j (d + 1) more = ap (λ (l : List E). part c j d l)
+      between_is ∙ part_other c j d x more (λ q. n (sym q ∙ own_turn)) in rw count (rw same at (v.stripes j)) in
       record {
         kept = record {
           done = v.done ++ x ∷ [];
           between = more;
           left = v.left;
-          entries =
-              v.entries
-              ∙ (ap (λ (l : List E). v.done ++ (l ++ v.left)) between_is
-              ∙ sym (append_assoc v.done (x ∷ []) (more ++ v.left)));
-          pushed = omega (arith, v.pushed, count, ap length between_is);
-          popped =
-              ap (λ (l : List R). l ++ row ∷ []) v.popped
-              ∙ (ap (λ (y : R). map w.row_of v.done ++ y ∷ []) row_is
-              ∙ sym (map-append w.row_of v.done (x ∷ [])));
-          stripes = put_holds w (λ j. part c j (length (v.done ++ x ∷ [])) more) s.stripes i u own others;
+          entries = v.entries ∙ (ap (λ (l
+              : List E). v.done ++ (l ++ v.left)) between_is ∙ sym (append_assoc v.done (x ∷ []) (more ++ v.left)));
+          pushed =
+              omega (arith, v.pushed, count, ap length between_is);
+          popped = ap (λ (l : List R). l ++ row ∷ []) v.popped ∙ (ap
+              (λ (y : R). map w.row_of v.done ++ y ∷ []) row_is ∙ sym (map-append w.row_of v.done (x ∷ [])));
+          stripes =
+              put_holds w (λ j. part c j (length (v.done ++ x ∷ [])) more) s.stripes i u own others;
         };
-        further = omega (arith, fewer, long, length_push s.popped row);
+        further = omega (
+          arith,
+          (put_further w s.stripes i u (rw (← own_turn) (mod_below d c some_converters))),
+          long,
+          length_push
+              s.popped row,
+        );
       }
 
   -- any actor
   reader_stays_or_steps : (o : Option E) → slice_get w.entries s.pushed ≡ o
       → StaysOrSteps w s (push_entry w s (turn w s.pushed) o)
   reader_stays_or_steps None e = inl refl
-  reader_stays_or_steps (Some x) e =
-      if_room w s _ (nat_lt (length (s.stripes (turn w s.pushed)).entry_lane) w.ring)
-      (λ b. push_steps (turn w s.pushed) x refl e (ltb-true _ _ b))
+  reader_stays_or_steps (Some x) e = search (rules, if_room, push_steps, ltb-true)
 
   pop_stays_or_steps : (i : ℕ) (lane : List E) → (s.stripes i).entry_lane ≡ lane → (s.stripes i).hand ≡ None
       → StaysOrSteps w s (pop_entry s i lane)
@@ -203,8 +197,7 @@ module _ {E R : Type 0} (w : World E R) (some_converters : 0 < w.converters) (s 
   converter_stays_or_steps : (i : ℕ) (hand : Option E) → (s.stripes i).hand ≡ hand
       → StaysOrSteps w s (convert w s i hand)
   converter_stays_or_steps i None e = pop_stays_or_steps i (s.stripes i).entry_lane refl e
-  converter_stays_or_steps i (Some x) e =
-      if_room w s _ (nat_lt (length (s.stripes i).row_lane) w.ring) (λ b. push_row_steps i x e (ltb-true _ _ b))
+  converter_stays_or_steps i (Some x) e = search (rules, if_room, push_row_steps, ltb-true)
 
   writer_stays_or_steps : (i : ℕ) (rows : List R) → i ≡ turn w (length s.popped) → (s.stripes i).row_lane ≡ rows
       → StaysOrSteps w s (pop_row s i rows)
@@ -214,8 +207,7 @@ module _ {E R : Type 0} (w : World E R) (some_converters : 0 < w.converters) (s 
   pub act_stays_or_steps : (a : Actor) → StaysOrSteps w s (act w a s)
   act_stays_or_steps Reader = reader_stays_or_steps (slice_get w.entries s.pushed) refl
   act_stays_or_steps (Converter i) = converter_stays_or_steps i (s.stripes i).hand refl
-  act_stays_or_steps Writer =
-      writer_stays_or_steps (turn w (length s.popped)) (s.stripes (turn w (length s.popped))).row_lane refl refl
+  act_stays_or_steps Writer = search (rules, writer_stays_or_steps)
 
   -- each act takes a step where it can
   pub reader_steps : (x : E) → slice_get w.entries s.pushed ≡ Some x
@@ -226,8 +218,7 @@ module _ {E R : Type 0} (w : World E R) (some_converters : 0 < w.converters) (s 
 
   pub popping_converter_steps : (i : ℕ) (x : E) (lane : List E) → (s.stripes i).entry_lane ≡ x ∷ lane
       → (s.stripes i).hand ≡ None → Steps w s (act w (Converter i) s)
-  popping_converter_steps i x lane lane_is hand_is =
-      rw (hand_is, lane_is) (pop_entry_steps i x lane lane_is hand_is)
+  popping_converter_steps i x lane lane_is hand_is = grind (arith, pop_entry_steps i x lane lane_is hand_is)
 
   pub pushing_converter_steps : (i : ℕ) (x : E) → (s.stripes i).hand ≡ Some x
       → length (s.stripes i).row_lane < w.ring → Steps w s (act w (Converter i) s)

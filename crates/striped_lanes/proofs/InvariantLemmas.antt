@@ -1,6 +1,7 @@
 -- What every act keeps, and how far the entries have come.
+use Rattle.std.proofs.Common.{rules}
 use Rattle.std.proofs.Common.{◌≡◌, ◌<◌, ◌≤◌, ◌+◌, ◌*◌, ◌++◌, ℕ, List, [], ◌∷◌, length, Some}
-use Rattle.std.proofs.Common.{Bool, true, false, inl, inr, refl, sym, ap, subst, arith}
+use Rattle.std.proofs.Common.{Bool, true, false, inl, inr, refl, ap, arith}
 use Rattle.std.specs.Prelude.{◌⊎◌, ◌≢◌, map, option_to_list, if◌then◌else◌, slice_get}
 use Rattle.std.proofs.lemmas.Bool.{cases_eq, eq-eqb, ne_eqb}
 use Rattle.striped_lanes.specs.Machine.{World, Stripe, State, put}
@@ -55,11 +56,7 @@ pub put_holds : {E R : Type 0} (w : World E R) (entries : ℕ → List E) (old :
     (t : Stripe E R)
     → Holds w (entries i) t → ((j : ℕ) → (j ≡ i → ⊥) → Holds w (entries j) (old j))
     → (j : ℕ) → Holds w (entries j) (put old i t j)
-put_holds w entries old i t own others j =
-    elim (cases_eq j i) [
-      | inl e ↦ rw (eq-eqb j i e) (subst (λ (k : ℕ). Holds w (entries k) t) (sym e) own)
-      | inr n ↦ rw (ne_eqb j i n) (others j n)
-    ]
+put_holds w entries old i t own others j = search (rules, cases_eq, eq-eqb, ne_eqb)
 
 pub put_further : {E R : Type 0} (w : World E R) (old : ℕ → Stripe E R) (i : ℕ) (t : Stripe E R) → i < w.converters
     → total w.converters (λ j. weight (put old i t j)) + weight (old i)

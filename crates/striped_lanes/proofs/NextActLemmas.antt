@@ -99,10 +99,7 @@ module _ {E R : Type 0} (numbers : Numbers E R) (w : World E R) (some_converters
       go_on (Converter i) move (popping_converter_steps w some_converters s v i y lane lane_is hand_is)
 
   next_is : slice_get w.entries (length s.popped) ≡ slice_get (v.between ++ v.left) 0
-  next_is =
-      ap (λ (l : List E). slice_get l (length s.popped)) v.entries
-      ∙ (ap (slice_get (v.done ++ (v.between ++ v.left))) (popped_count w some_converters s v)
-      ∙ slice_get_rest v.done (v.between ++ v.left))
+  next_is = grind (arith, v.entries, popped_count w some_converters s v, slice_get_rest v.done (v.between ++ v.left))
 
   by_between : (between : List E) → v.between ≡ between → GoesOn numbers w s
   by_between [] e more_rows =

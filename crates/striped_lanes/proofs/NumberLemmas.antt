@@ -1,5 +1,6 @@
 -- How often a number stands among entries that are numbered in order, and among the parts that they are dealt into.
-use Rattle.std.proofs.Common.{◌≡◌, ◌<◌, ◌≤◌, ◌+◌, ◌-◌, ◌++◌, ℕ, suc, List, [], ◌∷◌, length}
+use Rattle.std.proofs.Common.{rules}
+use Rattle.std.proofs.Common.{◌≡◌, ◌<◌, ◌≤◌, ◌+◌, ◌-◌, ◌++◌, ℕ, List, [], ◌∷◌, length}
 use Rattle.std.proofs.Common.{inl, inr, refl, sym, ap, ◌∙◌, arith}
 use Rattle.std.specs.Prelude.{◌%◌, ◌==◌, cond, count_by, map}
 use Rattle.std.proofs.lemmas.Bool.{cases_eq, eq-eqb, ne_eqb}
@@ -45,26 +46,25 @@ module _ {E R : Type 0} (numbers : Numbers E R) where
   pub numbered_rest : (k : ℕ) (xs ys : List E) → HaveNumbersFrom numbers k (xs ++ ys)
       → HaveNumbersFrom numbers (k + length xs) ys
   numbered_rest k [] ys h = let e : k + 0 ≡ k = omega arith in rw e h
-  numbered_rest k (x ∷ xs) ys h =
-      let e : k + suc (length xs) ≡ k + 1 + length xs = omega arith in
-      rw e (numbered_rest (k + 1) xs ys h.1)
+  numbered_rest k (x ∷ xs) ys h = grind (arith, numbered_rest (k + 1) xs ys h.1)
 
   -- a number below the first stands nowhere, and each number from the first to the last stands once
   times_below : (k first : ℕ) (xs : List E) → HaveNumbersFrom numbers first xs → k < first → times k xs ≡ 0
   times_below k first [] h l = refl
-  times_below k first (x ∷ xs) h l =
-      times_cons_other k x xs (λ e. omega (arith, e, h.0)) ∙ times_below k (first + 1) xs h.1 (omega arith)
+  times_below k first (x ∷ xs) h l = grind (arith, times_below k (first + 1) xs h.1 (omega arith))
 
   pub times_once : (k first : ℕ) (xs : List E) → HaveNumbersFrom numbers first xs → first ≤ k → k < first + length xs
       → times k xs ≡ 1
   times_once k first [] h low high = absurd (omega arith)
   times_once k first (x ∷ xs) h low high =
       elim (cases_eq first k) [
-        | inl e ↦
-            omega (arith, times_cons_own k x xs (h.0 ∙ e), times_below k (first + 1) xs h.1 (omega (arith, e)))
-        | inr n ↦
-            let other : numbers.of_entry x ≡ k → ⊥ = λ e. n (sym h.0 ∙ e) in
-            let more : first < k = grind (arith, n) in
+        | inl e ↦ omega (
+          arith,
+          times_cons_own k x xs (h.0 ∙ e),
+          times_below k (first + 1) xs
+              h.1 (omega (arith, e)),
+        )
+        | inr n ↦ let other : numbers.of_entry x ≡ k → ⊥ = λ e. n (sym h.0 ∙ e) in
             times_cons_other k x xs other ∙ times_once k (first + 1) xs h.1 (omega arith) (omega arith)
       ]
 
@@ -72,32 +72,23 @@ module _ {E R : Type 0} (numbers : Numbers E R) where
   pub times_own_part : (c i k d : ℕ) (xs : List E) → HaveNumbersFrom numbers (d + 1) xs → 1 ≤ k → (k - 1) % c ≡ i
       → times k (part c i d xs) ≡ times k xs
   times_own_part c i k d [] h some own = refl
-  times_own_part c i k d (x ∷ xs) h some own =
-      let rest = times_own_part c i k (d + 1) xs h.1 some own in
-      elim (cases_eq (d % c) i) [
-        | inl here ↦
-            ap (times k) (part_own c i d x xs here)
-            ∙ (times_cons k x (part c i (d + 1) xs)
-            ∙ (ap (λ (n : ℕ). cond (numbers.of_entry x == k) 1 0 + n) rest ∙ sym (times_cons k x xs)))
-        | inr there ↦
-            let other : numbers.of_entry x ≡ k → ⊥ =
-            λ e. there (ap (λ (n : ℕ). n % c) (omega (arith, e, h.0)) ∙ own) in
-            ap (times k) (part_other c i d x xs there) ∙ (rest ∙ sym (times_cons_other k x xs other))
-      ]
+  times_own_part c i k d (x ∷ xs) h some own = search (
+    rules,
+    cases_eq,
+    times,
+    part_own,
+    times_cons,
+    part,
+    part_other,
+    times_cons_other,
+    times_own_part c i k (d + 1) xs h.1 some own,
+  )
 
   -- and in no other part
   pub times_other_part : (c i k d : ℕ) (xs : List E) → HaveNumbersFrom numbers (d + 1) xs → 1 ≤ k
       → ((k - 1) % c ≡ i → ⊥) → times k (part c i d xs) ≡ 0
   times_other_part c i k d [] h some n = refl
-  times_other_part c i k d (x ∷ xs) h some n =
-      let rest = times_other_part c i k (d + 1) xs h.1 some n in
-      elim (cases_eq (d % c) i) [
-        | inl here ↦
-            let other : numbers.of_entry x ≡ k → ⊥ =
-            λ e. n (ap (λ (m : ℕ). m % c) (omega (arith, e, h.0)) ∙ here) in
-            ap (times k) (part_own c i d x xs here) ∙ (times_cons_other k x (part c i (d + 1) xs) other ∙ rest)
-        | inr there ↦ ap (times k) (part_other c i d x xs there) ∙ rest
-      ]
+  times_other_part c i k d (x ∷ xs) h some n = grind (arith, times_other_part c i k (d + 1) xs h.1 some n)
 
   pub keep_front : (w : World E R) (xs ys : List E) → KeepNumbers numbers w (xs ++ ys) → KeepNumbers numbers w xs
   keep_front w [] ys h = tt

@@ -1,7 +1,8 @@
 -- Each entry that is pushed stands in one place.
-use Rattle.std.proofs.Common.{◌≡◌, ◌≢◌, ◌<◌, ◌≤◌, ◌+◌, ◌++◌, ℕ, zero, suc, List, length, inl, inr}
+use Rattle.std.proofs.Common.{rules}
+use Rattle.std.proofs.Common.{◌≡◌, ◌≢◌, ◌<◌, ◌≤◌, ◌+◌, ◌++◌, ℕ, zero, suc, length, inl, inr}
 use Rattle.std.proofs.Common.{refl, sym, ap, ◌∙◌, arith, append_assoc, length-append}
-use Rattle.std.specs.Prelude.{◌⊎◌, map, option_to_list}
+use Rattle.std.specs.Prelude.{◌⊎◌, option_to_list}
 use Rattle.std.proofs.lemmas.Bool.{cases_eq}
 use Rattle.striped_lanes.specs.Machine.{World, State}
 use Rattle.striped_lanes.specs.Places.{Place, EntryLane, InConverter, RowLane, Popped, EachStandsOnce, Numbers}
@@ -26,43 +27,26 @@ module _ {E R : Type 0} (numbers : Numbers E R) (s : State E R) (k i : ℕ) (h :
   none_of_kind : (kind : ℕ → Place) (at : Place) → (kind i ≢ at → times_at numbers s k (kind i) ≡ 0)
       → ((j : ℕ) → (j ≡ i → ⊥) → times_at numbers s k (kind j) ≡ 0) → (j : ℕ) → kind j ≢ at
       → times_at numbers s k (kind j) ≡ 0
-  none_of_kind kind at here there j n = elim (cases_eq j i) [
-    | inl e ↦ ap (λ (m : ℕ). times_at numbers s k (kind m)) e ∙ here (λ same. n (ap kind e ∙ same))
-    | inr m ↦ there j m
-  ]
+  none_of_kind kind at here there j n = search (rules, cases_eq)
 
   -- it stands at this place, and at no other one of stripe i, nor among those popped
   only_at : (at : Place) → times_at numbers s k at ≡ 1 → (EntryLane i ≢ at → times_at numbers s k (EntryLane i) ≡ 0)
       → (InConverter i ≢ at → times_at numbers s k (InConverter i) ≡ 0)
       → (RowLane i ≢ at → times_at numbers s k (RowLane i) ≡ 0) → (Popped ≢ at → times_at numbers s k Popped ≡ 0)
       → StandsOnlyAt numbers s k at
-  only_at at once entry_lane converter row_lane popped = record { once = once; nowhere_else = elsewhere }
-    where
-      elsewhere : (other : Place) → other ≢ at → times_at numbers s k other ≡ 0
-      elsewhere (EntryLane j) n = none_of_kind EntryLane at entry_lane (λ j m. omega (arith, h.others j m)) j n
-      elsewhere (InConverter j) n = none_of_kind InConverter at converter (λ j m. omega (arith, h.others j m)) j n
-      elsewhere (RowLane j) n = none_of_kind RowLane at row_lane (λ j m. omega (arith, h.others j m)) j n
-      elsewhere Popped n = popped n
+  only_at at once entry_lane converter row_lane popped = search (rules, none_of_kind)
 
   pub only_in_entry_lane : 0 < times_at numbers s k (EntryLane i) → StandsOnlyAt numbers s k (EntryLane i)
-  only_in_entry_lane some =
-      only_at (EntryLane i) (omega (arith, h.own)) (λ n. absurd (n refl)) (λ n. omega (arith, h.own))
-      (λ n. omega (arith, h.own)) (λ n. omega (arith, h.own))
+  only_in_entry_lane some = search (rules, only_at)
 
   pub only_in_converter : 0 < times_at numbers s k (InConverter i) → StandsOnlyAt numbers s k (InConverter i)
-  only_in_converter some =
-      only_at (InConverter i) (omega (arith, h.own)) (λ n. omega (arith, h.own)) (λ n. absurd (n refl))
-      (λ n. omega (arith, h.own)) (λ n. omega (arith, h.own))
+  only_in_converter some = search (rules, only_at)
 
   pub only_in_row_lane : 0 < times_at numbers s k (RowLane i) → StandsOnlyAt numbers s k (RowLane i)
-  only_in_row_lane some =
-      only_at (RowLane i) (omega (arith, h.own)) (λ n. omega (arith, h.own)) (λ n. omega (arith, h.own))
-      (λ n. absurd (n refl)) (λ n. omega (arith, h.own))
+  only_in_row_lane some = search (rules, only_at)
 
   only_popped : 0 < times_at numbers s k Popped → StandsOnlyAt numbers s k Popped
-  only_popped some =
-      only_at Popped (omega (arith, h.own)) (λ n. omega (arith, h.own)) (λ n. omega (arith, h.own))
-      (λ n. omega (arith, h.own)) (λ n. absurd (n refl))
+  only_popped some = search (rules, only_at)
 
 one_of_four : (a b c d : ℕ) → a + b + c + d ≡ 1 → (0 < a) ⊎ ((0 < b) ⊎ ((0 < c) ⊎ (0 < d)))
 one_of_four (suc a) b c d h = inl (omega arith)
@@ -78,56 +62,47 @@ module _ {E R : Type 0} (numbers : Numbers E R) (w : World E R) (s : State E R) 
   -- the numbers of the rows are those of their entries
   popped_times : (k : ℕ) → times_at numbers s k Popped ≡ times numbers k v.done
   popped_times k =
-      ap (λ (rows : List R). times_in k (map numbers.of_row rows)) v.popped
-      ∙ ap (times_in k)
-      (row_numbers numbers w v.done (keep_front numbers w v.done (v.between ++ v.left) all_same_numbers))
+      cc (v.popped, row_numbers numbers w v.done (keep_front numbers w v.done (v.between ++ v.left) all_same_numbers))
 
   pub row_lane_times : (k i : ℕ) → times_at numbers s k (RowLane i) ≡ times numbers k (v.stripes i).converted
-  row_lane_times k i =
-      let h = v.stripes i in
-      let behind = option_to_list (s.stripes i).hand ++ (s.stripes i).entry_lane in
-      let between_same : KeepNumbers numbers w v.between =
-      keep_front numbers w v.between v.left (keep_rest numbers w v.done (v.between ++ v.left) all_same_numbers) in
-      let part_same : KeepNumbers numbers w (h.converted ++ behind) =
-      rw h.all (keep_part numbers w w.converters i (length v.done) v.between between_same) in
-      ap (λ (rows : List R). times_in k (map numbers.of_row rows)) h.rows
-      ∙ ap (times_in k) (row_numbers numbers w h.converted (keep_front numbers w h.converted behind part_same))
+  row_lane_times k i = search (rules, keep_front, keep_rest, all_same_numbers, keep_part, times_in, row_numbers)
 
   -- what stands in a stripe is the stripe's part of what is between the ends
   stripe_times : (k i : ℕ)
       → times_at numbers s k (EntryLane i) + times_at numbers s k (InConverter i) + times_at numbers s k (RowLane i)
       ≡ times numbers k (part w.converters i (length v.done) v.between)
   stripe_times k i =
-      let h = v.stripes i in
-      let hand = option_to_list (s.stripes i).hand in
-      let lane = (s.stripes i).entry_lane in
-      let rows = row_lane_times k i in
-      let all : times numbers k (h.converted ++ (hand ++ lane))
-      ≡ times numbers k (part w.converters i (length v.done) v.between) =
-      ap (times numbers k) h.all in
-      omega (arith, rows, all, times_append numbers k h.converted (hand ++ lane), times_append numbers k hand lane)
+      let h = v.stripes i in let hand = option_to_list (s.stripes i).hand in let lane = (s.stripes i).entry_lane in
+      let all : times numbers k (h.converted ++ (hand ++ lane)) ≡ times numbers k (part w.converters i (length v.done)
+      v.between) = ap (times numbers k) h.all in omega (
+        arith,
+        (row_lane_times k i),
+        all,
+        times_append numbers k
+            h.converted (hand ++ lane),
+        times_append numbers k hand lane,
+      )
 
   pub stands_in : (k : ℕ) → 1 ≤ k → k ≤ s.pushed → StandsIn numbers s k (stripe_of w k)
   stands_in k some pushed =
-      let i = stripe_of w k in
-      let pushed_entries = v.done ++ v.between in
-      let from_one : HaveNumbersFrom numbers 1 (v.done ++ (v.between ++ v.left)) = rw v.entries at numbered in
-      let here : HaveNumbersFrom numbers (length v.done + 1) (v.between ++ v.left) =
-      let e : length v.done + 1 ≡ 1 + length v.done = omega arith in
-      rw e (numbered_rest numbers 1 v.done (v.between ++ v.left) from_one) in
-      let between_numbered = numbered_front numbers (length v.done + 1) v.between v.left here in
-      let front_numbered : HaveNumbersFrom numbers 1 pushed_entries =
-      numbered_front numbers 1 pushed_entries v.left (rw append_assoc from_one) in
-      let in_front : k < 1 + length pushed_entries =
-      omega (arith, pushed, v.pushed, length-append v.done v.between) in
-      let one = times_once numbers k 1 pushed_entries front_numbered some in_front in
-      let own = times_own_part numbers w.converters i k (length v.done) v.between between_numbered some refl in
-      record {
-        own = omega (arith, popped_times k, stripe_times k i, own, one, times_append numbers k v.done v.between);
-        others = λ j n.
-            stripe_times k j
-            ∙ times_other_part numbers w.converters j k (length v.done) v.between between_numbered some
-            (λ e. n (sym e));
+      let i = stripe_of w k in let pushed_entries = v.done ++ v.between in let from_one : HaveNumbersFrom numbers 1
+      (v.done ++ (v.between ++ v.left)) = rw v.entries at numbered in let here : HaveNumbersFrom numbers (length
+      v.done + 1) (v.between ++ v.left) = let e : length v.done + 1 ≡ 1 + length v.done = omega arith in rw e
+      (numbered_rest numbers 1 v.done (v.between ++ v.left) from_one) in let between_numbered = numbered_front numbers
+      (length v.done + 1) v.between v.left here in let front_numbered : HaveNumbersFrom numbers 1 pushed_entries =
+      numbered_front numbers 1 pushed_entries v.left (rw append_assoc from_one) in let in_front : k < 1 + length
+      pushed_entries = omega (arith, pushed, v.pushed, length-append v.done v.between) in let own = times_own_part
+      numbers w.converters i k (length v.done) v.between between_numbered some refl in record {
+        own = omega (
+          arith,
+          popped_times k,
+          stripe_times k i,
+          own,
+          (times_once numbers k 1 pushed_entries front_numbered some in_front),
+          times_append numbers k v.done v.between,
+        );
+        others = λ j n. stripe_times k j ∙ times_other_part numbers
+            w.converters j k (length v.done) v.between between_numbered some (λ e. n (sym e));
       }
 
   pub each_stands_once : EachStandsOnce numbers w s

@@ -1,4 +1,5 @@
 -- The law, from what every act keeps.
+use Rattle.std.proofs.Common.{rules}
 use Rattle.std.proofs.Common.{◌≡◌, ◌<◌, ◌≤◌, ◌+◌, ◌*◌, ℕ, List, [], ◌∷◌, length, inl, inr}
 use Rattle.std.proofs.Common.{refl, sym, subst, ap, arith}
 use Rattle.striped_lanes.specs.Machine.{World, State, Actor, act, start}
@@ -55,9 +56,7 @@ kept_at_start w =
     }
 
 no_progress : {E R : Type 0} (w : World E R) → progress w start ≡ 0
-no_progress {E} {R} w =
-    let s : State E R = start in
-    omega (arith, total_zero w.converters (λ i. weight (s.stripes i)) (λ i. omega arith))
+no_progress {E} {R} w = search (rules, total_zero, weight)
 
 module _ {E R : Type 0} (numbers : Numbers E R) (w : World E R) (some_converters : 0 < w.converters)
     (some_room : 0 < w.ring) (numbered : HaveNumbersFrom numbers 1 w.entries)
@@ -72,13 +71,10 @@ module _ {E R : Type 0} (numbers : Numbers E R) (w : World E R) (some_converters
   one_place = each_stands_once numbers w (run w schedule start) reached.kept numbered same_numbers
 
   pub few_changes : AtMostChange w schedule (4 * length w.entries)
-  few_changes =
-      let most = progress_bound w some_converters (run w schedule start) reached.kept in
-      (reached.count, reached.changes, omega (arith, reached.further, no_progress w, most))
+  few_changes = search (rules, progress_bound, reached, no_progress)
 
   pub few_stand : standing w (run w schedule start) ≤ w.converters * (2 * w.ring + 1)
   few_stand = few_standing w some_converters (run w schedule start) reached.kept
 
   pub next_goes_on : GoesOn numbers w (run w schedule start)
-  next_goes_on =
-      goes_on numbers w some_converters some_room (run w schedule start) reached.kept numbered same_numbers
+  next_goes_on = search (rules, goes_on, reached)

@@ -1,7 +1,8 @@
 -- What the invariant says of the rows that are popped, and of how many entries stand between the ends.
-use Rattle.std.proofs.Common.{◌≡◌, ◌<◌, ◌≤◌, ◌+◌, ◌*◌, ◌++◌, ℕ, length, take, Option, Some, None}
-use Rattle.std.proofs.Common.{sym, ap, ◌∙◌, arith, length-append}
-use Rattle.std.specs.Prelude.{map, option_to_list}
+use Rattle.std.proofs.Common.{rules}
+use Rattle.std.proofs.Common.{◌≡◌, ◌<◌, ◌≤◌, ◌+◌, ◌*◌, ◌++◌, ℕ, length, Option, Some, None}
+use Rattle.std.proofs.Common.{ap, ◌∙◌, arith, length-append}
+use Rattle.std.specs.Prelude.{option_to_list}
 use Rattle.std.proofs.lemmas.List.{length-map, map-append, take_at}
 use Rattle.striped_lanes.specs.Machine.{World, State}
 use Rattle.striped_lanes.specs.Schedules.{standing, standing_in}
@@ -15,28 +16,15 @@ module _ {E R : Type 0} (w : World E R) (some_converters : 0 < w.converters) (s 
   popped_count = ap length v.popped ∙ length-map v.done w.row_of
 
   pub all_count : length w.entries ≡ length v.done + (length v.between + length v.left)
-  all_count =
-      ap length v.entries
-      ∙ (length-append v.done (v.between ++ v.left)
-      ∙ ap (λ (n : ℕ). length v.done + n) (length-append v.between v.left))
+  all_count = grind (arith, v.entries, length-append v.done (v.between ++ v.left), length-append v.between v.left)
 
   -- the rows that are popped
   pub popped_in_order : ArePoppedInOrder w s
-  popped_in_order =
-      let rows : map w.row_of w.entries ≡ map w.row_of v.done ++ map w.row_of (v.between ++ v.left) =
-      ap (map w.row_of) v.entries ∙ map-append w.row_of v.done (v.between ++ v.left) in
-      let count : length (map w.row_of v.done) ≡ length s.popped = sym (ap length v.popped) in
-      v.popped ∙ sym (ap (take (length s.popped)) rows ∙ take_at (map w.row_of v.done) _ (length s.popped) count)
+  popped_in_order = search (rules, map-append, take_at)
 
   -- how many entries stand between the ends
   pub stripe_count : (i : ℕ) → standing_in (s.stripes i) ≡ length (part w.converters i (length v.done) v.between)
-  stripe_count i =
-      let k = v.stripes i in
-      let t = s.stripes i in
-      let rows : length t.row_lane ≡ length k.converted = ap length k.rows ∙ length-map k.converted w.row_of in
-      let hand = option_to_list t.hand in
-      let behind = length-append hand t.entry_lane in
-      omega (arith, rows, ap length k.all, length-append k.converted (hand ++ t.entry_lane), behind)
+  stripe_count i = search (rules, length-map, length-append)
 
   all_standing : standing w s ≡ length v.between
   all_standing =
@@ -50,14 +38,17 @@ module _ {E R : Type 0} (w : World E R) (some_converters : 0 < w.converters) (s 
   hand_bound (Some x) = omega arith
 
   pub few_standing : standing w s ≤ w.converters * (2 * w.ring + 1)
-  few_standing =
-      total_bound w.converters (2 * w.ring + 1) (λ i. standing_in (s.stripes i)) (λ i.
-      omega (arith, (v.stripes i).room, (v.stripes i).row_room, hand_bound (s.stripes i).hand))
+  few_standing = search (rules, total_bound, hand_bound)
 
   -- how far the entries can come
   pub progress_bound : progress w s ≤ 4 * length w.entries
   progress_bound =
-      let most =
-      total_le w.converters (λ i. weight (s.stripes i)) (λ i. 3 * standing_in (s.stripes i)) (λ i. omega arith) in
-      let thrice = total_times w.converters 3 (λ i. standing_in (s.stripes i)) in
-      omega (arith, most, thrice, all_standing, popped_count, all_count)
+      let thrice = total_times w.converters 3 (λ i. standing_in (s.stripes i)) in omega (
+        arith,
+        (total_le w.converters
+            (λ i. weight (s.stripes i)) (λ i. 3 * standing_in (s.stripes i)) (λ i. omega arith)),
+        thrice,
+        all_standing,
+        popped_count,
+        all_count,
+      )

@@ -1,5 +1,5 @@
 -- Arguments mean one thing at most.
-use Rattle.std.proofs.Common.{◌≡◌, ◌∙◌, ℕ, List, [], ◌∷◌, length, sym, ap, refl, subst, arith, rules}
+use Rattle.std.proofs.Common.{◌≡◌, ◌∙◌, ℕ, List, [], ◌∷◌, sym, ap, refl, subst, arith, rules}
 use Rattle.std.proofs.Common.{inl, inr, Option, Some, None}
 use Rattle.std.specs.Prelude.{◌≢◌, ⊤, IfSome}
 use Rattle.clap.specs.Values.{kind_of}
@@ -11,11 +11,9 @@ use Rattle.date_texts.specs.Laws.{OneTarget}
 use Rattle.date_texts.specs.declared.target.Target.{Target}
 use Rattle.register_arguments.specs.CommandLine.{AreTaken, Values, command_line, values_in}
 use Rattle.register_arguments.specs.Faults.{Fault, usage}
-use Rattle.register_arguments.specs.OptionValues.{IsDelimiterWord, IsNumberWord, IsValueOf, ValueOption, delimiter_option}
-use Rattle.register_arguments.specs.OptionValues.{ring_option, stripes_option}
-use Rattle.register_records.specs.SetupRules.{largest_ring, most_stripes}
+use Rattle.register_arguments.specs.OptionValues.{IsDelimiterWord, IsNumberWord, IsValueOf, ValueOption}
 use Rattle.register_arguments.specs.Requests.{AreTargetsOf, Ask, Check, FailFirst, IsFaultOf}
-use Rattle.register_arguments.specs.Requests.{IsTargetFault, Mean, MeanJust, Meaning, Task, file_check, option_check}
+use Rattle.register_arguments.specs.Requests.{Mean, MeanJust, Meaning, Task, file_check, option_check}
 use Rattle.register_arguments.specs.Requests.{target_check, usage_check, value_checks, help, version, table}
 use Rattle.register_arguments.specs.Requests.{wrong}
 use Rattle.register_arguments.proofs.FileLemmas.{fit_no_fault, one_file_fault}
@@ -24,21 +22,7 @@ use Rattle.register_arguments.proofs.ListLemmas.{asks_no_fault, asks_one, one_fa
 
 -- a word names one delimiter at most
 one_byte : (word : Text) (byte other : ℕ) → IsDelimiterWord word byte → IsDelimiterWord word other → byte ≡ other
-one_byte word byte other (inl comma) (inl same) = comma.1 ∙ sym same.1
-one_byte word byte other (inl comma) (inr (inl semicolon)) = let e = ap length (sym comma.0 ∙ semicolon.0) in
-    absurd (omega (arith, e))
-one_byte word byte other (inl comma) (inr (inr tab)) = let e = ap length (sym comma.0 ∙ tab.0) in
-    absurd (omega (arith, e))
-one_byte word byte other (inr (inl semicolon)) (inl comma) = let e = ap length (sym comma.0 ∙ semicolon.0) in
-    absurd (omega (arith, e))
-one_byte word byte other (inr (inl semicolon)) (inr (inl same)) = semicolon.1 ∙ sym same.1
-one_byte word byte other (inr (inl semicolon)) (inr (inr tab)) = let e = ap length (sym semicolon.0 ∙ tab.0) in
-    absurd (omega (arith, e))
-one_byte word byte other (inr (inr tab)) (inl comma) = let e = ap length (sym comma.0 ∙ tab.0) in
-    absurd (omega (arith, e))
-one_byte word byte other (inr (inr tab)) (inr (inl semicolon)) = let e = ap length (sym semicolon.0 ∙ tab.0) in
-    absurd (omega (arith, e))
-one_byte word byte other (inr (inr tab)) (inr (inr same)) = tab.1 ∙ sym same.1
+one_byte word byte other is same = grind arith
 
 -- and one number
 one_number : (most : ℕ) (word : Text) (n other : ℕ) → IsNumberWord most word n → IsNumberWord most word other
@@ -82,19 +66,10 @@ no_fault (check ∷ later) sound pass fault (inl x) = sound.0.none fault pass.0 
 no_fault (check ∷ later) sound pass fault (inr x) = no_fault later sound.1 pass.1 fault x.1
 
 sound_option : (option : ValueOption) (value : Option Text) → IsSound (option_check option value)
-sound_option option value = record {
-  one = λ fault other is same. is.1 ∙ ap option.fault (same_word is.0 same.0 is.2 same.2) ∙ sym same.1;
-  none = λ fault asked is. is.3 asked.0 (subst (λ (v : Option Text). IsValueOf option v asked.0) is.2 asked.1);
-}
-  where
-    same_word : (word other : Text) → value ≡ Some word → value ≡ Some other → word ≡ other
-    same_word word other e f = cc
+sound_option option value = search rules
 
 sound_files : (files : List Text) → IsSound (file_check files)
-sound_files files = record {
-  one = one_file_fault files;
-  none = λ fault fit is. fit_no_fault files fault fit is;
-}
+sound_files files = search (rules, one_file_fault, fit_no_fault)
 
 module _ (one : OneTarget) where
   one_list : (value : Option Text) (targets others : List Target) → AreTargetsOf value targets
@@ -102,20 +77,11 @@ module _ (one : OneTarget) where
   one_list None targets others is same = is ∙ sym same
   one_list (Some list) targets others is same = asks_one one list targets others is same
 
-  no_target_fault : (value : Option Text) (targets : List Target) (fault : Fault) → AreTargetsOf value targets
-      → IsTargetFault value fault → ⊥
-  no_target_fault None targets fault is at_fault = at_fault
-  no_target_fault (Some list) targets fault is at_fault = asks_no_fault one list targets fault is at_fault
-
-  one_target_fault : (value : Option Text) (fault other : Fault) → IsTargetFault value fault → IsTargetFault value other
-      → fault ≡ other
-  one_target_fault None fault other is same = absurd is
-  one_target_fault (Some list) fault other is same = one_fault one list fault other is same
-
   sound_targets : (value : Option Text) → IsSound (target_check value)
-  sound_targets value = record {
-    one = one_target_fault value;
-    none = λ fault asked is. no_target_fault value asked.0 fault asked.1 is;
+  sound_targets None = record { one = λ fault other is. absurd is; none = λ fault asked is. is }
+  sound_targets (Some list) = record {
+    one = one_fault one list;
+    none = λ fault asked. asks_no_fault one list asked.0 fault asked.1;
   }
 
   sound_checks : (values : Values) → AreSound (value_checks values)
@@ -123,34 +89,11 @@ module _ (one : OneTarget) where
 
 -- values that ask for a task pass each check
 all_pass : (values : Values) (task : Task) → Ask values task → AllPass (value_checks values)
-all_pass values task asks = (
-  (_, asks.targets),
-  ((_, asks.ring), ((_, asks.delimiter), ((_, asks.stripes), (asks.files_fit, tt)))),
-)
-
--- a task is all that it has
-parts : (a : Task) → a ≡ record {
-  layout = record {
-    format = record { delimiter = a.layout.format.delimiter; form = a.layout.format.form };
-    targets = a.layout.targets;
-  };
-  ring = a.ring;
-  stripes = a.stripes;
-  summary = a.summary;
-  files = a.files;
-}
-parts a = refl
+all_pass values task asks = search rules
 
 -- values ask for one task at most
 one_task : (values : Values) (a b : Task) → OneTarget → Ask values a → Ask values b → a ≡ b
-one_task values a b one asked same =
-    let targets : a.layout.targets ≡ b.layout.targets = one_list one values.to _ _ asked.targets same.targets in
-    let ring : a.ring ≡ b.ring = one_asked ring_option (one_number largest_ring) values.ring _ _ asked.ring same.ring in
-    let delimiter : a.layout.format.delimiter ≡ b.layout.format.delimiter =
-    one_asked delimiter_option one_byte values.delimiter _ _ asked.delimiter same.delimiter in
-    let stripes : a.stripes ≡ b.stripes =
-    one_asked stripes_option (one_number most_stripes) values.stripes _ _ asked.stripes same.stripes in
-    cc (parts a, parts b)
+one_task values a b one asked same = search (rules, one_asked, one_byte, one_list, one_number)
 
 module _ (one : OneTarget) (arguments : List Text) where
   not_taken : (kind : ErrorKind) → AreTaken arguments → IsAmong kind (fault_of command_line arguments) → ⊥
@@ -174,10 +117,7 @@ module _ (one : OneTarget) (arguments : List Text) where
   version_no_fault fault asks (inr is) = not_taken DisplayVersion is.0 asks
 
   help_no_version : Mean arguments help → Mean arguments version → ⊥
-  help_no_version asks other = differ (one_kind arguments DisplayHelp DisplayVersion asks other)
-    where
-      differ : DisplayHelp ≡ DisplayVersion → ⊥
-      differ e = absurd (cc)
+  help_no_version asks other = search (rules, one_kind)
 
   table_no_fault : (task : Task) (fault : Fault) → Mean arguments (table task) → ¬ IsFaultOf arguments fault
   table_no_fault task fault asks =
@@ -189,22 +129,12 @@ module _ (one : OneTarget) (arguments : List Text) where
 
   one_meaning : (meaning other : Meaning) → Mean arguments meaning → Mean arguments other → other ≡ meaning
   one_meaning help help x y = refl
-  one_meaning help version x y = absurd (help_no_version x y)
-  one_meaning help (table task) x y = absurd (not_taken DisplayHelp y.0 x)
-  one_meaning help (wrong fault) x y = absurd (help_no_fault fault x y)
-  one_meaning version help x y = absurd (help_no_version y x)
   one_meaning version version x y = refl
-  one_meaning version (table task) x y = absurd (not_taken DisplayVersion y.0 x)
-  one_meaning version (wrong fault) x y = absurd (version_no_fault fault x y)
-  one_meaning (table task) help x y = absurd (not_taken DisplayHelp x.0 y)
-  one_meaning (table task) version x y = absurd (not_taken DisplayVersion x.0 y)
   one_meaning (table task) (table other) x y = one_table other task y x
-  one_meaning (table task) (wrong fault) x y = absurd (table_no_fault task fault x y)
-  one_meaning (wrong fault) help x y = absurd (help_no_fault fault y x)
-  one_meaning (wrong fault) version x y = absurd (version_no_fault fault y x)
-  one_meaning (wrong fault) (table task) x y = absurd (table_no_fault task fault y x)
   one_meaning (wrong fault) (wrong other) x y =
       ap wrong (first_fault (usage_check arguments ∷ value_checks (values_in arguments)) all_sound other fault y x)
+  one_meaning meaning other x y =
+      absurd (search (rules, help_no_version, not_taken, help_no_fault, version_no_fault, table_no_fault))
 
   -- what the arguments mean is all that they mean
   pub mean_just : (meaning : Meaning) → Mean arguments meaning → MeanJust arguments meaning

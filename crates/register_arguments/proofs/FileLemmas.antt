@@ -1,10 +1,11 @@
 -- A list of files has one fault at most.
-use Rattle.std.proofs.Common.{◌≡◌, ◌∙◌, ◌+◌, ◌||◌, ℕ, zero, suc, Bool, true, false, true≢false, Bor, List, [], ◌∷◌}
-use Rattle.std.proofs.Common.{◌++◌, length, map, take, drop, sym, ap, refl, arith, inl, inr, length-append, subst}
-use Rattle.std.specs.Prelude.{◌<◌, Contains, slice_index_or}
+use Rattle.std.proofs.Common.{rules, ◌≡◌, ◌∙◌, ◌+◌, ℕ, zero, suc, true, false, true≢false, Bor, List, []}
+use Rattle.std.proofs.Common.{◌∷◌, ◌++◌, length, map, take, drop, sym, ap, refl, arith, inl, inr, length-append, subst}
+use Rattle.std.proofs.Common.{◌<◌, Contains, slice_index_or}
 use Rattle.std.specs.List.{list_any}
 use Rattle.std.specs.Str.{bytes_eq}
-use Rattle.std.proofs.lemmas.List.{map_more, take-map}
+use Rattle.std.proofs.lemmas.List.{get_or-map, length-map, map_more, take-map}
+use Rattle.std.proofs.lemmas.List.Folds.{Any-from_list_any, list_any_at}
 use Rattle.std.proofs.lemmas.Slice.Eq.{bytes_eq-Decides}
 use Rattle.clap.specs.Words.{Text}
 use Rattle.register_arguments.specs.Faults.{Fault, file_twice}
@@ -13,24 +14,18 @@ use Rattle.register_arguments.proofs.ListLemmas.{Meet, meet}
 
 -- the first file that was named before is named twice
 pub first_is_twice : (files : List Text) (file : Text) → IsFirstFileTwice files file → IsNamedTwice files file
-first_is_twice files file first = record {
-  before = first.before;
-  after = first.after;
-  cut = first.cut;
-  named = first.named;
-}
+first_is_twice files file first = search rules
 
 -- no file comes before the first
 pub one_first : (files : List Text) (file other : Text) → IsFirstFileTwice files file → IsFirstFileTwice files other
     → file ≡ other
-one_first files file other x y = decide (meet x.before file x.after y.before other y.after (sym x.cut ∙ y.cut))
-  where
-    decide : Meet x.before file y.before other → file ≡ other
-    decide (inl same) = same.1
-    decide (inr (inl before)) = absurd (y.first file
-        (record { before = x.before; after = before.0; cut = before.1; named = x.named }))
-    decide (inr (inr behind)) = absurd (x.first other
-        (record { before = y.before; after = behind.0; cut = behind.1; named = y.named }))
+one_first files file other x y = elim (meet x.before file x.after y.before other y.after (sym x.cut ∙ y.cut)) [
+  | inl same ↦ same.1
+  | inr (inl (mid, cut)) ↦ absurd (y.first file
+      (record { before = x.before; after = mid; cut = cut; named = x.named }))
+  | inr (inr (mid, cut)) ↦ absurd (x.first other
+      (record { before = y.before; after = mid; cut = cut; named = y.named }))
+]
 
 pub fit_no_fault : (files : List Text) (fault : Fault) → AreFilesToConvert files → IsFileFault files fault → ⊥
 fit_no_fault files fault fit (inl many) = absurd (omega (arith, fit.0, many.1))
@@ -72,28 +67,21 @@ one_more files file once new other twice = decide (meet twice.before other twice
 
 -- ---- the files as a slice holds them
 
-pub or_true : (a : Bool) {b : Bool} → b ≡ true → (a || b) ≡ true
-or_true true e = refl
-or_true false e = e
-
 any_named : (files : List (Bor Text)) (file : Text) → list_any (λ f. bytes_eq f.now file) files ≡ true
     → Contains (map (λ f. f.now) files) file
-any_named [] file e = absurd (cc)
-any_named (f ∷ fs) file e = at (bytes_eq f.now file) refl (any_named fs file) e
-  where
-    at : (same : Bool) → bytes_eq f.now file ≡ same
-        → (list_any (λ g. bytes_eq g.now file) fs ≡ true → Contains (map (λ g. g.now) fs) file)
-        → (same || list_any (λ g. bytes_eq g.now file) fs) ≡ true → Contains (map (λ g. g.now) (f ∷ fs)) file
-    at true is later or = (0, omega arith, (bytes_eq-Decides f.now file).0 is)
-    at false is later or = let rest = later or in (suc rest.0, omega (arith, rest.1), rest.2)
+any_named files file e =
+    let (k, f, low, at, is) = Any-from_list_any (λ f. bytes_eq f.now file) files e in (
+      k,
+      omega (arith, low, length-map files (λ f. f.now)),
+      get_or-map (λ f. f.now) files k f file low ∙ ap (λ f. f.now) at ∙ (bytes_eq-Decides f.now file).0 is,
+    )
 
-named_at : (files : List (Bor Text)) (file : Text) (i : ℕ) → i < length (map (λ f. f.now) files)
-    → slice_index_or (map (λ f. f.now) files) i file ≡ file
+named_at : (files : List (Bor Text)) (file : Text) → Bor Text → Contains (map (λ f. f.now) files) file
     → list_any (λ f. bytes_eq f.now file) files ≡ true
-named_at [] file i lt is = absurd (omega arith)
-named_at (f ∷ fs) file zero lt is = ap (λ b. b || list_any (λ g. bytes_eq g.now file) fs)
-    ((bytes_eq-Decides f.now file).1 is)
-named_at (f ∷ fs) file (suc i) lt is = or_true (bytes_eq f.now file) (named_at fs file i (omega arith) is)
+named_at files file d (k, low, at) =
+    let below : k < length files = omega (arith, low, length-map files (λ f. f.now)) in
+    list_any_at (λ f. bytes_eq f.now file) files k d below
+    ((bytes_eq-Decides _ file).1 (sym (get_or-map (λ f. f.now) files k d file below) ∙ at))
 
 cut_at : (files : List (Bor Text)) (place : ℕ) (d : Bor Text) → place < length files
     → map (λ f. f.now) files ≡ take place (map (λ f. f.now) files) ++ (slice_index_or files place d).now ∷ drop
@@ -129,4 +117,4 @@ module _ (files : List (Bor Text)) (place : ℕ) (d : Bor Text) (inside : place 
       subst (λ (xs : List Text). (other : Text) → ¬ IsNamedTwice xs other) (sym more)
       (one_more (take place (map (λ f. f.now) files)) file once (λ named.
       let among = subst (λ (xs : List Text). Contains xs file) (take-map (λ f. f.now) place files) named in
-      true≢false (sym (named_at (take place files) file among.0 among.1 among.2) ∙ new)))
+      true≢false (sym (named_at (take place files) file d among) ∙ new)))

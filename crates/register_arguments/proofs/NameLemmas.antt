@@ -1,10 +1,11 @@
 -- Names and their targets, one more at a time.
-use Rattle.std.proofs.Common.{◌≡◌, ◌≢◌, ◌∙◌, ◌<◌, ◌+◌, ℕ, List, [], ◌∷◌, ◌++◌, length, get_or, take, drop, suc, sym, ap}
-use Rattle.std.proofs.Common.{ap₂, refl, arith, zero, lit<, Some, length-append, inl, inr, ◌⊎◌}
-use Rattle.std.proofs.lemmas.Bool.{cases_lt}
-use Rattle.std.proofs.lemmas.List.{take-append-drop}
+use Rattle.std.proofs.Common.{◌≡◌, ◌≢◌, ◌∙◌, ◌<◌, ℕ, List, [], ◌∷◌, ◌++◌, length, get_or, take, drop, suc}
+use Rattle.std.proofs.Common.{sym, ap, ap₂, arith, lit<}
+use Rattle.std.proofs.Common.{take-append-drop, Contains, true}
+use Rattle.std.proofs.lemmas.List.{get_or_default}
+use Rattle.std.proofs.lemmas.List.Quantifiers.{all_pairs_push}
+use Rattle.std.proofs.lemmas.Option.{slice_get-get_or}
 use Rattle.std.proofs.Math.Seq.{drop-cons}
-use Rattle.std.specs.Prelude.{Contains, slice_get, slice_index_or, true}
 use Rattle.std.specs.Str.Iter.{split_has_more, split_pattern, split_steps, split_text}
 use Rattle.std.specs.Str.Pattern.{FindsChar}
 use Rattle.std.specs.declared.str.Split.{Split}
@@ -54,43 +55,14 @@ names_of_split list s t same text more pattern = YieldsList-at same
 pub never_twice : ¬ NamesTwice []
 never_twice twice = absurd (omega (arith, twice.3))
 
-get_push_left : (targets : List Target) (target : Target) (i : ℕ) → i < length targets
-    → slice_get (targets ++ target ∷ []) i ≡ slice_get targets i
-get_push_left [] target i lt = absurd (omega arith)
-get_push_left (u ∷ us) target zero lt = refl
-get_push_left (u ∷ us) target (suc i) lt = get_push_left us target i (omega arith)
-
-get_push_last : (targets : List Target) (target : Target) (i : ℕ) → i ≡ length targets
-    → slice_get (targets ++ target ∷ []) i ≡ Some target
-get_push_last [] target zero is = refl
-get_push_last [] target (suc i) is = absurd (omega arith)
-get_push_last (u ∷ us) target zero is = absurd (omega arith)
-get_push_last (u ∷ us) target (suc i) is = get_push_last us target i (omega arith)
-
-at_place : (targets : List Target) (i : ℕ) (target : Target) → i < length targets → slice_get targets i ≡ Some target
-    → slice_index_or targets i target ≡ target
-at_place [] i target lt is = absurd (omega arith)
-at_place (u ∷ us) zero target lt is = cc
-at_place (u ∷ us) (suc i) target lt is = at_place us i target (omega arith) is
-
--- a list with one more target has two places with the same one only where it had them before, or the target was among
--- them
-twice_split : (targets : List Target) (target : Target) (i j : ℕ) → (¬ NamesTwice targets) → (¬ Contains targets target)
-    → i < j → j < length targets + 1
-    → slice_get (targets ++ target ∷ []) i ≡ slice_get (targets ++ target ∷ []) j
-    → (j < length targets) ⊎ (j ≡ length targets) → ⊥
-twice_split targets target i j once new lt high same (inl below) =
-    let lower : i < length targets = omega arith in
-    once (i, j, lt, below, sym (get_push_left targets target i lower) ∙ same ∙ get_push_left targets target j below)
-twice_split targets target i j once new lt high same (inr last) =
-    let lower : i < length targets = omega arith in
-    let is = sym (get_push_left targets target i lower) ∙ same ∙ get_push_last targets target j last in
-    new (i, lower, at_place targets i target lower is)
-
 -- one more target that is not among them
 pub once_more : (targets : List Target) (target : Target) → (¬ NamesTwice targets) → (¬ Contains targets target)
     → ¬ NamesTwice (targets ++ target ∷ [])
-once_more targets target once new twice =
-    let high : twice.1 < length targets + 1 = omega (arith, twice.3, length-append targets (target ∷ [])) in
-    twice_split targets target twice.0 twice.1 once new twice.2 high twice.4
-    (elim (cases_lt twice.1 (length targets)) [ inl less ↦ inl less | inr more ↦ inr (omega (arith, high, more)) ])
+once_more targets target once new (i, j, lt, high, same) =
+    let all = targets ++ target ∷ [] in
+    let low : i < length all = omega arith in
+    all_pairs_push (λ x y. x ≢ y) targets target
+    (λ k l d lt high is. let low : k < length targets = omega arith in
+    once (k, l, lt, high, cc (slice_get-get_or targets k d low, slice_get-get_or targets l d high, is)))
+    (λ k d low is. new (k, low, cc (get_or_default targets k d target low, is)))
+    i j target lt high (cc (slice_get-get_or all i target low, slice_get-get_or all j target high, same))

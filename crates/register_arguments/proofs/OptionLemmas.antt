@@ -1,9 +1,8 @@
 -- From what clap says of options to their values, and from a fault of a value to the first check that fails.
-use Rattle.std.proofs.Common.{◌≡◌, ◌&&◌, ap, ℕ, Bool, true, false, List, Option, Some, None, codes, refl, sym, subst}
-use Rattle.std.specs.Prelude.{◌↔◌, IfErr, IfOk, IfSome, IsSomeAnd, nat_le, option_map}
+use Rattle.std.proofs.Common.{rules, ◌≡◌, ◌&&◌, ap, ℕ, Bool, true, false, List, Option, Some, None, codes, refl}
+use Rattle.std.proofs.Common.{◌↔◌, IfErr, IfOk, IfSome, IsSomeAnd, nat_le, option_map, le-leb}
 use Rattle.std.specs.Option.{ok_or}
 use Rattle.std.specs.Str.{bytes_eq}
-use Rattle.std.proofs.lemmas.Bool.{le-leb}
 use Rattle.std.proofs.lemmas.Slice.Eq.{bytes_eq-Decides}
 use Rattle.clap.specs.Words.{Text}
 use Rattle.register_arguments.specs.CommandLine.{is_set}
@@ -16,10 +15,7 @@ use Rattle.register_arguments.specs.declared.request_faults.RequestFault.{Reques
 pub set_by_text : (b : Bool) (text : Option Text) → ((b ≡ true) ↔ (text ≡ Some (codes "true"))) → b ≡ is_set text
 set_by_text true None is = absurd (let e = is.0 refl in cc)
 set_by_text false None is = refl
-set_by_text true (Some t) is = sym ((bytes_eq-Decides t (codes "true")).1 (some_same t (codes "true") (is.0 refl)))
-  where
-    some_same : (a b : Text) → Some a ≡ Some b → a ≡ b
-    some_same a b e = cc
+set_by_text true (Some t) is = search (rules, bytes_eq-Decides, codes)
 set_by_text false (Some t) is =
     other (bytes_eq t (codes "true")) (λ e. absurd (unlike (is.1 (ap (λ (x : Text). Some x)
     ((bytes_eq-Decides t (codes "true")).0 e)))))
@@ -58,9 +54,4 @@ pub faults_unnamed : {V : Type 0} (option : ValueOption) (number : V → ℕ) (w
     → fault_of_error error ≡ Some (option.fault word)
     → IfErr (ok_or named error) (λ e. IsSomeAnd (fault_of_error e) (IsValueFault option (Some word)))
 faults_unnamed option number word (Some v) error is same = tt
-faults_unnamed option number word None error is same =
-    subst (λ fault. IsSomeAnd fault (IsValueFault option (Some word))) (sym same)
-    (word, refl, refl, λ n names. none n ((is n).1 names))
-  where
-    none : (n : ℕ) → None ≡ Some n → ⊥
-    none n e = cc
+faults_unnamed option number word None error is same = search rules

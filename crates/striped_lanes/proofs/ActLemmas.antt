@@ -1,10 +1,8 @@
 -- Each act changes nothing, or takes one entry one place forward and keeps the invariant.
-use Rattle.std.proofs.Common.{rules}
-use Rattle.std.proofs.Common.{◌≡◌, ◌<◌, ◌+◌, ◌++◌, ℕ, suc, List, [], ◌∷◌, length, Option, Some, None}
-use Rattle.std.proofs.Common.{refl, sym, ap, ◌∙◌, inl, inr, arith, append_assoc}
-use Rattle.std.specs.Prelude.{map, option_to_list, ◌%◌, slice_get}
-use Rattle.std.proofs.lemmas.Bool.{ltb-true, lt-ltb}
-use Rattle.std.proofs.lemmas.List.{append-nil, length-append, length-map, length_push, map-append}
+use Rattle.std.proofs.Common.{rules, ◌≡◌, ◌<◌, ◌+◌, ◌++◌, ℕ, suc, List, [], ◌∷◌, length, Option, Some, None, refl, sym}
+use Rattle.std.proofs.Common.{ap, ◌∙◌, inl, inr, arith, append_assoc, map, option_to_list, ◌%◌, slice_get, ltb-true}
+use Rattle.std.proofs.Common.{lt-ltb, append-nil, length-append}
+use Rattle.std.proofs.lemmas.List.{length-map, length_push, map-append}
 use Rattle.std.proofs.lemmas.Nat.{mod_below}
 use Rattle.striped_lanes.specs.Machine.{World, Stripe, State, Actor, Reader, Converter, Writer}
 use Rattle.striped_lanes.specs.Machine.{act, convert, pop_entry, pop_row, push_entry, turn, with_stripe}
@@ -28,54 +26,43 @@ module _ {E R : Type 0} (w : World E R) (some_converters : 0 < w.converters) (s 
   push_steps : (i : ℕ) (x : E) → i ≡ turn w s.pushed → slice_get w.entries s.pushed ≡ Some x
       → length (s.stripes i).entry_lane < w.ring → Steps w s (after_push s i x)
   push_steps i x on_turn e room =
-      let c = w.converters in let t = s.stripes i in let u : Stripe E R = record t {
-        entry_lane = t.entry_lane ++ x ∷
-            [];
-      } in let d = length v.done in let all : w.entries ≡ (v.done ++ v.between) ++ v.left = v.entries ∙ sym
-      (append_assoc v.done v.between v.left) in let at : s.pushed ≡ length (v.done ++ v.between) = v.pushed ∙ sym
-      (length-append v.done v.between) in let next : slice_get v.left 0 ≡ Some x = sym (slice_get_rest (v.done ++
-      v.between) v.left) ∙ (rw (all, at) at e) in let (more, left_is) = first_is v.left x next in let k = v.stripes i
-      in let split : (j : ℕ) → part c j d (v.between ++ x ∷ []) ≡ part c j d v.between ++ part c j s.pushed (x ∷ []) =
-      λ j. rw v.pushed (part_append c j d v.between (x ∷ [])) in let own : Holds w (part c i d (v.between ++ x ∷ []))
-      u = record {
+      let c = w.converters in
+      let t = s.stripes i in
+      let u : Stripe E R = record t { entry_lane = t.entry_lane ++ x ∷ [] } in
+      let d = length v.done in
+      let all : w.entries ≡ (v.done ++ v.between) ++ v.left =
+      v.entries ∙ sym (append_assoc v.done v.between v.left) in
+      let at : s.pushed ≡ length (v.done ++ v.between) = v.pushed ∙ sym (length-append v.done v.between) in
+      let next : slice_get v.left 0 ≡ Some x =
+      sym (slice_get_rest (v.done ++ v.between) v.left) ∙ (rw (all, at) at e) in
+      let (more, left_is) = first_is v.left x next in
+      let k = v.stripes i in
+      let split : (j : ℕ) → part c j d (v.between ++ x ∷ []) ≡ part c j d v.between ++ part c j s.pushed (x ∷ []) =
+      λ j. rw v.pushed (part_append c j d v.between (x ∷ [])) in
+      let own : Holds w (part c i d (v.between ++ x ∷ [])) u =
+      record {
         converted = k.converted;
         rows = k.rows;
-        all = sym (split i ∙ rw (
-          part_own c i s.pushed x [] (sym
-              on_turn),
-          ← k.all,
-        ) (append_assoc k.converted _ _ ∙ ap (λ (l : List E). k.converted ++ l) (append_assoc
-            (option_to_list t.hand) t.entry_lane _)));
+        all = rw (split i, part_own c i s.pushed x [] (sym on_turn), ← k.all, append_assoc, append_assoc) refl;
         room = omega (arith, room, length_push t.entry_lane x);
-        row_room =
-            k.row_room;
-      } in let others : (j : ℕ) → (j ≡ i → ⊥) → Holds w (part c j d (v.between ++ x ∷ [])) (s.stripes j) =
-      λ j n. rw (
-        split j,
-        part_other c j s.pushed x [] (λ q. n (sym (on_turn ∙ q))),
-        append-nil (part c j d
-            v.between),
-      ) (v.stripes j) in record {
+        row_room = k.row_room;
+      } in
+      let others : (j : ℕ) → (j ≡ i → ⊥) → Holds w (part c j d (v.between ++ x ∷ [])) (s.stripes j) =
+      λ j n.
+      rw (split j, part_other c j s.pushed x [] (λ q. n (sym (on_turn ∙ q))), append-nil (part c j d v.between))
+      (v.stripes j) in
+      let grown = put_further w s.stripes i u (omega (arith, on_turn, mod_below s.pushed c some_converters)) in
+      record {
         kept = record {
           done = v.done;
           between = v.between ++ x ∷ [];
           left = more;
-          entries = v.entries ∙ (ap (λ (l : List E). v.done ++ (v.between ++ l)) left_is ∙ ap (λ (l : List E). v.done ++
-              l) (sym (append_assoc v.between (x ∷ []) more)));
+          entries = rw (append_assoc v.between (x ∷ []) more, ← left_is) v.entries;
           pushed = omega (arith, v.pushed, length_push v.between x);
           popped = v.popped;
           stripes = put_holds w (λ j. part c j d (v.between ++ x ∷ [])) s.stripes i u own others;
         };
-        further = omega (
-          arith,
-          (put_further w s.stripes i u (omega (
-            arith,
-            on_turn,
-            mod_below s.pushed c
-                some_converters,
-          ))),
-          length_push t.entry_lane x,
-        );
+        further = omega (arith, grown, length_push t.entry_lane x);
       }
 
   -- a converter
@@ -129,8 +116,7 @@ module _ {E R : Type 0} (w : World E R) (some_converters : 0 < w.converters) (s 
       (omega (arith, ap length all, length-append k.converted (x ∷ t.entry_lane)))
       (record {
         converted = k.converted ++ x ∷ [];
-        rows =
-            ap (λ (l : List R). l ++ w.row_of x ∷ []) k.rows ∙ sym (map-append w.row_of k.converted (x ∷ []));
+        rows = rw (map-append, k.rows) refl;
         all = append_assoc k.converted (x ∷ []) t.entry_lane ∙ all;
         room = k.room;
         row_room = omega (arith, room, length_push t.row_lane (w.row_of x));
@@ -141,46 +127,43 @@ module _ {E R : Type 0} (w : World E R) (some_converters : 0 < w.converters) (s 
   pop_row_steps : (i : ℕ) (row : R) (lane : List R) → i ≡ turn w (length s.popped)
       → (s.stripes i).row_lane ≡ row ∷ lane → Steps w s (after_pop s i row lane)
   pop_row_steps i row lane on_turn e =
-      let c = w.converters in let t = s.stripes i in let u : Stripe E R = record t { row_lane = lane } in let d =
-      length v.done in let k = v.stripes i in let (x, out, out_is, row_is, lane_is) = map_first w.row_of k.converted
-      row lane (sym e ∙ k.rows) in let popped_is : length s.popped ≡ d = ap length v.popped ∙ length-map v.done
-      w.row_of in let own_turn : d % c ≡ i = rw (← popped_is) (sym on_turn) in let (more, between_is, rest_is) =
+      let c = w.converters in
+      let t = s.stripes i in
+      let u : Stripe E R = record t { row_lane = lane } in
+      let d = length v.done in
+      let k = v.stripes i in
+      let (x, out, out_is, row_is, lane_is) = map_first w.row_of k.converted row lane (sym e ∙ k.rows) in
+      let popped_is : length s.popped ≡ d = ap length v.popped ∙ length-map v.done w.row_of in
+      let own_turn : d % c ≡ i = rw (← popped_is) (sym on_turn) in
+      let (more, between_is, rest_is) =
       part_head c i d v.between (out ++ (option_to_list t.hand ++ t.entry_lane)) x own_turn (rw out_is at k.all) in
-      let count : length (v.done ++ x ∷ []) ≡ d + 1 = length_push v.done x in let long : length t.row_lane ≡ suc
-      (length lane) = ap length e in let own : Holds w (part c i (length (v.done ++ x ∷ [])) more) u = record {
+      let count : length (v.done ++ x ∷ []) ≡ d + 1 = length_push v.done x in
+      let long : length t.row_lane ≡ suc (length lane) = ap length e in
+      let own : Holds w (part c i (length (v.done ++ x ∷ [])) more) u =
+      record {
         converted = out;
         rows = lane_is;
         all = rw count rest_is;
         room = k.room;
-        row_room = omega (
-          arith,
-          k.row_room,
-          long,
-        );
-      } in let others : (j : ℕ) → (j ≡ i → ⊥) → Holds w (part c j (length (v.done ++ x ∷ [])) more) (s.stripes
-      j) = λ j n. let same : part c j d v.between ≡ part c j (d + 1) more = ap (λ (l : List E). part c j d l)
-      between_is ∙ part_other c j d x more (λ q. n (sym q ∙ own_turn)) in rw count (rw same at (v.stripes j)) in
+        row_room = omega (arith, k.row_room, long);
+      } in
+      let others : (j : ℕ) → (j ≡ i → ⊥) → Holds w (part c j (length (v.done ++ x ∷ [])) more) (s.stripes j) =
+      λ j n.
+      let same : part c j d v.between ≡ part c j (d + 1) more =
+      ap (λ (l : List E). part c j d l) between_is ∙ part_other c j d x more (λ q. n (sym q ∙ own_turn)) in
+      rw count (rw same at (v.stripes j)) in
+      let fewer = put_further w s.stripes i u (rw (← own_turn) (mod_below d c some_converters)) in
       record {
         kept = record {
           done = v.done ++ x ∷ [];
           between = more;
           left = v.left;
-          entries = v.entries ∙ (ap (λ (l
-              : List E). v.done ++ (l ++ v.left)) between_is ∙ sym (append_assoc v.done (x ∷ []) (more ++ v.left)));
-          pushed =
-              omega (arith, v.pushed, count, ap length between_is);
-          popped = ap (λ (l : List R). l ++ row ∷ []) v.popped ∙ (ap
-              (λ (y : R). map w.row_of v.done ++ y ∷ []) row_is ∙ sym (map-append w.row_of v.done (x ∷ [])));
-          stripes =
-              put_holds w (λ j. part c j (length (v.done ++ x ∷ [])) more) s.stripes i u own others;
+          entries = rw append_assoc (rw between_is at v.entries);
+          pushed = omega (arith, v.pushed, count, ap length between_is);
+          popped = rw (map-append, v.popped) (ap (λ (y : R). map w.row_of v.done ++ y ∷ []) row_is);
+          stripes = put_holds w (λ j. part c j (length (v.done ++ x ∷ [])) more) s.stripes i u own others;
         };
-        further = omega (
-          arith,
-          (put_further w s.stripes i u (rw (← own_turn) (mod_below d c some_converters))),
-          long,
-          length_push
-              s.popped row,
-        );
+        further = omega (arith, fewer, long, length_push s.popped row);
       }
 
   -- any actor

@@ -1,10 +1,8 @@
 -- A schedule with enough rounds pops all rows.
-use Rattle.std.proofs.Common.{rules}
-use Rattle.std.proofs.Common.{◌≡◌, ◌<◌, ◌≤◌, ◌+◌, ◌*◌, ◌++◌, ◌∙◌, ℕ, zero, suc, List, [], ◌∷◌, length, inl, inr}
-use Rattle.std.proofs.Common.{refl, sym, subst, ap, arith}
-use Rattle.std.specs.Prelude.{Contains}
+use Rattle.std.proofs.Common.{rules, ◌≡◌, ◌<◌, ◌≤◌, ◌+◌, ◌*◌, ◌++◌, ◌∙◌, ℕ, zero, suc, List, [], ◌∷◌, length, inl, inr}
+use Rattle.std.proofs.Common.{refl, sym, subst, ap, arith, Contains, take_all}
 use Rattle.std.proofs.lemmas.Bool.{cases_lt}
-use Rattle.std.proofs.lemmas.List.{length-map, take_all}
+use Rattle.std.proofs.lemmas.List.{length-map}
 use Rattle.std.proofs.lemmas.Nat.{mod_below}
 use Rattle.striped_lanes.specs.Machine.{World, State, Actor, Reader, Converter, Writer, act, start}
 use Rattle.striped_lanes.specs.Schedules.{Changes, HasRounds, IsRound, run}
@@ -32,14 +30,13 @@ module _ {E R : Type 0} (w : World E R) (h : 0 < w.converters) where
   moves (x ∷ actors) a s v changes (zero, below, is) = search (rules, act_stays_or_steps, not_back)
   moves (x ∷ actors) a s v changes (suc k, below, is) =
       elim (act_stays_or_steps w h s v x) [
-        | inl stays ↦ omega (
-          arith,
-          (moves actors a (act w x s) (subst (Kept w)
-              (sym stays) v) (subst (λ t. Changes w a t) (sym stays) changes) (k, omega (arith, below), is)),
-          ap (progress w)
-              stays,
-        )
-        | inr steps ↦ let more = not_back actors (act w x s) steps.kept in omega (arith, more, steps.further)
+        | inl stays ↦
+            let rest =
+            moves actors a (act w x s) (subst (Kept w) (sym stays) v)
+            (subst (λ t. Changes w a t) (sym stays) changes) (k, omega (arith, below), is) in
+            omega (arith, rest, ap (progress w) stays)
+        | inr steps ↦
+            let more = not_back actors (act w x s) steps.kept in omega (arith, more, steps.further)
       ]
 
   -- the actor that has to move an entry acts in each round
@@ -65,34 +62,34 @@ module _ {E R : Type 0} (numbers : Numbers E R) (w : World E R) (some_converters
       → 4 * length w.entries ≤ progress w s + k → 4 * length w.entries ≤ progress w (run w schedule s)
   far zero schedule s v rounds enough = grind (arith, not_back w some_converters schedule s v)
   far (suc k) schedule s v (round, rest, is, all, rounds) enough =
-      let t = run w round s in let kept : Kept w t = (went w some_converters round s v).kept in let forward : 4 *
-      length w.entries ≤ progress w t + k = elim (cases_lt (length s.popped) (length w.entries)) [
-        | inl some ↦ let m
-            = round_moves s v round all some in omega (arith, m, enough)
-        | inr none ↦ omega (
-          arith,
-          (not_back w
-              some_converters round s v),
-          none,
-        )
-      ] in subst (λ x. 4 * length w.entries ≤ progress w x) (sym (ap (λ (l : List
-      Actor). run w l s) is ∙ run_append w some_converters round rest s)) (far k rest t kept rounds forward)
+      let t = run w round s in
+      let kept : Kept w t = (went w some_converters round s v).kept in
+      let forward : 4 * length w.entries ≤ progress w t + k =
+      elim (cases_lt (length s.popped) (length w.entries)) [
+        | inl some ↦ let m = round_moves s v round all some in omega (arith, m, enough)
+        | inr none ↦ let m = not_back w some_converters round s v in omega (arith, m, none)
+      ] in
+      subst (λ x. 4 * length w.entries ≤ progress w x)
+      (sym (ap (λ (l : List Actor). run w l s) is ∙ run_append w some_converters round rest s))
+      (far k rest t kept rounds forward)
 
   -- entries that have come as far as they can are all popped
   all_popped : (s : State E R) → Kept w s → 4 * length w.entries ≤ progress w s → s.popped ≡ table_rows w
   all_popped s v enough =
-      let none : length w.entries ≤ length s.popped = elim (cases_lt (length s.popped) (length w.entries)) [
-        | inl
-            some ↦ let (actor, move, changes) = goes_on numbers w some_converters some_room s v numbered same_numbers some
-            in absurd (elim (act_stays_or_steps w some_converters s v actor) [
+      let none : length w.entries ≤ length s.popped =
+      elim (cases_lt (length s.popped) (length w.entries)) [
+        | inl some ↦
+            let (actor, move, changes) = goes_on numbers w some_converters some_room s v numbered same_numbers some in
+            absurd (elim (act_stays_or_steps w some_converters s v actor) [
               | inl stays ↦ changes stays
               | inr steps ↦
-                  omega (arith, (progress_bound w some_converters (act w actor s) steps.kept), steps.further, enough)
+                  let most = progress_bound w some_converters (act w actor s) steps.kept in
+                  omega (arith, most, steps.further, enough)
             ])
-        | inr
-            none ↦ none
-      ] in let long = length-map w.entries w.row_of in popped_in_order w some_converters s v ∙ take_all
-      (length s.popped) (table_rows w) (omega (arith, long, none))
+        | inr none ↦ none
+      ] in
+      let long = length-map w.entries w.row_of in
+      popped_in_order w some_converters s v ∙ take_all (length s.popped) (table_rows w) (omega (arith, long, none))
 
   pub ends : (schedule : List Actor) → HasRounds w (4 * length w.entries) schedule
       → (run w schedule start).popped ≡ table_rows w

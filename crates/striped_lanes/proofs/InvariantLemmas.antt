@@ -1,9 +1,8 @@
 -- What every act keeps, and how far the entries have come.
-use Rattle.std.proofs.Common.{rules}
-use Rattle.std.proofs.Common.{◌≡◌, ◌<◌, ◌≤◌, ◌+◌, ◌*◌, ◌++◌, ℕ, List, [], ◌∷◌, length, Some}
-use Rattle.std.proofs.Common.{Bool, true, false, inl, inr, refl, ap, arith}
-use Rattle.std.specs.Prelude.{◌⊎◌, ◌≢◌, map, option_to_list, if◌then◌else◌, slice_get}
-use Rattle.std.proofs.lemmas.Bool.{cases_eq, eq-eqb, ne_eqb}
+use Rattle.std.proofs.Common.{rules, ◌≡◌, ◌<◌, ◌≤◌, ◌+◌, ◌*◌, ◌++◌, ℕ, List, [], ◌∷◌, length, Some, Bool, true, false}
+use Rattle.std.proofs.Common.{inl, inr, refl, ap, arith, ◌⊎◌, ◌≢◌, map, option_to_list, if◌then◌else◌, slice_get}
+use Rattle.std.proofs.Common.{eq-eqb, ne_eqb}
+use Rattle.std.proofs.lemmas.Bool.{cases_eq}
 use Rattle.striped_lanes.specs.Machine.{World, Stripe, State, put}
 use Rattle.striped_lanes.specs.Schedules.{total}
 use Rattle.striped_lanes.proofs.PartLemmas.{part}

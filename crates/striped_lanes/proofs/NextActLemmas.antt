@@ -1,7 +1,6 @@
 -- The actor that has to move the entry of the next row can.
-use Rattle.std.proofs.Common.{◌≡◌, ◌<◌, ◌≤◌, ◌+◌, ◌++◌, ℕ, List, [], ◌∷◌, length, Option, Some, None}
-use Rattle.std.proofs.Common.{refl, sym, ap, ◌∙◌, arith}
-use Rattle.std.specs.Prelude.{◌%◌, map, option_to_list, slice_get}
+use Rattle.std.proofs.Common.{◌≡◌, ◌<◌, ◌≤◌, ◌+◌, ◌++◌, ℕ, List, [], ◌∷◌, length, Option, Some, None, refl, sym}
+use Rattle.std.proofs.Common.{ap, ◌∙◌, arith, ◌%◌, map, option_to_list, slice_get}
 use Rattle.std.proofs.lemmas.List.{nil_from_length}
 use Rattle.striped_lanes.specs.Machine.{World, State, Actor, Reader, Converter, Writer, act, turn}
 use Rattle.striped_lanes.specs.Schedules.{Changes}
@@ -10,7 +9,7 @@ use Rattle.striped_lanes.specs.Places.{HasToMove, not_pushed, in_entry_lane, in_
 use Rattle.striped_lanes.specs.Places.{times_at}
 use Rattle.striped_lanes.proofs.ActLemmas.{reader_steps, popping_converter_steps, pushing_converter_steps, writer_steps}
 use Rattle.striped_lanes.proofs.InvariantLemmas.{Kept, Steps, slice_get_rest, steps_change}
-use Rattle.striped_lanes.proofs.NumberLemmas.{numbered_rest, times, times_cons_own}
+use Rattle.striped_lanes.proofs.NumberLemmas.{numbered_rest, times_cons_own}
 use Rattle.striped_lanes.proofs.PartLemmas.{part, part_own}
 use Rattle.striped_lanes.proofs.PlaceLemmas.{StandsIn, only_in_converter, only_in_entry_lane, only_in_row_lane}
 use Rattle.striped_lanes.proofs.PlaceLemmas.{row_lane_times, stands_in}
@@ -56,47 +55,33 @@ module _ {E R : Type 0} (numbers : Numbers E R) (w : World E R) (some_converters
   first_goes_on x rest (y ∷ converted) hand lane number stands converted_is hand_is lane_is e =
       let k = length s.popped + 1 in
       let i = turn w (length s.popped) in
-      let same : y ≡ x = cc e in
-      let own : numbers.of_entry y ≡ k = ap numbers.of_entry same ∙ number in
+      let own : numbers.of_entry y ≡ k = cc in
       let some : 0 < times_at numbers s k (RowLane i) =
-      let all = row_lane_times numbers w s v numbered same_numbers k i in
-      let first : times numbers k (v.stripes i).converted ≡ 1 + times numbers k converted =
-      ap (times numbers k) converted_is ∙ times_cons_own numbers k y converted own in
-      omega (arith, all, first) in
-      let lane_is : (s.stripes i).row_lane ≡ w.row_of y ∷ map w.row_of converted =
-      (v.stripes i).rows ∙ ap (map w.row_of) converted_is in
+      rw (row_lane_times numbers w s v numbered same_numbers k i, converted_is)
+      (omega (arith, times_cons_own numbers k y converted own)) in
       go_on Writer (in_row_lane (rw next_stripe (only_in_row_lane numbers s k i stands some)))
-      (writer_steps w some_converters s v (w.row_of y) (map w.row_of converted) lane_is)
+      (writer_steps w some_converters s v (w.row_of y) (map w.row_of converted)
+      (rw converted_is at (v.stripes i).rows))
   first_goes_on x rest [] (Some y) lane number stands converted_is hand_is lane_is e =
       let k = length s.popped + 1 in
       let i = turn w (length s.popped) in
-      let same : y ≡ x = cc e in
-      let own : numbers.of_entry y ≡ k = ap numbers.of_entry same ∙ number in
+      let own : numbers.of_entry y ≡ k = cc in
       let some : 0 < times_at numbers s k (InConverter i) =
-      let first : times_at numbers s k (InConverter i) ≡ 1 + times numbers k [] =
-      ap (λ (o : Option E). times numbers k (option_to_list o)) hand_is ∙ times_cons_own numbers k y [] own in
-      omega (arith, first) in
-      let none : length (s.stripes i).row_lane ≡ 0 =
-      ap length ((v.stripes i).rows ∙ ap (map w.row_of) converted_is) in
-      let its_own : HasToMove numbers w s k (Converter (stripe_of w k)) =
-      in_converter (rw next_stripe (only_in_converter numbers s k i stands some)) in
-      let move : HasToMove numbers w s k (Converter i) = rw next_stripe at its_own in
-      go_on (Converter i) move
+      rw hand_is (omega (arith, times_cons_own numbers k y [] own)) in
+      let none : length (s.stripes i).row_lane ≡ 0 = ap length (rw converted_is at (v.stripes i).rows) in
+      go_on (Converter i)
+      (rw (← next_stripe) (in_converter (rw next_stripe (only_in_converter numbers s k i stands some))))
       (pushing_converter_steps w some_converters s v i y hand_is (omega (arith, some_room, none)))
   first_goes_on x rest [] None [] number stands converted_is hand_is lane_is e = cc e
   first_goes_on x rest [] None (y ∷ lane) number stands converted_is hand_is lane_is e =
       let k = length s.popped + 1 in
       let i = turn w (length s.popped) in
-      let same : y ≡ x = cc e in
-      let own : numbers.of_entry y ≡ k = ap numbers.of_entry same ∙ number in
+      let own : numbers.of_entry y ≡ k = cc in
       let some : 0 < times_at numbers s k (EntryLane i) =
-      let first : times_at numbers s k (EntryLane i) ≡ 1 + times numbers k lane =
-      ap (times numbers k) lane_is ∙ times_cons_own numbers k y lane own in
-      omega (arith, first) in
-      let its_own : HasToMove numbers w s k (Converter (stripe_of w k)) =
-      in_entry_lane (rw next_stripe (only_in_entry_lane numbers s k i stands some)) in
-      let move : HasToMove numbers w s k (Converter i) = rw next_stripe at its_own in
-      go_on (Converter i) move (popping_converter_steps w some_converters s v i y lane lane_is hand_is)
+      rw lane_is (omega (arith, times_cons_own numbers k y lane own)) in
+      go_on (Converter i)
+      (rw (← next_stripe) (in_entry_lane (rw next_stripe (only_in_entry_lane numbers s k i stands some))))
+      (popping_converter_steps w some_converters s v i y lane lane_is hand_is)
 
   next_is : slice_get w.entries (length s.popped) ≡ slice_get (v.between ++ v.left) 0
   next_is = grind (arith, v.entries, popped_count w some_converters s v, slice_get_rest v.done (v.between ++ v.left))
@@ -106,11 +91,7 @@ module _ {E R : Type 0} (numbers : Numbers E R) (w : World E R) (some_converters
       let none : length v.between ≡ 0 = ap length e in
       let (x, more, left_is) =
       not_empty v.left (omega (arith, none, popped_count w some_converters s v, all_count w some_converters s v)) in
-      reader_goes_on x
-      (next_is
-      ∙ (ap (λ (l : List E). slice_get (l ++ v.left) 0) e
-      ∙ ap (λ (l : List E). slice_get l 0) left_is))
-      none
+      reader_goes_on x (next_is ∙ simp (e, left_is)) none
   by_between (x ∷ more) e more_rows =
       let c = w.converters in
       let k = length s.popped + 1 in

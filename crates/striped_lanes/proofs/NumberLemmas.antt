@@ -1,9 +1,7 @@
 -- How often a number stands among entries that are numbered in order, and among the parts that they are dealt into.
-use Rattle.std.proofs.Common.{rules}
-use Rattle.std.proofs.Common.{◌≡◌, ◌<◌, ◌≤◌, ◌+◌, ◌-◌, ◌++◌, ℕ, List, [], ◌∷◌, length}
-use Rattle.std.proofs.Common.{inl, inr, refl, sym, ap, ◌∙◌, arith}
-use Rattle.std.specs.Prelude.{◌%◌, ◌==◌, cond, count_by, map}
-use Rattle.std.proofs.lemmas.Bool.{cases_eq, eq-eqb, ne_eqb}
+use Rattle.std.proofs.Common.{rules, ◌≡◌, ◌<◌, ◌≤◌, ◌+◌, ◌-◌, ◌++◌, ℕ, List, [], ◌∷◌, length, inl, inr, refl, sym, ap}
+use Rattle.std.proofs.Common.{◌∙◌, arith, ◌%◌, ◌==◌, cond, count_by, map, eq-eqb, ne_eqb}
+use Rattle.std.proofs.lemmas.Bool.{cases_eq}
 use Rattle.std.proofs.lemmas.List.{map-append}
 use Rattle.std.proofs.lemmas.List.Sums.{sum_by-append, sum_by-cons}
 use Rattle.striped_lanes.specs.Machine.{World}

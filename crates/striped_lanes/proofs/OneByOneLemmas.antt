@@ -1,10 +1,8 @@
 -- A schedule that takes one entry after the other through the machine, and what goes over its lanes.
-use Rattle.std.proofs.Common.{rules}
-use Rattle.std.proofs.Common.{arith}
-use Rattle.std.proofs.Common.{◌≡◌, ◌∙◌, ◌+◌, ◌++◌, ℕ, List, [], ◌∷◌, Some, None, true, false, ap}
-use Rattle.std.proofs.Common.{append_assoc, append-nil, length, map, refl, sym}
-use Rattle.std.specs.Prelude.{◌==◌, Bool, if◌then◌else◌, nat_lt, slice_get}
-use Rattle.std.proofs.lemmas.Bool.{cases_eq, eq-eqb, ne_eqb}
+use Rattle.std.proofs.Common.{rules, arith, ◌≡◌, ◌∙◌, ◌+◌, ◌++◌, ℕ, List, [], ◌∷◌, Some, None, true, false, ap}
+use Rattle.std.proofs.Common.{append_assoc, append-nil, length, map, refl, sym, ◌==◌, Bool, if◌then◌else◌, nat_lt}
+use Rattle.std.proofs.Common.{slice_get, eq-eqb, ne_eqb}
+use Rattle.std.proofs.lemmas.Bool.{cases_eq}
 use Rattle.std.proofs.lemmas.List.{length_push}
 use Rattle.striped_lanes.specs.Histories.{entries_over, rows_over}
 use Rattle.striped_lanes.specs.Machine.{Actor, Converter, Reader, State, Stripe, World, Writer, act, turn}

@@ -1,8 +1,7 @@
 -- Items that are dealt to stripes by turns.
-use Rattle.std.proofs.Common.{rules}
-use Rattle.std.proofs.Common.{inl, inr, ◌≡◌, ◌<◌, ◌+◌, ◌++◌, ℕ, suc, List, [], ◌∷◌, length, refl, sym, ap, ◌∙◌, arith}
-use Rattle.std.specs.Prelude.{◌%◌, ◌==◌, if◌then◌else◌}
-use Rattle.std.proofs.lemmas.Bool.{cases_eq, eq-eqb, ne_eqb}
+use Rattle.std.proofs.Common.{rules, inl, inr, ◌≡◌, ◌<◌, ◌+◌, ◌++◌, ℕ, suc, List, [], ◌∷◌, length, refl, sym, ap, ◌∙◌}
+use Rattle.std.proofs.Common.{arith, ◌%◌, ◌==◌, if◌then◌else◌, eq-eqb, ne_eqb}
+use Rattle.std.proofs.lemmas.Bool.{cases_eq}
 use Rattle.std.proofs.lemmas.Nat.{mod_below}
 use Rattle.striped_lanes.specs.Machine.{put}
 use Rattle.striped_lanes.specs.Schedules.{total}
@@ -45,18 +44,17 @@ part_within c i k (x ∷ xs) h some =
 pub part_lengths : {X : Type 0} (c k : ℕ) (xs : List X) → 0 < c → total c (λ i. length (part c i k xs)) ≡ length xs
 part_lengths c k [] h = total_zero c (λ i. 0) (λ i. refl)
 part_lengths c k (x ∷ xs) h =
-    let f : ℕ → ℕ = λ i. length (part c i (k + 1) xs) in let same = total_same c (λ i. length (part c i k (x ∷ xs)))
-    (put f (k % c) (1 + f (k % c))) (λ i l. elim (cases_eq i (k % c)) [
-      | inl e ↦ rw (eq-eqb i (k % c) e) (ap length
-          (part_own c i k x xs (sym e)) ∙ (omega arith ∙ ap (λ (n : ℕ). 1 + n) (ap f e)))
-      | inr n ↦ rw (ne_eqb i (k % c) n)
-          (ap length (part_other c i k x xs (λ e. n (sym e))))
-    ]) in omega (
-      arith,
-      same,
-      part_lengths c (k + 1) xs h,
-      (total_put c (λ n. n) f (k % c) (1 + f (k % c)) (mod_below k c h)),
-    )
+    let f : ℕ → ℕ = λ i. length (part c i (k + 1) xs) in
+    let same =
+    total_same c (λ i. length (part c i k (x ∷ xs))) (put f (k % c) (1 + f (k % c))) (λ i l.
+    elim (cases_eq i (k % c)) [
+      | inl e ↦
+          rw (eq-eqb i (k % c) e)
+          (ap length (part_own c i k x xs (sym e)) ∙ (omega arith ∙ ap (λ (n : ℕ). 1 + n) (ap f e)))
+      | inr n ↦ rw (ne_eqb i (k % c) n) (ap length (part_other c i k x xs (λ e. n (sym e))))
+    ]) in
+    let put = total_put c (λ n. n) f (k % c) (1 + f (k % c)) (mod_below k c h) in
+    omega (arith, same, part_lengths c (k + 1) xs h, put)
 
 -- the first item of the next stripe is the first of all
 pub part_head : {X : Type 0} (c i k : ℕ) (xs zs : List X) (x : X) → k % c ≡ i → x ∷ zs ≡ part c i k xs

@@ -1,7 +1,6 @@
 -- The law, from what every act keeps.
-use Rattle.std.proofs.Common.{rules}
-use Rattle.std.proofs.Common.{◌≡◌, ◌<◌, ◌≤◌, ◌+◌, ◌*◌, ℕ, List, [], ◌∷◌, length, inl, inr}
-use Rattle.std.proofs.Common.{refl, sym, subst, ap, arith}
+use Rattle.std.proofs.Common.{rules, ◌≡◌, ◌<◌, ◌≤◌, ◌+◌, ◌*◌, ℕ, List, [], ◌∷◌, length, inl, inr, refl, sym, subst, ap}
+use Rattle.std.proofs.Common.{arith}
 use Rattle.striped_lanes.specs.Machine.{World, State, Actor, act, start}
 use Rattle.striped_lanes.specs.Schedules.{AtMostChange, HasChanges, at_end, change, idle, run, standing}
 use Rattle.striped_lanes.specs.Places.{HaveNumbersFrom, ArePoppedInOrder, EachStandsOnce, GoesOn, KeepNumbers, Numbers}

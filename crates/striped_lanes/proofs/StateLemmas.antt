@@ -1,9 +1,7 @@
 -- What the invariant says of the rows that are popped, and of how many entries stand between the ends.
-use Rattle.std.proofs.Common.{rules}
-use Rattle.std.proofs.Common.{◌≡◌, ◌<◌, ◌≤◌, ◌+◌, ◌*◌, ◌++◌, ℕ, length, Option, Some, None}
-use Rattle.std.proofs.Common.{ap, ◌∙◌, arith, length-append}
-use Rattle.std.specs.Prelude.{option_to_list}
-use Rattle.std.proofs.lemmas.List.{length-map, map-append, take_at}
+use Rattle.std.proofs.Common.{rules, ◌≡◌, ◌<◌, ◌≤◌, ◌+◌, ◌*◌, ◌++◌, ℕ, length, Option, Some, None, ap, ◌∙◌, arith}
+use Rattle.std.proofs.Common.{length-append, option_to_list, take_at}
+use Rattle.std.proofs.lemmas.List.{length-map, map-append}
 use Rattle.striped_lanes.specs.Machine.{World, State}
 use Rattle.striped_lanes.specs.Schedules.{standing, standing_in}
 use Rattle.striped_lanes.specs.Places.{ArePoppedInOrder}

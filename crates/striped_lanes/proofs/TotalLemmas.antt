@@ -34,14 +34,14 @@ pub total_put : {X : Type 0} (c : ℕ) (weight : X → ℕ) (old : ℕ → X) (i
 total_put zero weight old i x h = absurd (omega arith)
 total_put (suc c) weight old i x h =
     elim (cases_eq i c) [
-      | inl e ↦ let here : weight (put old i x c) ≡ weight x = ap weight (rw (eq-eqb c i (sym e))
-          refl) in let at : weight (old c) ≡ weight (old i) = ap (λ (k : ℕ). weight (old k)) (sym e) in omega (
-            arith,
-            here,
-            (total_same c (λ j. weight (put old i x j)) (λ j. weight (old j)) (λ j l. ap weight (put_other old i j x (omega
-                arith)))),
-            at,
-          )
-      | inr n ↦ let here : weight (put old i x c) ≡ weight (old c) = ap weight (put_other old i c x (λ e.
-          n (sym e))) in omega (arith, here, total_put c weight old i x (omega arith))
+      | inl e ↦
+          let here : weight (put old i x c) ≡ weight x = ap weight (rw (eq-eqb c i (sym e)) refl) in
+          let rest =
+          total_same c (λ j. weight (put old i x j)) (λ j. weight (old j))
+          (λ j l. ap weight (put_other old i j x (omega arith))) in
+          let at : weight (old c) ≡ weight (old i) = ap (λ (k : ℕ). weight (old k)) (sym e) in
+          omega (arith, here, rest, at)
+      | inr n ↦
+          let here : weight (put old i x c) ≡ weight (old c) = ap weight (put_other old i c x (λ e. n (sym e))) in
+          omega (arith, here, total_put c weight old i x (omega arith))
     ]

@@ -1,6 +1,5 @@
 -- What the arguments mean, and that it is all that they mean.
-use Rattle.std.proofs.Common.{◌∙◌, sym, subst, map, inr}
-use Rattle.std.specs.Prelude.{IfSome}
+use Rattle.std.proofs.Common.{◌∙◌, sym, subst, map, inr, IfSome}
 use Rattle.std.specs.String.{string_bytes}
 use Rattle.clap.proofs.TakesLemmas.{passed_up}
 use Rattle.register_arguments.specs.CommandLine.{Values}

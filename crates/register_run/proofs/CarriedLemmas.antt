@@ -1,29 +1,23 @@
 -- What lanes carry: the rows of a converter by the entries that it took.
-use Rattle.std.proofs.Common.{◌≡◌, ◌∙◌, ap, sym, subst, refl, zero, suc, List, [], ◌∷◌, ◌++◌, append_assoc, append-nil}
-use Rattle.std.proofs.Common.{ℕ, ◌+◌, length, map, false, true, Option, None, Some, arith}
-use Rattle.std.specs.Prelude.{Bool, Err, MatchOption, Ok, OnErr, OnOk, Result, eqb, is_err}
+use Rattle.std.proofs.Common.{rules, ◌≡◌, ◌∙◌, ap, sym, subst, refl, zero, suc, List, [], ◌∷◌, ◌++◌, append_assoc}
+use Rattle.std.proofs.Common.{append-nil, ℕ, ◌+◌, length, map, false, true, Option, None, Some, arith, Bool, Err}
+use Rattle.std.proofs.Common.{MatchOption, Ok, OnErr, OnOk, Result, eqb, is_err}
 use Rattle.std.specs.List.{Contains}
 use Rattle.std.specs.Option.{option_eq}
 use Rattle.std.proofs.lemmas.List.{get_or-map, length-map, length_push, map-append}
 use Rattle.std.proofs.lemmas.List.Elements.{Contains-append_left}
 use mathlib.Core.List.{IsPrefix}
+use Rattle.register_run.proofs.Words.{entries_in, HasConfirmation, Lane, all_sent, closed_lane, sender_lane, sent}
+use Rattle.register_run.proofs.Words.{taken, Gone, Item, Closed, Sender, entry_seen, Entry, Row, HasPassedOn}
+use Rattle.register_run.proofs.Words.{AreOfAllTaken, AreOfTaken, HasEnded, carried, row_entries, rows_carried}
+use Rattle.register_run.proofs.Words.{IsConverting, Stripe}
 use Rattle.lane_rings.proofs.EndLemmas.{entries_in_append, last_mark_append}
-use Rattle.lane_rings.specs.Items.{entries_in, last_mark}
-use Rattle.lane_rings.specs.Lane.{HasConfirmation, IsWhole, Lane, all_sent, closed_lane, sender_lane, sent, taken}
-use Rattle.lane_rings.specs.Lane.{waiting}
-use Rattle.lane_rings.specs.declared.item.Gone.{Gone}
-use Rattle.lane_rings.specs.declared.item.Item.{Item}
+use Rattle.lane_rings.specs.Items.{last_mark}
+use Rattle.lane_rings.specs.Lane.{IsWhole, waiting}
 use Rattle.lane_rings.specs.declared.item.Item.TheVariants as item
 use Rattle.lane_rings.specs.declared.item.Mark.TheVariants.{Counted, Stopped}
-use Rattle.lane_rings.specs.declared.sender.Closed.{Closed}
-use Rattle.lane_rings.specs.declared.sender.Sender.{Sender}
-use Rattle.register_records.specs.Seen.{entry_seen}
-use Rattle.register_records.specs.declared.entries.Entry.{Entry}
-use Rattle.register_records.specs.declared.rows.Row.{Row}
-use Rattle.register_run.specs.Stripes.{HasPassedOn, StartWithRow}
-use Rattle.register_run.specs.Carried.{AreOfAllTaken, AreOfTaken, HasEnd, HasEnded, carried, row_entries, rows_carried}
-use Rattle.register_run.specs.JoinedThreads.{IsConverting}
-use Rattle.register_run.specs.declared.stripes.Stripe.{Stripe}
+use Rattle.register_run.specs.Stripes.{StartWithRow}
+use Rattle.register_run.specs.Carried.{HasEnd}
 use Rattle.register_run.specs.declared.converting.Converting.{Converting}
 use Rattle.register_run.proofs.ItemLemmas.{same_seen, took_next}
 
@@ -51,10 +45,7 @@ module _ {T : Type 0} where
 pub ended_by : (s : Sender Entry) (c : Closed Entry) (last : Item Entry) → entries_in (last ∷ []) ≡ []
     → (HasConfirmation c → closed_lane c ≡ Some (sender_lane s))
     → (HasConfirmation c → all_sent c ≡ sent s ++ last ∷ []) → HasEnded s c
-ended_by s c last none lane is = record {
-  lane = lane;
-  sent = λ sure. ap (λ l. map entry_seen l) (no_more (sent s) (all_sent c) last none (is sure));
-}
+ended_by s c last none lane is = search (rules, no_more)
 
 module _ {X Y : Type 0} (f : X → Y) where
   -- f of an element is one of those of all
@@ -116,8 +107,7 @@ module _ (entries all : List (Item Entry)) (rows more : List (Item Row)) (last :
 -- items that end with a stop do not end with an end
 pub stop_is_no_end : (entries : List (Item Entry)) (rows all : List (Item Row)) → all ≡ rows ++ item.Stop ∷ []
     → HasEnd all → AreOfAllTaken entries all
-stop_is_no_end entries rows all is (n, ends) =
-    let stopped = ap (λ (l : List (Item Row)). last_mark l) is ∙ last_mark_append rows item.Stop in cc
+stop_is_no_end entries rows all is (n, ends) = grind (arith, last_mark_append rows item.Stop)
 
 -- an item that was next was taken, and it is a row
 pub row_taken : (old new seen rest : List (Item Row)) → StartWithRow seen → new ++ rest ≡ old ++ seen
@@ -136,15 +126,17 @@ module _ (from into : Lane) (stripe : Stripe) (fed : Closed Entry) (converting :
     (keeps : IsConverting from into converting) (first : IsWhole fed converting.entries)
     (second : IsWhole converting.closed stripe.rows) (none : waiting stripe.rows ≡ []) where
   all_passed : HasEnd (taken stripe.rows) → rows_carried (taken stripe.rows) ≡ carried (all_sent fed)
-  all_passed ends =
-      rw (← second.equal, first.equal)
-      (ap (λ (l : List Entry). map entry_seen l) (keeps.all second.confirmed (rw second.equal ends)))
+  all_passed ends = grind (arith, second.equal, first.equal, keeps.all second.confirmed (rw second.equal ends))
 
   first_passed : IsPrefix (rows_carried (taken stripe.rows)) (carried (all_sent fed))
   first_passed =
-      rw (← second.equal, first.equal)
-      (map_prefix entry_seen (row_entries (all_sent converting.closed)) (entries_in (taken converting.entries))
-      (keeps.rows second.confirmed))
+      grind (
+        arith,
+        second.equal,
+        first.equal,
+        map_prefix entry_seen (row_entries (all_sent converting.closed))
+            (entries_in (taken converting.entries)) (keeps.rows second.confirmed),
+      )
 
   ends_so : (items : List (Item Row)) (ended : Option ℕ) (count : ℕ) → items ≡ taken stripe.rows
       → MatchOption ended (last_mark items ≡ Some Stopped) (λ n. last_mark items ≡ Some (Counted n))
@@ -155,9 +147,4 @@ module _ (from into : Lane) (stripe : Stripe) (fed : Closed Entry) (converting :
   pub passed_on : (items : List (Item Row)) (ended : Option ℕ) (count : ℕ) (b : Bool) → items ≡ taken stripe.rows
       → MatchOption ended (last_mark items ≡ Some Stopped) (λ n. last_mark items ≡ Some (Counted n))
       → b ≡ option_eq eqb ended (Some count) → HasPassedOn b stripe fed
-  passed_on items ended count b same mark is = record {
-    confirmed = first.confirmed;
-    first = first_passed;
-    all = λ e. all_passed (ends_so items ended count same mark (sym is ∙ e));
-    none_waits = none;
-  }
+  passed_on items ended count b same mark is = search (rules, first_passed, all_passed, ends_so)

@@ -1,18 +1,11 @@
 -- How a converter ends the lane of its rows.
-use Rattle.std.proofs.Common.{◌≡◌, ◌∙◌, ap, refl, List, [], ◌∷◌, ◌++◌, ◌+◌, length}
-use Rattle.std.specs.Prelude.{Some}
+use Rattle.std.proofs.Common.{rules, ◌≡◌, ◌∙◌, ap, refl, List, [], ◌∷◌, ◌++◌, ◌+◌, length, Some}
 use mathlib.Core.List.{IsPrefix}
-use Rattle.lane_rings.specs.Items.{entries_in}
-use Rattle.lane_rings.specs.Lane.{HasConfirmation, Lane, all_sent, closed_lane, receiver_lane, sender_lane, sent, taken}
-use Rattle.lane_rings.specs.declared.item.Item.{Item}
+use Rattle.register_run.proofs.Words.{entries_in, HasConfirmation, Lane, all_sent, closed_lane, receiver_lane}
+use Rattle.register_run.proofs.Words.{sender_lane, sent, taken, Item, Closed, Sender, Entry, Row, AreOfTaken}
+use Rattle.register_run.proofs.Words.{IsConverting}
 use Rattle.lane_rings.specs.declared.item.Item.TheVariants as item
 use Rattle.lane_rings.specs.declared.receiver.Receiver.{Receiver}
-use Rattle.lane_rings.specs.declared.sender.Closed.{Closed}
-use Rattle.lane_rings.specs.declared.sender.Sender.{Sender}
-use Rattle.register_records.specs.declared.entries.Entry.{Entry}
-use Rattle.register_records.specs.declared.rows.Row.{Row}
-use Rattle.register_run.specs.Carried.{AreOfTaken}
-use Rattle.register_run.specs.JoinedThreads.{IsConverting}
 use Rattle.register_run.proofs.CarriedLemmas.{first_ended, no_more, stop_is_no_end}
 use Rattle.register_run.proofs.ItemLemmas.{took_next}
 
@@ -20,8 +13,7 @@ use Rattle.register_run.proofs.ItemLemmas.{took_next}
 pub mark_taken : (old waited seen new rest : List (Item Entry)) (mark : Item Entry) → entries_in (mark ∷ []) ≡ []
     → waited ≡ old → IsPrefix (mark ∷ []) seen → new ++ rest ≡ waited ++ seen → length new ≡ length waited + 1
     → entries_in new ≡ entries_in old
-mark_taken old waited seen new rest mark none same next is one =
-    no_more old new mark none (took_next old waited seen new rest mark same next is one)
+mark_taken old waited seen new rest mark none same next is one = search (rules, no_more, took_next)
 
 -- it stopped, once no more entries were taken
 pub stops : (from into : Lane) (old : List (Item Entry)) (entries : Receiver Entry) (rows : Sender Row)

@@ -1,26 +1,14 @@
 -- Entries that the machine deals to the stripes.
-use Rattle.std.proofs.Common.{◌≡◌, ◌∙◌, ◌+◌, ◌-◌, ◌<◌, ℕ, zero, suc, List, [], ◌∷◌, ◌++◌, append-nil, arith, get_or}
-use Rattle.std.proofs.Common.{set}
-use Rattle.std.proofs.Common.{ap, map, sym}
-use Rattle.std.specs.Prelude.{◌==◌, All, Err, Ok, OnErr, OnOk, Result, false, is_err, true}
+use Rattle.std.proofs.Common.{rules, ◌≡◌, ◌∙◌, ◌+◌, ◌-◌, ◌<◌, ℕ, zero, suc, List, [], ◌∷◌, ◌++◌, append-nil, arith}
+use Rattle.std.proofs.Common.{get_or, set, ap, map, sym, ◌==◌, All, Err, Ok, OnErr, OnOk, Result, false, is_err, true}
+use Rattle.std.proofs.Common.{eq-eqb, ne_eqb}
 use Rattle.std.specs.List.{AllZip, Contains}
-use Rattle.std.proofs.lemmas.Bool.{eq-eqb, ne_eqb}
 use Rattle.std.proofs.lemmas.List.{map-append}
-use Rattle.std.proofs.lemmas.List.Elements.{All-contains, All-contains_itself, All-filter, All-head}
-use Rattle.std.proofs.lemmas.List.Elements.{All-tail, filter-append}
-use Rattle.lane_rings.specs.declared.sender.Closed.{Closed}
-use Rattle.lane_rings.specs.declared.sender.Sender.{Sender}
-use Rattle.lane_rings.specs.declared.item.Gone.{Gone}
-use Rattle.lane_rings.specs.declared.item.Item.{Item}
+use Rattle.std.proofs.lemmas.List.Elements.{All-contains, All-contains_itself, All-filter, All-head, All-tail}
+use Rattle.std.proofs.lemmas.List.Elements.{filter-append}
+use Rattle.register_run.proofs.Words.{Closed, Sender, Gone, Item, entries_in, sent, Numbered, entry_seen, Entry}
+use Rattle.register_run.proofs.Words.{AreDealt, HasEnded, WereDealt, carried, dealt, turn, World}
 use Rattle.lane_rings.specs.declared.item.Item.TheVariants as item
-use Rattle.lane_rings.specs.Items.{entries_in}
-use Rattle.lane_rings.specs.Lane.{sent}
-use Rattle.register_records.specs.Entries.{Numbered}
-use Rattle.register_records.specs.Seen.{entry_seen}
-use Rattle.register_records.specs.declared.entries.Entry.{Entry}
-use Rattle.register_run.specs.Carried.{AreDealt, HasEnded, WereDealt, carried, dealt}
-use Rattle.striped_lanes.specs.Machine.{turn}
-use Rattle.register_run.specs.Worlds.{World}
 use Rattle.register_run.proofs.CarriedLemmas.{one_more}
 
 module _ (w : World) (given more : List Numbered) (e : Numbered) (is : more ≡ given ++ e ∷ []) where
@@ -45,10 +33,8 @@ module _ (w : World) (given more : List Numbered) (e : Numbered) (is : more ≡ 
       → carried (sent new) ≡ carried (sent (get_or senders at d)) ++ e ∷ [] → AreDealt w i given senders
       → AreDealt w i more (set senders at new)
   dealt_set i at [] new d on gains all = tt
-  dealt_set i zero (s ∷ rest) new d on gains all = (
-    gains ∙ ap (λ (l : List Numbered). l ++ e ∷ []) all.0 ∙ sym (dealt_own i (omega (arith, on))),
-    later (i + 1) rest (omega (arith, on)) all.1,
-  )
+  dealt_set i zero (s ∷ rest) new d on gains all =
+      grind (arith, all.0, sym (dealt_own i (omega (arith, on))), later (i + 1) rest (omega (arith, on)) all.1)
   dealt_set i (suc at) (s ∷ rest) new d on gains all = (
     all.0 ∙ sym (dealt_other i (λ same. omega (arith, on, same))),
     dealt_set (i + 1) at rest new d (omega (arith, on)) gains all.1,
@@ -91,8 +77,7 @@ pub dealt_unsent : (w : World) (at : ℕ) (given : List Numbered) (senders : Lis
     → OnErr r (sent new ≡ sent old) → AreDealt w 0 given senders
     → AreDealt w 0 given (set senders at new)
 dealt_unsent w at given senders new old (Ok u) is sure gone all = cc
-dealt_unsent w at given senders new old (Err g) is sure gone all =
-    dealt_same w 0 at given senders new old (gone ∙ ap (λ (s : Sender Entry). sent s) is) all
+dealt_unsent w at given senders new old (Err g) is sure gone all = search (rules, dealt_same)
 
 -- the lanes were ended
 pub dealt_ended : (w : World) (i : ℕ) (given : List Numbered) (senders : List (Sender Entry))

@@ -1,44 +1,34 @@
 -- What is known of a source that has ended.
-use Rattle.std.proofs.Common.{◌≡◌, ◌≢◌, ◌∙◌, ap, refl, sym, subst, ℕ, List, [], ◌∷◌, ◌++◌, length, Option, None, Some}
-use Rattle.std.proofs.Common.{◌≤◌, inl, inr, arith, append-nil, length-append, map, ◌+◌, true, false, Bool}
-use Rattle.std.specs.Prelude.{Err, IfOk, IfSome}
+use Rattle.std.proofs.Common.{rules, ◌≡◌, ◌≢◌, ◌∙◌, ap, refl, sym, subst, ℕ, List, [], ◌∷◌, ◌++◌, length, Option, None}
+use Rattle.std.proofs.Common.{Some, ◌≤◌, inl, inr, arith, append-nil, length-append, map, ◌+◌, true, false, Bool, Err}
+use Rattle.std.proofs.Common.{IfOk, IfSome}
 use Rattle.std.specs.Option.{is_some}
 use Rattle.std.specs.List.{Contains, range_with_len}
 use Rattle.std.specs.Io.KnownBytes.{Appends, append_known}
 use Rattle.std.proofs.lemmas.Bool.{cases_eq, false_from_ne_true}
 use Rattle.std.proofs.lemmas.List.{length-map}
-use Rattle.std.proofs.lemmas.List.Elements.{All-contains, All-from_recursion, Contains-append_right}
+use Rattle.std.proofs.lemmas.List.Elements.{Contains-append_right}
 use Rattle.std.proofs.Props.{props}
 use Rattle.std.proofs.Math.Logic.{∥∥₁_elim, ∥∥₁_map, ∥∥₁_prop}
-use Rattle.date_texts.specs.declared.target.Target.{Target}
+use Rattle.register_run.proofs.Words.{Target, Row, Cause, SourceEnd, RowWriter, AreNumberedFrom, HasAllEntries}
+use Rattle.register_run.proofs.Words.{HasEntries, HasFirstEntries, Numbered, record_limit, AreRowsOf, entry_seen}
+use Rattle.register_run.proofs.Words.{IfBroken, IfWhole, cause_number, Layout, format_of, layout_of, row_seen}
+use Rattle.register_run.proofs.Words.{row_targets, waiting_in, Stripe, Sent, Met, TableWriter, HasMetNone, IsLowest}
+use Rattle.register_run.proofs.Words.{IsMet, fault_of, is_of_table, IsSourceEnd, Carries, IsMachineWithTable, HasPassed}
+use Rattle.register_run.proofs.Words.{IsGiven, IsOfGiven, Holds, IsTableSoFar, entries_seen, rows_seen}
+use Rattle.register_records.specs.Tables.{table_text}
+use Rattle.register_run.specs.JoinedThreads.{IsNotOfOutput, is_of_reading, speaks_of_text}
 use Rattle.register_records.specs.declared.outputs.Output as outputs
-use Rattle.register_records.specs.declared.rows.Row.{Row}
-use Rattle.register_records.specs.declared.ends.Cause.{Cause}
 use Rattle.register_records.specs.declared.ends.Cause.TheVariants as cause
-use Rattle.register_records.specs.declared.ends.SourceEnd.{SourceEnd}
 use Rattle.register_records.specs.declared.ends.SourceEnd.TheVariants as end
-use Rattle.register_records.specs.declared.writing.RowWriter.{RowWriter}
-use Rattle.register_records.specs.Entries.{AreNumberedFrom, HasAllEntries, HasEntries, HasFirstEntries}
-use Rattle.register_records.specs.Entries.{Numbered, record_limit}
-use Rattle.register_records.specs.Outcomes.{AreRowsOf, IsRowOf}
-use Rattle.register_records.specs.Seen.{entry_seen}
-use Rattle.register_records.specs.Sources.{ArePartOfTable, Gains, IfBroken, IfWhole, IsFrontOfTable, IsTableOf}
-use Rattle.register_records.specs.Sources.{cause_number}
-use Rattle.register_records.specs.Tables.{Layout, table_text}
-use Rattle.register_records.specs.Views.{format_of, layout_of, row_seen, row_targets, waiting_in}
+use Rattle.register_records.specs.Outcomes.{IsRowOf}
+use Rattle.register_records.specs.Sources.{ArePartOfTable, Gains, IsFrontOfTable, IsTableOf}
 use Rattle.register_records.proofs.SomeRecordsLemmas.{front_of_some}
-use Rattle.register_run.specs.declared.stripes.Stripe.{Stripe}
-use Rattle.register_run.specs.declared.reading.Sent.{Sent}
 use Rattle.register_run.specs.declared.table_writers.Course.{Course}
 use Rattle.register_run.specs.declared.table_writers.Course.TheVariants as course
-use Rattle.register_run.specs.declared.ended_sources.Met.{Met}
-use Rattle.register_run.specs.declared.table_writers.TableWriter.{TableWriter}
-use Rattle.register_run.specs.Courses.{Differs, HasMetNone, IsLowest, IsMet, fault_of, is_of_table, output_failed}
-use Rattle.register_run.specs.Headline.{IsAllOfTable, IsSourceEnd, causes_of_reading}
-use Rattle.register_run.specs.Histories.{Carries, IsMachineWithTable}
-use Rattle.register_run.specs.JoinedThreads.{IsNotOfOutput, HasPassed, IsGiven, IsOfGiven, is_of_reading}
-use Rattle.register_run.specs.JoinedThreads.{speaks_of_text}
-use Rattle.register_run.specs.TablesWritten.{AllSent, Holds, IsTableSoFar, entries_seen, rows_seen, waiting_of}
+use Rattle.register_run.specs.Courses.{Differs, output_failed}
+use Rattle.register_run.specs.Headline.{IsAllOfTable, causes_of_reading}
+use Rattle.register_run.specs.TablesWritten.{AllSent, waiting_of}
 use Rattle.register_run.proofs.FrontLemmas.{first_of_first, front_all, rows_front}
 use Rattle.register_run.proofs.TableLemmas.{stands_none}
 
@@ -75,19 +65,19 @@ faultless (course.OutputFailed c) e = cc
 faultless c e = refl
 
 listed : (c : Cause) → Contains causes_of_reading c → is_of_reading c ≡ true
-listed c h =
-    let each = λ (d : Cause). is_of_reading d ≡ true in
-    All-contains each causes_of_reading c
-    (All-from_recursion each causes_of_reading (refl, (refl, (refl, (refl, tt))))) h
+listed c h = search rules
 
 table_so : {W : Type 0} (o : outputs.Ghosts W) (layout : Layout) (given output : W) (w : Option RowWriter)
     (rows : List Row) → is_some w ≡ true → waiting_of w ≡ [] → IsTableSoFar o layout given output w rows
     → Appends (o.contents given) (o.contents output) (table_text layout (rows_seen rows)) × (o.is_flushed output ≡ true)
 table_so o layout given output None rows e none h = absurd (cc)
-table_so o layout given output (Some w) rows e none h = (
-  appends_waited (o.contents given) (o.contents output) (waiting_in w) (table_text layout (rows_seen rows)) none h.0,
-  h.1,
-)
+table_so o layout given output (Some w) rows e none h =
+    grind (
+      arith,
+      appends_waited (o.contents given) (o.contents output) (waiting_in w) (table_text layout (rows_seen
+          rows)) none h.0,
+      h.1,
+    )
 
 -- the causes of reading are higher than those of a table
 high : (c : Cause) → is_of_reading c ≡ true → 5 ≤ cause_number c
@@ -109,8 +99,7 @@ module _ (met : Met) (c : Cause) (of_table : IfSome met.fault (λ f. is_of_table
   -- a cause that no table gives is the outcome of the threads
   met_by_threads : is_of_table c ≡ false → IsMet met c → met.sent.outcome ≡ Err c
   met_by_threads other (inl speaks) = speaks
-  met_by_threads other (inr (inl broke)) =
-      absurd (let k = subst (λ f. IfSome f (λ d. is_of_table d ≡ true)) broke of_table in cc)
+  met_by_threads other (inr (inl broke)) = search rules
   met_by_threads other (inr (inr differs)) = absurd (let k = ap is_of_table differs.0 in cc)
 
   sink_met : IsNotOfOutput met.sent.outcome → IsMet met c → c ≡ cause.SinkFault → met.fault ≡ Some cause.SinkFault
@@ -124,8 +113,7 @@ module _ (met : Met) (c : Cause) (of_table : IfSome met.fault (λ f. is_of_table
 
     none_broke : (f : Option Cause) → met.fault ≡ f → f ≡ None
     none_broke None e = refl
-    none_broke (Some d) e = absurd (not_of_table d
-        (subst (λ f. IfSome f (λ d. is_of_table d ≡ true)) e of_table) (lowest.1 d (inr (inl e))))
+    none_broke (Some d) e = search (rules, not_of_table)
 
     read_outcome : met.sent.outcome ≡ Err c
     read_outcome = met_by_threads (false_from_ne_true (is_of_table c) (λ of. not_of_table c of (omega arith))) lowest.0
@@ -147,8 +135,7 @@ module _ (met : Met) (c : Cause) (of_table : IfSome met.fault (λ f. is_of_table
 -- cause 2 is the outcome of the threads
 pub thread_outcome : (met : Met) → IfSome met.fault (λ f. is_of_table f ≡ true) → (e : SourceEnd)
     → IfBroken e (IsLowest (IsMet met)) → e ≡ end.Broken cause.NoThread → met.sent.outcome ≡ Err cause.NoThread
-thread_outcome met of_table e lowest is =
-    met_by_threads met cause.NoThread of_table refl (subst (λ b. IfBroken b (IsLowest (IsMet met))) is lowest).0
+thread_outcome met of_table e lowest is = search (rules, met_by_threads, met)
 
 module _ {W : Type 0} (o : outputs.Ghosts W) (text : Option (List ℕ)) (table : TableWriter W o) (rows : List Row)
     (passed : Sent) (holds : Holds table rows) (sent : AllSent table)
@@ -179,39 +166,27 @@ module _ {W : Type 0} (o : outputs.Ghosts W) (text : Option (List ℕ)) (table :
 
   unwritten : output_failed table.course ≡ false → is_some table.writer ≡ false
       → (table.output ≡ table.given.value) × (rows ≡ [])
-  unwritten good none =
-      stands_none o layout table.given.value table.output table.writer rows none (holds.stands good)
+  unwritten good none = search (rules, stands_none, layout)
 
   written : output_failed table.course ≡ false → is_some table.writer ≡ true
       → Appends (o.contents table.given.value) (o.contents table.output)
       (table_text layout (rows_seen rows)) × (o.is_flushed table.output ≡ true)
-  written good some =
-      table_so o layout table.given.value table.output table.writer rows some (sent good) (holds.stands good)
+  written good some = search (rules, table_so, layout)
 
   -- without a heading the output has gained nothing, and with one the table of the rows
   gained_so : (AreSo : List ℕ → Type 0) (b : Bool) → is_some table.writer ≡ b → output_failed table.course ≡ false
       → (rows ≡ [] → AreSo []) → (is_some table.writer ≡ true → AreSo (table_text layout (rows_seen rows)))
       → Gained AreSo
-  gained_so AreSo false b good none some =
-      let (same, empty) = unwritten good b in
-      ([], none empty, appends_nothing (o.contents table.given.value) (o.contents table.output) (ap o.contents same))
+  gained_so AreSo false b good none some = search (rules, unwritten, appends_nothing)
   gained_so AreSo true b good none some = (table_text layout (rows_seen rows), some b, (written good b).0)
 
   in_order_so : output_failed table.course ≡ false → AreRows → Gained (ArePartOfTable layout None)
-  in_order_so good are =
-      gained_so (ArePartOfTable layout None) (is_some table.writer) refl good (λ none. inl refl)
-      (λ some. inr (length (rows_seen rows), front_of_some layout rows holds.numbered are))
+  in_order_so good are = search (rules, gained_so, layout, front_of_some)
 
   front_so : (count : ℕ) → count ≡ length (rows_seen rows) → AreRows
       → HasFirstEntries (format_of table.setup) text (entries_seen rows)
       → IsFrontOfTable layout text count (table_text layout (rows_seen rows))
-  front_so count counted are first = record {
-    entries = entries_seen rows;
-    rows = rows_seen rows;
-    table = table_is are;
-    counted = counted;
-    first = first;
-  }
+  front_so count counted are first = search (rules, table_is)
 
   not_failed : o.has_failed table.output ≡ false → output_failed table.course ≡ false
   not_failed good = false_from_ne_true (output_failed table.course) (λ s. let f = table.failed s in absurd (cc))
@@ -222,9 +197,7 @@ module _ {W : Type 0} (o : outputs.Ghosts W) (text : Option (List ℕ)) (table :
     taken_front = rows_front given rows is.numbered holds.numbered all
 
     none_given : given ≡ [] → table.rows ≡ 0
-    none_given e =
-        let n = ap length (sym taken_front.1 ∙ e) in let l = entries_len in
-        omega (arith, length-append (entries_seen rows) taken_front.0)
+    none_given e = grind (arith, taken_front.1, entries_len, length-append (entries_seen rows) taken_front.0)
 
     first_so : table.rows ≢ 0 → HasFirstEntries (format_of table.setup) text (entries_seen rows)
     first_so some = elim is.first [

@@ -1,24 +1,19 @@
 -- Entries that are numbered in order are the first of those among which they stand.
-use Rattle.std.proofs.Common.{◌≡◌, ◌∙◌, ap, refl, sym, ℕ, zero, suc, ◌+◌, ◌≤◌, List, [], ◌∷◌, ◌++◌, length}
+use Rattle.std.proofs.Common.{rules, ◌≡◌, ◌∙◌, ap, refl, sym, ℕ, zero, suc, ◌+◌, ◌≤◌, List, [], ◌∷◌, ◌++◌, length}
 use Rattle.std.proofs.Common.{arith, append_assoc, length-append, append-nil, Option}
 use Rattle.std.specs.List.{Contains}
 use Rattle.std.proofs.lemmas.List.Elements.{All-contains, All-contains_itself, All-map, All-weaker}
-use Rattle.register_records.specs.Entries.{AreNumberedFrom, Format, HasFirstEntries, Numbered}
-use Rattle.register_records.specs.Seen.{entry_seen}
-use Rattle.register_records.specs.declared.rows.Row.{Row}
-use Rattle.register_run.specs.JoinedThreads.{IsOfGiven}
-use Rattle.register_run.specs.TablesWritten.{entries_seen}
+use Rattle.register_run.proofs.Words.{AreNumberedFrom, Format, HasFirstEntries, Numbered, entry_seen, Row, IsOfGiven}
+use Rattle.register_run.proofs.Words.{entries_seen}
 
 later : (k : ℕ) (ys : List Numbered) (z : Numbered) → AreNumberedFrom k ys → Contains ys z → k ≤ z.number
 later k [] z h c = absurd (omega (arith, c.1))
-later k (y ∷ ys) z h (zero, below, is) =
-    let e : y.number ≡ z.number = ap (λ (n : Numbered). n.number) is in let f = h.0 in omega arith
+later k (y ∷ ys) z h (zero, below, is) = grind (arith, h.0)
 later k (y ∷ ys) z h (suc i, below, is) = let m = later (k + 1) ys z h.1 (i, omega arith, is) in omega arith
 
 in_rest : (k : ℕ) (y : Numbered) (ys : List Numbered) (z : Numbered) → y.number ≡ k → k + 1 ≤ z.number
     → Contains (y ∷ ys) z → Contains ys z
-in_rest k y ys z e f (zero, below, is) =
-    absurd (let g : y.number ≡ z.number = ap (λ (n : Numbered). n.number) is in omega arith)
+in_rest k y ys z e f (zero, below, is) = search rules
 in_rest k y ys z e f (suc i, below, is) = (i, omega arith, is)
 
 is_first : (k : ℕ) (y : Numbered) (ys : List Numbered) (z : Numbered) → AreNumberedFrom (k + 1) ys → z.number ≡ k
@@ -61,5 +56,4 @@ front_all given xs rest e len = e ∙ none_more xs rest (sym (ap length e) ∙ l
 
 pub first_of_first : (format : Format) (text : Option (List ℕ)) (given xs rest : List Numbered) → given ≡ xs ++ rest
     → HasFirstEntries format text given → HasFirstEntries format text xs
-first_of_first format text given xs rest e (more, (after, has, is)) =
-    (rest ++ more, (after, has, sym (append_assoc xs rest more) ∙ (ap (λ l. l ++ more) (sym e) ∙ is)))
+first_of_first format text given xs rest e (more, (after, has, is)) = search (rules, append_assoc)

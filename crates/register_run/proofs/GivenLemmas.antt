@@ -1,25 +1,17 @@
 -- What a reader gave of a text, by how it ended.
-use Rattle.std.proofs.Common.{◌≡◌, ◌∙◌, ap, subst, sym, refl, true, ℕ, ◌+◌, List, [], ◌∷◌, ◌++◌, length}
-use Rattle.std.proofs.Common.{Option, inl, inr, arith}
-use Rattle.std.specs.Prelude.{Err, IfSome, Ok, Result}
+use Rattle.std.proofs.Common.{rules, ◌≡◌, sym, refl, ℕ, ◌+◌, List, [], ◌∷◌, ◌++◌, length, Option}
+use Rattle.std.proofs.Common.{inr, arith, Err, IfSome, Ok}
 use Rattle.std.proofs.Math.Logic.{∥∥₁_elim, ∥∥₁_map, ∥∥₁_prop}
+use Rattle.register_run.proofs.Words.{AreNumberedFrom, Format, HasAllEntries, HasEntries, HasFirstEntries, Numbered}
+use Rattle.register_run.proofs.Words.{record_limit, Cause, Sender, Entry, Row, AreDealt, World}
+use Rattle.register_run.proofs.Words.{HasPassed, IsGiven, Sent}
 use Rattle.register_records.specs.Causes.{entry_fault_cause}
-use Rattle.register_records.specs.Entries.{AreNumberedFrom, Format, HasAllEntries, HasEntries, HasFirstEntries}
-use Rattle.register_records.specs.Entries.{HasNoHeader, HasTooMany, IsNotSealed, Numbered, record_limit}
+use Rattle.register_records.specs.Entries.{HasNoHeader, HasTooMany, IsNotSealed}
 use Rattle.register_records.specs.declared.reading.EntryFault.{EntryFault}
 use Rattle.register_records.specs.declared.reading.EntryFault.TheVariants as fault
 use Rattle.register_records.specs.declared.setups.Form.TheVariants.{Sealed}
-use Rattle.register_records.specs.declared.ends.Cause.{Cause}
 use Rattle.register_records.specs.declared.ends.Cause.TheVariants as cause
-use Rattle.lane_rings.specs.declared.sender.Sender.{Sender}
-use Rattle.register_records.specs.declared.entries.Entry.{Entry}
-use Rattle.register_records.specs.declared.rows.Row.{Row}
-use Rattle.register_run.specs.Carried.{AreDealt}
-use Rattle.register_run.specs.Worlds.{World}
-use Rattle.register_run.specs.JoinedThreads.{IsNotOfOutput, HasPassed, IsGiven, IsOfThreads, Sends}
-use Rattle.register_run.specs.JoinedThreads.{is_of_reading}
-use Rattle.register_run.specs.JoinedThreads.{speaks_of_text}
-use Rattle.register_run.specs.declared.reading.Sent.{Sent}
+use Rattle.register_run.specs.JoinedThreads.{IsOfThreads, Sends}
 
 pub numbered_more : (k : ℕ) (given : List Numbered) (n : Numbered) → AreNumberedFrom k given
     → n.number ≡ k + length given → AreNumberedFrom k (given ++ n ∷ [])
@@ -33,31 +25,13 @@ fault_of_cause : (f : EntryFault) (c : Cause) → c ≡ entry_fault_cause f
 fault_of_cause fault.OutOfMemory c is = (λ e. cc, λ e. cc, λ e. cc)
 fault_of_cause f c is = (λ e. cc, λ e. cc, λ e. cc)
 
--- what was sent, by its parts
-abbrev sent_of : ℕ → Result ℕ Cause → Sent
-sent_of n outcome = record { count = n; outcome = outcome }
-
-made_so : (sent : Sent) (n : ℕ) (outcome : Result ℕ Cause) → sent.count ≡ n → sent.outcome ≡ outcome
-    → sent_of n outcome ≡ sent
-made_so sent n outcome counted why =
-    sym (ap (λ (m : ℕ). sent_of m sent.outcome) counted ∙ ap (λ (o : Result ℕ Cause). sent_of n o) why)
-
 module _ (text : Option (List ℕ)) (format : Format) where
   -- the text was not opened
   pub given_none : (f : EntryFault) (c : Cause) → c ≡ entry_fault_cause f
       → (f ≡ fault.BadHeader → IfSome text (λ t. HasNoHeader format t)) → (f ≡ fault.TooManyRecords → ⊥)
       → (f ≡ fault.NotSealed → ⊥) → (sent : Sent) → (sent.count ≡ 0) × (sent.outcome ≡ Err c)
       → IsGiven text format sent []
-  given_none f c is bad many unsealed sent (none, why) =
-      subst (λ s. IsGiven text format s []) (made_so sent 0 (Err c) none why) (record {
-        counted = λ speaks. refl;
-        numbered = tt;
-        first = inl refl;
-        all = tt;
-        bad_header = λ e. (refl, bad ((fault_of_cause f c is).0 e));
-        too_many = λ e. absurd (many ((fault_of_cause f c is).1 e));
-        not_sealed = λ e. absurd (unsealed ((fault_of_cause f c is).2 e));
-      })
+  given_none f c is bad many unsealed sent (none, why) = search (rules, fault_of_cause)
 
   stopped_so : (f : EntryFault) (c : Cause) (given : List Numbered) → c ≡ entry_fault_cause f
       → (f ≡ fault.BadHeader → ⊥)
@@ -66,16 +40,8 @@ module _ (text : Option (List ℕ)) (format : Format) where
       → (f ≡ fault.TooManyRecords → (length given ≡ record_limit) × IfSome text (λ t. HasTooMany format t))
       → (f ≡ fault.NotSealed → (format.form ≡ Sealed) × IfSome text (λ t. IsNotSealed format t)
       × HasAllEntries format text given)
-      → IsGiven text format (record { count = length given; outcome = Err c }) given
-  stopped_so f c given is bad numbered first many unsealed = record {
-    counted = λ speaks. refl;
-    numbered = numbered;
-    first = inr first;
-    all = tt;
-    bad_header = λ e. absurd (bad ((fault_of_cause f c is).0 e));
-    too_many = λ e. many ((fault_of_cause f c is).1 e);
-    not_sealed = λ e. unsealed ((fault_of_cause f c is).2 e);
-  }
+      → (sent : Sent) → sent.count ≡ length given → sent.outcome ≡ Err c → IsGiven text format sent given
+  stopped_so f c given is bad numbered first many unsealed sent counted why = search (rules, fault_of_cause)
 
   -- the reading stopped after these entries
   pub given_stopped : (f : EntryFault) (c : Cause) (given : List Numbered) → c ≡ entry_fault_cause f
@@ -85,30 +51,30 @@ module _ (text : Option (List ℕ)) (format : Format) where
       → (f ≡ fault.NotSealed → ∥ HasAllEntries format text given ∥₁)
       → AreNumberedFrom 1 given
       → ∥ HasFirstEntries format text given ∥₁
-      → ∥ IsGiven text format (record { count = length given; outcome = Err c }) given ∥₁
-  given_stopped fault.TooManyRecords c given is bad many unsealed above numbered first =
+      → (sent : Sent) → sent.count ≡ length given → sent.outcome ≡ Err c → ∥ IsGiven text format sent given ∥₁
+  given_stopped fault.TooManyRecords c given is bad many unsealed above numbered first sent counted why =
       ∥∥₁_elim first ∥∥₁_prop (λ s.
       ∥∥₁_map (many refl).1 (λ m.
-      stopped_so fault.TooManyRecords c given is bad numbered s (λ e. ((many refl).0, m)) (λ e. cc)))
-  given_stopped fault.NotSealed c given is bad many unsealed above numbered first =
+      stopped_so fault.TooManyRecords c given is bad numbered s (λ e. ((many refl).0, m)) (λ e. cc) sent counted why))
+  given_stopped fault.NotSealed c given is bad many unsealed above numbered first sent counted why =
       ∥∥₁_elim first ∥∥₁_prop (λ s. ∥∥₁_elim (above refl) ∥∥₁_prop (λ a.
       ∥∥₁_map (unsealed refl).1 (λ u.
-      stopped_so fault.NotSealed c given is bad numbered s (λ e. cc) (λ e. ((unsealed refl).0, u, a)))))
-  given_stopped f c given is bad many unsealed above numbered first =
-      ∥∥₁_map first (λ s. stopped_so f c given is bad numbered s (λ e. cc) (λ e. cc))
+      stopped_so fault.NotSealed c given is bad numbered s (λ e. cc) (λ e. ((unsealed refl).0, u, a)) sent counted why)))
+  given_stopped f c given is bad many unsealed above numbered first sent counted why =
+      ∥∥₁_map first (λ s. stopped_so f c given is bad numbered s (λ e. cc) (λ e. cc) sent counted why)
 
   -- a converter was gone after these entries
   pub given_gone : (given : List Numbered) → AreNumberedFrom 1 given
-      → ∥ HasFirstEntries format text given ∥₁ → (n : ℕ)
-      → ∥ IsGiven text format (record { count = n; outcome = Err cause.Unconfirmed }) given ∥₁
-  given_gone given numbered first n = ∥∥₁_map first (λ f. record {
-    counted = λ speaks. cc;
+      → ∥ HasFirstEntries format text given ∥₁ → (sent : Sent) → sent.outcome ≡ Err cause.Unconfirmed
+      → ∥ IsGiven text format sent given ∥₁
+  given_gone given numbered first sent why = ∥∥₁_map first (λ f. record {
+    counted = rw why (λ speaks. cc);
     numbered = numbered;
     first = inr f;
-    all = tt;
-    bad_header = λ e. cc;
-    too_many = λ e. cc;
-    not_sealed = λ e. cc;
+    all = rw why tt;
+    bad_header = rw why (λ e. cc);
+    too_many = rw why (λ e. cc);
+    not_sealed = rw why (λ e. cc);
   })
 
   -- these are all
@@ -143,19 +109,13 @@ module _ (text text' : Option (List ℕ)) (d d' : Format) (same : text' ≡ text
       → (f ≡ fault.NotSealed → ∥ HasAllEntries d' text' given ∥₁) → (sent : Sent)
       → sent.count ≡ length old → sent.outcome ≡ Err c → ∥ Sends text d sent senders ∥₁
   sends_stopped f c is bad many unsealed above sent counted why =
-      subst (λ s. ∥ Sends text d s senders ∥₁) (made_so sent (length old) (Err c) counted why)
-      (∥∥₁_map (given_stopped text d f c old is bad (rw (same, by) at many) (rw (same, by) at unsealed)
-      (rw (same, by, kept) at above) numbered first') (λ is'. (old, is', deals)))
+      ∥∥₁_map (given_stopped text d f c old is bad (rw (same, by) at many) (rw (same, by) at unsealed)
+      (rw (same, by, kept) at above) numbered first' sent counted why) (λ is'. (old, is', deals))
 
   pub sends_gone : (sent : Sent) → sent.outcome ≡ Err cause.Unconfirmed → ∥ Sends text d sent senders ∥₁
-  sends_gone sent why =
-      subst (λ s. ∥ Sends text d s senders ∥₁) (made_so sent sent.count (Err cause.Unconfirmed) refl why)
-      (∥∥₁_map (given_gone text d old numbered first' sent.count) (λ is. (old, is, deals)))
+  sends_gone sent why = ∥∥₁_map (given_gone text d old numbered first' sent why) (λ is. (old, is, deals))
 
 -- an outcome that does not speak of the text says nothing
 pub passed_not : (text : Option (List ℕ)) (d : Format) (sent : Sent) (c : Cause) (took : Row → Type 0)
     → sent.outcome ≡ Err c → IsOfThreads c → HasPassed text d sent took
-passed_not text d sent c took why is = record {
-  not_of_output = subst IsNotOfOutput (sym why) is.1;
-  rows = λ speaks. absurd (let k = is.0 in let t : is_of_reading c ≡ true = sym (ap speaks_of_text why) ∙ speaks in cc);
-}
+passed_not text d sent c took why is = search rules

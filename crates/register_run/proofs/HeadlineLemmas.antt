@@ -1,27 +1,23 @@
 -- From the sources that have ended, each by itself, to the lists of a report.
-use Rattle.std.proofs.Common.{◌≡◌, ◌∙◌, ap, refl, sym, subst, suc, List, [], ◌∷◌, ◌++◌}
-use Rattle.std.proofs.Common.{map, length, append_assoc, append-nil, arith, true}
-use Rattle.std.specs.Prelude.{◌↔◌, All}
+use Rattle.std.proofs.Common.{rules, ◌≡◌, ◌∙◌, ap, refl, sym, subst, List, [], ◌∷◌, ◌++◌, map, length}
+use Rattle.std.proofs.Common.{append_assoc, append-nil, arith, true, ◌↔◌, All}
 use Rattle.std.proofs.lemmas.List.{map-append}
 use Rattle.std.specs.declared.io.traits.Read as reads
+use Rattle.register_run.proofs.Words.{Setup, SourceEnd, IfWhole, layout_of, Stripe, Ran, case_of, end_of, ended_case}
+use Rattle.register_run.proofs.Words.{output_of, ran_of, IsSourceEnd, IsMachineWithTable, AreThreadsOf}
 use Rattle.register_records.specs.declared.outputs.Output as outputs
-use Rattle.register_records.specs.declared.setups.Setup.{Setup}
 use Rattle.register_records.specs.declared.ends.Cause.TheVariants as cause
-use Rattle.register_records.specs.declared.ends.SourceEnd.{SourceEnd}
 use Rattle.register_records.specs.declared.ends.SourceEnd.TheVariants as end
-use Rattle.register_records.specs.Sources.{IfWhole, is_whole_end}
-use Rattle.register_records.specs.Views.{layout_of}
-use Rattle.register_run.specs.declared.stripes.Stripe.{Stripe}
-use Rattle.register_run.specs.declared.reports.Ran.{Ran}
+use Rattle.register_records.specs.Sources.{is_whole_end}
 use Rattle.register_run.specs.declared.reports.Report.{Report}
 use Rattle.register_run.specs.declared.reports.Verdict.TheVariants.{Complete}
 use Rattle.register_run.specs.declared.ended_sources.EndedSource.{EndedSource}
 use Rattle.register_run.specs.declared.running_sources.RunningSource.{RunningSource}
-use Rattle.register_run.specs.Cases.{Case, case, case_of, cases, end_of, ended_case, output_of, ran_of}
-use Rattle.register_run.specs.Headline.{AtEachPlace, IsSourceEnd}
-use Rattle.register_run.specs.Histories.{AreOfMachine, IsMachineWithTable}
+use Rattle.register_run.specs.Cases.{Case, case, cases}
+use Rattle.register_run.specs.Headline.{AtEachPlace}
+use Rattle.register_run.specs.Histories.{AreOfMachine}
 use Rattle.register_run.specs.Reports.{IsReport, IsReportOfMachine, IsReportOfThreads}
-use Rattle.register_run.specs.Threads.{AreThreads, AreThreadsOf}
+use Rattle.register_run.specs.Threads.{AreThreads}
 
 module _ {R W : Type 0} {o : outputs.Ghosts W} where
   -- one more running source
@@ -31,12 +27,7 @@ module _ {R W : Type 0} {o : outputs.Ghosts W} where
       → left ≡ source ∷ rest → outs ≡ output ∷ more
       → map case_of running_sources ++ cases setup left outs ≡ all → map case_of new ++ cases setup rest more ≡ all
   start_more setup all running_sources new running_source left rest outs more source output n s l m h =
-      ap (λ xs. map case_of xs ++ cases setup rest more) n
-      ∙ ap (λ xs. xs ++ cases setup rest more) (map-append case_of running_sources (running_source ∷ []))
-      ∙ append_assoc (map case_of running_sources) (case_of running_source ∷ []) (cases setup rest more)
-      ∙ ap (λ x. map case_of running_sources ++ (x ∷ cases setup rest more)) s
-      ∙ ap (λ xs. map case_of running_sources ++ cases setup xs (output ∷ more)) (sym l)
-      ∙ ap (λ ys. map case_of running_sources ++ cases setup left ys) (sym m) ∙ h
+      rw (n, map-append, append_assoc, s) (rw (l, m) at h)
 
   pub start_end : (setup : Setup) (all : List (Case R W)) (running_sources : List (RunningSource R W o)) (left : List R)
       (outs : List W) → length left ≡ 0
@@ -47,9 +38,7 @@ module _ {R W : Type 0} {o : outputs.Ghosts W} where
   pub start_begin : (setup : Setup) (left sources : List R) (outs outputs : List W) → left ≡ sources → outs ≡ outputs
       → (running_sources : List (RunningSource R W o)) → running_sources ≡ []
       → map case_of running_sources ++ cases setup left outs ≡ cases setup sources outputs
-  start_begin setup left sources outs outputs l m running_sources n =
-      ap (λ xs. map case_of xs ++ cases setup left outs) n ∙ ap (λ xs. cases setup xs outs) l
-      ∙ ap (λ ys. cases setup sources ys) m
+  start_begin setup left sources outs outputs l m running_sources n = rw (l, m, n) refl
 
 pub ruleset starts = (start_begin, start_more, start_end)
 
@@ -64,8 +53,7 @@ pub lengths_of : {R W : Type 0} (Holds : R → W → W → SourceEnd → Type 0)
     (ends : List SourceEnd) → AtEachPlace Holds sources given written ends
     → (length written ≡ length given) × (length ends ≡ length sources)
 lengths_of Holds [] [] [] [] h = (refl, refl)
-lengths_of Holds (r ∷ rs) (g ∷ gs) (w ∷ ws) (e ∷ es) h =
-    let more = lengths_of Holds rs gs ws es h.1 in (ap suc more.0, ap suc more.1)
+lengths_of Holds (r ∷ rs) (g ∷ gs) (w ∷ ws) (e ∷ es) h = search (rules, lengths_of Holds rs gs ws es h.1)
 lengths_of Holds sources given written ends h = absurd h
 
 abbrev stripes_in : Ran → List Stripe

@@ -1,41 +1,27 @@
 -- Lanes that carried what the machine deals have the histories of the machine's lanes.
-use Rattle.std.proofs.Common.{◌≡◌, ◌∙◌, ◌+◌, ◌-◌, ◌<◌, ℕ, List, [], ◌∷◌, true, false, ap, arith, map, refl, sym}
-use mathlib.Core.Bool.{beq}
-use Rattle.std.specs.Prelude.{◌==◌, Bool, Err, IfOk, Ok, Option, Result, if◌then◌else◌, is_ok, length, nat_le}
-use Rattle.std.specs.Prelude.{nat_lt, replicate}
+use Rattle.std.proofs.Common.{rules, ◌≡◌, ◌∙◌, ◌+◌, ◌<◌, ℕ, List, [], ◌∷◌, true, false, ap, arith, map, refl, sym, Bool}
+use Rattle.std.proofs.Common.{Err, IfOk, Ok, Option, Result, is_ok, length, nat_lt, replicate, leb-true, lt-ltb}
 use Rattle.std.proofs.Math.Logic.{∥∥₁_map}
-use Rattle.std.proofs.lemmas.Bool.{and_parts, leb-true, lt-ltb}
+use Rattle.std.proofs.lemmas.Bool.{and_parts}
 use Rattle.std.proofs.lemmas.List.{length-map, length-replicate}
 use Rattle.std.proofs.lemmas.Slice.Zip.{AllZip-long}
-use Rattle.lane_rings.specs.declared.sender.Closed.{Closed}
-use Rattle.register_records.specs.Entries.{AreNumberedFrom, Numbered}
-use Rattle.register_records.specs.declared.entries.Entry.{Entry}
-use Rattle.register_records.specs.SetupRules.{largest_ring}
-use Rattle.register_records.specs.Views.{format_of}
-use Rattle.register_records.specs.declared.setups.Setup.{Setup}
-use Rattle.register_records.specs.declared.ends.Cause.{Cause}
+use mathlib.Core.Bool.{beq}
+use Rattle.register_run.proofs.Words.{Closed, AreNumberedFrom, Numbered, Entry, format_of, Setup, Cause, Actor, start}
+use Rattle.register_run.proofs.Words.{run, AnyTook, HasPassedOn, HavePassedOn, feeding_lane, stripe_setup}
+use Rattle.register_run.proofs.Words.{WereDealt, dealt, Carries, AreOfLanes, World, Stripe}
 use Rattle.striped_lanes.specs.Histories.{entries_over, rows_over}
-use Rattle.striped_lanes.specs.Machine.{Actor, start, turn}
 use Rattle.striped_lanes.specs.Places.{table_rows}
-use Rattle.striped_lanes.specs.Schedules.{run}
 use Rattle.striped_lanes.proofs.OneByOneLemmas.{all_over, one_by_one}
 use Rattle.striped_lanes.proofs.PartLemmas.{part}
-use Rattle.register_run.specs.Stripes.{AnyTook, HasPassedOn, HavePassedOn, feeding_lane, stripe_setup}
-use Rattle.register_run.specs.Carried.{WereDealt, dealt}
-use Rattle.register_run.specs.Histories.{Carries, HaveHistories}
-use Rattle.register_run.specs.JoinedThreads.{AreOfLanes, HasSent}
-use Rattle.register_run.specs.Worlds.{World}
-use Rattle.register_run.specs.declared.stripes.Stripe.{Stripe}
+use Rattle.register_run.specs.Histories.{HaveHistories}
+use Rattle.register_run.specs.JoinedThreads.{HasSent}
 use Rattle.register_run.proofs.StripeLemmas.{took_dealt}
 
 -- what is dealt by numbers is what is dealt by places
 dealt_part : (w : World) (j k : ℕ) (entries : List Numbered) → AreNumberedFrom (k + 1) entries
     → dealt w j entries ≡ part w.converters j k entries
 dealt_part w j k [] numbered = refl
-dealt_part w j k (e ∷ entries) numbered =
-    let place : e.number - 1 ≡ k = (let n = numbered.0 in omega arith) in
-    ap (λ (n : ℕ). if turn w n == j then e ∷ dealt w j entries else dealt w j entries) place
-    ∙ ap (λ (l : List Numbered). if turn w k == j then e ∷ l else l) (dealt_part w j (k + 1) entries numbered.1)
+dealt_part w j k (e ∷ entries) numbered = grind (arith, numbered.0, dealt_part w j (k + 1) entries numbered.1)
 
 -- stripes whose lanes carried what was dealt have the histories of a schedule with which that goes over the lanes
 have_histories : (w : World) (schedule : List Actor) (given : List Numbered) (i : ℕ) (stripes : List Stripe)
@@ -72,15 +58,11 @@ of_machine given count ring stripes closed some staffed numbered on deals w is m
     )
 
 some_room : (setup : Setup) → 0 < setup.ring
-some_room setup =
-    let least =
-    leb-true 1 setup.ring (and_parts (nat_le 1 setup.ring) (nat_le setup.ring largest_ring) setup.rings).0 in
-    omega (arith, least)
+some_room setup = search (rules, leb-true, and_parts)
 
 pub staff : (setup : Setup) (stripes : List Stripe) → map stripe_setup stripes ≡ replicate setup.stripes setup
     → length stripes ≡ setup.stripes
-staff setup stripes staffed =
-    sym (length-map stripes stripe_setup) ∙ ap length staffed ∙ length-replicate setup.stripes setup
+staff setup stripes staffed = grind (arith, length-map stripes stripe_setup, length-replicate setup.stripes setup)
 
 -- threads that ended with a count
 pub joined_of_machine : (text : Option (List ℕ)) (setup : Setup) (stripes : List Stripe) (closed : List (Closed Entry))

@@ -1,19 +1,17 @@
 -- Items of lanes, as they are seen and taken.
 use Rattle.std.proofs.Common.{◌≡◌, ◌∙◌, ap, sym, subst, refl, List, [], ◌∷◌, ◌++◌, append_assoc, arith, lit<}
-use Rattle.std.proofs.Common.{◌+◌}
-use Rattle.std.proofs.Common.{length, length-append, take, take_at}
+use Rattle.std.proofs.Common.{◌+◌, length, length-append, take, take_at}
 use Rattle.std.specs.List.{Contains}
-use mathlib.Core.List.{IsPrefix}
 use Rattle.std.proofs.lemmas.List.Elements.{Contains-append_left, Contains-append_right}
-use Rattle.lane_rings.specs.declared.item.Item.{Item}
+use mathlib.Core.List.{IsPrefix}
+use Rattle.register_run.proofs.Words.{Item}
 
 module _ {T : Type 0} where
   -- a look takes nothing, and what it saw before it sees still
   pub seen_kept : (old new seen more : List (Item T)) → new ≡ old → IsPrefix seen more → (y : Item T)
       → Contains (old ++ seen) y → Contains (new ++ more) y
   seen_kept old new seen more is (rest, all) y h =
-      subst (λ l. Contains (l ++ more) y) (sym is) (subst (λ l. Contains (old ++ l) y) all
-      (subst (λ l. Contains l y) (append_assoc old seen rest) (Contains-append_left (old ++ seen) rest y h)))
+      grind (arith, append_assoc old seen rest, Contains-append_left (old ++ seen) rest y h)
 
   pub same_seen : (old new : List (Item T)) → new ≡ old → (y : Item T) → Contains old y → Contains new y
   same_seen old new is y h = subst (λ l. Contains l y) (sym is) h

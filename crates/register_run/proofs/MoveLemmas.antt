@@ -1,9 +1,8 @@
 -- Items that are moved from the front of one list to the end of another.
-use Rattle.std.proofs.Common.{◌≡◌, ◌∙◌, ◌+◌, ◌++◌, ◌∷◌, [], ℕ, List, ap, append_assoc, arith, length, map, replicate}
-use Rattle.std.proofs.Common.{get_or, set, subst, sym}
+use Rattle.std.proofs.Common.{rules, ◌≡◌, ◌∙◌, ◌+◌, ◌++◌, ◌∷◌, [], ℕ, List, ap, append_assoc, arith, length, map}
+use Rattle.std.proofs.Common.{replicate, get_or, set, subst, sym, All, append-nil}
 use Rattle.std.proofs.Math.Seq.{map-set_same}
-use Rattle.std.specs.Prelude.{All}
-use Rattle.std.proofs.lemmas.List.{append-nil, map-append, replicate-append-replicate}
+use Rattle.std.proofs.lemmas.List.{map-append, replicate-append-replicate}
 use Rattle.std.proofs.lemmas.List.Elements.{All-push}
 
 -- one more, where each is made into another, and both are seen as values of one kind
@@ -11,21 +10,12 @@ pub made_more : {X Y Z : Type 0} (f : X → Z) (h : Y → Z) (all : List Z) (don
     (left rest : List Y) (item : Y)
     → new ≡ done ++ one ∷ [] → f one ≡ h item → left ≡ item ∷ rest → map f done ++ map h left ≡ all
     → map f new ++ map h rest ≡ all
-made_more f h all done new one left rest item n s l e =
-    ap (λ xs. map f xs ++ map h rest) n
-    ∙ ap (λ xs. xs ++ map h rest) (map-append f done (one ∷ []))
-    ∙ append_assoc (map f done) (f one ∷ []) (map h rest)
-    ∙ ap (λ x. map f done ++ (x ∷ map h rest)) s
-    ∙ ap (λ xs. map f done ++ map h xs) (sym l) ∙ e
+made_more f h all done new one left rest item n s l e = rw (n, map-append, append_assoc, s) (rw l at e)
 
 -- the same where what is made is the value that is seen
 pub seen_more : {Y Z : Type 0} (h : Y → Z) (all done new : List Z) (one : Z) (left rest : List Y) (item : Y)
     → new ≡ done ++ one ∷ [] → one ≡ h item → left ≡ item ∷ rest → done ++ map h left ≡ all → new ++ map h rest ≡ all
-seen_more h all done new one left rest item n s l e =
-    ap (λ xs. xs ++ map h rest) n
-    ∙ append_assoc done (one ∷ []) (map h rest)
-    ∙ ap (λ x. done ++ (x ∷ map h rest)) s
-    ∙ ap (λ xs. done ++ map h xs) (sym l) ∙ e
+seen_more h all done new one left rest item n s l e = rw (n, append_assoc, s) (rw l at e)
 
 -- another one in the place of one, which is seen as the same value
 pub set_same : {X Z : Type 0} (f : X → Z) (xs : List X) (i : ℕ) (new was : X) → f new ≡ f was → was ≡ get_or xs i was
@@ -41,10 +31,7 @@ all_made h all done (item ∷ left) e p = absurd (omega arith)
 -- one more at the end of each of two lists, which are seen as the same values
 pub both_more : {X Y Z : Type 0} (f : X → Z) (h : Y → Z) (xs new : List X) (ys more : List Y) (x : X) (y : Y)
     → new ≡ xs ++ x ∷ [] → more ≡ ys ++ y ∷ [] → f x ≡ h y → map f xs ≡ map h ys → map f new ≡ map h more
-both_more f h xs new ys more x y n m s e =
-    ap (λ zs. map f zs) n ∙ map-append f xs (x ∷ [])
-    ∙ ap (λ zs. zs ++ (f x ∷ [])) e
-    ∙ ap (λ z. map h ys ++ (z ∷ [])) s ∙ sym (map-append h ys (y ∷ [])) ∙ ap (λ zs. map h zs) (sym m)
+both_more f h xs new ys more x y n m s e = search (rules, map-append)
 
 -- what holds of each item of a list holds of each of one more
 pub each_more : {X : Type 0} (P : X → Type 0) (xs new : List X) (x : X) → new ≡ xs ++ x ∷ [] → All P xs → P x
@@ -54,8 +41,6 @@ each_more P xs new x n each one = subst (All P) (sym n) (All-push P xs x each on
 -- one more at the end of a list of which all are seen as one value
 pub all_more : {X Z : Type 0} (f : X → Z) (xs new : List X) (x : X) (z : Z) (n : ℕ) → new ≡ xs ++ x ∷ [] → f x ≡ z
     → map f xs ≡ replicate n z → map f new ≡ replicate (n + 1) z
-all_more f xs new x z n more is all =
-    ap (λ zs. map f zs) more ∙ map-append f xs (x ∷ []) ∙ ap (λ zs. zs ++ (f x ∷ [])) all
-    ∙ ap (λ y. replicate n z ++ (y ∷ [])) is ∙ replicate-append-replicate n 1 z
+all_more f xs new x z n more is all = rw (more, map-append, all, is) (replicate-append-replicate n 1 z)
 
 pub ruleset one_more = (both_more, each_more, all_more)

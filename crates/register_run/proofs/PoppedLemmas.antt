@@ -1,24 +1,14 @@
 -- How many rows were popped, as one of the stripes is looked at or gives a row.
-use Rattle.std.proofs.Common.{◌≡◌, ◌∙◌, ◌+◌, ◌<◌, ℕ, zero, suc, List, [], ◌∷◌, ◌++◌, ap, arith, get_or, length, set}
-use Rattle.std.proofs.Common.{subst, sym}
-use Rattle.std.proofs.Common.{true}
-use Rattle.std.specs.Prelude.{Some, slice_get}
-use Rattle.std.proofs.lemmas.List.{get_or-set_same, length-set}
+use Rattle.std.proofs.Common.{rules, ◌≡◌, ◌∙◌, ◌+◌, ◌<◌, ℕ, zero, suc, List, [], ◌∷◌, ◌++◌, ap, arith, get_or, length}
+use Rattle.std.proofs.Common.{set, subst, sym, true, Some, slice_get, get_or-set_same, length-set}
 use Rattle.std.proofs.lemmas.List.Elements.{All-cons, All-head, All-tail}
 use Rattle.std.proofs.lemmas.List.Sums.{sum_by-append, sum_by-set}
 use Rattle.std.proofs.lemmas.Nat.{mod_below}
 use Rattle.std.proofs.lemmas.Option.{slice_get-get_or}
-use Rattle.lane_rings.specs.Items.{entries_in}
-use Rattle.lane_rings.specs.Lane.{taken}
-use Rattle.lane_rings.specs.declared.item.Item.{Item}
-use Rattle.register_records.specs.declared.rows.Row.{Row}
+use Rattle.register_run.proofs.Words.{taken, turn, World, popped, Stripe}
 use Rattle.register_run.specs.Stripes.{IsRowNext}
-use Rattle.striped_lanes.specs.Machine.{turn}
-use Rattle.register_run.specs.Worlds.{World}
-use Rattle.register_run.specs.Popped.{AreOpen, HasLooked, HasLookedAt, HasPopped, IsInTurn}
-use Rattle.register_run.specs.Popped.{popped, popped_from}
+use Rattle.register_run.specs.Popped.{AreOpen, HasLooked, HasLookedAt, HasPopped, IsInTurn, popped_from}
 use Rattle.register_run.specs.declared.stripes.Look.{Look}
-use Rattle.register_run.specs.declared.stripes.Stripe.{Stripe}
 
 abbrev IsOpen : Stripe → Type 0
 IsOpen stripe = stripe.«open» ≡ true
@@ -43,10 +33,7 @@ module _ (stripes : List Stripe) (at : ℕ) (new old : Stripe) (within : at < le
   were_open so all = opened stripes at new old (subst IsOpen is so) all
 
   popped_more : (n : ℕ) → popped_from new ≡ popped_from old + n → popped (set stripes at new) ≡ popped stripes + n
-  popped_more n gains =
-      let sums = sum_by-set popped_from stripes at new old within in
-      let here : popped_from (get_or stripes at old) ≡ popped_from old = ap popped_from (sym is) in
-      omega (arith, sums, here, gains)
+  popped_more n gains = grind (arith, sum_by-set popped_from stripes at new old within)
 
   -- the stripe was looked at
   pub looked_at : (found : Look) → HasLooked old new found → HasLookedAt at stripes (set stripes at new) found
@@ -85,7 +72,4 @@ in_turn_popped old new at next has long within turns goes all w many =
 -- one more stripe, from which no row was popped
 pub unpopped_more : (stripes new : List Stripe) (stripe : Stripe) → new ≡ stripes ++ stripe ∷ []
     → taken stripe.rows ≡ [] → popped stripes ≡ 0 → popped new ≡ 0
-unpopped_more stripes new stripe is none before =
-    let none' : popped_from stripe ≡ 0 = ap (λ (l : List (Item Row)). length (entries_in l)) none in
-    let sums = sum_by-append popped_from stripes (stripe ∷ []) in
-    ap popped is ∙ omega (arith, sums, none', before)
+unpopped_more stripes new stripe is none before = search (rules, sum_by-append)

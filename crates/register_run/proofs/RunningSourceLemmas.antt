@@ -1,19 +1,11 @@
 -- What a source's table holds, as rows are taken from its threads.
-use Rattle.std.proofs.Common.{◌≡◌, subst, ℕ, List, [], ◌∷◌, ◌++◌, Option, ◌⊎◌, inl, inr}
-use Rattle.std.specs.Prelude.{Err, IfOk, Ok, Result}
+use Rattle.std.proofs.Common.{◌≡◌, subst, ℕ, List, [], ◌∷◌, ◌++◌, Option, ◌⊎◌, inl, inr, Err, IfOk, Ok, Result}
 use Rattle.std.proofs.Math.Logic.{∥∥₁_map}
+use Rattle.register_run.proofs.Words.{Row, Cause, format_of, Stripe, Sent, TableWriter, Carries, Passed, started_by}
+use Rattle.register_run.proofs.Words.{HasPassed, Holds}
 use Rattle.register_records.specs.declared.outputs.Output as outputs
-use Rattle.register_records.specs.declared.rows.Row.{Row}
-use Rattle.register_records.specs.declared.ends.Cause.{Cause}
-use Rattle.register_records.specs.Views.{format_of}
-use Rattle.register_run.specs.declared.stripes.Stripe.{Stripe}
 use Rattle.register_run.specs.declared.source_threads.SourceThreads.{SourceThreads}
-use Rattle.register_run.specs.declared.reading.Sent.{Sent}
-use Rattle.register_run.specs.declared.table_writers.TableWriter.{TableWriter}
-use Rattle.register_run.specs.Histories.{Carries}
-use Rattle.register_run.specs.SourceThreads.{Passed, started_by}
-use Rattle.register_run.specs.JoinedThreads.{HasPassed}
-use Rattle.register_run.specs.TablesWritten.{Holds, made_by}
+use Rattle.register_run.specs.TablesWritten.{made_by}
 use Rattle.register_run.specs.Written.{Concludes, Wrote}
 use Rattle.register_run.proofs.TableLemmas.{targets_row}
 

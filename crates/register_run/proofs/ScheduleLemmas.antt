@@ -1,20 +1,18 @@
 -- The law of the machine, for the worlds of texts: their entries are numbered from 1, and their rows as their entries.
 use Rattle.std.proofs.Common.{◌≡◌, ◌+◌, ◌*◌, ◌≤◌, ℕ, List, [], ◌∷◌, Bool, true, false, length, map, refl}
-use Rattle.std.specs.Prelude.{Option, if◌then◌else◌, nat_lt}
-use Rattle.date_texts.specs.declared.target.Target.{Target}
-use Rattle.striped_lanes.specs.Machine.{Actor, start}
+use Rattle.std.proofs.Common.{Option, if◌then◌else◌, nat_lt}
+use Rattle.register_run.proofs.Words.{Target, Actor, start, run, Format, HasFirstEntries, Numbered, record_limit}
+use Rattle.register_run.proofs.Words.{AreRowsOf, World}
 use Rattle.striped_lanes.specs.Places.{HaveNumbersFrom, ArePoppedInOrder, KeepNumbers}
-use Rattle.striped_lanes.specs.Schedules.{AtMostChange, run, standing}
+use Rattle.striped_lanes.specs.Schedules.{AtMostChange, standing}
 use Rattle.striped_lanes.proofs.NumberLemmas.{numbered_front}
 use Rattle.striped_lanes.proofs.EndLemmas as ends
 use Rattle.striped_lanes.proofs.ScheduleLemmas as machine
-use Rattle.register_records.specs.Entries.{Fields, Format, HasFirstEntries, Numbered, body_of, entries_from}
-use Rattle.register_records.specs.Entries.{record_limit}
-use Rattle.register_records.specs.Outcomes.{AreRowsOf}
+use Rattle.register_records.specs.Entries.{Fields, body_of, entries_from}
 use Rattle.register_records.specs.Seals.{entry_records}
 use Rattle.register_records.specs.declared.setups.Form.{Form}
 use Rattle.register_run.specs.EveryScheduleLaw.{EachStandsOnce, Ends, GoesOn, IsWorldOf}
-use Rattle.register_run.specs.Worlds.{World, numbers}
+use Rattle.register_run.specs.Worlds.{numbers}
 
 numbered_if : (b : Bool) (k : ℕ) (x : Numbered) (entries : List Numbered) → x.number ≡ k
     → HaveNumbersFrom numbers (k + 1) entries → HaveNumbersFrom numbers k (if b then x ∷ entries else [])

@@ -1,24 +1,17 @@
 -- Why the threads of a source did not start.
-use Rattle.std.proofs.Common.{◌≡◌, ◌⊎◌, ℕ, List, Option, inl, inr, refl}
-use Rattle.std.specs.Prelude.{Err, Result}
-use Rattle.register_records.specs.Entries.{Format}
-use Rattle.register_records.specs.declared.rows.Row.{Row}
-use Rattle.register_records.specs.declared.ends.Cause.{Cause}
+use Rattle.std.proofs.Common.{rules, ◌≡◌, ◌⊎◌, ℕ, List, Option, inl, inr, Err, Result}
+use Rattle.register_run.proofs.Words.{Format, Row, Cause, HasPassed, Sent}
 use Rattle.register_records.specs.declared.ends.Cause.TheVariants as cause
 use Rattle.register_run.specs.Stripes.{start_fault_cause}
-use Rattle.register_run.specs.JoinedThreads.{HasPassed}
 use Rattle.register_run.specs.declared.stripes.StartFault.{StartFault}
 use Rattle.register_run.specs.declared.stripes.StartFault.TheVariants as fault
-use Rattle.register_run.specs.declared.reading.Sent.{Sent}
 use Rattle.register_run.proofs.GivenLemmas.{passed_not}
 
 -- threads that did not start have passed nothing on
 pub not_started : (text : Option (List ℕ)) (format : Format) (took : Row → Type 0) (f : StartFault) (sent : Sent)
     → sent.outcome ≡ Err (start_fault_cause f) → HasPassed text format sent took
-not_started text format took fault.NoMemory sent why =
-    passed_not text format sent cause.NoMemory took why (refl, λ e. cc)
-not_started text format took fault.NoThread sent why =
-    passed_not text format sent cause.NoThread took why (refl, λ e. cc)
+not_started text format took fault.NoMemory sent why = search (rules, passed_not)
+not_started text format took fault.NoThread sent why = search (rules, passed_not)
 
 pub start_causes : (f : StartFault) (outcome : Result ℕ Cause) → outcome ≡ Err (start_fault_cause f)
     → (outcome ≡ Err cause.NoMemory) ⊎ (outcome ≡ Err cause.NoThread)

@@ -1,25 +1,14 @@
 -- Rows that were taken from one of several stripes, and what is left of the senders of several lanes.
-use Rattle.std.proofs.Common.{◌≡◌, sym, subst, ℕ, zero, suc, ◌<◌, ◌+◌, List, [], ◌∷◌, ◌++◌, inl, inr, set, get_or}
-use Rattle.std.proofs.Common.{length, map, append-nil, arith, refl, true}
-use Rattle.std.specs.Prelude.{Bool, Err}
+use Rattle.std.proofs.Common.{rules, ◌≡◌, sym, subst, ℕ, zero, suc, ◌<◌, ◌+◌, List, [], ◌∷◌, ◌++◌, inl, inr, set}
+use Rattle.std.proofs.Common.{get_or, length, map, append-nil, arith, refl, true, Bool, Err}
 use Rattle.std.specs.List.{AllZip, Contains}
-use Rattle.lane_rings.specs.Items.{entries_in}
+use Rattle.register_run.proofs.Words.{entries_in, Closed, Sender, HasConfirmation, all_sent, sender_lane, taken}
+use Rattle.register_run.proofs.Words.{Numbered, entry_seen, Entry, Row, Stripe, AnyTook, HasPassedOn, HavePassedOn}
+use Rattle.register_run.proofs.Words.{stripe_setup, feeding_lane, HasEnded, WereDealt, carried, dealt, row_entries}
+use Rattle.register_run.proofs.Words.{rows_carried, World, AreOfLanes, IsOfGiven}
 use Rattle.lane_rings.specs.declared.item.Item.TheVariants as item
-use Rattle.lane_rings.specs.declared.sender.Closed.{Closed}
-use Rattle.lane_rings.specs.declared.sender.Sender.{Sender}
-use Rattle.lane_rings.specs.Lane.{HasConfirmation, all_sent, sender_lane, taken}
 use Rattle.date_texts.specs.declared.refusal.Refusal.TheVariants as refusal
-use Rattle.register_records.specs.Entries.{Numbered}
-use Rattle.register_records.specs.Seen.{entry_seen}
-use Rattle.register_records.specs.declared.entries.Entry.{Entry}
-use Rattle.register_records.specs.declared.rows.Row.{Row}
-use Rattle.register_run.specs.declared.stripes.Stripe.{Stripe}
-use Rattle.register_run.specs.Stripes.{AnyTook, AreSameStripes, HasPassedOn, HavePassedOn, IsSameStripe, StripeTook}
-use Rattle.register_run.specs.Stripes.{stripe_setup}
-use Rattle.register_run.specs.Stripes.{feeding_lane}
-use Rattle.register_run.specs.Carried.{HasEnded, WereDealt, carried, dealt, row_entries, rows_carried}
-use Rattle.register_run.specs.Worlds.{World}
-use Rattle.register_run.specs.JoinedThreads.{AreOfLanes, IsOfGiven}
+use Rattle.register_run.specs.Stripes.{AreSameStripes, IsSameStripe, StripeTook}
 use Rattle.register_run.proofs.CarriedLemmas.{entry_within, map_within, prefix_within}
 use Rattle.register_run.proofs.DealtLemmas.{dealt_within}
 use Rattle.register_run.proofs.MoveLemmas.{set_same}
@@ -69,12 +58,7 @@ ended_lanes (s ∷ senders) (c ∷ closed) h = (h.0.lane, ended_lanes senders cl
 -- stripes that are joined one after the other, with what is left of the senders that fed them
 pub for_less : (a b : Bool) (stripe : Stripe) (one : Closed Entry) → (b ≡ true → a ≡ true) → HasPassedOn a stripe one
     → HasPassedOn b stripe one
-for_less a b stripe one fewer h = record {
-  confirmed = h.confirmed;
-  first = h.first;
-  all = λ e. h.all (fewer e);
-  none_waits = h.none_waits;
-}
+for_less a b stripe one fewer h = search rules
 
 pub end_passed : (left : List Stripe) (left' : List (Closed Entry)) → length left ≡ 0
     → AreOfLanes (map feeding_lane left) left' → (b : Bool) → HavePassedOn b left left'

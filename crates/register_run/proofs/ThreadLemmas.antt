@@ -1,33 +1,25 @@
 -- What is known of the threads of a source, by how it ended.
-use Rattle.std.proofs.Common.{◌≡◌, ◌⊎◌, ◌∙◌, ◌≤◌, ◌<◌, ℕ, zero, suc, List, [], ◌∷◌, ap, arith}
-use Rattle.std.proofs.Common.{inl, inr, length, map, refl, replicate, subst, sym, true}
-use Rattle.std.specs.Prelude.{All, Err, IfSome, nat_le}
-use Rattle.std.proofs.lemmas.Bool.{and_parts, leb-true}
+use Rattle.std.proofs.Common.{rules, ◌≡◌, ◌⊎◌, ◌∙◌, ◌≤◌, ◌<◌, ℕ, zero, suc, List, [], ◌∷◌, ap, arith, inl, inr}
+use Rattle.std.proofs.Common.{map, refl, replicate, subst, sym, true, All, Err, IfSome, nat_le, leb-true}
+use Rattle.std.proofs.lemmas.Bool.{and_parts}
 use Rattle.std.proofs.lemmas.List.Elements.{All-cons}
-use Rattle.register_records.specs.Sources.{IfBroken, IfWhole, cause_number}
+use Rattle.register_run.proofs.Words.{IfBroken, IfWhole, cause_number, Setup, Cause, Note, SourceEnd, stripe_setup}
+use Rattle.register_run.proofs.Words.{HasMetNone, IsLowest, IsMet, is_of_table, AreStaffed, AreThreadsOf, Stripe, Ran}
+use Rattle.register_run.proofs.Words.{Met}
 use Rattle.register_records.specs.SetupRules.{most_stripes}
-use Rattle.register_records.specs.declared.setups.Setup.{Setup}
-use Rattle.register_records.specs.declared.ends.Cause.{Cause}
 use Rattle.register_records.specs.declared.ends.Cause.TheVariants as cause
-use Rattle.register_records.specs.declared.ends.Note.{Note}
-use Rattle.register_records.specs.declared.ends.SourceEnd.{SourceEnd}
 use Rattle.register_records.specs.declared.ends.SourceEnd.TheVariants as end
-use Rattle.register_run.specs.Stripes.{stripe_setup}
-use Rattle.register_run.specs.Courses.{HasMetNone, IsLowest, IsMet, is_of_table}
-use Rattle.register_run.specs.SourceThreads.{AreStaffed}
-use Rattle.register_run.specs.JoinedThreads.{HasStarted}
-use Rattle.register_run.specs.Threads.{AreThreadsOf, HasRing}
-use Rattle.register_run.specs.declared.stripes.Stripe.{Stripe}
-use Rattle.register_run.specs.declared.reports.Ran.{Ran}
-use Rattle.register_run.specs.declared.ended_sources.Met.{Met}
+use Rattle.register_run.specs.Threads.{HasRing}
 use Rattle.register_run.proofs.HistoryLemmas.{staff}
 use Rattle.register_run.proofs.EndedSourceLemmas.{thread_outcome}
 
 some_stripe : (setup : Setup) → 0 < setup.stripes
 some_stripe setup =
-    let least = leb-true 1 setup.stripes
-    (and_parts (nat_le 1 setup.stripes) (nat_le setup.stripes most_stripes) setup.striped).0 in
-    omega (arith, least)
+    grind (
+      arith,
+      leb-true 1 setup.stripes (and_parts (nat_le 1 setup.stripes) (nat_le setup.stripes most_stripes)
+          setup.striped).0,
+    )
 
 -- stripes that were started by a setup have its ring
 rings_of : (setup : Setup) (stripes : List Stripe) (n : ℕ) → map stripe_setup stripes ≡ replicate n setup
@@ -62,14 +54,8 @@ module _ (setup : Setup) (met : Met) (journal : List Note) (of_table : IfSome me
     pub threads_of : (ran : Ran) (e : SourceEnd) → ran.met.value ≡ met
         → AreStaffed setup met.sent.outcome ran.stripes.value.items
         → IfWhole e (HasMetNone met journal) → IfBroken e (IsLowest (IsMet met)) → AreThreadsOf setup e ran
-    threads_of ran e is_met (inl (staffed, started)) whole lowest = record {
-      stripes = λ some. staff setup ran.stripes.value.items staffed;
-      rings = rings_of setup ran.stripes.value.items setup.stripes staffed;
-      none = λ none. absurd (let long = staff setup ran.stripes.value.items staffed in let some = some_stripe setup in
-          let zero : length ran.stripes.value.items ≡ 0 = ap length none in omega (arith, long, some, zero));
-      unstarted = λ is. absurd (subst HasStarted (thread_outcome met of_table e lowest is) started refl);
-      lowest = subst (λ m. IfBroken e (IsLowest (IsMet m))) (sym is_met) lowest;
-    }
+    threads_of ran e is_met (inl (staffed, started)) whole lowest =
+        search (rules, staff, rings_of, some_stripe, thread_outcome)
     threads_of ran e is_met (inr (none, why)) whole lowest = record {
       stripes = λ some. absurd (some none);
       rings = subst (All (HasRing setup.ring)) (sym none) (λ k d below. absurd (omega (arith, below)));

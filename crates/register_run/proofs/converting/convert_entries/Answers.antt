@@ -1,17 +1,13 @@
-use Rattle.std.proofs.Common.{◌∙◌, ap, refl, sym, Some}
-use Rattle.lane_rings.specs.Items.{entries_in}
+use Rattle.std.proofs.Common.{rules, ◌∙◌, ap, refl, sym, Some}
+use Rattle.register_run.proofs.Words.{entries_in, sent, taken}
 use Rattle.lane_rings.specs.declared.item.Item.TheVariants as item
-use Rattle.lane_rings.specs.Lane.{sent, taken}
 use Rattle.register_run.proofs.CarriedLemmas.{all_ended, first_ended, first_of_all, none_taken, row_left, row_sent}
 use Rattle.register_run.proofs.ConvertingLemmas.{mark_taken, stops}
 use Rattle.register_run.proofs.ItemLemmas.{took_next}
 use Rattle.register_run.proofs.converting.convert_entries.Goals as goal
 
 pub loop-init : goal.loop-init
-loop-init g c =
-    let entries = taken c.args.entries in let rows = sent c.args.rows in
-    let all = none_taken entries rows c.requires.none_taken c.requires.none_sent in
-    record { from = refl; into = refl; rows = first_of_all entries rows all; all = λ there. all }
+loop-init g c = search (rules, none_taken, first_of_all)
 
 pub loop-preserved-then-not-gone : goal.loop-preserved-then-not-gone
 loop-preserved-then-not-gone g c =

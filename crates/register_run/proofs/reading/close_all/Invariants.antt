@@ -1,9 +1,7 @@
 use Rattle.std.proofs.Common.{◌+◌, ◌≤◌, ◌++◌, List, vec_len, vec_capacity}
 use Rattle.std.specs.List.{AllZip}
 use Rattle.std.specs.Vec.Iter.{into_iter_items, into_iter_len}
-use Rattle.lane_rings.specs.declared.sender.Closed.{Closed}
-use Rattle.register_records.specs.declared.entries.Entry.{Entry}
-use Rattle.register_run.specs.Carried.{HasEnded}
+use Rattle.register_run.proofs.Words.{Closed, Entry, HasEnded}
 use Rattle.register_run.proofs.reading.close_all.Given as goal
 
 abbrev pub invariant-loop-sender : goal.invariant-loop-sender

@@ -1,10 +1,6 @@
 use Rattle.std.proofs.Common.{◌≡◌, length, map, vec_len, false}
-use Rattle.lane_rings.specs.Lane.{sender_lane}
-use Rattle.register_records.specs.Entries.{AreNumberedFrom}
-use Rattle.register_records.specs.Views.{given_of, reader_failed, reads_by, text_of}
-use Rattle.register_records.specs.Views.{format_of}
-use Rattle.register_run.specs.Carried.{AreDealt}
-use Rattle.register_run.specs.Worlds.{World}
+use Rattle.register_run.proofs.Words.{sender_lane, AreNumberedFrom, given_of, format_of, AreDealt, World}
+use Rattle.register_records.specs.Views.{reader_failed, reads_by, text_of}
 use Rattle.register_run.proofs.reading.send_entries.Given as goal
 
 abbrev pub invariant-loop : goal.invariant-loop

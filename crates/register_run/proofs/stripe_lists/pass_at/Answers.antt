@@ -4,8 +4,7 @@ use Rattle.register_run.proofs.PoppedLemmas.{popped_at}
 use Rattle.register_run.proofs.stripe_lists.pass_at.Goals as goal
 
 pub returns-clause-same : goal.returns-clause-same
-returns-clause-same c =
-    same_stripes c.args.stripes.now.items c.args.at _ _ c.index_mut-stripe.ensures.value c.pass.ensures.same
+returns-clause-same c = search (rules, same_stripes)
 
 pub returns-clause-popped : goal.returns-clause-popped
 returns-clause-popped c =

@@ -1,8 +1,5 @@
-use Rattle.std.proofs.Common.{◌≡◌, ◌≤◌, map, replicate, vec_len, vec_capacity, []}
-use Rattle.std.specs.Prelude.{All}
-use Rattle.lane_rings.specs.Lane.{sender_lane, sent}
-use Rattle.register_run.specs.Stripes.{feeding_lane, stripe_setup}
-use Rattle.register_run.specs.Popped.{popped}
+use Rattle.std.proofs.Common.{◌≡◌, ◌≤◌, map, replicate, vec_len, vec_capacity, [], All}
+use Rattle.register_run.proofs.Words.{sender_lane, sent, feeding_lane, stripe_setup, popped}
 use Rattle.register_run.proofs.stripe_lists.start_stripes.Given as goal
 
 abbrev pub invariant-loop : goal.invariant-loop

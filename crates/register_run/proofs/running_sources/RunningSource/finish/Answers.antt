@@ -1,9 +1,5 @@
-use Rattle.std.proofs.Common.{◌∙◌, subst, sym}
-use Rattle.std.specs.Prelude.{IfOk}
-use Rattle.register_records.specs.Views.{format_of}
-use Rattle.register_run.specs.Histories.{Carries}
-use Rattle.register_run.specs.SourceThreads.{AreStaffed, Passed, started_by}
-use Rattle.register_run.specs.JoinedThreads.{HasPassed}
+use Rattle.std.proofs.Common.{◌∙◌, subst, sym, IfOk}
+use Rattle.register_run.proofs.Words.{format_of, Carries, AreStaffed, Passed, started_by, HasPassed}
 use Rattle.register_run.proofs.RunningSourceLemmas.{concludes, wrote_same}
 use Rattle.register_run.proofs.running_sources.RunningSource.finish.Goals as goal
 

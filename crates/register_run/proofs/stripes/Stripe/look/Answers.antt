@@ -1,5 +1,5 @@
-use Rattle.lane_rings.specs.declared.item.Item.TheVariants as item
 use Rattle.std.proofs.Common.{rules}
+use Rattle.lane_rings.specs.declared.item.Item.TheVariants as item
 use Rattle.register_run.specs.Stripes.{StripeTook}
 use Rattle.register_run.proofs.ItemLemmas.{seen_kept}
 use Rattle.register_run.proofs.stripes.Stripe.look.Goals as goal
@@ -15,16 +15,8 @@ returns-in-Ok-true-clause-same c = record {
 
 pub returns-in-Ok-false-clause-same : goal.returns-in-Ok-false-clause-same
 unfolding StripeTook
-returns-in-Ok-false-clause-same c = record {
-  lane = search rules;
-  setup = search rules;
-  kept = λ row. seen_kept _ _ _ _ c.look.ensures.taken c.look.ensures.waiting (item.Entry row);
-}
+returns-in-Ok-false-clause-same c = search (rules, seen_kept)
 
 pub returns-in-Err-clause-same : goal.returns-in-Err-clause-same
 unfolding StripeTook
-returns-in-Err-clause-same c = record {
-  lane = search rules;
-  setup = search rules;
-  kept = λ row. seen_kept _ _ _ _ c.look.ensures.taken c.look.ensures.waiting (item.Entry row);
-}
+returns-in-Err-clause-same c = search (rules, seen_kept)

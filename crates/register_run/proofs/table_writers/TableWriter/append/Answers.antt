@@ -1,9 +1,6 @@
 use Rattle.std.proofs.Common.{◌≡◌, ◌∙◌, ◌++◌, ap, subst, sym, inr}
-use Rattle.register_records.specs.Seen.{entry_seen}
-use Rattle.register_records.specs.Tables.{refusal_notes}
-use Rattle.register_records.specs.Views.{layout_of, row_seen, row_targets, targets_of}
-use Rattle.register_records.specs.declared.rows.Row.{Row}
-use Rattle.register_run.specs.TablesWritten.{IsTableSoFar}
+use Rattle.register_run.proofs.Words.{entry_seen, refusal_notes, layout_of, row_seen, row_targets, Row, IsTableSoFar}
+use Rattle.register_records.specs.Views.{targets_of}
 use Rattle.register_run.proofs.TableLemmas.{counted_row, noted_row, numbered_row, stands_more, targets_row}
 use Rattle.register_run.proofs.table_writers.TableWriter.append.Goals as goal
 

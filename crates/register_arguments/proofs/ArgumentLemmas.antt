@@ -12,10 +12,9 @@ use Rattle.date_texts.specs.declared.target.Target.{Target}
 use Rattle.register_arguments.specs.CommandLine.{AreTaken, Values, command_line, values_in}
 use Rattle.register_arguments.specs.Faults.{Fault, usage}
 use Rattle.register_arguments.specs.OptionValues.{IsDelimiterWord, IsNumberWord, IsValueOf, ValueOption}
-use Rattle.register_arguments.specs.Requests.{AreTargetsOf, Ask, Check, FailFirst, IsFaultOf}
-use Rattle.register_arguments.specs.Requests.{Mean, MeanJust, Meaning, Task, file_check, option_check}
-use Rattle.register_arguments.specs.Requests.{target_check, usage_check, value_checks, help, version, table}
-use Rattle.register_arguments.specs.Requests.{wrong}
+use Rattle.register_arguments.specs.Requests.{AreTargetsOf, Ask, Check, FailFirst, IsFaultOf, Mean, MeanJust, Meaning}
+use Rattle.register_arguments.specs.Requests.{Task, file_check, option_check, target_check, usage_check, value_checks}
+use Rattle.register_arguments.specs.Requests.{help, version, table, wrong}
 use Rattle.register_arguments.proofs.FileLemmas.{fit_no_fault, one_file_fault}
 use Rattle.register_arguments.proofs.KindLemmas.{one_kind}
 use Rattle.register_arguments.proofs.ListLemmas.{asks_no_fault, asks_one, one_fault}
@@ -124,7 +123,8 @@ module _ (one : OneTarget) (arguments : List Text) where
       no_fault (usage_check arguments ∷ value_checks (values_in arguments)) all_sound
       (asks.0, all_pass (values_in arguments) task asks.1) fault
 
-  one_table : (task other : Task) → Mean arguments (table task) → Mean arguments (table other) → table task ≡ table other
+  one_table : (task other : Task) → Mean arguments (table task) → Mean arguments (table other)
+      → table task ≡ table other
   one_table task other asks same = ap table (one_task (values_in arguments) task other one asks.1 same.1)
 
   one_meaning : (meaning other : Meaning) → Mean arguments meaning → Mean arguments other → other ≡ meaning
@@ -141,15 +141,10 @@ module _ (one : OneTarget) (arguments : List Text) where
   mean_just meaning means other = (λ e. subst (Mean arguments) (sym e) means, λ m. one_meaning meaning other means m)
 
 -- an error is a request for help or for the version, running out of memory, or a fault of usage
-pub asks_help : (arguments : List Text) (error : Error) → HasKind (fault_of command_line arguments) error
-    → kind_of error ≡ DisplayHelp → Mean arguments help
-asks_help arguments error (inl memory) is = absurd (cc)
-asks_help arguments error (inr among) is = subst (λ (k : ErrorKind). IsAmong k (fault_of command_line arguments)) is among
-
-pub asks_version : (arguments : List Text) (error : Error) → HasKind (fault_of command_line arguments) error
-    → kind_of error ≡ DisplayVersion → Mean arguments version
-asks_version arguments error (inl memory) is = absurd (cc)
-asks_version arguments error (inr among) is = subst (λ (k : ErrorKind). IsAmong k (fault_of command_line arguments)) is among
+pub asks : (arguments : List Text) (error : Error) (kind : ErrorKind) → HasKind (fault_of command_line arguments) error
+    → kind_of error ≡ kind → kind ≢ OutOfMemory → IsAmong kind (fault_of command_line arguments)
+asks arguments error kind (inl memory) is other = absurd (other (sym is ∙ memory))
+asks arguments error kind (inr among) is other = rw is at among
 
 pub misuses : (arguments : List Text) (error : Error) → HasKind (fault_of command_line arguments) error
     → kind_of error ≢ OutOfMemory → kind_of error ≢ DisplayHelp
@@ -158,8 +153,8 @@ misuses arguments error (inl memory) has helps versions = absurd (has memory)
 misuses arguments error (inr among) has helps versions = inl (kind_of error, refl, among, helps, versions)
 
 -- a fault that a check finds is all that the arguments mean
-pub found_just : (arguments : List Text) (found : Option Fault) (fails : Fault → Type 0) → OneTarget → IfSome found fails
-    → ((fault : Fault) → fails fault → IsFaultOf arguments fault)
+pub found_just : (arguments : List Text) (found : Option Fault) (fails : Fault → Type 0) → OneTarget
+    → IfSome found fails → ((fault : Fault) → fails fault → IsFaultOf arguments fault)
     → IfSome found (λ fault. MeanJust arguments (wrong fault))
 found_just arguments None fails one is first = tt
 found_just arguments (Some fault) fails one is first = mean_just one arguments (wrong fault) (first fault is)

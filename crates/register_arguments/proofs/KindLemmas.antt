@@ -1,19 +1,16 @@
 -- Arguments have one kind of fault at most, where the command has no subcommand.
-use Rattle.std.proofs.Common.{rules}
-use Rattle.std.proofs.Common.{◌≡◌, ◌∙◌, inl, inr, ℕ, zero, suc, List, [], ◌∷◌, Bool, true, false, Option, Some}
+use Rattle.std.proofs.Common.{rules, ◌≡◌, ◌∙◌, inl, inr, ℕ, zero, suc, List, [], ◌∷◌, Bool, true, false, Option, Some}
 use Rattle.std.proofs.Common.{None, refl, sym, if◌then◌else◌}
 use Rattle.std.specs.Option.{option_map_or}
 use Rattle.std.specs.Prelude.{⊤, length, drop, encode_utf8, slice_get}
 use Rattle.std.specs.Str.{chars}
 use Rattle.clap.specs.Words.{IsAmong, Kinds, Rule, Row, Shape, Text, fault_of}
 use Rattle.clap.specs.Kinds.{or_else, request_kinds, values_kinds}
-use Rattle.clap.specs.Walk.{Held, Step, Waiting, Walk, arg_by_id, arg_by_long}
-use Rattle.clap.specs.Walk.{idle, value}
+use Rattle.clap.specs.Walk.{Held, Step, Waiting, Walk, arg_by_id, arg_by_long, idle, value}
 use Rattle.clap.specs.Faults.{action_fault, built_fault, bundle_step_fault, default_fault, defaults_fault}
-use Rattle.clap.specs.Faults.{entered_fault, flag_word_fault, flags_fault, level_fault, long_fault}
-use Rattle.clap.specs.Faults.{option_fault, react_fault, settle_fault}
-use Rattle.clap.specs.Faults.{short_fault, step_fault, stray_fault, turn_fault, use_fault, walk_fault}
-use Rattle.clap.specs.Faults.{word_fault}
+use Rattle.clap.specs.Faults.{entered_fault, flag_word_fault, flags_fault, level_fault, long_fault, option_fault}
+use Rattle.clap.specs.Faults.{react_fault, settle_fault, short_fault, step_fault, stray_fault, turn_fault, use_fault}
+use Rattle.clap.specs.Faults.{walk_fault, word_fault}
 use Rattle.clap.specs.declared.builder.action.ArgAction.{ArgAction}
 use Rattle.clap.specs.declared.builder.action.ArgAction.TheVariants.{Set, Count}
 use Rattle.clap.specs.declared.builder.value_parser.ValueParser.{ValueParser}

@@ -1,7 +1,6 @@
 -- A list means one thing at most.
-use Rattle.std.proofs.Common.{rules, ◌≡◌, ◌∙◌, ◌⊎◌, ℕ, List, [], ◌∷◌, ◌++◌, length, sym, ap, ap₂, refl}
-use Rattle.std.proofs.Common.{subst, arith, inl, inr, Option, Some, None, length-append, Result, Ok, Err, Contains}
-use Rattle.std.proofs.Common.{IfSome, slice_get}
+use Rattle.std.proofs.Common.{rules, ◌≡◌, ◌∙◌, ◌⊎◌, ℕ, List, [], ◌∷◌, ◌++◌, length, sym, ap, ap₂, refl, subst, arith}
+use Rattle.std.proofs.Common.{inl, inr, Option, Some, None, length-append, Result, Ok, Err, Contains, IfSome, slice_get}
 use Rattle.std.proofs.lemmas.Option.{slice_get_read}
 use Rattle.std.proofs.lemmas.List.{get_or_append_left}
 use Rattle.date_texts.specs.Calendars.{target_name}
@@ -10,8 +9,8 @@ use Rattle.date_texts.specs.Names.{IsNamed}
 use Rattle.date_texts.specs.declared.target.Target.{Target}
 use Rattle.register_records.specs.SetupRules.{NamesTwice}
 use Rattle.register_arguments.specs.Faults.{Fault}
-use Rattle.register_arguments.specs.OptionValues.{AreNamesOf, AsksForTargets, IsFirstTargetTwice, IsFirstUnknown, IsListFault}
-use Rattle.register_arguments.specs.OptionValues.{ListMeans, ListMeansJust, StandsBehind, names_in}
+use Rattle.register_arguments.specs.OptionValues.{AreNamesOf, AsksForTargets, IsFirstTargetTwice, IsFirstUnknown}
+use Rattle.register_arguments.specs.OptionValues.{IsListFault, ListMeans, ListMeansJust, StandsBehind, names_in}
 
 get_end : (earlier : List Target) (target : Target) (rest : List Target)
     → slice_get (earlier ++ target ∷ rest) (length earlier) ≡ Some target

@@ -1,7 +1,6 @@
 -- Names and their targets, one more at a time.
-use Rattle.std.proofs.Common.{◌≡◌, ◌≢◌, ◌∙◌, ◌<◌, ℕ, List, [], ◌∷◌, ◌++◌, length, get_or, take, drop, suc}
-use Rattle.std.proofs.Common.{sym, ap, ap₂, arith, lit<}
-use Rattle.std.proofs.Common.{take-append-drop, Contains, true}
+use Rattle.std.proofs.Common.{◌≡◌, ◌≢◌, ◌∙◌, ◌<◌, ℕ, List, [], ◌∷◌, ◌++◌, length, get_or, take, drop, suc, sym, ap, ap₂}
+use Rattle.std.proofs.Common.{arith, lit<, take-append-drop, Contains, true}
 use Rattle.std.proofs.lemmas.List.{get_or_default}
 use Rattle.std.proofs.lemmas.List.Quantifiers.{all_pairs_push}
 use Rattle.std.proofs.lemmas.Option.{slice_get-get_or}

@@ -1,7 +1,6 @@
 -- What the arguments ask for fits a setup: each target once, the default ones too, since their names differ.
-use Rattle.std.proofs.Common.{rules, ◌≡◌, ◌∙◌, ◌<◌, ℕ, true, false, List, [], length, map}
-use Rattle.std.proofs.Common.{sym, ap, arith, Some, None, Option, Result, Err, inl, inr, true≢false}
-use Rattle.std.proofs.Common.{get_or}
+use Rattle.std.proofs.Common.{rules, ◌≡◌, ◌∙◌, ◌<◌, ℕ, true, false, List, [], length, map, sym, ap, arith, Some, None}
+use Rattle.std.proofs.Common.{Option, Result, Err, inl, inr, true≢false, get_or}
 use Rattle.std.specs.List.{IsDistinct}
 use Rattle.std.proofs.lemmas.List.{get_or-map}
 use Rattle.std.proofs.lemmas.Map.Made.{AllPairs-from_IsDistinct}

@@ -6,7 +6,8 @@ use Rattle.register_arguments.proofs.requests.command.Goals as goal
 
 pub returns : goal.returns
 returns c =
-    let to = c.in_ok-arg.ensures.shape c.option.ensures.local ∙ ap₂ with_rule c.empty_command.ensures c.option.ensures.rule in
+    let to =
+    c.in_ok-arg.ensures.shape c.option.ensures.local ∙ ap₂ with_rule c.empty_command.ensures c.option.ensures.rule in
     let ring = c.in_ok-arg-2.ensures.shape c.option-2.ensures.local ∙ ap₂ with_rule to c.option-2.ensures.rule in
     let stripes = c.in_ok-arg-3.ensures.shape c.option-3.ensures.local ∙ ap₂ with_rule ring c.option-3.ensures.rule in
     let delimiter =

@@ -1,6 +1,5 @@
 -- The flag's text is `true`, or none or another.
-use Rattle.std.proofs.Common.{rules, ◌≡◌, Bool, true, false, Option, Some, None, ap, arith, codes, refl}
-use Rattle.std.proofs.Common.{◌↔◌, unwrap_or}
+use Rattle.std.proofs.Common.{rules, ◌≡◌, Bool, true, false, Option, Some, None, ap, arith, codes, refl, ◌↔◌, unwrap_or}
 use Rattle.std.specs.Str.Parse.{ParsesBool}
 use Rattle.clap.proofs.WalkLemmas.{one_text-rows}
 use Rattle.clap.specs.Words.{ReadsOne, Text}

@@ -2,8 +2,7 @@
 use Rattle.std.proofs.Common.{rules, ap, map, refl, true, ◌≡◌, ◌∙◌}
 use Rattle.std.proofs.lemmas.Result.{IfOk-weaker}
 use Rattle.std.specs.String.{string_bytes}
-use Rattle.clap.specs.Words.{App, HasMatchesOf, app_of, found_of, is_simple, is_simple_and_free}
-use Rattle.clap.specs.Words.{matches_of, rows_of}
+use Rattle.clap.specs.Words.{App, HasMatchesOf, app_of, found_of, is_simple, is_simple_and_free, matches_of, rows_of}
 use Rattle.clap.specs.declared.parser.matches.ArgMatches.{ArgMatches}
 use Rattle.clap.proofs.OnLiterals.{clap_on_literals}
 use Rattle.register_arguments.specs.CommandLine.{command_line}

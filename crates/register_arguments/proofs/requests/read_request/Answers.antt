@@ -8,20 +8,20 @@ use Rattle.register_arguments.specs.Requests.{Ask, FailFirst, MeanJust, help, ta
 use Rattle.register_arguments.specs.Requests.{version, wrong}
 use Rattle.register_arguments.specs.declared.request_faults.RequestFault.{RequestFault}
 use Rattle.register_arguments.specs.declared.requests.Request.{Request}
-use Rattle.register_arguments.proofs.ArgumentLemmas.{asks_help, asks_version, mean_just, misuses, found_just}
+use Rattle.register_arguments.proofs.ArgumentLemmas.{asks, mean_just, misuses, found_just}
 use Rattle.register_arguments.proofs.requests.read_request.Goals as goal
 
 pub returns-in-DisplayHelp-clause-asked : goal.returns-in-DisplayHelp-clause-asked
 returns-in-DisplayHelp-clause-asked c =
     let arguments = map string_bytes c.args.arguments.now in
     mean_just c.one_target.ensures arguments help
-    (asks_help arguments c.in-Err.error c.in-Err.ensures.kinds (sym c.kind.ensures ∙ c.in-DisplayHelp.is))
+    (asks arguments c.in-Err.error _ c.in-Err.ensures.kinds (sym c.kind.ensures ∙ c.in-DisplayHelp.is) (λ e. cc))
 
 pub returns-in-DisplayVersion-clause-asked : goal.returns-in-DisplayVersion-clause-asked
 returns-in-DisplayVersion-clause-asked c =
     let arguments = map string_bytes c.args.arguments.now in
     mean_just c.one_target.ensures arguments version
-    (asks_version arguments c.in-Err.error c.in-Err.ensures.kinds (sym c.kind.ensures ∙ c.in-DisplayVersion.is))
+    (asks arguments c.in-Err.error _ c.in-Err.ensures.kinds (sym c.kind.ensures ∙ c.in-DisplayVersion.is) (λ e. cc))
 
 pub returns-in_default : goal.returns-in_default
 returns-in_default c =
@@ -29,7 +29,8 @@ returns-in_default c =
     record {
       asked = tt;
       refused = mean_just c.one_target.ensures arguments (wrong (usage _))
-          (misuses arguments c.in-Err.error c.in-Err.ensures.kinds (λ e. c.in_default.not-OutOfMemory (c.kind.ensures ∙ e))
+          (misuses arguments c.in-Err.error c.in-Err.ensures.kinds
+          (λ e. c.in_default.not-OutOfMemory (c.kind.ensures ∙ e))
           (λ e. c.in_default.not-DisplayHelp (c.kind.ensures ∙ e))
           (λ e. c.in_default.not-DisplayVersion (c.kind.ensures ∙ e)));
     }

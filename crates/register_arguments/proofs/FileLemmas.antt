@@ -10,7 +10,7 @@ use Rattle.std.proofs.lemmas.Slice.Eq.{bytes_eq-Decides}
 use Rattle.clap.specs.Words.{Text}
 use Rattle.register_arguments.specs.Faults.{Fault, file_twice}
 use Rattle.register_arguments.specs.Requests.{AreFilesToConvert, IsFileFault, IsFirstFileTwice, IsNamedTwice}
-use Rattle.register_arguments.proofs.ListLemmas.{Meet, meet}
+use Rattle.register_arguments.proofs.ListLemmas.{meet}
 
 -- the first file that was named before is named twice
 pub first_is_twice : (files : List Text) (file : Text) → IsFirstFileTwice files file → IsNamedTwice files file
@@ -42,28 +42,13 @@ one_file_fault files fault other (inr twice) (inr same) = twice.1 ∙ ap file_tw
 -- one more file that was not named before
 pub one_more : (files : List Text) (file : Text) → ((other : Text) → ¬ IsNamedTwice files other)
     → (¬ Contains files file) → (other : Text) → ¬ IsNamedTwice (files ++ file ∷ []) other
-one_more files file once new other twice = decide (meet twice.before other twice.after files file [] (sym twice.cut))
-  where
-    decide : Meet twice.before other files file → ⊥
-    decide (inl same) = new (subst (λ (xs : List Text). Contains xs file) same.0
-        (subst (Contains twice.before) same.1 twice.named))
-    decide (inr (inl before)) = once other (record {
-      before = twice.before;
-      after = before.0;
-      cut = before.1;
-      named = twice.named;
-    })
-    decide (inr (inr behind)) =
-        let whole = ap length twice.cut in
-        let front = ap length behind.1 in
-        omega (
-          arith,
-          whole,
-          front,
-          length-append files (file ∷ []),
-          length-append twice.before (other ∷ twice.after),
-          length-append files (file ∷ behind.0),
-        )
+one_more files file once new other twice =
+    elim (meet twice.before other twice.after files file [] (sym twice.cut)) [
+      | inl same ↦ new (rw (same.0, same.1) at twice.named)
+      | inr (inl (mid, cut)) ↦ once other
+          (record { before = twice.before; after = mid; cut = cut; named = twice.named })
+      | inr (inr (mid, cut)) ↦ omega (arith, ap length twice.cut, ap length cut, length-append {A = Text})
+    ]
 
 -- ---- the files as a slice holds them
 

@@ -1,7 +1,6 @@
 -- What holds of all that stands before a place of a list, with what stands there.
-use Rattle.std.proofs.Common.{◌≡◌, ◌∙◌, ◌+◌, ◌++◌, ◌<◌, ◌≤◌, ◌⊎◌, ℕ, List, length, get_or, map, sym, ap, subst, arith}
-use Rattle.std.proofs.Common.{codes, inl, inr, Some}
-use Rattle.std.specs.Prelude.{option_map, slice_get}
+use Rattle.std.proofs.Common.{rules, ◌≡◌, ◌∙◌, ◌+◌, ◌++◌, ◌<◌, ◌≤◌, ◌⊎◌, ℕ, List, length, get_or, map, ap, subst}
+use Rattle.std.proofs.Common.{arith, codes, inl, inr, Some, option_map, slice_get}
 use Rattle.std.proofs.lemmas.Bool.{cases_lt}
 use Rattle.std.proofs.lemmas.Option.{slice_get-get_or, slice_get-map, slice_get_cases, slice_get_within}
 use Rattle.register_files.proofs.MatchLemmas.{AreMatchedSoFar}
@@ -19,17 +18,11 @@ before_or_at k n below = elim (cases_lt k n) [ inl less ↦ inl less | inr more 
 
 pub one_before : {X : Type 0} (P : X → Type 0) (xs : List X) (n : ℕ) (here : X) → HoldBefore P xs n
     → slice_get xs n ≡ Some here → P here → HoldBefore P xs (n + 1)
-one_before P xs n here before at holds = λ k x below is. elim (before_or_at k n below) [
-  | inl less ↦ before k x less is
-  | inr same ↦
-      let e : Some here ≡ Some x = sym at ∙ subst (λ m. slice_get xs m ≡ Some x) same is in
-      let one : here ≡ x = cc in subst P one holds
-]
+one_before P xs n here before at holds = search (rules, before_or_at)
 
 pub all_before : {X : Type 0} (P : X → Type 0) (xs : List X) (n : ℕ) → HoldBefore P xs n → length xs ≤ n
     → (k : ℕ) (x : X) → slice_get xs k ≡ Some x → P x
-all_before P xs n before end k x is =
-    before k x (let within = slice_get_within xs k x is in omega (arith, within, end)) is
+all_before P xs n before end k x is = search (rules, slice_get_within)
 
 -- what stands at a place of a list of values, by the list that they are the values of
 pub value_at : {F A : Type 0} (v : F → A) (files : List F) (n : ℕ) (d : F) → n < length files
@@ -51,17 +44,11 @@ no_pairs R xs = λ i j x y less below p q. absurd (omega (arith, below))
 
 pub more_pairs : {X : Type 0} (R : X → X → Type 0) (xs : List X) (n : ℕ) (here : X) → HoldOfPairs R xs n
     → slice_get xs n ≡ Some here → HoldBefore (λ x. R x here) xs n → HoldOfPairs R xs (n + 1)
-more_pairs R xs n here pairs at holds = λ i j x y less below p q. elim (before_or_at j n below) [
-  | inl before ↦ pairs i j x y less before p q
-  | inr same ↦
-      let e : Some here ≡ Some y = sym at ∙ subst (λ m. slice_get xs m ≡ Some y) same q in
-      let one : here ≡ y = cc in subst (R x) one (holds i x (omega (arith, less, same)) p)
-]
+more_pairs R xs n here pairs at holds = search (rules, before_or_at)
 
 pub all_pairs : {X : Type 0} (R : X → X → Type 0) (xs : List X) (n : ℕ) → HoldOfPairs R xs n → length xs ≤ n
     → (i j : ℕ) (x y : X) → i < j → slice_get xs i ≡ Some x → slice_get xs j ≡ Some y → R x y
-all_pairs R xs n pairs end i j x y less p q =
-    pairs i j x y less (let within = slice_get_within xs j y q in omega (arith, within, end)) p q
+all_pairs R xs n pairs end i j x y less p q = search (rules, slice_get_within)
 
 -- a name that was told apart from the names so far, each of which is that of a file's output
 pub apart_from_earlier : {S : Type 0} (Apart : List ℕ → List ℕ → Type 0) (text : S → List ℕ) (files : List (List ℕ))

@@ -1,7 +1,7 @@
 -- Lists that match so far, with one more at the end of one of them.
-use Rattle.std.proofs.Common.{◌≡◌, ◌∙◌, ◌+◌, ◌<◌, ◌⊎◌, ℕ, List, [], ◌∷◌, ◌++◌, length, get_or, map, suc, zero, sym, ap}
-use Rattle.std.proofs.Common.{refl, subst, arith, inl, inr, codes, Some, None, length-append}
-use Rattle.std.specs.Prelude.{option_map, slice_get}
+use Rattle.std.proofs.Common.{rules, ◌≡◌, ◌∙◌, ◌+◌, ◌<◌, ◌⊎◌, ℕ, List, [], ◌∷◌, ◌++◌, length, get_or, map, suc, zero}
+use Rattle.std.proofs.Common.{sym, ap, refl, arith, inl, inr, codes, Some, None, length-append, option_map}
+use Rattle.std.proofs.Common.{slice_get}
 use Rattle.std.proofs.lemmas.List.{length-map}
 use Rattle.std.proofs.lemmas.Option.{slice_get-get_or, slice_get-map}
 use Rattle.register_files.specs.Openings.{AreMatched}
@@ -42,12 +42,9 @@ module _ {F A B : Type 0} (Match : ℕ → A → B → Type 0) (v : F → A) (fi
           → (slice_get right i ≡ Some y) ⊎ ((i ≡ length right) × (b ≡ y)) → Match i x y
       step i x y p (inl old) = so_far.1 i x y p old
       step i x y p (inr last) =
-          let place : i ≡ n = last.0 ∙ so_far.0 in
-          let same : Some (v (get_or files n d))
-          ≡ Some x = sym at ∙ subst (λ k. slice_get (map v files) k ≡ Some x) place p in
-          let is : v (get_or files n d) ≡ x = cc in
-          subst (λ k. Match k x y) (sym place)
-          (subst (λ z. Match n z y) is (subst (λ z. Match n (v (get_or files n d)) z) last.1 match))
+          let place : n ≡ i = sym (last.0 ∙ so_far.0) in
+          let is : v (get_or files n d) ≡ x = cc (at, place, p) in
+          rw (is, place, last.1) at match
 
   pub so_far_all : (right : List B) (n : ℕ) → AreMatchedSoFar Match (map v files) right n → n ≡ length files
       → AreMatched Match (map v files) right
@@ -57,6 +54,4 @@ module _ {F A B : Type 0} (Match : ℕ → A → B → Type 0) (v : F → A) (fi
 pub made_as : {W : Type 0} (IsMade : List ℕ → ℕ → W → Type 0) (text file : List ℕ) (mark i : ℕ) (output : W)
     → text ≡ file ++ codes ".out.csv" → mark ≡ i
     → IsMade text (mark + 1) output → IsMade (file ++ codes ".out.csv") (i + 1) output
-made_as IsMade text file mark i output named marked made =
-    subst (λ n. IsMade (file ++ codes ".out.csv") (n + 1) output) marked
-    (subst (λ t. IsMade t (mark + 1) output) named made)
+made_as IsMade text file mark i output named marked made = search rules

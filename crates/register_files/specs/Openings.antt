@@ -1,5 +1,6 @@
 -- What the files of a command line are opened as.
-use Rattle.std.specs.Prelude.{◌≡◌, ◌<◌, ◌+◌, ◌++◌, ℕ, List, [], false, codes, length, Option, IfSome, None, Some, slice_get}
+use Rattle.std.specs.Prelude.{◌≡◌, ◌<◌, ◌+◌, ◌++◌, ℕ, List, [], false, codes, length, Option, IfSome, None, Some}
+use Rattle.std.specs.Prelude.{slice_get}
 use Rattle.register_records.specs.declared.outputs.Output as outputs
 use Rattle.register_files.specs.declared.opening.FileFault.{FileFault}
 use Rattle.register_files.specs.declared.opening.FileFault.TheVariants as file_fault

@@ -130,13 +130,9 @@ module _ (from into : Lane) (stripe : Stripe) (fed : Closed Entry) (converting :
 
   first_passed : IsPrefix (rows_carried (taken stripe.rows)) (carried (all_sent fed))
   first_passed =
-      grind (
-        arith,
-        second.equal,
-        first.equal,
-        map_prefix entry_seen (row_entries (all_sent converting.closed))
-            (entries_in (taken converting.entries)) (keeps.rows second.confirmed),
-      )
+      rw (← second.equal, first.equal)
+      (map_prefix entry_seen (row_entries (all_sent converting.closed)) (entries_in (taken converting.entries))
+      (keeps.rows second.confirmed))
 
   ends_so : (items : List (Item Row)) (ended : Option ℕ) (count : ℕ) → items ≡ taken stripe.rows
       → MatchOption ended (last_mark items ≡ Some Stopped) (λ n. last_mark items ≡ Some (Counted n))

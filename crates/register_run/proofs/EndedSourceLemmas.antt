@@ -71,13 +71,10 @@ table_so : {W : Type 0} (o : outputs.Ghosts W) (layout : Layout) (given output :
     (rows : List Row) → is_some w ≡ true → waiting_of w ≡ [] → IsTableSoFar o layout given output w rows
     → Appends (o.contents given) (o.contents output) (table_text layout (rows_seen rows)) × (o.is_flushed output ≡ true)
 table_so o layout given output None rows e none h = absurd (cc)
-table_so o layout given output (Some w) rows e none h =
-    grind (
-      arith,
-      appends_waited (o.contents given) (o.contents output) (waiting_in w) (table_text layout (rows_seen
-          rows)) none h.0,
-      h.1,
-    )
+table_so o layout given output (Some w) rows e none h = (
+  appends_waited (o.contents given) (o.contents output) (waiting_in w) (table_text layout (rows_seen rows)) none h.0,
+  h.1,
+)
 
 -- the causes of reading are higher than those of a table
 high : (c : Cause) → is_of_reading c ≡ true → 5 ≤ cause_number c

@@ -15,11 +15,9 @@ use Rattle.register_run.proofs.EndedSourceLemmas.{thread_outcome}
 
 some_stripe : (setup : Setup) → 0 < setup.stripes
 some_stripe setup =
-    grind (
-      arith,
-      leb-true 1 setup.stripes (and_parts (nat_le 1 setup.stripes) (nat_le setup.stripes most_stripes)
-          setup.striped).0,
-    )
+    let least = leb-true 1 setup.stripes
+    (and_parts (nat_le 1 setup.stripes) (nat_le setup.stripes most_stripes) setup.striped).0 in
+    omega (arith, least)
 
 -- stripes that were started by a setup have its ring
 rings_of : (setup : Setup) (stripes : List Stripe) (n : ℕ) → map stripe_setup stripes ≡ replicate n setup

@@ -56,13 +56,11 @@ module _ {E R : Type 0} (numbers : Numbers E R) where
   times_once k first [] h low high = absurd (omega arith)
   times_once k first (x ∷ xs) h low high =
       elim (cases_eq first k) [
-        | inl e ↦ omega (
-          arith,
-          times_cons_own k x xs (h.0 ∙ e),
-          times_below k (first + 1) xs
-              h.1 (omega (arith, e)),
-        )
-        | inr n ↦ let other : numbers.of_entry x ≡ k → ⊥ = λ e. n (sym h.0 ∙ e) in
+        | inl e ↦
+            omega (arith, times_cons_own k x xs (h.0 ∙ e), times_below k (first + 1) xs h.1 (omega (arith, e)))
+        | inr n ↦
+            let other : numbers.of_entry x ≡ k → ⊥ = λ e. n (sym h.0 ∙ e) in
+            let more : first < k = grind (arith, n) in
             times_cons_other k x xs other ∙ times_once k (first + 1) xs h.1 (omega arith) (omega arith)
       ]
 

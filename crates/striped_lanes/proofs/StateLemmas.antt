@@ -41,12 +41,7 @@ module _ {E R : Type 0} (w : World E R) (some_converters : 0 < w.converters) (s 
   -- how far the entries can come
   pub progress_bound : progress w s ≤ 4 * length w.entries
   progress_bound =
-      let thrice = total_times w.converters 3 (λ i. standing_in (s.stripes i)) in omega (
-        arith,
-        (total_le w.converters
-            (λ i. weight (s.stripes i)) (λ i. 3 * standing_in (s.stripes i)) (λ i. omega arith)),
-        thrice,
-        all_standing,
-        popped_count,
-        all_count,
-      )
+      let most =
+      total_le w.converters (λ i. weight (s.stripes i)) (λ i. 3 * standing_in (s.stripes i)) (λ i. omega arith) in
+      let thrice = total_times w.converters 3 (λ i. standing_in (s.stripes i)) in
+      omega (arith, most, thrice, all_standing, popped_count, all_count)

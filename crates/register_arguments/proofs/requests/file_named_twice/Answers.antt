@@ -14,9 +14,7 @@ places-preserved c = still_once c.args.files.now c.places.place _ c.places-test.
 
 pub returns-clause-none : goal.returns-clause-none
 returns-clause-none c =
-    let all = take_all c.places.place (map (λ f. f.now) c.args.files.now) (omega (
-      arith,
-      c.places-test.false,
-      length-map c.args.files.now (λ f. f.now),
-    )) in
+    let files = map (λ f. f.now) c.args.files.now in
+    let all = take_all c.places.place files (omega
+    (arith, c.places-test.false, length-map c.args.files.now (λ f. f.now))) in
     subst (λ (xs : List (List ℕ)). (file : List ℕ) → ¬ IsNamedTwice xs file) all c.places.invariant

@@ -1,11 +1,10 @@
-use Rattle.std.proofs.Common.{◌++◌, ◌∙◌, arith, codes, map}
+use Rattle.std.proofs.Common.{rules, ◌++◌, ◌∙◌, arith, codes, map}
 use Rattle.std.proofs.lemmas.List.{length-map}
 use Rattle.register_files.proofs.ApartLemmas.{all_before, apart_by, none_before, one_before, value_at}
 use Rattle.register_files.proofs.opening.check_sources_kept.Goals as goal
 
 pub files-init : goal.files-init
-files-init g c = none_before (λ file. g.P.FileStore.are_apart c.args.store.now file (file ++ codes ".out.csv"))
-    (map (λ f. f.now) c.args.files.now)
+files-init g c = search (rules, none_before, codes)
 
 pub files-preserved : goal.files-preserved
 files-preserved g c =

@@ -1,6 +1,5 @@
 -- Each turn makes the next output, and tells its name apart from those before.
-use Rattle.std.proofs.Common.{◌≡◌, ◌∙◌, ◌+◌, ◌++◌, ap, refl, rules, arith, codes, is_ok, map, true}
-use Rattle.std.specs.Prelude.{slice_get}
+use Rattle.std.proofs.Common.{◌≡◌, ◌∙◌, ◌+◌, ◌++◌, ap, rules, arith, codes, is_ok, map, true, slice_get}
 use Rattle.std.specs.String.{string_bytes}
 use Rattle.std.proofs.lemmas.List.{length-map}
 use Rattle.register_files.specs.Openings.{IsNewlyMade}
@@ -9,16 +8,7 @@ use Rattle.register_files.proofs.MatchLemmas.{made_as, so_far_all, so_far_more, 
 use Rattle.register_files.proofs.opening.make_outputs.Goals as goal
 
 pub files-init : goal.files-init
-files-init g c = (
-  refl,
-  so_far_none (λ i file output. IsNewlyMade g.W.Output
-      (g.P.FileStore.is_made c.args.store.now) (file ++ codes ".out.csv") (i + 1) output)
-      (λ f. f.now) c.args.files.now c.new-outputs.result.items c.new-outputs.ensures.items,
-  so_far_none (λ i file name. string_bytes name ≡ file ++ codes ".out.csv") (λ f. f.now) c.args.files.now
-      c.new-names.result.items c.new-names.ensures.items,
-  no_pairs (λ file later. g.P.FileStore.are_apart c.args.store.now (file ++ codes ".out.csv") (later ++ codes ".out.csv"))
-      (map (λ f. f.now) c.args.files.now),
-)
+files-init g c = search (rules, so_far_none, codes, no_pairs)
 
 pub files-preserved : goal.files-preserved
 files-preserved g c =
@@ -43,7 +33,8 @@ files-preserved g c =
       more_pairs (λ file later. g.P.FileStore.are_apart c.args.store.now (file ++ codes ".out.csv")
           (later ++ codes ".out.csv")) (map (λ f. f.now) c.args.files.now) c.files.file-index _ c.files.invariant.3
           (value_at (λ f. f.now) c.args.files.now c.files.file-index _ c.files-test.true)
-          (apart_from_earlier (g.P.FileStore.are_apart c.args.store.now) string_bytes (map (λ f. f.now) c.args.files.now)
+          (apart_from_earlier (g.P.FileStore.are_apart c.args.store.now) string_bytes
+          (map (λ f. f.now) c.args.files.now)
           c.files.names.items c.as_str-in-files.result.now _ c.files.file-index c.files.invariant.2
           (c.as_str-in-files.ensures.value ∙ c.in-Ok.ensures)
           (λ k other is. c.is_taken.ensures c.if-is_taken.false k other
@@ -64,9 +55,7 @@ returns-clause-apart g c =
     (omega (arith, c.files-test.false, c.files.auto.file-index-end, length-map c.args.files.now (λ f. f.now)))
 
 pub returns-in_default-make-clause-named : goal.returns-in_default-make-clause-named
-returns-in_default-make-clause-named g c =
-    (c.files.file-index, value_at (λ f. f.now) c.args.files.now c.files.file-index _ c.files-test.true)
+returns-in_default-make-clause-named g c = search (rules, value_at)
 
 pub returns-then-is_taken-clause-named : goal.returns-then-is_taken-clause-named
-returns-then-is_taken-clause-named g c =
-    (c.files.file-index, value_at (λ f. f.now) c.args.files.now c.files.file-index _ c.files-test.true)
+returns-then-is_taken-clause-named g c = search (rules, value_at)

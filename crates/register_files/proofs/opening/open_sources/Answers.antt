@@ -4,8 +4,7 @@ use Rattle.register_files.proofs.MatchLemmas.{so_far_all, so_far_more, so_far_no
 use Rattle.register_files.proofs.opening.open_sources.Goals as goal
 
 pub files-init : goal.files-init
-files-init g c = so_far_none (λ i file source. g.P.FileStore.is_opened c.args.store.now file source) (λ f. f.now)
-    c.args.files.now c.new-sources.result.items c.new-sources.ensures.items
+files-init g c = search (rules, so_far_none)
 
 pub files-preserved : goal.files-preserved
 files-preserved g c =

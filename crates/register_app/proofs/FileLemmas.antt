@@ -1,6 +1,5 @@
 -- That a file that cannot be opened or made is one of those that the arguments ask for.
-use Rattle.std.proofs.Common.{◌≡◌, ℕ, List, Option, None, Some}
-use Rattle.std.specs.Prelude.{IfSome, slice_get}
+use Rattle.std.proofs.Common.{◌≡◌, ℕ, List, Option, None, Some, IfSome, slice_get}
 use Rattle.register_arguments.specs.Requests.{MeanJust, Task, table}
 use Rattle.register_files.specs.Openings.{IsOfFiles, missing_file}
 use Rattle.register_files.specs.declared.opening.FileFault.{FileFault}

@@ -28,8 +28,8 @@ abbrev pub AskForPage : List (List ℕ) → List ℕ → Type 0
 AskForPage arguments page =
     (MeanJust arguments help × (page ≡ HELP.now)) ⊎ (MeanJust arguments version × (page ≡ version_line))
 
--- a page was printed: with status 0 the output has gained it and handed it on, and standard error has gained nothing; else
--- the output has failed, and standard error has gained one line, unless that failed too
+-- a page was printed: with status 0 the output has gained it and handed it on, and standard error has gained nothing;
+-- else the output has failed, and standard error has gained one line, unless that failed too
 pub record IsPrinted {W E : Type 0} (o : outputs.Ghosts W) (e : outputs.Ghosts E)
     (page : List ℕ) (status : ℕ) (given written : W) (before after : E) : Type 0 where
   pub printed : status ≡ 0 → Appends (o.contents given) (o.contents written) page × (o.is_flushed written ≡ true)
@@ -42,8 +42,8 @@ abbrev pub IsSetupOf : Task → Setup → Type 0
 IsSetupOf task setup = (layout_of setup ≡ task.layout) × (setup.ring ≡ task.ring) × (setup.stripes ≡ task.stripes)
 
 -- tables were made: the threads of each source, which ran as is handed on, were started by the setup that the task asks
--- for, with its ring and its stripes, each source has ended as it should, the status is 0 exactly where all are whole, and
--- standard error has gained the lines on them, unless it failed, and nothing where there are none
+-- for, with its ring and its stripes, each source has ended as it should, the status is 0 exactly where all are whole,
+-- and standard error has gained the lines on them, unless it failed, and nothing where there are none
 pub record IsConverted {R W E : Type 0} (r : reads.Ghosts R) (o : outputs.Ghosts W) (e : outputs.Ghosts E)
     (task : Task) (status : ℕ) (sources : List R) (given written : List W) (ran : List Ran) (before after : E) : Type 0
   where
@@ -74,8 +74,8 @@ pub record AreConverted {R W E : Type 0} (r : reads.Ghosts R) (o : outputs.Ghost
   pub converted : IsConverted r o e task status sources given written ran before after
 
 -- the arguments ask for a page, which was printed; no output was made
-abbrev pub IsPageAnswered : {W E : Type 0} → outputs.Ghosts W → outputs.Ghosts E → List (List ℕ) → ℕ → W → W → List W → E
-    → E → Type 0
+abbrev pub IsPageAnswered : {W E : Type 0} → outputs.Ghosts W → outputs.Ghosts E → List (List ℕ) → ℕ → W → W → List W
+    → E → E → Type 0
 IsPageAnswered o e arguments status given written outputs before after =
     (page : List ℕ) × AskForPage arguments page × IsPrinted o e page status given written before after × (outputs ≡ [])
 
@@ -88,14 +88,14 @@ IsInputAnswered r o e arguments status input given written outputs ran before af
 
 -- the arguments ask for the tables of files; standard output is as it was
 abbrev pub AreFilesAnswered : {R W E : Type 0} → reads.Ghosts R → outputs.Ghosts W → outputs.Ghosts E
-    → (List ℕ → R → Type 0) → (List ℕ → ℕ → W → Type 0) → (List ℕ → List ℕ → Type 0) → List (List ℕ) → ℕ → W → W → List W
-    → List Ran → E → E → Type 0
+    → (List ℕ → R → Type 0) → (List ℕ → ℕ → W → Type 0) → (List ℕ → List ℕ → Type 0) → List (List ℕ) → ℕ → W → W
+    → List W → List Ran → E → E → Type 0
 AreFilesAnswered r o e IsOpened IsMade AreApart arguments status given written outputs ran before after =
     (task : Task) × MeanJust arguments (table task) × (task.files ≢ []) × (written ≡ given)
     × AreConverted r o e IsOpened IsMade AreApart task status outputs ran before after
 
--- standard error has gained the line on why nothing is done, with this status: something is wrong with the arguments, or
--- memory ran out, or a file was missing; of arguments that are not taken, clap says more than the definitions
+-- standard error has gained the line on why nothing is done, with this status: something is wrong with the arguments,
+-- or memory ran out, or a file was missing; of arguments that are not taken, clap says more than the definitions
 pub record IsReported (arguments : List (List ℕ)) (status : ℕ) (before after : Option (List ℕ)) : Type 0 where
   pub why : Refusal
   pub status_of : status_of_refusal why ≡ status

@@ -68,17 +68,9 @@ module _ {E R : Type 0} (numbers : Numbers E R) where
   pub times_own_part : (c i k d : ℕ) (xs : List E) → HaveNumbersFrom numbers (d + 1) xs → 1 ≤ k → (k - 1) % c ≡ i
       → times k (part c i d xs) ≡ times k xs
   times_own_part c i k d [] h some own = refl
-  times_own_part c i k d (x ∷ xs) h some own = search (
-    rules,
-    cases_eq,
-    times,
-    part_own,
-    times_cons,
-    part,
-    part_other,
-    times_cons_other,
-    times_own_part c i k (d + 1) xs h.1 some own,
-  )
+  times_own_part c i k d (x ∷ xs) h some own =
+      let rest = times_own_part c i k (d + 1) xs h.1 some own in
+      search (rules, cases_eq, part_own, times_cons, part_other, times_cons_other, rest)
 
   -- and in no other part
   pub times_other_part : (c i k d : ℕ) (xs : List E) → HaveNumbersFrom numbers (d + 1) xs → 1 ≤ k

@@ -1,7 +1,6 @@
 -- Arguments that ask for something have no fault beside it, and arguments that are refused have one.
-use Rattle.std.specs.Prelude.{◌≤◌, ◌⊎◌}
-use Rattle.std.proofs.Common.{◌≡◌, ◌≢◌, ℕ, rules, arith, inl, inr, map, ap, length, refl, List, [], ◌∷◌}
-use Rattle.std.proofs.lemmas.List.{length-map}
+use Rattle.std.proofs.Common.{◌≤◌, ◌⊎◌, ◌≡◌, ◌≢◌, ℕ, rules, arith, inl, inr, map, ap, length, refl, []}
+use Rattle.std.proofs.lemmas.List.{length-map, nil_from_length}
 use Rattle.std.specs.String.{string_bytes}
 use Rattle.register_arguments.specs.Requests.{MeanJust, help, table, task_of, version}
 use Rattle.register_arguments.specs.Faults.{fault_of_error}
@@ -38,18 +37,10 @@ convert_files-requires-clause-few g c =
     omega (arith, asks.1.files_fit.0, ap length asks.1.files, length-map job.files.items (λ f. f.now))
 
 at_most_three : (status : ℕ) → 2 ≤ status → (status ≡ 0) ⊎ (status ≡ 1) ⊎ (status ≡ 3) → status ≡ 3
-at_most_three status high (inl zero) = absurd (omega (arith, high, zero))
-at_most_three status high (inr (inl one)) = absurd (omega (arith, high, one))
-at_most_three status high (inr (inr three)) = three
+at_most_three status high among = grind arith
 
 never_two : (status : ℕ) → (status ≡ 0) ⊎ (status ≡ 1) ⊎ (status ≡ 3) → status ≡ 2 → ⊥
-never_two status (inl zero) two = absurd (omega (arith, two, zero))
-never_two status (inr (inl one)) two = absurd (omega (arith, two, one))
-never_two status (inr (inr three)) two = absurd (omega (arith, two, three))
-
-none_of : {A : Type 0} (xs : List A) → length xs ≡ 0 → xs ≡ []
-none_of [] e = refl
-none_of (x ∷ xs) e = absurd (omega (arith, e))
+never_two status among two = grind arith
 
 pub returns-then-is_empty-clause-answered : goal.returns-then-is_empty-clause-answered
 returns-then-is_empty-clause-answered g c = λ low.
@@ -57,7 +48,7 @@ returns-then-is_empty-clause-answered g c = λ low.
     let job = c.in-Ok-Convert.job in
     let just : MeanJust arguments (table (task_of job)) = search (rules, c.in-Ok-Convert.ensures.asked) in
     let zero : length job.files.items ≡ 0 = search rules in
-    let none : job.files.items ≡ [] = none_of job.files.items zero in
+    let none : job.files.items ≡ [] = nil_from_length job.files.items zero in
     inr (inl (
       task_of job,
       just,
@@ -73,10 +64,6 @@ returns-then-is_empty-clause-refused g c =
     λ had. never_refused _ _ c.convert_input.result.status just (λ fault e. cc)
     (never_two c.convert_input.result.status c.convert_input.ensures.statuses)
 
-map_none : {A B : Type 0} (f : A → B) (xs : List A) → map f xs ≡ [] → xs ≡ []
-map_none f [] e = refl
-map_none f (x ∷ xs) e = absurd (cc)
-
 pub returns-else-is_empty-clause-answered : goal.returns-else-is_empty-clause-answered
 returns-else-is_empty-clause-answered g c = λ low.
     let arguments = map string_bytes c.args.arguments.now in
@@ -86,7 +73,7 @@ returns-else-is_empty-clause-answered g c = λ low.
     inr (inr (
       task_of job,
       just,
-      λ e. some (map_none (λ f. f.now) job.files.items e),
+      λ e. some (nil_from_length job.files.items (omega (arith, length-map job.files.items (λ f. f.now), ap length e))),
       c.convert_files.ensures.untouched,
       c.convert_files.ensures.converted (λ three. absurd (omega (arith, low, three))),
     ))

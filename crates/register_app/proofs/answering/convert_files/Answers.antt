@@ -1,13 +1,12 @@
 -- A run that did not begin hands the outputs back as they were made.
-use Rattle.std.proofs.Common.{inr, map, subst}
+use Rattle.std.proofs.Common.{rules, map, subst}
 use Rattle.register_arguments.specs.Requests.{task_of}
 use Rattle.register_files.specs.Openings.{IsOfFiles}
 use Rattle.register_app.proofs.FileLemmas.{asked_by}
 use Rattle.register_app.proofs.answering.convert_files.Goals as goal
 
 pub returns-clause-unwritten : goal.returns-clause-unwritten
-returns-clause-unwritten g c = λ three. inr (rw (c.run_job-status.ensures.untouched three, ← c.as_slice.ensures.value)
-    c.in-Ok.ensures.made)
+returns-clause-unwritten g c = search rules
 
 pub returns-in-Err-clause-reported : goal.returns-in-Err-clause-reported
 returns-in-Err-clause-reported g c = λ three good arguments just.

@@ -1,6 +1,5 @@
 -- A run that began has a report, and standard error has gained its lines.
-use Rattle.std.proofs.Common.{◌≡◌, ℕ, List, arith, false, refl}
-use Rattle.std.specs.Prelude.{◌↔◌}
+use Rattle.std.proofs.Common.{rules, ◌≡◌, ℕ, List, arith, false, refl, ◌↔◌}
 use Rattle.std.specs.Io.KnownBytes.{Appends}
 use Rattle.std.specs.declared.io.traits.Read as reads
 use Rattle.register_records.specs.declared.outputs.Output as outputs
@@ -29,19 +28,7 @@ converted : {R W E : Type 0} (r : reads.Ghosts R) (o : outputs.Ghosts W) (e : ou
     → (status ≡ 0 → task.summary ≡ false → after ≡ before)
     → IsConverted r o e task status sources given report.outputs.items report.ran.items before after
 converted r o e task status sources given before after setup report reports machine threads asked complete lines quiet =
-    record {
-      setup = setup;
-      asked = asked;
-      report = report;
-      reports = reports;
-      machine = machine;
-      threads = threads;
-      outputs = refl;
-      ran_so = refl;
-      complete = complete;
-      lines = lines;
-      quiet = quiet;
-    }
+    search rules
 
 pub returns-in-Ok-clause-converted : goal.returns-in-Ok-clause-converted
 returns-in-Ok-clause-converted g c = λ begun.
@@ -54,5 +41,4 @@ returns-in-Ok-clause-len g c = grind (arith, lengths_of)
 
 -- a run that did not begin was refused memory
 pub returns-in-Err-clause-reported : goal.returns-in-Err-clause-reported
-returns-in-Err-clause-reported g c = λ three good arguments.
-    out_of_memory arguments _ _ (c.report_out_of_memory.ensures.line good)
+returns-in-Err-clause-reported g c = search (rules, out_of_memory)

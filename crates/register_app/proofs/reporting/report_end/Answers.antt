@@ -1,6 +1,5 @@
 -- A line that was written while standard error had not failed.
-use Rattle.std.proofs.Common.{◌≡◌, rules, true, is_ok, Result, Ok, Err}
-use Rattle.std.specs.Prelude.{OnOk}
+use Rattle.std.proofs.Common.{◌≡◌, rules, true, is_ok, Result, Ok, Err, OnOk}
 use Rattle.register_files.proofs.AppendsLemmas.{appends_none}
 use Rattle.register_app.proofs.reporting.report_end.Goals as goal
 

@@ -22,9 +22,8 @@ pub named_more : (names : List (List ℕ)) (targets : List Target) (name : List 
     → AreNamesOf names targets → IsNamed name (target_name target)
     → AreNamesOf (names ++ name ∷ []) (targets ++ target ∷ [])
 named_more [] [] name target named is = (is, tt)
-named_more [] (u ∷ us) name target named is = absurd named
-named_more (n ∷ ns) [] name target named is = absurd named
 named_more (n ∷ ns) (u ∷ us) name target named is = (named.0, named_more ns us name target named.1 is)
+named_more names targets name target named is = absurd named
 
 -- the name at place i of a list stands behind those before it
 pub stands_at : (list : List ℕ) (earlier : List Target) (before : List (List ℕ)) (i : ℕ) (name : List ℕ)

@@ -83,9 +83,8 @@ dealt_unsent w at given senders new old (Err g) is sure gone all = search (rules
 pub dealt_ended : (w : World) (i : ℕ) (given : List Numbered) (senders : List (Sender Entry))
     (closed : List (Closed Entry)) → AllZip HasEnded senders closed → AreDealt w i given senders
     → WereDealt w i given closed
-dealt_ended w i given [] [] ends all = tt
+dealt_ended w i given senders [] ends all = tt
 dealt_ended w i given [] (c ∷ closed) ends all = absurd ends
-dealt_ended w i given (s ∷ senders) [] ends all = absurd ends
 dealt_ended w i given (s ∷ senders) (c ∷ closed) ends all =
     (λ sure. ends.0.sent sure ∙ all.0, dealt_ended w (i + 1) given senders closed ends.1 all.1)
 

@@ -50,10 +50,8 @@ module _ {X Y : Type 0} (P : X → Y → Type 0) where
 -- what is left of senders is that of their lanes
 pub ended_lanes : (senders : List (Sender Entry)) (closed : List (Closed Entry)) → AllZip HasEnded senders closed
     → AreOfLanes (map sender_lane senders) closed
-ended_lanes [] [] h = tt
-ended_lanes [] (c ∷ closed) h = h
-ended_lanes (s ∷ senders) [] h = h
 ended_lanes (s ∷ senders) (c ∷ closed) h = (h.0.lane, ended_lanes senders closed h.1)
+ended_lanes senders closed h = h
 
 -- stripes that are joined one after the other, with what is left of the senders that fed them
 pub for_less : (a b : Bool) (stripe : Stripe) (one : Closed Entry) → (b ≡ true → a ≡ true) → HasPassedOn a stripe one

@@ -1,5 +1,5 @@
 -- The actor that has to move the entry of the next row can.
-use Rattle.std.proofs.Common.{◌≡◌, ◌<◌, ◌≤◌, ◌+◌, ◌++◌, ℕ, List, [], ◌∷◌, length, Option, Some, None, refl, sym}
+use Rattle.std.proofs.Common.{rules, ◌≡◌, ◌<◌, ◌≤◌, ◌+◌, ◌++◌, ℕ, List, [], ◌∷◌, length, Option, Some, None, refl, sym}
 use Rattle.std.proofs.Common.{ap, ◌∙◌, arith, ◌%◌, map, option_to_list, slice_get}
 use Rattle.std.proofs.lemmas.List.{nil_from_length}
 use Rattle.striped_lanes.specs.Machine.{World, State, Actor, Reader, Converter, Writer, act, turn}
@@ -11,7 +11,7 @@ use Rattle.striped_lanes.proofs.ActLemmas.{reader_steps, popping_converter_steps
 use Rattle.striped_lanes.proofs.InvariantLemmas.{Kept, Steps, slice_get_rest, steps_change}
 use Rattle.striped_lanes.proofs.NumberLemmas.{numbered_rest, times_cons_own}
 use Rattle.striped_lanes.proofs.PartLemmas.{part, part_own}
-use Rattle.striped_lanes.proofs.PlaceLemmas.{StandsIn, only_in_converter, only_in_entry_lane, only_in_row_lane}
+use Rattle.striped_lanes.proofs.PlaceLemmas.{StandsIn, only_at}
 use Rattle.striped_lanes.proofs.PlaceLemmas.{row_lane_times, stands_in}
 use Rattle.striped_lanes.proofs.StateLemmas.{all_count, popped_count, stripe_count}
 
@@ -59,7 +59,7 @@ module _ {E R : Type 0} (numbers : Numbers E R) (w : World E R) (some_converters
       let some : 0 < times_at numbers s k (RowLane i) =
       rw (row_lane_times numbers w s v numbered same_numbers k i, converted_is)
       (omega (arith, times_cons_own numbers k y converted own)) in
-      go_on Writer (in_row_lane (rw next_stripe (only_in_row_lane numbers s k i stands some)))
+      go_on Writer (in_row_lane (rw next_stripe (search (rules, only_at numbers s k i stands))))
       (writer_steps w some_converters s v (w.row_of y) (map w.row_of converted)
       (rw converted_is at (v.stripes i).rows))
   first_goes_on x rest [] (Some y) lane number stands converted_is hand_is lane_is e =
@@ -70,7 +70,7 @@ module _ {E R : Type 0} (numbers : Numbers E R) (w : World E R) (some_converters
       rw hand_is (omega (arith, times_cons_own numbers k y [] own)) in
       let none : length (s.stripes i).row_lane ≡ 0 = ap length (rw converted_is at (v.stripes i).rows) in
       go_on (Converter i)
-      (rw (← next_stripe) (in_converter (rw next_stripe (only_in_converter numbers s k i stands some))))
+      (rw (← next_stripe) (in_converter (rw next_stripe (search (rules, only_at numbers s k i stands)))))
       (pushing_converter_steps w some_converters s v i y hand_is (omega (arith, some_room, none)))
   first_goes_on x rest [] None [] number stands converted_is hand_is lane_is e = cc e
   first_goes_on x rest [] None (y ∷ lane) number stands converted_is hand_is lane_is e =
@@ -80,7 +80,7 @@ module _ {E R : Type 0} (numbers : Numbers E R) (w : World E R) (some_converters
       let some : 0 < times_at numbers s k (EntryLane i) =
       rw lane_is (omega (arith, times_cons_own numbers k y lane own)) in
       go_on (Converter i)
-      (rw (← next_stripe) (in_entry_lane (rw next_stripe (only_in_entry_lane numbers s k i stands some))))
+      (rw (← next_stripe) (in_entry_lane (rw next_stripe (search (rules, only_at numbers s k i stands)))))
       (popping_converter_steps w some_converters s v i y lane lane_is hand_is)
 
   next_is : slice_get w.entries (length s.popped) ≡ slice_get (v.between ++ v.left) 0

@@ -21,27 +21,12 @@ pub record StandsIn {E R : Type 0} (numbers : Numbers E R) (s : State E R) (k i 
       → times_at numbers s k (EntryLane j) + times_at numbers s k (InConverter j) + times_at numbers s k (RowLane j) ≡ 0
 
 module _ {E R : Type 0} (numbers : Numbers E R) (s : State E R) (k i : ℕ) (h : StandsIn numbers s k i) where
-  -- a kind of place has no entry k in any stripe but where it stands, if none has it there in stripe i and in others
-  none_of_kind : (kind : ℕ → Place) (at : Place) → (kind i ≢ at → times_at numbers s k (kind i) ≡ 0)
-      → ((j : ℕ) → (j ≡ i → ⊥) → times_at numbers s k (kind j) ≡ 0) → (j : ℕ) → kind j ≢ at
-      → times_at numbers s k (kind j) ≡ 0
-  none_of_kind kind at here there j n = search (rules, cases_eq)
-
   -- it stands at this place, and at no other one of stripe i, nor among those popped
-  only_at : (at : Place) → times_at numbers s k at ≡ 1 → (EntryLane i ≢ at → times_at numbers s k (EntryLane i) ≡ 0)
+  pub only_at : (at : Place) → times_at numbers s k at ≡ 1 → (EntryLane i ≢ at → times_at numbers s k (EntryLane i) ≡ 0)
       → (InConverter i ≢ at → times_at numbers s k (InConverter i) ≡ 0)
       → (RowLane i ≢ at → times_at numbers s k (RowLane i) ≡ 0) → (Popped ≢ at → times_at numbers s k Popped ≡ 0)
       → StandsOnlyAt numbers s k at
-  only_at at once entry_lane converter row_lane popped = search (rules, none_of_kind)
-
-  pub only_in_entry_lane : 0 < times_at numbers s k (EntryLane i) → StandsOnlyAt numbers s k (EntryLane i)
-  only_in_entry_lane some = search (rules, only_at)
-
-  pub only_in_converter : 0 < times_at numbers s k (InConverter i) → StandsOnlyAt numbers s k (InConverter i)
-  only_in_converter some = search (rules, only_at)
-
-  pub only_in_row_lane : 0 < times_at numbers s k (RowLane i) → StandsOnlyAt numbers s k (RowLane i)
-  only_in_row_lane some = search (rules, only_at)
+  only_at at once entry_lane converter row_lane popped = search (rules, cases_eq)
 
 one_of_four : (a b c d : ℕ) → a + b + c + d ≡ 1 → (0 < a) ⊎ ((0 < b) ⊎ ((0 < c) ⊎ (0 < d)))
 one_of_four a b c d h = grind arith
@@ -101,8 +86,8 @@ module _ {E R : Type 0} (numbers : Numbers E R) (w : World E R) (s : State E R) 
       let h = stands_in k some pushed in
       let times = times_at numbers s k in
       elim (one_of_four (times (EntryLane i)) (times (InConverter i)) (times (RowLane i)) (times Popped) h.own) [
-        | inl a ↦ (EntryLane i, (0, omega arith, refl), only_in_entry_lane numbers s k i h a)
-        | inr (inl b) ↦ (InConverter i, (1, omega arith, refl), only_in_converter numbers s k i h b)
-        | inr (inr (inl c)) ↦ (RowLane i, (2, omega arith, refl), only_in_row_lane numbers s k i h c)
-        | inr (inr (inr d)) ↦ (Popped, (3, omega arith, refl), search (rules, only_at numbers s k i h Popped))
+        | inl a ↦ (EntryLane i, (0, omega arith, refl), search (rules, only_at numbers s k i h))
+        | inr (inl b) ↦ (InConverter i, (1, omega arith, refl), search (rules, only_at numbers s k i h))
+        | inr (inr (inl c)) ↦ (RowLane i, (2, omega arith, refl), search (rules, only_at numbers s k i h))
+        | inr (inr (inr d)) ↦ (Popped, (3, omega arith, refl), search (rules, only_at numbers s k i h))
       ]

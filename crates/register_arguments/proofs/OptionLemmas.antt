@@ -1,15 +1,13 @@
 -- From what clap says of options to their values, and from a fault of a value to the first check that fails.
 use Rattle.std.proofs.Common.{rules, ◌≡◌, ◌&&◌, ap, ℕ, Bool, true, false, List, Option, Some, None, codes, refl}
-use Rattle.std.proofs.Common.{◌↔◌, IfErr, IfOk, IfSome, IsSomeAnd, nat_le, option_map, le-leb}
-use Rattle.std.specs.Option.{ok_or}
+use Rattle.std.proofs.Common.{◌↔◌, IfSome, IsSomeAnd, nat_le, le-leb}
 use Rattle.std.specs.Str.{bytes_eq}
 use Rattle.std.proofs.lemmas.Slice.Eq.{bytes_eq-Decides}
 use Rattle.clap.specs.Words.{Text}
 use Rattle.register_arguments.specs.CommandLine.{is_set}
-use Rattle.register_arguments.specs.Faults.{Fault, fault_of_error}
-use Rattle.register_arguments.specs.OptionValues.{IsNumberWord, IsValueFault, IsValueOf, ValueOption}
+use Rattle.register_arguments.specs.Faults.{Fault}
+use Rattle.register_arguments.specs.OptionValues.{IsNumberWord}
 use Rattle.register_arguments.specs.Requests.{Check, FailFirst}
-use Rattle.register_arguments.specs.declared.request_faults.RequestFault.{RequestFault}
 
 -- a flag that is given exactly where its text is `true` is set as its text says
 pub set_by_text : (b : Bool) (text : Option Text) → ((b ≡ true) ↔ (text ≡ Some (codes "true"))) → b ≡ is_set text
@@ -40,18 +38,3 @@ if_some (Some fault) fails is = is
 -- a number that a word names is from 1 to the most
 pub named_within : (most : ℕ) (word : Text) (n : ℕ) → IsNumberWord most word n → (nat_le 1 n && nat_le n most) ≡ true
 named_within most word n is = rw (le-leb 1 n is.some, le-leb n most is.no_more) refl
-
--- an option asks for what its word names
-pub asks_named : {V : Type 0} (option : ValueOption) (number : V → ℕ) (word : Text) (named : Option V)
-    (error : RequestFault) → ((n : ℕ) → (option_map number named ≡ Some n) ↔ option.names word n)
-    → IfOk (ok_or named error) (λ v. IsValueOf option (Some word) (number v))
-asks_named option number word None error is = tt
-asks_named option number word (Some v) error is = (is (number v)).0 refl
-
--- where its word names nothing, that is its fault
-pub faults_unnamed : {V : Type 0} (option : ValueOption) (number : V → ℕ) (word : Text) (named : Option V)
-    (error : RequestFault) → ((n : ℕ) → (option_map number named ≡ Some n) ↔ option.names word n)
-    → fault_of_error error ≡ Some (option.fault word)
-    → IfErr (ok_or named error) (λ e. IsSomeAnd (fault_of_error e) (IsValueFault option (Some word)))
-faults_unnamed option number word (Some v) error is same = tt
-faults_unnamed option number word None error is same = search rules

@@ -59,7 +59,8 @@ module _ (text : Option (List ℕ)) (format : Format) where
   given_stopped fault.NotSealed c given is bad many unsealed above numbered first sent counted why =
       ∥∥₁_elim first ∥∥₁_prop (λ s. ∥∥₁_elim (above refl) ∥∥₁_prop (λ a.
       ∥∥₁_map (unsealed refl).1 (λ u.
-      stopped_so fault.NotSealed c given is bad numbered s (λ e. cc) (λ e. ((unsealed refl).0, u, a)) sent counted why)))
+      stopped_so fault.NotSealed c given is bad numbered s (λ e. cc) (λ e. ((unsealed refl).0, u, a)) sent counted
+      why)))
   given_stopped f c given is bad many unsealed above numbered first sent counted why =
       ∥∥₁_map first (λ s. stopped_so f c given is bad numbered s (λ e. cc) (λ e. cc) sent counted why)
 

@@ -10,6 +10,7 @@
 --   ThreadLemmas: that each source had as many stripes as its setup, with lanes of the setup's ring; the clause
 --     `threads`.
 --   ScheduleLemmas: the law `every_schedule`, from that of the machine in striped_lanes.
+-- Words has the names of the definitions that several of these files use.
 pub mod Words
 pub mod StripeLemmas
 pub mod CarriedLemmas

@@ -1,7 +1,6 @@
 -- Why the threads of a source did not start.
-use Rattle.std.proofs.Common.{rules, ◌≡◌, ◌⊎◌, ℕ, List, Option, inl, inr, Err, Result}
-use Rattle.register_run.proofs.Words.{Format, Row, Cause, HasPassed, Sent}
-use Rattle.register_records.specs.declared.ends.Cause.TheVariants as cause
+use Rattle.std.proofs.Common.{rules, ◌≡◌, ℕ, List, Option, Err}
+use Rattle.register_run.proofs.Words.{Format, Row, HasPassed, Sent}
 use Rattle.register_run.specs.Stripes.{start_fault_cause}
 use Rattle.register_run.specs.declared.stripes.StartFault.{StartFault}
 use Rattle.register_run.specs.declared.stripes.StartFault.TheVariants as fault
@@ -12,8 +11,3 @@ pub not_started : (text : Option (List ℕ)) (format : Format) (took : Row → T
     → sent.outcome ≡ Err (start_fault_cause f) → HasPassed text format sent took
 not_started text format took fault.NoMemory sent why = search (rules, passed_not)
 not_started text format took fault.NoThread sent why = search (rules, passed_not)
-
-pub start_causes : (f : StartFault) (outcome : Result ℕ Cause) → outcome ≡ Err (start_fault_cause f)
-    → (outcome ≡ Err cause.NoMemory) ⊎ (outcome ≡ Err cause.NoThread)
-start_causes fault.NoMemory outcome is = inl is
-start_causes fault.NoThread outcome is = inr is

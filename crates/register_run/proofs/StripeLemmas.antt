@@ -1,6 +1,6 @@
 -- Rows that were taken from one of several stripes, and what is left of the senders of several lanes.
-use Rattle.std.proofs.Common.{rules, ◌≡◌, sym, subst, ℕ, zero, suc, ◌<◌, ◌+◌, List, [], ◌∷◌, ◌++◌, inl, inr, set}
-use Rattle.std.proofs.Common.{get_or, length, map, append-nil, arith, refl, true, Bool, Err}
+use Rattle.std.proofs.Common.{◌≡◌, sym, subst, ℕ, zero, suc, ◌<◌, ◌+◌, List, [], ◌∷◌, ◌++◌, inl, inr, set}
+use Rattle.std.proofs.Common.{get_or, length, map, append-nil, arith, refl, Bool, Err}
 use Rattle.std.specs.List.{AllZip, Contains}
 use Rattle.register_run.proofs.Words.{entries_in, Closed, Sender, HasConfirmation, all_sent, sender_lane, taken}
 use Rattle.register_run.proofs.Words.{Numbered, entry_seen, Entry, Row, Stripe, AnyTook, HasPassedOn, HavePassedOn}
@@ -54,10 +54,6 @@ ended_lanes (s ∷ senders) (c ∷ closed) h = (h.0.lane, ended_lanes senders cl
 ended_lanes senders closed h = h
 
 -- stripes that are joined one after the other, with what is left of the senders that fed them
-pub for_less : (a b : Bool) (stripe : Stripe) (one : Closed Entry) → (b ≡ true → a ≡ true) → HasPassedOn a stripe one
-    → HasPassedOn b stripe one
-for_less a b stripe one fewer h = search rules
-
 pub end_passed : (left : List Stripe) (left' : List (Closed Entry)) → length left ≡ 0
     → AreOfLanes (map feeding_lane left) left' → (b : Bool) → HavePassedOn b left left'
 end_passed [] [] e from b = tt

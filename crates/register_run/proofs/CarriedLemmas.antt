@@ -7,10 +7,10 @@ use Rattle.std.specs.Option.{option_eq}
 use Rattle.std.proofs.lemmas.List.{get_or-map, length-map, length_push, map-append}
 use Rattle.std.proofs.lemmas.List.Elements.{Contains-append_left}
 use mathlib.Core.List.{IsPrefix}
-use Rattle.register_run.proofs.Words.{entries_in, HasConfirmation, Lane, all_sent, closed_lane, sender_lane, sent}
-use Rattle.register_run.proofs.Words.{taken, Gone, Item, Closed, Sender, entry_seen, Entry, Row, HasPassedOn}
-use Rattle.register_run.proofs.Words.{AreOfAllTaken, AreOfTaken, HasEnded, carried, row_entries, rows_carried}
-use Rattle.register_run.proofs.Words.{IsConverting, Stripe}
+use Rattle.register_run.proofs.Common.{entries_in, HasConfirmation, Lane, all_sent, closed_lane, sender_lane, sent}
+use Rattle.register_run.proofs.Common.{taken, Gone, Item, Closed, Sender, entry_seen, Entry, Row, HasPassedOn}
+use Rattle.register_run.proofs.Common.{AreOfAllTaken, AreOfTaken, HasEnded, carried, row_entries, rows_carried}
+use Rattle.register_run.proofs.Common.{IsConverting, Stripe}
 use Rattle.lane_rings.proofs.EndLemmas.{entries_in_append, last_mark_append}
 use Rattle.lane_rings.specs.Items.{last_mark}
 use Rattle.lane_rings.specs.Lane.{IsWhole, waiting}

@@ -1,9 +1,9 @@
 -- How a converter ends the lane of its rows.
 use Rattle.std.proofs.Common.{rules, ◌≡◌, ◌∙◌, ap, refl, List, [], ◌∷◌, ◌++◌, ◌+◌, length, Some}
 use mathlib.Core.List.{IsPrefix}
-use Rattle.register_run.proofs.Words.{entries_in, HasConfirmation, Lane, all_sent, closed_lane, receiver_lane}
-use Rattle.register_run.proofs.Words.{sender_lane, sent, taken, Item, Closed, Sender, Entry, Row, AreOfTaken}
-use Rattle.register_run.proofs.Words.{IsConverting}
+use Rattle.register_run.proofs.Common.{entries_in, HasConfirmation, Lane, all_sent, closed_lane, receiver_lane}
+use Rattle.register_run.proofs.Common.{sender_lane, sent, taken, Item, Closed, Sender, Entry, Row, AreOfTaken}
+use Rattle.register_run.proofs.Common.{IsConverting}
 use Rattle.lane_rings.specs.declared.item.Item.TheVariants as item
 use Rattle.lane_rings.specs.declared.receiver.Receiver.{Receiver}
 use Rattle.register_run.proofs.CarriedLemmas.{first_ended, no_more, stop_is_no_end}

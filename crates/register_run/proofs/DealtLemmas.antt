@@ -6,8 +6,8 @@ use Rattle.std.specs.List.{AllZip, Contains}
 use Rattle.std.proofs.lemmas.List.{map-append}
 use Rattle.std.proofs.lemmas.List.Elements.{All-contains, All-contains_itself, All-filter, All-head, All-tail}
 use Rattle.std.proofs.lemmas.List.Elements.{filter-append}
-use Rattle.register_run.proofs.Words.{Closed, Sender, Gone, Item, entries_in, sent, Numbered, entry_seen, Entry}
-use Rattle.register_run.proofs.Words.{AreDealt, HasEnded, WereDealt, carried, dealt, turn, World}
+use Rattle.register_run.proofs.Common.{Closed, Sender, Gone, Item, entries_in, sent, Numbered, entry_seen, Entry}
+use Rattle.register_run.proofs.Common.{AreDealt, HasEnded, WereDealt, carried, dealt, turn, World}
 use Rattle.lane_rings.specs.declared.item.Item.TheVariants as item
 use Rattle.register_run.proofs.CarriedLemmas.{one_more}
 

@@ -10,12 +10,12 @@ use Rattle.std.proofs.lemmas.List.{length-map}
 use Rattle.std.proofs.lemmas.List.Elements.{Contains-append_right}
 use Rattle.std.proofs.Props.{props}
 use Rattle.std.proofs.Math.Logic.{∥∥₁_elim, ∥∥₁_map, ∥∥₁_prop}
-use Rattle.register_run.proofs.Words.{Target, Row, Cause, SourceEnd, RowWriter, AreNumberedFrom, HasAllEntries}
-use Rattle.register_run.proofs.Words.{HasEntries, HasFirstEntries, Numbered, record_limit, AreRowsOf, entry_seen}
-use Rattle.register_run.proofs.Words.{IfBroken, IfWhole, cause_number, Layout, format_of, layout_of, row_seen}
-use Rattle.register_run.proofs.Words.{row_targets, waiting_in, Stripe, Sent, Met, TableWriter, HasMetNone, IsLowest}
-use Rattle.register_run.proofs.Words.{IsMet, fault_of, is_of_table, IsSourceEnd, Carries, IsMachineWithTable, HasPassed}
-use Rattle.register_run.proofs.Words.{IsGiven, IsOfGiven, Holds, IsTableSoFar, entries_seen, rows_seen}
+use Rattle.register_run.proofs.Common.{Target, Row, Cause, SourceEnd, RowWriter, AreNumberedFrom, HasAllEntries}
+use Rattle.register_run.proofs.Common.{HasEntries, HasFirstEntries, Numbered, record_limit, AreRowsOf, entry_seen}
+use Rattle.register_run.proofs.Common.{IfBroken, IfWhole, cause_number, Layout, format_of, layout_of, row_seen}
+use Rattle.register_run.proofs.Common.{row_targets, waiting_in, Stripe, Sent, Met, TableWriter, HasMetNone, IsLowest}
+use Rattle.register_run.proofs.Common.{IsMet, fault_of, is_of_table, IsSourceEnd, Carries, IsMachineWithTable}
+use Rattle.register_run.proofs.Common.{HasPassed, IsGiven, IsOfGiven, Holds, IsTableSoFar, entries_seen, rows_seen}
 use Rattle.register_records.specs.Tables.{table_text}
 use Rattle.register_run.specs.JoinedThreads.{IsNotOfOutput, is_of_reading, speaks_of_text}
 use Rattle.register_records.specs.declared.outputs.Output as outputs

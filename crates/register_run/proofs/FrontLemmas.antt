@@ -3,8 +3,8 @@ use Rattle.std.proofs.Common.{rules, ◌≡◌, ◌∙◌, ap, refl, sym, ℕ, z
 use Rattle.std.proofs.Common.{arith, append_assoc, length-append, append-nil, Option}
 use Rattle.std.specs.List.{Contains}
 use Rattle.std.proofs.lemmas.List.Elements.{All-contains, All-contains_itself, All-map, All-weaker}
-use Rattle.register_run.proofs.Words.{AreNumberedFrom, Format, HasFirstEntries, Numbered, entry_seen, Row, IsOfGiven}
-use Rattle.register_run.proofs.Words.{entries_seen}
+use Rattle.register_run.proofs.Common.{AreNumberedFrom, Format, HasFirstEntries, Numbered, entry_seen, Row, IsOfGiven}
+use Rattle.register_run.proofs.Common.{entries_seen}
 
 later : (k : ℕ) (ys : List Numbered) (z : Numbered) → AreNumberedFrom k ys → Contains ys z → k ≤ z.number
 later k [] z h c = absurd (omega (arith, c.1))

@@ -2,9 +2,9 @@
 use Rattle.std.proofs.Common.{rules, ◌≡◌, sym, refl, ℕ, ◌+◌, List, [], ◌∷◌, ◌++◌, length, Option}
 use Rattle.std.proofs.Common.{inr, arith, Err, IfSome, Ok}
 use Rattle.std.proofs.Math.Logic.{∥∥₁_elim, ∥∥₁_map, ∥∥₁_prop}
-use Rattle.register_run.proofs.Words.{AreNumberedFrom, Format, HasAllEntries, HasEntries, HasFirstEntries, Numbered}
-use Rattle.register_run.proofs.Words.{record_limit, Cause, Sender, Entry, Row, AreDealt, World}
-use Rattle.register_run.proofs.Words.{HasPassed, IsGiven, Sent}
+use Rattle.register_run.proofs.Common.{AreNumberedFrom, Format, HasAllEntries, HasEntries, HasFirstEntries, Numbered}
+use Rattle.register_run.proofs.Common.{record_limit, Cause, Sender, Entry, Row, AreDealt, World}
+use Rattle.register_run.proofs.Common.{HasPassed, IsGiven, Sent}
 use Rattle.register_records.specs.Causes.{entry_fault_cause}
 use Rattle.register_records.specs.Entries.{HasNoHeader, HasTooMany, IsNotSealed}
 use Rattle.register_records.specs.declared.reading.EntryFault.{EntryFault}

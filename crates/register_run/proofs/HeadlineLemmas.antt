@@ -3,8 +3,8 @@ use Rattle.std.proofs.Common.{rules, ◌≡◌, ◌∙◌, ap, refl, sym, subst,
 use Rattle.std.proofs.Common.{append_assoc, append-nil, arith, true, ◌↔◌, All}
 use Rattle.std.proofs.lemmas.List.{map-append}
 use Rattle.std.specs.declared.io.traits.Read as reads
-use Rattle.register_run.proofs.Words.{Setup, SourceEnd, IfWhole, layout_of, Stripe, Ran, case_of, end_of, ended_case}
-use Rattle.register_run.proofs.Words.{output_of, ran_of, IsSourceEnd, IsMachineWithTable, AreThreadsOf}
+use Rattle.register_run.proofs.Common.{Setup, SourceEnd, IfWhole, layout_of, Stripe, Ran, case_of, end_of, ended_case}
+use Rattle.register_run.proofs.Common.{output_of, ran_of, IsSourceEnd, IsMachineWithTable, AreThreadsOf}
 use Rattle.register_records.specs.declared.outputs.Output as outputs
 use Rattle.register_records.specs.declared.ends.Cause.TheVariants as cause
 use Rattle.register_records.specs.declared.ends.SourceEnd.TheVariants as end

@@ -6,9 +6,9 @@ use Rattle.std.proofs.lemmas.Bool.{and_parts}
 use Rattle.std.proofs.lemmas.List.{length-map, length-replicate}
 use Rattle.std.proofs.lemmas.Slice.Zip.{AllZip-long}
 use mathlib.Core.Bool.{beq}
-use Rattle.register_run.proofs.Words.{Closed, AreNumberedFrom, Numbered, Entry, format_of, Setup, Cause, Actor, start}
-use Rattle.register_run.proofs.Words.{run, AnyTook, HasPassedOn, HavePassedOn, feeding_lane, stripe_setup}
-use Rattle.register_run.proofs.Words.{WereDealt, dealt, Carries, AreOfLanes, World, Stripe}
+use Rattle.register_run.proofs.Common.{Closed, AreNumberedFrom, Numbered, Entry, format_of, Setup, Cause, Actor, start}
+use Rattle.register_run.proofs.Common.{run, AnyTook, HasPassedOn, HavePassedOn, feeding_lane, stripe_setup}
+use Rattle.register_run.proofs.Common.{WereDealt, dealt, Carries, AreOfLanes, World, Stripe}
 use Rattle.striped_lanes.specs.Histories.{entries_over, rows_over}
 use Rattle.striped_lanes.specs.Places.{table_rows}
 use Rattle.striped_lanes.proofs.OneByOneLemmas.{all_over, one_by_one}

@@ -4,7 +4,7 @@ use Rattle.std.proofs.Common.{◌+◌, length, length-append, take, take_at}
 use Rattle.std.specs.List.{Contains}
 use Rattle.std.proofs.lemmas.List.Elements.{Contains-append_left, Contains-append_right}
 use mathlib.Core.List.{IsPrefix}
-use Rattle.register_run.proofs.Words.{Item}
+use Rattle.register_run.proofs.Common.{Item}
 
 module _ {T : Type 0} where
   -- a look takes nothing, and what it saw before it sees still

@@ -10,8 +10,8 @@
 --   ThreadLemmas: that each source had as many stripes as its setup, with lanes of the setup's ring; the clause
 --     `threads`.
 --   ScheduleLemmas: the law `every_schedule`, from that of the machine in striped_lanes.
--- Words has the names of the definitions that several of these files use.
-pub mod Words
+-- Common passes on the names that several of these files cite.
+pub mod Common
 pub mod StripeLemmas
 pub mod CarriedLemmas
 pub mod ConvertingLemmas

@@ -5,7 +5,7 @@ use Rattle.std.proofs.lemmas.List.Elements.{All-cons, All-head, All-tail}
 use Rattle.std.proofs.lemmas.List.Sums.{sum_by-append, sum_by-set}
 use Rattle.std.proofs.lemmas.Nat.{mod_below}
 use Rattle.std.proofs.lemmas.Option.{slice_get-get_or}
-use Rattle.register_run.proofs.Words.{taken, turn, World, popped, Stripe}
+use Rattle.register_run.proofs.Common.{taken, turn, World, popped, Stripe}
 use Rattle.register_run.specs.Stripes.{IsRowNext}
 use Rattle.register_run.specs.Popped.{AreOpen, HasLooked, HasLookedAt, HasPopped, IsInTurn, popped_from}
 use Rattle.register_run.specs.declared.stripes.Look.{Look}

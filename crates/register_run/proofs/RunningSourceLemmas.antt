@@ -1,8 +1,8 @@
 -- What a source's table holds, as rows are taken from its threads.
 use Rattle.std.proofs.Common.{◌≡◌, subst, ℕ, List, [], ◌∷◌, ◌++◌, Option, ◌⊎◌, inl, inr, Err, IfOk, Ok, Result}
 use Rattle.std.proofs.Math.Logic.{∥∥₁_map}
-use Rattle.register_run.proofs.Words.{Row, Cause, format_of, Stripe, Sent, TableWriter, Carries, Passed, started_by}
-use Rattle.register_run.proofs.Words.{HasPassed, Holds}
+use Rattle.register_run.proofs.Common.{Row, Cause, format_of, Stripe, Sent, TableWriter, Carries, Passed, started_by}
+use Rattle.register_run.proofs.Common.{HasPassed, Holds}
 use Rattle.register_records.specs.declared.outputs.Output as outputs
 use Rattle.register_run.specs.declared.source_threads.SourceThreads.{SourceThreads}
 use Rattle.register_run.specs.TablesWritten.{made_by}

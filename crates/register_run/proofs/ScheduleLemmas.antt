@@ -1,8 +1,8 @@
 -- The law of the machine, for the worlds of texts: their entries are numbered from 1, and their rows as their entries.
 use Rattle.std.proofs.Common.{◌≡◌, ◌+◌, ◌*◌, ◌≤◌, ℕ, List, [], ◌∷◌, Bool, true, false, length, map, refl}
 use Rattle.std.proofs.Common.{Option, if◌then◌else◌, nat_lt}
-use Rattle.register_run.proofs.Words.{Target, Actor, start, run, Format, HasFirstEntries, Numbered, record_limit}
-use Rattle.register_run.proofs.Words.{AreRowsOf, World}
+use Rattle.register_run.proofs.Common.{Target, Actor, start, run, Format, HasFirstEntries, Numbered, record_limit}
+use Rattle.register_run.proofs.Common.{AreRowsOf, World}
 use Rattle.striped_lanes.specs.Places.{HaveNumbersFrom, ArePoppedInOrder, KeepNumbers}
 use Rattle.striped_lanes.specs.Schedules.{AtMostChange, standing}
 use Rattle.striped_lanes.proofs.NumberLemmas.{numbered_front}

@@ -1,6 +1,6 @@
 -- Why the threads of a source did not start.
 use Rattle.std.proofs.Common.{rules, ◌≡◌, ℕ, List, Option, Err}
-use Rattle.register_run.proofs.Words.{Format, Row, HasPassed, Sent}
+use Rattle.register_run.proofs.Common.{Format, Row, HasPassed, Sent}
 use Rattle.register_run.specs.Stripes.{start_fault_cause}
 use Rattle.register_run.specs.declared.stripes.StartFault.{StartFault}
 use Rattle.register_run.specs.declared.stripes.StartFault.TheVariants as fault

@@ -2,10 +2,10 @@
 use Rattle.std.proofs.Common.{◌≡◌, sym, subst, ℕ, zero, suc, ◌<◌, ◌+◌, List, [], ◌∷◌, ◌++◌, inl, inr, set}
 use Rattle.std.proofs.Common.{get_or, length, map, append-nil, arith, refl, Bool, Err}
 use Rattle.std.specs.List.{AllZip, Contains}
-use Rattle.register_run.proofs.Words.{entries_in, Closed, Sender, HasConfirmation, all_sent, sender_lane, taken}
-use Rattle.register_run.proofs.Words.{Numbered, entry_seen, Entry, Row, Stripe, AnyTook, HasPassedOn, HavePassedOn}
-use Rattle.register_run.proofs.Words.{stripe_setup, feeding_lane, HasEnded, WereDealt, carried, dealt, row_entries}
-use Rattle.register_run.proofs.Words.{rows_carried, World, AreOfLanes, IsOfGiven}
+use Rattle.register_run.proofs.Common.{entries_in, Closed, Sender, HasConfirmation, all_sent, sender_lane, taken}
+use Rattle.register_run.proofs.Common.{Numbered, entry_seen, Entry, Row, Stripe, AnyTook, HasPassedOn, HavePassedOn}
+use Rattle.register_run.proofs.Common.{stripe_setup, feeding_lane, HasEnded, WereDealt, carried, dealt, row_entries}
+use Rattle.register_run.proofs.Common.{rows_carried, World, AreOfLanes, IsOfGiven}
 use Rattle.lane_rings.specs.declared.item.Item.TheVariants as item
 use Rattle.date_texts.specs.declared.refusal.Refusal.TheVariants as refusal
 use Rattle.register_run.specs.Stripes.{AreSameStripes, IsSameStripe, StripeTook}

@@ -6,8 +6,8 @@ use Rattle.std.specs.List.{Contains}
 use Rattle.std.specs.Io.KnownBytes.{Appends, append_known}
 use Rattle.std.proofs.lemmas.List.{length-map, map-append}
 use Rattle.std.proofs.lemmas.List.Elements.{Contains-push_cases}
-use Rattle.register_run.proofs.Words.{Row, Note, RowWriter, AreNumberedFrom, entry_seen, Layout, refusal_notes}
-use Rattle.register_run.proofs.Words.{row_seen, row_targets, waiting_in, IsTableSoFar, entries_seen, rows_seen}
+use Rattle.register_run.proofs.Common.{Row, Note, RowWriter, AreNumberedFrom, entry_seen, Layout, refusal_notes}
+use Rattle.register_run.proofs.Common.{row_seen, row_targets, waiting_in, IsTableSoFar, entries_seen, rows_seen}
 use Rattle.register_records.specs.declared.outputs.Output as outputs
 use Rattle.register_records.specs.declared.setups.Form.TheVariants.{Plain}
 use Rattle.register_records.specs.Laws.{TablesGrow}

@@ -3,9 +3,9 @@ use Rattle.std.proofs.Common.{rules, ◌≡◌, ◌⊎◌, ◌∙◌, ◌≤◌,
 use Rattle.std.proofs.Common.{map, refl, replicate, subst, sym, true, All, Err, IfSome, nat_le, leb-true}
 use Rattle.std.proofs.lemmas.Bool.{and_parts}
 use Rattle.std.proofs.lemmas.List.Elements.{All-cons}
-use Rattle.register_run.proofs.Words.{IfBroken, IfWhole, cause_number, Setup, Cause, Note, SourceEnd, stripe_setup}
-use Rattle.register_run.proofs.Words.{HasMetNone, IsLowest, IsMet, is_of_table, AreStaffed, AreThreadsOf, Stripe, Ran}
-use Rattle.register_run.proofs.Words.{Met}
+use Rattle.register_run.proofs.Common.{IfBroken, IfWhole, cause_number, Setup, Cause, Note, SourceEnd, stripe_setup}
+use Rattle.register_run.proofs.Common.{HasMetNone, IsLowest, IsMet, is_of_table, AreStaffed, AreThreadsOf, Stripe, Ran}
+use Rattle.register_run.proofs.Common.{Met}
 use Rattle.register_records.specs.SetupRules.{most_stripes}
 use Rattle.register_records.specs.declared.ends.Cause.TheVariants as cause
 use Rattle.register_records.specs.declared.ends.SourceEnd.TheVariants as end

@@ -1,5 +1,5 @@
 use Rattle.std.proofs.Common.{rules, ◌∙◌, ap, refl, sym, Some}
-use Rattle.register_run.proofs.Words.{entries_in, sent, taken}
+use Rattle.register_run.proofs.Common.{entries_in, sent, taken}
 use Rattle.lane_rings.specs.declared.item.Item.TheVariants as item
 use Rattle.register_run.proofs.CarriedLemmas.{all_ended, first_ended, first_of_all, none_taken, row_left, row_sent}
 use Rattle.register_run.proofs.ConvertingLemmas.{mark_taken, stops}

@@ -1,5 +1,5 @@
 use Rattle.std.proofs.Common.{◌≡◌, false}
-use Rattle.register_run.proofs.Words.{sent, taken, sender_lane, receiver_lane, AreOfAllTaken, AreOfTaken}
+use Rattle.register_run.proofs.Common.{sent, taken, sender_lane, receiver_lane, AreOfAllTaken, AreOfTaken}
 use Rattle.register_run.proofs.converting.convert_entries.Given as goal
 
 abbrev pub invariant-loop : goal.invariant-loop

@@ -1,5 +1,5 @@
 use Rattle.std.proofs.Common.{◌∙◌, [], arith, length-append, rules, length-set}
-use Rattle.register_run.proofs.Words.{format_of, given_of}
+use Rattle.register_run.proofs.Common.{format_of, given_of}
 use Rattle.register_run.proofs.DealtLemmas.{dealt_none, dealt_send, dealt_unsent}
 use Rattle.register_run.proofs.MoveLemmas.{set_same}
 use Rattle.register_run.proofs.GivenLemmas.{given_none, numbered_more, sends_all, sends_gone, sends_stopped}

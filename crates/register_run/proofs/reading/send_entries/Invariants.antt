@@ -1,5 +1,5 @@
 use Rattle.std.proofs.Common.{◌≡◌, length, map, vec_len, false}
-use Rattle.register_run.proofs.Words.{sender_lane, AreNumberedFrom, given_of, format_of, AreDealt, World}
+use Rattle.register_run.proofs.Common.{sender_lane, AreNumberedFrom, given_of, format_of, AreDealt, World}
 use Rattle.register_records.specs.Views.{reader_failed, reads_by, text_of}
 use Rattle.register_run.proofs.reading.send_entries.Given as goal
 

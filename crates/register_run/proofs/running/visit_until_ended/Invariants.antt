@@ -1,5 +1,5 @@
 use Rattle.std.proofs.Common.{◌≡◌, map, vec_len}
-use Rattle.register_run.proofs.Words.{case_of}
+use Rattle.register_run.proofs.Common.{case_of}
 use Rattle.register_run.proofs.running.visit_until_ended.Given as goal
 
 abbrev pub invariant-loop : goal.invariant-loop

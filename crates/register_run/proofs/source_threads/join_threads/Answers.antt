@@ -1,6 +1,6 @@
 use Rattle.std.proofs.Common.{subst, sym}
 use Rattle.std.proofs.Math.Logic.{∥∥₁_map}
-use Rattle.register_run.proofs.Words.{AreOfLanes}
+use Rattle.register_run.proofs.Common.{AreOfLanes}
 use Rattle.register_run.proofs.StripeLemmas.{took_dealt}
 use Rattle.register_run.proofs.HistoryLemmas.{joined_of_machine}
 use Rattle.register_run.proofs.source_threads.join_threads.Goals as goal

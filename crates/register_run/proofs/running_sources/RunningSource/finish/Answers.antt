@@ -1,5 +1,5 @@
 use Rattle.std.proofs.Common.{◌∙◌, subst, sym, IfOk}
-use Rattle.register_run.proofs.Words.{format_of, Carries, AreStaffed, Passed, started_by, HasPassed}
+use Rattle.register_run.proofs.Common.{format_of, Carries, AreStaffed, Passed, started_by, HasPassed}
 use Rattle.register_run.proofs.RunningSourceLemmas.{concludes, wrote_same}
 use Rattle.register_run.proofs.running_sources.RunningSource.finish.Goals as goal
 

@@ -1,5 +1,5 @@
 use Rattle.std.proofs.Common.{◌≡◌, ◌∙◌, ◌++◌, ap, subst, sym, inr}
-use Rattle.register_run.proofs.Words.{entry_seen, refusal_notes, layout_of, row_seen, row_targets, Row, IsTableSoFar}
+use Rattle.register_run.proofs.Common.{entry_seen, refusal_notes, layout_of, row_seen, row_targets, Row, IsTableSoFar}
 use Rattle.register_records.specs.Views.{targets_of}
 use Rattle.register_run.proofs.TableLemmas.{counted_row, noted_row, numbered_row, stands_more, targets_row}
 use Rattle.register_run.proofs.table_writers.TableWriter.append.Goals as goal

@@ -1,7 +1,7 @@
 use Rattle.std.proofs.Common.{◌∙◌, Option, ap, subst, sym}
 use Rattle.std.proofs.Props.{props}
 use Rattle.std.proofs.Math.Logic.{∥∥₁_elim, ∥∥₁_prop}
-use Rattle.register_run.proofs.Words.{Cause, fault_of, AreThreadsOf, Met, Ran}
+use Rattle.register_run.proofs.Common.{Cause, fault_of, AreThreadsOf, Met, Ran}
 use Rattle.register_run.proofs.EndedSourceLemmas.{headless, source_end, with_table}
 use Rattle.register_run.proofs.ThreadLemmas.{threads_of}
 use Rattle.register_run.proofs.table_writers.TableWriter.conclude.Goals as goal

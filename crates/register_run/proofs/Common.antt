@@ -1,4 +1,4 @@
--- The words of the definitions that several files of these proofs use.
+-- The names that several of these proofs cite, passed on from one place.
 pub use Rattle.date_texts.specs.declared.target.Target.{Target}
 pub use Rattle.lane_rings.specs.Items.{entries_in}
 pub use Rattle.lane_rings.specs.Lane.{HasConfirmation, Lane, all_sent, closed_lane, receiver_lane, sender_lane, sent}

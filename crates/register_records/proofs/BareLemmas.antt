@@ -1,5 +1,5 @@
 -- Texts that hold no byte that calls for quotes, and plain texts, which are ASCII besides.
-use Rattle.std.proofs.Common.{◌≡◌, ◌∙◌, ◌+◌, ◌*◌, ◌/◌, ◌-◌, ◌<◌, ◌≤◌, ◌++◌, ℕ, zero, suc, List, [], ◌∷◌, Option}
+use Rattle.std.proofs.Common.{◌≡◌, ◌∙◌, ◌+◌, ◌*◌, ◌/◌, ◌-◌, ◌<◌, ◌≤◌, ◌++◌, ℕ, zero, suc, List, [], ◌∷◌, Option, rules}
 use Rattle.std.proofs.Common.{None, Some, true, false, refl, sym, ap, subst, arith, length, take, drop, get_or}
 use Rattle.std.specs.Prelude.{⊤, Bool, Err, IfSome, IsAscii, Ok, Result, if◌then◌else◌}
 use Rattle.std.specs.Option.{option_map_or}
@@ -19,7 +19,7 @@ use Rattle.csv.specs.Writing.{needs_byte, needs_quotes}
 use Rattle.date_texts.specs.declared.refusal.Refusal.{Refusal}
 use Rattle.date_texts.specs.declared.refusal.Refusal.TheVariants as refusal
 use Rattle.register_records.specs.BareTexts.{IsPlain, has_special, is_plain_byte, is_special_byte}
-use Rattle.register_records.specs.Entries.{are_short, are_utf8, body_of, body_of_texts}
+use Rattle.register_records.specs.Entries.{are_utf8, body_of, body_of_texts}
 use Rattle.register_records.specs.LineRoom.{writing}
 use Rattle.register_records.specs.Records.{Fields, Texts, texts_of}
 use Rattle.register_records.specs.SetupRules.{is_delimiter}
@@ -121,10 +121,7 @@ bare_if t false utf8 h = refl
 bare_option : (o : Option Texts) → IfSome o ArePlainTexts
     → has_special (option_map_or body_of_texts o (Err refusal.FieldCount)) ≡ false
 bare_option None h = refl
-bare_option (Some t) h =
-    bare_if t (are_short t) (are_utf8 t)
-    (or_from _ _ (plain_bare t.id h.0) (or_from _ _ (plain_bare t.calendar h.1)
-    (or_from _ _ (plain_bare t.date h.2) (plain_bare t.note h.3))))
+bare_option (Some t) h = search (rules, bare_if, or_from, plain_bare)
 
 pub bare_record : (form : Form) (ends bytes : List ℕ) → IsPlain bytes
     → has_special (body_of form (cut_from 0 ends bytes)) ≡ false
@@ -173,9 +170,5 @@ pub unquoted : (d : ℕ) → is_delimiter d ≡ true → (body : Result Texts Re
     × (needs_quotes (writing d) (shown (λ (t : Texts). t.calendar) (result_ok body)) ≡ false)
     × (needs_quotes (writing d) (shown (λ (t : Texts). t.date) (result_ok body)) ≡ false)
     × (needs_quotes (writing d) (shown (λ (t : Texts). t.note) (result_ok body)) ≡ false)
-unquoted d h (Ok t) bare =
-    let a = or_parts _ _ bare in
-    let b = or_parts _ _ a.1 in
-    let c = or_parts _ _ b.1 in
-    (bare_text d h t.id a.0, bare_text d h t.calendar b.0, bare_text d h t.date c.0, bare_text d h t.note c.1)
+unquoted d h (Ok t) bare = search (rules, or_parts, bare_text)
 unquoted d h (Err r) bare = (refl, refl, refl, refl)

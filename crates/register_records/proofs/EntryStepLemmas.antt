@@ -1,5 +1,5 @@
 -- What a read of csv's reader does to the records that are left.
-use Rattle.std.proofs.Common.{◌≡◌, ℕ, List, [], ◌∷◌, Option, Some, None, Bool, true, false, refl, sym, ◌∙◌}
+use Rattle.std.proofs.Common.{◌≡◌, ℕ, List, [], ◌∷◌, Option, Some, None, Bool, true, false, refl, sym, ◌∙◌, rules}
 use Rattle.std.specs.Prelude.{IfSome, option_map}
 use Rattle.csv.specs.Reading.{ReadRecord, Reached, default_config, reader_config, reader_state, source_of, strip_bom}
 use Rattle.csv.specs.declared.reader.Reader.{Reader}
@@ -15,9 +15,7 @@ use Rattle.register_records.proofs.RecordsLeftLemmas.{all_more, all_none}
 one_record : (cfg cfg2 : Config) (s s2 : State) (y z : List ℕ) (f : Fields) → cfg2 ≡ cfg → Reached cfg s y (f ∷ []) s2 z
     → all_after cfg s y ≡ f ∷ all_after cfg2 s2 z
 unfolding Reached
-one_record cfg cfg2 s s2 y z f e h =
-    let (p, next, first, ends) = h in
-    all_more cfg s y p next ∙ rw (← first, ends.0, ends.1, e) refl
+one_record cfg cfg2 s s2 y z f e h = search (rules, all_more)
 
 nothing_yet : (cfg : Config) (s : State) (y : List ℕ) → Reached cfg s y [] s y
 unfolding Reached
@@ -38,12 +36,7 @@ read_more {R = R} rem a b f r = by (source_of rem a) refl
 -- a read that found none
 pub read_none : {R : Type 0} (rem : R → Option (List ℕ)) (a b : Reader R) (f : Fields) → ReadRecord rem a b false f
     → IfSome (records_left rem a) (λ records. records ≡ [])
-read_none {R = R} rem a b f r = by (source_of rem a) refl
-  where
-    by : (o : Option (List ℕ)) → source_of rem a ≡ o
-        → IfSome (option_map (all_after a.config a.state) o) (λ records. records ≡ [])
-    by None e = tt
-    by (Some y) e = all_none a.config a.state y (rows-end rem a b f a.config y refl e r)
+read_none {R = R} rem a b f r = search (rules, all_none, rows-end)
 
 -- a read of either kind
 pub reads : {R : Type 0} (rem : R → Option (List ℕ)) (a b : Reader R) (found : Bool) (f : Fields)

@@ -1,6 +1,6 @@
 -- What a step of a reader of entries does to those that it gave.
-use Rattle.std.proofs.Common.{◌≡◌, ◌<◌, ◌≤◌, ◌+◌, ◌++◌, ℕ, List, [], ◌∷◌, length, Option, Some, None, true}
-use Rattle.std.proofs.Common.{refl, sym, subst, ap, ◌∙◌, arith, append_assoc}
+use Rattle.std.proofs.Common.{◌≡◌, ◌<◌, ◌≤◌, ◌+◌, ◌++◌, ℕ, List, [], ◌∷◌, length, Option, Some, None, true, rules}
+use Rattle.std.proofs.Common.{refl, sym, ap, ◌∙◌, arith, append_assoc}
 use Rattle.std.specs.Prelude.{IfSome, nat_lt, option_map}
 use Rattle.std.proofs.Math.Logic.{∥∥₁_map}
 use Rattle.std.proofs.lemmas.Bool.Decides.{nat_tests}
@@ -149,8 +149,7 @@ module _ (format : Format) where
 
     past_given : (rest : List Fields) → entry_records form rest ≡ [] → given ≡ entries_of form (s.past ++ rest)
     past_given rest e =
-        sym (ap (entries_from form 0) (past_records rest e ∙ sym (append-nil s.past))
-        ∙ (s.followed [] ∙ rw (entries_none form (length given)) (append-nil given)))
+        cc (past_records rest e, append-nil s.past, s.followed [], entries_none form (length given), append-nil given)
 
   ends_none : (k : Form) (count : ℕ) (records : List Fields) → EndsAt k count records → entry_records k records ≡ []
   ends_none Plain count records e = e
@@ -173,18 +172,14 @@ module _ (format : Format) where
       → (last : List Fields) × Has text (past ++ last) × EndsAt form count last
   last_records None left past rest count has is e = (e.0, tt, e.1)
   last_records (Some text) None past rest count has is e = absurd (none_is_left rest is)
-  last_records (Some text) (Some records) past rest count has is e =
-      let same : rest ≡ e.0 = cc (is, e.2) in
-      (e.0, subst (λ (l : List Fields). HasRecords format text (past ++ l)) same has, e.1)
+  last_records (Some text) (Some records) past rest count has is e = grind (arith, e.2)
 
   no_entries_left : (text : Option (List ℕ)) (left : Option (List Fields)) (past rest : List Fields) (count : ℕ)
       → Has text (past ++ rest) → AreLeft text left rest → IfSome left (LacksSeal form count)
       → (last : List Fields) × Has text (past ++ last) × (entry_records form last ≡ [])
   no_entries_left None left past rest count has is lacks = ([], tt, no_entries form)
   no_entries_left (Some text) None past rest count has is lacks = absurd (none_is_left rest is)
-  no_entries_left (Some text) (Some records) past rest count has is lacks =
-      let same : records ≡ rest = cc in
-      (rest, has, subst (λ (l : List Fields). entry_records form l ≡ []) same lacks.0)
+  no_entries_left (Some text) (Some records) past rest count has is lacks = search (rules, form)
 
   -- the text ends after the entries given
   all_given : (text : Option (List ℕ)) (left : Option (List Fields)) (given : List Numbered)
@@ -213,24 +208,12 @@ module _ (format : Format) where
       (given : List Numbered)
       → ¬ (stopped ≡ states.Open) → (stopped ≡ states.Ended → HasEntries format text given)
       → HasRead format text state left given → HasRead format text stopped left2 given
-  has_read_stopped text state stopped left left2 given shut all s =
-      record {
-        past = s.past;
-        rest = s.rest;
-        accepted = s.accepted;
-        counted = s.counted;
-        no_seal = s.no_seal;
-        followed = s.followed;
-        left_is = λ e. absurd (shut e);
-        ended = all;
-      }
+  has_read_stopped text state stopped left left2 given shut all s = search rules
 
   has_read_end : (text : Option (List ℕ)) (left left2 : Option (List Fields)) (given : List Numbered)
       → HasRead format text states.Open left given → Ends form (length given) left → length given ≤ record_limit
       → HasRead format text states.Ended left2 given
-  has_read_end text left left2 given s e h =
-      has_read_stopped text states.Open states.Ended left left2 given (λ o. absurd (cc))
-      (λ _. all_given text left given s e h) s
+  has_read_end text left left2 given s e h = search (rules, has_read_stopped, all_given)
 
   -- a call failed
   has_read_failed : (text : Option (List ℕ)) (state : ReaderState) (left left2 : Option (List Fields))
@@ -243,28 +226,14 @@ module _ (format : Format) where
       → IfSome text (λ t. HasTooMany format t)
   too_many None left given s some e = tt
   too_many (Some text) None given s some e = absurd (none_is_left s.rest (s.left_is refl))
-  too_many (Some text) (Some records) given s some e =
-      let same : records ≡ s.rest = cc (s.left_is refl) in
-      let more : 0 < length (entry_records form s.rest) = rw (← same) some in (
-        s.past ++ s.rest,
-        s.accepted,
-        rw (s.no_seal s.rest) (omega (arith, length-append s.past (entry_records form s.rest), s.counted, e, more)),
-      )
+  too_many (Some text) (Some records) given s some e = search (rules, form, length-append)
 
   not_sealed : (text : Option (List ℕ)) (left : Option (List Fields)) (given : List Numbered)
       → HasRead format text states.Open left given → IfSome left (LacksSeal form (length given))
       → length given ≤ record_limit → IfSome text (λ t. IsNotSealed format t)
   not_sealed None left given s lacks h = tt
   not_sealed (Some text) None given s lacks h = absurd (none_is_left s.rest (s.left_is refl))
-  not_sealed (Some text) (Some records) given s lacks h =
-      let same : records ≡ s.rest = cc (s.left_is refl) in
-      let without : LacksSeal form (length given) s.rest = rw (← same) lacks in
-      let before = past_records (Some text) states.Open (Some records) given s s.rest without.0 in (
-        s.past ++ s.rest,
-        s.accepted,
-        rw before (omega (arith, s.counted, h)),
-        λ closed. without.1 (rw (← s.counted) (ends_so form s.past s.rest without.0 before closed)),
-      )
+  not_sealed (Some text) (Some records) given s lacks h = search (rules, form, past_records, ends_so)
 
   going : (text : Option (List ℕ)) (state : ReaderState) (left : Option (List Fields)) (given : List Numbered)
       → state ≡ states.Open → HasRead format text state left given → HasRead format text states.Open left given

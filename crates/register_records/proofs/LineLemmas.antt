@@ -1,5 +1,5 @@
 -- The fields of a line, while they are appended.
-use Rattle.std.proofs.Common.{◌≡◌, ◌<◌, ◌≤◌, ◌+◌, ◌^◌, ◌%◌, ◌++◌, ℕ, List, [], ◌∷◌, true, false, refl, sym, ap, ◌∙◌}
+use Rattle.std.proofs.Common.{◌≡◌, ◌<◌, ◌≤◌, ◌+◌, ◌^◌, ◌%◌, ◌++◌, ℕ, List, [], ◌∷◌, true, false, refl, sym, ap, ◌∙◌, rules}
 use Rattle.std.proofs.Common.{arith, append_assoc, append-nil, length, length-append, length-set, map, set, take}
 use Rattle.std.proofs.Common.{drop, get_or}
 use Rattle.std.specs.Prelude.{ℤ, pos, negsuc, suc}
@@ -79,10 +79,7 @@ pub room_for_rest : {C : Type 0} (room : C → ℕ) (columns : List C) (i : ℕ)
     → i < length columns → new ≤ old + room (get_or columns i e) → old + columns_room room (drop i columns) ≤ limit
     → new + columns_room room (drop (i + 1) columns) ≤ limit
 room_for_rest room columns i e old new limit lt grows before =
-    let split : columns_room room (drop i columns)
-    ≡ room (get_or columns i e) + columns_room room (drop (i + 1) columns) =
-    at_drop_more (columns_room room) columns i e lt in
-    omega arith
+    grind (arith, ints, at_drop_more (columns_room room) columns i e lt)
 
 -- one more of the fields that the items of a list give
 pub one_item : {X : Type 0} (f : X → List ℕ) (d : ℕ) (before : List ℕ) (first : List (List ℕ)) (xs : List X) (i : ℕ)
@@ -98,8 +95,7 @@ pub one_more_column : {X : Type 0} (f : TailColumn → List X) (first : List X) 
     (e : TailColumn) → i < length columns
     → (first ++ flat_map f (take i columns)) ++ f (get_or columns i e) ≡ first ++ flat_map f (take (i + 1) columns)
 one_more_column f first columns i e lt =
-    flat_map_more f first (take i columns) (get_or columns i e)
-    ∙ ap (λ (taken : List TailColumn). first ++ flat_map f taken) (sym (take_more columns i e lt))
+    grind (arith, ints, flat_map_more f first (take i columns) (get_or columns i e), take_more columns i e lt)
 
 pub one_column : (f : TailColumn → List (List ℕ)) (d : ℕ) (before : List ℕ) (first : List (List ℕ))
     (columns : List TailColumn) (i : ℕ) (e : TailColumn) (new : List ℕ) → i < length columns
@@ -113,10 +109,7 @@ pub more_fields_text : (d : ℕ) (fields more : List (List ℕ))
     → fields_text (writing d) (fields ++ more) ≡ fields_text (writing d) fields ++ fields_text (writing d) more
 unfolding fields_text
 more_fields_text d [] more = refl
-more_fields_text d (f ∷ fields) more =
-    ap (λ (t : List ℕ). d ∷ t)
-    (ap (λ (t : List ℕ). field_text (writing d) f ++ t) (more_fields_text d fields more)
-    ∙ sym (append_assoc (field_text (writing d) f) (fields_text (writing d) fields) (fields_text (writing d) more)))
+more_fields_text d (f ∷ fields) more = search (rules, append_assoc, more_fields_text d fields more)
 
 pub more_fields : (d : ℕ) (before : List ℕ) (fields more : List (List ℕ)) (old new : List ℕ) → 1 ≤ length fields
     → old ≡ before ++ body d fields → new ≡ old ++ fields_text (writing d) more
@@ -128,12 +121,7 @@ more_fields d before (f ∷ fields) more old new some is n =
 -- bytes that are written at a place: what lies before, and they
 pub put_there : (room bytes : List ℕ) (at k : ℕ) → at ≤ length room
     → take (at + length bytes) (put_mid at k room bytes) ≡ take at room ++ bytes
-put_there room bytes at k le =
-    let front : at ≡ length (take at room) = omega (arith, length-take-le at room le) in
-    ap (λ n. take (n + length bytes) (put_mid at k room bytes)) front
-    ∙ take-append-add (take at room) _ (length bytes)
-    ∙ ap (λ (t : List ℕ). take at room ++ t)
-    (take-append-le (length bytes) bytes _ (omega arith) ∙ take_all (length bytes) bytes (omega arith))
+put_there room bytes at k le = search (rules, take, length-take-le, put_mid, take-append-add, take-append-le, take_all)
 
 -- a byte is set in a list, and others are written from the place after it: what lies before, the byte, and some of them
 pub put_after : (room places : List ℕ) (at d k count : ℕ) → at < length room → count ≤ length places
@@ -241,10 +229,7 @@ two_of fields rest a b = rw (length-append fields (a ∷ b ∷ rest)) (omega ari
 in_parts : {X : Type 0} (f : Column → X) (form : Form) (ts : List Target)
     → map f (columns (laid_out form ts))
     ≡ map (λ c. f (entry_column c)) (entry_order form) ++ flat_map (λ c. map f (tail_column ts c)) tail_order
-in_parts f form ts =
-    map-append f (map entry_column (entry_order form)) (flat_map (tail_column ts) tail_order)
-    ∙ ap (λ xs. xs ++ map f (flat_map (tail_column ts) tail_order)) (map-map f entry_column (entry_order form))
-    ∙ ap (λ xs. map (λ c. f (entry_column c)) (entry_order form) ++ xs) (map_of_all f (tail_column ts) tail_order)
+in_parts f form ts = search (rules, map-append, map, map-map, map_of_all)
 
 pub name_columns : (place : ℕ) (ts : List Target)
     → map (λ (c : Column). c.name) (cell_columns place ts) ≡ map target_name ts

@@ -1,10 +1,8 @@
 -- A text has one fate: each test that decides it is decided by the text.
-use Rattle.std.proofs.Common.{inl, inr, ◌≡◌, ◌≤◌, ◌<◌, ◌++◌, ℕ, List, [], ◌∷◌, length, Bool, true, false, refl}
+use Rattle.std.proofs.Common.{inl, inr, ◌≡◌, ◌≤◌, ◌<◌, ◌++◌, ℕ, List, [], ◌∷◌, length, Bool, true, false, refl, rules}
 use Rattle.std.proofs.Common.{sym}
-use Rattle.std.proofs.Common.{ap, ◌∙◌, arith, subst, Option, None, Some, codes, fold, ◌*◌, ◌+◌, ◌-◌}
+use Rattle.std.proofs.Common.{ap, ◌∙◌, arith, subst, Option, None, Some, codes, fold}
 use Rattle.std.specs.Prelude.{if◌then◌else◌, IsSomeAnd, IsTrue}
-use Rattle.std.specs.Char.{is_ascii_digit}
-use Rattle.std.specs.List.{list_all}
 use Rattle.std.proofs.lemmas.Bool.{cases_lt}
 use Rattle.csv.specs.Reading.{strip_bom}
 use Rattle.date_texts.specs.Names.{IsNamed}
@@ -43,13 +41,7 @@ is_header form first = is_header_of form (texts_of form first)
 
 -- whether a seal agrees with a number
 is_numeral : (text : List ℕ) (n : ℕ) → Is (IsNumeral 7 text n)
-is_numeral text n =
-    elim (both (both (is_at_most 1 (length text)) (is_at_most (length text) 7))
-    (both (is_true (list_all is_ascii_digit text))
-    (is_number n (fold (λ value digit. 10 * value + (digit - 48)) 0 text)))) [
-      | inl h ↦ inl (record { some = h.0.0; few = h.0.1; digits = h.1.0; value = h.1.1 })
-      | inr not ↦ inr (λ h. not ((h.some, h.few), (h.digits, h.value)))
-    ]
+is_numeral text n = search (rules, both, is_at_most, is_true, is_number, fold)
 
 agrees : (seal : Fields) (n : ℕ) → Is (Agrees seal n)
 agrees [] n = inr (λ h. h)
@@ -71,9 +63,7 @@ ends_at_once r (x ∷ rest) is = inr (λ h. let e : r ∷ x ∷ rest ≡ h.0 ∷
 ends_later : (r : Fields) (rest before : List Fields) → Is (EndsAfter rest before)
     → Is (EndsAfter (r ∷ rest) (r ∷ before))
 ends_later r rest before (inl h) = inl (h.0, ap (λ l. r ∷ l) h.1, h.2)
-ends_later r rest before (inr not) =
-    inr (λ h. let e : r ∷ rest ≡ r ∷ (before ++ h.0 ∷ []) = h.1 in let tail : rest ≡ before ++ h.0 ∷ [] = cc in
-    not (h.0, tail, h.2))
+ends_later r rest before (inr not) = search rules
 
 ends_by_seal : (after : List Fields) → Is (EndsBySeal after)
 unfolding before_seal

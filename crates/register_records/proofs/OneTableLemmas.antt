@@ -1,11 +1,11 @@
 -- A text has one table at most.
-use Rattle.std.proofs.Common.{◌≡◌, ℕ, List, refl, subst, sym, ap, ◌∙◌}
+use Rattle.std.proofs.Common.{◌≡◌, ℕ, List, refl, subst, sym, ap, ◌∙◌, rules}
 use Rattle.std.specs.Prelude.{ℤ, Result, Ok, Err, Some}
 use Rattle.day_numbers.specs.Days.{IsDayNumber}
 use Rattle.date_texts.specs.Calendars.{calendar_name}
 use Rattle.date_texts.specs.Dates.{IsDateOfCalendar, day_number_of_date}
 use Rattle.date_texts.specs.DateText.{IsDateText}
-use Rattle.register_records.specs.Entries.{Format, HasEntries, Numbered, Texts, entries_of}
+use Rattle.register_records.specs.Entries.{Format, HasEntries, Numbered, Texts}
 use Rattle.register_records.specs.Laws.{OneTable}
 use Rattle.date_texts.specs.Names.{IsNamed}
 use Rattle.register_records.specs.Outcomes.{IsOutcome, IsRowOf, Says, TableRow}
@@ -25,9 +25,7 @@ use Rattle.register_records.proofs.RowTailLemmas.{one_beside, one_cells}
 module _ (one_calendar : OneCalendar) (one_date_text : OneDateText) (one_cell : OneCell) where
   -- a text says one date at most
   one_date : (name text : List ℕ) (c e : Calendar) (d f : Date) → Says name text c d → Says name text e f → d ≡ f
-  one_date name text c e d f h k =
-      let same = one_calendar name e c k.named h.named in
-      one_date_text c text d f h.dated (rw (← same) k.dated)
+  one_date name text c e d f h k = search rules
 
   -- a text says no date, or it says one
   text_clash : (name text : List ℕ) (c e : Calendar) (d : Date) → IsNamed name (calendar_name c)
@@ -85,18 +83,9 @@ module _ (one_calendar : OneCalendar) (one_date_text : OneDateText) (one_cell : 
     of_date b p (unknown_calendar {t = u} none) e a f s = let same : t ≡ u = cc in absurd (none a (rw same at s).named)
     of_date b p (no_date_text {t = u} c named none) e a f s =
         let same : t ≡ u = cc in absurd (text_clash _ _ c a f named none (rw same at s))
-    of_date b p (no_such_date {t = u} c d says none) e a f s =
-        let same : u ≡ t = cc in
-        let date = one_date _ _ c a d f (rw same at says) s in
-        (λ x. refl, λ x y. absurd ((rw date at none) x), λ x y. absurd ((rw date at none) x))
-    of_date b p (out_of_range {t = u} c d says is out) e a f s =
-        let same : u ≡ t = cc in
-        let date = one_date _ _ c a d f (rw same at says) s in
-        (λ x. absurd (x (rw date at is)), λ x y. refl, λ x y. absurd ((rw date at out) y))
-    of_date b p (accepted {t = u} c d says is within) e a f s =
-        let same : u ≡ t = cc in
-        let date = one_date _ _ c a d f (rw same at says) s in
-        (λ x. absurd (x (rw date at is)), λ x y. absurd (y (rw date at within)), λ x y. rw date refl)
+    of_date b p (no_such_date {t = u} c d says none) e a f s = search (rules, one_date)
+    of_date b p (out_of_range {t = u} c d says is out) e a f s = search (rules, one_date)
+    of_date b p (accepted {t = u} c d says is within) e a f s = search (rules, one_date)
 
   -- a body has one outcome at most
   one_outcome : (b : Result Texts Refusal) (o p : Result ℤ Refusal) → IsOutcome b o → IsOutcome b p → o ≡ p
@@ -130,11 +119,7 @@ module _ (one_calendar : OneCalendar) (one_date_text : OneDateText) (one_cell : 
   one_list : (format : Format) (text : List ℕ) (entries others : List Numbered)
       → HasEntries format (Some text) entries → HasEntries format (Some text) others → entries ≡ others
   one_list format text entries others (records, (header, is, ok), all, made)
-      (records2, (header2, is2, ok2), all2, made2) =
-      let same : records ≡ records2 = cc in
-      made ∙ (ap (entries_of format.form) same ∙ sym made2)
+      (records2, (header2, is2, ok2), all2, made2) = cc
 
   pub one_table : OneTable
-  one_table layout text entries others rows more h k a b =
-      let same = one_list layout.format text entries others h k in
-      (same, one_beside (IsRowOf layout.targets) (one_row layout.targets) others rows more (rw same at a) b)
+  one_table layout text entries others rows more h k a b = search (rules, one_list, one_beside, one_row)

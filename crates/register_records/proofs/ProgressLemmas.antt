@@ -1,5 +1,5 @@
 -- How far the table of a source has come.
-use Rattle.std.proofs.Common.{◌≡◌, ◌+◌, ◌++◌, ℕ, List, [], ◌∷◌, length, map, Option, refl, sym, ap, ◌∙◌, arith}
+use Rattle.std.proofs.Common.{◌≡◌, ◌+◌, ◌++◌, ℕ, List, [], ◌∷◌, length, map, Option, refl, sym, ap, ◌∙◌, arith, rules}
 use Rattle.std.proofs.Common.{append_assoc, inl, inr}
 use Rattle.std.specs.Io.KnownBytes.{Appends}
 use Rattle.std.specs.List.{range_with_len}
@@ -39,23 +39,17 @@ lines_last : (layout : Layout) (rows : List TableRow) (row : TableRow)
     → lines_text layout (rows ++ row ∷ []) ≡ lines_text layout rows ++ row_line layout row
 unfolding lines_text
 lines_last layout [] row = append-nil (row_line layout row)
-lines_last layout (x ∷ rows) row =
-    ap (λ (t : List ℕ). row_line layout x ++ t) (lines_last layout rows row)
-    ∙ sym (append_assoc (row_line layout x) _ _)
+lines_last layout (x ∷ rows) row = search (rules, append_assoc, lines_last layout rows row)
 
 journal_last : (rows : List TableRow) (row : TableRow)
     → journal_of (rows ++ row ∷ []) ≡ journal_of rows ++ refusal_notes row.number row.outcome
 unfolding journal_of
 journal_last [] row = append-nil (refusal_notes row.number row.outcome)
-journal_last (x ∷ rows) row =
-    ap (λ (t : List Note). refusal_notes x.number x.outcome ++ t) (journal_last rows row)
-    ∙ sym (append_assoc (refusal_notes x.number x.outcome) _ _)
+journal_last (x ∷ rows) row = grind (arith, journal_last rows row)
 
 table_last : (layout : Layout) (rows : List TableRow) (row : TableRow)
     → table_text layout (rows ++ row ∷ []) ≡ table_text layout rows ++ row_line layout row
-table_last layout rows row =
-    ap (λ (t : List ℕ). heading_line layout ++ t) (lines_last layout rows row)
-    ∙ sym (append_assoc (heading_line layout) _ _)
+table_last layout rows row = search (rules, lines_last, append_assoc)
 
 pub tables_grow : TablesGrow
 tables_grow layout rows row = (table_last layout rows row, journal_last rows row)
@@ -63,15 +57,7 @@ tables_grow layout rows row = (table_last layout rows row, journal_last rows row
 pub start : (layout : Layout) (old now : Option (List ℕ)) → Appends old now (heading_line layout)
     → Progress layout old now [] []
 unfolding lines_text journal_of
-start layout old now a =
-    record {
-      rows = [];
-      bytes = heading_line layout;
-      table = record { numbered = refl; converted = tt; written = sym (append-nil (heading_line layout)) };
-      gained = a;
-      counted = refl;
-      noted = refl;
-    }
+start layout old now a = search (rules, append-nil)
 
 pub step : (layout : Layout) (old now now2 : Option (List ℕ)) (entries : List Numbered) (journal : List Note)
     (x : Numbered) (row : TableRow)

@@ -1,6 +1,6 @@
 -- The records of a text, one after the other.
-use Rattle.std.proofs.Common.{◌≡◌, ◌<◌, ◌≤◌, ◌+◌, ℕ, zero, suc, List, [], ◌∷◌, ◌++◌, length, Option, Some, None, Bool}
-use Rattle.std.proofs.Common.{true, false, refl, sym, ap, ◌∙◌, arith, add-one}
+use Rattle.std.proofs.Common.{◌≡◌, ◌<◌, ◌≤◌, ◌+◌, ℕ, zero, suc, List, [], ◌∷◌, ◌++◌, length, Option, Some, None, Bool, rules}
+use Rattle.std.proofs.Common.{true, false, refl, ap, ◌∙◌, arith, add-one}
 use Rattle.std.specs.Prelude.{if◌then◌else◌}
 use Rattle.csv.specs.Machine.{Read, ends_at_end, field_after, fields_after, is_end, next_record, step}
 use Rattle.csv.specs.Reading.{records_from, records_next}
@@ -35,12 +35,7 @@ leaves cfg (c ∷ rest) s fs f p e =
 takes : (cfg : Config) (c : ℕ) (rest : List ℕ) (s : State) (fs : Fields) (f : List ℕ) (p : Read)
     → next_record cfg s fs f (c ∷ rest) ≡ Some p → length p.2 ≤ length rest
 unfolding next_record
-takes cfg c rest s fs f p e =
-    either_way (is_end (step cfg s c).1) (fields_after (step cfg s c).1 fs f, (step cfg s c).0, rest)
-    (next_record cfg (step cfg s c).0 (fields_after (step cfg s c).1 fs f) (field_after (step cfg s c).1 c f) rest) p
-    (length rest) e (omega arith)
-    (λ q x. leaves cfg rest (step cfg s c).0 (fields_after (step cfg s c).1 fs f)
-    (field_after (step cfg s c).1 c f) q x)
+takes cfg c rest s fs f p e = search (rules, either_way, leaves)
 
 -- nothing is left of no text
 none_left : (cfg : Config) (n : ℕ) → records_from cfg n st.StartRecord [] ≡ []
@@ -71,9 +66,7 @@ stable : (cfg : Config) (n m : ℕ) (s : State) (xs : List ℕ) → length xs < 
 unfolding records_from
 stable cfg zero m s xs a b = absurd (omega arith)
 stable cfg (suc n) zero s xs a b = absurd (omega arith)
-stable cfg (suc n) (suc m) s [] a b =
-    next_alike (records_from cfg n) (records_from cfg m) (next_record cfg s [] [] []) (λ p e. after_end cfg s p n e
-    ∙ sym (after_end cfg s p m e))
+stable cfg (suc n) (suc m) s [] a b = search (rules, next_alike, after_end)
 stable cfg (suc n) (suc m) s (c ∷ rest) a b =
     next_alike (records_from cfg n) (records_from cfg m) (next_record cfg s [] [] (c ∷ rest))
     (λ p e. let h = takes cfg c rest s [] [] p e in stable cfg n m p.1 p.2 (omega (arith, h)) (omega (arith, h)))
@@ -87,15 +80,8 @@ first_turn cfg s xs = rw add-one refl
 -- the next record, and those after it
 pub all_more : (cfg : Config) (s : State) (xs : List ℕ) (p : Read) → next_record cfg s [] [] xs ≡ Some p
     → all_after cfg s xs ≡ p.0 ∷ all_after cfg p.1 p.2
-all_more cfg s [] p e =
-    first_turn cfg s []
-    ∙ rw e (ap (λ (t : List Fields). p.0 ∷ t)
-    (after_end cfg s p 0 e ∙ sym (after_end cfg s p (length p.2 + 1) e)))
-all_more cfg s (c ∷ rest) p e =
-    let h = takes cfg c rest s [] [] p e in
-    first_turn cfg s (c ∷ rest)
-    ∙ rw e (ap (λ (t : List Fields). p.0 ∷ t)
-    (stable cfg (length (c ∷ rest)) (length p.2 + 1) p.1 p.2 (omega (arith, h)) (omega arith)))
+all_more cfg s [] p e = grind (arith, first_turn cfg s [], after_end cfg s p 0 e, after_end cfg s p (length p.2 + 1) e)
+all_more cfg s (c ∷ rest) p e = search (rules, takes, first_turn, stable)
 
 -- none
 pub all_none : (cfg : Config) (s : State) (xs : List ℕ) → next_record cfg s [] [] xs ≡ None → all_after cfg s xs ≡ []

@@ -1,9 +1,9 @@
 -- The fields of a tail, while they are appended, and the cells among them.
-use Rattle.std.proofs.Common.{◌≡◌, ◌<◌, ◌≤◌, ◌+◌, ◌++◌, ℕ, List, [], ◌∷◌, true, false, refl, sym, ap, ◌∙◌}
+use Rattle.std.proofs.Common.{◌≡◌, ◌<◌, ◌≤◌, ◌+◌, ◌++◌, ℕ, List, [], ◌∷◌, true, false, refl, sym, ap, ◌∙◌, rules}
 use Rattle.std.proofs.Common.{add-one, append_assoc, arith, append-nil, drop, drop-cons, get_or, length, length-drop}
 use Rattle.std.proofs.Common.{map, subst}
 use Rattle.std.proofs.Common.{set, take}
-use Rattle.std.specs.Prelude.{◌==◌, ℤ, pos, negsuc, zero, suc, Bool, IsTrue, nat_le, cond, Ok, Err, Result}
+use Rattle.std.specs.Prelude.{◌==◌, ℤ, pos, negsuc, zero, suc, Bool, IsTrue, nat_le, Ok, Err, Result}
 use Rattle.std.specs.Fmt.{decimal, signed_decimal}
 use Rattle.std.specs.List.{AllZip, flat_map, list_all, onto_first, position_or_len, slice_split}
 use Rattle.std.proofs.lemmas.Bool.{or_parts}
@@ -84,13 +84,7 @@ some_parts d bytes = omega (arith, length-slice_split (cuts d) bytes)
 one_more_part : (d : ℕ) (bytes field : List ℕ) → needs_quotes (writing d) field ≡ false
     → slice_split (cuts d) (bytes ++ d ∷ field) ≡ slice_split (cuts d) bytes ++ field ∷ []
 one_more_part d [] field h = rw (same_byte_cuts d, plain_is_whole d field h) refl
-one_more_part d (b ∷ bytes) field h =
-    rw (one_more_part d bytes field h) (
-    elim (cuts d b) as (λ v. cond v ([] ∷ (slice_split (cuts d) bytes ++ field ∷ []))
-    (onto_first b (slice_split (cuts d) bytes ++ field ∷ []))
-    ≡ cond v ([] ∷ slice_split (cuts d) bytes) (onto_first b (slice_split (cuts d) bytes)) ++ field ∷ [])
-    [ true ↦ refl | false ↦ part_behind b (slice_split (cuts d) bytes) field (some_parts d bytes) ]
-    )
+one_more_part d (b ∷ bytes) field h = search (rules, cuts, part_behind, some_parts, one_more_part d bytes field h)
 
 -- bytes to which these fields were appended
 pub record Grown (d : ℕ) (more : List (List ℕ)) (old new : List ℕ) : Type 0 where
@@ -129,8 +123,7 @@ grown_more d more field old bytes new h before is =
 pub put_field : (places field : List ℕ) (at d k : ℕ) → at < length places
     → take (at + 1 + length field) (put_mid (at + 1) k (set places at d) field) ≡ take at places ++ d ∷ field
 put_field places field at d k lt =
-    put_after places field at d k (length field) lt (omega arith)
-    ∙ ap (λ (t : List ℕ). take at places ++ d ∷ t) (take_all (length field) field (omega arith))
+    cc (put_after places field at d k (length field) lt (omega arith), take_all (length field) field (omega arith))
 
 -- a text that needs no quotes, with so many bytes at most
 pub record Fits (d limit : ℕ) (text : List ℕ) : Type 0 where
@@ -170,12 +163,7 @@ refusal_below refused.NoSuchDate = omega arith
 refusal_below refused.OutOfRange = omega arith
 
 pub refusal_fits : (d : ℕ) → is_delimiter d ≡ true → (r : Refusal) → Fits d 1 (decimal (refusal_number r))
-refusal_fits d h r =
-    let below = refusal_below r in
-    record {
-      plain = plain_decimal d h (refusal_number r) (omega (arith, below));
-      short = length-decimal-le 1 (refusal_number r) (omega arith) (omega (arith, below)) (omega (arith, below));
-    }
+refusal_fits d h r = search (rules, refusal_below, plain_decimal, length-decimal-le)
 
 -- one more that stands beside one more
 pub one_more_beside : {A B : Type 0} (R : A → B → Type 0) (xs : List A) (ys : List B) (x : A) (y : B) → AllZip R xs ys
@@ -218,10 +206,7 @@ no_cells r place [] [] a = refl
 no_cells r place [] (x ∷ fields) a = absurd a
 no_cells r place (t ∷ ts) [] a = absurd a
 no_cells r place (t ∷ ts) (x ∷ fields) a =
-    let more = no_cells r (place + 1) ts fields a.1 in
-    let none = nothing_at place in
-    let nothing : x ≡ [] = a.0 in
-    cc (more, nothing)
+    grind (arith, ints, no_cells r (place + 1) ts fields a.1, nothing_at place, a.0)
 
 -- as many stand beside a list as it has items
 as_many : {A B : Type 0} (R : A → B → Type 0) (xs : List A) (ys : List B) → AllZip R xs ys → length ys ≡ length xs
@@ -239,9 +224,7 @@ one_beside R one [] (y ∷ ys) zs a b = absurd a
 one_beside R one (x ∷ xs) [] zs a b = absurd a
 one_beside R one (x ∷ xs) (y ∷ ys) [] a b = absurd b
 one_beside R one (x ∷ xs) (y ∷ ys) (z ∷ zs) a b =
-    let first = one x y z a.0 b.0 in
-    let rest = one_beside R one xs ys zs a.1 b.1 in
-    cc
+    grind (arith, ints, one x y z a.0 b.0, one_beside R one xs ys zs a.1 b.1)
 
 -- a row has one list of cells
 pub one_cells : OneCell → (o : Result ℤ Refusal) (ts : List Target) (xs ys : List (List ℕ)) → AreCells ts o xs
@@ -311,11 +294,4 @@ pub stands : OneCell → (ts us : List Target) (o p : Result Day Refusal) (tail 
     → ∥ AreCells ts (outcome_seen o) (cells_of ts o tail) ∥₁
     → fields_of tail ≡ tail_texts ts (outcome_seen o) (cells_of ts o tail)
     → ts ≡ us → outcome_seen o ≡ outcome_seen p → AreWhole us p tail
-stands law ts us o p tail said written targets same =
-    let cells = cells_of_same ts o p tail same in
-    let for_same : AreWhole ts p tail = record {
-      cells = rw (← cells, ← same) (known_cells law ts (outcome_seen o) (cells_of ts o tail) said);
-      written = written ∙ ap (λ (xs : List (List ℕ)). tail_texts ts (outcome_seen o) xs) cells
-          ∙ ap (λ (x : Result ℤ Refusal). tail_texts ts x (cells_of ts p tail)) same;
-    } in
-    subst (λ (list : List Target). AreWhole list p tail) targets for_same
+stands law ts us o p tail said written targets same = search (rules, cells_of_same, known_cells)

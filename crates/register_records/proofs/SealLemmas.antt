@@ -1,5 +1,5 @@
 -- When a record is a seal, and with what number of entries it agrees.
-use Rattle.std.proofs.Common.{◌≡◌, ◌<◌, ◌≤◌, ◌+◌, ◌-◌, ◌*◌, ◌^◌, ◌++◌, ℕ, zero, suc, List, [], ◌∷◌, length, take}
+use Rattle.std.proofs.Common.{◌≡◌, ◌<◌, ◌≤◌, ◌+◌, ◌-◌, ◌*◌, ◌^◌, ◌++◌, ℕ, zero, suc, List, [], ◌∷◌, length, take, rules}
 use Rattle.std.proofs.Common.{get_or, Option, None, Some, true, refl, arith, codes}
 use Rattle.std.specs.Prelude.{◌↔◌, IsTrue, nat_eq}
 use Rattle.std.specs.Char.{is_ascii_digit}
@@ -41,11 +41,7 @@ agrees_by_second (x ∷ y ∷ z ∷ rest) b n h e = absurd (cc)
 -- a number that was read, and compared
 pub compared : (number count : ℕ) (P : ℕ → Type 0) → ((n : ℕ) → (◌≡◌ {A = Option ℕ} (Some number) (Some n)) ↔ P n)
     → IsTrue (nat_eq number count) ↔ P count
-compared number count P h = (
-  λ e. let same : number ≡ count = grind (arith, nat_tests) in
-      rw (← same) ((h number).0 refl),
-  λ p. let same = (h count).1 p in grind (arith, nat_tests),
-)
+compared number count P h = search (rules, nat_tests)
 
 -- the number that digits spell, one digit after the other
 all_more : (xs : List ℕ) (c : ℕ) → all_digits xs ≡ true → is_ascii_digit c ≡ true → all_digits (xs ++ c ∷ []) ≡ true

@@ -1,11 +1,11 @@
 -- Rows whose entries are numbered from 1 are the first rows of some records.
-use Rattle.std.proofs.Common.{◌≡◌, ◌∙◌, ◌+◌, ◌≤◌, ℕ, List, [], ◌∷◌, ◌++◌, Bool, true, false, ap, arith}
+use Rattle.std.proofs.Common.{◌≡◌, ◌∙◌, ◌+◌, ◌≤◌, ℕ, List, [], ◌∷◌, ◌++◌, Bool, true, false, ap, arith, rules}
 use Rattle.std.proofs.Common.{length, map, refl, sym}
 use Rattle.std.proofs.lemmas.List.{append-nil, length-map}
 use Rattle.std.proofs.lemmas.Bool.Decides.{nat_tests}
 use Rattle.std.specs.Str.{chars, is_utf8}
 use Rattle.std.specs.List.{range_with_len}
-use Rattle.std.specs.Prelude.{◌&&◌, ℤ, ⊤, Err, None, Ok, Result, nat_le, nat_lt, replicate}
+use Rattle.std.specs.Prelude.{◌&&◌, ℤ, ⊤, Err, None, Ok, Result, replicate}
 use Rattle.date_texts.specs.declared.target.Target.{Target}
 use Rattle.date_texts.specs.declared.refusal.Refusal.{Refusal}
 use Rattle.date_texts.specs.declared.refusal.Refusal.TheVariants as refusal
@@ -19,8 +19,7 @@ use Rattle.register_records.specs.Seen.{entry_seen}
 use Rattle.register_records.specs.Sources.{IsFrontOfTable}
 use Rattle.register_records.specs.Columns.{entry_order}
 use Rattle.register_records.specs.TableColumns.{entry_field, row_fields, tail_texts}
-use Rattle.register_records.specs.Lines.{line_text}
-use Rattle.register_records.specs.Tables.{Layout, heading_line, lines_text, row_line, table_text}
+use Rattle.register_records.specs.Tables.{Layout, heading_line, lines_text, table_text}
 use Rattle.register_records.specs.Views.{row_seen}
 use Rattle.register_records.specs.declared.rows.Row.{Row}
 use Rattle.register_records.specs.declared.setups.Form.{Form}
@@ -77,18 +76,9 @@ no_text = refl
 
 body_made : (form : Form) (body : Result Texts Refusal) → are_fit body ≡ true
     → body_of form (record_of form body) ≡ placed form body
-body_made Plain (Ok t) fit =
-    let short : are_short (record { id = t.id; calendar = t.calendar; date = t.date; note = [] }) ≡ true =
-    last_of (nat_le (length t.id) 40 && nat_le (length t.calendar) 16 && nat_le (length t.date) 32)
-    (nat_le (length t.note) 80) (left_of (are_short t) (are_utf8 t) fit) in
-    let text : are_utf8 (record { id = t.id; calendar = t.calendar; date = t.date; note = [] }) ≡ true =
-    rw no_bytes (last_of (is_utf8 t.id && is_utf8 t.calendar && is_utf8 t.date) (is_utf8 t.note)
-    (right_of (are_short t) (are_utf8 t) fit)) in
-    rw (short, text) refl
+body_made Plain (Ok t) fit = search (rules, last_of, left_of, no_bytes, right_of)
 body_made Sealed (Ok t) fit =
-    let short = left_of (are_short t) (are_utf8 t) fit in
-    let text = right_of (are_short t) (are_utf8 t) fit in
-    rw (short, text) refl
+    grind (arith, left_of (are_short t) (are_utf8 t) fit, right_of (are_short t) (are_utf8 t) fit)
 body_made Plain (Err refusal.FieldCount) fit = refl
 body_made Plain (Err refusal.FieldTooLong) fit = refl
 body_made Plain (Err refusal.NotUtf8) fit = rw no_text refl
@@ -132,10 +122,7 @@ entries_made : (form : Form) (k : ℕ) (entries : List Numbered) → AreNumbered
 unfolding entries_from
 entries_made form k [] numbered fit = refl
 entries_made form k (entry ∷ entries) numbered fit =
-    let below : nat_lt k record_limit ≡ true = grind (arith, nat_tests, numbered.0, fit.0) in
-    let first = entry_made (k + 1) entry.number _ _ (sym numbered.0) (body_made form entry.body fit.1) in
-    let more = entries_made form (k + 1) entries numbered.1 fit.2 in
-    rw below (cc (first, more))
+    search (rules, nat_tests, entry_made, body_made, entries_made form (k + 1) entries numbered.1 fit.2)
 
 some_records : (layout : Layout) (entries : List Numbered) → AreNumberedFrom 1 entries → AreFit entries
     → HasFirstEntries layout.format None (map (placed_entry layout.format.form) entries)
@@ -205,9 +192,7 @@ lines_placed : (layout : Layout) (rows : List TableRow)
 unfolding lines_text
 lines_placed layout [] = refl
 lines_placed layout (row ∷ rows) =
-    let first : row_line layout (placed_row layout.format.form row) ≡ row_line layout row =
-    ap (line_text layout.format.delimiter) (fields_placed layout.format.form layout.targets row) in
-    rw (first, lines_placed layout rows) refl
+    grind (arith, fields_placed layout.format.form layout.targets row, lines_placed layout rows)
 
 numbers_placed : (form : Form) (j : ℕ) (entries : List Numbered) → AreNumberedFrom j entries
     → map (λ (entry : Numbered). entry.number) (map (placed_entry form) entries)

@@ -1,5 +1,5 @@
 -- What the reads of one entry, or of the end, say of the records that were left.
-use Rattle.std.proofs.Common.{◌≡◌, ℕ, List, [], ◌∷◌, Bool, Option, Some, None, true, false, refl, sym, ◌∙◌, arith}
+use Rattle.std.proofs.Common.{◌≡◌, ℕ, List, [], ◌∷◌, Bool, Option, Some, None, true, false, refl, sym, ◌∙◌, arith, rules}
 use Rattle.std.specs.Prelude.{IfSome, IfErr, IsErrAnd, Result, Ok, Err}
 use Rattle.register_records.specs.Records.{Fields}
 use Rattle.register_records.specs.Seals.{Agrees, is_seal}
@@ -53,14 +53,7 @@ pub seal_lacks : (left mid : Option (List Fields)) (form : Form) (count : ℕ) (
     → IfSome left (LacksSeal form count)
 seal_lacks None mid form count f e t is last = tt
 seal_lacks (Some records) None form count f e t is last = absurd t
-seal_lacks (Some records) (Some rest) form count f e t is last =
-    rw (e, t) (
-      seal_first f rest is,
-      λ ends.
-          let same : ends.0 ≡ f = cc (ends.1) in
-          let none : rest ≡ [] = cc (ends.1) in
-          last none (rw same at ends.3),
-    )
+seal_lacks (Some records) (Some rest) form count f e t is last = search (rules, seal_first)
 
 -- a text of a plain form ends where no record is left, and one of a sealed form where a seal is left alone that agrees
 pub plain_ends : (left : Option (List Fields)) (form : Form) (count : ℕ) → form ≡ Plain

@@ -66,20 +66,12 @@ count_of n = min n (2 ^ 64 - 1)
 
 same_sep : (d n : ℕ) → next_sep (writing d) (count_of n) ≡ next_sep (writing d) n
 same_sep d zero = refl
-same_sep d (suc n) =
-    let a : (count_of (suc n) == 0) ≡ false = ne_eqb (count_of (suc n)) 0 (λ z. omega (arith, z)) in
-    let b : (suc n == 0) ≡ false = ne_eqb (suc n) 0 (λ z. cc z) in
-    rw (a, b) refl
+same_sep d (suc n) = grind (arith, count_of, ne_eqb)
 
 same_test : (n : ℕ) → ((count_of n == 0) || (count_of n == 1)) ≡ ((n == 0) || (n == 1))
 same_test zero = refl
 same_test (suc zero) = refl
-same_test (suc (suc n)) =
-    let a : (count_of (suc (suc n)) == 0) ≡ false = ne_eqb (count_of (suc (suc n))) 0 (λ z. omega (arith, z)) in
-    let b : (suc (suc n) == 0) ≡ false = ne_eqb (suc (suc n)) 0 (λ z. cc z) in
-    let c : (count_of (suc (suc n)) == 1) ≡ false = ne_eqb (count_of (suc (suc n))) 1 (λ z. omega (arith, z)) in
-    let d : (suc (suc n) == 1) ≡ false = ne_eqb (suc (suc n)) 1 (λ z. cc z) in
-    rw (a, b, c, d) refl
+same_test (suc (suc n)) = grind (arith, count_of, ne_eqb)
 
 -- what a line holds
 abbrev held : SheetLines → Option (List ℕ)
@@ -103,18 +95,7 @@ pub one_gained : (field : List ℕ) (old new : SheetLines)
     → (has_written old.writer ≡ true → has_written new.writer ≡ true)
     → GainsFields (field ∷ []) old new
 one_gained field old new text same count wrote stays d before fields begun =
-    let long = length-append fields (field ∷ []) in
-    let plain : (writing d).style ≢ style.NonNumeric = λ e. cc e in
-    let gained = now_known (held old) (held new) _ _
-    ((rw (begun.setup, begun.counted, same_sep d (length fields)) at text) plain) begun.bytes in
-    record {
-      setup = same ∙ begun.setup;
-      bytes = gained ∙ ap Some (rw (row-more (writing d) fields field)
-          (append_assoc before (row_body (writing d) fields) _));
-      counted = count ∙ rw begun.counted (omega (arith, long));
-      blank = rw long (blank-more (writing d) fields field (has_written old.writer) (has_written new.writer) begun.blank
-          (λ none. (rw begun.setup at wrote) none plain) stays);
-    }
+    grind (arith, length-append, now_known, held, same_sep, row-more, append_assoc, blank-more)
 
 pub none_gained : (lines : SheetLines) → GainsFields [] lines lines
 none_gained lines d before fields begun = rw append-nil begun

@@ -10,10 +10,7 @@ one_taken [] zero x rest e = absurd (cc)
 one_taken [] (suc k) x rest e = absurd (cc)
 one_taken (y ∷ all) zero x rest e =
     let same : y ≡ x = cc in let left : all ≡ rest = cc in (rw same refl, left)
-one_taken (y ∷ all) (suc k) x rest e =
-    let h = one_taken all k x rest e in
-    let step : suc k + 1 ≡ suc (k + 1) = omega arith in
-    rw step (ap (λ t. y ∷ t) h.0, h.1)
+one_taken (y ∷ all) (suc k) x rest e = grind (arith, one_taken all k x rest e)
 
 -- none is left
 pub all_taken : {T : Type 0} (all : List T) (k count : ℕ) → drop k all ≡ [] → k ≤ count

@@ -1,17 +1,10 @@
-use Rattle.std.proofs.Common.{◌≡◌, ◌∷◌, [], refl, rules, append_assoc, take}
+use Rattle.std.proofs.Common.{rules, append_assoc, take}
 use Rattle.csv.proofs.WriteFacts.{escaped-double, escaped-other}
 use Rattle.register_records.specs.LineRoom.{writing}
 use Rattle.register_records.proofs.csv_lines.put_escaped.Goals as goal
 
 pub returns-then-byte-eq-QUOTE-clause-value : goal.returns-then-byte-eq-QUOTE-clause-value
-returns-then-byte-eq-QUOTE-clause-value c =
-    let quote : c.args.byte ≡ 34 = search rules in
-    rw (
-      escaped-double (writing c.args.delimiter) c.args.byte quote refl,
-      quote,
-      c.put_byte.ensures.value,
-      c.put_byte-at.ensures.value,
-    ) (append_assoc (take c.args.at c.args.room.now) (34 ∷ []) (34 ∷ []))
+returns-then-byte-eq-QUOTE-clause-value c = search (rules, escaped-double, append_assoc, take)
 
 pub returns-clause-value : goal.returns-clause-value
 returns-clause-value c =

@@ -1,4 +1,4 @@
-use Rattle.std.proofs.Common.{◌<◌, ◌∙◌, ◌++◌, ap, append_assoc, arith, length, take}
+use Rattle.std.proofs.Common.{◌<◌, ◌∙◌, ◌++◌, ap, append_assoc, arith, length, take, rules}
 use Rattle.csv.specs.Writing.{escaped}
 use Rattle.csv.proofs.WriteFacts.{quoted-step}
 use Rattle.register_records.specs.LineRoom.{writing}
@@ -6,12 +6,7 @@ use Rattle.register_records.proofs.csv_lines.put_quotable.Goals as goal
 
 pub bytes-init : goal.bytes-init
 unfolding escaped
-bytes-init c =
-    record {
-      escaped = c.put_byte-end.ensures.value;
-      short = omega (arith, c.put_byte-end.ensures.end);
-      len = c.put_byte-end.ensures.len;
-    }
+bytes-init c = search rules
 
 pub bytes-preserved : goal.bytes-preserved
 bytes-preserved c =

@@ -1,4 +1,4 @@
-use Rattle.std.proofs.Common.{◌≡◌, ◌∙◌, inl, rules, sym, true, false}
+use Rattle.std.proofs.Common.{◌≡◌, ◌∙◌, inl, rules, sym, true}
 use Rattle.csv.specs.Records.{fields_of}
 use Rattle.register_records.specs.ReadingState.{IsNoSeal}
 use Rattle.register_records.specs.declared.setups.Form.TheVariants.{Sealed}
@@ -12,12 +12,7 @@ pub read_record-requires : goal.read_record-requires
 read_record-requires g c = let live = c.requires.live in (live.0, inl live.1, live.2)
 
 pub returns-in-Sealed-clause-not_sealed : goal.returns-in-Sealed-clause-not_sealed
-returns-in-Sealed-clause-not_sealed g c _ =
-    let none : c.in_ok-read_record.field-0 ≡ false = search rules in (
-      c.in-Sealed.is,
-      no_seal_left _ c.args.form c.args.count c.in-Sealed.is
-          (found_none _ _ _ _ c.in_ok-read_record.ensures.reads none),
-    )
+returns-in-Sealed-clause-not_sealed g c _ = search (rules, no_seal_left, found_none)
 
 pub returns-then-is_seal-clause-ends : goal.returns-then-is_seal-clause-ends
 returns-then-is_seal-clause-ends g c _ =
@@ -29,15 +24,7 @@ returns-then-is_seal-clause-ends g c _ =
     c.in_ok-read_behind_seal.ensures.last
 
 pub returns-in_err-read_behind_seal-clause-not_sealed : goal.returns-in_err-read_behind_seal-clause-not_sealed
-returns-in_err-read_behind_seal-clause-not_sealed g c =
-    passed_on _ c.in_err-read_behind_seal.field-0.0 _ c.from_residual-in_err-read_behind_seal.ensures.1 (λ e.
-    let some : c.in_ok-read_record.field-0 ≡ true = search rules in
-    let first = found _ _ _ _ c.in_ok-read_record.ensures.reads some in
-    let sealed : c.args.form ≡ Sealed = search rules in
-    let is = sym c.is_seal.ensures ∙ c.if-is_seal.true in (
-      sealed,
-      seal_lacks _ _ c.args.form c.args.count _ sealed first is (c.in_err-read_behind_seal.ensures.not_sealed e),
-    ))
+returns-in_err-read_behind_seal-clause-not_sealed g c = search (rules, passed_on, found, seal_lacks)
 
 pub returns-in_err-number-clause-many : goal.returns-in_err-number-clause-many
 returns-in_err-number-clause-many g c =

@@ -1,4 +1,4 @@
-use Rattle.std.proofs.Common.{◌∙◌}
+use Rattle.std.proofs.Common.{rules}
 use Rattle.csv.specs.Records.{fields_of}
 use Rattle.register_records.specs.Retrying.{inner_remaining}
 use Rattle.register_records.proofs.EntryStepLemmas.{reads}
@@ -11,6 +11,4 @@ returns-in-Ok-clause-reads g c =
     (c.in-Ok.ensures.reads c.requires.0 c.requires.1)
 
 pub returns-in-Ok-clause-live : goal.returns-in-Ok-clause-live
-returns-in-Ok-clause-live g c =
-    let read = c.in-Ok.ensures.reads c.requires.0 c.requires.1 in
-    (read.3 ∙ c.requires.0, c.in-Ok.ensures.ready c.requires.0, c.in-Ok.ensures.flexible ∙ c.requires.2)
+returns-in-Ok-clause-live g c = search (rules, reads)

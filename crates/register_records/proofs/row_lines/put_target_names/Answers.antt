@@ -1,4 +1,4 @@
-use Rattle.std.proofs.Common.{◌∙◌, ◌++◌, ◌≤◌, ℕ, List, ap, append-nil, arith, length, map, refl, subst, sym, take}
+use Rattle.std.proofs.Common.{◌∙◌, ◌++◌, ◌≤◌, ℕ, List, ap, append-nil, arith, length, map, subst, sym, take, rules}
 use Rattle.std.proofs.lemmas.List.{take_all}
 use Rattle.date_texts.specs.Calendars.{target_name}
 use Rattle.register_records.specs.LineRoom.{GainsFields, name_limit}
@@ -6,11 +6,7 @@ use Rattle.register_records.proofs.LineLemmas.{name_columns, one_item, same_body
 use Rattle.register_records.proofs.row_lines.put_target_names.Goals as goal
 
 pub targets-init : goal.targets-init
-targets-init c = record {
-  gained = λ before fields some begun. same_body _ before _ _ _ (sym (append-nil fields)) begun;
-  short = omega arith;
-  len = refl;
-}
+targets-init c = search (rules, same_body, append-nil)
 
 pub targets-preserved : goal.targets-preserved
 targets-preserved c =
@@ -28,10 +24,7 @@ targets-preserved c =
     }
 
 pub put_field-end-requires-clause-room : goal.put_field-end-requires-clause-room
-put_field-end-requires-clause-room c =
-    let inv = c.targets.invariant in
-    let limit : length c.name.result.now ≤ name_limit = rw c.name.ensures (short_name _) in
-    omega (arith, inv.short, inv.len, c.requires, c.targets-test.true, c.as_bytes.ensures.len, limit)
+put_field-end-requires-clause-room c = search (rules, short_name)
 
 pub returns-clause-value : goal.returns-clause-value
 returns-clause-value c =

@@ -10,10 +10,7 @@ use Rattle.register_records.proofs.faults.ChunksRead.read.Goals as goal
 -- what is left where a chunk d of the bytes b stands at the place p
 left_at : (s : List (Vec ℕ Global)) (p given : ℕ) (d : Vec ℕ Global) (b : List ℕ) → p < length s → d ≡ get_or s p d
     → b ≡ d.items → bytes_left given (drop p s) ≡ drop given b ++ chunk_bytes (drop (suc p) s)
-left_at s p given d b h is e =
-    let more = chunk_bytes (drop (suc p) s) in
-    rw (drop-cons s p d) (ap (λ (x : Vec ℕ Global). drop given x.items ++ more) (sym is)
-    ∙ ap (λ (x : List ℕ). drop given x ++ more) (sym e))
+left_at s p given d b h is e = grind (arith, chunk_bytes (drop (suc p) s), drop-cons s p d)
 
 -- n bytes more of a chunk are given: a copy of them, and what is left
 given_more : (b more copy rest : List ℕ) (given n : ℕ) → n ≤ length b - given

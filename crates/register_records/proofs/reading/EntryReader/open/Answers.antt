@@ -1,40 +1,20 @@
-use Rattle.std.proofs.Common.{◌≡◌, ◌∙◌, ap, arith, length, inr, rules, sym, true, false}
-use Rattle.csv.specs.Reading.{default_config, is_flexible, names_headers, reader_config, reader_trim}
-use Rattle.csv.specs.declared.reader.Trim.TheVariants as trim
+use Rattle.std.proofs.Common.{◌≡◌, ◌∙◌, ap, arith, length, rules, sym}
+use Rattle.csv.specs.Reading.{default_config, reader_config}
 use Rattle.csv.specs.Records.{fields_of}
 use Rattle.register_records.specs.ReadingState.{records_left}
 use Rattle.register_records.specs.Retrying.{inner_remaining}
-use Rattle.register_records.specs.Views.{format_of}
-use Rattle.register_records.proofs.EntryStepLemmas.{at_start, refuses, refuses_none}
+use Rattle.register_records.proofs.EntryStepLemmas.{at_start}
 use Rattle.register_records.proofs.GivenLemmas.{first_step, may_first}
-use Rattle.register_records.proofs.StepLemmas.{found, found_none}
+use Rattle.register_records.proofs.StepLemmas.{found}
 use Rattle.register_records.proofs.reading.EntryReader.open.Goals as goal
 use Rattle.register_records.proofs.reading.EntryReader.open.Goals.{then-not-found-via-else-not-found+then-not-is_header}
 use Rattle.register_records.proofs.reading.EntryReader.open.Goals.{then-not-found-via-then-not-found}
 
 pub read_record-requires : goal.read_record-requires
-read_record-requires g c =
-    let plain : reader_trim c.from_reader-records.result ≡ trim.None = search rules in
-    let named : names_headers c.from_reader-records.result ≡ false = search rules in
-    let flexible : is_flexible c.from_reader-records.result ≡ true = search rules in
-    (plain, inr (inr (named, c.from_reader-records.ensures.headers)), flexible)
+read_record-requires g c = search rules
 
 pub returns-then-not-found-clause-bad : goal.returns-then-not-found-clause-bad
-returns-then-not-found-clause-bad g c _ =
-    let fr = c.from_reader-records.ensures in
-    let config : reader_config c.from_reader-records.result
-    ≡ record default_config { delimiter = c.args.setup.now.delimiter } = search rules in
-    let start =
-    at_start (inner_remaining g.R.Read.remaining) c.from_reader-records.result c.args.setup.now.delimiter
-    (g.R.Read.remaining c.args.reader) config fr.state (rw (← c.new-patient.ensures) fr.source) in
-    let read = rw start at c.in_ok-found.ensures.reads in
-    elim c.then-not-found.branch [
-      | then-not-found-via-then-not-found w ↦ refuses_none _ (format_of c.args.setup.now)
-          (found_none _ _ _ _ read w.if-not-found.true)
-      | then-not-found-via-else-not-found+then-not-is_header w ↦
-          refuses _ _ (format_of c.args.setup.now) _ (found _ _ _ _ read w.if-not-found.false)
-          (λ h. cc (w.is_header.ensures.1 (rw w.form.ensures h), w.if-not-is_header.true))
-    ]
+returns-then-not-found-clause-bad g c _ = search rules
 
 pub invariant_of-result : goal.invariant_of-result
 invariant_of-result g c =

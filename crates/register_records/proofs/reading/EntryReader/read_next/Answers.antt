@@ -1,5 +1,5 @@
 use Rattle.std.proofs.Common.{◌≡◌, ◌∙◌, ◌∷◌, [], ap, arith, length, length-append, refl, rules, sym}
-use Rattle.std.proofs.Common.{false, true}
+use Rattle.std.proofs.Common.{true}
 use Rattle.register_records.specs.ReadingState.{records_left}
 use Rattle.register_records.specs.Retrying.{inner_remaining}
 use Rattle.register_records.specs.ReadingState.{format_by}
@@ -9,11 +9,7 @@ use Rattle.register_records.proofs.GivenLemmas.{may_many, may_more}
 use Rattle.register_records.proofs.reading.EntryReader.read_next.Goals as goal
 
 pub returns-in-Ended-clause-reads : goal.returns-in-Ended-clause-reads
-returns-in-Ended-clause-reads g c =
-    let self = c.args.self.now in
-    let all = may_ended (g.R.Read.remaining self.source.value) (format_by self.delimiter self.form) self.state
-    (records_left (inner_remaining g.R.Read.remaining) self.records) self.given self.has_read c.in-Ended.is in
-    search (rules, all)
+returns-in-Ended-clause-reads g c = search (rules, may_ended)
 
 pub invariant_of-self : goal.invariant_of-self
 invariant_of-self g c =
@@ -38,66 +34,13 @@ invariant_of-self g c =
     }
 
 pub invariant_of-self-in-Ok-false-clause-has_read : goal.invariant_of-self-in-Ok-false-clause-has_read
-invariant_of-self-in-Ok-false-clause-has_read g c =
-    let self = c.args.self.now in
-    let none : c.in-Ok-false.field-0 ≡ false = search rules in
-    let ends = (rw none at c.in-Ok-false.ensures.ends) refl in
-    may_end (g.R.Read.remaining self.source.value) (format_by self.delimiter self.form) self.state
-    (records_left (inner_remaining g.R.Read.remaining) self.records)
-    self.given self.has_read c.in-Open.is self.count
-    (sym self.counted) (rw self.counted self.few) _ ends
+invariant_of-self-in-Ok-false-clause-has_read g c = search (rules, may_end)
 
 pub invariant_of-self-in-Err-clause-has_read : goal.invariant_of-self-in-Err-clause-has_read
-invariant_of-self-in-Err-clause-has_read g c =
-    let self = c.args.self.now in
-    may_fail (g.R.Read.remaining self.source.value) (format_by self.delimiter self.form) self.state
-    (records_left (inner_remaining g.R.Read.remaining) self.records) self.given self.has_read _
-    self.given refl
+invariant_of-self-in-Err-clause-has_read g c = search (rules, may_fail)
 
 pub returns-in-Ok-false-clause-reads : goal.returns-in-Ok-false-clause-reads
-returns-in-Ok-false-clause-reads g c =
-    let self = c.args.self.now in
-    let none : c.in-Ok-false.field-0 ≡ false = search rules in
-    let ends = (rw none at c.in-Ok-false.ensures.ends) refl in
-    let all =
-    may_all (g.R.Read.remaining self.source.value) (format_by self.delimiter self.form) self.state
-    (records_left (inner_remaining g.R.Read.remaining) self.records)
-    self.given self.has_read c.in-Open.is self.count
-    (sym self.counted) (rw self.counted self.few) ends in
-    search (rules, all)
+returns-in-Ok-false-clause-reads g c = search (rules, may_all)
 
 pub returns-in-Err-clause-reads : goal.returns-in-Err-clause-reads
-returns-in-Err-clause-reads g c =
-    let self = c.args.self.now in
-    let lacks = rw c.in-Err.is at c.read_entry-found.ensures.not_sealed in
-    let full = rw c.in-Err.is at c.read_entry-found.ensures.many in
-    let never = rw c.in-Err.is at c.read_entry-found.ensures.never in
-    rw c.in-Err.is record {
-      gives = λ e. absurd (cc);
-      number = λ e. absurd (cc);
-      kept = refl;
-      text = (refl, refl);
-      ends = λ e. absurd (cc);
-      all = λ e. absurd (cc);
-      many = λ e. (
-        self.counted ∙ (full e).0,
-        may_many (g.R.Read.remaining self.source.value)
-            (format_by self.delimiter self.form) self.state
-            (records_left (inner_remaining g.R.Read.remaining) self.records)
-            self.given self.has_read c.in-Open.is self.count (sym self.counted) (full e).1 (full e).0,
-      );
-      not_sealed = λ e. (
-        (lacks e).0,
-        may_lack (g.R.Read.remaining self.source.value) (format_by self.delimiter self.form) self.state
-            (records_left (inner_remaining g.R.Read.remaining) self.records)
-            self.given self.has_read c.in-Open.is self.count (sym self.counted)
-            (rw self.counted self.few) (lacks e).1,
-      );
-      above = λ e.
-          may_above (g.R.Read.remaining self.source.value) (format_by self.delimiter self.form) self.state
-          (records_left (inner_remaining g.R.Read.remaining) self.records)
-          self.given self.has_read c.in-Open.is self.count (sym self.counted) (lacks e).1;
-      fails = refl;
-      only_failed = λ _. never.1;
-      no_header = never.0;
-    }
+returns-in-Err-clause-reads g c = search (rules, may_many, may_lack, may_above)

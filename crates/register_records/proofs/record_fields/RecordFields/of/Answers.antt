@@ -1,4 +1,4 @@
-use Rattle.std.proofs.Common.{◌≡◌, ◌<◌, ◌∙◌, ap, arith, length, lit<}
+use Rattle.std.proofs.Common.{◌<◌, arith, lit<, rules}
 use Rattle.csv.specs.Records.{fields_of}
 use Rattle.register_records.specs.Records.{field_count}
 use Rattle.register_records.proofs.FieldLemmas.{field_there, one_of_three, plain_texts, sealed_texts}
@@ -17,12 +17,7 @@ returns-in_err-date c =
     one_of_three c.args.form (fields_of c.args.csv_record.now) 2 (omega arith) (lit< tt) c.in_err-date.ensures.value
 
 pub returns-in-Plain : goal.returns-in-Plain
-returns-in-Plain c =
-    let fields = fields_of c.args.csv_record.now in
-    let long : length fields ≡ field_count c.args.form = omega arith in
-    rw c.in-Plain.is
-    (plain_texts fields _ _ _ (long ∙ ap field_count c.in-Plain.is)
-    c.in_ok-id.ensures.value c.in_ok-calendar.ensures.value c.in_ok-date.ensures.value)
+returns-in-Plain c = search (rules, plain_texts)
 
 pub returns-in_err-get-in-Sealed : goal.returns-in_err-get-in-Sealed
 returns-in_err-get-in-Sealed c =
@@ -30,10 +25,4 @@ returns-in_err-get-in-Sealed c =
     field_there c.args.form (fields_of c.args.csv_record.now) 3 (omega arith) there c.in_err-get-in-Sealed.ensures.value
 
 pub returns-in_ok-get-in-Sealed : goal.returns-in_ok-get-in-Sealed
-returns-in_ok-get-in-Sealed c =
-    let fields = fields_of c.args.csv_record.now in
-    let long : length fields ≡ field_count c.args.form = omega arith in
-    rw c.in-Sealed.is
-    (sealed_texts fields _ _ _ _ (long ∙ ap field_count c.in-Sealed.is)
-    c.in_ok-id.ensures.value c.in_ok-calendar.ensures.value c.in_ok-date.ensures.value
-    c.in_ok-get-in-Sealed.ensures.value)
+returns-in_ok-get-in-Sealed c = search (rules, sealed_texts)

@@ -1,4 +1,4 @@
-use Rattle.std.proofs.Common.{ℕ, List, Option, None, Some, ◌∙◌, sym}
+use Rattle.std.proofs.Common.{ℕ, List, Option, None, Some, ◌∙◌, sym, arith}
 use Rattle.std.specs.Io.KnownBytes.{Consumes, Keeps}
 use Rattle.register_records.proofs.retrying.RetryingRead.read.Goals as goal
 
@@ -10,6 +10,4 @@ keeps_consumes (Some x) (Some y) None bs k p = absurd p
 keeps_consumes (Some x) (Some y) (Some z) bs k p = sym k ∙ p
 
 pub returns-in-Ok-clause-bytes : goal.returns-in-Ok-clause-bytes
-returns-in-Ok-clause-bytes g c =
-    let bytes = c.in-Ok.ensures.bytes in
-    (keeps_consumes _ _ _ _ c.tries.invariant bytes.0, bytes.1)
+returns-in-Ok-clause-bytes g c = grind (arith, c.in-Ok.ensures.bytes)

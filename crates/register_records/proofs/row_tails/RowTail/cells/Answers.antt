@@ -1,4 +1,4 @@
-use Rattle.std.proofs.Common.{◌≡◌, ◌<◌, ◌==◌, ℕ, List, None, Option, Some, ap, arith, drop, length, length-take, map}
+use Rattle.std.proofs.Common.{◌≡◌, ◌<◌, ◌==◌, ℕ, List, None, Option, Some, drop, length, length-take, map}
 use Rattle.std.proofs.Common.{rules, take, tests}
 use Rattle.std.specs.List.{position_or_len}
 use Rattle.std.proofs.lemmas.Iterator.{YieldsList, YieldsList-from_take}
@@ -39,11 +39,7 @@ given_cells c =
     c.cells.yielded _ c.cells.yielded_by _ _ c.next.ensures.steps
 
 pub push-requires : goal.push-requires
-push-requires c =
-    let less = (given_cells (goal.at.push-requires c).After-next).less _ c.in-Some.is in (
-      omega arith,
-      omega (arith, less, length-take {A = List ℕ}, ap length c.cells.invariant, c.requires),
-    )
+push-requires c = search (rules, given_cells, length-take)
 
 pub returns : goal.returns
 returns c = rw c.cells.invariant ((given_cells (goal.at.returns c).After-next).whole c.in-None.is)

@@ -1,18 +1,16 @@
-use Rattle.std.proofs.Common.{◌∙◌, ◌∷◌, ◌++◌, [], ℕ, List, ap, arith, subst}
+use Rattle.std.proofs.Common.{◌∷◌, ◌++◌, [], List, arith, subst, rules}
 use Rattle.std.proofs.Common.{sym, take}
 use Rattle.std.proofs.lemmas.List.{take_all, take_more}
 use Rattle.std.specs.List.{AllZip}
 use Rattle.date_texts.specs.declared.target.Target.{Target}
-use Rattle.register_records.specs.RowTails.{fields_of, tail_bytes}
+use Rattle.register_records.specs.RowTails.{tail_bytes}
 use Rattle.register_records.specs.Seen.{outcome_seen}
 use Rattle.register_records.specs.TableColumns.{IsCellField}
 use Rattle.register_records.proofs.RowTailLemmas.{grown_more, not_grown, one_more_beside, plain_field, shown_cells}
 use Rattle.register_records.proofs.row_tails.RowTail.push_cells.Goals as goal
 
 pub cells-init : goal.cells-init
-cells-init c =
-    let self = c.args.self.now in
-    record { made = ([], tt, not_grown self.delimiter (tail_bytes self) self.plain); room = omega arith }
+cells-init c = search (rules, not_grown)
 
 pub cells-preserved : goal.cells-preserved
 cells-preserved c =
@@ -36,15 +34,7 @@ cells-preserved c =
     }
 
 pub returns-clause-value : goal.returns-clause-value
-returns-clause-value c cells known =
-    let o = outcome_seen c.args.outcome in
-    let targets = c.args.targets.now in
-    let (made, are, put) = c.cells.invariant.made in
-    let all =
-    subst (λ (ts : List Target). AllZip (IsCellField o) ts made)
-    (take_all c.cells.target-index targets c.cells-test.false) are in
-    put.fields ∙ ap (λ (more : List (List ℕ)). fields_of c.args.self.now ++ more)
-    (shown_cells c.one_cell.ensures o targets made cells all known)
+returns-clause-value c cells known = search (rules, take_all, shown_cells)
 
 pub invariant_of-self-clause-plain : goal.invariant_of-self-clause-plain
 invariant_of-self-clause-plain c =

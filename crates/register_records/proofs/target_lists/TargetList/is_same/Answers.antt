@@ -1,4 +1,4 @@
-use Rattle.std.proofs.Common.{◌≡◌, ◌≤◌, ◌+◌, ◌-◌, ◌*◌, ◌∙◌, ap, arith, length, length-take, rules, sym}
+use Rattle.std.proofs.Common.{◌≡◌, ◌≤◌, ◌*◌, ◌∙◌, ap, arith, length, length-take, rules, sym}
 use Rattle.std.proofs.lemmas.List.{take_all}
 use Rattle.date_texts.specs.declared.target.Target.{Target}
 use Rattle.register_records.specs.ShortLists.{items_in}
@@ -12,12 +12,7 @@ short : (list : ShortList Target) → length (items_in list) ≤ RANK_ROOM
 short list = omega (arith, length-take list.count list.items, list.few)
 
 pub words-preserved : goal.words-preserved
-words-preserved c =
-    let at = c.words.i * WORD_LEN in
-    let len : at + WORD_LEN - at ≡ WORD_LEN = omega arith in
-    more_compared c.words.is_same _ _ c.args.self.now.ranks c.args.other.now.ranks at _ (omega arith)
-    c.word.type_inv c.word-in-words.type_inv (rw len at c.word.ensures) (rw len at c.word-in-words.ensures)
-    c.words.invariant
+words-preserved c = search (rules, more_compared)
 
 pub returns : goal.returns
 returns c =

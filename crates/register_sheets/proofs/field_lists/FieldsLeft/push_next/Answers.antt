@@ -5,11 +5,7 @@ use Rattle.register_sheets.proofs.LineLemmas.{both_gained}
 use Rattle.register_sheets.proofs.field_lists.FieldsLeft.push_next.Goals as goal
 
 pub returns-in_default-clause-line : goal.returns-in_default-clause-line
-returns-in_default-clause-line c =
-    let none = c.next.ensures.none c.in_default.is in
-    let low : c.fields.counter ≤ c.args.count = omega (arith, c.fields-test.true) in
-    let all = all_taken _ _ c.args.count (sym c.fields.invariant.left ∙ none.0) low in
-    rw all.0 c.fields.invariant.line
+returns-in_default-clause-line c = grind (arith, all_taken)
 
 pub returns-in_default-clause-left : goal.returns-in_default-clause-left
 returns-in_default-clause-left c =

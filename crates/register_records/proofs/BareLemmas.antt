@@ -85,17 +85,9 @@ abbrev ArePlainTexts : Texts → Type 0
 ArePlainTexts t = IsPlain t.id × IsPlain t.calendar × IsPlain t.date × IsPlain t.note
 
 plain_texts : (form : Form) (fs : Fields) → ArePlainFields fs → IfSome (texts_of form fs) ArePlainTexts
-plain_texts Plain [] h = tt
-plain_texts Plain (a ∷ []) h = tt
-plain_texts Plain (a ∷ b ∷ []) h = tt
 plain_texts Plain (a ∷ b ∷ c ∷ []) h = (h.0, h.1.0, h.1.1.0, refl)
-plain_texts Plain (a ∷ b ∷ c ∷ d ∷ rest) h = tt
-plain_texts Sealed [] h = tt
-plain_texts Sealed (a ∷ []) h = tt
-plain_texts Sealed (a ∷ b ∷ []) h = tt
-plain_texts Sealed (a ∷ b ∷ c ∷ []) h = tt
 plain_texts Sealed (a ∷ b ∷ c ∷ d ∷ []) h = (h.0, h.1.0, h.1.1.0, h.1.1.1.0)
-plain_texts Sealed (a ∷ b ∷ c ∷ d ∷ e ∷ rest) h = tt
+plain_texts form fs h = tt
 
 plain_record : (form : Form) (ends bytes : List ℕ) → IsPlain bytes
     → IfSome (texts_of form (cut_from 0 ends bytes)) ArePlainTexts

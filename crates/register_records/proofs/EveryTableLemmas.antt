@@ -67,7 +67,7 @@ has_row ts entry =
     )
 
 -- the entries of records are numbered in order
-abbrev AreInOrder : ℕ → List Numbered → Type 0
+abbrev pub AreInOrder : ℕ → List Numbered → Type 0
 AreInOrder k entries = map (λ (entry : Numbered). entry.number) entries ≡ range_with_len k (length entries)
 
 numbered_if : (b : Bool) (k : ℕ) (entry : Numbered) (entries : List Numbered) → entry.number ≡ k
@@ -75,7 +75,7 @@ numbered_if : (b : Bool) (k : ℕ) (entry : Numbered) (entries : List Numbered) 
 numbered_if true k entry entries is rest = cc (is, rest)
 numbered_if false k entry entries is rest = refl
 
-numbered : (form : Form) (k : ℕ) (records : List Fields) → AreInOrder (k + 1) (entries_from form k records)
+pub numbered : (form : Form) (k : ℕ) (records : List Fields) → AreInOrder (k + 1) (entries_from form k records)
 unfolding entries_from
 numbered form k [] = refl
 numbered form k (r ∷ rest) = numbered_if (nat_lt k record_limit) (k + 1) _ _ refl (numbered form (k + 1) rest)

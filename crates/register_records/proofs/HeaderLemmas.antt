@@ -4,22 +4,15 @@ use Rattle.std.proofs.Common.{◌&&◌}
 use Rattle.std.proofs.lemmas.List.{length-drop, take_all}
 use Rattle.csv.specs.Reading.{strip_bom}
 
-pub rest_of : (s : List ℕ) (i : ℕ) → take (length s - i) (drop i s) ≡ drop i s
-rest_of s i = let e = length-drop i s in take_all (length s - i) (drop i s) (omega (arith, e))
-
 -- a byte order mark goes
 pub mark_there : (s : List ℕ) → 3 ≤ length s → get_or s 0 0 ≡ 239 → get_or s 1 0 ≡ 187 → get_or s 2 0 ≡ 191
     → strip_bom s ≡ drop 3 s
 unfolding strip_bom
-mark_there [] h a b c = absurd (omega arith)
-mark_there (x ∷ []) h a b c = absurd (omega arith)
-mark_there (x ∷ y ∷ []) h a b c = absurd (omega arith)
 mark_there (x ∷ y ∷ z ∷ rest) h a b c = rw (a, b, c) refl
+mark_there s h a b c = absurd (omega arith)
 
 pub mark_not : (s : List ℕ) → 3 ≤ length s
     → ((get_or s 0 0 == 239) && (get_or s 1 0 == 187) && (get_or s 2 0 == 191)) ≡ false → strip_bom s ≡ s
 unfolding strip_bom
-mark_not [] h a = absurd (omega arith)
-mark_not (x ∷ []) h a = absurd (omega arith)
-mark_not (x ∷ y ∷ []) h a = absurd (omega arith)
 mark_not (x ∷ y ∷ z ∷ rest) h a = rw a refl
+mark_not s h a = absurd (omega arith)

@@ -1,5 +1,6 @@
 -- A text has one fate: each test that decides it is decided by the text.
 use Rattle.std.proofs.Common.{inl, inr, ◌≡◌, ◌≤◌, ◌<◌, ◌++◌, ℕ, List, [], ◌∷◌, length, Bool, true, false, refl, rules}
+use Rattle.std.proofs.lemmas.List.{append_cancel_left}
 use Rattle.std.proofs.Common.{sym}
 use Rattle.std.proofs.Common.{ap, ◌∙◌, arith, subst, Option, None, Some, codes, fold}
 use Rattle.std.specs.Prelude.{if◌then◌else◌, IsSomeAnd, IsTrue}
@@ -8,8 +9,8 @@ use Rattle.csv.specs.Reading.{strip_bom}
 use Rattle.date_texts.specs.Names.{IsNamed}
 use Rattle.date_texts.specs.Numerals.{IsNumeral}
 use Rattle.date_texts.specs.Trimmed.{trimmed}
-use Rattle.date_texts.proofs.DecisionLemmas.{Is, both, is_at_most, is_named, is_number, is_true}
-use Rattle.register_records.specs.Entries.{Format, HasRecords, entries_of, record_limit, text_records}
+use Rattle.date_texts.proofs.DecisionLemmas.{Is, all_four, both, in_words, is_at_most, is_named, is_number, is_true}
+use Rattle.register_records.specs.Entries.{AreAfterHeader, AreAll, Format, HasRecords, entries_of, record_limit, text_records}
 use Rattle.register_records.specs.Headers.{IsHeader}
 use Rattle.register_records.specs.Laws.{Fate, HasFate, OneFate, accepted, no_header, not_sealed, too_many}
 use Rattle.register_records.specs.Records.{Fields, Texts, texts_of}
@@ -20,21 +21,15 @@ use Rattle.register_records.specs.declared.setups.Form.TheVariants.{Plain, Seale
 -- whether a record is an accepted header
 is_noted : (form : Form) (note : List ℕ) → Is (form ≡ Sealed → IsNamed note (codes "note"))
 is_noted Plain note = inl (λ e. absurd (cc))
-is_noted Sealed note = elim (is_named note (codes "note")) [
-  | inl named ↦ inl (λ e. named)
-  | inr not ↦ inr (λ h. not (h refl))
-]
+is_noted Sealed note = in_words (is_named note (codes "note")) (λ named e. named) (λ h. h refl)
 
 is_header_of : (form : Form) (texts : Option Texts) → Is (IsSomeAnd texts (λ t. IsNamed (strip_bom t.id) (codes "id")
     × IsNamed t.calendar (codes "calendar") × IsNamed t.date (codes "date")
     × (form ≡ Sealed → IsNamed t.note (codes "note"))))
 is_header_of form None = inr (λ h. h)
 is_header_of form (Some t) =
-    elim (both (is_named (strip_bom t.id) (codes "id")) (both (is_named t.calendar (codes "calendar"))
-    (both (is_named t.date (codes "date")) (is_noted form t.note)))) [
-      | inl h ↦ inl (h.0, h.1.0, h.1.1.0, h.1.1.1)
-      | inr not ↦ inr (λ h. not (h.0, (h.1, (h.2, h.3))))
-    ]
+    all_four (is_named (strip_bom t.id) (codes "id")) (is_named t.calendar (codes "calendar"))
+    (is_named t.date (codes "date")) (is_noted form t.note)
 
 is_header : (form : Form) (first : Fields) → Is (IsHeader form first)
 is_header form first = is_header_of form (texts_of form first)
@@ -44,134 +39,97 @@ is_numeral : (text : List ℕ) (n : ℕ) → Is (IsNumeral 7 text n)
 is_numeral text n = search (rules, both, is_at_most, is_true, is_number, fold)
 
 agrees : (seal : Fields) (n : ℕ) → Is (Agrees seal n)
-agrees [] n = inr (λ h. h)
-agrees (a ∷ []) n = inr (λ h. h)
 agrees (a ∷ b ∷ []) n = is_numeral (trimmed b) n
-agrees (a ∷ b ∷ c ∷ rest) n = inr (λ h. h)
+agrees seal n = inr (λ h. h)
 
--- whether the first seal stands last
-abbrev EndsBySeal : List Fields → Type 0
-EndsBySeal after = (seal : Fields) × (after ≡ before_seal after ++ seal ∷ []) × IsTrue (is_seal seal)
-
-abbrev EndsAfter : List Fields → List Fields → Type 0
-EndsAfter after before = (seal : Fields) × (after ≡ before ++ seal ∷ []) × IsTrue (is_seal seal)
-
-ends_at_once : (r : Fields) (rest : List Fields) → is_seal r ≡ true → Is (EndsAfter (r ∷ rest) [])
-ends_at_once r [] is = inl (r, refl, is)
-ends_at_once r (x ∷ rest) is = inr (λ h. let e : r ∷ x ∷ rest ≡ h.0 ∷ [] = h.1 in cc)
-
-ends_later : (r : Fields) (rest before : List Fields) → Is (EndsAfter rest before)
-    → Is (EndsAfter (r ∷ rest) (r ∷ before))
-ends_later r rest before (inl h) = inl (h.0, ap (λ l. r ∷ l) h.1, h.2)
-ends_later r rest before (inr not) = search rules
-
-ends_by_seal : (after : List Fields) → Is (EndsBySeal after)
+-- whether the first seal stands last and agrees with the number of records before it: what follows these decides
+from_seal : (after : List Fields) → (rest : List Fields) × (after ≡ before_seal after ++ rest)
 unfolding before_seal
-ends_by_seal [] = inr (λ h. let e : [] ≡ h.0 ∷ [] = h.1 in cc)
-ends_by_seal (r ∷ rest) = by (is_seal r) refl (ends_by_seal rest)
+from_seal [] = ([], refl)
+from_seal (r ∷ rest) = by (is_seal r) (from_seal rest)
   where
-    by : (b : Bool) → is_seal r ≡ b → Is (EndsAfter rest (before_seal rest))
-        → Is (EndsAfter (r ∷ rest) (if b then [] else r ∷ before_seal rest))
-    by true is later = ends_at_once r rest is
-    by false is later = ends_later r rest (before_seal rest) later
+    by : (b : Bool) → (last : List Fields) × (rest ≡ before_seal rest ++ last)
+        → (last : List Fields) × (r ∷ rest ≡ (if b then [] else r ∷ before_seal rest) ++ last)
+    by true later = (r ∷ rest, refl)
+    by false later = (later.0, ap (λ l. r ∷ l) later.1)
 
-same_last : (xs : List Fields) (a b : Fields) → xs ++ a ∷ [] ≡ xs ++ b ∷ [] → a ≡ b
-same_last [] a b e = cc
-same_last (x ∷ xs) a b e = let tail : xs ++ a ∷ [] ≡ xs ++ b ∷ [] = cc in same_last xs a b tail
+closed_by : (before rest : List Fields) → Is ((seal : Fields) × (rest ≡ seal ∷ []) × IsTrue (is_seal seal)
+    × Agrees seal (length before))
+closed_by before (seal ∷ []) =
+    in_words (both (is_true (is_seal seal)) (agrees seal (length before))) (λ h. (seal, refl, h.0, h.1))
+    (λ h. let same : h.0 ≡ seal = cc (h.1) in (rw same at h.2, rw same at h.3))
+closed_by before rest = inr (λ h. cc (h.1))
 
 are_closed : (form : Form) (after : List Fields) → Is (AreClosed form after)
 are_closed Plain after = inl tt
-are_closed Sealed after = elim (ends_by_seal after) [
-  | inr not ↦ inr (λ h. not (h.0, h.1, h.2))
-  | inl ends ↦ elim (agrees ends.0 (length (before_seal after))) [
-    | inl agree ↦ inl (ends.0, ends.1, ends.2, agree)
-    | inr not ↦ inr (λ h. not (subst (λ s. Agrees s (length (before_seal after)))
-        (same_last (before_seal after) h.0 ends.0 (sym h.1 ∙ ends.1)) h.3))
-  ]
-]
+are_closed Sealed after =
+    let (rest, is) = from_seal after in
+    in_words (closed_by (before_seal after) rest) (λ h. (h.0, is ∙ ap (λ l. before_seal after ++ l) h.1, h.2, h.3))
+    (λ h. (h.0, append_cancel_left (before_seal after) rest (h.0 ∷ []) (sym is ∙ h.1), h.2, h.3))
 
 -- the records behind an accepted header, if the text has one
-has_records_of : (form : Form) (records : List Fields)
-    → Is ((after : List Fields) × (header : Fields) × (records ≡ header ∷ after) × IsHeader form header)
-has_records_of form [] = inr (λ h. let e : [] ≡ h.1 ∷ h.0 = h.2 in cc)
-has_records_of form (r ∷ rest) = elim (is_header form r) [
-  | inl is ↦ inl (rest, r, refl, is)
-  | inr not ↦ inr (λ h. let e : r ∷ rest ≡ h.1 ∷ h.0 = h.2 in let same : h.1 ≡ r = cc in
-      not (subst (IsHeader form) same h.3))
-]
+has_records_of : (form : Form) (records : List Fields) → Is ((after : List Fields) × AreAfterHeader form records after)
+has_records_of form [] = inr (λ h. cc (h.1.1))
+has_records_of form (r ∷ rest) =
+    in_words (is_header form r) (λ is. (rest, (r, refl, is)))
+    (λ h. let same : h.1.0 ≡ r = cc (h.1.1) in rw same at h.1.2)
 
 one_after : (format : Format) (text : List ℕ) (a b : List Fields) → HasRecords format text a → HasRecords format text b
     → a ≡ b
 one_after format text a b p q = let e : p.0 ∷ a ≡ q.0 ∷ b = sym p.1 ∙ q.1 in cc
 
+-- what a fate says of the records behind the header: no two fates say what holds of the same
+abbrev IsFateOf : Form → Fate → List Fields → Type 0
+IsFateOf form accepted after = AreAll form after
+IsFateOf form no_header after = ⊥
+IsFateOf form too_many after = record_limit < length (entry_records form after)
+IsFateOf form not_sealed after = (length (entry_records form after) ≤ record_limit) × ¬ (AreClosed form after)
+
+one_of : (form : Form) (after : List Fields) (fate other : Fate) → IsFateOf form fate after → IsFateOf form other after
+    → other ≡ fate
+one_of form after accepted accepted h k = refl
+one_of form after too_many too_many h k = refl
+one_of form after not_sealed not_sealed h k = refl
+one_of form after accepted not_sealed h k = absurd (k.1 h.1)
+one_of form after not_sealed accepted h k = absurd (h.1 k.1)
+one_of form after no_header other h k = absurd h
+one_of form after fate no_header h k = absurd k
+one_of form after fate other h k = absurd (omega (arith, h, k))
+
 -- the fate of a text with these records behind its header
 module _ (format : Format) (text : List ℕ) (after : List Fields) (has : HasRecords format text after) where
-  abbrev Count : List Fields → ℕ
-  Count l = length (entry_records format.form l)
+  of_others : (fate : Fate) (others : List Fields) → HasRecords format text others → IsFateOf format.form fate others
+      → IsFateOf format.form fate after
+  of_others fate others h k = subst (IsFateOf format.form fate) (one_after format text others after h has) k
 
-  abbrev Alone : Fate → Type 0
-  Alone fate = (other : Fate) → HasFate format text other → other ≡ fate
+  says : (fate : Fate) → HasFate format text fate → IsFateOf format.form fate after
+  says accepted h = of_others accepted h.1.0 h.1.1 h.1.2
+  says no_header h = h after has
+  says too_many h = of_others too_many h.0 h.1 h.2
+  says not_sealed h = of_others not_sealed h.0 h.1 (h.2, h.3)
 
-  few_of : (l : List Fields) → HasRecords format text l → Count l ≤ record_limit → Count after ≤ record_limit
-  few_of l h few = subst (λ x. Count x ≤ record_limit) (one_after format text l after h has) few
+  alone : (fate : Fate) → HasFate format text fate
+      → (fate : Fate) × HasFate format text fate × ((other : Fate) → HasFate format text other → other ≡ fate)
+  alone fate h = (fate, h, λ other k. one_of format.form after fate other (says fate h) (says other k))
 
-  many_of : (l : List Fields) → HasRecords format text l → record_limit < Count l → record_limit < Count after
-  many_of l h many = subst (λ x. record_limit < Count x) (one_after format text l after h has) many
-
-  closed_of : (l : List Fields) → HasRecords format text l → AreClosed format.form l → AreClosed format.form after
-  closed_of l h closed = subst (AreClosed format.form) (one_after format text l after h has) closed
-
-  not_closed_of : (l : List Fields) → HasRecords format text l → ¬ (AreClosed format.form l)
-      → ¬ (AreClosed format.form after)
-  not_closed_of l h not =
-      subst (λ x. ¬ (AreClosed format.form x)) (one_after format text l after h has) not
-
-  alone_accepted : Count after ≤ record_limit → AreClosed format.form after → Alone accepted
-  alone_accepted few closed accepted h = refl
-  alone_accepted few closed no_header h = absurd (h after has)
-  alone_accepted few closed too_many h = absurd (let many = many_of h.0 h.1 h.2 in omega (arith, few, many))
-  alone_accepted few closed not_sealed h = absurd (not_closed_of h.0 h.1 h.3 closed)
-
-  alone_too_many : record_limit < Count after → Alone too_many
-  alone_too_many many accepted h = absurd (let few = few_of h.1.0 h.1.1 h.1.2.0 in omega (arith, few, many))
-  alone_too_many many no_header h = absurd (h after has)
-  alone_too_many many too_many h = refl
-  alone_too_many many not_sealed h = absurd (let few = few_of h.0 h.1 h.2 in omega (arith, few, many))
-
-  alone_not_sealed : Count after ≤ record_limit → ¬ (AreClosed format.form after) → Alone not_sealed
-  alone_not_sealed few open_ accepted h = absurd (open_ (closed_of h.1.0 h.1.1 h.1.2.1))
-  alone_not_sealed few open_ no_header h = absurd (h after has)
-  alone_not_sealed few open_ too_many h = absurd (let many = many_of h.0 h.1 h.2 in omega (arith, few, many))
-  alone_not_sealed few open_ not_sealed h = refl
-
-  of_records : (fate : Fate) × HasFate format text fate × Alone fate
-  of_records = elim (is_at_most (Count after) record_limit) [
-    | inr more ↦
-        let many : record_limit < Count after = elim (cases_lt record_limit (Count after)) [
-          | inl lt ↦ lt
-          | inr le ↦ absurd (more le)
-        ] in (too_many, (after, has, many), alone_too_many many)
+  of_records : (fate : Fate) × HasFate format text fate
+      × ((other : Fate) → HasFate format text other → other ≡ fate)
+  of_records = elim (is_at_most (length (entry_records format.form after)) record_limit) [
+    | inr more ↦ alone too_many (after, has, omega (arith, more))
     | inl few ↦ elim (are_closed format.form after) [
-      | inl closed ↦ (
-        accepted,
-        (entries_of format.form after, (after, has, (few, closed), refl)),
-        alone_accepted few closed,
-      )
-      | inr not ↦ (not_sealed, (after, has, few, not), alone_not_sealed few not)
+      | inl closed ↦ alone accepted (entries_of format.form after, (after, has, (few, closed), refl))
+      | inr not ↦ alone not_sealed (after, has, few, not)
     ]
   ]
 
-without_header : (format : Format) (text : List ℕ)
-    → ¬ ((after : List Fields) × (header : Fields) × (text_records format.delimiter text ≡ header ∷ after)
-    × IsHeader format.form header)
+without_header : (format : Format) (text : List ℕ) → ¬ ((after : List Fields) × HasRecords format text after)
     → (other : Fate) → HasFate format text other → other ≡ no_header
-without_header format text not accepted h = absurd (not (h.1.0, h.1.1.0, h.1.1.1, h.1.1.2))
+without_header format text not accepted h = absurd (not (h.1.0, h.1.1))
 without_header format text not no_header h = refl
-without_header format text not too_many h = absurd (not (h.0, h.1.0, h.1.1, h.1.2))
-without_header format text not not_sealed h = absurd (not (h.0, h.1.0, h.1.1, h.1.2))
+without_header format text not fate h = absurd (not (h.0, h.1))
 
 pub one_fate : OneFate
 one_fate format text = elim (has_records_of format.form (text_records format.delimiter text)) [
-  | inl h ↦ of_records format text h.0 (h.1, h.2, h.3)
-  | inr not ↦ (no_header, λ after h. not (after, h.0, h.1, h.2), without_header format text not)
+  | inl h ↦ of_records format text h.0 h.1
+  | inr not ↦ (no_header, λ after h. not (after, h), without_header format text not)
 ]

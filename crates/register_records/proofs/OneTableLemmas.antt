@@ -24,77 +24,51 @@ use Rattle.register_records.proofs.RowTailLemmas.{one_beside, one_cells}
 
 module _ (one_calendar : OneCalendar) (one_date_text : OneDateText) (one_cell : OneCell) where
   -- a text says one date at most
-  one_date : (name text : List ℕ) (c e : Calendar) (d f : Date) → Says name text c d → Says name text e f → d ≡ f
-  one_date name text c e d f h k = search rules
+  one_date : {name text : List ℕ} {c e : Calendar} {d f : Date} → Says name text c d → Says name text e f → d ≡ f
+  one_date h k = search rules
 
   -- a text says no date, or it says one
-  text_clash : (name text : List ℕ) (c e : Calendar) (d : Date) → IsNamed name (calendar_name c)
+  text_clash : {name text : List ℕ} {c e : Calendar} {d : Date} → IsNamed name (calendar_name c)
       → ((f : Date) → ¬ (IsDateText c text f)) → Says name text e d → ⊥
-  text_clash name text c e d n none s = let same = one_calendar name e c s.named n in none d (rw (← same) s.dated)
+  text_clash {name = name} {c = c} {e = e} {d = d} n none s =
+      let same = one_calendar name e c s.named n in none d (rw (← same) s.dated)
 
-  -- after each outcome of a body, the other is the same
-  after_refused : (b : Result Texts Refusal) (p : Result ℤ Refusal) (r : Refusal) → IsOutcome b p → b ≡ Err r
-      → Err r ≡ p
-  after_refused b p r (refused {r = q}) e = let same : q ≡ r = cc in ap Err (sym same)
-  after_refused b p r (unknown_calendar {t = u} none) e = cc
-  after_refused b p r (no_date_text {t = u} c named none) e = cc
-  after_refused b p r (no_such_date {t = u} c d says none) e = cc
-  after_refused b p r (out_of_range {t = u} c d says is out) e = cc
-  after_refused b p r (accepted {t = u} c d says is within) e = cc
+  date_clash : {name text : List ℕ} {c e : Calendar} {d f : Date} → Says name text c d → Says name text e f
+      → ¬ (IsDateOfCalendar d) → IsDateOfCalendar f → ⊥
+  date_clash s k none is = none (rw (one_date s k) is)
 
-  module _ (t : Texts) where
-    after_unknown : (b : Result Texts Refusal) (p : Result ℤ Refusal) → IsOutcome b p → b ≡ Ok t
-        → ((c : Calendar) → ¬ (IsNamed t.calendar (calendar_name c))) → Err refusal.UnknownCalendar ≡ p
-    after_unknown b p (refused {r = r}) e absent = cc
-    after_unknown b p (unknown_calendar {t = u} none) e absent = refl
-    after_unknown b p (no_date_text {t = u} c named none) e absent =
-        let same : u ≡ t = cc in absurd (absent c (rw same at named))
-    after_unknown b p (no_such_date {t = u} c d says none) e absent =
-        let same : u ≡ t = cc in absurd (absent c (rw same at says).named)
-    after_unknown b p (out_of_range {t = u} c d says is out) e absent =
-        let same : u ≡ t = cc in absurd (absent c (rw same at says).named)
-    after_unknown b p (accepted {t = u} c d says is within) e absent =
-        let same : u ≡ t = cc in absurd (absent c (rw same at says).named)
-
-    after_no_text : (b : Result Texts Refusal) (p : Result ℤ Refusal) → IsOutcome b p → b ≡ Ok t → (a : Calendar)
-        → IsNamed t.calendar (calendar_name a)
-        → ((f : Date) → ¬ (IsDateText a t.date f)) → Err refusal.DateText ≡ p
-    after_no_text b p (refused {r = r}) e a n absent = cc
-    after_no_text b p (unknown_calendar {t = u} none) e a n absent =
-        let same : t ≡ u = cc in absurd (none a (rw same at n))
-    after_no_text b p (no_date_text {t = u} c named none) e a n absent = refl
-    after_no_text b p (no_such_date {t = u} c d says none) e a n absent =
-        let same : u ≡ t = cc in absurd (text_clash _ _ a c d n absent (rw same at says))
-    after_no_text b p (out_of_range {t = u} c d says is out) e a n absent =
-        let same : u ≡ t = cc in absurd (text_clash _ _ a c d n absent (rw same at says))
-    after_no_text b p (accepted {t = u} c d says is within) e a n absent =
-        let same : u ≡ t = cc in absurd (text_clash _ _ a c d n absent (rw same at says))
-
-    -- what a date says of the outcome
-    abbrev DateOutcome : Date → Result ℤ Refusal → Type 0
-    DateOutcome f o =
-        (¬ (IsDateOfCalendar f) → o ≡ Err refusal.NoSuchDate)
-        × (IsDateOfCalendar f → ¬ (IsDayNumber (day_number_of_date f)) → o ≡ Err refusal.OutOfRange)
-        × (IsDateOfCalendar f → IsDayNumber (day_number_of_date f) → o ≡ Ok (day_number_of_date f))
-
-    of_date : (b : Result Texts Refusal) (p : Result ℤ Refusal) → IsOutcome b p → b ≡ Ok t → (a : Calendar) (f : Date)
-        → Says t.calendar t.date a f → DateOutcome f p
-    of_date b p (refused {r = r}) e a f s = cc
-    of_date b p (unknown_calendar {t = u} none) e a f s = let same : t ≡ u = cc in absurd (none a (rw same at s).named)
-    of_date b p (no_date_text {t = u} c named none) e a f s =
-        let same : t ≡ u = cc in absurd (text_clash _ _ c a f named none (rw same at s))
-    of_date b p (no_such_date {t = u} c d says none) e a f s = search (rules, one_date)
-    of_date b p (out_of_range {t = u} c d says is out) e a f s = search (rules, one_date)
-    of_date b p (accepted {t = u} c d says is within) e a f s = search (rules, one_date)
+  day_clash : {name text : List ℕ} {c e : Calendar} {d f : Date} → Says name text c d → Says name text e f
+      → ¬ (IsDayNumber (day_number_of_date d)) → IsDayNumber (day_number_of_date f) → ⊥
+  day_clash s k out within = out (rw (one_date s k) within)
 
   -- a body has one outcome at most
   one_outcome : (b : Result Texts Refusal) (o p : Result ℤ Refusal) → IsOutcome b o → IsOutcome b p → o ≡ p
-  one_outcome b o p (refused {r = r}) k = after_refused b p r k refl
-  one_outcome b o p (unknown_calendar {t = t} none) k = after_unknown t b p k refl none
-  one_outcome b o p (no_date_text {t = t} c named none) k = after_no_text t b p k refl c named none
-  one_outcome b o p (no_such_date {t = t} c d says none) k = sym ((of_date t b p k refl c d says).0 none)
-  one_outcome b o p (out_of_range {t = t} c d says is out) k = sym ((of_date t b p k refl c d says).1 is out)
-  one_outcome b o p (accepted {t = t} c d says is within) k = sym ((of_date t b p k refl c d says).2 is within)
+  one_outcome b o p refused refused = refl
+  one_outcome b o p (unknown_calendar x) (unknown_calendar y) = refl
+  one_outcome b o p (unknown_calendar x) (no_date_text c n y) = absurd (x c n)
+  one_outcome b o p (unknown_calendar x) (no_such_date c d s y) = absurd (x c s.named)
+  one_outcome b o p (unknown_calendar x) (out_of_range c d s is y) = absurd (x c s.named)
+  one_outcome b o p (unknown_calendar x) (accepted c d s is y) = absurd (x c s.named)
+  one_outcome b o p (no_date_text c n x) (unknown_calendar y) = absurd (y c n)
+  one_outcome b o p (no_date_text c n x) (no_date_text e m y) = refl
+  one_outcome b o p (no_date_text c n x) (no_such_date e f s y) = absurd (text_clash n x s)
+  one_outcome b o p (no_date_text c n x) (out_of_range e f s is y) = absurd (text_clash n x s)
+  one_outcome b o p (no_date_text c n x) (accepted e f s is y) = absurd (text_clash n x s)
+  one_outcome b o p (no_such_date c d s x) (unknown_calendar y) = absurd (y c s.named)
+  one_outcome b o p (no_such_date c d s x) (no_date_text e m y) = absurd (text_clash m y s)
+  one_outcome b o p (no_such_date c d s x) (no_such_date e f k y) = refl
+  one_outcome b o p (no_such_date c d s x) (out_of_range e f k is y) = absurd (date_clash s k x is)
+  one_outcome b o p (no_such_date c d s x) (accepted e f k is y) = absurd (date_clash s k x is)
+  one_outcome b o p (out_of_range c d s is x) (unknown_calendar y) = absurd (y c s.named)
+  one_outcome b o p (out_of_range c d s is x) (no_date_text e m y) = absurd (text_clash m y s)
+  one_outcome b o p (out_of_range c d s is x) (no_such_date e f k y) = absurd (date_clash k s y is)
+  one_outcome b o p (out_of_range c d s is x) (out_of_range e f k was y) = refl
+  one_outcome b o p (out_of_range c d s is x) (accepted e f k was y) = absurd (day_clash s k x y)
+  one_outcome b o p (accepted c d s is x) (unknown_calendar y) = absurd (y c s.named)
+  one_outcome b o p (accepted c d s is x) (no_date_text e m y) = absurd (text_clash m y s)
+  one_outcome b o p (accepted c d s is x) (no_such_date e f k y) = absurd (date_clash k s y is)
+  one_outcome b o p (accepted c d s is x) (out_of_range e f k was y) = absurd (day_clash k s y x)
+  one_outcome b o p (accepted c d s is x) (accepted e f k was y) = rw (one_date s k) refl
 
   -- what is only said of its outcome is known of it, since it is the only one
   pub known_outcome : (b : Result Texts Refusal) (o : Result ℤ Refusal) → ∥ IsOutcome b o ∥₁ → IsOutcome b o

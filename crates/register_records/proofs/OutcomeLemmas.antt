@@ -49,29 +49,18 @@ module _ (t : Texts) (c : Calendar) (d : Date) where
   day_outcome s (Ok day) h = rw h.1 (outcome.accepted c d s (h.0.0 refl).0 (h.0.0 refl).1)
   day_outcome s (Err refusal.NoSuchDate) h = outcome.no_such_date c d s (h.2.0 refl)
   day_outcome s (Err refusal.OutOfRange) h = outcome.out_of_range c d s (h.3.0 refl).0 (h.3.0 refl).1
-  day_outcome s (Err refusal.FieldCount) h = absurd (other_refusal refusal.FieldCount (λ e. cc) (λ e. cc) h)
-  day_outcome s (Err refusal.FieldTooLong) h = absurd (other_refusal refusal.FieldTooLong (λ e. cc) (λ e. cc) h)
-  day_outcome s (Err refusal.NotUtf8) h = absurd (other_refusal refusal.NotUtf8 (λ e. cc) (λ e. cc) h)
-  day_outcome s (Err refusal.UnknownCalendar) h = absurd (other_refusal refusal.UnknownCalendar (λ e. cc) (λ e. cc) h)
-  day_outcome s (Err refusal.DateText) h = absurd (other_refusal refusal.DateText (λ e. cc) (λ e. cc) h)
+  day_outcome s (Err r) h = absurd (other_refusal r (λ e. cc) (λ e. cc) h)
 
 -- a body has the outcome of another with the same calendar and date
 pub outcome_of_same : (b c : Result Texts Refusal) (o : Result ℤ Refusal) → HaveOneDate b c → IsOutcome b o
     → IsOutcome c o
-outcome_of_same b (Err r) o same (outcome.refused {r = q}) = absurd same
-outcome_of_same b (Err r) o same (outcome.unknown_calendar {t = t} none) = absurd same
-outcome_of_same b (Err r) o same (outcome.no_date_text {t = t} c named none) = absurd same
-outcome_of_same b (Err r) o same (outcome.no_such_date {t = t} c date says none) = absurd same
-outcome_of_same b (Err r) o same (outcome.out_of_range {t = t} c date says is out) = absurd same
-outcome_of_same b (Err r) o same (outcome.accepted {t = t} c date says is within) = absurd same
-outcome_of_same b (Ok u) o same (outcome.refused {r = q}) = absurd same
-outcome_of_same b (Ok u) o same (outcome.unknown_calendar {t = t} none) =
-    outcome.unknown_calendar (rw same.0 at none)
-outcome_of_same b (Ok u) o same (outcome.no_date_text {t = t} c named none) =
+outcome_of_same (Ok t) (Ok u) o same (outcome.unknown_calendar none) = outcome.unknown_calendar (rw same.0 at none)
+outcome_of_same (Ok t) (Ok u) o same (outcome.no_date_text c named none) =
     outcome.no_date_text c (rw same.0 at named) (rw same.1 at none)
-outcome_of_same b (Ok u) o same (outcome.no_such_date {t = t} c date says none) =
+outcome_of_same (Ok t) (Ok u) o same (outcome.no_such_date c date says none) =
     outcome.no_such_date c date (rw (same.0, same.1) at says) none
-outcome_of_same b (Ok u) o same (outcome.out_of_range {t = t} c date says is out) =
+outcome_of_same (Ok t) (Ok u) o same (outcome.out_of_range c date says is out) =
     outcome.out_of_range c date (rw (same.0, same.1) at says) is out
-outcome_of_same b (Ok u) o same (outcome.accepted {t = t} c date says is within) =
+outcome_of_same (Ok t) (Ok u) o same (outcome.accepted c date says is within) =
     outcome.accepted c date (rw (same.0, same.1) at says) is within
+outcome_of_same b c o same is = absurd same

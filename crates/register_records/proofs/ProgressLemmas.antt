@@ -21,7 +21,7 @@ use Rattle.register_records.specs.declared.ends.Cause.TheVariants as cause
 use Rattle.register_records.specs.declared.ends.Note.{Note}
 use Rattle.register_records.specs.declared.writing.RowFault.{RowFault}
 use Rattle.register_records.specs.declared.writing.RowFault.TheVariants as row
-use Rattle.register_records.proofs.RowTailLemmas.{one_more_beside}
+use Rattle.std.proofs.lemmas.Slice.Zip.{all_zipped_more}
 
 -- one more at the end
 numbered_last : (j : ℕ) (entries : List Numbered) (x : Numbered)
@@ -70,7 +70,7 @@ step layout old now now2 entries journal x row p n r a =
       bytes = p.bytes ++ row_line layout row;
       table = record {
         numbered = numbered_last 1 entries x p.table.numbered (omega (arith, n));
-        converted = one_more_beside (IsRowOf layout.targets) entries p.rows x row p.table.converted r;
+        converted = all_zipped_more (IsRowOf layout.targets) entries p.rows x row p.table.converted r;
         written = ap (λ (t : List ℕ). t ++ row_line layout row) p.table.written ∙ sym (table_last layout p.rows row);
       };
       gained = Appends-trans old now now2 _ _ p.gained a;
@@ -155,9 +155,5 @@ only_memory row.Failed c a k n = absurd (n refl)
 -- a fault of a seal
 pub only_not_sealed : (f : EntryFault) (c : Cause) → c ≡ entry_fault_cause f → c ≡ cause.NotSealed
     → f ≡ entry.NotSealed
-only_not_sealed entry.OutOfMemory c a is = cc
-only_not_sealed entry.ReadFault c a is = cc
-only_not_sealed entry.BadHeader c a is = cc
-only_not_sealed entry.TooManyRecords c a is = cc
 only_not_sealed entry.NotSealed c a is = refl
-only_not_sealed entry.Failed c a is = cc
+only_not_sealed f c a is = cc

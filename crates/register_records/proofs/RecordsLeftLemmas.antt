@@ -1,5 +1,5 @@
 -- The records of a text, one after the other.
-use Rattle.std.proofs.Common.{◌≡◌, ◌<◌, ◌≤◌, ◌+◌, ℕ, zero, suc, List, [], ◌∷◌, ◌++◌, length, Option, Some, None, Bool, rules}
+use Rattle.std.proofs.Common.{◌≡◌, ◌<◌, ◌≤◌, ◌+◌, ◌-◌, ℕ, zero, suc, List, [], ◌∷◌, ◌++◌, length, Option, Some, None, Bool, rules}
 use Rattle.std.proofs.Common.{true, false, refl, ap, ◌∙◌, arith, add-one}
 use Rattle.std.specs.Prelude.{if◌then◌else◌}
 use Rattle.csv.specs.Machine.{Read, ends_at_end, field_after, fields_after, is_end, next_record, step}
@@ -18,24 +18,16 @@ either_way true first more p n e h g = let same : first ≡ p = cc in rw (← sa
 either_way false first more p n e h g = g p e
 
 -- a record leaves no more than there was, and takes a byte where there is one
-leaves : (cfg : Config) (xs : List ℕ) (s : State) (fs : Fields) (f : List ℕ) (p : Read)
-    → next_record cfg s fs f xs ≡ Some p → length p.2 ≤ length xs
+takes : (cfg : Config) (xs : List ℕ) (s : State) (fs : Fields) (f : List ℕ) (p : Read)
+    → next_record cfg s fs f xs ≡ Some p → length p.2 ≤ length xs - 1
 unfolding next_record
-leaves cfg [] s fs f p e =
+takes cfg [] s fs f p e =
     either_way (ends_at_end s) (fs ++ (f ∷ []), st.StartRecord, []) None p 0 e (omega arith) (λ q x. cc)
-leaves cfg (c ∷ rest) s fs f p e =
+takes cfg (c ∷ rest) s fs f p e =
     let h =
-    either_way (is_end (step cfg s c).1) (fields_after (step cfg s c).1 fs f, (step cfg s c).0, rest)
-    (next_record cfg (step cfg s c).0 (fields_after (step cfg s c).1 fs f) (field_after (step cfg s c).1 c f) rest) p
-    (length rest) e (omega arith)
-    (λ q x. leaves cfg rest (step cfg s c).0 (fields_after (step cfg s c).1 fs f)
-    (field_after (step cfg s c).1 c f) q x)
+    either_way (is_end (step cfg s c).1) (fields_after (step cfg s c).1 fs f, (step cfg s c).0, rest) _ p
+    (length rest) e (omega arith) (λ q x. let few = takes cfg rest _ _ _ q x in omega (arith, few))
     in omega (arith, h)
-
-takes : (cfg : Config) (c : ℕ) (rest : List ℕ) (s : State) (fs : Fields) (f : List ℕ) (p : Read)
-    → next_record cfg s fs f (c ∷ rest) ≡ Some p → length p.2 ≤ length rest
-unfolding next_record
-takes cfg c rest s fs f p e = search (rules, either_way, leaves)
 
 -- nothing is left of no text
 none_left : (cfg : Config) (n : ℕ) → records_from cfg n st.StartRecord [] ≡ []
@@ -69,7 +61,7 @@ stable cfg (suc n) zero s xs a b = absurd (omega arith)
 stable cfg (suc n) (suc m) s [] a b = search (rules, next_alike, after_end)
 stable cfg (suc n) (suc m) s (c ∷ rest) a b =
     next_alike (records_from cfg n) (records_from cfg m) (next_record cfg s [] [] (c ∷ rest))
-    (λ p e. let h = takes cfg c rest s [] [] p e in stable cfg n m p.1 p.2 (omega (arith, h)) (omega (arith, h)))
+    (λ p e. let h = takes cfg (c ∷ rest) s [] [] p e in stable cfg n m p.1 p.2 (omega (arith, h)) (omega (arith, h)))
 
 -- the first turn
 first_turn : (cfg : Config) (s : State) (xs : List ℕ)
@@ -81,7 +73,9 @@ first_turn cfg s xs = rw add-one refl
 pub all_more : (cfg : Config) (s : State) (xs : List ℕ) (p : Read) → next_record cfg s [] [] xs ≡ Some p
     → all_after cfg s xs ≡ p.0 ∷ all_after cfg p.1 p.2
 all_more cfg s [] p e = grind (arith, first_turn cfg s [], after_end cfg s p 0 e, after_end cfg s p (length p.2 + 1) e)
-all_more cfg s (c ∷ rest) p e = search (rules, takes, first_turn, stable)
+all_more cfg s (c ∷ rest) p e =
+    let few : length p.2 ≤ length rest = omega (arith, takes cfg (c ∷ rest) s [] [] p e) in
+    search (rules, few, first_turn, stable)
 
 -- none
 pub all_none : (cfg : Config) (s : State) (xs : List ℕ) → next_record cfg s [] [] xs ≡ None → all_after cfg s xs ≡ []

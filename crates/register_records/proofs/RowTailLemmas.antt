@@ -1,5 +1,6 @@
 -- The fields of a tail, while they are appended, and the cells among them.
 use Rattle.std.proofs.Common.{◌≡◌, ◌<◌, ◌≤◌, ◌+◌, ◌++◌, ℕ, List, [], ◌∷◌, true, false, refl, sym, ap, ◌∙◌, rules}
+use Rattle.std.proofs.lemmas.Slice.Zip.{AllZip-long}
 use Rattle.std.proofs.Common.{add-one, append_assoc, arith, append-nil, drop, drop-cons, get_or, length, length-drop}
 use Rattle.std.proofs.Common.{map, subst}
 use Rattle.std.proofs.Common.{set, take}
@@ -155,23 +156,10 @@ weekday_fits d h number = record {
 -- the number of a refusal has one
 refusal_below : (r : Refusal) → refusal_number r < 10
 refusal_below refused.FieldCount = omega arith
-refusal_below refused.FieldTooLong = omega arith
-refusal_below refused.NotUtf8 = omega arith
-refusal_below refused.UnknownCalendar = omega arith
-refusal_below refused.DateText = omega arith
-refusal_below refused.NoSuchDate = omega arith
-refusal_below refused.OutOfRange = omega arith
+refusal_below r = omega arith
 
 pub refusal_fits : (d : ℕ) → is_delimiter d ≡ true → (r : Refusal) → Fits d 1 (decimal (refusal_number r))
 refusal_fits d h r = search (rules, refusal_below, plain_decimal, length-decimal-le)
-
--- one more that stands beside one more
-pub one_more_beside : {A B : Type 0} (R : A → B → Type 0) (xs : List A) (ys : List B) (x : A) (y : B) → AllZip R xs ys
-    → R x y → AllZip R (xs ++ x ∷ []) (ys ++ y ∷ [])
-one_more_beside R [] [] x y all h = (h, tt)
-one_more_beside R [] (z ∷ ys) x y all h = absurd all
-one_more_beside R (w ∷ xs) [] x y all h = absurd all
-one_more_beside R (w ∷ xs) (z ∷ ys) x y all h = (all.0, one_more_beside R xs ys x y all.1 h)
 
 -- the field of a target needs no quotes
 pub plain_field : CellsArePlain → (d : ℕ) → is_delimiter d ≡ true → (o : Result ℤ Refusal) (t : Target) (field : List ℕ)
@@ -184,8 +172,6 @@ day_cells : (n : ℤ) (place : ℕ) (all : List (List ℕ)) (ts : List Target) (
     → drop place all ≡ cells → AreCells ts (Ok n) cells
     → map (λ (c : Column). c.field (row_with (Ok n) all)) (cell_columns place ts) ≡ cells
 day_cells n place all [] [] e a = refl
-day_cells n place all [] (x ∷ cells) e a = absurd a
-day_cells n place all (t ∷ ts) [] e a = absurd a
 day_cells n place all (t ∷ ts) (x ∷ cells) e a =
     let lt : place < length all = omega (arith, length-drop place all, ap length e) in
     let split : drop place all ≡ get_or all place [] ∷ drop (place + 1) all = rw (add-one, drop-cons all place [])
@@ -194,6 +180,7 @@ day_cells n place all (t ∷ ts) (x ∷ cells) e a =
     let rest : drop (place + 1) all ≡ cells = cc (split, e) in
     let more = day_cells n (place + 1) all ts cells rest a.1 in
     cc (first, more)
+day_cells n place all ts cells e a = absurd a
 
 nothing_at : (place : ℕ) → get_or {A = List ℕ} [] place [] ≡ []
 nothing_at zero = refl
@@ -203,28 +190,19 @@ no_cells : (r : Refusal) (place : ℕ) (ts : List Target) (fields : List (List �
     → AllZip (IsCellField (Err r)) ts fields
     → map (λ (c : Column). c.field (row_with (Err r) [])) (cell_columns place ts) ≡ fields
 no_cells r place [] [] a = refl
-no_cells r place [] (x ∷ fields) a = absurd a
-no_cells r place (t ∷ ts) [] a = absurd a
 no_cells r place (t ∷ ts) (x ∷ fields) a =
     grind (arith, ints, no_cells r (place + 1) ts fields a.1, nothing_at place, a.0)
-
--- as many stand beside a list as it has items
-as_many : {A B : Type 0} (R : A → B → Type 0) (xs : List A) (ys : List B) → AllZip R xs ys → length ys ≡ length xs
-as_many R [] [] all = refl
-as_many R [] (y ∷ ys) all = absurd all
-as_many R (x ∷ xs) [] all = absurd all
-as_many R (x ∷ xs) (y ∷ ys) all = ap suc (as_many R xs ys all.1)
+no_cells r place ts fields a = absurd a
 
 -- where one thing can stand beside each item of a list, one list can stand beside it
 pub one_beside : {A B : Type 0} (R : A → B → Type 0) → ((x : A) (y z : B) → R x y → R x z → y ≡ z)
     → (xs : List A) (ys zs : List B) → AllZip R xs ys → AllZip R xs zs → ys ≡ zs
 one_beside R one [] [] [] a b = refl
-one_beside R one [] [] (z ∷ zs) a b = absurd b
-one_beside R one [] (y ∷ ys) zs a b = absurd a
-one_beside R one (x ∷ xs) [] zs a b = absurd a
-one_beside R one (x ∷ xs) (y ∷ ys) [] a b = absurd b
 one_beside R one (x ∷ xs) (y ∷ ys) (z ∷ zs) a b =
     grind (arith, ints, one x y z a.0 b.0, one_beside R one xs ys zs a.1 b.1)
+one_beside R one [] [] zs a b = absurd b
+one_beside R one (x ∷ xs) (y ∷ ys) zs a b = absurd b
+one_beside R one xs ys zs a b = absurd a
 
 -- a row has one list of cells
 pub one_cells : OneCell → (o : Result ℤ Refusal) (ts : List Target) (xs ys : List (List ℕ)) → AreCells ts o xs
@@ -253,7 +231,7 @@ cells_among ts (Ok day) cells tail are is =
     ap (λ (fields : List (List ℕ)). take (length ts) (drop (position_or_len is_cells tail_order) fields)) is
     ∙ ap (λ (shown : List (List ℕ)). take (length ts) (shown ++ behind))
     (day_cells day.number 0 cells ts cells refl are)
-    ∙ take_at cells behind (length ts) (as_many (IsCellField (Ok day.number)) ts cells are)
+    ∙ take_at cells behind (length ts) (AllZip-long (IsCellField (Ok day.number)) ts cells are)
 cells_among ts (Err r) cells tail are is = sym are
 
 pub record AreWhole (ts : List Target) (o : Result Day Refusal) (tail : RowTail) : Type 0 where
@@ -276,9 +254,8 @@ whole_tail ts o tail is =
 pub cells_of_same : (ts : List Target) (o p : Result Day Refusal) (tail : RowTail) → outcome_seen o ≡ outcome_seen p
     → cells_of ts o tail ≡ cells_of ts p tail
 cells_of_same ts (Ok d) (Ok e) tail same = refl
-cells_of_same ts (Ok d) (Err r) tail same = absurd (cc)
-cells_of_same ts (Err r) (Ok d) tail same = absurd (cc)
 cells_of_same ts (Err r) (Err s) tail same = refl
+cells_of_same ts o p tail same = absurd (cc)
 
 -- what is only said of its cells is known of them, since they are the only ones
 known_cells : OneCell → (ts : List Target) (o : Result ℤ Refusal) (cells : List (List ℕ)) → ∥ AreCells ts o cells ∥₁

@@ -1,5 +1,8 @@
 -- Rows whose entries are numbered from 1 are the first rows of some records.
-use Rattle.std.proofs.Common.{◌≡◌, ◌∙◌, ◌+◌, ◌≤◌, ℕ, List, [], ◌∷◌, ◌++◌, Bool, true, false, ap, arith, rules}
+use Rattle.std.proofs.Common.{◌≡◌, ◌∙◌, ◌+◌, ◌≤◌, ℕ, List, [], ◌∷◌, ◌++◌, Bool, true, false, ap, subst, arith, rules}
+use Rattle.std.proofs.lemmas.Bool.{and_parts}
+use Rattle.register_records.proofs.OutcomeLemmas.{outcome_of_same}
+use Rattle.register_records.proofs.EveryTableLemmas.{AreInOrder, numbered as in_order}
 use Rattle.std.proofs.Common.{length, map, refl, sym}
 use Rattle.std.proofs.lemmas.List.{append-nil, length-map}
 use Rattle.std.proofs.lemmas.Bool.Decides.{nat_tests}
@@ -57,18 +60,6 @@ record_of form (Err r) = []
 abbrev records_of : Form → List Numbered → List Fields
 records_of form entries = map (λ (entry : Numbered). record_of form entry.body) entries
 
-left_of : (a b : Bool) → (a && b) ≡ true → a ≡ true
-left_of true b h = refl
-left_of false b h = h
-
-right_of : (a b : Bool) → (a && b) ≡ true → b ≡ true
-right_of true b h = h
-right_of false b h = cc
-
-last_of : (a b : Bool) → (a && b) ≡ true → (a && true) ≡ true
-last_of true b h = refl
-last_of false b h = h
-
 -- FF stands in no text
 no_text : is_utf8 (255 ∷ []) ≡ false
 unfolding is_utf8 chars
@@ -76,23 +67,16 @@ no_text = refl
 
 body_made : (form : Form) (body : Result Texts Refusal) → are_fit body ≡ true
     → body_of form (record_of form body) ≡ placed form body
-body_made Plain (Ok t) fit = search (rules, last_of, left_of, no_bytes, right_of)
-body_made Sealed (Ok t) fit =
-    grind (arith, left_of (are_short t) (are_utf8 t) fit, right_of (are_short t) (are_utf8 t) fit)
-body_made Plain (Err refusal.FieldCount) fit = refl
-body_made Plain (Err refusal.FieldTooLong) fit = refl
+body_made Plain (Ok t) fit = grind (arith, no_bytes, and_parts (are_short t) (are_utf8 t) fit)
+body_made Sealed (Ok t) fit = grind (arith, and_parts (are_short t) (are_utf8 t) fit)
 body_made Plain (Err refusal.NotUtf8) fit = rw no_text refl
-body_made Plain (Err r) fit = cc
-body_made Sealed (Err refusal.FieldCount) fit = refl
-body_made Sealed (Err refusal.FieldTooLong) fit = refl
 body_made Sealed (Err refusal.NotUtf8) fit = rw no_text refl
+body_made Plain (Err r) fit = cc
 body_made Sealed (Err r) fit = cc
 
 no_seal : (body : Result Texts Refusal) → is_seal (record_of Sealed body) ≡ false
-no_seal (Ok t) = refl
-no_seal (Err refusal.FieldTooLong) = refl
 no_seal (Err refusal.NotUtf8) = refl
-no_seal (Err r) = refl
+no_seal body = refl
 
 all_before : (entries : List Numbered) → before_seal (records_of Sealed entries) ≡ records_of Sealed entries
 unfolding before_seal
@@ -137,29 +121,15 @@ some_records layout entries numbered fit = (
 )
 
 -- the rows of those entries
-outcome_placed : (body : Result Texts Refusal) (outcome : Result ℤ Refusal) → IsOutcome body outcome
-    → IsOutcome (placed Plain body) outcome
-outcome_placed body outcome (refused {r = r}) = refused
-outcome_placed body outcome (unknown_calendar {t = t} none) = unknown_calendar none
-outcome_placed body outcome (no_date_text {t = t} calendar named none) = no_date_text calendar named none
-outcome_placed body outcome (no_such_date {t = t} calendar date says none) =
-    no_such_date calendar date (record { named = says.named; dated = says.dated }) none
-outcome_placed body outcome (out_of_range {t = t} calendar date says is out) =
-    out_of_range calendar date (record { named = says.named; dated = says.dated }) is out
-outcome_placed body outcome (accepted {t = t} calendar date says is within) =
-    accepted calendar date (record { named = says.named; dated = says.dated }) is within
-
 of_form : (form : Form) (body : Result Texts Refusal) (outcome : Result ℤ Refusal) → IsOutcome body outcome
     → IsOutcome (placed form body) outcome
-of_form Plain body outcome is = outcome_placed body outcome is
-of_form Sealed body outcome is = is
+of_form Plain (Ok t) outcome is = outcome_of_same (Ok t) _ outcome (refl, refl) is
+of_form form body outcome is = is
 
 rows_placed : (form : Form) (targets : List Target) (entries : List Numbered) (rows : List TableRow)
     → AreRowsOf targets entries rows
     → AreRowsOf targets (map (placed_entry form) entries) (map (placed_row form) rows)
 rows_placed form targets [] [] are = tt
-rows_placed form targets [] (row ∷ rows) are = are
-rows_placed form targets (entry ∷ entries) [] are = are
 rows_placed form targets (entry ∷ entries) (row ∷ rows) are = (
   record {
     number = are.0.number;
@@ -169,6 +139,7 @@ rows_placed form targets (entry ∷ entries) (row ∷ rows) are = (
   },
   rows_placed form targets entries rows are.1,
 )
+rows_placed form targets entries rows are = absurd are
 
 -- they have the lines that the rows have
 entry_placed : (n : ℕ) (body : Result Texts Refusal) (outcome : Result ℤ Refusal) (cells : List (List ℕ))
@@ -194,13 +165,6 @@ lines_placed layout [] = refl
 lines_placed layout (row ∷ rows) =
     grind (arith, fields_placed layout.format.form layout.targets row, lines_placed layout rows)
 
-numbers_placed : (form : Form) (j : ℕ) (entries : List Numbered) → AreNumberedFrom j entries
-    → map (λ (entry : Numbered). entry.number) (map (placed_entry form) entries)
-    ≡ range_with_len j (length (map (placed_entry form) entries))
-numbers_placed form j [] numbered = refl
-numbers_placed form j (entry ∷ entries) numbered =
-    let rest = numbers_placed form (j + 1) entries numbered.1 in cc (numbered.0, rest)
-
 -- rows are the first rows of some records, by what an entry may hold
 pub front_of_some : (layout : Layout) (rows : List Row)
     → AreNumberedFrom 1 (map (λ (row : Row). entry_seen row.entry) rows)
@@ -213,7 +177,7 @@ front_of_some layout rows numbered are =
       entries = map (placed_entry form) entries;
       rows = map (placed_row form) (map row_seen rows);
       table = record {
-        numbered = numbers_placed form 1 entries numbered;
+        numbered = subst (AreInOrder 1) (entries_made form 0 entries numbered (rows_fit rows)) (in_order form 0 _);
         converted = rows_placed form layout.targets entries (map row_seen rows) are;
         written = ap (λ (lines : List ℕ). heading_line layout ++ lines) (sym (lines_placed layout (map row_seen rows)));
       };

@@ -55,11 +55,7 @@ seal_lacks None mid form count f e t is last = tt
 seal_lacks (Some records) None form count f e t is last = absurd t
 seal_lacks (Some records) (Some rest) form count f e t is last = search (rules, seal_first)
 
--- a text of a plain form ends where no record is left, and one of a sealed form where a seal is left alone that agrees
-pub plain_ends : (left : Option (List Fields)) (form : Form) (count : ℕ) → form ≡ Plain
-    → IfSome left (λ records. records ≡ []) → Ends form count left
-plain_ends left form count e h = rw e ([], refl, h)
-
+-- a text of a sealed form ends where a seal is left alone that agrees
 pub seal_ends : (left mid : Option (List Fields)) (form : Form) (count : ℕ) (f : Fields) → form ≡ Sealed
     → TakesFirst left mid f → is_seal f ≡ true → Agrees f count → IfSome mid (λ records. records ≡ [])
     → Ends form count left

@@ -1,12 +1,13 @@
 use Rattle.std.proofs.Common.{arith, rules}
+use Rattle.csv.proofs.WriteFacts.{slice-end}
 use Rattle.std.proofs.lemmas.Bool.Decides.{nat_tests}
-use Rattle.register_records.proofs.HeaderLemmas.{mark_not, mark_there, rest_of}
+use Rattle.register_records.proofs.HeaderLemmas.{mark_not, mark_there}
 use Rattle.csv.proofs.ReadFacts.{strip-short}
 use Rattle.register_records.proofs.header.without_mark.Goals as goal
 
 pub returns-then-field-3 : goal.returns-then-field-3
 returns-then-field-3 c =
-    cc (rest_of c.args.field.now 3, mark_there c.args.field.now (omega arith) (omega arith) (omega arith) (omega arith))
+    cc (slice-end c.args.field.now 3, mark_there c.args.field.now (omega arith) (omega arith) (omega arith) (omega arith))
 
 pub returns-else-field-ge3 : goal.returns-else-field-ge3
 returns-else-field-ge3 c = search (rules, mark_not, nat_tests, strip-short)

@@ -1,9 +1,10 @@
 use Rattle.std.proofs.Common.{◌∙◌, arith, get_or, sym, rules}
-use Rattle.register_records.proofs.SealLemmas.{digit_at, digit_fits, digit_small, digits_more, number_more, places_more}
+use Rattle.std.proofs.lemmas.List.Folds.{list_all_at}
+use Rattle.register_records.proofs.SealLemmas.{digit_fits, digit_small, digits_more, number_more, places_more}
 use Rattle.register_records.proofs.seals.number_of.Goals as goal
 
 pub returns-then-not-is_ascii_digit : goal.returns-then-not-is_ascii_digit
-returns-then-not-is_ascii_digit c n = search (rules, digit_at)
+returns-then-not-is_ascii_digit c n = search (rules, list_all_at)
 
 pub overflow_mul-number : goal.overflow_mul-number
 overflow_mul-number c =

@@ -26,17 +26,14 @@ invariant_of-result g c =
     (g.R.Read.remaining c.args.reader) config fr.state (rw (← c.new-patient.ensures) fr.source) in
     let read = rw start at c.in_ok-found.ensures.reads in
     let has_read =
-    first_step (g.R.Read.remaining c.args.reader) (g.R.Read.remaining c.of-source.result.value)
-    (records_left (inner_remaining g.R.Read.remaining) c.read_record.new.records)
-    c.args.setup.now.delimiter c.delimiter-3.result c.form.result c.form-2.result
-    c.new-2.result (fields_of c.read_record.new.csv_record)
-    (ap g.R.Read.remaining c.of-source.ensures) c.delimiter-3.ensures.value
+    first_step (records_left (inner_remaining g.R.Read.remaining) c.read_record.new.records)
+    (fields_of c.read_record.new.csv_record) (ap g.R.Read.remaining c.of-source.ensures) c.delimiter-3.ensures.value
     (c.form-2.ensures ∙ sym c.form.ensures) c.new-2.ensures
-    (found _ _ _ _ read c.if-not-found.false) (c.is_header.ensures.0 c.if-not-is_header.false) in
+    (rw c.if-not-found.false at read) (c.is_header.ensures.0 c.if-not-is_header.false) in
     record {
       live = λ _. c.in_ok-found.ensures.live;
       counted = ap length c.new-2.ensures;
       few = omega arith;
       has_read = has_read;
-      first = may_first _ _ _ _ _ has_read;
+      first = may_first has_read;
     }

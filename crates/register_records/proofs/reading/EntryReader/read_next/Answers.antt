@@ -19,18 +19,13 @@ invariant_of-self g c =
     let gives = (rw found at c.in-Ok-true.ensures.gives) refl in
     let number = (rw found at c.in-Ok-true.ensures.number) refl in
     let has_read =
-    may_more (g.R.Read.remaining self.source.value) (format_by self.delimiter self.form) self.state
-    (records_left (inner_remaining g.R.Read.remaining) self.records)
-    self.given self.has_read c.in-Open.is self.count (sym self.counted)
-    (records_left (inner_remaining g.R.Read.remaining) c.read_entry-found.new.records)
-    c.push.new.self c.read_entry-found.new.entry gives
-    (omega (arith, number.0, number.1)) c.push.ensures in
+    may_more self.has_read c.in-Open.is (sym self.counted) gives (omega (arith, number.0, number.1)) c.push.ensures in
     record {
       live = λ _. c.in-Ok-true.ensures.live;
       counted = omega (arith, longer, self.counted);
       few = omega (arith, number.0, number.1);
       has_read = has_read;
-      first = may_first _ _ _ _ _ has_read;
+      first = may_first has_read;
     }
 
 pub invariant_of-self-in-Ok-false-clause-has_read : goal.invariant_of-self-in-Ok-false-clause-has_read

@@ -1,4 +1,5 @@
 use Rattle.std.proofs.Common.{◌∷◌, ◌++◌, [], List, arith, subst, rules}
+use Rattle.std.proofs.lemmas.Slice.Zip.{all_zipped_more}
 use Rattle.std.proofs.Common.{sym, take}
 use Rattle.std.proofs.lemmas.List.{take_all, take_more}
 use Rattle.std.specs.List.{AllZip}
@@ -6,7 +7,7 @@ use Rattle.date_texts.specs.declared.target.Target.{Target}
 use Rattle.register_records.specs.RowTails.{tail_bytes}
 use Rattle.register_records.specs.Seen.{outcome_seen}
 use Rattle.register_records.specs.TableColumns.{IsCellField}
-use Rattle.register_records.proofs.RowTailLemmas.{grown_more, not_grown, one_more_beside, plain_field, shown_cells}
+use Rattle.register_records.proofs.RowTailLemmas.{grown_more, not_grown, plain_field, shown_cells}
 use Rattle.register_records.proofs.row_tails.RowTail.push_cells.Goals as goal
 
 pub cells-init : goal.cells-init
@@ -26,7 +27,7 @@ cells-preserved c =
         made ++ cell ∷ [],
         subst (λ (ts : List Target). AllZip (IsCellField o) ts (made ++ cell ∷ []))
             (sym (take_more targets i _ c.cells-test.true))
-            (one_more_beside (IsCellField o) (take i targets) made _ cell are is),
+            (all_zipped_more (IsCellField o) (take i targets) made _ cell are is),
         grown_more self.delimiter made cell (tail_bytes self) _ _
             (plain_field c.cells_are_plain.ensures self.delimiter self.separated o _ cell is) before more,
       );

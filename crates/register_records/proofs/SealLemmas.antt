@@ -35,11 +35,6 @@ unfolding field_at
 agrees_by_second (x ∷ y ∷ []) b n h e = let same : y ≡ b = cc in (λ a. rw (← same) a, λ a. rw same a)
 agrees_by_second fs b n h e = absurd (cc)
 
--- a number that was read, and compared
-pub compared : (number count : ℕ) (P : ℕ → Type 0) → ((n : ℕ) → (◌≡◌ {A = Option ℕ} (Some number) (Some n)) ↔ P n)
-    → IsTrue (nat_eq number count) ↔ P count
-compared number count P h = search (rules, nat_tests)
-
 -- the number that digits spell, one digit after the other
 pub digits_more : (xs : List ℕ) (i d : ℕ) → i < length xs → all_digits (take i xs) ≡ true
     → is_ascii_digit (get_or xs i d) ≡ true → all_digits (take (i + 1) xs) ≡ true

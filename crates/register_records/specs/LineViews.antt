@@ -6,13 +6,6 @@ use Rattle.register_records.specs.declared.csv_lines.CsvLines.{CsvLines}
 abbrev pub line_bytes : CsvLines → List ℕ
 line_bytes lines = take lines.len lines.bytes.items
 
--- how many they are, and for how many there is memory
-abbrev pub line_len : CsvLines → ℕ
-line_len lines = lines.len
-
+-- for how many there is memory
 abbrev pub line_capacity : CsvLines → ℕ
 line_capacity lines = vec_len lines.bytes
-
--- the byte between two fields
-abbrev pub line_delimiter : CsvLines → ℕ
-line_delimiter lines = lines.delimiter

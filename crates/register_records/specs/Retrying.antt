@@ -2,10 +2,6 @@
 use Rattle.std.specs.Prelude.{ℕ, List, Option}
 use Rattle.register_records.specs.declared.retrying.Retrying.{Retrying}
 
--- the reader in it
-abbrev pub inner_reader : {R : Type 0} → Retrying R → R
-inner_reader r = r.inner
-
 -- what is known of the bytes that the reader in it will give
 abbrev pub inner_remaining : {R : Type 0} → (R → Option (List ℕ)) → Retrying R → Option (List ℕ)
 inner_remaining remaining r = remaining r.inner

@@ -123,14 +123,14 @@ pub(crate) fn put_field(
 }
 
 impl CsvLines {
-    ghost use Rattle.register_records.specs.LineViews.{line_bytes, line_capacity, line_delimiter, line_len};
+    ghost use Rattle.register_records.specs.LineViews.{line_bytes, line_capacity};
 
     /// No line yet, in memory for so many bytes. This delimiter will separate the fields.
     pub fn new(alloc: Global, delimiter: u8, room: usize) -> Result<CsvLines, AllocError>
         requires { is_delimiter delimiter ≡ true }
-        ensures delimiter { IfOk result (λ lines. line_delimiter lines ≡ delimiter) }
+        ensures delimiter { IfOk result (λ lines. lines.delimiter ≡ delimiter) }
         ensures none { IfOk result (λ lines. line_bytes lines ≡ []) }
-        ensures len { IfOk result (λ lines. line_len lines ≡ 0) }
+        ensures len { IfOk result (λ lines. lines.len ≡ 0) }
         ensures room { IfOk result (λ lines. room ≤ line_capacity lines) }
     {
         let bytes = Vec::from_elem(alloc, 0, room)?;
@@ -158,7 +158,7 @@ impl CsvLines {
     /// Lets the lines go, and keeps their memory.
     pub fn clear(&mut self)
         ensures none { line_bytes self.new ≡ [] }
-        ensures kept { line_delimiter self.new ≡ line_delimiter self.old }
+        ensures kept { self.new.delimiter ≡ self.old.delimiter }
         ensures capacity { line_capacity self.new ≡ line_capacity self.old }
     {
         self.len = 0;
@@ -168,10 +168,10 @@ impl CsvLines {
     pub fn reserve(&mut self, room: usize) -> Result<(), AllocError>
         requires { room < 2 ^ 32 }
         ensures value { line_bytes self.new ≡ line_bytes self.old }
-        ensures kept { line_delimiter self.new ≡ line_delimiter self.old }
-        ensures room { OnOk result (line_len self.new + room ≤ line_capacity self.new) }
+        ensures kept { self.new.delimiter ≡ self.old.delimiter }
+        ensures room { OnOk result (self.new.len + room ≤ line_capacity self.new) }
         ensures capacity { line_capacity self.old ≤ line_capacity self.new }
-        ensures roomy { line_len self.old + room ≤ line_capacity self.old → IsOk result }
+        ensures roomy { self.old.len + room ≤ line_capacity self.old → IsOk result }
     {
         let end = self.len + room;
         if end <= self.bytes.len() {

@@ -34,19 +34,11 @@ fn without_mark(field: &[u8]) -> &[u8]
 pub(crate) fn is_header(csv_record: &ByteRecord, form: Form) -> bool
     ensures { IsTrue result ↔ IsHeader form (fields_of csv_record.now) }
 {
-    let Some(
-        RecordFields {
-            id,
-            calendar,
-            date,
-            note,
-        },
-    ) = RecordFields::of(csv_record, form)
-    else {
+    let Some(fields) = RecordFields::of(csv_record, form) else {
         return false;
     };
-    is_named(without_mark(id), b"id")
-        && is_named(calendar, b"calendar")
-        && is_named(date, b"date")
-        && (form == Form::Plain || is_named(note, b"note"))
+    is_named(without_mark(fields.id), b"id")
+        && is_named(fields.calendar, b"calendar")
+        && is_named(fields.date, b"date")
+        && (form == Form::Plain || is_named(fields.note, b"note"))
 }

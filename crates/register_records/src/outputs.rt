@@ -68,15 +68,11 @@ pub fn send<W: Output>(output: &mut W, bytes: &[u8]) -> Result<(), OutputFault>
 {
     let mut sent = 0;
     'offers: while sent < bytes.len() {
-        match output.offer(&bytes[sent..]) {
-            Ok(n) => {
-                if n == 0 {
-                    return Err(OutputFault);
-                }
-                sent += n;
-            }
-            Err(e) => return Err(e),
+        let n = output.offer(&bytes[sent..])?;
+        if n == 0 {
+            return Err(OutputFault);
         }
+        sent += n;
     }
     output.flush_out()
 }

@@ -30,6 +30,7 @@ impl<'a> RecordFields<'a> {
     ghost use Rattle.register_records.specs.Seen.{fields_seen};
 
     /// The fields of a record that has as many as the form wants.
+    #[tactic(auto, using(crate::proofs::FieldLemmas::missing_field))]
     pub(crate) fn of(csv_record: &'a ByteRecord, form: Form) -> Option<RecordFields<'a>>
         ensures { MatchOption result (texts_of form (fields_of csv_record.now) ≡ None)
             (λ c. texts_of form (fields_of csv_record.now) ≡ Some (fields_seen c)) }
@@ -37,23 +38,16 @@ impl<'a> RecordFields<'a> {
         if csv_record.len() != form.field_count() {
             return None;
         }
-        let id = csv_record.get(0)?;
-        let calendar = csv_record.get(1)?;
-        let date = csv_record.get(2)?;
-        match form {
-            Form::Plain => Some(RecordFields {
-                id,
-                calendar,
-                date,
-                note: b"",
-            }),
-            Form::Sealed => Some(RecordFields {
-                id,
-                calendar,
-                date,
-                note: csv_record.get(3)?,
-            }),
-        }
+        let note = match form {
+            Form::Plain => b"".as_slice(),
+            Form::Sealed => csv_record.get(3)?,
+        };
+        Some(RecordFields {
+            id: csv_record.get(0)?,
+            calendar: csv_record.get(1)?,
+            date: csv_record.get(2)?,
+            note,
+        })
     }
 
     /// Whether all are UTF-8. Those of a plain record, which are ASCII, are not looked at.

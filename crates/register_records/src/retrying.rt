@@ -12,11 +12,9 @@ pub(crate) struct Retrying<R> {
 }
 
 impl<R: Read> Retrying<R> {
-    ghost use Rattle.register_records.specs.Retrying.{inner_reader};
-
     /// A reader over `inner`.
     pub(crate) fn new(inner: R) -> Retrying<R>
-        ensures { inner_reader result ≡ inner }
+        ensures { result.inner ≡ inner }
     {
         Retrying { inner }
     }

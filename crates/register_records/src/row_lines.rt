@@ -7,7 +7,7 @@ ghost use Rattle.register_records.specs.BareTexts.{has_special};
 ghost use Rattle.register_records.specs.Columns.{entry_order};
 ghost use Rattle.register_records.specs.LineRoom.{Begins, GainsFields, entry_name_room, entry_room, name_room};
 ghost use Rattle.register_records.specs.LineRoom.{number_room, writing};
-ghost use Rattle.register_records.specs.LineViews.{line_bytes, line_capacity, line_delimiter, line_len};
+ghost use Rattle.register_records.specs.LineViews.{line_bytes, line_capacity};
 ghost use Rattle.register_records.specs.Lines.{line_text};
 ghost use Rattle.register_records.specs.SetupRules.{is_delimiter};
 ghost use Rattle.register_records.specs.TableColumns.{body_shown, entry_field, entry_name, field_shown, heading};
@@ -84,10 +84,10 @@ fn put_names(
 /// Appends the line of the heading. There must be memory for `LINE_ROOM` bytes more.
 pub(crate) fn make_heading(lines: &mut CsvLines, form: Form, targets: &[Target])
     requires few { length targets.now ≤ MAX_TARGETS }
-    requires room { line_len lines.old + LINE_ROOM ≤ line_capacity lines.old }
+    requires room { lines.old.len + LINE_ROOM ≤ line_capacity lines.old }
     ensures value { line_bytes lines.new
-        ≡ line_bytes lines.old ++ line_text (line_delimiter lines.old) (heading form targets.now) }
-    ensures kept { line_delimiter lines.new ≡ line_delimiter lines.old }
+        ≡ line_bytes lines.old ++ line_text (lines.old.delimiter) (heading form targets.now) }
+    ensures kept { lines.new.delimiter ≡ lines.old.delimiter }
     ensures capacity { line_capacity lines.new ≡ line_capacity lines.old }
 {
     let room = lines.bytes.as_mut_slice();
@@ -223,11 +223,11 @@ fn put_tail(room: &mut [u8], at: usize, delimiter: u8, row: &Row) -> usize
 
 /// Appends the line of a row. There must be memory for `LINE_ROOM` bytes more.
 pub(crate) fn make_row(lines: &mut CsvLines, form: Form, row: &Row)
-    requires { line_len lines.old + LINE_ROOM ≤ line_capacity lines.old }
-    ensures value { line_bytes lines.new ≡ line_bytes lines.old ++ line_text (line_delimiter lines.old)
+    requires { lines.old.len + LINE_ROOM ≤ line_capacity lines.old }
+    ensures value { line_bytes lines.new ≡ line_bytes lines.old ++ line_text (lines.old.delimiter)
         (row_fields form (row_targets row.now) (row_seen row.now)) }
-    ensures kept { line_delimiter lines.new ≡ line_delimiter lines.old }
-    ensures short { line_len lines.new ≤ line_len lines.old + LINE_ROOM }
+    ensures kept { lines.new.delimiter ≡ lines.old.delimiter }
+    ensures short { lines.new.len ≤ lines.old.len + LINE_ROOM }
     ensures capacity { line_capacity lines.new ≡ line_capacity lines.old }
 {
     let delimiter = lines.delimiter;

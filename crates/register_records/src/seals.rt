@@ -58,8 +58,5 @@ pub(crate) fn agrees(seal: &ByteRecord, count: u32) -> bool
     requires { is_seal_record (fields_of seal.now) ≡ true }
     ensures { IsTrue result ↔ Agrees (fields_of seal.now) count }
 {
-    match number_in(seal) {
-        Some(number) => number == count,
-        None => false,
-    }
+    number_in(seal) == Some(count)
 }

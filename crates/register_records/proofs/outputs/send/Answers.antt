@@ -15,11 +15,11 @@ offers-preserved g c =
     let inv = c.offers.invariant in
     let all = c.args.bytes.now in
     let sent = c.offers.sent in
-    let more = rw (slice-end all sent) at c.in-Ok.ensures.bytes in
-    let bound = rw (slice-end all sent) at c.in-Ok.ensures.bound in
-    let some : c.in-Ok.n ≢ 0 = search rules in (
+    let more = rw (slice-end all sent) at c.in_ok-n.ensures.bytes in
+    let bound = rw (slice-end all sent) at c.in_ok-n.ensures.bound in
+    let some : c.in_ok-n.n ≢ 0 = search rules in (
       omega (arith, inv.0, bound, length-drop sent all),
-      rw (take-add sent c.in-Ok.n all) (Appends-trans _ _ _ _ _ inv.1 more),
-      c.in-Ok.ensures.fails ∙ (took_some _ c.in-Ok.n _ some ∙ inv.2),
-      c.in-Ok.ensures.mark ∙ inv.3,
+      rw (take-add sent c.in_ok-n.n all) (Appends-trans _ _ _ _ _ inv.1 more),
+      c.in_ok-n.ensures.fails ∙ (took_some _ c.in_ok-n.n _ some ∙ inv.2),
+      c.in_ok-n.ensures.mark ∙ inv.3,
     )

@@ -188,25 +188,13 @@ module _ (format : Format) where
       → HasRead format text states.Open left given → IfSome left (HasEntry form) → length given ≡ record_limit
       → IfSome text (λ t. HasTooMany format t)
   too_many None s some e = tt
-  too_many (Some text) s some e =
-      let more : 0 < length (entry_records form s.rest) = rw (s.left_is refl) at some in (
-        s.past ++ s.rest,
-        s.accepted,
-        rw (s.no_seal s.rest) (omega (arith, length-append s.past (entry_records form s.rest), s.counted, e, more)),
-      )
+  too_many (Some text) s some e = search (rules, form, length-append)
 
   not_sealed : (text : Option (List ℕ)) {left : Option (List Fields)} {given : List Numbered}
       → HasRead format text states.Open left given → IfSome left (LacksSeal form (length given))
       → length given ≤ record_limit → IfSome text (λ t. IsNotSealed format t)
   not_sealed None s lacks h = tt
-  not_sealed (Some text) {given = given} s lacks h =
-      let without : LacksSeal form (length given) s.rest = rw (s.left_is refl) at lacks in
-      let before = past_records s s.rest without.0 in (
-        s.past ++ s.rest,
-        s.accepted,
-        rw before (omega (arith, s.counted, h)),
-        λ closed. without.1 (rw (← s.counted) (ends_so form s.past s.rest without.0 before closed)),
-      )
+  not_sealed (Some text) {given = given} s lacks h = search (rules, form, past_records, ends_so)
 
 abbrev pub MayHaveRead : Option (List ℕ) → Format → ReaderState → Option (List Fields) → List Numbered → Type 0
 MayHaveRead o format state left given = ∥ HasRead format o state left given ∥₁

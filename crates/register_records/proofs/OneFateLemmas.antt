@@ -27,9 +27,7 @@ is_header_of : (form : Form) (texts : Option Texts) → Is (IsSomeAnd texts (λ 
     × IsNamed t.calendar (codes "calendar") × IsNamed t.date (codes "date")
     × (form ≡ Sealed → IsNamed t.note (codes "note"))))
 is_header_of form None = inr (λ h. h)
-is_header_of form (Some t) =
-    all_four (is_named (strip_bom t.id) (codes "id")) (is_named t.calendar (codes "calendar"))
-    (is_named t.date (codes "date")) (is_noted form t.note)
+is_header_of form (Some t) = search (rules, all_four, is_named, codes, is_noted)
 
 is_header : (form : Form) (first : Fields) → Is (IsHeader form first)
 is_header form first = is_header_of form (texts_of form first)

@@ -73,9 +73,7 @@ first_turn cfg s xs = rw add-one refl
 pub all_more : (cfg : Config) (s : State) (xs : List ℕ) (p : Read) → next_record cfg s [] [] xs ≡ Some p
     → all_after cfg s xs ≡ p.0 ∷ all_after cfg p.1 p.2
 all_more cfg s [] p e = grind (arith, first_turn cfg s [], after_end cfg s p 0 e, after_end cfg s p (length p.2 + 1) e)
-all_more cfg s (c ∷ rest) p e =
-    let few : length p.2 ≤ length rest = omega (arith, takes cfg (c ∷ rest) s [] [] p e) in
-    search (rules, few, first_turn, stable)
+all_more cfg s (c ∷ rest) p e = grind (arith, takes cfg (c ∷ rest) s [] [] p e, first_turn, stable)
 
 -- none
 pub all_none : (cfg : Config) (s : State) (xs : List ℕ) → next_record cfg s [] [] xs ≡ None → all_after cfg s xs ≡ []

@@ -1,4 +1,4 @@
-use Rattle.std.proofs.Common.{inl, rules}
+use Rattle.std.proofs.Common.{inl, rules, arith}
 use Rattle.register_records.proofs.StepLemmas.{always, found, not_empty}
 use Rattle.register_records.proofs.reading.read_behind_seal.Goals as goal
 use Rattle.register_records.proofs.reading.read_behind_seal.Goals.{then-more-via-else-more+then-not-agrees}

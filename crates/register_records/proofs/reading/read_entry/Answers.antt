@@ -1,4 +1,4 @@
-use Rattle.std.proofs.Common.{◌≡◌, ◌∙◌, inl, rules, sym, true}
+use Rattle.std.proofs.Common.{◌≡◌, ◌∙◌, inl, rules, sym, true, arith}
 use Rattle.csv.specs.Records.{fields_of}
 use Rattle.register_records.specs.ReadingState.{IsNoSeal}
 use Rattle.register_records.specs.declared.setups.Form.TheVariants.{Sealed}

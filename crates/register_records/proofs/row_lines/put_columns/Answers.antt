@@ -1,4 +1,4 @@
-use Rattle.std.proofs.Common.{take, rules}
+use Rattle.std.proofs.Common.{take, rules, arith}
 use Rattle.register_records.proofs.LineLemmas.{first_field, first_number, plain_column, room_behind}
 use Rattle.register_records.proofs.row_lines.put_columns.Goals as goal
 

@@ -1,4 +1,4 @@
-use Rattle.std.proofs.Common.{rules}
+use Rattle.std.proofs.Common.{rules, arith}
 use Rattle.register_records.proofs.LineLemmas.{plain_decimal}
 use Rattle.register_records.proofs.row_lines.put_entry.Goals as goal
 

@@ -1,4 +1,4 @@
-use Rattle.std.proofs.Common.{rules, take}
+use Rattle.std.proofs.Common.{rules, take, arith}
 use Rattle.register_records.proofs.LineLemmas.{more_fields}
 use Rattle.register_records.proofs.row_lines.put_tail.Goals as goal
 

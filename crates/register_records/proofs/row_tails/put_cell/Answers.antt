@@ -1,4 +1,4 @@
-use Rattle.std.proofs.Common.{rules, take}
+use Rattle.std.proofs.Common.{rules, take, arith}
 use Rattle.register_records.proofs.LineLemmas.{put_after}
 use Rattle.register_records.proofs.row_tails.put_cell.Goals as goal
 

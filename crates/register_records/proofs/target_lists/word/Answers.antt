@@ -1,4 +1,4 @@
-use Rattle.std.proofs.Common.{rules}
+use Rattle.std.proofs.Common.{rules, arith}
 use Rattle.std.proofs.lemmas.Nat.{le_bytes_8}
 use Rattle.register_records.proofs.target_lists.word.Goals as goal
 

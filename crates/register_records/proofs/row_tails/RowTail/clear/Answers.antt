@@ -1,4 +1,4 @@
-use Rattle.std.proofs.Common.{refl}
+use Rattle.std.proofs.Common.{refl, arith, rules}
 use Rattle.csv.specs.Writing.{fields_text}
 use Rattle.register_records.proofs.row_tails.RowTail.clear.Goals as goal
 

@@ -1,4 +1,4 @@
-use Rattle.std.proofs.Common.{rules}
+use Rattle.std.proofs.Common.{rules, arith}
 use Rattle.register_records.proofs.RowTailLemmas.{stands}
 use Rattle.register_records.proofs.row_tails.RowTail.renew.Goals as goal
 

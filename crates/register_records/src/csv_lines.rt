@@ -56,6 +56,7 @@ pub(crate) fn put(room: &mut [u8], at: usize, bytes: &[u8]) -> usize
 
 /// Puts one byte at this place, and returns the place behind it.
 #[inline(always)]
+#[tactic(auto, using(std::proofs::lemmas::List::take_more_set))]
 pub(crate) fn put_byte(room: &mut [u8], at: usize, byte: u8) -> usize
     requires { at < length room.old }
     ensures value { take result room.new ≡ take at room.old ++ byte ∷ [] }

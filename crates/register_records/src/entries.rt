@@ -82,6 +82,7 @@ impl Entry {
     }
 
     /// An entry before any was read: it has the number 1 and empty texts.
+    #[tactic(auto, using(crate::proofs::FieldLemmas::fit_blank))]
     pub fn blank() -> Entry
         ensures number { result.number ≡ 1 }
         ensures texts { body_seen result.body ≡ Ok (record { id = []; calendar = []; date = []; note = [] }) }
@@ -155,6 +156,15 @@ fn are_plain(text: &[u8]) -> bool
 
 /// The same, chunk by chunk: a chunk takes no longer than two bytes alone. The last may overlap the one before it.
 #[inline(always)]
+#[tactic(
+    auto,
+    using(
+        std::proofs::lemmas::Bool::and_parts,
+        crate::proofs::BareLemmas::plain_more,
+        crate::proofs::BareLemmas::plain_by_chunks,
+        std::proofs::Common::take_all,
+    )
+)]
 fn are_plain_by_chunks(text: &[u8]) -> bool
     ensures { result ≡ true → IsPlain text.now }
 {

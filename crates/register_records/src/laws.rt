@@ -48,12 +48,14 @@ pub fn tables_grow()
 
 /// Where one or more of the records of an accepted sealed text are taken out, wherever they stand, what is
 /// left is not accepted.
+#[tactic(auto, using(crate::proofs::NoLossLemmas::no_loss))]
 pub fn no_loss_is_sealed()
     ensures { NoLossIsSealed }
 {}
 
 /// A text is accepted, or it has no accepted header, or too many records, or it is not sealed as its form wants it: one
 /// of these, and no other.
+#[tactic(auto, using(crate::proofs::OneFateLemmas::one_fate))]
 pub fn one_fate()
     ensures { OneFate }
 {}

@@ -160,6 +160,7 @@ fn put_fields(
 
 /// Begins the line of a row: its number and its texts.
 #[inline(always)]
+#[tactic(auto, using(crate::proofs::LineLemmas::plain_decimal))]
 fn put_entry(room: &mut [u8], at: usize, delimiter: u8, form: Form, row: &Row) -> usize
     requires room { at + entry_room ≤ length room.old }
     requires separated { is_delimiter delimiter ≡ true }
@@ -207,6 +208,7 @@ fn put_entry(room: &mut [u8], at: usize, delimiter: u8, form: Form, row: &Row) -
 /// Puts the fields of a row behind those of its entry: they are copied as they were written for a table with this
 /// delimiter, and written anew for another.
 #[inline(always)]
+#[tactic(auto, using(crate::proofs::LineLemmas::more_fields))]
 fn put_tail(room: &mut [u8], at: usize, delimiter: u8, row: &Row) -> usize
     requires room { at + TAIL_ROOM ≤ length room.old }
     requires separated { is_delimiter delimiter ≡ true }

@@ -73,6 +73,7 @@ fn write_field(room: &mut [u8], target: Target, outcome: Result<Day, Refusal>) -
 /// Writes a delimiter to a place in the bytes of a tail, and behind it what stands in the column of a target. Returns
 /// where that ends: what lies behind is written over by the next field.
 #[inline(always)]
+#[tactic(auto, using(crate::proofs::LineLemmas::put_after))]
 fn put_cell(
     bytes: &mut [u8; TAIL_ROOM],
     at: usize,
@@ -111,6 +112,7 @@ impl RowTail {
     ghost use Rattle.register_records.specs.Views.{targets_of};
 
     /// The tail of no field.
+    #[tactic(auto, unfolding(csv::specs::Writing::fields_text))]
     pub fn new(delimiter: u8) -> RowTail
         requires { is_delimiter delimiter ≡ true }
     {
@@ -154,6 +156,7 @@ impl RowTail {
     }
 
     /// Lets the fields go.
+    #[tactic(auto, unfolding(csv::specs::Writing::fields_text))]
     fn clear(&mut self, delimiter: u8)
         requires { is_delimiter delimiter ≡ true }
         ensures none { fields_of self.new ≡ [] }
@@ -247,6 +250,7 @@ impl RowTail {
     /// Turns this tail, of an outcome for some targets, into that of the next outcome for the setup's. It stays where
     /// these and the delimiter are the same, as for a second entry on a day in a register in order of time.
     #[inline(always)]
+    #[tactic(auto, using(crate::proofs::RowTailLemmas::stands))]
     pub fn renew(
         &mut self,
         targets: &TargetList,

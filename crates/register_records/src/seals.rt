@@ -15,6 +15,14 @@ const SEAL: &[u8] = b"END";
 const MAX_DIGITS: usize = 7;
 
 /// Whether a record is a seal: it has two fields, and the first is `END`, spaces and tabs round it aside.
+#[tactic(
+    auto,
+    using(
+        std::proofs::Common::codes,
+        crate::proofs::SealLemmas::seal_by_first,
+        crate::proofs::FieldLemmas::missing_field,
+    )
+)]
 pub(crate) fn is_seal(csv_record: &ByteRecord) -> bool
     ensures { result ≡ is_seal_record (fields_of csv_record.now) }
 {

@@ -43,6 +43,7 @@ fn needs_quotes(delimiter: u8, field: &[u8]) -> bool
 
 /// Puts bytes at this place as they stand, and returns the place behind them.
 #[inline(always)]
+#[tactic(auto, using(crate::proofs::LineLemmas::put_there))]
 pub(crate) fn put(room: &mut [u8], at: usize, bytes: &[u8]) -> usize
     requires { at + length bytes.now ≤ length room.old }
     ensures value { take result room.new ≡ take at room.old ++ bytes.now }
@@ -103,6 +104,7 @@ fn put_quotable(room: &mut [u8], at: usize, delimiter: u8, field: &[u8]) -> usiz
 /// Puts one more field of a line at this place, behind a delimiter, and quoted where it must be. It is looked through
 /// for bytes that call for quotes, unless it is known to have none.
 #[inline(always)]
+#[tactic(auto, using(crate::proofs::LineLemmas::one_more, crate::proofs::LineLemmas::plain_text))]
 pub(crate) fn put_field(
     room: &mut [u8],
     at: usize,

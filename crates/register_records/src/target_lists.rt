@@ -67,6 +67,7 @@ impl TargetList {
 
 /// The bytes of a word as one number.
 #[inline(always)]
+#[tactic(auto, using(std::proofs::lemmas::Nat::le_bytes_8))]
 fn word(bytes: &[u8]) -> u64
     requires { length bytes.now ≡ WORD_LEN }
     ensures { to_le_bytes w64 result ≡ bytes.now }

@@ -36,6 +36,17 @@ pub(crate) fn is_seal(csv_record: &ByteRecord) -> bool
 }
 
 /// The number that 1 to 7 digits spell.
+#[tactic(
+    auto,
+    using(
+        std::proofs::lemmas::List::Folds::list_all_at,
+        crate::proofs::SealLemmas::digit_fits,
+        crate::proofs::SealLemmas::digit_small,
+        crate::proofs::SealLemmas::digits_more,
+        crate::proofs::SealLemmas::number_more,
+        crate::proofs::SealLemmas::places_more,
+    )
+)]
 fn number_of(text: &[u8]) -> Option<u32>
     ensures { (n : ℕ) → (result ≡ Some n) ↔ IsNumeral 7 text.now n }
 {
@@ -62,9 +73,13 @@ fn number_in(seal: &ByteRecord) -> Option<u32>
 }
 
 /// Whether a seal agrees with this number of entries.
+#[tactic(auto, using(std::proofs::lemmas::Bool::Decides::nat_tests))]
 pub(crate) fn agrees(seal: &ByteRecord, count: u32) -> bool
     requires { is_seal_record (fields_of seal.now) ≡ true }
     ensures { IsTrue result ↔ Agrees (fields_of seal.now) count }
 {
-    number_in(seal) == Some(count)
+    match number_in(seal) {
+        Some(number) => number == count,
+        None => false,
+    }
 }

@@ -85,9 +85,7 @@ abbrev ArePlainTexts : Texts → Type 0
 ArePlainTexts t = IsPlain t.id × IsPlain t.calendar × IsPlain t.date × IsPlain t.note
 
 plain_texts : (form : Form) (fs : Fields) → ArePlainFields fs → IfSome (texts_of form fs) ArePlainTexts
-plain_texts Plain (a ∷ b ∷ c ∷ []) h = (h.0, h.1.0, h.1.1.0, refl)
-plain_texts Sealed (a ∷ b ∷ c ∷ d ∷ []) h = (h.0, h.1.0, h.1.1.0, h.1.1.1.0)
-plain_texts form fs h = tt
+plain_texts form fs h = search rules
 
 plain_record : (form : Form) (ends bytes : List ℕ) → IsPlain bytes
     → IfSome (texts_of form (cut_from 0 ends bytes)) ArePlainTexts
@@ -106,14 +104,11 @@ utf8_texts form ends bytes t e h =
 -- and its body holds no byte that calls for quotes
 bare_if : (t : Texts) → (short utf8 : Bool) → has_special (Ok t) ≡ false
     → has_special (if short then (if utf8 then Ok t else Err refusal.NotUtf8) else Err refusal.FieldTooLong) ≡ false
-bare_if t true true h = h
-bare_if t true false h = refl
-bare_if t false utf8 h = refl
+bare_if t short utf8 h = search rules
 
 bare_option : (o : Option Texts) → IfSome o ArePlainTexts
     → has_special (option_map_or body_of_texts o (Err refusal.FieldCount)) ≡ false
-bare_option None h = refl
-bare_option (Some t) h = search (rules, bare_if, or_from, plain_bare)
+bare_option o h = search (rules, bare_if, or_from, plain_bare)
 
 pub bare_record : (form : Form) (ends bytes : List ℕ) → IsPlain bytes
     → has_special (body_of form (cut_from 0 ends bytes)) ≡ false
@@ -162,5 +157,4 @@ pub unquoted : (d : ℕ) → is_delimiter d ≡ true → (body : Result Texts Re
     × (needs_quotes (writing d) (shown (λ (t : Texts). t.calendar) (result_ok body)) ≡ false)
     × (needs_quotes (writing d) (shown (λ (t : Texts). t.date) (result_ok body)) ≡ false)
     × (needs_quotes (writing d) (shown (λ (t : Texts). t.note) (result_ok body)) ≡ false)
-unquoted d h (Ok t) bare = search (rules, or_parts, bare_text)
-unquoted d h (Err r) bare = (refl, refl, refl, refl)
+unquoted d h body bare = search (rules, or_parts, bare_text)

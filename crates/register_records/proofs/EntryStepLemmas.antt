@@ -41,27 +41,22 @@ read_none {R = R} rem a b f r = search (rules, all_none, rows-end)
 -- a read of either kind
 pub reads : {R : Type 0} (rem : R → Option (List ℕ)) (a b : Reader R) (found : Bool) (f : Fields)
     → ReadRecord rem a b found f → Reads (records_left rem a) (records_left rem b) found f
-reads rem a b true f r = read_more rem a b f r
-reads rem a b false f r = read_none rem a b f r
+reads rem a b found f r = search (rules, read_more, read_none)
 
 -- the records of a text, at a reader that is at its start
 pub at_start : {R : Type 0} (rem : R → Option (List ℕ)) (a : Reader R) (d : ℕ) (o : Option (List ℕ))
     → reader_config a ≡ record default_config { delimiter = d } → reader_state a ≡ st.StartRecord
     → source_of rem a ≡ option_map strip_bom o → records_left rem a ≡ option_map (text_records d) o
-at_start rem a d None config state source = rw (source) refl
-at_start rem a d (Some text) config state source = rw (source, config, state) refl
+at_start rem a d o config state source = search rules
 
 -- a first record that is no header
 pub refuses : (o : Option (List ℕ)) (y : Option (List Fields)) (format : Format) (f : Fields)
     → TakesFirst (option_map (text_records format.delimiter) o) y f → (IsHeader format.form f → ⊥)
     → IfSome o (λ text. HasNoHeader format text)
-refuses None y format f t h = tt
-refuses (Some text) None format f t h = absurd t
-refuses (Some text) (Some rest) format f t h = λ records a. let same : a.0 ≡ f = cc (t, a.1) in h (rw same at a.2)
+refuses o y format f t h = search rules
 
 -- no record
 pub refuses_none : (o : Option (List ℕ)) (format : Format)
     → IfSome (option_map (text_records format.delimiter) o) (λ records. records ≡ [])
     → IfSome o (λ text. HasNoHeader format text)
-refuses_none None format t = tt
-refuses_none (Some text) format t = λ records a. let none : a.0 ∷ records ≡ [] = sym a.1 ∙ t in cc
+refuses_none o format t = search rules

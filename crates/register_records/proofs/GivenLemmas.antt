@@ -20,15 +20,13 @@ use Rattle.register_records.specs.declared.setups.Form.{Form}
 use Rattle.register_records.specs.declared.setups.Form.TheVariants.{Plain, Sealed}
 
 pub if_some : {X : Type 0} (o : Option X) (P Q : X → Type 0) → ((x : X) → P x → Q x) → IfSome o P → IfSome o Q
-if_some None P Q f h = tt
-if_some (Some x) P Q f h = f x h
+if_some o P Q f h = search rules
 
 -- a record that is no seal comes before the first seal
 pub no_seal_first : (form : Form) (r : Fields) (rest : List Fields) → IsNoSeal form r
     → entry_records form (r ∷ rest) ≡ r ∷ entry_records form rest
 unfolding before_seal
-no_seal_first Plain r rest h = refl
-no_seal_first Sealed r rest h = rw h refl
+no_seal_first form r rest h = search rules
 
 -- no record is before a seal that stands first
 pub seal_first : (r : Fields) (rest : List Fields) → is_seal r ≡ true → before_seal (r ∷ rest) ≡ []
@@ -51,8 +49,7 @@ entries_none form k = refl
 
 -- no record is an entry
 no_entries : (form : Form) → entry_records form [] ≡ []
-no_entries Plain = refl
-no_entries Sealed = before_none
+no_entries form = search (rules, before_none)
 
 module _ (format : Format) where
   abbrev form : Form
@@ -144,25 +141,21 @@ module _ (format : Format) where
     stopped shut all = search rules
 
   ends_none : (k : Form) (count : ℕ) (records : List Fields) → EndsAt k count records → entry_records k records ≡ []
-  ends_none Plain count records e = e
-  ends_none Sealed count records e = rw e.1 (seal_first e.0 [] e.2)
+  ends_none k count records e = search (rules, seal_first)
 
   closed_so : (k : Form) (past rest : List Fields) → entry_records k (past ++ rest) ≡ past → EndsAt k (length past) rest
       → AreClosed k (past ++ rest)
-  closed_so Plain past rest e h = tt
-  closed_so Sealed past rest e h = (h.0, rw (e, h.1) refl, h.2, rw e h.3)
+  closed_so k past rest e h = search rules
 
   -- what a text of these records that is closed says of the rest
   ends_so : (k : Form) (past rest : List Fields) → entry_records k rest ≡ [] → entry_records k (past ++ rest) ≡ past
       → AreClosed k (past ++ rest) → EndsAt k (length past) rest
-  ends_so Plain past rest n e c = n
-  ends_so Sealed past rest n e c = (c.0, append_cancel_left past rest (c.0 ∷ []) (c.1 ∙ rw e refl), c.2, rw e at c.3)
+  ends_so k past rest n e c = search (rules, append_cancel_left)
 
   -- the records behind those past that end the text
   last_records : (text : Option (List ℕ)) (left : Option (List Fields)) (past rest last : List Fields)
       → Has text (past ++ rest) → AreLeft text left rest → IfSome left (λ l. l ≡ last) → Has text (past ++ last)
-  last_records None left past rest last has is e = tt
-  last_records (Some text) left past rest last has is e = let same : rest ≡ last = rw is at e in rw same at has
+  last_records text left past rest last has is e = search rules
 
   -- the text ends after the entries given
   all_given : {text : Option (List ℕ)} {left : Option (List Fields)} {given : List Numbered}
@@ -187,8 +180,7 @@ module _ (format : Format) where
   too_many : (text : Option (List ℕ)) {left : Option (List Fields)} {given : List Numbered}
       → HasRead format text states.Open left given → IfSome left (HasEntry form) → length given ≡ record_limit
       → IfSome text (λ t. HasTooMany format t)
-  too_many None s some e = tt
-  too_many (Some text) s some e = search (rules, form, length-append)
+  too_many text s some e = search (rules, form, length-append)
 
   not_sealed : (text : Option (List ℕ)) {left : Option (List Fields)} {given : List Numbered}
       → HasRead format text states.Open left given → IfSome left (LacksSeal form (length given))

@@ -8,11 +8,9 @@ use Rattle.csv.specs.Reading.{strip_bom}
 pub mark_there : (s : List ℕ) → 3 ≤ length s → get_or s 0 0 ≡ 239 → get_or s 1 0 ≡ 187 → get_or s 2 0 ≡ 191
     → strip_bom s ≡ drop 3 s
 unfolding strip_bom
-mark_there (x ∷ y ∷ z ∷ rest) h a b c = rw (a, b, c) refl
-mark_there s h a b c = absurd (omega arith)
+mark_there s h a b c = grind arith
 
 pub mark_not : (s : List ℕ) → 3 ≤ length s
     → ((get_or s 0 0 == 239) && (get_or s 1 0 == 187) && (get_or s 2 0 == 191)) ≡ false → strip_bom s ≡ s
 unfolding strip_bom
-mark_not (x ∷ y ∷ z ∷ rest) h a = rw a refl
-mark_not s h a = absurd (omega arith)
+mark_not s h a = grind arith

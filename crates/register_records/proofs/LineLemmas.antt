@@ -50,9 +50,7 @@ body d fields = row_body (writing d) fields
 pub one_more : (d : ℕ) (before : List ℕ) (fields : List (List ℕ)) (field old mid new : List ℕ) → 1 ≤ length fields
     → old ≡ before ++ body d fields → mid ≡ old ++ d ∷ [] → new ≡ mid ++ field_text (writing d) field
     → new ≡ before ++ body d (fields ++ field ∷ [])
-one_more d before [] field old mid new some is m n = absurd (omega arith)
-one_more d before (f ∷ fs) field old mid new some is m n =
-    rw (n, m, is, fields-snoc (writing d) fs field) (simp append_assoc refl)
+one_more d before fields field old mid new some is m n = search (rules, fields-snoc, append_assoc)
 
 -- a field that needs no quotes
 pub plain_text : (d : ℕ) (field : List ℕ) → needs_quotes (writing d) field ≡ false
@@ -69,10 +67,7 @@ only_field d before field bytes h e =
 pub ended : (d : ℕ) (before : List ℕ) (fields : List (List ℕ)) (old new : List ℕ) → 2 ≤ length fields
     → old ≡ before ++ body d fields → new ≡ old ++ 10 ∷ [] → new ≡ before ++ line_text d fields
 unfolding is_blank
-ended d before [] old new some is n = absurd (omega arith)
-ended d before (a ∷ []) old new some is n = absurd (omega arith)
-ended d before (a ∷ b ∷ rest) old new some is n =
-    rw (n, is) (append_assoc before (body d (a ∷ b ∷ rest)) (10 ∷ []))
+ended d before fields old new some is n = search (rules, append_assoc, body)
 
 -- there is room for the columns behind one that was written
 pub room_for_rest : {C : Type 0} (room : C → ℕ) (columns : List C) (i : ℕ) (e : C) (old new limit : ℕ)
@@ -114,9 +109,7 @@ more_fields_text d (f ∷ fields) more = search (rules, append_assoc, more_field
 pub more_fields : (d : ℕ) (before : List ℕ) (fields more : List (List ℕ)) (old new : List ℕ) → 1 ≤ length fields
     → old ≡ before ++ body d fields → new ≡ old ++ fields_text (writing d) more
     → new ≡ before ++ body d (fields ++ more)
-more_fields d before [] more old new some is n = absurd (omega arith)
-more_fields d before (f ∷ fields) more old new some is n =
-    rw (n, is, more_fields_text d fields more) (simp append_assoc refl)
+more_fields d before fields more old new some is n = search (rules, more_fields_text, append_assoc)
 
 -- bytes that are written at a place: what lies before, and they
 pub put_there : (room bytes : List ℕ) (at k : ℕ) → at ≤ length room
@@ -154,9 +147,7 @@ plain_decimal d h =
 -- a number of a day
 pub plain_day : (d : ℕ) → is_delimiter d ≡ true → (z : ℤ) → IsDayNumber z
     → needs_quotes (writing d) (signed_decimal z) ≡ false
-plain_day d h (pos n) r = plain_decimal d h n (omega (arith, ints, r.0, r.1))
-plain_day d h (negsuc n) r =
-    rw (plain_byte d 45 h (omega arith) (omega arith), plain_decimal d h (suc n) (omega (arith, ints, r.0, r.1))) refl
+plain_day d h z r = search (rules, plain_decimal, ints, plain_byte)
 
 -- the bytes of cells need no quotes
 plain_cell_byte : (d c : ℕ) → is_delimiter d ≡ true → is_plain c ≡ true → needs_byte (writing d) c ≡ false
@@ -183,19 +174,16 @@ same_of_all f g same (x ∷ xs) = cc (same x, same_of_all f g same xs)
 
 -- the columns of an entry: the first has its number, the others its texts
 pub first_number : (form : Form) (e : EntryColumn) → get_or (entry_order form) 0 e ≡ Number
-first_number Plain e = refl
-first_number Sealed e = refl
+first_number form e = search rules
 
 pub first_field : (form : Form) (f : EntryColumn → List ℕ) (d : ℕ) (before field bytes : List ℕ)
     → needs_quotes (writing d) field ≡ false → field ≡ f Number → bytes ≡ before ++ field
     → bytes ≡ before ++ body d (map f (take 1 (entry_order form)))
-first_field Plain f d before field bytes h is b = rw (← is) (only_field d before field bytes h b)
-first_field Sealed f d before field bytes h is b = rw (← is) (only_field d before field bytes h b)
+first_field form f d before field bytes h is b = search (rules, only_field)
 
 -- there is room for those that follow
 pub room_behind : (form : Form) → number_room + columns_room quoted_room (drop 1 (entry_order form)) ≤ entry_room
-room_behind Plain = omega arith
-room_behind Sealed = omega arith
+room_behind form = search rules
 
 pub plain_column : (d : ℕ) → is_delimiter d ≡ true → (fields : EntryFields)
     → needs_quotes (writing d) fields.number.now ≡ false → has_special (body_shown fields) ≡ false
@@ -207,8 +195,7 @@ plain_column d h fields number bare Date = (unquoted d h (body_shown fields) bar
 plain_column d h fields number bare Note = (unquoted d h (body_shown fields) bare).3
 
 pub some_columns : {X : Type 0} (form : Form) (f : EntryColumn → X) → 1 ≤ length (map f (entry_order form))
-some_columns Plain f = omega arith
-some_columns Sealed f = omega arith
+some_columns form f = search rules
 
 -- equal fields
 pub same_body : (d : ℕ) (before : List ℕ) (fields wanted : List (List ℕ)) (bytes : List ℕ) → fields ≡ wanted
@@ -241,8 +228,7 @@ pub heading_names : (form : Form) (ts : List Target)
 heading_names form ts = in_parts (λ (c : Column). c.name) form ts
 
 pub two_names : (form : Form) (ts : List Target) → 2 ≤ length (heading form ts)
-two_names Plain ts = omega arith
-two_names Sealed ts = omega arith
+two_names form ts = search rules
 
 -- what stands in the columns of a tail does not depend on the entry
 cell_fields : (row : TableRow) (place : ℕ) (ts : List Target)
@@ -254,8 +240,7 @@ cell_fields row place (t ∷ ts) =
 
 same_fields : (row : TableRow) (ts : List Target) (c : TailColumn)
     → map (λ (column : Column). column.field row) (tail_column ts c) ≡ column_texts ts row.outcome row.cells c
-same_fields row ts Cells = cell_fields row 0 ts
-same_fields row ts c = refl
+same_fields row ts c = search (rules, cell_fields)
 
 pub fields_in_parts : (form : Form) (ts : List Target) (row : TableRow)
     → row_fields form ts row ≡ map (entry_field row) (entry_order form) ++ tail_texts ts row.outcome row.cells
@@ -266,10 +251,7 @@ fields_in_parts form ts row =
 
 -- the names of the targets are short
 short_calendar : (calendar : OwnCalendar) → length (calendar_name calendar) ≤ name_limit
-short_calendar Gregorian = omega arith
-short_calendar calendar = omega arith
+short_calendar calendar = search rules
 
 pub short_name : (t : Target) → length (target_name t) ≤ name_limit
-short_name (DateTarget calendar) = short_calendar calendar
-short_name Haab = omega arith
-short_name Tzolkin = omega arith
+short_name t = search (rules, short_calendar)

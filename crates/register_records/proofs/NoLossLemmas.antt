@@ -38,12 +38,10 @@ first_only seal (x ∷ rs) = by (is_seal x) refl (first_only seal rs)
     by false e later = (λ is. cc (e, is), later)
 
 header_no_seal : (fs : Fields) → IsHeader Sealed fs → is_seal fs ≡ false
-header_no_seal (a ∷ b ∷ []) h = absurd h
-header_no_seal fs h = refl
+header_no_seal fs h = search rules
 
 one_number : (seal : Fields) (n m : ℕ) → Agrees seal n → Agrees seal m → n ≡ m
-one_number (x ∷ y ∷ []) n m a b = a.value ∙ sym b.value
-one_number seal n m a b = absurd a
+one_number seal n m a b = search rules
 
 pub no_loss : NoLossIsSealed
 no_loss records left (after, (header, first, ok), (few, (seal, ends, is, agrees))) are_left shorter

@@ -85,14 +85,7 @@ IsFateOf form not_sealed after = (length (entry_records form after) ≤ record_l
 
 one_of : (form : Form) (after : List Fields) (fate other : Fate) → IsFateOf form fate after → IsFateOf form other after
     → other ≡ fate
-one_of form after accepted accepted h k = refl
-one_of form after too_many too_many h k = refl
-one_of form after not_sealed not_sealed h k = refl
-one_of form after accepted not_sealed h k = absurd (k.1 h.1)
-one_of form after not_sealed accepted h k = absurd (h.1 k.1)
-one_of form after no_header other h k = absurd h
-one_of form after fate no_header h k = absurd k
-one_of form after fate other h k = absurd (omega (arith, h, k))
+one_of form after fate other h k = search rules
 
 -- the fate of a text with these records behind its header
 module _ (format : Format) (text : List ℕ) (after : List Fields) (has : HasRecords format text after) where
@@ -122,9 +115,7 @@ module _ (format : Format) (text : List ℕ) (after : List Fields) (has : HasRec
 
 without_header : (format : Format) (text : List ℕ) → ¬ ((after : List Fields) × HasRecords format text after)
     → (other : Fate) → HasFate format text other → other ≡ no_header
-without_header format text not accepted h = absurd (not (h.1.0, h.1.1))
-without_header format text not no_header h = refl
-without_header format text not fate h = absurd (not (h.0, h.1))
+without_header format text not fate h = search rules
 
 pub one_fate : OneFate
 one_fate format text = elim (has_records_of format.form (text_records format.delimiter text)) [

@@ -148,12 +148,9 @@ known_of Is d e text known a b h = rw (a, b) at h
 -- a fault of a row that is no fault of the output, nor one that an earlier call reported
 pub only_memory : (f : RowFault) (c : Cause) → c ≡ row_fault_cause f → (c ≡ cause.SinkFault → ⊥) → (f ≡ row.Failed → ⊥)
     → f ≡ row.OutOfMemory
-only_memory row.OutOfMemory c a k n = refl
-only_memory row.WriteFault c a k n = absurd (k a)
-only_memory row.Failed c a k n = absurd (n refl)
+only_memory f c a k n = search rules
 
 -- a fault of a seal
 pub only_not_sealed : (f : EntryFault) (c : Cause) → c ≡ entry_fault_cause f → c ≡ cause.NotSealed
     → f ≡ entry.NotSealed
-only_not_sealed entry.NotSealed c a is = refl
-only_not_sealed f c a is = cc
+only_not_sealed f c a is = search rules

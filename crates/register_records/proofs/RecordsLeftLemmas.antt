@@ -14,8 +14,7 @@ use Rattle.register_records.specs.ReadingState.{all_after}
 either_way : (b : Bool) (first : Read) (more : Option Read) (p : Read) (n : ℕ)
     → (if b then Some first else more) ≡ Some p → length first.2 ≤ n
     → ((q : Read) → more ≡ Some q → length q.2 ≤ n) → length p.2 ≤ n
-either_way true first more p n e h g = let same : first ≡ p = cc in rw (← same) h
-either_way false first more p n e h g = g p e
+either_way b first more p n e h g = search rules
 
 -- a record leaves no more than there was, and takes a byte where there is one
 takes : (cfg : Config) (xs : List ℕ) (s : State) (fs : Fields) (f : List ℕ) (p : Read)
@@ -32,14 +31,12 @@ takes cfg (c ∷ rest) s fs f p e =
 -- nothing is left of no text
 none_left : (cfg : Config) (n : ℕ) → records_from cfg n st.StartRecord [] ≡ []
 unfolding records_from next_record
-none_left cfg zero = refl
-none_left cfg (suc n) = refl
+none_left cfg n = search rules
 
 -- at the end of a text there is one record at most, and then none
 end_state : (b : Bool) (first : Fields) (p : Read) → (if b then Some (first, st.StartRecord, []) else None) ≡ Some p
     → (p.1 ≡ st.StartRecord) × (p.2 ≡ [])
-end_state true first p e = let same : (first, st.StartRecord, []) ≡ p = cc in rw (← same) (refl, refl)
-end_state false first p e = cc
+end_state b first p e = search rules
 
 after_end : (cfg : Config) (s : State) (p : Read) (n : ℕ) → next_record cfg s [] [] [] ≡ Some p
     → records_from cfg n p.1 p.2 ≡ []
@@ -49,19 +46,16 @@ after_end cfg s p n e = let h = end_state (ends_at_end s) ([] ∷ []) p e in rw 
 -- what two counts of turns do alike
 next_alike : (more other : State → List ℕ → List Fields) (o : Option Read)
     → ((p : Read) → o ≡ Some p → more p.1 p.2 ≡ other p.1 p.2) → records_next more o ≡ records_next other o
-next_alike more other None h = refl
-next_alike more other (Some p) h = ap (λ (t : List Fields). p.0 ∷ t) (h p refl)
+next_alike more other o h = search rules
 
 -- turns enough are turns enough
 stable : (cfg : Config) (n m : ℕ) (s : State) (xs : List ℕ) → length xs < n → length xs < m
     → records_from cfg n s xs ≡ records_from cfg m s xs
 unfolding records_from
-stable cfg zero m s xs a b = absurd (omega arith)
-stable cfg (suc n) zero s xs a b = absurd (omega arith)
-stable cfg (suc n) (suc m) s [] a b = search (rules, next_alike, after_end)
 stable cfg (suc n) (suc m) s (c ∷ rest) a b =
     next_alike (records_from cfg n) (records_from cfg m) (next_record cfg s [] [] (c ∷ rest))
     (λ p e. let h = takes cfg (c ∷ rest) s [] [] p e in stable cfg n m p.1 p.2 (omega (arith, h)) (omega (arith, h)))
+stable cfg n m s xs a b = search (rules, next_alike, after_end, takes)
 
 -- the first turn
 first_turn : (cfg : Config) (s : State) (xs : List ℕ)

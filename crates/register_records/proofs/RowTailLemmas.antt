@@ -71,13 +71,11 @@ plain_is_whole d (b ∷ field) h =
 -- one more part at the end
 part_behind : (b : ℕ) (parts : List (List ℕ)) (field : List ℕ) → 1 ≤ length parts
     → onto_first b (parts ++ field ∷ []) ≡ onto_first b parts ++ field ∷ []
-part_behind b [] field some = absurd (omega arith)
-part_behind b (part ∷ parts) field some = refl
+part_behind b parts field some = search rules
 
 part_after_first : (parts : List (List ℕ)) (field : List ℕ) → 1 ≤ length parts
     → drop 1 (parts ++ field ∷ []) ≡ drop 1 parts ++ field ∷ []
-part_after_first [] field some = absurd (omega arith)
-part_after_first (part ∷ parts) field some = refl
+part_after_first parts field some = search rules
 
 some_parts : (d : ℕ) (bytes : List ℕ) → 1 ≤ length (slice_split (cuts d) bytes)
 some_parts d bytes = omega (arith, length-slice_split (cuts d) bytes)
@@ -155,8 +153,7 @@ weekday_fits d h number = record {
 
 -- the number of a refusal has one
 refusal_below : (r : Refusal) → refusal_number r < 10
-refusal_below refused.FieldCount = omega arith
-refusal_below r = omega arith
+refusal_below r = search rules
 
 pub refusal_fits : (d : ℕ) → is_delimiter d ≡ true → (r : Refusal) → Fits d 1 (decimal (refusal_number r))
 refusal_fits d h r = search (rules, refusal_below, plain_decimal, length-decimal-le)
@@ -164,14 +161,12 @@ refusal_fits d h r = search (rules, refusal_below, plain_decimal, length-decimal
 -- the field of a target needs no quotes
 pub plain_field : CellsArePlain → (d : ℕ) → is_delimiter d ≡ true → (o : Result ℤ Refusal) (t : Target) (field : List ℕ)
     → IsCellField o t field → needs_quotes (writing d) field ≡ false
-plain_field law d h (Ok n) t field is = plain_bytes d h field (law t n field is)
-plain_field law d h (Err r) t field is = rw is refl
+plain_field law d h o t field is = search (rules, plain_bytes)
 
 -- what stands in the columns of the cells: on a day the cells, and else nothing
 day_cells : (n : ℤ) (place : ℕ) (all : List (List ℕ)) (ts : List Target) (cells : List (List ℕ))
     → drop place all ≡ cells → AreCells ts (Ok n) cells
     → map (λ (c : Column). c.field (row_with (Ok n) all)) (cell_columns place ts) ≡ cells
-day_cells n place all [] [] e a = refl
 day_cells n place all (t ∷ ts) (x ∷ cells) e a =
     let lt : place < length all = omega (arith, length-drop place all, ap length e) in
     let split : drop place all ≡ get_or all place [] ∷ drop (place + 1) all = rw (add-one, drop-cons all place [])
@@ -180,35 +175,29 @@ day_cells n place all (t ∷ ts) (x ∷ cells) e a =
     let rest : drop (place + 1) all ≡ cells = cc (split, e) in
     let more = day_cells n (place + 1) all ts cells rest a.1 in
     cc (first, more)
-day_cells n place all ts cells e a = absurd a
+day_cells n place all ts cells e a = search (rules, length, length-drop, drop, get_or, add-one, drop-cons)
 
 nothing_at : (place : ℕ) → get_or {A = List ℕ} [] place [] ≡ []
-nothing_at zero = refl
-nothing_at (suc place) = refl
+nothing_at place = search rules
 
 no_cells : (r : Refusal) (place : ℕ) (ts : List Target) (fields : List (List ℕ))
     → AllZip (IsCellField (Err r)) ts fields
     → map (λ (c : Column). c.field (row_with (Err r) [])) (cell_columns place ts) ≡ fields
-no_cells r place [] [] a = refl
 no_cells r place (t ∷ ts) (x ∷ fields) a =
     grind (arith, ints, no_cells r (place + 1) ts fields a.1, nothing_at place, a.0)
-no_cells r place ts fields a = absurd a
+no_cells r place ts fields a = search (rules, ints, nothing_at)
 
 -- where one thing can stand beside each item of a list, one list can stand beside it
 pub one_beside : {A B : Type 0} (R : A → B → Type 0) → ((x : A) (y z : B) → R x y → R x z → y ≡ z)
     → (xs : List A) (ys zs : List B) → AllZip R xs ys → AllZip R xs zs → ys ≡ zs
-one_beside R one [] [] [] a b = refl
 one_beside R one (x ∷ xs) (y ∷ ys) (z ∷ zs) a b =
     grind (arith, ints, one x y z a.0 b.0, one_beside R one xs ys zs a.1 b.1)
-one_beside R one [] [] zs a b = absurd b
-one_beside R one (x ∷ xs) (y ∷ ys) zs a b = absurd b
-one_beside R one xs ys zs a b = absurd a
+one_beside R one xs ys zs a b = search (rules, ints)
 
 -- a row has one list of cells
 pub one_cells : OneCell → (o : Result ℤ Refusal) (ts : List Target) (xs ys : List (List ℕ)) → AreCells ts o xs
     → AreCells ts o ys → xs ≡ ys
-one_cells law (Err r) ts xs ys a b = a ∙ sym b
-one_cells law (Ok n) ts xs ys a b = one_beside (λ t cell. IsCell t n cell) (λ t x y. law t n x y) ts xs ys a b
+one_cells law o ts xs ys a b = search (rules, one_beside)
 
 -- what was appended in four steps
 pub four_texts : {A : Type 0} {none one two three four : List A} (a b c d : List A) → none ≡ [] → one ≡ none ++ a
@@ -253,9 +242,7 @@ whole_tail ts o tail is =
 -- the cells of one outcome are those of the other, which is the same
 pub cells_of_same : (ts : List Target) (o p : Result Day Refusal) (tail : RowTail) → outcome_seen o ≡ outcome_seen p
     → cells_of ts o tail ≡ cells_of ts p tail
-cells_of_same ts (Ok d) (Ok e) tail same = refl
-cells_of_same ts (Err r) (Err s) tail same = refl
-cells_of_same ts o p tail same = absurd (cc)
+cells_of_same ts o p tail same = search rules
 
 -- what is only said of its cells is known of them, since they are the only ones
 known_cells : OneCell → (ts : List Target) (o : Result ℤ Refusal) (cells : List (List ℕ)) → ∥ AreCells ts o cells ∥₁

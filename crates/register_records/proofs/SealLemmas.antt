@@ -20,20 +20,17 @@ use Rattle.register_records.specs.Seals.{Agrees, is_seal}
 pub seal_by_first : (fs : Fields) (a : List ℕ) → length fs ≡ 2 → Some a ≡ field_at fs 0
     → is_seal fs ≡ bytes_eq (trimmed a) (codes "END")
 unfolding field_at
-seal_by_first (x ∷ y ∷ []) a n e = let same : x ≡ a = cc in rw same refl
-seal_by_first fs a n e = absurd (omega arith)
+seal_by_first fs a n e = search rules
 
 -- a seal has a second field, and agrees by it
 pub second_there : (fs : Fields) {P : Type 0} → is_seal fs ≡ true → None ≡ field_at fs 1 → P
 unfolding field_at
-second_there (x ∷ y ∷ rest) h e = absurd (cc)
-second_there fs h e = absurd (cc)
+second_there fs h e = search rules
 
 pub agrees_by_second : (fs : Fields) (b : List ℕ) (n : ℕ) → is_seal fs ≡ true → Some b ≡ field_at fs 1
     → Agrees fs n ↔ IsNumeral 7 (trimmed b) n
 unfolding field_at
-agrees_by_second (x ∷ y ∷ []) b n h e = let same : y ≡ b = cc in (λ a. rw (← same) a, λ a. rw same a)
-agrees_by_second fs b n h e = absurd (cc)
+agrees_by_second fs b n h e = search rules
 
 -- the number that digits spell, one digit after the other
 pub digits_more : (xs : List ℕ) (i d : ℕ) → i < length xs → all_digits (take i xs) ≡ true

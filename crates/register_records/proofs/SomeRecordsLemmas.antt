@@ -67,16 +67,10 @@ no_text = refl
 
 body_made : (form : Form) (body : Result Texts Refusal) → are_fit body ≡ true
     → body_of form (record_of form body) ≡ placed form body
-body_made Plain (Ok t) fit = grind (arith, no_bytes, and_parts (are_short t) (are_utf8 t) fit)
-body_made Sealed (Ok t) fit = grind (arith, and_parts (are_short t) (are_utf8 t) fit)
-body_made Plain (Err refusal.NotUtf8) fit = rw no_text refl
-body_made Sealed (Err refusal.NotUtf8) fit = rw no_text refl
-body_made Plain (Err r) fit = cc
-body_made Sealed (Err r) fit = cc
+body_made form body fit = search (rules, no_bytes, and_parts, no_text)
 
 no_seal : (body : Result Texts Refusal) → is_seal (record_of Sealed body) ≡ false
-no_seal (Err refusal.NotUtf8) = refl
-no_seal body = refl
+no_seal body = search rules
 
 all_before : (entries : List Numbered) → before_seal (records_of Sealed entries) ≡ records_of Sealed entries
 unfolding before_seal
@@ -85,8 +79,7 @@ all_before (entry ∷ entries) = rw (no_seal entry.body, all_before entries) ref
 
 all_records : (form : Form) (entries : List Numbered)
     → entry_records form (records_of form entries) ≡ records_of form entries
-all_records Plain entries = refl
-all_records Sealed entries = all_before entries
+all_records form entries = search (rules, all_before)
 
 -- entries as the type of an entry has them
 abbrev AreFit : List Numbered → Type 0
@@ -129,7 +122,6 @@ of_form form body outcome is = is
 rows_placed : (form : Form) (targets : List Target) (entries : List Numbered) (rows : List TableRow)
     → AreRowsOf targets entries rows
     → AreRowsOf targets (map (placed_entry form) entries) (map (placed_row form) rows)
-rows_placed form targets [] [] are = tt
 rows_placed form targets (entry ∷ entries) (row ∷ rows) are = (
   record {
     number = are.0.number;
@@ -139,24 +131,18 @@ rows_placed form targets (entry ∷ entries) (row ∷ rows) are = (
   },
   rows_placed form targets entries rows are.1,
 )
-rows_placed form targets entries rows are = absurd are
+rows_placed form targets entries rows are = search (rules, placed, of_form)
 
 -- they have the lines that the rows have
 entry_placed : (n : ℕ) (body : Result Texts Refusal) (outcome : Result ℤ Refusal) (cells : List (List ℕ))
     → map (entry_field (placed_row Plain (record { number = n; body = body; outcome = outcome; cells = cells })))
     (entry_order Plain)
     ≡ map (entry_field (record { number = n; body = body; outcome = outcome; cells = cells })) (entry_order Plain)
-entry_placed n (Ok t) outcome cells = refl
-entry_placed n (Err r) outcome cells = refl
+entry_placed n body outcome cells = search rules
 
 fields_placed : (form : Form) (targets : List Target) (row : TableRow)
     → row_fields form targets (placed_row form row) ≡ row_fields form targets row
-fields_placed Plain targets row =
-    fields_in_parts Plain targets (placed_row Plain row)
-    ∙ (ap (λ (fields : List (List ℕ)). fields ++ tail_texts targets row.outcome row.cells)
-    (entry_placed row.number row.body row.outcome row.cells)
-    ∙ sym (fields_in_parts Plain targets row))
-fields_placed Sealed targets row = refl
+fields_placed form targets row = search (rules, fields_in_parts, placed_row, entry_placed)
 
 lines_placed : (layout : Layout) (rows : List TableRow)
     → lines_text layout (map (placed_row layout.format.form) rows) ≡ lines_text layout rows

@@ -19,15 +19,12 @@ found_none left after b f h e = rw e at h
 
 -- a fault that was handed on
 pub passed_on : {T E : Type 0} (r : Result T E) (e : E) (P : E → Type 0) → IsErrAnd r (λ x. x ≡ e) → P e → IfErr r P
-passed_on (Ok x) e P h p = tt
-passed_on (Err x) e P h p = rw h p
+passed_on r e P h p = search rules
 
 -- what holds of a list whose first record was taken
 of_first : (left mid : Option (List Fields)) (f : Fields) (P : List Fields → Type 0) → TakesFirst left mid f
     → ((rest : List Fields) → P (f ∷ rest)) → IfSome left P
-of_first None mid f P t h = tt
-of_first (Some records) None f P t h = absurd t
-of_first (Some records) (Some rest) f P t h = rw t (h rest)
+of_first left mid f P t h = search rules
 
 lacks_none : (count : ℕ) (records : List Fields) → records ≡ [] → LacksSeal Sealed count records
 lacks_none count records e = (rw e before_none, λ ends. let clash : ends.0 ∷ [] ≡ [] = sym ends.1 ∙ e in absurd (cc))
@@ -39,8 +36,7 @@ no_seal_left left form count e h = if_some left _ _ (λ records none. rw e (lack
 -- what holds of every list holds of the one that is left
 pub always : (left : Option (List Fields)) (P : List Fields → Type 0) → ((records : List Fields) → P records)
     → IfSome left P
-always None P h = tt
-always (Some records) P h = h records
+always left P h = search rules
 
 -- a list whose first record was taken is not empty
 pub not_empty : (left after : Option (List Fields)) (f : Fields) (P : Type 0) → TakesFirst left after f
@@ -51,9 +47,7 @@ not_empty left after f P t = of_first left after f (λ records. records ≡ [] �
 pub seal_lacks : (left mid : Option (List Fields)) (form : Form) (count : ℕ) (f : Fields) → form ≡ Sealed
     → TakesFirst left mid f → is_seal f ≡ true → IfSome mid (λ records. records ≡ [] → ¬ (Agrees f count))
     → IfSome left (LacksSeal form count)
-seal_lacks None mid form count f e t is last = tt
-seal_lacks (Some records) None form count f e t is last = absurd t
-seal_lacks (Some records) (Some rest) form count f e t is last = search (rules, seal_first)
+seal_lacks left mid form count f e t is last = search (rules, seal_first)
 
 -- a text of a sealed form ends where a seal is left alone that agrees
 pub seal_ends : (left mid : Option (List Fields)) (form : Form) (count : ℕ) (f : Fields) → form ≡ Sealed
@@ -75,9 +69,7 @@ entry_left left mid form f t other =
 
 -- a record that is no seal, or whose form has none
 pub plain_no_seal : (form : Form) (f : Fields) → (form ≡ Sealed → ⊥) → IsNoSeal form f
-plain_no_seal Plain f h = tt
-plain_no_seal Sealed f h = absurd (h refl)
+plain_no_seal form f h = search rules
 
 pub other_no_seal : (form : Form) (f : Fields) → is_seal f ≡ false → IsNoSeal form f
-other_no_seal Plain f h = tt
-other_no_seal Sealed f h = h
+other_no_seal form f h = search rules

@@ -40,10 +40,8 @@ one_rank t u e =
 
 pub one_list : (room : ℕ) (ts us : List Target) → length ts ≤ room → length us ≤ room
     → ranks_in room ts ≡ ranks_in room us → ts ≡ us
-one_list zero [] [] few other e = refl
 one_list zero [] (u ∷ us) few other e = absurd (omega (arith, other))
 one_list zero (t ∷ ts) us few other e = absurd (omega (arith, few))
-one_list (suc room) [] [] few other e = refl
 one_list (suc room) [] (u ∷ us) few other e =
     let first : 0 ≡ rank_of u = cc in absurd (omega (arith, (ranked u).0, first))
 one_list (suc room) (t ∷ ts) [] few other e =
@@ -54,15 +52,14 @@ one_list (suc room) (t ∷ ts) (u ∷ us) few other e =
     let head = one_rank t u first in
     let tail = one_list room ts us (omega (arith, few)) (omega (arith, other)) rest in
     cc (head, tail)
+one_list room ts us few other e = refl
 
 -- one more rank
 pub more_ranks : (room : ℕ) (ts : List Target) (i : ℕ) (e : Target) → i < length ts → length ts ≤ room
     → set (ranks_in room (take i ts)) i (rank_of (get_or ts i e)) ≡ ranks_in room (take (suc i) ts)
-more_ranks zero ts i e lt few = absurd (omega (arith, lt, few))
-more_ranks (suc room) [] i e lt few = absurd (omega (arith, lt))
-more_ranks (suc room) (t ∷ ts) zero e lt few = refl
 more_ranks (suc room) (t ∷ ts) (suc i) e lt few =
     ap (λ (ranks : List ℕ). rank_of t ∷ ranks) (more_ranks room ts i e (omega (arith, lt)) (omega (arith, few)))
+more_ranks room ts i e lt few = grind arith
 
 -- words of the same bytes are the same
 one_word : (v w : ℕ) → v < 2 ^ 64 → w < 2 ^ 64 → to_le_bytes w64 v ≡ to_le_bytes w64 w → v ≡ w

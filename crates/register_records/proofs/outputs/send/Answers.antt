@@ -7,8 +7,7 @@ use Rattle.register_records.proofs.outputs.send.Goals as goal
 
 -- an offer that took some did not fail
 took_some : (a : Bool) (n : ℕ) (b : Bool) → n ≢ 0 → (a || ((n == 0) && b)) ≡ a
-took_some true n b h = refl
-took_some false n b h = let e : (n == 0) ≡ false = grind (arith, nat_tests) in rw e refl
+took_some a n b h = search (rules, false, nat_tests)
 
 pub offers-preserved : goal.offers-preserved
 offers-preserved g c =

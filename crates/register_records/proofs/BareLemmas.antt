@@ -101,14 +101,9 @@ utf8_texts form ends bytes t e h =
     let plain : ArePlainTexts t = rw e at (plain_record form ends bytes h) in
     rw (plain_utf8 _ plain.0, plain_utf8 _ plain.1, plain_utf8 _ plain.2, plain_utf8 _ plain.3) refl
 
--- and its body holds no byte that calls for quotes
-bare_if : (t : Texts) → (short utf8 : Bool) → has_special (Ok t) ≡ false
-    → has_special (if short then (if utf8 then Ok t else Err refusal.NotUtf8) else Err refusal.FieldTooLong) ≡ false
-bare_if t short utf8 h = search rules
-
 bare_option : (o : Option Texts) → IfSome o ArePlainTexts
     → has_special (option_map_or body_of_texts o (Err refusal.FieldCount)) ≡ false
-bare_option o h = search (rules, bare_if, or_from, plain_bare)
+bare_option o h = search (rules, or_from, plain_bare)
 
 pub bare_record : (form : Form) (ends bytes : List ℕ) → IsPlain bytes
     → has_special (body_of form (cut_from 0 ends bytes)) ≡ false

@@ -33,30 +33,13 @@ read_more {R = R} rem a b f r = by (source_of rem a) refl
         let m = rows-more rem a b f a.config a.state y y [] refl e (nothing_yet a.config a.state y) r in
         rw m.1 (one_record a.config b.config a.state b.state y m.0 f r.2 m.2)
 
--- a read that found none
-pub read_none : {R : Type 0} (rem : R → Option (List ℕ)) (a b : Reader R) (f : Fields) → ReadRecord rem a b false f
-    → IfSome (records_left rem a) (λ records. records ≡ [])
-read_none {R = R} rem a b f r = search (rules, all_none, rows-end)
-
 -- a read of either kind
 pub reads : {R : Type 0} (rem : R → Option (List ℕ)) (a b : Reader R) (found : Bool) (f : Fields)
     → ReadRecord rem a b found f → Reads (records_left rem a) (records_left rem b) found f
-reads rem a b found f r = search (rules, read_more, read_none)
+reads rem a b found f r = search (rules, read_more, all_none, rows-end)
 
 -- the records of a text, at a reader that is at its start
 pub at_start : {R : Type 0} (rem : R → Option (List ℕ)) (a : Reader R) (d : ℕ) (o : Option (List ℕ))
     → reader_config a ≡ record default_config { delimiter = d } → reader_state a ≡ st.StartRecord
     → source_of rem a ≡ option_map strip_bom o → records_left rem a ≡ option_map (text_records d) o
 at_start rem a d o config state source = search rules
-
--- a first record that is no header
-pub refuses : (o : Option (List ℕ)) (y : Option (List Fields)) (format : Format) (f : Fields)
-    → TakesFirst (option_map (text_records format.delimiter) o) y f → (IsHeader format.form f → ⊥)
-    → IfSome o (λ text. HasNoHeader format text)
-refuses o y format f t h = search rules
-
--- no record
-pub refuses_none : (o : Option (List ℕ)) (format : Format)
-    → IfSome (option_map (text_records format.delimiter) o) (λ records. records ≡ [])
-    → IfSome o (λ text. HasNoHeader format text)
-refuses_none o format t = search rules

@@ -172,10 +172,6 @@ same_of_all : {X Y : Type 0} (f g : X → List Y) → ((x : X) → f x ≡ g x) 
 same_of_all f g same [] = refl
 same_of_all f g same (x ∷ xs) = cc (same x, same_of_all f g same xs)
 
--- the columns of an entry: the first has its number, the others its texts
-pub first_number : (form : Form) (e : EntryColumn) → get_or (entry_order form) 0 e ≡ Number
-first_number form e = search rules
-
 pub first_field : (form : Form) (f : EntryColumn → List ℕ) (d : ℕ) (before field bytes : List ℕ)
     → needs_quotes (writing d) field ≡ false → field ≡ f Number → bytes ≡ before ++ field
     → bytes ≡ before ++ body d (map f (take 1 (entry_order form)))
@@ -193,9 +189,6 @@ plain_column d h fields number bare Id = (unquoted d h (body_shown fields) bare)
 plain_column d h fields number bare Calendar = (unquoted d h (body_shown fields) bare).1
 plain_column d h fields number bare Date = (unquoted d h (body_shown fields) bare).2
 plain_column d h fields number bare Note = (unquoted d h (body_shown fields) bare).3
-
-pub some_columns : {X : Type 0} (form : Form) (f : EntryColumn → X) → 1 ≤ length (map f (entry_order form))
-some_columns form f = search rules
 
 -- equal fields
 pub same_body : (d : ℕ) (before : List ℕ) (fields wanted : List (List ℕ)) (bytes : List ℕ) → fields ≡ wanted
@@ -227,9 +220,6 @@ pub heading_names : (form : Form) (ts : List Target)
     → heading form ts ≡ map entry_name (entry_order form) ++ flat_map (tail_names ts) tail_order
 heading_names form ts = in_parts (λ (c : Column). c.name) form ts
 
-pub two_names : (form : Form) (ts : List Target) → 2 ≤ length (heading form ts)
-two_names form ts = search rules
-
 -- what stands in the columns of a tail does not depend on the entry
 cell_fields : (row : TableRow) (place : ℕ) (ts : List Target)
     → map (λ (c : Column). c.field row) (cell_columns place ts)
@@ -249,9 +239,5 @@ fields_in_parts form ts row =
     ∙ ap (λ (fields : List (List ℕ)). map (entry_field row) (entry_order form) ++ fields)
     (same_of_all _ (column_texts ts row.outcome row.cells) (same_fields row ts) tail_order)
 
--- the names of the targets are short
-short_calendar : (calendar : OwnCalendar) → length (calendar_name calendar) ≤ name_limit
-short_calendar calendar = search rules
-
 pub short_name : (t : Target) → length (target_name t) ≤ name_limit
-short_name t = search (rules, short_calendar)
+short_name t = search rules

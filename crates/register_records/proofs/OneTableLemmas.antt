@@ -90,10 +90,5 @@ module _ (one_calendar : OneCalendar) (one_date_text : OneDateText) (one_cell : 
       made_row _ _ _ _ _ _ _ _ (a.number ∙ sym b.number) (a.body ∙ sym b.body) same
       (one_cells one_cell s.outcome targets r.cells s.cells (rw same at a.cells) b.cells)
 
-  one_list : (format : Format) (text : List ℕ) (entries others : List Numbered)
-      → HasEntries format (Some text) entries → HasEntries format (Some text) others → entries ≡ others
-  one_list format text entries others (records, (header, is, ok), all, made)
-      (records2, (header2, is2, ok2), all2, made2) = cc
-
   pub one_table : OneTable
-  one_table layout text entries others rows more h k a b = search (rules, one_list, one_beside, one_row)
+  one_table layout text entries others rows more h k a b = search (rules, one_beside, one_row)

@@ -151,12 +151,8 @@ weekday_fits d h number = record {
   short = short_length _ (each_name is_short weekday_names number refl refl);
 }
 
--- the number of a refusal has one
-refusal_below : (r : Refusal) → refusal_number r < 10
-refusal_below r = search rules
-
 pub refusal_fits : (d : ℕ) → is_delimiter d ≡ true → (r : Refusal) → Fits d 1 (decimal (refusal_number r))
-refusal_fits d h r = search (rules, refusal_below, plain_decimal, length-decimal-le)
+refusal_fits d h r = search (rules, plain_decimal, length-decimal-le)
 
 -- the field of a target needs no quotes
 pub plain_field : CellsArePlain → (d : ℕ) → is_delimiter d ≡ true → (o : Result ℤ Refusal) (t : Target) (field : List ℕ)
@@ -239,11 +235,6 @@ whole_tail ts o tail is =
       written = is known are ∙ ap (tail_texts ts (outcome_seen o)) same;
     }
 
--- the cells of one outcome are those of the other, which is the same
-pub cells_of_same : (ts : List Target) (o p : Result Day Refusal) (tail : RowTail) → outcome_seen o ≡ outcome_seen p
-    → cells_of ts o tail ≡ cells_of ts p tail
-cells_of_same ts o p tail same = search rules
-
 -- what is only said of its cells is known of them, since they are the only ones
 known_cells : OneCell → (ts : List Target) (o : Result ℤ Refusal) (cells : List (List ℕ)) → ∥ AreCells ts o cells ∥₁
     → AreCells ts o cells
@@ -258,4 +249,4 @@ pub stands : OneCell → (ts us : List Target) (o p : Result Day Refusal) (tail 
     → ∥ AreCells ts (outcome_seen o) (cells_of ts o tail) ∥₁
     → fields_of tail ≡ tail_texts ts (outcome_seen o) (cells_of ts o tail)
     → ts ≡ us → outcome_seen o ≡ outcome_seen p → AreWhole us p tail
-stands law ts us o p tail said written targets same = search (rules, cells_of_same, known_cells)
+stands law ts us o p tail said written targets same = search (rules, known_cells)

@@ -133,16 +133,9 @@ rows_placed form targets (entry ∷ entries) (row ∷ rows) are = (
 )
 rows_placed form targets entries rows are = search (rules, placed, of_form)
 
--- they have the lines that the rows have
-entry_placed : (n : ℕ) (body : Result Texts Refusal) (outcome : Result ℤ Refusal) (cells : List (List ℕ))
-    → map (entry_field (placed_row Plain (record { number = n; body = body; outcome = outcome; cells = cells })))
-    (entry_order Plain)
-    ≡ map (entry_field (record { number = n; body = body; outcome = outcome; cells = cells })) (entry_order Plain)
-entry_placed n body outcome cells = search rules
-
 fields_placed : (form : Form) (targets : List Target) (row : TableRow)
     → row_fields form targets (placed_row form row) ≡ row_fields form targets row
-fields_placed form targets row = search (rules, fields_in_parts, placed_row, entry_placed)
+fields_placed form targets row = search (rules, fields_in_parts, placed_row)
 
 lines_placed : (layout : Layout) (rows : List TableRow)
     → lines_text layout (map (placed_row layout.format.form) rows) ≡ lines_text layout rows

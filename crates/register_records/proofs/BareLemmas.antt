@@ -1,7 +1,7 @@
 -- Texts that hold no byte that calls for quotes, and plain texts, which are ASCII besides.
 use Rattle.std.proofs.Common.{◌≡◌, ◌∙◌, ◌+◌, ◌*◌, ◌/◌, ◌-◌, ◌<◌, ◌≤◌, ◌++◌, ℕ, zero, suc, List, [], ◌∷◌, Option, rules}
-use Rattle.std.proofs.Common.{None, Some, true, false, refl, sym, ap, subst, arith, length, take, drop, get_or}
-use Rattle.std.specs.Prelude.{⊤, Bool, Err, IfSome, IsAscii, Ok, Result, if◌then◌else◌}
+use Rattle.std.proofs.Common.{Some, true, false, refl, sym, ap, subst, arith, length, take, drop, get_or}
+use Rattle.std.specs.Prelude.{⊤, Err, IfSome, IsAscii, Result}
 use Rattle.std.specs.Option.{option_map_or}
 use Rattle.std.proofs.lemmas.Bool.{and_parts, or_from, or_parts}
 use Rattle.std.proofs.lemmas.Bool.Decides.{nat_tests}
@@ -26,7 +26,6 @@ use Rattle.register_records.specs.SetupRules.{is_delimiter}
 use Rattle.register_records.specs.Columns.{shown}
 use Rattle.register_records.specs.declared.entries.TheConstants.{CHUNK}
 use Rattle.register_records.specs.declared.setups.Form.{Form}
-use Rattle.register_records.specs.declared.setups.Form.TheVariants.{Plain, Sealed}
 
 -- no byte of this text calls for quotes
 abbrev pub IsBare : List ℕ → Type 0

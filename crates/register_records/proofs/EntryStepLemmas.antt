@@ -1,14 +1,13 @@
 -- What a read of csv's reader does to the records that are left.
-use Rattle.std.proofs.Common.{◌≡◌, ℕ, List, [], ◌∷◌, Option, Some, None, Bool, true, false, refl, sym, ◌∙◌, rules}
-use Rattle.std.specs.Prelude.{IfSome, option_map}
+use Rattle.std.proofs.Common.{◌≡◌, ℕ, List, [], ◌∷◌, Option, Some, None, Bool, true, refl, rules}
+use Rattle.std.specs.Prelude.{option_map}
 use Rattle.csv.specs.Reading.{ReadRecord, Reached, default_config, reader_config, reader_state, source_of, strip_bom}
 use Rattle.csv.specs.declared.reader.Reader.{Reader}
 use Rattle.csv.specs.declared.parser.Config.{Config}
 use Rattle.csv.specs.declared.parser.State.{State}
 use Rattle.csv.specs.declared.parser.State.TheVariants as st
 use Rattle.csv.proofs.ReadFacts.{rows-end, rows-more}
-use Rattle.register_records.specs.Headers.{IsHeader}
-use Rattle.register_records.specs.Entries.{Fields, Format, HasNoHeader, text_records}
+use Rattle.register_records.specs.Entries.{Fields, text_records}
 use Rattle.register_records.specs.ReadingState.{Reads, TakesFirst, all_after, records_left}
 use Rattle.register_records.proofs.RecordsLeftLemmas.{all_more, all_none}
 

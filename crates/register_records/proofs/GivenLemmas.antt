@@ -1,13 +1,13 @@
 -- What a step of a reader of entries does to those that it gave.
 use Rattle.std.proofs.Common.{◌≡◌, ◌<◌, ◌≤◌, ◌+◌, ◌++◌, ℕ, List, [], ◌∷◌, length, Option, Some, None, true, rules}
-use Rattle.std.proofs.Common.{refl, sym, subst, ap, ◌∙◌, arith, append_assoc}
+use Rattle.std.proofs.Common.{refl, sym, ap, ◌∙◌, arith, append_assoc}
 use Rattle.std.specs.Prelude.{IfSome, nat_lt, option_map}
 use Rattle.std.proofs.Math.Logic.{∥∥₁_map}
 use Rattle.std.proofs.lemmas.Bool.Decides.{nat_tests}
 use Rattle.std.proofs.lemmas.List.{append-nil, append_cancel_left, length-append}
 use Rattle.register_records.specs.Headers.{IsHeader}
 use Rattle.register_records.specs.Entries.{Fields, Format, HasAllEntries, HasEntries, HasFirstEntries, HasRecords}
-use Rattle.register_records.specs.Entries.{HasTooMany, IsNotSealed, Numbered, body_of, body_seen, entries_from}
+use Rattle.register_records.specs.Entries.{HasTooMany, IsNotSealed, Numbered, body_of, entries_from}
 use Rattle.register_records.specs.Entries.{entries_of, record_limit, text_records}
 use Rattle.register_records.specs.Seals.{AreClosed, before_seal, entry_records, is_seal}
 use Rattle.register_records.specs.Seen.{entry_seen}
@@ -17,7 +17,6 @@ use Rattle.register_records.specs.declared.entries.Entry.{Entry}
 use Rattle.register_records.specs.declared.reading.ReaderState.{ReaderState}
 use Rattle.register_records.specs.declared.reading.ReaderState.TheVariants as states
 use Rattle.register_records.specs.declared.setups.Form.{Form}
-use Rattle.register_records.specs.declared.setups.Form.TheVariants.{Plain, Sealed}
 
 pub if_some : {X : Type 0} (o : Option X) (P Q : X → Type 0) → ((x : X) → P x → Q x) → IfSome o P → IfSome o Q
 if_some o P Q f h = search rules

@@ -1,7 +1,6 @@
 -- The byte order mark at the start of a text.
-use Rattle.std.proofs.Common.{◌≡◌, ◌≤◌, ◌-◌, ℕ, List, [], ◌∷◌, length, take, drop, get_or, false, refl, arith, ◌==◌}
+use Rattle.std.proofs.Common.{◌≡◌, ◌≤◌, ℕ, List, length, drop, get_or, false, arith, ◌==◌}
 use Rattle.std.proofs.Common.{◌&&◌}
-use Rattle.std.proofs.lemmas.List.{length-drop, take_all}
 use Rattle.csv.specs.Reading.{strip_bom}
 
 -- a byte order mark goes

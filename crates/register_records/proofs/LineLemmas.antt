@@ -1,8 +1,8 @@
 -- The fields of a line, while they are appended.
-use Rattle.std.proofs.Common.{◌≡◌, ◌<◌, ◌≤◌, ◌+◌, ◌^◌, ◌%◌, ◌++◌, ℕ, List, [], ◌∷◌, true, false, refl, sym, ap, ◌∙◌, rules}
-use Rattle.std.proofs.Common.{arith, append_assoc, append-nil, length, length-append, length-set, map, set, take}
+use Rattle.std.proofs.Common.{◌≡◌, ◌<◌, ◌≤◌, ◌+◌, ◌^◌, ◌%◌, ◌++◌, ℕ, List, [], ◌∷◌, true, false, refl, sym, ap, ◌∙◌}
+use Rattle.std.proofs.Common.{rules, arith, append_assoc, append-nil, length, length-append, length-set, map, set, take}
 use Rattle.std.proofs.Common.{drop, get_or}
-use Rattle.std.specs.Prelude.{ℤ, pos, negsuc, suc}
+use Rattle.std.specs.Prelude.{ℤ}
 use Rattle.std.specs.Fmt.{decimal, signed_decimal}
 use Rattle.std.proofs.lemmas.Int.{ints}
 use Rattle.std.proofs.lemmas.Bool.{and_parts}
@@ -22,24 +22,18 @@ use Rattle.register_records.specs.LineRoom.{columns_room, entry_room, name_limit
 use Rattle.register_records.specs.Lines.{line_text}
 use Rattle.register_records.specs.SetupRules.{is_delimiter}
 use Rattle.date_texts.specs.Cells.{is_plain}
-use Rattle.date_texts.specs.Calendars.{calendar_name, target_name}
-use Rattle.date_texts.specs.declared.calendar.Calendar.{Calendar as OwnCalendar}
-use Rattle.date_texts.specs.declared.calendar.Calendar.TheVariants.{Gregorian}
+use Rattle.date_texts.specs.Calendars.{target_name}
 use Rattle.date_texts.specs.declared.target.Target.{Target}
-use Rattle.date_texts.specs.declared.target.Target.TheVariants.{Date as DateTarget, Haab, Tzolkin}
 use Rattle.register_records.specs.Columns.{Column, cell_columns, columns, entry_column, entry_order, tail_column}
 use Rattle.register_records.specs.Columns.{tail_order}
-use Rattle.register_records.specs.TableColumns.{body_shown, column_texts, entry_field, entry_name, field_shown}
-use Rattle.register_records.specs.TableColumns.{heading, laid_out}
-use Rattle.register_records.specs.TableColumns.{row_fields, row_with, tail_names, tail_texts}
+use Rattle.register_records.specs.TableColumns.{body_shown, column_texts, entry_field, entry_name, field_shown, heading}
+use Rattle.register_records.specs.TableColumns.{laid_out, row_fields, row_with, tail_names, tail_texts}
 use Rattle.register_records.specs.Outcomes.{TableRow}
 use Rattle.register_records.specs.declared.setups.Form.{Form}
-use Rattle.register_records.specs.declared.setups.Form.TheVariants.{Plain, Sealed}
 use Rattle.register_records.specs.declared.table_columns.EntryColumn.{EntryColumn}
 use Rattle.register_records.specs.declared.table_columns.EntryColumn.TheVariants.{Calendar, Date, Id, Note, Number}
 use Rattle.register_records.specs.declared.table_columns.EntryFields.{EntryFields}
 use Rattle.register_records.specs.declared.table_columns.TailColumn.{TailColumn}
-use Rattle.register_records.specs.declared.table_columns.TailColumn.TheVariants.{Cells}
 use Rattle.register_records.specs.BareTexts.{has_special}
 use Rattle.register_records.proofs.BareLemmas.{unquoted}
 

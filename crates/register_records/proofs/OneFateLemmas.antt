@@ -4,7 +4,6 @@ use Rattle.std.proofs.lemmas.List.{append_cancel_left}
 use Rattle.std.proofs.Common.{sym}
 use Rattle.std.proofs.Common.{ap, ◌∙◌, arith, subst, Option, None, Some, codes, fold}
 use Rattle.std.specs.Prelude.{if◌then◌else◌, IsSomeAnd, IsTrue}
-use Rattle.std.proofs.lemmas.Bool.{cases_lt}
 use Rattle.csv.specs.Reading.{strip_bom}
 use Rattle.date_texts.specs.Names.{IsNamed}
 use Rattle.date_texts.specs.Numerals.{IsNumeral}

@@ -1,8 +1,8 @@
 -- The records of a text, one after the other.
-use Rattle.std.proofs.Common.{◌≡◌, ◌<◌, ◌≤◌, ◌+◌, ◌-◌, ℕ, zero, suc, List, [], ◌∷◌, ◌++◌, length, Option, Some, None, Bool, rules}
-use Rattle.std.proofs.Common.{true, false, refl, ap, ◌∙◌, arith, add-one}
+use Rattle.std.proofs.Common.{◌≡◌, ◌<◌, ◌≤◌, ◌+◌, ◌-◌, ℕ, suc, List, [], ◌∷◌, ◌++◌, length, Option, Some, None, Bool, rules}
+use Rattle.std.proofs.Common.{refl, ◌∙◌, arith, add-one}
 use Rattle.std.specs.Prelude.{if◌then◌else◌}
-use Rattle.csv.specs.Machine.{Read, ends_at_end, field_after, fields_after, is_end, next_record, step}
+use Rattle.csv.specs.Machine.{Read, ends_at_end, fields_after, is_end, next_record, step}
 use Rattle.csv.specs.Reading.{records_from, records_next}
 use Rattle.csv.specs.declared.parser.Config.{Config}
 use Rattle.csv.specs.declared.parser.State.{State}

@@ -1,10 +1,9 @@
 -- The fields of a tail, while they are appended, and the cells among them.
-use Rattle.std.proofs.Common.{◌≡◌, ◌<◌, ◌≤◌, ◌+◌, ◌++◌, ℕ, List, [], ◌∷◌, true, false, refl, sym, ap, ◌∙◌, rules}
+use Rattle.std.proofs.Common.{◌≡◌, ◌<◌, ◌≤◌, ◌+◌, ◌++◌, ℕ, List, [], ◌∷◌, true, false, refl, sym, ap, ◌∙◌, rules, arith}
+use Rattle.std.proofs.Common.{add-one, append_assoc, append-nil, drop, drop-cons, get_or, length, length-drop, map, set}
+use Rattle.std.proofs.Common.{subst, take}
 use Rattle.std.proofs.lemmas.Slice.Zip.{AllZip-long}
-use Rattle.std.proofs.Common.{add-one, append_assoc, arith, append-nil, drop, drop-cons, get_or, length, length-drop}
-use Rattle.std.proofs.Common.{map, subst}
-use Rattle.std.proofs.Common.{set, take}
-use Rattle.std.specs.Prelude.{◌==◌, ℤ, pos, negsuc, zero, suc, Bool, IsTrue, nat_le, Ok, Err, Result}
+use Rattle.std.specs.Prelude.{◌==◌, ℤ, pos, negsuc, Bool, IsTrue, nat_le, Ok, Err, Result}
 use Rattle.std.specs.Fmt.{decimal, signed_decimal}
 use Rattle.std.specs.List.{AllZip, flat_map, list_all, onto_first, position_or_len, slice_split}
 use Rattle.std.proofs.lemmas.Bool.{or_parts}
@@ -21,11 +20,10 @@ use Rattle.day_numbers.specs.Days.{IsDayNumber, weekday_names}
 use Rattle.day_numbers.specs.Numbered.{words}
 use Rattle.day_numbers.proofs.NameLemmas.{each_name}
 use Rattle.day_numbers.specs.declared.day.Day.{Day}
-use Rattle.date_texts.specs.Cells.{IsCell, is_plain}
+use Rattle.date_texts.specs.Cells.{is_plain}
 use Rattle.date_texts.specs.Refusals.{refusal_number}
 use Rattle.date_texts.specs.declared.target.Target.{Target}
 use Rattle.date_texts.specs.declared.refusal.Refusal.{Refusal}
-use Rattle.date_texts.specs.declared.refusal.Refusal.TheVariants as refused
 use Rattle.date_texts.specs.Laws.{CellsArePlain, OneCell}
 use Rattle.register_records.specs.RowTails.{cells_of, fields_of, is_cells}
 use Rattle.register_records.specs.Columns.{Column, cell_columns, tail_order}
@@ -38,8 +36,8 @@ use Rattle.register_records.specs.SetupRules.{is_delimiter}
 use Rattle.register_records.specs.declared.row_tails.RowTail.{RowTail}
 use Rattle.register_records.specs.declared.table_columns.TailColumn.TheVariants.{Cells, Refusal as RefusalColumn}
 use Rattle.register_records.proofs.EveryTableLemmas.{has_cells}
-use Rattle.register_records.proofs.LineLemmas.{more_fields_text, plain_bytes, plain_text, put_after}
-use Rattle.register_records.proofs.LineLemmas.{plain_day, plain_decimal}
+use Rattle.register_records.proofs.LineLemmas.{more_fields_text, plain_bytes, plain_text, put_after, plain_day}
+use Rattle.register_records.proofs.LineLemmas.{plain_decimal}
 
 -- the bytes of fields behind delimiters
 abbrev pub text : ℕ → List (List ℕ) → List ℕ

@@ -1,12 +1,11 @@
 -- When a record is a seal, and with what number of entries it agrees.
-use Rattle.std.proofs.Common.{◌≡◌, ◌∙◌, ◌<◌, ◌≤◌, ◌+◌, ◌-◌, ◌*◌, ◌^◌, ◌++◌, ℕ, zero, suc, List, [], ◌∷◌, length, take, rules}
+use Rattle.std.proofs.Common.{◌≡◌, ◌∙◌, ◌<◌, ◌≤◌, ◌+◌, ◌-◌, ◌*◌, ◌^◌, ℕ, suc, List, length, take, rules}
 use Rattle.std.proofs.lemmas.List.Folds.{list_all_more}
 use Rattle.std.proofs.lemmas.List.Sums.{fold-append}
-use Rattle.std.proofs.Common.{get_or, Option, None, Some, true, refl, arith, codes}
-use Rattle.std.specs.Prelude.{◌↔◌, IsTrue, nat_eq}
+use Rattle.std.proofs.Common.{get_or, None, Some, true, refl, arith, codes}
+use Rattle.std.specs.Prelude.{◌↔◌}
 use Rattle.std.specs.Char.{is_ascii_digit}
 use Rattle.std.specs.Str.{bytes_eq}
-use Rattle.std.proofs.lemmas.Bool.{and_parts}
 use Rattle.std.proofs.lemmas.Bool.Decides.{nat_tests}
 use Rattle.std.proofs.lemmas.List.{take_more}
 use Rattle.csv.specs.Records.{field_at}

@@ -1,5 +1,5 @@
 -- Rows whose entries are numbered from 1 are the first rows of some records.
-use Rattle.std.proofs.Common.{◌≡◌, ◌∙◌, ◌+◌, ◌≤◌, ℕ, List, [], ◌∷◌, ◌++◌, Bool, true, false, ap, subst, arith, rules}
+use Rattle.std.proofs.Common.{◌≡◌, ◌∙◌, ◌+◌, ◌≤◌, ℕ, List, [], ◌∷◌, ◌++◌, true, false, ap, subst, arith, rules}
 use Rattle.std.proofs.lemmas.Bool.{and_parts}
 use Rattle.register_records.proofs.OutcomeLemmas.{outcome_of_same}
 use Rattle.register_records.proofs.EveryTableLemmas.{AreInOrder, numbered as in_order}
@@ -7,21 +7,18 @@ use Rattle.std.proofs.Common.{length, map, refl, sym}
 use Rattle.std.proofs.lemmas.List.{append-nil, length-map}
 use Rattle.std.proofs.lemmas.Bool.Decides.{nat_tests}
 use Rattle.std.specs.Str.{chars, is_utf8}
-use Rattle.std.specs.List.{range_with_len}
-use Rattle.std.specs.Prelude.{◌&&◌, ℤ, ⊤, Err, None, Ok, Result, replicate}
+use Rattle.std.specs.Prelude.{ℤ, ⊤, Err, None, Ok, Result, replicate}
 use Rattle.date_texts.specs.declared.target.Target.{Target}
 use Rattle.date_texts.specs.declared.refusal.Refusal.{Refusal}
 use Rattle.date_texts.specs.declared.refusal.Refusal.TheVariants as refusal
-use Rattle.register_records.specs.Entries.{AreNumberedFrom, HasFirstEntries, Numbered, are_fit, are_short, are_utf8}
+use Rattle.register_records.specs.Entries.{AreNumberedFrom, HasFirstEntries, Numbered, are_fit}
 use Rattle.register_records.specs.Entries.{body_of, entries_from, record_limit}
-use Rattle.register_records.specs.Outcomes.{AreRowsOf, IsOutcome, TableRow, accepted, no_date_text}
-use Rattle.register_records.specs.Outcomes.{no_such_date, out_of_range, refused, unknown_calendar}
+use Rattle.register_records.specs.Outcomes.{AreRowsOf, IsOutcome, TableRow}
 use Rattle.register_records.specs.Records.{Fields, Texts}
 use Rattle.register_records.specs.Seals.{before_seal, entry_records, is_seal}
 use Rattle.register_records.specs.Seen.{entry_seen}
 use Rattle.register_records.specs.Sources.{IsFrontOfTable}
-use Rattle.register_records.specs.Columns.{entry_order}
-use Rattle.register_records.specs.TableColumns.{entry_field, row_fields, tail_texts}
+use Rattle.register_records.specs.TableColumns.{row_fields}
 use Rattle.register_records.specs.Tables.{Layout, heading_line, lines_text, table_text}
 use Rattle.register_records.specs.Views.{row_seen}
 use Rattle.register_records.specs.declared.rows.Row.{Row}

@@ -1,11 +1,11 @@
 -- What the reads of one entry, or of the end, say of the records that were left.
 use Rattle.std.proofs.Common.{◌≡◌, ℕ, List, [], ◌∷◌, Bool, Option, Some, None, true, false, refl, sym, ◌∙◌, arith, rules}
-use Rattle.std.specs.Prelude.{IfSome, IfErr, IsErrAnd, Result, Ok, Err}
+use Rattle.std.specs.Prelude.{IfSome, IfErr, IsErrAnd, Result}
 use Rattle.register_records.specs.Records.{Fields}
 use Rattle.register_records.specs.Seals.{Agrees, is_seal}
 use Rattle.register_records.specs.ReadingState.{Ends, HasEntry, IsNoSeal, LacksSeal, Reads, TakesFirst}
 use Rattle.register_records.specs.declared.setups.Form.{Form}
-use Rattle.register_records.specs.declared.setups.Form.TheVariants.{Plain, Sealed}
+use Rattle.register_records.specs.declared.setups.Form.TheVariants.{Sealed}
 use Rattle.register_records.proofs.GivenLemmas.{before_none, if_some, no_seal_first, seal_first}
 
 -- of a read that found a record, or none

@@ -7,8 +7,7 @@ use Rattle.date_texts.specs.Cells.{IsCell}
 use Rattle.date_texts.specs.declared.target.Target.{Target}
 use Rattle.date_texts.specs.declared.refusal.Refusal.{Refusal}
 use Rattle.date_texts.specs.declared.refusal.Refusal.TheVariants.{FieldCount}
-use Rattle.register_records.specs.Columns.{Column, Layout, columns, entry_column, shown, tail_column}
-use Rattle.register_records.specs.Columns.{tail_order}
+use Rattle.register_records.specs.Columns.{Column, Layout, columns, entry_column, shown, tail_column, tail_order}
 use Rattle.register_records.specs.Outcomes.{TableRow}
 use Rattle.register_records.specs.Records.{Texts}
 use Rattle.register_records.specs.declared.setups.Form.{Form}

@@ -1,7 +1,6 @@
 //! An entry, and how it is made of a record.
 
-ghost use Rattle.std.specs.Prelude.{◌≡◌, ◌≤◌, ◌↔◌, [], length, IfSome, IsSome, IsTrue, Ok};
-ghost use Rattle.std.specs.Prelude.{true, false};
+ghost use Rattle.std.specs.Prelude.{◌≡◌, ◌≤◌, ◌↔◌, [], length, IfSome, IsSome, IsTrue, Ok, true, false};
 ghost use Rattle.std.specs.List.{list_all};
 ghost use Rattle.std.specs.Str.{is_utf8};
 ghost use Rattle.csv.specs.Records.{fields_of, text_of};
@@ -97,13 +96,7 @@ impl Entry {
     /// Makes this entry that of a record, where it lies: an entry is large. Returns true only where its calendar and
     /// its date are those of the entry before it.
     #[inline(always)]
-    #[tactic(
-        auto,
-        using(
-            crate::proofs::BareLemmas::bare_record,
-            crate::proofs::FieldLemmas::fit_body,
-        )
-    )]
+    #[tactic(auto, using(crate::proofs::BareLemmas::bare_record, crate::proofs::FieldLemmas::fit_body,))]
     pub(crate) fn set(&mut self, number: u32, csv_record: &ByteRecord, form: Form) -> bool
         requires from_one { 1 ≤ number }
         requires limited { number ≤ record_limit }
@@ -163,15 +156,7 @@ fn are_plain(text: &[u8]) -> bool
 
 /// The same, chunk by chunk: a chunk takes no longer than two bytes alone. The last may overlap the one before it.
 #[inline(always)]
-#[tactic(
-    auto,
-    using(
-        std::proofs::lemmas::Bool::and_parts,
-        crate::proofs::BareLemmas::plain_more,
-        crate::proofs::BareLemmas::plain_by_chunks,
-        std::proofs::Common::take_all,
-    )
-)]
+#[tactic(auto, using(std::proofs::lemmas::Bool::and_parts, crate::proofs::BareLemmas::plain_more, crate::proofs::BareLemmas::plain_by_chunks, std::proofs::Common::take_all,))]
 fn are_plain_by_chunks(text: &[u8]) -> bool
     ensures { result ≡ true → IsPlain text.now }
 {

@@ -5,9 +5,8 @@ ghost use Rattle.std.specs.Prelude.{Option};
 ghost use Rattle.csv.specs.Reading.{error_kind, has_failed, stops_reader};
 ghost use Rattle.csv.specs.Records.{fields_of};
 ghost use Rattle.register_records.specs.Entries.{HasFirstEntries, HaveOneDate, body_seen, record_limit};
-ghost use Rattle.register_records.specs.ReadingState.{Ends, Gives, HasBegun, HasEntry, IsLive, IsOfReading};
-ghost use Rattle.register_records.specs.ReadingState.{LacksSeal, Reads, HasRead};
-ghost use Rattle.register_records.specs.ReadingState.{fault_of, format_by, records_left};
+ghost use Rattle.register_records.specs.ReadingState.{Ends, Gives, HasBegun, HasEntry, IsLive, IsOfReading, LacksSeal};
+ghost use Rattle.register_records.specs.ReadingState.{Reads, HasRead, fault_of, format_by, records_left};
 ghost use Rattle.register_records.specs.Retrying.{inner_remaining};
 ghost use Rattle.register_records.specs.Seals.{Agrees, is_seal as is_seal_record};
 ghost use Rattle.register_records.specs.declared.reading.ReaderState.{ReaderState};
@@ -129,14 +128,7 @@ fn read_record<R: Read>(
 /// # Errors
 ///
 /// `NotSealed` where it does not agree or one follows, and the faults of reading.
-#[tactic(
-    auto,
-    using(
-        crate::proofs::StepLemmas::always,
-        crate::proofs::StepLemmas::found,
-        crate::proofs::StepLemmas::not_empty,
-    )
-)]
+#[tactic(auto, using(crate::proofs::StepLemmas::always, crate::proofs::StepLemmas::found, crate::proofs::StepLemmas::not_empty,))]
 fn read_behind_seal<R: Read>(
     records: &mut Reader<Retrying<R>>,
     csv_record: &mut ByteRecord,

@@ -1,7 +1,7 @@
 //! One source, on the caller's thread.
 
-ghost use Rattle.std.specs.Prelude.{◌≡◌, ◌≢◌, ◌≤◌, ◌⊎◌, ◌+◌, ◌++◌, ℕ, List, [], true, length, Option, None};
-ghost use Rattle.std.specs.Prelude.{IfSome, IfOk, IfErr, OnOk, Ok};
+ghost use Rattle.std.specs.Prelude.{◌≡◌, ◌≢◌, ◌≤◌, ◌⊎◌, ◌+◌, ◌++◌, ℕ, List, [], true, length, Option, None, IfSome, Ok};
+ghost use Rattle.std.specs.Prelude.{IfOk, IfErr, OnOk};
 ghost use Rattle.std.specs.Io.KnownBytes.{Appends};
 ghost use Rattle.register_records.specs.Conversions.{AreReady, ContinuesTable, IsReady};
 ghost use Rattle.register_records.specs.Entries.{HasAllEntries, HasEntries, HasNoHeader, HasTooMany, IsNotSealed};
@@ -10,8 +10,7 @@ ghost use Rattle.register_records.specs.Sources.{ArePartOfTable, Gains, IfBroken
 ghost use Rattle.register_records.specs.Sources.{IsTableOfAll, IsWholeTable};
 ghost use Rattle.register_records.specs.Tables.{heading_line, refusal_notes};
 ghost use Rattle.register_records.specs.declared.setups.Form.TheVariants.{Sealed};
-ghost use Rattle.register_records.specs.Views.{format_of, given_of, layout_of, line_of, row_seen, text_of};
-ghost use Rattle.register_records.specs.Views.{writes_by};
+ghost use Rattle.register_records.specs.Views.{format_of, given_of, layout_of, line_of, row_seen, text_of, writes_by};
 
 use crate::ends::{Cause, Note, SourceEnd};
 use crate::outputs::Output;

@@ -1,5 +1,5 @@
 -- What csv's writer has written of a line.
-use Rattle.std.proofs.Common.{◌≡◌, ◌≢◌, ◌∙◌, ◌+◌, ◌-◌, ◌^◌, ℕ, zero, suc, List, [], ◌∷◌, ◌++◌, Option, Some, None, true}
+use Rattle.std.proofs.Common.{◌≡◌, ◌≢◌, ◌∙◌, ◌+◌, ◌-◌, ◌^◌, ℕ, List, [], ◌∷◌, ◌++◌, Option, Some, true}
 use Rattle.std.proofs.Common.{false, length, refl, sym, ap, arith, append_assoc, append-nil, length-append}
 use Rattle.std.specs.Prelude.{◌==◌, ◌&&◌, ◌||◌, not, min}
 use Rattle.std.specs.Io.KnownBytes.{Appends, Keeps}
@@ -32,14 +32,11 @@ same_fields d (field ∷ rest) = rw (same_field d field, same_fields d rest) ref
 same_blank : (d : ℕ) (fields : List (List ℕ))
     → is_blank (writing d) fields ≡ is_blank (with_delimiter default_writer d) fields
 unfolding is_blank
-same_blank d [] = refl
-same_blank d (field ∷ []) = rw (same_field d field) refl
-same_blank d (field ∷ next ∷ rest) = refl
+same_blank d fields = grind (arith, same_field)
 
 same_body : (d : ℕ) (fields : List (List ℕ))
     → row_body (writing d) fields ≡ row_body (with_delimiter default_writer d) fields
-same_body d [] = refl
-same_body d (field ∷ rest) = rw (same_field d field, same_fields d rest) refl
+same_body d fields = grind (arith, same_field, same_fields)
 
 same_line : (d : ℕ) (fields : List (List ℕ)) → row_text (writing d) fields ≡ line_text d fields
 same_line d fields = rw (same_body d fields, same_blank d fields) refl
@@ -47,15 +44,11 @@ same_line d fields = rw (same_body d fields, same_blank d fields) refl
 -- bytes that are known stay known
 now_known : (old new : Option (List ℕ)) (before more : List ℕ) → Appends old new more → old ≡ Some before
     → new ≡ Some (before ++ more)
-now_known None new before more h e = absurd (cc)
-now_known (Some bytes) None before more h e = absurd h
-now_known (Some bytes) (Some gained) before more h e =
-    let same : bytes ≡ before = cc in ap Some (rw same at h)
+now_known old new before more h e = grind arith
 
 has_gained : (before more : List ℕ) (new : Option (List ℕ)) → new ≡ Some (before ++ more)
     → Appends (Some before) new more
-has_gained before more None e = absurd (cc)
-has_gained before more (Some bytes) e = cc
+has_gained before more new e = grind arith
 
 pub still_known : (old : List ℕ) (new : List ℕ) → Keeps (Some old) (Some new) → new ≡ old
 still_known old new h = h
@@ -64,14 +57,8 @@ still_known old new h = h
 abbrev count_of : ℕ → ℕ
 count_of n = min n (2 ^ 64 - 1)
 
-same_sep : (d n : ℕ) → next_sep (writing d) (count_of n) ≡ next_sep (writing d) n
-same_sep d zero = refl
-same_sep d (suc n) = grind (arith, count_of, ne_eqb)
-
 same_test : (n : ℕ) → ((count_of n == 0) || (count_of n == 1)) ≡ ((n == 0) || (n == 1))
-same_test zero = refl
-same_test (suc zero) = refl
-same_test (suc (suc n)) = grind (arith, count_of, ne_eqb)
+same_test n = grind (arith, count_of, ne_eqb)
 
 -- what a line holds
 abbrev held : SheetLines → Option (List ℕ)
@@ -95,7 +82,7 @@ pub one_gained : (field : List ℕ) (old new : SheetLines)
     → (has_written old.writer ≡ true → has_written new.writer ≡ true)
     → GainsFields (field ∷ []) old new
 one_gained field old new text same count wrote stays d before fields begun =
-    grind (arith, length-append, now_known, held, same_sep, row-more, append_assoc, blank-more)
+    grind (arith, length-append, now_known, held, count_of, ne_eqb, row-more, append_assoc, blank-more)
 
 pub none_gained : (lines : SheetLines) → GainsFields [] lines lines
 none_gained lines d before fields begun = rw append-nil begun

@@ -1,7 +1,7 @@
 -- Records that are picked, grouped and joined, one after the other.
-use Rattle.std.proofs.Common.{◌≡◌, ◌<◌, ◌+◌, ◌∙◌, ℕ, zero, suc, List, [], ◌∷◌, ◌++◌, take, map, length, get_or, refl}
+use Rattle.std.proofs.Common.{◌≡◌, ◌<◌, ◌+◌, ◌∙◌, ℕ, suc, List, [], ◌∷◌, ◌++◌, take, map, length, get_or}
 use Rattle.std.proofs.Common.{sym, arith, append_assoc, append-nil}
-use Rattle.std.specs.Prelude.{max, Option, Some, None, IsSome, IfSome}
+use Rattle.std.specs.Prelude.{max, Option, None, IsSome, IfSome}
 use Rattle.std.specs.List.{concat}
 use Rattle.std.proofs.lemmas.List.{flat_map_more, map-append, take_more}
 use Rattle.std.proofs.lemmas.List.Folds.{concat-append}
@@ -14,9 +14,8 @@ use Rattle.register_sheets.specs.Sheets.{all_chosen, chosen, widest}
 -- a field that a record has not
 pub absent : (fields : List (List ℕ)) (place : ℕ) → field_at fields place ≡ None → get_or fields place [] ≡ []
 unfolding field_at
-absent [] place e = refl
-absent (f ∷ fields) zero e = cc
 absent (f ∷ fields) (suc place) e = absent fields place e
+absent fields place e = cc
 
 -- one more place
 pub one_chosen : (places : List ℕ) (fields : Fields) (i : ℕ) → i < length places
@@ -49,10 +48,7 @@ widest_more (first ∷ records) fields = rw (widest_more records fields) (omega 
 -- the first of what is left, and the end
 pub first_left : (old new : Option (List Fields)) (fields : Fields) → IsSome old → TakesFirst old new fields
     → left_in old ≡ fields ∷ left_in new
-first_left None new fields some takes = cc some
-first_left (Some left) None fields some takes = absurd takes
-first_left (Some left) (Some rest) fields some takes = takes
+first_left old new fields some takes = grind arith
 
 pub none_left : (old : Option (List Fields)) → IfSome old (λ left. left ≡ []) → left_in old ≡ []
-none_left None none = refl
-none_left (Some left) none = none
+none_left old none = grind arith

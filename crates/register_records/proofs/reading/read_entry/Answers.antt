@@ -1,10 +1,9 @@
-use Rattle.std.proofs.Common.{◌≡◌, ◌∙◌, inl, rules, sym, true, arith}
+use Rattle.std.proofs.Common.{◌≡◌, ◌∙◌, inl, rules, sym, true}
 use Rattle.csv.specs.Records.{fields_of}
 use Rattle.register_records.specs.ReadingState.{IsNoSeal}
 use Rattle.register_records.specs.declared.setups.Form.TheVariants.{Sealed}
-use Rattle.register_records.proofs.StepLemmas.{entry_left, found, found_none, no_seal_left, other_no_seal}
-use Rattle.register_records.proofs.StepLemmas.{plain_no_seal}
-use Rattle.register_records.proofs.StepLemmas.{seal_ends, seal_lacks, passed_on}
+use Rattle.register_records.proofs.StepLemmas.{entry_left, found, found_none, no_seal_left, other_no_seal, seal_ends}
+use Rattle.register_records.proofs.StepLemmas.{plain_no_seal, seal_lacks, passed_on}
 use Rattle.register_records.proofs.reading.read_entry.Goals as goal
 use Rattle.register_records.proofs.reading.read_entry.Goals.{else-eq-via-else-eq, else-eq-via-then-eq+else-is_seal}
 

@@ -1,4 +1,4 @@
-use Rattle.std.proofs.Common.{rules, arith}
+use Rattle.std.proofs.Common.{rules}
 use Rattle.csv.specs.Records.{fields_of}
 use Rattle.register_records.specs.Retrying.{inner_remaining}
 use Rattle.register_records.proofs.EntryStepLemmas.{reads}

@@ -1,4 +1,4 @@
-use Rattle.std.proofs.Common.{append-nil, map, rules, take, arith}
+use Rattle.std.proofs.Common.{append-nil, map, rules, take}
 use Rattle.std.proofs.lemmas.List.{take_all, with_items_is}
 use Rattle.register_records.proofs.LineLemmas.{ended, heading_names, one_column, same_body, same_line}
 use Rattle.register_records.proofs.LineLemmas.{room_for_rest, some_fields}

@@ -1,4 +1,4 @@
-use Rattle.std.proofs.Common.{map, rules, take, arith}
+use Rattle.std.proofs.Common.{map, rules, take}
 use Rattle.std.proofs.lemmas.List.{with_items_is}
 use Rattle.register_records.proofs.LineLemmas.{ended, fields_in_parts, same_line, two_of}
 use Rattle.register_records.proofs.row_lines.make_row.Goals as goal

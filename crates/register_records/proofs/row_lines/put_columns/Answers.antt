@@ -1,4 +1,4 @@
-use Rattle.std.proofs.Common.{take, rules, arith}
+use Rattle.std.proofs.Common.{take, rules}
 use Rattle.register_records.proofs.LineLemmas.{first_field, plain_column, room_behind}
 use Rattle.register_records.proofs.row_lines.put_columns.Goals as goal
 

@@ -1,4 +1,4 @@
-use Rattle.std.proofs.Common.{codes, take, rules, arith}
+use Rattle.std.proofs.Common.{codes, take, rules}
 use Rattle.register_records.proofs.LineLemmas.{first_field, plain_bytes}
 use Rattle.register_records.proofs.row_lines.put_entry_names.Goals as goal
 

@@ -1,4 +1,4 @@
-use Rattle.std.proofs.Common.{◌≡◌, ◌∙◌, arith, ap, inl, inr, get_or, false, rules}
+use Rattle.std.proofs.Common.{◌≡◌, ◌∙◌, arith, ap, inl, inr, get_or, false}
 use Rattle.std.proofs.lemmas.Bool.{cases_lt}
 use Rattle.std.proofs.lemmas.Grind.{common_steps}
 use Rattle.date_texts.specs.Calendars.{all_targets}

@@ -1,6 +1,5 @@
-use Rattle.std.proofs.Common.{◌≡◌, ℕ, ◌+◌, ◌-◌, ◌<◌, ◌≤◌, List, ◌++◌, suc, length, take, drop, get_or, sym, ap, ◌∙◌, rules}
-use Rattle.std.proofs.Common.{arith}
-use Rattle.std.proofs.Common.{append_assoc, drop-cons, drop-drop, length-append, length-drop, length-take}
+use Rattle.std.proofs.Common.{◌≡◌, ℕ, ◌+◌, ◌-◌, ◌<◌, ◌≤◌, List, ◌++◌, suc, length, take, drop, get_or, sym, ap, ◌∙◌}
+use Rattle.std.proofs.Common.{arith, append_assoc, drop-cons, drop-drop, length-append, length-drop, length-take}
 use Rattle.std.proofs.Common.{length-take-le, take-append-drop, take_at}
 use Rattle.std.specs.Prelude.{Vec, min}
 use Rattle.std.specs.declared.alloc.Global.{Global}

@@ -5,7 +5,6 @@ use Rattle.register_records.specs.ReadingState.{records_left}
 use Rattle.register_records.specs.Retrying.{inner_remaining}
 use Rattle.register_records.proofs.EntryStepLemmas.{at_start}
 use Rattle.register_records.proofs.GivenLemmas.{first_step, may_first}
-use Rattle.register_records.proofs.StepLemmas.{found}
 use Rattle.register_records.proofs.reading.EntryReader.open.Goals as goal
 use Rattle.register_records.proofs.reading.EntryReader.open.Goals.{then-not-found-via-else-not-found+then-not-is_header}
 use Rattle.register_records.proofs.reading.EntryReader.open.Goals.{then-not-found-via-then-not-found}

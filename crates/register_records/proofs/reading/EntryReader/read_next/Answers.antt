@@ -1,8 +1,4 @@
-use Rattle.std.proofs.Common.{◌≡◌, ◌∙◌, ◌∷◌, [], ap, arith, length, length-append, refl, rules, sym}
-use Rattle.std.proofs.Common.{true}
-use Rattle.register_records.specs.ReadingState.{records_left}
-use Rattle.register_records.specs.Retrying.{inner_remaining}
-use Rattle.register_records.specs.ReadingState.{format_by}
+use Rattle.std.proofs.Common.{◌≡◌, ◌∙◌, ◌∷◌, [], ap, arith, length, length-append, refl, rules, sym, true}
 use Rattle.register_records.specs.Seen.{entry_seen}
 use Rattle.register_records.proofs.GivenLemmas.{may_above, may_all, may_end, may_ended, may_fail, may_first, may_lack}
 use Rattle.register_records.proofs.GivenLemmas.{may_many, may_more}

@@ -1,4 +1,4 @@
-use Rattle.std.proofs.Common.{ℕ, List, Option, None, Some, ◌∙◌, sym, arith}
+use Rattle.std.proofs.Common.{ℕ, List, Option, arith}
 use Rattle.std.specs.Io.KnownBytes.{Consumes, Keeps}
 use Rattle.register_records.proofs.retrying.RetryingRead.read.Goals as goal
 

@@ -1,6 +1,5 @@
-use Rattle.std.proofs.Common.{◌∷◌, ◌++◌, [], List, arith, subst, rules}
+use Rattle.std.proofs.Common.{◌∷◌, ◌++◌, [], List, arith, subst, rules, sym, take}
 use Rattle.std.proofs.lemmas.Slice.Zip.{all_zipped_more}
-use Rattle.std.proofs.Common.{sym, take}
 use Rattle.std.proofs.lemmas.List.{take_all, take_more}
 use Rattle.std.specs.List.{AllZip}
 use Rattle.date_texts.specs.declared.target.Target.{Target}

@@ -1,4 +1,4 @@
-use Rattle.std.proofs.Common.{◌≡◌, ◌∙◌, ap, arith, get_or, [], rules}
+use Rattle.std.proofs.Common.{◌≡◌, ◌∙◌, ap, arith, get_or, []}
 use Rattle.std.proofs.lemmas.Grind.{common_steps}
 use Rattle.std.specs.Fmt.{decimal, signed_decimal}
 use Rattle.day_numbers.specs.Days.{weekday_names, weekday_number}

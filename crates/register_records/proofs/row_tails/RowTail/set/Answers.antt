@@ -1,4 +1,4 @@
-use Rattle.std.proofs.Common.{rules, arith}
+use Rattle.std.proofs.Common.{rules}
 use Rattle.register_records.proofs.RowTailLemmas.{four_texts, whole_tail}
 use Rattle.register_records.proofs.row_tails.RowTail.set.Goals as goal
 

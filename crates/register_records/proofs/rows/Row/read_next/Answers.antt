@@ -1,4 +1,4 @@
-use Rattle.std.proofs.Common.{rules, arith}
+use Rattle.std.proofs.Common.{rules}
 use Rattle.std.proofs.Math.Logic.{∥∥₁_map}
 use Rattle.register_records.proofs.rows.Row.read_next.Goals as goal
 

@@ -1,4 +1,4 @@
-use Rattle.std.proofs.Common.{◌∙◌, add-one, arith, sym, rules}
+use Rattle.std.proofs.Common.{◌∙◌, add-one, arith, sym}
 use Rattle.std.proofs.lemmas.List.{take_more}
 use Rattle.register_records.specs.declared.target_lists.TheConstants.{RANK_ROOM}
 use Rattle.register_records.proofs.TargetRankLemmas.{more_ranks}

@@ -1,6 +1,6 @@
 -- Texts that hold no byte that calls for quotes, and plain texts, which are ASCII besides.
 use Rattle.std.proofs.Common.{◌≡◌, ◌∙◌, ◌+◌, ◌*◌, ◌/◌, ◌-◌, ◌<◌, ◌≤◌, ◌++◌, ℕ, zero, suc, List, [], ◌∷◌, Option, rules}
-use Rattle.std.proofs.Common.{Some, true, false, refl, sym, ap, subst, arith, length, take, drop, get_or}
+use Rattle.std.proofs.Common.{Some, true, false, refl, sym, ap, subst, arith, length, take, drop, get_or, take_all}
 use Rattle.std.specs.Prelude.{⊤, Err, IfSome, IsAscii, Result}
 use Rattle.std.specs.Option.{option_map_or}
 use Rattle.std.proofs.lemmas.Bool.{and_parts, or_from, or_parts}
@@ -152,3 +152,6 @@ pub unquoted : (d : ℕ) → is_delimiter d ≡ true → (body : Result Texts Re
     × (needs_quotes (writing d) (shown (λ (t : Texts). t.date) (result_ok body)) ≡ false)
     × (needs_quotes (writing d) (shown (λ (t : Texts). t.note) (result_ok body)) ≡ false)
 unquoted d h body bare = search (rules, or_parts, bare_text)
+
+-- the steps of looking at a text chunk by chunk
+pub ruleset chunk_steps = (and_parts, plain_more, plain_by_chunks, take_all)

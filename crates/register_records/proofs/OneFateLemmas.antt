@@ -9,7 +9,8 @@ use Rattle.date_texts.specs.Names.{IsNamed}
 use Rattle.date_texts.specs.Numerals.{IsNumeral}
 use Rattle.date_texts.specs.Trimmed.{trimmed}
 use Rattle.date_texts.proofs.DecisionLemmas.{Is, all_four, both, in_words, is_at_most, is_named, is_number, is_true}
-use Rattle.register_records.specs.Entries.{AreAfterHeader, AreAll, Format, HasRecords, entries_of, record_limit, text_records}
+use Rattle.register_records.specs.Entries.{AreAfterHeader, AreAll, Format, HasRecords, entries_of, record_limit}
+use Rattle.register_records.specs.Entries.{text_records}
 use Rattle.register_records.specs.Headers.{IsHeader}
 use Rattle.register_records.specs.Laws.{Fate, HasFate, OneFate, accepted, no_header, not_sealed, too_many}
 use Rattle.register_records.specs.Records.{Fields, Texts, texts_of}

@@ -1,6 +1,6 @@
 -- When a record is a seal, and with what number of entries it agrees.
 use Rattle.std.proofs.Common.{◌≡◌, ◌∙◌, ◌<◌, ◌≤◌, ◌+◌, ◌-◌, ◌*◌, ◌^◌, ℕ, suc, List, length, take, rules}
-use Rattle.std.proofs.lemmas.List.Folds.{list_all_more}
+use Rattle.std.proofs.lemmas.List.Folds.{list_all_at, list_all_more}
 use Rattle.std.proofs.lemmas.List.Sums.{fold-append}
 use Rattle.std.proofs.Common.{get_or, None, Some, true, refl, arith, codes}
 use Rattle.std.specs.Prelude.{◌↔◌}
@@ -52,3 +52,6 @@ places_more i n d lt a b = (omega (arith, a, b), omega (arith, a, b))
 -- a digit more fits
 pub digit_fits : (i n c : ℕ) → i < 7 → n < 10 ^ i → is_ascii_digit c ≡ true → 10 * n + (c - 48) < 10000000
 digit_fits i n c lt a h = (places_more i n (c - 48) lt a (digit_small c h).1).1
+
+-- the steps of reading a number digit by digit
+pub ruleset digit_steps = (list_all_at, digit_fits, digit_small, digits_more, number_more, places_more)

@@ -1,5 +1,6 @@
 -- What the reads of one entry, or of the end, say of the records that were left.
-use Rattle.std.proofs.Common.{◌≡◌, ℕ, List, [], ◌∷◌, Bool, Option, Some, None, true, false, refl, sym, ◌∙◌, arith, rules}
+use Rattle.std.proofs.Common.{◌≡◌, ℕ, List, [], ◌∷◌, Bool, Option, Some, None, true, false, refl, sym, ◌∙◌, arith}
+use Rattle.std.proofs.Common.{rules}
 use Rattle.std.specs.Prelude.{IfSome, IfErr, IsErrAnd, Result}
 use Rattle.register_records.specs.Records.{Fields}
 use Rattle.register_records.specs.Seals.{Agrees, is_seal}
@@ -73,3 +74,6 @@ plain_no_seal form f h = search rules
 
 pub other_no_seal : (form : Form) (f : Fields) → is_seal f ≡ false → IsNoSeal form f
 other_no_seal form f h = search rules
+
+-- what a record behind a seal, or a seal that does not agree, says of the records that were left
+pub ruleset unlike_seal = (always, found, not_empty)

@@ -156,7 +156,7 @@ fn are_plain(text: &[u8]) -> bool
 
 /// The same, chunk by chunk: a chunk takes no longer than two bytes alone. The last may overlap the one before it.
 #[inline(always)]
-#[tactic(auto, using(std::proofs::lemmas::Bool::and_parts, crate::proofs::BareLemmas::plain_more, crate::proofs::BareLemmas::plain_by_chunks, std::proofs::Common::take_all,))]
+#[tactic(auto, using(crate::proofs::BareLemmas::chunk_steps))]
 fn are_plain_by_chunks(text: &[u8]) -> bool
     ensures { result ≡ true → IsPlain text.now }
 {

@@ -128,7 +128,7 @@ fn read_record<R: Read>(
 /// # Errors
 ///
 /// `NotSealed` where it does not agree or one follows, and the faults of reading.
-#[tactic(auto, using(crate::proofs::StepLemmas::always, crate::proofs::StepLemmas::found, crate::proofs::StepLemmas::not_empty,))]
+#[tactic(auto, using(crate::proofs::StepLemmas::unlike_seal))]
 fn read_behind_seal<R: Read>(
     records: &mut Reader<Retrying<R>>,
     csv_record: &mut ByteRecord,

@@ -111,3 +111,6 @@ line_ended old new tail same count wrote d before fields begun =
       counted = count;
       blank = rw wrote refl;
     }
+
+-- the steps of appending fields one by one
+pub ruleset gained = (none_gained, both_gained)

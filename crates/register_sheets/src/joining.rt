@@ -14,7 +14,7 @@ use csv::ByteRecord;
 use std::alloc::{AllocError, Global};
 
 /// Appends the fields of a record to a line, and empty ones behind them up to `fill` in all.
-#[tactic(auto, using(std::proofs::lemmas::List::take_more, crate::proofs::LineLemmas::both_gained, crate::proofs::LineLemmas::none_gained,))]
+#[tactic(auto, using(std::proofs::lemmas::List::take_more, crate::proofs::LineLemmas::gained))]
 fn push_own(lines: &mut SheetLines, record: &ByteRecord, fill: usize) -> Result<(), AllocError>
     ensures { OnOk result (GainsFields (filled fill (fields_of record.now)) lines.old lines.new) }
 {

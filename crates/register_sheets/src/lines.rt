@@ -35,7 +35,7 @@ impl SheetLines {
     }
 
     /// Appends empty fields, so many.
-    #[tactic(auto, using(std::proofs::lemmas::List::replicate_more, crate::proofs::LineLemmas::both_gained, crate::proofs::LineLemmas::none_gained,))]
+    #[tactic(auto, using(std::proofs::lemmas::List::replicate_more, crate::proofs::LineLemmas::gained))]
     pub fn push_empty(&mut self, count: usize) -> Result<(), AllocError>
         ensures { OnOk result (GainsFields (replicate count []) self.old self.new) }
     {

@@ -2,7 +2,7 @@
 use Rattle.std.proofs.Common.{◌≡◌, ◌≢◌, ◌∙◌, ◌+◌, ◌-◌, ◌^◌, ℕ, List, [], ◌∷◌, ◌++◌, Option, Some, true}
 use Rattle.std.proofs.Common.{false, length, refl, sym, ap, arith, append_assoc, append-nil, length-append}
 use Rattle.std.specs.Prelude.{◌==◌, ◌&&◌, ◌||◌, not, min}
-use Rattle.std.specs.Io.KnownBytes.{Appends, Keeps}
+use Rattle.std.specs.Io.KnownBytes.{Appends}
 use Rattle.std.proofs.lemmas.Bool.{ne_eqb}
 use Rattle.csv.specs.Writing.{default_writer, escaped, field_text, fields_text, fields_written, has_written, is_blank}
 use Rattle.csv.specs.Writing.{next_sep, row_body, row_text, tail_text, text_written, with_delimiter, writer_setup}
@@ -49,9 +49,6 @@ now_known old new before more h e = grind arith
 has_gained : (before more : List ℕ) (new : Option (List ℕ)) → new ≡ Some (before ++ more)
     → Appends (Some before) new more
 has_gained before more new e = grind arith
-
-pub still_known : (old : List ℕ) (new : List ℕ) → Keeps (Some old) (Some new) → new ≡ old
-still_known old new h = h
 
 -- csv's count of fields serves, though it goes no further than this
 abbrev count_of : ℕ → ℕ

@@ -11,10 +11,7 @@ use Rattle.date_texts.specs.Buffers.{IsPut}
 -- one piece behind another
 pub put_then : {a b c : List ℕ} {at i j : ℕ} {x y : List ℕ} → IsPut a b at i x → IsPut b c i j y
     → IsPut a c at j (x ++ y)
-put_then {a = a} {at = at} {x = x} {y = y} h g = record {
-  follows = omega (arith, h.follows, g.follows, length-append x y);
-  value = g.value ∙ ap (λ (front : List ℕ). front ++ y) h.value ∙ append_assoc (take at a) x y;
-}
+put_then {a = a} {at = at} {x = x} {y = y} h g = grind (arith, length-append, append_assoc, take)
 
 -- the same piece, said in another way
 pub put_same : {a b : List ℕ} {at i : ℕ} {x y : List ℕ} → x ≡ y → IsPut a b at i x → IsPut a b at i y

@@ -42,16 +42,7 @@ mark_length _ _ capital_letter = omega arith
 mark_length _ _ small_letter = omega arith
 
 civil_length : (grammar : Grammar) (text : List ℕ) (z : ℤ) (m d : ℕ) → CivilParts grammar text z m d → length text ≤ 16
-civil_length grammar text z m d h =
-    omega (
-      arith,
-      length-append {A = ℕ},
-      ap length h.joined,
-      year_length h.year_text z h.is_year,
-      mark_length grammar h.mark h.is_mark,
-      h.is_month.few,
-      h.is_day.few,
-    )
+civil_length grammar text z m d h = grind (arith, length-append, year_length, mark_length)
 
 name_length : (text : List ℕ) (name : RomanName) → IsNameText text name → length text ≤ 3
 name_length _ _ (of_kalends e h) = omega (arith, h.few)
@@ -60,70 +51,28 @@ name_length _ _ (of_ides e h) = omega (arith, h.few)
 name_length _ _ (of_second_sixth {text = text} e) = omega (arith, ap length (second_sixth_is text e).joined)
 
 roman_length : (text : List ℕ) (z : ℤ) (m : ℕ) (name : RomanName) → RomanParts text z m name → length text ≤ 16
-roman_length text z m name h =
-    omega (
-      arith,
-      length-append {A = ℕ},
-      ap length h.joined,
-      year_length h.year_text z h.is_year,
-      h.is_month.few,
-      name_length h.name_text name h.is_name,
-    )
+roman_length text z m name h = grind (arith, length-append, year_length, name_length)
 
 -- the decimal digits of a number of four digits
 pub four_digits : (n : ℕ) → n ≤ 9_999 → length (decimal n) ≤ 4
 four_digits n small = (decimal_numeral 4 n (omega arith) (omega arith) (omega arith)).few
 
 long_length : (p q r s t : ℕ) → p ≤ 9_999 → q ≤ 19 → r ≤ 19 → s ≤ 17 → t ≤ 19 → length (canonical_long p q r s t) ≤ 16
-long_length p q r s t a b c d e =
-    omega (
-      arith,
-      length-append {A = ℕ},
-      four_digits p a,
-      one_or_two q (omega arith),
-      one_or_two r (omega arith),
-      one_or_two s (omega arith),
-      one_or_two t (omega arith),
-    )
+long_length p q r s t a b c d e = grind (arith, length-append, four_digits, one_or_two)
 
 -- and room behind for the row of the last place
 pub long_room : (p q r s t : ℕ) → p ≤ 99 → q ≤ 19 → r ≤ 19 → s ≤ 17 → t ≤ 19
     → length (canonical_long p q r s t) + 4 ≤ 16 + length (decimal t)
-long_room p q r s t a b c d e =
-    omega (
-      arith,
-      length-append {A = ℕ},
-      one_or_two p a,
-      one_or_two q (omega arith),
-      one_or_two r (omega arith),
-      one_or_two s (omega arith),
-    )
+long_room p q r s t a b c d e = grind (arith, length-append, one_or_two)
 
 pub text_room : (n : LongCount) → length (canonical_text (Long n)) + 4 ≤ 24 + length (decimal n.kin)
-text_room n =
-    omega (
-      arith,
-      length-append {A = ℕ},
-      four_digits n.baktun n.places.0,
-      four_digits n.katun n.places.1,
-      four_digits n.tun n.places.2,
-      four_digits n.uinal n.places.3,
-    )
+text_room n = grind (arith, length-append, four_digits)
 
 -- the text of any date
 pub text_length : (date : Date) → length (canonical_text date) ≤ 24
 text_length (Civil d) =
     omega (arith, civil_length (grammar d.calendar) _ d.ymd.year d.ymd.month d.ymd.day (canonical_is d))
-text_length (Long n) =
-    omega (
-      arith,
-      length-append {A = ℕ},
-      four_digits n.baktun n.places.0,
-      four_digits n.katun n.places.1,
-      four_digits n.tun n.places.2,
-      four_digits n.uinal n.places.3,
-      four_digits n.kin n.places.4,
-    )
+text_length (Long n) = grind (arith, length-append, four_digits)
 text_length (Roman d) =
     omega (
       arith,

@@ -5,7 +5,6 @@ use Rattle.std.proofs.Common.{sym, subst, ap, arith, ℤ, pos, negsuc, ◌-◌, 
 use Rattle.std.specs.Str.{str_to_ascii_lowercase}
 use Rattle.day_numbers.specs.Dates.{IsYear, IsYmd}
 use Rattle.day_numbers.specs.Rules.{Years, from_one, with_zero, without_zero, HasYear}
-use Rattle.day_numbers.specs.Rules.{days_of_month}
 use Rattle.day_numbers.specs.declared.ymd.Ymd.{Ymd}
 use Rattle.day_numbers.proofs.DateLemmas.{ymd_same}
 use Rattle.day_numbers.proofs.SignedArithmeticLemmas.{signed_arith}
@@ -57,9 +56,7 @@ is_year without_zero (pos zero) = inr (λ h. h)
 is_year without_zero (negsuc n) = inl tt
 
 is_date_by : (r : Reckoning) (d : Ymd) → Is (IsDateBy r d)
-is_date_by (by_rules rules) d =
-    all_three (is_year rules.years d.year) (is_at_most 1 d.day)
-    (is_at_most d.day (days_of_month (rules.months d.year) d.month))
+is_date_by (by_rules rules) d = search (rules, all_three, is_year, is_at_most)
 is_date_by by_weeks d =
     all_four (is_at_most 1 d.month) (is_at_most 1 d.day) (is_at_most d.day 7) (is_less_z _ _)
 is_date_by by_places d = inr (λ h. h)
@@ -245,15 +242,10 @@ some_date calendar P is = some_civil_date calendar P is (λ e. cc, λ e. cc)
 
 -- ---- the date that a text says
 same_numbers : (x y : ℤ × ℕ × ℕ) → Is (x ≡ y)
-same_numbers (a, b, c) (p, q, r) =
-    in_words (all_three (is_integer a p) (is_number b q) (is_number c r)) (λ h. let (e, f, g) = h in cc)
-    (λ e. (ap (λ x. x.0) e, ap (λ x. x.1) e, ap (λ x. x.2) e))
+same_numbers (a, b, c) (p, q, r) = grind (arith, signed_arith, in_words, all_three, is_integer, is_number)
 
 same_five : (x y : ℕ × ℕ × ℕ × ℕ × ℕ) → Is (x ≡ y)
-same_five (a, b, c, d, e) (p, q, r, s, t) =
-    in_words (all_five (is_number a p) (is_number b q) (is_number c r) (is_number d s) (is_number e t))
-    (λ h. let (i, j, k, l, m) = h in cc)
-    (λ e. (ap (λ x. x.0) e, ap (λ x. x.1) e, ap (λ x. x.2) e, ap (λ x. x.3) e, ap (λ x. x.4) e))
+same_five (a, b, c, d, e) (p, q, r, s, t) = grind (arith, signed_arith, in_words, all_five, is_number)
 
 same_name : (x y : RomanName) → Is (x ≡ y)
 same_name (Kalends m) (Kalends n) = in_words (is_number m n) (λ e. ap Kalends e) (λ e. cc)
@@ -263,9 +255,7 @@ same_name SecondSixth SecondSixth = inl refl
 same_name x y = inr (λ e. cc)
 
 same_roman : (x y : ℤ × ℕ × RomanName) → Is (x ≡ y)
-same_roman (a, b, c) (p, q, r) =
-    in_words (all_three (is_integer a p) (is_number b q) (same_name c r)) (λ h. let (e, f, g) = h in cc)
-    (λ e. (ap (λ x. x.0) e, ap (λ x. x.1) e, ap (λ x. x.2) e))
+same_roman (a, b, c) (p, q, r) = grind (arith, signed_arith, in_words, all_three, is_integer, is_number, same_name)
 
 is_said : (calendar : Calendar) (text : List ℕ) (date : Date) → calendar_of_date date ≡ calendar
     → Is (SaysDate calendar text date)

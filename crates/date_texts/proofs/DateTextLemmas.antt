@@ -90,11 +90,7 @@ only_civil calendar text d p q (Roman e) h = absurd (d.civil.1 (p ∙ sym h.0))
 pub some_civil : (calendar : Calendar) (text : List ℕ) (d : CivilDate) → d.calendar ≡ calendar
     → civil_at (grammar calendar) text ≡ Some (d.ymd.year, d.ymd.month, d.ymd.day)
     → (date : Date) → (Some (Civil d) ≡ Some date) ↔ SaysDate calendar text date
-some_civil calendar text d p q date = (
-  λ e. subst (SaysDate calendar text) (some_inside e)
-      (p, civil_says (grammar calendar) text d.ymd.year d.ymd.month d.ymd.day q),
-  λ h. ap Some (only_civil calendar text d p q date h),
-)
+some_civil calendar text d p q date = grind (arith, some_inside, civil_says, only_civil)
 
 -- the parts of a date that was made of what was read
 pub parts_read : (grammar : Grammar) (text : List ℕ) (y : ℤ) (m d : ℕ) (o : Option (ℤ × ℕ × ℕ)) (ymd : Ymd)
@@ -117,11 +113,7 @@ only_long text n q (Roman d) h = absurd (cc (h.0))
 
 pub some_long : (text : List ℕ) (n : LongCount) → long_at text ≡ Some (n.baktun, n.katun, n.tun, n.uinal, n.kin)
     → (date : Date) → (Some (Long n) ≡ Some date) ↔ SaysDate Longcount text date
-some_long text n q date = (
-  λ e. subst (SaysDate Longcount text) (some_inside e)
-      (refl, long_says text n.baktun n.katun n.tun n.uinal n.kin q),
-  λ h. ap Some (only_long text n q date h),
-)
+some_long text n q date = grind (arith, some_inside, long_says, only_long)
 
 -- the places of a long count that was made of what was read
 pub places_read : (text : List ℕ) (p q r s t : ℕ) (o : Option (ℕ × ℕ × ℕ × ℕ × ℕ)) (n : LongCount)
@@ -145,10 +137,7 @@ only_roman text d q (Roman e) h =
 
 pub some_roman : (text : List ℕ) (d : RomanDate) → roman_at text ≡ Some (d.year, d.month, d.name)
     → (date : Date) → (Some (Roman d) ≡ Some date) ↔ SaysDate RomanCalendar text date
-some_roman text d q date = (
-  λ e. subst (SaysDate RomanCalendar text) (some_inside e) (refl, roman_says text d.year d.month d.name q),
-  λ h. ap Some (only_roman text d q date h),
-)
+some_roman text d q date = grind (arith, some_inside, roman_says, only_roman)
 
 -- the parts of a Roman date that was made of what was read
 pub names_read : (text : List ℕ) (y : ℤ) (m : ℕ) (x : RomanName) (o : Option (ℤ × ℕ × RomanName)) (d : RomanDate)
@@ -191,9 +180,7 @@ start_stays c cs h = rw h
 
 end_stays : (xs : List ℕ) (c : ℕ) → is_blank c ≡ false → trim_end (xs ++ c ∷ []) ≡ xs ++ c ∷ []
 end_stays xs c h =
-    let back : reverse (xs ++ c ∷ []) ≡ c ∷ reverse xs = reverse-append xs (c ∷ []) in
-    ap (λ t. reverse (trim_start t)) back ∙ ap reverse (start_stays c (reverse xs) h) ∙ ap reverse (sym back)
-    ∙ reverse-reverse (xs ++ c ∷ [])
+    grind (arith, reverse-append xs (c ∷ []), start_stays c (reverse xs) h, reverse-reverse (xs ++ c ∷ []))
 
 -- a text that ends in a byte that is no blank
 record EndsPlain (text : List ℕ) : Type 0 where
@@ -230,10 +217,7 @@ ends_after xs h = record {
 
 -- a text that begins and ends with no blank is trimmed
 stays_trimmed : (text whole : List ℕ) → text ≡ whole → trim_start whole ≡ whole → EndsPlain whole → trimmed text ≡ text
-stays_trimmed text whole e start end =
-    let ended : trim_end whole ≡ whole = ap trim_end end.joined ∙ end_stays end.front end.last end.no_blank
-    ∙ sym end.joined in
-    ap trimmed e ∙ ap trim_end start ∙ ended ∙ sym e
+stays_trimmed text whole e start end = grind (arith, end.joined, end_stays end.front end.last end.no_blank)
 
 civil_trimmed : (grammar : Grammar) (text : List ℕ) (z : ℤ) (m d : ℕ) → CivilParts grammar text z m d
     → trimmed text ≡ text

@@ -33,9 +33,7 @@ all_four p q r s =
     in_words (both p (all_three q r s)) (λ h. (h.0, h.1.0, h.1.1, h.1.2)) (λ h. (h.0, (h.1, h.2, h.3)))
 
 pub all_five : {P Q R S T : Type 0} → Is P → Is Q → Is R → Is S → Is T → Is (P × Q × R × S × T)
-all_five p q r s t =
-    in_words (both p (all_four q r s t)) (λ h. (h.0, h.1.0, h.1.1, h.1.2, h.1.3))
-    (λ h. (h.0, (h.1, h.2, h.3, h.4)))
+all_five p q r s t = grind (arith, signed_arith, in_words, both, all_four)
 
 pub either : {P Q : Type 0} → Is P → Is Q → Is (P ⊎ Q)
 either (inl p) q = inl (inl p)
@@ -61,9 +59,7 @@ pub is_less_z : (y z : ℤ) → Is (y <ℤ z)
 is_less_z y z = by_lt_z y z (λ less. inl less) (λ most. inr (λ h. omega (arith, signed_arith, most, h)))
 
 pub is_integer : (y z : ℤ) → Is (y ≡ z)
-is_integer y z =
-    in_words (both (is_at_most_z y z) (is_at_most_z z y)) (λ h. omega (arith, signed_arith, h.0, h.1))
-    (λ e. (omega (arith, signed_arith), omega (arith, signed_arith)))
+is_integer y z = grind (arith, signed_arith, in_words, both, is_at_most_z)
 
 pub is_between : (low high z : ℤ) → Is (IsBetween low high z)
 is_between low high z = both (is_at_most_z low z) (is_at_most_z z high)

@@ -31,19 +31,7 @@ long_parts text p q r s t (a ∷ [], are, e) = absurd are.1
 long_parts text p q r s t (a ∷ b ∷ [], are, e) = absurd are.1.1
 long_parts text p q r s t (a ∷ b ∷ c ∷ [], are, e) = absurd are.1.1.1
 long_parts text p q r s t (a ∷ b ∷ c ∷ d ∷ [], are, e) = absurd are.1.1.1.1
-long_parts text p q r s t (a ∷ b ∷ c ∷ d ∷ f ∷ [], are, e) = record {
-  baktun_text = a;
-  katun_text = b;
-  tun_text = c;
-  uinal_text = d;
-  kin_text = f;
-  is_baktun = are.0;
-  is_katun = are.1.0;
-  is_tun = are.1.1.0;
-  is_uinal = are.1.1.1.0;
-  is_kin = are.1.1.1.1.0;
-  joined = e;
-}
+long_parts text p q r s t (a ∷ b ∷ c ∷ d ∷ f ∷ [], are, e) = grind arith
 long_parts text p q r s t (a ∷ b ∷ c ∷ d ∷ f ∷ g ∷ more, are, e) = absurd are.1.1.1.1.1
 
 pub long_whole : (text : List ℕ) (p q r s t : ℕ) → LongParts text p q r s t → IsLongText text p q r s t

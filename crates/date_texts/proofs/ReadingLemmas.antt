@@ -88,11 +88,7 @@ pub number_take : (more : ℕ) (ds x : List ℕ) (n : ℕ) → IsNumeral (suc mo
     → number_at more (ds ++ x) ≡ Some (n, x)
 unfolding number_at
 number_take more [] x n h stop = absurd (omega (arith, h.some))
-number_take more (c ∷ cs) x n h stop =
-    let both = and_parts (is_ascii_digit c) (all_digits cs) h.digits in
-    let front = digits_take more (c - 48) cs x both.1 (omega (arith, h.few)) stop in
-    let value : n ≡ value_after (c - 48) cs = h.value ∙ ap (λ k. value_after k cs) (omega arith) in
-    rw (both.0, front, value)
+number_take more (c ∷ cs) x n h stop = search (rules, and_parts, all_digits, digits_take, value_after)
 
 pub record ReadsNumber (more : ℕ) (bytes : List ℕ) (n : ℕ) (rest : List ℕ) : Type 0 where
   pub ds : List ℕ
@@ -265,7 +261,4 @@ year_is_year (negsuc n) h =
     minus (padded_numeral 4 5 (suc n) (omega arith) (omega (arith, ints, h)) (omega (arith, ints, h)) (omega arith))
 
 pub decimal_numeral : (most n : ℕ) → n < 10 ^ most → n < 100_000 → 1 ≤ most → IsNumeral most (decimal n) n
-decimal_numeral most n small less one =
-    let none : 0 - length (decimal n) ≡ 0 = omega arith in
-    subst (λ ds. IsNumeral most ds n) (ap (λ k. replicate k 48 ++ decimal n) none)
-    (padded_numeral 0 most n (omega arith) small less one)
+decimal_numeral most n small less one = grind (arith, ints, padded_numeral 0 most n (omega arith) small less one)

@@ -11,7 +11,7 @@ use Rattle.day_numbers.specs.Dates.{IsBetween}
 use Rattle.solar_calendars.specs.Roman.{count_of}
 use Rattle.solar_calendars.specs.declared.roman_date.RomanName.{RomanName}
 use Rattle.solar_calendars.specs.declared.roman_date.RomanName.TheVariants.{Kalends, Nones, Ides, SecondSixth}
-use Rattle.date_texts.specs.Numerals.{IsNumeral, IsYearText, padded, canonical_year}
+use Rattle.date_texts.specs.Numerals.{IsNumeral, IsYearText}
 use Rattle.date_texts.specs.RomanText.{IsNameText, of_kalends, of_nones, of_ides, of_second_sixth, canonical_name}
 use Rattle.date_texts.specs.RomanText.{canonical_roman, IsRomanText}
 use Rattle.date_texts.specs.Reading.{number_at, after_byte, year_at, ◌>>=◌}
@@ -31,15 +31,7 @@ pub record RomanParts (text : List ℕ) (year : ℤ) (month : ℕ) (name : Roman
   pub joined : text ≡ year_text ++ 45 ∷ (month_text ++ 45 ∷ name_text)
 
 pub roman_parts : (text : List ℕ) (z : ℤ) (m : ℕ) (x : RomanName) → IsRomanText text z m x → RomanParts text z m x
-roman_parts text z m x (y, rest, is_year, (month, name, is_month, is_name, later), whole) = record {
-  year_text = y;
-  month_text = month;
-  name_text = name;
-  is_year = is_year;
-  is_month = is_month;
-  is_name = is_name;
-  joined = rw (whole, later) refl;
-}
+roman_parts text z m x (y, rest, is_year, (month, name, is_month, is_name, later), whole) = grind arith
 
 pub roman_whole : (text : List ℕ) (z : ℤ) (m : ℕ) (x : RomanName) → RomanParts text z m x → IsRomanText text z m x
 roman_whole text z m x h =
@@ -60,9 +52,7 @@ count_read bytes n e =
 letter_read : (b : Bool) (cs : List ℕ) (make : ℕ → RomanName) (other : Option RomanName) (name : RomanName) (P : Type 0)
     → cond b (count_at cs >>= λ n. Some (make n)) other ≡ Some name
     → (b ≡ true → (n : ℕ) → IsNumeral 2 cs n → make n ≡ name → P) → (other ≡ Some name → P) → P
-letter_read true cs make other name P e f g =
-    let a = bind_some (count_at cs) (λ n. Some (make n)) name e in
-    f refl a.0 (count_read cs a.0 a.1) (some_inside a.2)
+letter_read true cs make other name P e f g = grind (arith, bind_some, count_read, some_inside)
 letter_read false cs make other name P e f g = g e
 
 same_number : (a b : ℕ) → (a == b) ≡ true → a ≡ b
@@ -83,8 +73,7 @@ counted_read (c ∷ cs) name e =
 sixth_read_by : (bytes : List ℕ) (b : Bool) (name : RomanName) → str_eq_ignore_ascii_case bytes (codes "K6B") ≡ b
     → cond b (Some SecondSixth) (counted_at bytes) ≡ Some name → IsNameText bytes name
 sixth_read_by bytes true name t e =
-    subst (IsNameText bytes) (some_inside e)
-    (of_second_sixth ((bytes_eq-Decides (str_to_ascii_lowercase bytes) (codes "k6b")).0 t))
+    grind (arith, some_inside e, of_second_sixth ((bytes_eq-Decides (str_to_ascii_lowercase bytes) (codes "k6b")).0 t))
 sixth_read_by bytes false name t e = counted_read bytes name e
 
 name_read : (bytes : List ℕ) (name : RomanName) → name_at bytes ≡ Some name → IsNameText bytes name
@@ -142,17 +131,13 @@ pub second_sixth_is : (text : List ℕ) → str_to_ascii_lowercase text ≡ code
 second_sixth_is [] e = absurd (cc)
 second_sixth_is (a ∷ []) e = absurd (cc)
 second_sixth_is (a ∷ b ∷ []) e = absurd (cc)
-second_sixth_is (a ∷ b ∷ c ∷ []) e =
-    let six : b ≡ 54 = is_six b cc in
-    record { first = a; last = c; is_first = cc; is_last = cc; joined = rw six refl }
+second_sixth_is (a ∷ b ∷ c ∷ []) e = grind (arith, is_six b cc)
 second_sixth_is (a ∷ b ∷ c ∷ d ∷ ds) e = absurd (cc)
 
 no_second_sixth : (c : ℕ) (ds : List ℕ) (n : ℕ) → IsNumeral 2 ds n → str_to_ascii_lowercase (c ∷ ds) ≡ codes "k6b" → ⊥
 no_second_sixth c [] n h e = cc
 no_second_sixth c (a ∷ []) n h e = cc
-no_second_sixth c (a ∷ b ∷ []) n h e =
-    let more = and_parts (is_ascii_digit a) _ h.digits in
-    digit_no_letter b (and_parts (is_ascii_digit b) true more.1).0 cc
+no_second_sixth c (a ∷ b ∷ []) n h e = grind (arith, and_parts, digit_no_letter)
 no_second_sixth c (a ∷ b ∷ d ∷ ds) n h e = omega (arith, h.few)
 
 no_sixth_test : (c : ℕ) (ds : List ℕ) (n : ℕ) (b : Bool) → IsNumeral 2 ds n
@@ -174,10 +159,7 @@ name_take _ _ (of_second_sixth {text = text} e) = rw e refl
 pub roman_take : (text : List ℕ) (z : ℤ) (m : ℕ) (name : RomanName) → RomanParts text z m name
     → roman_at text ≡ Some (z, m, name)
 unfolding roman_at after_byte
-roman_take text z m name h =
-    let month = number_take 1 h.month_text (45 ∷ h.name_text) m h.is_month refl in
-    let year = year_take h.year_text z (45 ∷ (h.month_text ++ 45 ∷ h.name_text)) h.is_year refl in
-    rw (h.joined, year, month, name_take h.name_text name h.is_name) refl
+roman_take text z m name h = grind (arith, number_take, year_take, name_take)
 
 -- ---- the canonical text is in the grammar
 name_is_name : (name : RomanName) → count_of name ≤ 99 → IsNameText (canonical_name name) name
@@ -188,12 +170,4 @@ name_is_name SecondSixth h = of_second_sixth refl
 
 pub canonical_roman_is : (z : ℤ) (m : ℕ) (name : RomanName) → IsBetween (neg_ℤ (pos 99_999)) (pos 99_999) z → m ≤ 99
     → count_of name ≤ 99 → RomanParts (canonical_roman z m name) z m name
-canonical_roman_is z m name h i j = record {
-  year_text = canonical_year z;
-  month_text = padded 2 m;
-  name_text = canonical_name name;
-  is_year = year_is_year z h;
-  is_month = padded_numeral 2 2 m (omega arith) (omega arith) (omega arith) (omega arith);
-  is_name = name_is_name name j;
-  joined = refl;
-}
+canonical_roman_is z m name h i j = grind (arith, year_is_year, padded_numeral, name_is_name)

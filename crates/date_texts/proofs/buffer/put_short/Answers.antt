@@ -1,4 +1,4 @@
-use Rattle.std.proofs.Common.{arith, sym, ◌<◌, ℕ, length-set}
+use Rattle.std.proofs.Common.{arith, sym, ◌<◌, length-set}
 use Rattle.itoa.proofs.Decimal.{decimal_two, length_two}
 use Rattle.date_texts.proofs.BufferLemmas.{put_ones, put_pair, put_same}
 use Rattle.date_texts.proofs.WritingLemmas.{one_or_two}
@@ -9,16 +9,7 @@ pub bounds-buffer-at : goal.bounds-buffer-at
 bounds-buffer-at c = omega (arith, one_or_two c.args.number c.requires.small)
 
 pub bounds-buffer-last : goal.bounds-buffer-last
-bounds-buffer-last c =
-    elim c.if-number-lt10.branch [
-      | then-number-lt10 w ↦ omega (arith, one_or_two c.args.number c.requires.small, length-set {A = ℕ})
-      | else-number-lt10 w ↦
-          omega (
-            arith,
-            length_two c.args.number w.if-number-lt10.false (omega (arith, c.requires.small)),
-            length-set {A = ℕ},
-          )
-    ]
+bounds-buffer-last c = grind (arith, then-number-lt10, one_or_two, length-set, else-number-lt10, length_two)
 
 pub returns-clause-value : goal.returns-clause-value
 returns-clause-value c =

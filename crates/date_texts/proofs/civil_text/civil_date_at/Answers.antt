@@ -5,10 +5,7 @@ use Rattle.date_texts.proofs.DateTextLemmas.{no_civil, some_civil, parts_read}
 use Rattle.date_texts.proofs.civil_text.civil_date_at.Goals as goal
 
 pub returns-in_err-year : goal.returns-in_err-year
-returns-in_err-year c =
-    let own = ap (λ g. civil_at g c.args.text.now) (sym c.requires.own) in
-    let none = own ∙ (sym c.civil_at.ensures.value ∙ c.in_err-year.was) in
-    λ date. (λ e. absurd (cc), λ h. absurd (no_civil c.args.calendar c.args.text.now none c.requires.civil date h))
+returns-in_err-year c = search (rules, no_civil)
 
 pub returns : goal.returns
 returns c =

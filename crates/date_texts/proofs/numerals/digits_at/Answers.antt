@@ -25,10 +25,7 @@ returns-in_default-clause-small c =
     omega (arith, c.loop-left.invariant.room, below_digits c.loop-left.left c.loop-left.value c.loop-left.invariant.few)
 
 pub returns-then-not-is_ascii_digit-clause-value : goal.returns-then-not-is_ascii_digit-clause-value
-returns-then-not-is_ascii_digit-clause-value c =
-    let no_digit = no_digit_first c.loop-left.rest.now
-    (sym c.is_ascii_digit.ensures.value ∙ c.if-not-is_ascii_digit.true) in
-    sym (digits_stop c.loop-left.left c.loop-left.value c.loop-left.rest.now no_digit) ∙ c.loop-left.invariant.same
+returns-then-not-is_ascii_digit-clause-value c = grind (arith, no_digit_first, digits_stop)
 
 pub returns-then-not-is_ascii_digit-clause-small : goal.returns-then-not-is_ascii_digit-clause-small
 returns-then-not-is_ascii_digit-clause-small c =

@@ -51,12 +51,9 @@ one_date_on_day one n (Civil d) (Civil e) same h i g j =
     ap Civil (civil_same d e same (one_date_by (reckoning e.calendar) d.ymd e.ymd h' g (i' ∙ sym j)))
 one_date_on_day one n (Long d) (Long e) same h i g j = ap Long (one_long_count d e h g (i ∙ sym j))
 one_date_on_day one n (Roman d) (Roman e) same h i g j = ap Roman (one d e h g (i ∙ sym j))
-one_date_on_day one n (Civil d) (Long e) same h i g j = absurd (d.civil.0 same)
-one_date_on_day one n (Civil d) (Roman e) same h i g j = absurd (d.civil.1 same)
-one_date_on_day one n (Long d) (Civil e) same h i g j = absurd (e.civil.0 (sym same))
-one_date_on_day one n (Long d) (Roman e) same h i g j = absurd (cc)
-one_date_on_day one n (Roman d) (Civil e) same h i g j = absurd (e.civil.1 (sym same))
-one_date_on_day one n (Roman d) (Long e) same h i g j = absurd (cc)
+one_date_on_day one n (Civil d) e same h i g j = absurd (grind (arith, d.civil.0, d.civil.1))
+one_date_on_day one n d (Civil e) same h i g j = absurd (grind (arith, e.civil.0, e.civil.1))
+one_date_on_day one n d e same h i g j = absurd (cc)
 
 since_first : (n : ℤ) (d : Date) → IsDateOfCalendar d → day_number_of_date d ≡ n
     → IsSinceFirstDay (first_day_by (reckoning (calendar_of_date d))) n

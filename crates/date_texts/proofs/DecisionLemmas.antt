@@ -1,6 +1,6 @@
 -- What can be decided: a statement holds, or it does not. The logic is constructive, so that each of these is a proof.
 use Rattle.std.proofs.Common.{◌≡◌, ◌⊎◌, inl, inr, ℕ, zero, suc, ◌<◌, ◌≤◌, List, Bool, true, false, IsTrue, refl, subst}
-use Rattle.std.proofs.Common.{ap, arith, Option, None, Some, ℤ, ◌<ℤ◌, ◌≤ℤ◌}
+use Rattle.std.proofs.Common.{arith, ℤ, ◌<ℤ◌, ◌≤ℤ◌}
 use Rattle.std.specs.Str.{bytes_eq, str_to_ascii_lowercase}
 use Rattle.std.proofs.lemmas.Bool.{cases_lt}
 use Rattle.std.proofs.lemmas.Int.{by_lt_z}
@@ -9,7 +9,6 @@ use Rattle.day_numbers.specs.Dates.{IsBetween}
 use Rattle.day_numbers.proofs.SignedArithmeticLemmas.{signed_arith}
 use Rattle.date_texts.specs.Names.{IsNamed}
 use Rattle.date_texts.specs.Trimmed.{trimmed}
-use Rattle.date_texts.proofs.ReadingLemmas.{some_inside}
 
 -- it holds, or it does not
 abbrev pub Is : Type 0 → Type 0
@@ -31,9 +30,6 @@ all_three p q r = in_words (both p (both q r)) (λ h. (h.0, h.1.0, h.1.1)) (λ h
 pub all_four : {P Q R S : Type 0} → Is P → Is Q → Is R → Is S → Is (P × Q × R × S)
 all_four p q r s =
     in_words (both p (all_three q r s)) (λ h. (h.0, h.1.0, h.1.1, h.1.2)) (λ h. (h.0, (h.1, h.2, h.3)))
-
-pub all_five : {P Q R S T : Type 0} → Is P → Is Q → Is R → Is S → Is T → Is (P × Q × R × S × T)
-all_five p q r s t = grind (arith, signed_arith, in_words, both, all_four)
 
 pub either : {P Q : Type 0} → Is P → Is Q → Is (P ⊎ Q)
 either (inl p) q = inl (inl p)
@@ -74,11 +70,6 @@ is_named text name =
     is_text_by (bytes_eq (str_to_ascii_lowercase (trimmed text)) name)
     (bytes_eq-Decides (str_to_ascii_lowercase (trimmed text)) name)
 
--- an answer
-pub is_answer : {A : Type 0} → ((x y : A) → Is (x ≡ y)) → (o : Option A) (y : A) → Is (o ≡ Some y)
-is_answer same None y = inr (λ e. cc)
-is_answer same (Some x) y = in_words (same x y) (λ e. ap Some e) (λ e. some_inside e)
-
 -- of the numbers under one, whether some is as said
 abbrev pub Below : ℕ → (ℕ → Type 0) → Type 0
 Below k P = (n : ℕ) × (n < k) × P n
@@ -88,21 +79,7 @@ some_below zero P is = inr (λ h. omega (arith, h.1))
 some_below (suc k) P is =
     in_words (either (is k) (some_below k P is))
     (λ h. elim h [ inl p ↦ (k, omega arith, p) | inr b ↦ (b.0, omega (arith, b.1), b.2) ])
-    (λ h. elim (is_number h.0 k) [
-      | inl e ↦ inl (subst P e h.2)
-      | inr other ↦ inr (
-        h.0,
-        elim (cases_lt h.0 k) [
-          | inl less ↦ less
-          | inr most ↦ absurd (other (omega (arith, h.1, most)))
-        ],
-        h.2,
-      )
+    (λ h. elim (cases_lt h.0 k) [
+      | inl less ↦ inr (h.0, less, h.2)
+      | inr most ↦ let same : h.0 ≡ k = omega (arith, h.1, most) in inl (subst P same h.2)
     ])
-
--- whether what fits is as said, where it does not matter by which proof it fits
-pub with_fit : {F B : Type 0} (P : B → Type 0) (make : F → B) → ((f g : F) → make f ≡ make g) → Is F
-    → ((b : B) → Is (P b)) → Is ((f : F) × P (make f))
-with_fit P make one (inr not) is = inr (λ h. not h.0)
-with_fit P make one (inl f) is =
-    in_words (is (make f)) (λ p. (f, p)) (λ h. subst P (one h.0 f) h.1)

@@ -5,8 +5,8 @@
 --   TargetNameLemmas: `calendar_named`, `target_named`, and the laws `one_calendar` and `one_target`.
 --   TargetRankLemmas, TargetCountLemmas: the law `few_targets`.
 --   CellLemmas: `cell`, `value` of `write_cell`, and the law `one_cell`.
---   CellLengthLemmas: the law `cells_are_short`, and with it the room in `cell` and `write_cell`.
---   CellByteLemmas: the law `cells_are_plain`.
+--   CanonicalTextLemmas: the law `canonical_texts_read_back`, and the bytes and the lengths of canonical texts.
+--   CellTextLemmas: the laws `cells_are_short`, and with it the room in `cell` and `write_cell`, and `cells_are_plain`.
 --   PairLemmas, WritingLemmas, BufferLemmas: the digits and pieces in `write_date` and `write_cell`.
 --   PlaceLemmas: the places of long counts there.
 --   DecisionLemmas, DateDecisionLemmas: what can be decided of numbers, texts and dates, for the laws of the crates
@@ -19,13 +19,13 @@ pub mod CivilReadingLemmas
 pub mod LongReadingLemmas
 pub mod DatePartLemmas
 pub mod RomanReadingLemmas
+pub mod CanonicalTextLemmas
 pub mod DateTextLemmas
 pub mod CellLemmas
 pub mod TargetRankLemmas
 pub mod TargetCountLemmas
 pub mod TargetNameLemmas
-pub mod CellByteLemmas
-pub mod CellLengthLemmas
+pub mod CellTextLemmas
 pub mod BufferLemmas
 pub mod WritingLemmas
 pub mod DecisionLemmas

@@ -2,21 +2,23 @@
 -- grammars stand on this one.
 use Rattle.std.proofs.Common.{◌≡◌, ℕ, zero, suc, ◌+◌, ◌-◌, ◌*◌, ◌^◌, ◌≤◌, ◌<◌, Bool, true, false, List, [], ◌∷◌}
 use Rattle.std.proofs.Common.{◌++◌, length, ◌==◌, refl, sym, subst, ap, ◌∙◌, arith, IsTrue, cond, Option, Some, None}
-use Rattle.std.proofs.Common.{ℤ, pos, neg_ℤ, rules, get_or, take, drop, negsuc, replicate, length-append}
+use Rattle.std.proofs.Common.{add-one, append-nil, ℤ, pos, neg_ℤ, rules, get_or, take, drop, negsuc, replicate, length-append}
 use Rattle.std.specs.Char.{is_ascii_digit}
 use Rattle.std.specs.Fmt.{decimal}
 use Rattle.std.proofs.lemmas.List.{length-replicate}
 use Rattle.std.proofs.lemmas.Fmt.{digits_decimal, digits_value-decimal, length-decimal-le, decimal_nonempty}
-use Rattle.std.proofs.lemmas.Str.Parse.{IsNumeralModel, numerals_by_fold}
-use Rattle.day_numbers.specs.Dates.{IsBetween}
+use Rattle.std.proofs.lemmas.Str.Parse.{IsNumeralModel, digits_value_short, numerals_by_fold}
+use Rattle.day_numbers.specs.Dates.{IsBetween, IsYear}
+use Rattle.date_texts.specs.Joined.{Joined}
+use Rattle.std.proofs.Math.Nat.{pow-le-pow_right, pow-succ'}
 use Rattle.std.proofs.lemmas.Int.{ints}
 use Rattle.std.proofs.Math.Seq.{take-length}
 use Rattle.std.proofs.lemmas.Bool.Decides.{nat_tests}
 use Rattle.std.proofs.lemmas.Bool.{and_parts}
 use Rattle.date_texts.specs.Numerals.{IsNumeral, IsYearText, plain, minus, padded, canonical_year}
 use Rattle.date_texts.proofs.TextWords.{all_digits, value_after}
-use Rattle.date_texts.specs.Reading.{digits_at, number_at, after_byte, year_at, all_read, as_year}
-use Rattle.date_texts.specs.Reading.{as_year_before_zero, signed_year, ◌>>=◌}
+use Rattle.date_texts.specs.Reading.{digits_at, number_at, after_byte, part_at, year_at, all_read}
+use Rattle.date_texts.specs.Reading.{signed_year, ◌>>=◌}
 
 -- a text that does not begin with a digit
 abbrev pub NoDigitFirst : List ℕ → Type 0
@@ -53,63 +55,28 @@ digits_take (suc k) n (c ∷ cs) x h few stop =
     rw both.0 (digits_take k (10 * n + (c - 48)) cs x both.1 (omega arith) stop)
 
 -- what was read is digits
-pub record Reads (k n : ℕ) (bytes : List ℕ) (r : ℕ × List ℕ) : Type 0 where
-  pub ds : List ℕ
-  pub digits : IsTrue (all_digits ds)
-  pub few : length ds ≤ k
-  pub joined : bytes ≡ ds ++ r.1
-  pub value : r.0 ≡ value_after n ds
-
-reads_more : (k n c : ℕ) (cs : List ℕ) (r : ℕ × List ℕ) → is_ascii_digit c ≡ true → Reads k (10 * n + (c - 48)) cs r
-    → Reads (suc k) n (c ∷ cs) r
-reads_more k n c cs r e h = record {
-  ds = c ∷ h.ds;
-  digits = rw e h.digits;
-  few = omega (arith, h.few);
-  joined =
-      ap (λ t. c ∷ t) h.joined;
-  value = h.value;
-}
+abbrev AreRead : ℕ → ℕ → List ℕ → ℕ × List ℕ → Type 0
+AreRead k n bytes r =
+    (ds : List ℕ) × IsTrue (all_digits ds) × (length ds ≤ k) × (bytes ≡ ds ++ r.1) × (r.0 ≡ value_after n ds)
 
 digits_read_by : (k n c : ℕ) (cs : List ℕ) (b : Bool) → is_ascii_digit c ≡ b
-    → Reads k (10 * n + (c - 48)) cs (digits_at k (10 * n + (c - 48)) cs)
-    → Reads (suc k) n (c ∷ cs) (digits_at (suc k) n (c ∷ cs))
-digits_read_by k n c cs true e h = rw e (reads_more k n c cs _ e h)
-digits_read_by k n c cs false e h =
-    rw e (record { ds = []; digits = refl; few = omega arith; joined = refl; value = refl })
+    → AreRead k (10 * n + (c - 48)) cs (digits_at k (10 * n + (c - 48)) cs)
+    → AreRead (suc k) n (c ∷ cs) (digits_at (suc k) n (c ∷ cs))
+digits_read_by k n c cs true e (ds, digits, few, joined, value) =
+    rw e (c ∷ ds, rw e digits, omega arith, ap (λ t. c ∷ t) joined, value)
+digits_read_by k n c cs false e h = rw e ([], refl, omega arith, refl, refl)
 
-pub digits_read : (k n : ℕ) (bytes : List ℕ) → Reads k n bytes (digits_at k n bytes)
-digits_read zero n bytes = record { ds = []; digits = refl; few = omega arith; joined = refl; value = refl }
-digits_read (suc k) n [] = record { ds = []; digits = refl; few = omega arith; joined = refl; value = refl }
+digits_read : (k n : ℕ) (bytes : List ℕ) → AreRead k n bytes (digits_at k n bytes)
+digits_read zero n bytes = ([], refl, omega arith, refl, refl)
+digits_read (suc k) n [] = ([], refl, omega arith, refl, refl)
 digits_read (suc k) n (c ∷ cs) = digits_read_by k n c cs (is_ascii_digit c) refl (digits_read k (10 * n + (c - 48)) cs)
 
--- the same of a number
-pub number_take : (more : ℕ) (ds x : List ℕ) (n : ℕ) → IsNumeral (suc more) ds n → NoDigitFirst x
-    → number_at more (ds ++ x) ≡ Some (n, x)
-unfolding number_at
-number_take more [] x n h stop = absurd (omega (arith, h.some))
-number_take more (c ∷ cs) x n h stop = search (rules, and_parts, all_digits, digits_take, value_after)
+-- the first digit leaves room for those that follow
+ten_more : (m : ℕ) → 1 ≤ m → m ≤ 4 → 10 ^ (5 - (m - 1)) ≡ 10 * 10 ^ (5 - m)
+ten_more m low high = let e : 5 - (m - 1) ≡ suc (5 - m) = omega arith in rw e (pow-succ' 10 (5 - m))
 
-pub record ReadsNumber (more : ℕ) (bytes : List ℕ) (n : ℕ) (rest : List ℕ) : Type 0 where
-  pub ds : List ℕ
-  pub numeral : IsNumeral (suc more) ds n
-  pub joined : bytes ≡ ds ++ rest
-
-pub ten_more : (m : ℕ) → 1 ≤ m → m ≤ 4 → 10 ^ (5 - (m - 1)) ≡ 10 * 10 ^ (5 - m)
-ten_more zero low high = absurd (omega arith)
-ten_more (suc zero) low high = refl
-ten_more (suc (suc zero)) low high = refl
-ten_more (suc (suc (suc zero))) low high = refl
-ten_more (suc (suc (suc (suc zero)))) low high = refl
-ten_more (suc (suc (suc (suc (suc m))))) low high = absurd (omega arith)
-
-pub at_least_ten : (m : ℕ) → m ≤ 4 → 10 ≤ 10 ^ (5 - m)
-at_least_ten zero high = omega arith
-at_least_ten (suc zero) high = omega arith
-at_least_ten (suc (suc zero)) high = omega arith
-at_least_ten (suc (suc (suc zero))) high = omega arith
-at_least_ten (suc (suc (suc (suc zero)))) high = omega arith
-at_least_ten (suc (suc (suc (suc (suc m))))) high = absurd (omega arith)
+at_least_ten : (m : ℕ) → m ≤ 4 → 10 ≤ 10 ^ (5 - m)
+at_least_ten m high = let few : 1 ≤ 5 - m = omega arith in pow-le-pow_right {n = 10} (omega arith) few
 
 pub digit_value_small : (c : ℕ) (b : Bool) → b ≡ true → b ≡ is_ascii_digit c → c - 48 ≤ 9
 digit_value_small c b t e = grind (arith, nat_tests)
@@ -121,55 +88,11 @@ fits_more m n c b low high h t e = omega (arith, ten_more m low high, digit_valu
 pub fits_first : (m c : ℕ) (b : Bool) → m ≤ 4 → b ≡ true → b ≡ is_ascii_digit c → c - 48 < 10 ^ (5 - m)
 fits_first m c b high t e = omega (arith, at_least_ten m high, digit_value_small c b t e)
 
--- each further digit makes room for one digit more
-pub one_digit_more : (m n d : ℕ) → 1 ≤ m → m ≤ 4 → d ≤ 9 → (10 * n + d + 1) * 10 ^ (m - 1) ≤ (n + 1) * 10 ^ m
-one_digit_more zero n d low high small = absurd (omega arith)
-one_digit_more (suc zero) n d low high small = omega arith
-one_digit_more (suc (suc zero)) n d low high small = omega arith
-one_digit_more (suc (suc (suc zero))) n d low high small = omega arith
-one_digit_more (suc (suc (suc (suc zero)))) n d low high small = omega arith
-one_digit_more (suc (suc (suc (suc (suc m))))) n d low high small = absurd (omega arith)
-
-pub below_digits : (m n : ℕ) → m ≤ 4 → n < (n + 1) * 10 ^ m
-below_digits zero n high = omega arith
-below_digits (suc zero) n high = omega arith
-below_digits (suc (suc zero)) n high = omega arith
-below_digits (suc (suc (suc zero))) n high = omega arith
-below_digits (suc (suc (suc (suc zero)))) n high = omega arith
-below_digits (suc (suc (suc (suc (suc m))))) n high = absurd (omega arith)
-
--- ---- what is read is in the grammar
-number_read_by : (more c n : ℕ) (cs rest : List ℕ) (b : Bool) → is_ascii_digit c ≡ b
-    → cond b (Some (digits_at more (c - 48) cs)) None ≡ Some (n, rest) → ReadsNumber more (c ∷ cs) n rest
-number_read_by more c n cs rest true eb e =
-    let p : digits_at more (c - 48) cs ≡ (n, rest) = cc in
-    let r = digits_read more (c - 48) cs in
-    let from_zero : c - 48 ≡ 10 * 0 + (c - 48) = omega arith in
-    let joined : cs ≡ r.ds ++ rest = r.joined ∙ ap (λ x. r.ds ++ x.1) p in
-    let value : n ≡ value_after (10 * 0 + (c - 48)) r.ds = sym (ap (λ x. x.0) p) ∙ r.value
-    ∙ ap (λ k. value_after k r.ds) from_zero in
-    record {
-      ds = c ∷ r.ds;
-      numeral = record { some = omega arith; few = omega (arith, r.few); digits = rw eb r.digits; value = value };
-      joined = ap (λ x. c ∷ x) joined;
-    }
-number_read_by more c n cs rest false eb e = absurd (cc)
-
-pub number_read : (more : ℕ) (bytes : List ℕ) (n : ℕ) (rest : List ℕ) → number_at more bytes ≡ Some (n, rest)
-    → ReadsNumber more bytes n rest
-unfolding number_at
-number_read more [] n rest e = absurd (cc)
-number_read more (c ∷ cs) n rest e = number_read_by more c n cs rest (is_ascii_digit c) refl e
-
+-- ---- readers
 pub bind_some : {A B : Type 0} (o : Option A) (f : A → Option B) (y : B) → (o >>= f) ≡ Some y
     → (x : A) × (o ≡ Some x) × (f x ≡ Some y)
 bind_some (Some x) f y e = (x, refl, e)
 bind_some None f y e = absurd (cc)
-
-pub byte_read_by : (b c : ℕ) (cs rest : List ℕ) (t : Bool) → (c == b) ≡ t → cond t (Some cs) None ≡ Some rest
-    → c ∷ cs ≡ b ∷ rest
-byte_read_by b c cs rest true eb e = let same : c ≡ b = grind (arith, nat_tests) in cc
-byte_read_by b c cs rest false eb e = absurd (cc)
 
 pub some_inside : {A : Type 0} {x y : A} → Some x ≡ Some y → x ≡ y
 some_inside e = cc
@@ -177,63 +100,147 @@ some_inside e = cc
 pub none_some : {A : Type 0} {x : A} → None ≡ Some x → ⊥
 none_some e = cc
 
-pub byte_read : (b : ℕ) (bytes rest : List ℕ) → after_byte b bytes ≡ Some rest → bytes ≡ b ∷ rest
+-- a reader finds at the front what a grammar relates to a value, and nothing else; where no digit follows, it finds it
+-- to its end
+pub record Reads {A : Type 0} (read : List ℕ → Option (A × List ℕ)) (IsText : List ℕ → A → Type 0) : Type 0 where
+  pub found : (bytes : List ℕ) (x : A × List ℕ) → read bytes ≡ Some x
+      → (text : List ℕ) × IsText text x.0 × (bytes ≡ text ++ x.1)
+  pub taken : (text rest : List ℕ) (x : A) → IsText text x → NoDigitFirst rest → read (text ++ rest) ≡ Some (x, rest)
+
+pub byte_read_by : (b c : ℕ) (cs rest : List ℕ) (t : Bool) → (c == b) ≡ t → cond t (Some cs) None ≡ Some rest
+    → c ∷ cs ≡ b ∷ rest
+byte_read_by b c cs rest true eb e = let same : c ≡ b = grind (arith, nat_tests) in cc
+byte_read_by b c cs rest false eb e = absurd (cc)
+
+byte_read : (b : ℕ) (bytes rest : List ℕ) → after_byte b bytes ≡ Some rest → bytes ≡ b ∷ rest
 unfolding after_byte
 byte_read b [] rest e = absurd (cc)
 byte_read b (c ∷ cs) rest e = byte_read_by b c cs rest (c == b) refl e
 
-pub all_is_read : {A : Type 0} (bytes : List ℕ) (x y : A) → all_read bytes x ≡ Some y → (bytes ≡ []) × (x ≡ y)
+byte_taken : (b : ℕ) (rest : List ℕ) → after_byte b (b ∷ rest) ≡ Some rest
+unfolding after_byte
+byte_taken b rest = grind (arith, nat_tests)
+
+all_is_read : {A : Type 0} (bytes : List ℕ) (x y : A) → all_read bytes x ≡ Some y → (bytes ≡ []) × (x ≡ y)
 all_is_read [] x y e = (refl, cc)
 all_is_read (c ∷ cs) x y e = absurd (cc)
 
-pub record ReadsYear (bytes : List ℕ) (z : ℤ) (rest : List ℕ) : Type 0 where
-  pub text : List ℕ
-  pub is_year : IsYearText text z
-  pub joined : bytes ≡ text ++ rest
+module _ {A C : Type 0} {read : List ℕ → Option (A × List ℕ)} {IsText : List ℕ → A → Type 0} (is : Reads read IsText) where
+  -- a part, the byte behind it, and what is read then
+  pub part_found : (b : ℕ) (next : A × List ℕ → Option C) (bytes : List ℕ) (y : C) → (part_at read b bytes >>= next) ≡ Some y
+      → (x : A) × Joined b (λ text. IsText text x) (λ rest. next (x, rest) ≡ Some y) bytes
+  unfolding part_at
+  part_found b next bytes y e =
+      let part = bind_some (part_at read b bytes) next y e in
+      let x = bind_some (read bytes) _ part.0 part.1 in
+      let rest = bind_some (after_byte b x.0.1) _ part.0 x.2 in
+      let text = is.found bytes x.0 x.1 in
+      let then = rw (sym (some_inside rest.2)) at part.2 in
+      (x.0.0, (text.0, rest.0, text.1, then, text.2 ∙ ap (λ t. text.0 ++ t) (byte_read b x.0.1 rest.0 rest.1)))
 
-year_read_by : (bytes : List ℕ) (z : ℤ) (rest : List ℕ) (o : Option (List ℕ)) → after_byte 45 bytes ≡ o
-    → signed_year o bytes ≡ Some (z, rest) → ReadsYear bytes z rest
-year_read_by bytes z rest (Some digits) eo e =
-    let x = bind_some (number_at 4 digits) (λ n. Some (as_year_before_zero n)) (z, rest) e in
-    let r = number_read 4 digits x.0.0 x.0.1 x.1 in
-    let same : as_year_before_zero x.0 ≡ (z, rest) = some_inside x.2 in
-    record {
-      text = 45 ∷ r.ds;
-      is_year = subst (IsYearText (45 ∷ r.ds)) (ap (λ p. p.0) same) (minus r.numeral);
-      joined = byte_read 45 bytes digits eo ∙ ap (λ ds. 45 ∷ ds) (r.joined ∙ ap (λ p. r.ds ++ p.1) same);
-    }
-year_read_by bytes z rest None eo e =
-    let x = bind_some (number_at 4 bytes) (λ n. Some (as_year n)) (z, rest) e in
-    let r = number_read 4 bytes x.0.0 x.0.1 x.1 in
-    let same : as_year x.0 ≡ (z, rest) = some_inside x.2 in
-    record {
-      text = r.ds;
-      is_year = subst (IsYearText r.ds) (ap (λ p. p.0) same) (plain r.numeral);
-      joined = r.joined
-          ∙ ap (λ p. r.ds ++ p.1) same;
-    }
+  pub part_taken : (b : ℕ) (next : A × List ℕ → Option C) (bytes : List ℕ) (y : C) (x : A) → is_ascii_digit b ≡ false
+      → Joined b (λ text. IsText text x) (λ rest. next (x, rest) ≡ Some y) bytes → (part_at read b bytes >>= next) ≡ Some y
+  unfolding part_at
+  part_taken b next bytes y x stop (text, rest, is_text, then, joined) =
+      rw (joined, is.taken text (b ∷ rest) x is_text stop, byte_taken b rest) then
 
-pub year_read : (bytes : List ℕ) (z : ℤ) (rest : List ℕ) → year_at bytes ≡ Some (z, rest) → ReadsYear bytes z rest
-unfolding year_at
-year_read bytes z rest e = year_read_by bytes z rest (after_byte 45 bytes) refl e
+  -- a part, and nothing behind it
+  pub last_found : (make : A → C) (bytes : List ℕ) (y : C) → (read bytes >>= λ x. all_read x.1 (make x.0)) ≡ Some y
+      → (x : A) × IsText bytes x × (make x ≡ y)
+  last_found make bytes y e =
+      let x = bind_some (read bytes) _ y e in
+      let end = all_is_read x.0.1 (make x.0.0) y x.2 in
+      let text = is.found bytes x.0 x.1 in
+      let joined = text.2 ∙ ap (λ t. text.0 ++ t) end.0 ∙ append-nil text.0 in
+      (x.0.0, subst (λ t. IsText t x.0.0) (sym joined) text.1, end.1)
 
--- ---- and what is in the grammar is read
-digit_no_dash : (c : ℕ) → is_ascii_digit c ≡ true → (c == 45) ≡ false
-digit_no_dash c h = grind (arith, nat_tests)
+  pub last_taken : (make : A → C) (bytes : List ℕ) (x : A) → IsText bytes x
+      → (read bytes >>= λ x. all_read x.1 (make x.0)) ≡ Some (make x)
+  last_taken make bytes x is_text = rw (rw append-nil at (is.taken bytes [] x is_text tt)) refl
 
-pub year_take : (text : List ℕ) (z : ℤ) (x : List ℕ) → IsYearText text z → NoDigitFirst x
-    → year_at (text ++ x) ≡ Some (z, x)
-unfolding year_at after_byte
-year_take [] z x (plain {n = n} h) stop = absurd (omega (arith, h.some))
-year_take (c ∷ cs) z x (plain {n = n} h) stop =
-    let both = and_parts (is_ascii_digit c) (all_digits cs) h.digits in
-    rw (digit_no_dash c both.0, number_take 4 (c ∷ cs) x n h stop)
-year_take text z x (minus {text = ds} {n = n} h) stop = rw (number_take 4 ds x n h stop)
+-- ---- numbers
+number_read_by : (more c : ℕ) (cs : List ℕ) (b : Bool) → is_ascii_digit c ≡ b
+    → (x : ℕ × List ℕ) → cond b (Some (digits_at more (c - 48) cs)) None ≡ Some x
+    → (text : List ℕ) × IsNumeral (suc more) text x.0 × (c ∷ cs ≡ text ++ x.1)
+number_read_by more c cs true eb x e =
+    let (ds, digits, few, joined, value) = digits_read more (c - 48) cs in
+    let from_zero : c - 48 ≡ 10 * 0 + (c - 48) = omega arith in
+    subst (λ (y : ℕ × List ℕ). (text : List ℕ) × IsNumeral (suc more) text y.0 × (c ∷ cs ≡ text ++ y.1)) (some_inside e) (
+      c ∷ ds,
+      record {
+        some = omega arith;
+        few = omega arith;
+        digits = rw eb digits;
+        value = value ∙ ap (λ k. value_after k ds) from_zero;
+      },
+      ap (λ t. c ∷ t) joined,
+    )
+number_read_by more c cs false eb x e = absurd (cc)
 
--- ---- the canonical text is in the grammar
+number_read : (more : ℕ) (bytes : List ℕ) (x : ℕ × List ℕ) → number_at more bytes ≡ Some x
+    → (text : List ℕ) × IsNumeral (suc more) text x.0 × (bytes ≡ text ++ x.1)
+unfolding number_at
+number_read more [] x e = absurd (cc)
+number_read more (c ∷ cs) x e = number_read_by more c cs (is_ascii_digit c) refl x e
+
+number_take : (more : ℕ) (ds x : List ℕ) (n : ℕ) → IsNumeral (suc more) ds n → NoDigitFirst x
+    → number_at more (ds ++ x) ≡ Some (n, x)
+unfolding number_at
+number_take more [] x n h stop = absurd (omega (arith, h.some))
+number_take more (c ∷ cs) x n h stop = search (rules, and_parts, all_digits, digits_take, value_after)
+
+pub numbers : (more : ℕ) → Reads (number_at more) (IsNumeral (suc more))
+numbers more = record { found = number_read more; taken = number_take more }
+
 own : IsNumeralModel (λ ds. IsTrue (all_digits ds)) (value_after 0)
 own = numerals_by_fold _ (search rules) value_after (search rules)
 
+pub numeral_below : {most n : ℕ} {text : List ℕ} → IsNumeral most text n → n < 10 ^ most
+numeral_below {most = most} {text = text} h = rw h.value (digits_value_short own text most h.digits h.few)
+
+pub digits_below : (more c : ℕ) (cs : List ℕ) (r : ℕ × List ℕ) (b : Bool) → b ≡ true → b ≡ is_ascii_digit c
+    → r ≡ digits_at more (c - 48) cs → r.0 < 10 ^ (more + 1)
+digits_below more c cs r b t e same =
+    rw (add-one, same) (numeral_below (number_read_by more c cs true (sym e ∙ t) _ refl).1)
+
+-- ---- years
+year_read_by : (bytes : List ℕ) (o : Option (List ℕ)) → after_byte 45 bytes ≡ o → (x : ℤ × List ℕ)
+    → signed_year o bytes ≡ Some x → (text : List ℕ) × IsYearText text x.0 × (bytes ≡ text ++ x.1)
+year_read_by bytes (Some rest) eo x e =
+    let n = bind_some (number_at 4 rest) _ x e in
+    let (ds, is, joined) = number_read 4 rest n.0 n.1 in
+    subst (λ (y : ℤ × List ℕ). (text : List ℕ) × IsYearText text y.0 × (bytes ≡ text ++ y.1)) (some_inside n.2)
+    (45 ∷ ds, minus is, byte_read 45 bytes rest eo ∙ ap (λ t. 45 ∷ t) joined)
+year_read_by bytes None eo x e =
+    let n = bind_some (number_at 4 bytes) _ x e in
+    let (ds, is, joined) = number_read 4 bytes n.0 n.1 in
+    subst (λ (y : ℤ × List ℕ). (text : List ℕ) × IsYearText text y.0 × (bytes ≡ text ++ y.1)) (some_inside n.2)
+    (ds, plain is, joined)
+
+year_read : (bytes : List ℕ) (x : ℤ × List ℕ) → year_at bytes ≡ Some x
+    → (text : List ℕ) × IsYearText text x.0 × (bytes ≡ text ++ x.1)
+unfolding year_at
+year_read bytes x e = year_read_by bytes (after_byte 45 bytes) refl x e
+
+digit_no_dash : (c : ℕ) → is_ascii_digit c ≡ true → (c == 45) ≡ false
+digit_no_dash c h = grind (arith, nat_tests)
+
+year_take : (text x : List ℕ) (z : ℤ) → IsYearText text z → NoDigitFirst x → year_at (text ++ x) ≡ Some (z, x)
+unfolding year_at after_byte
+year_take [] x z (plain {n = n} h) stop = absurd (omega (arith, h.some))
+year_take (c ∷ cs) x z (plain {n = n} h) stop =
+    let both = and_parts (is_ascii_digit c) (all_digits cs) h.digits in
+    rw (digit_no_dash c both.0, number_take 4 (c ∷ cs) x n h stop)
+year_take text x z (minus {text = ds} {n = n} h) stop = rw (number_take 4 ds x n h stop)
+
+pub years : Reads year_at IsYearText
+years = record { found = year_read; taken = year_take }
+
+pub year_in : {text : List ℕ} {z : ℤ} → IsYearText text z → IsYear z
+year_in (plain h) = omega (arith, ints, numeral_below h)
+year_in (minus h) = omega (arith, ints, numeral_below h)
+
+-- ---- the canonical text is in the grammar
 zeros_value : (k : ℕ) (ds : List ℕ) → value_after 0 (replicate k 48 ++ ds) ≡ value_after 0 ds
 zeros_value zero ds = refl
 zeros_value (suc k) ds = zeros_value k ds

@@ -3,7 +3,7 @@ use Rattle.std.specs.Prelude.{ℕ, List, [], ◌∷◌, Option, Some, None, ℤ,
 use Rattle.std.specs.Prelude.{if◌then◌else◌}
 use Rattle.date_texts.specs.declared.grammar.Grammar.{Grammar}
 use Rattle.date_texts.specs.declared.grammar.Grammar.TheVariants as grammars
-use Rattle.date_texts.specs.Reading.{number_at, ◌>>=◌, after_byte, year_at, all_read}
+use Rattle.date_texts.specs.Reading.{number_at, ◌>>=◌, part_at, year_at, all_read}
 
 -- what follows the letter W or w
 unfoldable pub after_week_letter : List ℕ → Option (List ℕ)
@@ -17,12 +17,13 @@ after_mark grammars.Week bytes = after_week_letter bytes
 after_mark grammars.LongCount bytes = None
 after_mark grammars.Roman bytes = None
 
+-- a month or a week, and its mark before it
+unfoldable pub month_at : Grammar → List ℕ → Option (ℕ × List ℕ)
+month_at grammar bytes = after_mark grammar bytes >>= number_at 1
+
 unfoldable pub civil_at : Grammar → List ℕ → Option (ℤ × ℕ × ℕ)
 civil_at grammar bytes = do
-  year ← year_at bytes
-  first ← after_byte 45 year.1
-  marked ← after_mark grammar first
-  month ← number_at 1 marked
-  second ← after_byte 45 month.1
-  day ← number_at 1 second
+  year ← part_at year_at 45 bytes
+  month ← part_at (month_at grammar) 45 year.1
+  day ← number_at 1 month.1
   all_read day.1 (year.0, month.0, day.0)

@@ -1,13 +1,10 @@
 -- Reading long counts from left to right. No public contract cites this file.
-use Rattle.std.specs.Prelude.{ℕ, List, Option, Some}
-use Rattle.date_texts.specs.Reading.{number_at, ◌>>=◌, after_byte, all_read}
+use Rattle.std.specs.Prelude.{ℕ, List, Option}
+use Rattle.date_texts.specs.Reading.{number_at, ◌>>=◌, part_at, all_read}
 
 -- a place of a long count, and what follows the dot behind it
 unfoldable pub place_at : List ℕ → Option (ℕ × List ℕ)
-place_at bytes = do
-  place ← number_at 3 bytes
-  rest ← after_byte 46 place.1
-  Some (place.0, rest)
+place_at bytes = part_at (number_at 3) 46 bytes
 
 unfoldable pub long_at : List ℕ → Option (ℕ × ℕ × ℕ × ℕ × ℕ)
 long_at bytes = do

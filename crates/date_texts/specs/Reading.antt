@@ -27,6 +27,13 @@ unfoldable pub after_byte : ℕ → List ℕ → Option (List ℕ)
 after_byte b [] = None
 after_byte b (c ∷ cs) = if c == b then Some cs else None
 
+-- what stands before a byte, and what follows the byte
+unfoldable pub part_at : {A : Type 0} → (List ℕ → Option (A × List ℕ)) → ℕ → List ℕ → Option (A × List ℕ)
+part_at read b bytes = do
+  part ← read bytes
+  rest ← after_byte b part.1
+  Some (part.0, rest)
+
 abbrev pub as_year : ℕ × List ℕ → ℤ × List ℕ
 as_year n = (pos n.0, n.1)
 

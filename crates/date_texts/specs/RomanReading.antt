@@ -5,7 +5,7 @@ use Rattle.std.specs.Char.{to_ascii_lowercase}
 use Rattle.std.specs.Str.{str_eq_ignore_ascii_case}
 use Rattle.solar_calendars.specs.declared.roman_date.RomanName.{RomanName}
 use Rattle.solar_calendars.specs.declared.roman_date.RomanName.TheVariants.{Kalends, Nones, Ides, SecondSixth}
-use Rattle.date_texts.specs.Reading.{number_at, ◌>>=◌, after_byte, year_at, all_read}
+use Rattle.date_texts.specs.Reading.{number_at, ◌>>=◌, part_at, year_at, all_read}
 
 -- the count of a Roman name, of one or two digits to the end
 unfoldable pub count_at : List ℕ → Option ℕ
@@ -27,9 +27,7 @@ name_at bytes = if str_eq_ignore_ascii_case bytes (codes "K6B") then Some Second
 
 unfoldable pub roman_at : List ℕ → Option (ℤ × ℕ × RomanName)
 roman_at bytes = do
-  year ← year_at bytes
-  first ← after_byte 45 year.1
-  month ← number_at 1 first
-  second ← after_byte 45 month.1
-  name ← name_at second
+  year ← part_at year_at 45 bytes
+  month ← part_at (number_at 1) 45 year.1
+  name ← name_at month.1
   Some (year.0, month.0, name)

@@ -45,7 +45,7 @@ fn after_mark(grammar: Grammar, bytes: &[u8]) -> Option<&[u8]>
 
 /// The year, month and day that the bytes spell, or the year, week and weekday.
 #[inline(always)]
-#[tactic(auto, unfolding(crate::specs::CivilReading::civil_at))]
+#[tactic(auto, unfolding(crate::specs::CivilReading::civil_at, crate::specs::CivilReading::month_at, crate::specs::Reading::part_at))]
 fn civil_at(grammar: Grammar, bytes: &[u8]) -> Option<(i32, u8, u8)>
     ensures value { result ≡ civil_spec grammar bytes.now }
     ensures near { IfSome result (λ d. IsYmd d.0 d.1 d.2) }

@@ -17,7 +17,7 @@ use maya_calendars::LongCount;
 
 /// A place of a long count, and the bytes after the dot behind it.
 #[inline(always)]
-#[tactic(auto, unfolding(crate::specs::LongReading::place_at))]
+#[tactic(auto, unfolding(crate::specs::LongReading::place_at, crate::specs::Reading::part_at))]
 fn place_at(bytes: &[u8]) -> Option<(u16, &[u8])>
     ensures value { seen_number result ≡ place_spec bytes.now }
     ensures small { IfSome result (λ r. r.0 ≤ 9_999) }

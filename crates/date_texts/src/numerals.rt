@@ -10,8 +10,7 @@ ghost use Rattle.date_texts.specs.Reading.{after_byte as after_spec, all_read, s
 fn digits_at(more: u8, number: u32, bytes: &[u8]) -> (u32, &[u8])
     requires few { more ≤ 4 }
     requires small { number < 10 ^ (5 - more) }
-    ensures value { (result.0, result.1.now) ≡ digits_spec more number bytes.now }
-    ensures small { result.0 < (number + 1) * 10 ^ more }
+    ensures { (result.0, result.1.now) ≡ digits_spec more number bytes.now }
 {
     let mut left = more;
     let mut value = number;

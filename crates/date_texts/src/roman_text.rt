@@ -59,7 +59,7 @@ fn name_at(bytes: &[u8]) -> Option<RomanName>
 }
 
 /// The year, month and name of a day that the bytes spell.
-#[tactic(auto, unfolding(crate::specs::RomanReading::roman_at))]
+#[tactic(auto, unfolding(crate::specs::RomanReading::roman_at, crate::specs::Reading::part_at))]
 fn roman_at(bytes: &[u8]) -> Option<(i32, u8, RomanName)>
     ensures value { result ≡ roman_spec bytes.now }
     ensures near { IfSome result (λ d. IsYear d.0 × (d.1 ≤ 99) × (count_of d.2 ≤ 99)) }

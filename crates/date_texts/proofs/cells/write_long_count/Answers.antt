@@ -9,7 +9,7 @@ use Rattle.date_texts.specs.declared.date.Date.TheVariants.{Long}
 use Rattle.date_texts.specs.DateText.{canonical_text}
 use Rattle.std.proofs.lemmas.Int.{ints}
 use Rattle.date_texts.proofs.CellLemmas.{since_first_in}
-use Rattle.date_texts.proofs.CellLengthLemmas.{long_room}
+use Rattle.date_texts.proofs.CellTextLemmas.{long_room}
 use Rattle.date_texts.proofs.cells.write_long_count.Goals as goal
 
 short_text : CellsAreShort → (n : ℤ) (count : LongCount) → IsLongCount count → long_day count ≡ n

@@ -1,18 +1,14 @@
-use Rattle.std.proofs.Common.{◌∙◌, sym}
-use Rattle.date_texts.proofs.DateTextLemmas.{no_long, some_long, places_read}
+use Rattle.std.proofs.Common.{refl}
+use Rattle.date_texts.specs.declared.calendar.Calendar.TheVariants.{Longcount}
+use Rattle.date_texts.specs.declared.date.Date.TheVariants.{Long}
+use Rattle.date_texts.proofs.DateTextLemmas.{none_says, some_says}
 use Rattle.date_texts.proofs.long_text.long_date_at.Goals as goal
 
 pub returns-in_err-baktun : goal.returns-in_err-baktun
-returns-in_err-baktun c =
-    λ date. (
-      λ e. absurd (cc),
-      λ h. absurd (no_long c.args.text.now (sym c.long_at.ensures.value ∙ c.in_err-baktun.was) date h),
-    )
+returns-in_err-baktun c = none_says Longcount c.args.text.now c.from_residual.result (cc) (rw (← c.long_at.ensures.value, c.in_err-baktun.was) refl)
 
 pub returns : goal.returns
 returns c =
     let places = c.in_ok-count.ensures.value in
-    some_long c.args.text.now c.in_ok-count.count
-    (places_read c.args.text.now c.in_ok-baktun.baktun c.in_ok-baktun.katun c.in_ok-baktun.tun c.in_ok-baktun.uinal
-    c.in_ok-baktun.kin c.long_at.result c.in_ok-count.count c.long_at.ensures.value c.in_ok-baktun.was places.0
-    places.1 places.2 places.3 places.4)
+    some_says Longcount c.args.text.now (Long c.in_ok-count.count) refl
+    (rw (← c.long_at.ensures.value, c.in_ok-baktun.was) (cc))

@@ -1,4 +1,4 @@
-use Rattle.std.proofs.Common.{◌≡◌, ◌+◌, ◌-◌, ◌*◌, ◌^◌, ◌<◌, ◌≤◌}
+use Rattle.std.proofs.Common.{◌≡◌, ◌-◌, ◌^◌, ◌<◌, ◌≤◌}
 use Rattle.date_texts.specs.Reading.{digits_at}
 use Rattle.date_texts.proofs.numerals.digits_at.Given as goal
 
@@ -7,7 +7,6 @@ invariant-loop-left l = record {
   same : digits_at l.left l.value l.rest ≡ digits_at l.more l.fn.number l.fn.bytes;
   few : l.left ≤ 4;
   small : l.value < 10 ^ (5 - l.left);
-  room : (l.value + 1) * 10 ^ l.left ≤ (l.fn.number + 1) * 10 ^ l.more;
 }
 
 abbrev pub decreases-loop-left : goal.decreases-loop-left

@@ -1,0 +1,94 @@
+-- The bytes and the lengths of cells.
+use Rattle.std.proofs.Common.{ℕ, zero, suc, ◌+◌, ◌-◌, ◌≤◌, ◌<◌, ◌≡◌, ◌&&◌, List, [], ◌∷◌, Bool, true, IsTrue, ℤ, refl}
+use Rattle.std.proofs.Common.{arith, length, length-append}
+use Rattle.std.specs.Prelude.{IsAscii, nat_le}
+use Rattle.std.specs.Fmt.{decimal}
+use Rattle.std.specs.List.{list_all}
+use Rattle.std.proofs.lemmas.Bool.{and_parts}
+use Rattle.std.proofs.lemmas.Bool.Decides.{nat_tests}
+use Rattle.std.proofs.lemmas.List.Folds.{list_all-append}
+use Rattle.day_numbers.specs.Numbered.{name_of_number, words}
+use Rattle.day_numbers.proofs.NameLemmas.{each_name}
+use Rattle.maya_calendars.specs.HaabNames.{month_names}
+use Rattle.maya_calendars.specs.TzolkinNames.{name_texts}
+use Rattle.maya_calendars.specs.declared.long_count.LongCount.{LongCount}
+use Rattle.maya_calendars.specs.Laws.{HaabDaysInRange, TzolkinNumbersInRange}
+use Rattle.date_texts.specs.declared.calendar.Calendar.{Calendar}
+use Rattle.date_texts.specs.declared.date.Date.{Date}
+use Rattle.date_texts.specs.declared.date.Date.TheVariants.{Civil, Long, Roman}
+use Rattle.date_texts.specs.Cells.{IsCell, IsDateCell, on_date, no_date, is_plain, numbered_name}
+use Rattle.date_texts.specs.Dates.{IsDateOfCalendar}
+use Rattle.date_texts.specs.LongText.{canonical_long}
+use Rattle.date_texts.specs.DateText.{canonical_text}
+use Rattle.date_texts.specs.declared.target.Target.{Target}
+use Rattle.date_texts.proofs.CanonicalTextLemmas.{canonical_short, marks_plain, numeral_short, place, short}
+use Rattle.date_texts.proofs.CellLemmas.{each_cell}
+use Rattle.date_texts.proofs.WritingLemmas.{one_or_two}
+
+abbrev pub ArePlain : List ℕ → Type 0
+ArePlain text = IsTrue (list_all is_plain text)
+
+-- plain bytes are ASCII
+plain_below : (c : ℕ) → is_plain c ≡ true → c < 128
+plain_below c h = grind (arith, nat_tests)
+
+pub plain_ascii : (text : List ℕ) → ArePlain text → IsAscii text
+plain_ascii [] h i = omega arith
+plain_ascii (c ∷ cs) h zero = plain_below c (and_parts (is_plain c) (list_all is_plain cs) h).0
+plain_ascii (c ∷ cs) h (suc i) = plain_ascii cs (and_parts (is_plain c) (list_all is_plain cs) h).1 i
+
+-- ---- date texts
+pub four_digits : (n : ℕ) → n ≤ 9_999 → length (decimal n) ≤ 4
+four_digits n small = (place n small).few
+
+long_length : (p q r s t : ℕ) → p ≤ 9_999 → q ≤ 19 → r ≤ 19 → s ≤ 17 → t ≤ 19 → length (canonical_long p q r s t) ≤ 16
+long_length p q r s t a b c d e = grind (arith, length-append, four_digits, one_or_two)
+
+-- and room behind for the row of the last place
+pub long_room : (p q r s t : ℕ) → p ≤ 99 → q ≤ 19 → r ≤ 19 → s ≤ 17 → t ≤ 19
+    → length (canonical_long p q r s t) + 4 ≤ 16 + length (decimal t)
+long_room p q r s t a b c d e = grind (arith, length-append, one_or_two)
+
+pub text_room : (n : LongCount) → length (canonical_text (Long n)) + 4 ≤ 24 + length (decimal n.kin)
+text_room n = grind (arith, length-append, four_digits)
+
+date_length : (date : Date) → IsDateOfCalendar date → length (canonical_text date) ≤ 16
+date_length (Long n) h = long_length n.baktun n.katun n.tun n.uinal n.kin n.places.0 h.0 h.1 h.2 h.3
+date_length (Civil d) h = omega (arith, (canonical_short (Civil d)).few)
+date_length (Roman d) h = omega (arith, (canonical_short (Roman d)).few)
+
+-- ---- cells: their bytes are digits and letters of ASCII, spaces, dashes and dots, and they have 16 bytes at most
+abbrev pub IsCellText : List ℕ → Type 0
+IsCellText text = ArePlain text × (length text ≤ 16)
+
+date_cell : (c : Calendar) (n : ℤ) (text : List ℕ) → IsDateCell c n text → IsCellText text
+date_cell c n text (on_date date p h i e) = rw e (marks_plain (canonical_text date) (canonical_short date).marks, date_length date h)
+date_cell c n text (no_date none e) = rw e (refl, omega arith)
+
+abbrev is_short : List ℕ → Bool
+is_short name = nat_le (length name) 8
+
+short_length : (name : List ℕ) → IsTrue (is_short name) → length name ≤ 8
+short_length name h = grind (arith, nat_tests)
+
+pub month_length : (month : ℕ) → length (name_of_number month_names month) ≤ 8
+unfolding words
+month_length month = short_length _ (each_name is_short month_names (month - 1) refl refl)
+
+pub day_name_length : (place : ℕ) → length (name_of_number name_texts place) ≤ 8
+unfolding words
+day_name_length place = short_length _ (each_name is_short name_texts (place - 1) refl refl)
+
+numbered : (number : ℕ) (name : List ℕ) → number ≤ 99 → IsTrue (list_all is_plain name && is_short name)
+    → IsCellText (numbered_name number name)
+numbered number name small h =
+    let both = and_parts (list_all is_plain name) (is_short name) h in (
+      rw (list_all-append is_plain (decimal number) (32 ∷ name), marks_plain _ (numeral_short (short number small)).marks, both.0) refl,
+      omega (arith, length-append {A = ℕ}, one_or_two number small, short_length name both.1),
+    )
+
+pub cell_text : HaabDaysInRange → TzolkinNumbersInRange → (target : Target) (n : ℤ) (text : List ℕ)
+    → IsCell target n text → IsCellText text
+unfolding words
+cell_text days numbers =
+    each_cell IsCellText (λ name. list_all is_plain name && is_short name) days numbers date_cell numbered refl refl refl

@@ -11,10 +11,4 @@ year_step year = grind (arith, nat_tests)
 pub islamic_days : (n : ℕ) → days_of_years (λ year. total_days (months_of_year (unsigned_abs year))) n
     ≡ 354 * n + (11 * n + 14) / 30
 islamic_days zero = years_zero _
-islamic_days (suc n) =
-    omega (
-      arith,
-      years_suc (λ year. total_days (months_of_year (unsigned_abs year))) n,
-      year_step (suc n),
-      islamic_days n,
-    )
+islamic_days (suc n) = grind (arith, years_suc, unsigned_abs, year_step, islamic_days n)

@@ -28,8 +28,7 @@ starts_near : (ms : List Month) (i : ℕ) → AreEven ms → i ≤ length ms
     → (29 * i ≤ total_days (take i ms)) × (total_days (take i ms) ≤ 30 * i)
 starts_near ms zero h le = (omega arith, omega arith)
 starts_near [] (suc i) h le = absurd (omega arith)
-starts_near (m ∷ ms) (suc i) h le =
-    let more = starts_near ms i h.2 (omega arith) in (omega (arith, more, h.0), omega (arith, more, h.1))
+starts_near (m ∷ ms) (suc i) h le = grind (arith, starts_near ms i h.2 (omega arith))
 
 start_suc : (ms : List Month) (i : ℕ) → i < length ms
     → total_days (take (suc i) ms) ≡ total_days (take i ms) + (month_of ms i).days
@@ -55,12 +54,7 @@ record IsNumbered (ms : List Month) (start : ℕ) (m : Month) : Type 0 where
 numbered : (ms : List Month) (i : ℕ) → IsTrue (are_months ms) → i < length ms
     → IsNumbered ms (total_days (take i ms)) (month_of ms i)
 numbered [] i h lt = absurd (omega arith)
-numbered (m ∷ ms) zero h lt =
-    record {
-      before = grind (arith, nat_tests);
-      days = grind (arith, nat_tests);
-      small = grind (arith, nat_tests);
-    }
+numbered (m ∷ ms) zero h lt = grind (arith, nat_tests)
 numbered (m ∷ ms) (suc i) h lt =
     let rest : IsTrue (are_months ms) = grind (arith, nat_tests) in
     let more = numbered ms i rest (omega arith) in
@@ -83,11 +77,7 @@ twelve false days = omega arith
 -- an index by a test is one of two
 by_test : (start place least index : ℕ) → index ≡ least + bool_byte (leb start place)
     → ((start ≤ place) × (index ≡ least + 1)) ⊎ ((place < start) × (index ≡ least))
-by_test start place least index e =
-    elim (cases_lt place start) [
-      | inl less ↦ inr (less, grind (arith, nat_tests))
-      | inr more ↦ inl (more, grind (arith, nat_tests))
-    ]
+by_test start place least index e = grind (arith, cases_lt, nat_tests)
 
 -- the month of this index holds the place
 record Holds (ms : List Month) (place index : ℕ) : Type 0 where
@@ -97,8 +87,7 @@ record Holds (ms : List Month) (place index : ℕ) : Type 0 where
 
 least_inside : (ms : List Month) (place least : ℕ) → AreEven ms → 30 * least ≤ place → place < total_days ms
     → least < length ms
-least_inside ms place least h low inside =
-    omega (arith, starts_near ms (length ms) h (omega arith), start_all ms)
+least_inside ms place least h low inside = grind (arith, starts_near ms (length ms) h (omega arith), start_all ms)
 
 next_inside : (ms : List Month) (place least : ℕ) → least < length ms → total_days (take (suc least) ms) ≤ place
     → place < total_days ms → suc least < length ms
@@ -160,16 +149,7 @@ short (m ∷ ms) (suc i) h lt = short ms i h.2 (omega arith)
 placed : (ms : List Month) (place index start : ℕ) → AreEven ms → IsTrue (are_months ms) → Holds ms place index
     → start ≡ total_days (take index ms) → IsPlacedIn ms place start (month_of ms index).number
 placed ms place index start h numbers at e =
-    let step = start_suc ms index at.inside in
-    let few = short ms index h at.inside in
-    let number = numbered ms index numbers at.inside in
-    record {
-      after = omega (arith, at.after);
-      near = omega (arith, at.before);
-      last = omega (arith, at.before, number.days);
-      sum = omega (arith, at.after, number.before);
-      small = number.small;
-    }
+    grind (arith, start_suc ms index at.inside, short ms index h at.inside, numbered ms index numbers at.inside)
 
 -- the index of the month of a place, where a test finds which of two it is
 abbrev pub index_of : List ℕ → ℕ → ℕ

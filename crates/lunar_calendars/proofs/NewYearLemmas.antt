@@ -41,12 +41,7 @@ next_allowed_after d = rw (weekday_after d) (chosen (is_closed d) _ _ _ _ (later
 pub postponed_after : (leap after_leap : Bool) (d t : ℕ)
     → postponed leap after_leap (epoch +ℤ pos d) t ≡ epoch +ℤ pos (opening leap after_leap d t)
 postponed_after leap after_leap d t =
-    let noon = cond (nat_le 19_440 t) (d + 1) d in
-    let late : cond (nat_le 19_440 t) ((epoch +ℤ pos d) +ℤ pos 1) (epoch +ℤ pos d) ≡ epoch +ℤ pos noon =
-    chosen (nat_le 19_440 t) _ _ _ _ (later d 1) refl in
-    rw (late, weekday_after d)
-    (chosen (not leap && falls_on_place 2 d && nat_le 9_924 t) _ _ _ _ (later d 2)
-    (chosen (after_leap && falls_on_place 1 d && nat_le 16_789 t) _ _ _ _ (later d 1) (next_allowed_after noon)))
+    grind (arith, signed_arith, cond, nat_le, chosen, later, weekday_after, falls_on_place, next_allowed_after)
 
 weekday_cases : (P : ℕ → Type 0) → P 0 → P 1 → P 2 → P 3 → P 4 → P 5 → P 6 → (r : ℕ) → r < 7 → P r
 weekday_cases P p q r s t u v zero h = p
@@ -116,8 +111,7 @@ opening_bounds leap after_leap d t = grind (arith, nat_tests)
 pub new_year_bounds : (n : ℕ)
     → (parts_after n / 25_920 ≤ new_year_after n) × (new_year_after n ≤ parts_after n / 25_920 + 2)
 unfolding new_year_after
-new_year_bounds n =
-    opening_bounds (is_leap_year (suc n)) (is_leap_year n) (parts_after n / 25_920) (parts_after n % 25_920)
+new_year_bounds n = grind (arith, signed_arith, opening_bounds, parts_after)
 
 -- a year and the one before are leap years by the part of a month that the months before the year have left
 leap_by_part : (n : ℕ) → nat_le 12 ((235 * n + 1) % 19) ≡ is_leap_year (suc n)

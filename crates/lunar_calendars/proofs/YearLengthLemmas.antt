@@ -25,10 +25,8 @@ year_by_weeks : (leap after_leap next_leap : Bool) (x y : ℕ) → y ≡ x + 765
     → IsFrom (if leap then 383 else 353) (if leap then 385 else 355)
     (7 * (x / 181_440) + days_from_monday leap after_leap (x % 181_440))
     (7 * (y / 181_440) + days_from_monday next_leap leap (y % 181_440))
-year_by_weeks false after_leap next_leap x y e =
-    record { least = grind (arith, nat_tests); most = grind (arith, nat_tests) }
-year_by_weeks true after_leap next_leap x y e =
-    record { least = grind (arith, nat_tests); most = grind (arith, nat_tests) }
+year_by_weeks false after_leap next_leap x y e = grind (arith, signed_arith, nat_tests)
+year_by_weeks true after_leap next_leap x y e = grind (arith, signed_arith, nat_tests)
 
 from_same : (low high m n i j : ℕ) → m ≡ i → n ≡ j → IsFrom low high m n → IsFrom low high i j
 from_same low high m n i j p q s = rw (← p, ← q) s
@@ -83,14 +81,7 @@ total_of n = total_by (is_leap_year (suc n)) (days_in_year (suc n)) (length_of n
 -- so the sum of the lengths of the years before is the new year by the postponements
 days_before : (n : ℕ) → days_of_years (λ year. total_days (months_of_year (unsigned_abs year))) n ≡ new_year_after n
 days_before zero = years_zero _ ∙ sym first_new_year
-days_before (suc n) =
-    omega (
-      arith,
-      years_suc (λ year. total_days (months_of_year (unsigned_abs year))) n,
-      total_of n,
-      days_more n,
-      days_before n,
-    )
+days_before (suc n) = grind (arith, signed_arith, years_suc, unsigned_abs, total_of, days_more, days_before n)
 
 -- the same facts of a year from 1 on
 pub year_start_is : (year : ℕ) → 1 ≤ year → new_year_of year ≡ year_start hebrew_rules (pos year)
@@ -110,8 +101,7 @@ end_by x y m n days p q h = omega (arith, signed_arith, p, q, h)
 
 end_of : (n : ℕ) → new_year_of (suc n + 1) ≡ new_year_of (suc n) +ℤ pos (days_in_year (suc n))
 end_of n =
-    end_by _ _ _ _ _ (let next : suc n + 1 ≡ suc (suc n) = omega arith in
-    rw next (new_year_is (suc n))) (new_year_is n) (days_more n)
+    end_by _ _ _ _ _ (grind (arith, new_year_is (suc n))) (new_year_is n) (days_more n)
 
 pub length_of_year : (year : ℕ) → 1 ≤ year → IsYearLength (is_leap_year year) (days_in_year year)
 length_of_year zero low = absurd (omega arith)
@@ -155,11 +145,9 @@ days_after : (n day monday time weeks rest more e r : ℕ) → day ≡ new_year_
 days_after n day monday time weeks rest more e r o s t w h m q k =
     let step = parts_step n (is_leap_year (suc n)) refl in
     let week = one_more more (time + rest) m (omega (arith, t, h)) in
-    let weeks_to : (32_400 + parts_after (suc n)) / 181_440 ≡ (32_400 + parts_after n) / 181_440 + (weeks + more) =
-    omega (arith, step, t, w, week) in
     let next_time : time + rest - more * 181_440 ≡ (32_400 + parts_after (suc n)) % 181_440 =
     omega (arith, step, t, w, week) in
-    omega (arith, o, s, weeks_to, rw next_time at q, k, by_week (suc n), days_more n)
+    omega (arith, o, s, rw next_time at q, k, by_week (suc n), days_more n)
 
 pub days_by : (year day monday part time weeks rest more e r : ℕ) → 1 ≤ year → IsOpening year day monday part time
     → 181_440 * weeks + rest ≡ 765_433 * (if is_leap_year year then 13 else 12) → rest < 181_440

@@ -23,11 +23,7 @@ abbrev haab_by : ℤ → ℕ × ℕ
 haab_by days = haab_at (place_in 365 (days +ℤ pos 348))
 
 by_each_day : StepsOnEachDay haab_after haab_by
-by_each_day days =
-    let later : (days +ℤ pos 1) +ℤ pos 348 ≡ (days +ℤ pos 348) +ℤ pos 1 = omega (arith, ints) in
-    haab_next (place_in 365 (days +ℤ pos 348)) (place_in 365 ((days +ℤ pos 1) +ℤ pos 348))
-    (place_below 365 (days +ℤ pos 348) (omega arith))
-    (ap (place_in 365) later ∙ place_next 365 (days +ℤ pos 348) (omega arith))
+by_each_day days = grind (arith, ints, haab_next, place_in, place_below, place_next)
 
 by_undone : (days : ℤ) → haab_before (haab_after (haab_by days)) ≡ haab_by days
 by_undone days = haab_undone (place_in 365 (days +ℤ pos 348)) (place_below 365 (days +ℤ pos 348) (omega arith))

@@ -35,18 +35,10 @@ same_places c d same =
 same_numbers : (b k t u n b' k' t' u' n' : ℕ) → k ≤ 19 → t ≤ 19 → u ≤ 17 → n ≤ 19 → k' ≤ 19 → t' ≤ 19 → u' ≤ 17
     → n' ≤ 19 → 144_000 * b + 7_200 * k + 360 * t + 20 * u + n ≡ 144_000 * b' + 7_200 * k' + 360 * t' + 20 * u' + n'
     → ◌≡◌ {A = Numbers} (b, k, t, u, n) (b', k', t', u', n')
-same_numbers b k t u n b' k' t' u' n' i j l m i' j' l' m' e =
-    let kin : n ≡ n' = omega arith in
-    let uinal : u ≡ u' = omega arith in
-    let tun : t ≡ t' = omega arith in
-    let katun : k ≡ k' = omega arith in
-    let baktun : b ≡ b' = omega arith in
-    cc
+same_numbers b k t u n b' k' t' u' n' i j l m i' j' l' m' e = grind (arith, ints)
 
 pub one_long_count : (c d : LongCount) → IsLongCount c → IsLongCount d → long_day c ≡ long_day d → c ≡ d
-one_long_count c d h g e =
-    same_places c d (same_numbers c.baktun c.katun c.tun c.uinal c.kin d.baktun d.katun d.tun d.uinal d.kin h.0 h.1 h.2
-    h.3 g.0 g.1 g.2 g.3 (omega (arith, ints, e)))
+one_long_count c d h g e = grind (arith, ints, same_places, same_numbers)
 
 pub day_since_epoch : (c : LongCount) → epoch ≤ℤ long_day c
 day_since_epoch c = omega (arith, ints)

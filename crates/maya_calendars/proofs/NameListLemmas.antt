@@ -41,14 +41,12 @@ month_at m = (omega arith, refl)
 
 pub month_named : (m : HaabMonth) (number : ℕ) → IsNumbered all_months number m
     → name_of_number month_names number ≡ get_or spelled_months (tag_of the_months m) []
-month_named m number e =
-    named_by_tag (tag_of the_months) all_months 19 (number - 1) m month_names spelled_months refl months_spelled e.1
+month_named m number e = grind (arith, named_by_tag, spelled_months, months_spelled)
 
 -- the last day of a month is 19 at most
 pub day_below : (day : ℕ) (m : HaabMonth)
     → ((number : ℕ) → IsNumbered all_months number m → day ≤ last_day number) → day ≤ 19
-day_below day m h =
-    let in_month = h (tag_of the_months m + 1) (month_at m) in grind (arith, nat_tests)
+day_below day m h = grind (arith, h (tag_of the_months m + 1) (month_at m), nat_tests)
 
 -- so does a name
 pub name_named : (name : TzolkinName) (place : ℕ) → IsNumbered all_names place name

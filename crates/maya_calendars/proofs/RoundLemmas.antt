@@ -1,7 +1,7 @@
 -- Rounds by remainders: what is a place by a remainder of the days moves one place on each day.
 use Rattle.std.proofs.Common.{◌≡◌, ℕ, zero, suc, ◌+◌, ◌-◌, ◌*◌, ◌/◌, ◌<◌, ◌%◌, ◌==◌, if◌then◌else◌, sym, subst, ap}
 use Rattle.std.proofs.Common.{zero-add, ◌≤◌, ◌∙◌, arith, add-one, inl, inr, ℤ, pos, negsuc, ◌+ℤ◌, ◌-ℤ◌, unsigned_abs}
-use Rattle.std.proofs.Math.Nat.{mod-add-mod, mod_self, mod-eq_of_lt, add-mul, mod-add-div', add-mul-mod_self_right}
+use Rattle.std.proofs.Math.Nat.{mod-add-mod, mod_self, mod-eq_of_lt, add-mul, add-mul-mod_self_right}
 use Rattle.std.proofs.lemmas.Nat.{mod-mul-add}
 use Rattle.std.proofs.lemmas.Bool.{cases_lt}
 use Rattle.std.specs.Fn.{iterate}
@@ -29,16 +29,13 @@ steps_back back name_of undone zero day = let same : day ≡ day -ℤ pos 0 = om
 steps_back back name_of undone (suc n) day =
     let before : day ≡ day -ℤ pos 1 +ℤ pos 1 = omega (arith, ints) in
     let next : day -ℤ pos 1 -ℤ pos n ≡ day -ℤ pos (suc n) = omega (arith, ints) in
-    ap (λ d. iterate back n (back (name_of d))) before ∙ ap (iterate back n) (undone (day -ℤ pos 1))
-    ∙ steps_back back name_of undone n (day -ℤ pos 1) ∙ ap name_of next
+    cc (undone (day -ℤ pos 1), steps_back back name_of undone n (day -ℤ pos 1))
 
 pub after_days_are : {A : Type 0} → (on back : A → A) (name_of : ℤ → A) → StepsOnEachDay on name_of
     → ((day : ℤ) → back (on (name_of day)) ≡ name_of day) → (day : ℤ)
     → after_days on back (name_of (pos 0)) day ≡ name_of day
 unfolding after_days
-after_days_are on back name_of each_day undone (pos n) =
-    let counted : pos 0 +ℤ pos n ≡ pos n = omega (arith, ints) in
-    steps_on on name_of each_day n (pos 0) ∙ ap name_of counted
+after_days_are on back name_of each_day undone (pos n) = grind (arith, ints, steps_on on name_of each_day n (pos 0))
 after_days_are on back name_of each_day undone (negsuc n) =
     let counted : pos 0 -ℤ pos (suc n) ≡ negsuc n = omega (arith, ints) in
     steps_back back name_of (λ day. ap back (each_day day) ∙ undone day) (suc n) (pos 0) ∙ ap name_of counted
@@ -47,12 +44,7 @@ after_days_are on back name_of each_day undone (negsuc n) =
 pub each_day_from_epoch : {A : Type 0} → (on back : A → A) (name_of : ℤ → A) → StepsOnEachDay on name_of
     → ((day : ℤ) → back (on (name_of day)) ≡ name_of day)
     → StepsOnEachDay on (λ day. after_days on back (name_of (pos 0)) (day -ℤ epoch))
-each_day_from_epoch on back name_of each_day undone day =
-    let later : (day +ℤ pos 1) -ℤ epoch ≡ (day -ℤ epoch) +ℤ pos 1 = omega (arith, ints) in
-    after_days_are on back name_of each_day undone ((day +ℤ pos 1) -ℤ epoch)
-    ∙ ap name_of later
-    ∙ each_day (day -ℤ epoch)
-    ∙ ap on (sym (after_days_are on back name_of each_day undone (day -ℤ epoch)))
+each_day_from_epoch on back name_of each_day undone day = grind (arith, ints, after_days_are)
 
 -- the place of a day in a round of n, counted from 0
 abbrev pub place_in : ℕ → ℤ → ℕ
@@ -105,10 +97,7 @@ by_undone : (n k : ℕ) → 0 < n → (days : ℤ) → number_before n (number_a
 by_undone n k h days = number_undone n (place_in n (days +ℤ pos k)) (place_below n (days +ℤ pos k) h)
 
 by_first : (n k first : ℕ) → k + 1 ≡ first → first ≤ n → number_by n k (pos 0) ≡ first
-by_first n k first e h =
-    let below : k < n = omega arith in
-    let small : (0 + k) % n ≡ k = ap (λ j. j % n) (zero-add k) ∙ mod-eq_of_lt below in
-    omega (arith, small)
+by_first n k first e h = grind (arith, ints, zero-add, mod-eq_of_lt)
 
 -- the remainder gives the number in the round
 pub round_number_is : (n k first : ℕ) (day : ℤ) → k + 1 ≡ first → first ≤ n
@@ -121,29 +110,25 @@ round_number_is n k first day e h =
 
 -- a place is the same so many rounds later, where no number is negative
 later_place : (n k x : ℕ) (z : ℤ) → 0 < n → pos x ≡ z +ℤ pos (k * n) → x % n ≡ place_in n z
-later_place n k x (pos a) h e =
-    let same : x ≡ a + k * n = omega (arith, ints, e) in rw same (add-mul-mod_self_right a k n)
+later_place n k x (pos a) h e = grind (arith, ints, add-mul-mod_self_right a k n)
 later_place n k x (negsuc a) h e =
-    let rest = mod-add-div' a n in
-    let below : a % n < n = omega arith in
     elim (cases_lt (a / n) k) [
       | inl less ↦
           let j = k - a / n - 1 in
           let rounds : k ≡ a / n + (j + 1) = omega arith in
           let split = rw (← rounds) at (add-mul (a / n) (j + 1) n) in
-          let same : x ≡ j * n + (n - 1 - a % n) = omega (arith, ints, e, rest, below, split, add-mul j 1 n) in
-          rw same (mod-mul-add j n (n - 1 - a % n) (omega (arith, below)))
+          let same : x ≡ j * n + (n - 1 - a % n) = omega (arith, ints, e, split, add-mul j 1 n) in
+          rw same (mod-mul-add j n (n - 1 - a % n) (omega arith))
       | inr more ↦
           let rounds : a / n ≡ k + (a / n - k) = omega arith in
-          absurd (omega (arith, ints, e, rest, rw (← rounds) at (add-mul k (a / n - k) n)))
+          absurd (omega (arith, ints, e, rw (← rounds) at (add-mul k (a / n - k) n)))
     ]
 
 -- also as it is computed
 pub number_from_remainder : (n k first rounds x : ℕ) (day : ℤ) → pos x ≡ ((day -ℤ epoch) +ℤ pos k) +ℤ pos (rounds * n)
     → k + 1 ≡ first → first ≤ n → x % n + 1 ≡ round_number n first day
 number_from_remainder n k first rounds x day e h l =
-    ap (λ place. place + 1) (later_place n rounds x ((day -ℤ epoch) +ℤ pos k) (omega arith) e)
-    ∙ round_number_is n k first day h l
+    cc (later_place n rounds x ((day -ℤ epoch) +ℤ pos k) (omega arith) e, round_number_is n k first day h l)
 
 -- which moves one place on each day
 pub round_number_each_day : (n k first : ℕ) → k + 1 ≡ first → first ≤ n

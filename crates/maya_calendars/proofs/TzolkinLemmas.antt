@@ -7,6 +7,4 @@ use Rattle.maya_calendars.proofs.RoundLemmas.{round_number_each_day}
 -- the tzolkin moves one place on each day
 pub tzolkin_each_day : StepsOnEachDay tzolkin_after tzolkin_of
 tzolkin_each_day day =
-    let number = round_number_each_day 13 3 4 refl (omega arith) day in
-    let name = round_number_each_day 20 19 20 refl (omega arith) day in
-    cc (number, name)
+    cc (round_number_each_day 13 3 4 refl (omega arith) day, round_number_each_day 20 19 20 refl (omega arith) day)

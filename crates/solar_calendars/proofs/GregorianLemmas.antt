@@ -1,5 +1,5 @@
 -- Gregorian years in closed form, and jiff's dates by the rules.
-use Rattle.std.proofs.Common.{◌≡◌, ◌↔◌, ℕ, zero, suc, ◌+◌, ◌-◌, ◌*◌, ◌/◌, ◌≤◌, ◌<◌, Bool, refl, sym, ◌∙◌, cond, arith, ℤ, pos}
+use Rattle.std.proofs.Common.{◌≡◌, ◌↔◌, ℕ, zero, suc, ◌+◌, ◌-◌, ◌*◌, ◌/◌, ◌≤◌, ◌<◌, Bool, refl, cond, arith, ℤ, pos}
 use Rattle.std.proofs.Common.{negsuc, neg_ℤ, ◌+ℤ◌, ◌-ℤ◌, ◌*ℤ◌, ◌≤ℤ◌}
 use Rattle.std.proofs.lemmas.Bool.Decides.{nat_tests}
 use Rattle.std.specs.Int.{int_div_euclid}
@@ -130,9 +130,7 @@ leap_days_are n a e =
 
 pub first_is : (y n a z : ℤ) → n ≡ y -ℤ pos 1 → year_start gregorian_rules (n +ℤ pos 1) ≡ pos 365 *ℤ n +ℤ a +ℤ pos 1
     → z ≡ pos 365 *ℤ n +ℤ a +ℤ pos 1 → z ≡ year_start gregorian_rules y
-first_is y n a z e p s =
-    let same : n +ℤ pos 1 ≡ y = omega (arith, signed_arith, e) in
-    s ∙ sym (rw same at p)
+first_is y n a z e p s = grind (arith, signed_arith)
 
 -- jiff's dates are the rules' dates
 valid_month : (y : ℤ) (m d : ℕ) → (1 ≤ m) × (m ≤ 12)

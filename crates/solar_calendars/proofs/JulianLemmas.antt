@@ -1,5 +1,5 @@
 -- Julian years in closed form.
-use Rattle.std.proofs.Common.{◌≡◌, ◌==◌, ℕ, zero, suc, ◌+◌, ◌*◌, ◌/◌, ◌%◌, ◌≤◌, refl, sym, ap, ◌∙◌, arith}
+use Rattle.std.proofs.Common.{◌≡◌, ◌==◌, ℕ, zero, suc, ◌+◌, ◌*◌, ◌/◌, ◌%◌, ◌≤◌, refl, ap, arith}
 use Rattle.std.proofs.Common.{ℤ, pos, negsuc, neg_ℤ, ◌+ℤ◌, ◌-ℤ◌, ◌*ℤ◌}
 use Rattle.std.proofs.lemmas.Bool.Decides.{nat_tests}
 use Rattle.std.specs.Int.{int_div_euclid}
@@ -32,9 +32,7 @@ julian_start y h = start_is without_zero _ _ closed refl julian_next y h
 
 -- a fourth year is a leap year also where the years are counted from some day far back
 pub leap_by_count : (y : ℤ) (k : ℕ) → pos k ≡ years_before y +ℤ pos 100_000 → (k % 4 == 3) ≡ is_julian_leap y
-leap_by_count y k e =
-    let same : remainder (years_before y) 4 ≡ k % 4 = omega (arith, signed_arith, e) in
-    ap (λ r. r == 3) (sym same) ∙ leap_by_years y
+leap_by_count y k e = grind (arith, signed_arith, leap_by_years y)
 
 -- so the place in its year, and the month and the day there, give the date of a day
 pub julian_date : (n y : ℤ) (k m d : ℕ) → HasYear without_zero y → pos k ≡ pos 4 *ℤ n +ℤ pos 146_100_007

@@ -40,10 +40,7 @@ months_small leap m a b = grind (arith, nat_tests)
 pub months_follow : (leap : Bool) (m : ℕ) → 2 ≤ m → m ≤ 12
     → days_before_month (twelve_months leap) m ≡ days_before_month (twelve_months leap) (m - 1) + days_of_month
     (twelve_months leap) (m - 1)
-months_follow leap m a b =
-    let e : suc (m - 1) ≡ m = omega arith in
-    subst (λ n. days_before_month (twelve_months leap) n ≡ days_before_month (twelve_months leap)
-    (m - 1) + days_of_month (twelve_months leap) (m - 1)) e (follow (lengths leap) 1 (m - 1) (omega arith))
+months_follow leap m a b = grind (arith, signed_arith, follow (lengths leap) 1 (m - 1) (omega arith))
 
 pub one_less : (n : ℕ) → pos (suc (suc n)) -ℤ pos 1 ≡ pos (suc n)
 one_less n = omega (arith, signed_arith)

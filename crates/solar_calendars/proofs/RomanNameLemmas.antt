@@ -31,64 +31,23 @@ within_placed : (two : Bool) (i l p d : ℕ) → 13 ≤ i → i ≤ 15 → p + 1
     → IsPlaced two i l p (name_within i d) × (place two i (name_within i d) ≡ pos d -ℤ pos 1)
 unfolding Standing
 within_placed two i l p d a b c e f =
-    elim (cases_eq d 1) [
-      | inl q ↦ rw q (first_placed two i l p c)
-      | inr n ↦ elim (cases_lt (i - 8) d) [
-        | inl more ↦
-            let name : name_within i d ≡ Ides (i + 1 - d) = rw (ne_eqb d 1 n, lt-leb d (i - 8) more) refl in
-            subst (Standing two i l p d) (sym name) ((omega arith, omega arith), omega (arith, signed_arith))
-        | inr less ↦
-            let name : name_within i d ≡ Nones (i - 8 + 1 - d) = rw (ne_eqb d 1 n, le-leb d (i - 8) less) refl in
-            let more : 1 < d = omega arith in
-            subst (Standing two i l p d) (sym name) ((omega arith, omega arith), omega (arith, signed_arith))
-      ]
-    ]
+    grind (arith, signed_arith, cases_eq, first_placed, cases_lt, ne_eqb, lt-leb, le-leb)
 
 within_same : (two : Bool) (i l p d : ℕ) (name : RomanName) → 13 ≤ i → IsPlaced two i l p name → 1 ≤ d → d ≤ i
     → place two i name ≡ pos d -ℤ pos 1 → name_within i d ≡ name
-within_same two i l p d (Kalends k) g h a b e =
-    let back : kalends_back two k ≡ 0 = omega (arith, signed_arith, e) in
-    let one : k ≡ 1 = grind (arith, nat_tests) in
-    let first : d ≡ 1 = omega (arith, signed_arith, e) in
-    rw (one, first) refl
-within_same two i l p d (Nones k) g h a b e =
-    let k_is : k ≡ i - 8 + 1 - d = omega (arith, signed_arith, e, h) in
-    let more : 1 < d = omega (arith, signed_arith, e, h) in
-    let less : d ≤ i - 8 = omega (arith, signed_arith, e, h) in
-    rw k_is (grind (arith, nat_tests))
-within_same two i l p d (Ides k) g h a b e =
-    let k_is : k ≡ i + 1 - d = omega (arith, signed_arith, e, h) in
-    let more : i - 8 < d = omega (arith, signed_arith, e, h) in
-    rw k_is (grind (arith, nat_tests))
+within_same two i l p d (Kalends k) g h a b e = grind (arith, signed_arith, nat_tests)
+within_same two i l p d (Nones k) g h a b e = grind (arith, signed_arith, nat_tests)
+within_same two i l p d (Ides k) g h a b e = grind (arith, signed_arith, nat_tests)
 within_same two i l p d SecondSixth g h a b e = absurd (omega (arith, signed_arith, e))
 
 after_same : (two : Bool) (i l p d : ℕ) (name : RomanName) → 13 ≤ i → IsPlaced two i l p name → p < d → d ≤ l
     → (two ≡ true → l ≡ 29)
     → place two i name ≡ pos d -ℤ pos 1 -ℤ pos l → name_after two l d ≡ name
-after_same true i l p d (Kalends k) g h a b t e =
-    elim (cases_lt k 6) [
-      | inl less ↦
-          let back : kalends_back true k ≡ k - 1 = rw (lt-leb 6 k less) refl in
-          let k_is : k ≡ 31 - d = omega (arith, signed_arith, e, h, back, t refl) in
-          let far : 25 < d = omega (arith, signed_arith, e, h, back, t refl) in
-          let name : name_after true l d ≡ Kalends (31 - d) =
-          rw (lt-leb d 24 (omega arith), ne_eqb d 25 (λ q. omega arith)) refl in
-          name ∙ ap Kalends (sym k_is)
-      | inr more ↦
-          let back : kalends_back true k ≡ k = rw (le-leb 6 k more) refl in
-          let k_is : k ≡ 30 - d = omega (arith, signed_arith, e, h, back, t refl) in
-          let near : d ≤ 24 = omega (arith, signed_arith, e, h, back, t refl) in
-          let name : name_after true l d ≡ Kalends (30 - d) = rw (le-leb d 24 near) refl in
-          name ∙ ap Kalends (sym k_is)
-    ]
-after_same false i l p d (Kalends k) g h a b t e =
-    let k_is : k ≡ l + 2 - d = omega (arith, signed_arith, e, h) in
-    rw k_is refl
+after_same true i l p d (Kalends k) g h a b t e = grind (arith, signed_arith, cases_lt, lt-leb, ne_eqb, le-leb)
+after_same false i l p d (Kalends k) g h a b t e = grind (arith, signed_arith)
 after_same two i l p d (Nones k) g h a b t e = absurd (omega (arith, signed_arith, e, h))
 after_same two i l p d (Ides k) g h a b t e = absurd (omega (arith, signed_arith, e, h))
-after_same two i l p d SecondSixth g h a b t e =
-    let d_is : d ≡ 25 = omega (arith, signed_arith, e, t h) in
-    rw (h, d_is) refl
+after_same two i l p d SecondSixth g h a b t e = grind (arith, signed_arith, t h)
 
 -- the same after the Ides, by the length of the month
 After : Bool → ℕ → ℕ → ℕ → ℕ → RomanName → Type 0
@@ -97,21 +56,7 @@ After two i l p d x = IsPlaced two i l p x × (place two i x ≡ pos d -ℤ pos 
 leap_placed : (i l p d : ℕ) → l ≡ 29 → p ≡ 13 → p < d → d ≤ l
     → IsPlaced true i l p (name_after true l d) × (place true i (name_after true l d) ≡ pos d -ℤ pos 1 -ℤ pos l)
 unfolding After
-leap_placed i l p d x y a b =
-    elim (cases_lt 24 d) [
-      | inl more ↦ elim (cases_eq d 25) [
-        | inl q ↦ rw q (refl, omega (arith, signed_arith, x))
-        | inr n ↦
-            let name : name_after true l d ≡ Kalends (31 - d) = rw (lt-leb d 24 more, ne_eqb d 25 n) refl in
-            let back : kalends_back true (31 - d) ≡ 31 - d - 1 = rw (lt-leb 6 (31 - d) (omega arith)) refl in
-            subst (After true i l p d) (sym name)
-            ((omega arith, omega (arith, back)), omega (arith, signed_arith, back))
-      ]
-      | inr less ↦
-          let name : name_after true l d ≡ Kalends (30 - d) = rw (le-leb d 24 less) refl in
-          let back : kalends_back true (30 - d) ≡ 30 - d = rw (le-leb 6 (30 - d) (omega arith)) refl in
-          subst (After true i l p d) (sym name) ((omega arith, omega (arith, back)), omega (arith, signed_arith, back))
-    ]
+leap_placed i l p d x y a b = grind (arith, signed_arith, cases_lt, cases_eq, lt-leb, ne_eqb, le-leb)
 
 after_placed : (two : Bool) (i l p d : ℕ) → (two ≡ true → (l ≡ 29) × (p ≡ 13)) → p < d → d ≤ l
     → IsPlaced two i l p (name_after two l d) × (place two i (name_after two l d) ≡ pos d -ℤ pos 1 -ℤ pos l)
@@ -151,9 +96,7 @@ after_ides : (py y : ℤ) (pm m d : ℕ) (two : Bool) (name : RomanName) → day
     → year_of_next_month py pm ≡ y → next_month pm ≡ m
     → two ≡ ((pm == 2) && is_julian_leap py) → name_after two (month_length py pm) d ≡ name
     → parts_on py pm d ≡ record { year = y; month = m; name = name }
-after_ides py y pm m d two name more e f t x =
-    rw (lt-leb d (day_of_ides pm) more)
-    (same_parts e f (ap (λ (b : Bool). name_after b (month_length py pm) d) (sym t) ∙ x))
+after_ides py y pm m d two name more e f t x = grind (arith, signed_arith, lt-leb d (day_of_ides pm) more)
 
 last_month : (y : ℤ) (m : ℕ) (name : RomanName) (d : ℕ) → HasYear without_zero y → 1 ≤ m → m ≤ 12 → HasPlace y m name
     → prior_ides m < d → d ≤ prior_length y m → place (has_two_sixths y m) (day_of_ides m) name ≡ pos d -ℤ pos 1 -ℤ pos
@@ -227,13 +170,7 @@ year_after (negsuc (suc n)) h = (tt, one_further n)
 
 next : (y : ℤ) (m : ℕ) → HasYear without_zero y → 1 ≤ m → m ≤ 12 → IsMonth (year_of_next_month y m) (next_month m)
     × (year_of_month_before (year_of_next_month y m) (next_month m) ≡ y) × (month_before (next_month m) ≡ m)
-next y m h a b =
-    elim (cases_eq m 12) [
-      | inl e ↦ rw e (((year_after y h).0, omega arith, omega arith), (year_after y h).1, refl)
-      | inr n ↦
-          let later = ne_eqb (m + 1) 1 (λ q. omega arith) in
-          rw (ne_eqb m 12 n, later) ((h, omega arith, omega arith), refl, omega arith)
-    ]
+next y m h a b = grind (arith, signed_arith, cases_eq, year_after, ne_eqb)
 
 -- the name of a Julian date is valid, and names its day
 unfoldable pub NamesDay : ℤ → RomanParts → Type 0

@@ -1,5 +1,5 @@
 -- Roman names by the days of the month.
-use Rattle.std.proofs.Common.{inl, inr, ◌≡◌, ◌↔◌, ℕ, zero, suc, ◌+◌, ◌-◌, ◌<◌, ◌≤◌, Bool, true, false, refl, ap}
+use Rattle.std.proofs.Common.{◌≡◌, ◌↔◌, ℕ, zero, suc, ◌+◌, ◌-◌, ◌<◌, ◌≤◌, Bool, true, false, refl, ap}
 use Rattle.std.proofs.Common.{arith, ℤ, pos, neg_ℤ, ◌+ℤ◌, ◌-ℤ◌, ◌≤ℤ◌, ◌<ℤ◌}
 use Rattle.std.proofs.lemmas.Bool.{cases_lt, le-leb, lt-leb}
 use Rattle.std.proofs.lemmas.Bool.Decides.{nat_tests}
@@ -21,11 +21,7 @@ by_sides k b n gap back e f = (λ s. omega (arith, signed_arith), λ q. omega (a
 -- how far a day lies from the Kalends, which are counted 1
 back_is : (two : Bool) (k : ℕ) → 1 ≤ k → days_back two (Kalends k) ≡ pos (kalends_back two k)
 back_is false k h = omega (arith, signed_arith)
-back_is true k h =
-    elim (cases_lt k 6) [
-      | inl less ↦ rw (lt-leb 6 k less) (omega (arith, signed_arith))
-      | inr more ↦ rw (le-leb 6 k more) refl
-    ]
+back_is true k h = grind (arith, signed_arith, cases_lt, lt-leb, le-leb)
 
 counted : (two : Bool) (k : ℕ) → pos 0 ≤ℤ days_back two (Kalends k) → 1 ≤ k
 counted two (suc k) h = omega arith

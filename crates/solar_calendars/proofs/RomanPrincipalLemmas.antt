@@ -30,11 +30,7 @@ ides_are y m h a b =
 pub small_prior : (y : ℤ) (m : ℕ) → HasYear without_zero y → 1 ≤ m → m ≤ 12
     → (1 ≤ prior_length y m + 1 - prior_ides m) × (prior_ides m + 13 ≤ prior_length y m) × (13 ≤ prior_ides m)
     × (prior_length y m ≤ 31)
-small_prior y m h a b =
-    let f = follows y m h a b in
-    let n = months_small (is_julian_leap (year_of_month_before y m)) (month_before m) f.is_month.1 f.is_month.2 in
-    let i = ides_small (month_before m) in
-    (omega (arith, n, i), omega (arith, n, i), i.0, n.1)
+small_prior y m h a b = grind (arith, signed_arith, follows, months_small, ides_small)
 
 -- ---- the principal days of a month
 -- the day of the month of a principal day

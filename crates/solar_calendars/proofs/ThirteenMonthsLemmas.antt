@@ -18,14 +18,7 @@ third_of_four_step n = grind (arith, nat_tests)
 pub third_of_four_sum : (n : ℕ)
     → days_of_years (λ y. total_days (thirteen_months (is_third_of_four y))) n ≡ 365 * n + (n + 1) / 4
 third_of_four_sum zero = years_zero _
-third_of_four_sum (suc n) =
-    omega (
-      arith,
-      years_suc (length_by is_third_of_four) n,
-      length_is is_third_of_four (suc n),
-      third_of_four_step (suc n),
-      third_of_four_sum n,
-    )
+third_of_four_sum (suc n) = grind (arith, years_suc, length_by, length_is, third_of_four_step, third_of_four_sum n)
 
 pub never_sum : (n : ℕ) → days_of_years (λ y. total_days (thirteen_months false)) n ≡ 365 * n
 never_sum zero = years_zero _

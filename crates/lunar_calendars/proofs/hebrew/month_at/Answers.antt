@@ -25,14 +25,10 @@ pub overflow_add-result : goal.overflow_add-result
 overflow_add-result c = omega (arith, (placed (goal.at.overflow_add-result c).After-starts_of_length-starts).near)
 
 pub returns-clause-last : goal.returns-clause-last
-returns-clause-last c =
-    rw c.months_of_length-months.ensures.value (placed (goal.at.returns-clause-last c).After-starts_of_length-starts).last
+returns-clause-last c = grind (arith, placed)
 
 pub returns-clause-sum : goal.returns-clause-sum
-returns-clause-sum c =
-    rw c.months_of_length-months.ensures.value (placed (goal.at.returns-clause-sum c).After-starts_of_length-starts).sum
+returns-clause-sum c = grind (arith, placed)
 
 pub returns-clause-small : goal.returns-clause-small
-returns-clause-small c =
-    let at = placed (goal.at.returns-clause-small c).After-starts_of_length-starts in
-    rw c.months_of_length-months.ensures.value (at.small, omega (arith, at.near))
+returns-clause-small c = grind (arith, placed)

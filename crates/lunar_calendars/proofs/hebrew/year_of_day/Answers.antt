@@ -6,10 +6,7 @@ use Rattle.lunar_calendars.proofs.hebrew.year_of_day.Goals.{Then-day-opening}
 
 -- the estimate of the year of a day before its new year is a year from 2 on
 later : (c : Then-day-opening) → 2 ≤ (c.args.day + 29) * 98_496 / 35_975_351 + 1
-later c =
-    let opening = c.of_year-opening.result in
-    rw c.of_year-opening.ensures at (after_year_one opening.year c.args.day opening.day opening.low opening.opens.0
-    c.if-day-opening.true)
+later c = grind (arith, signed_arith, after_year_one)
 
 pub of_year-requires-clause-low : goal.of_year-requires-clause-low
 of_year-requires-clause-low c = omega (arith, later (goal.at.of_year-requires-clause-low c).Then-day-opening)

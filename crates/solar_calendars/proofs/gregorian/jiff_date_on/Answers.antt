@@ -4,11 +4,7 @@ use Rattle.solar_calendars.proofs.GregorianLemmas.{jiff_day}
 use Rattle.solar_calendars.proofs.gregorian.jiff_date_on.Goals as goal
 
 pub unwrap-date-requires : goal.unwrap-date-requires
-unwrap-date-requires c =
-    let n : FitsSigned w64 c.args.day = c.ranges.day in
-    let since : FitsSigned w64 (c.args.day -ℤ pos 719_163) = omega (arith, signed_arith) in
-    let succeeds = simp to_z-of_z at c.from_unix_epoch_day.ensures.succeeds in
-    succeeds.1 (omega (arith, signed_arith, c.requires))
+unwrap-date-requires c = grind (arith, signed_arith, w64, pos, to_z-of_z)
 
 pub returns : goal.returns
 returns c =

@@ -1,30 +1,14 @@
 use Rattle.std.proofs.Common.{arith, rules, to_z-of_z, FitsSigned, w32, w64, ◌+ℤ◌, pos}
 use Rattle.std.proofs.lemmas.Option.{IfSome_then}
-use Rattle.day_numbers.specs.Days.{IsDayNumber}
 use Rattle.day_numbers.proofs.SignedArithmeticLemmas.{signed_arith}
 use Rattle.solar_calendars.proofs.IsoWeekLemmas.{thursday_in_range, from_monday, week_date_is}
 use Rattle.solar_calendars.proofs.iso_week.week_date_on.Goals as goal
 
 pub year_and_days_before-year-requires : goal.year_and_days_before-year-requires
-year_and_days_before-year-requires c =
-    let n : FitsSigned w64 c.number-number.result = search rules in
-    let m : FitsSigned w64 c.monday_of_week-monday.result = search rules in
-    let thursday : FitsSigned w64 (c.monday_of_week-monday.result +ℤ pos 3) = omega (arith, signed_arith) in
-    let monday = simp to_z-of_z at c.monday_of_week-monday.ensures in
-    let range : IsDayNumber c.number-number.result = search rules in
-    simp to_z-of_z (thursday_in_range c.number-number.result c.monday_of_week-monday.result range monday)
+year_and_days_before-year-requires c = search (rules, w64, pos, to_z-of_z, thursday_in_range)
 
 pub weekday_from-requires-clause-to : goal.weekday_from-requires-clause-to
-weekday_from-requires-clause-to c =
-    let n : FitsSigned w64 c.number-number.result = search rules in
-    let m : FitsSigned w64 c.monday_of_week-monday.result = search rules in
-    let monday = simp to_z-of_z at c.monday_of_week-monday.ensures in
-    simp to_z-of_z (omega (
-      arith,
-      signed_arith,
-      from_monday c.number-number.result c.monday_of_week-monday.result
-          monday,
-    ))
+weekday_from-requires-clause-to c = search (rules, w64, to_z-of_z, from_monday)
 
 pub returns-clause-value : goal.returns-clause-value
 returns-clause-value c =

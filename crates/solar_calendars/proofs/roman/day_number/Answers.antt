@@ -22,11 +22,7 @@ overflow_add-result c =
     )
 
 pub returns-in-Some-clause-valid : goal.returns-in-Some-clause-valid
-returns-in-Some-clause-valid c =
-    let f : FitsSigned w32 c.args.year = c.ranges.year in
-    let has : HasYear without_zero c.args.year = search rules in
-    let p : HasPlace c.args.year c.args.month c.args.name = (simp to_z-of_z at c.in-Some.ensures.valid).0 refl in
-    (λ _. (placed c.args.year c.args.month c.args.name has (omega arith) (omega arith)).1 p, λ _. refl)
+returns-in-Some-clause-valid c = search (rules, w32, to_z-of_z, placed)
 
 pub returns-in-Some-clause-value : goal.returns-in-Some-clause-value
 returns-in-Some-clause-value c =
@@ -47,10 +43,4 @@ returns-in-Some-clause-value c =
     )
 
 pub returns-in-None-clause-valid : goal.returns-in-None-clause-valid
-returns-in-None-clause-valid c =
-    let f : FitsSigned w32 c.args.year = c.ranges.year in
-    let has : HasYear without_zero c.args.year = search rules in (
-      λ e. absurd (cc),
-      λ r. (simp to_z-of_z at c.in-None.ensures.valid).1
-          ((placed c.args.year c.args.month c.args.name has (omega arith) (omega arith)).0 r),
-    )
+returns-in-None-clause-valid c = search (rules, w32, to_z-of_z, placed)

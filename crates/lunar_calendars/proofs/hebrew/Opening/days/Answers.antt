@@ -19,12 +19,7 @@ pub overflow_sub-result : goal.overflow_sub-result
 overflow_sub-result c = omega (arith, next (goal.at.overflow_sub-result c).After-days_from_monday)
 
 pub overflow_cast-result : goal.overflow_cast-result
-overflow_cast-result c =
-    omega (
-      arith,
-      next (goal.at.overflow_cast-result c).After-days_from_monday,
-      days_at_most c.args.self.year c.args.self.low,
-    )
+overflow_cast-result c = grind (arith, next, days_at_most)
 
 pub returns : goal.returns
 returns c =

@@ -37,9 +37,7 @@ place_is_tag tag items n place x counted e =
 pub named_by_tag : {A : Type 0} (tag : A → ℕ) (items : List A) (n place : ℕ) (x : A) (names spelled : List (List ℕ))
     → map tag items ≡ range_with_len 0 n → names ≡ spelled → slice_get items place ≡ Some x
     → get_or names place [] ≡ get_or spelled (tag x) []
-named_by_tag tag items n place x names spelled counted same e =
-    ap (λ (all : List (List ℕ)). get_or all place []) same
-    ∙ ap (λ k. get_or spelled k []) (place_is_tag tag items n place x counted e)
+named_by_tag tag items n place x names spelled counted same e = cc (place_is_tag tag items n place x counted e)
 
 abbrev spelled_weekdays : List (List ℕ)
 spelled_weekdays =
@@ -52,6 +50,4 @@ weekdays_spelled = refl
 
 pub weekday_named : (weekday : Weekday) (number : ℕ) → slice_get all_weekdays number ≡ Some weekday
     → get_or weekday_names number [] ≡ get_or spelled_weekdays (tag_of the_weekdays weekday) []
-weekday_named weekday number e =
-    named_by_tag (tag_of the_weekdays) all_weekdays 7 number weekday weekday_names spelled_weekdays refl
-    weekdays_spelled e
+weekday_named weekday number e = grind (arith, named_by_tag, spelled_weekdays, weekdays_spelled)

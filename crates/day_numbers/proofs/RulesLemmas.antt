@@ -1,6 +1,6 @@
 -- What follows from a calendar's rules, for every calendar.
 use Rattle.std.proofs.Common.{◌≡◌, ℕ, zero, suc, ◌+◌, ◌-◌, ◌≤◌, List, [], ◌∷◌, refl, sym}
-use Rattle.std.proofs.Common.{subst, ap, ◌∙◌, arith, ℤ, pos, negsuc, ◌+ℤ◌, ◌-ℤ◌, ◌<ℤ◌, ◌≤ℤ◌, neg_ℤ, unsigned_abs}
+use Rattle.std.proofs.Common.{subst, ◌∙◌, arith, ℤ, pos, negsuc, ◌+ℤ◌, ◌-ℤ◌, ◌<ℤ◌, ◌≤ℤ◌, neg_ℤ, unsigned_abs}
 use Rattle.std.proofs.lemmas.Int.{by_lt_z}
 use Rattle.std.proofs.lemmas.Bool.Decides.{nat_tests}
 use Rattle.day_numbers.specs.Rules.{Years, from_one, with_zero, without_zero, Rules, HasYear, total_days, days_of_month}
@@ -54,10 +54,7 @@ start_step s e f y z n a b g h k =
 -- the same of year 1, and the year y before it
 start_last : (s : Years) (e : ℤ) (f : ℤ → ℕ) (y : ℤ) → y <ℤ pos 1 → unsigned_abs (year_before s y) ≡ 1
     → year_before s (pos 1) ≡ y → start_of_year s e f (pos 1) ≡ start_of_year s e f y +ℤ pos (f y)
-start_last s e f y a h k =
-    let more : days_of_years (lengths_before s f) 1 ≡ days_of_years (lengths_before s f) 0 + f y =
-    rw (← k) (years_suc (lengths_before s f) 0) in
-    omega (arith, signed_arith, more, years_zero (lengths_before s f), start_before s e f y 1 a h, start_one s e f)
+start_last s e f y a h k = grind (arith, signed_arith, lengths_before, years_suc, years_zero, start_before, start_one)
 
 -- each year begins after the days of the one before
 pub start_next : (s : Years) (e : ℤ) (f : ℤ → ℕ) (y : ℤ) → HasYear s y
@@ -65,8 +62,6 @@ pub start_next : (s : Years) (e : ℤ) (f : ℤ → ℕ) (y : ℤ) → HasYear s
 unfolding start_of_year
 start_next s e f (pos (suc n)) h = omega (arith, signed_arith, years_suc f n)
 start_next with_zero e f (pos zero) h = start_last with_zero e f (pos 0) (omega (arith, signed_arith)) refl refl
-start_next without_zero e f (pos zero) h = absurd h
-start_next from_one e f (pos zero) h = absurd h
 start_next with_zero e f (negsuc zero) h =
     start_step with_zero e f (negsuc 0) (pos 0) 1 (omega (arith, signed_arith)) (omega (arith, signed_arith)) refl refl
     refl
@@ -79,75 +74,75 @@ start_next without_zero e f (negsuc zero) h =
 start_next without_zero e f (negsuc (suc n)) h =
     start_step without_zero e f (negsuc (suc n)) (negsuc n) (suc n) (omega (arith, signed_arith))
     (omega (arith, signed_arith)) refl refl refl
-start_next from_one e f (negsuc n) h = absurd h
-
--- a closed formula that is right at year 1 and grows by each year's length gives the first days of the years from 1 on
-start_later : (s : Years) (e : ℤ) (f : ℤ → ℕ) (g : ℤ → ℤ) → g (pos 1) ≡ e
-    → ((y : ℤ) → HasYear s y → g (next_year s y) ≡ g y +ℤ pos (f y)) → (n : ℕ)
-    → g (pos (suc n)) ≡ start_of_year s e f (pos (suc n))
-start_later s e f g one more zero = one ∙ sym (start_one s e f)
-start_later s e f g one more (suc n) =
-    more (pos (suc n)) tt ∙ ap (λ z. z +ℤ pos (f (pos (suc n)))) (start_later s e f g one more n)
-    ∙ sym (start_next s e f (pos (suc n)) tt)
+start_next s e f y h = absurd h
 
 -- from a year to the one before it
 back_one : (a b c d : ℤ) (n : ℕ) → c ≡ a +ℤ pos n → d ≡ b +ℤ pos n → c ≡ d → a ≡ b
 back_one a b c d n p q e = omega (arith, signed_arith)
 
-start_earlier : (s : Years) (e : ℤ) (f : ℤ → ℕ) (g : ℤ → ℤ) (y : ℤ)
-    → ((y : ℤ) → HasYear s y → g (next_year s y) ≡ g y +ℤ pos (f y)) → HasYear s y
-    → g (next_year s y) ≡ start_of_year s e f (next_year s y) → g y ≡ start_of_year s e f y
-start_earlier s e f g y more h same = back_one _ _ _ _ (f y) (more y h) (start_next s e f y h) same
+-- a closed formula that is right at year 1 and, from some year on, grows by each year's length gives the first days of
+-- the years from there on
+module _ (s : Years) (e : ℤ) (f : ℤ → ℕ) (g : ℤ → ℤ) (low : ℕ) (one : g (pos 1) ≡ e)
+    (more : (y : ℤ) → HasYear s y → negsuc low ≤ℤ y → g (next_year s y) ≡ g y +ℤ pos (f y)) where
+  start_later : (n : ℕ) → g (pos (suc n)) ≡ start_of_year s e f (pos (suc n))
+  start_later zero = one ∙ sym (start_one s e f)
+  start_later (suc n) =
+      let step = more (pos (suc n)) tt (omega (arith, signed_arith)) in
+      cc (step, start_later n, start_next s e f (pos (suc n)) tt)
 
--- and so the first day of each year
+  start_earlier : (y : ℤ) → HasYear s y → negsuc low ≤ℤ y
+      → g (next_year s y) ≡ start_of_year s e f (next_year s y) → g y ≡ start_of_year s e f y
+  start_earlier y h le same = back_one _ _ _ _ (f y) (more y h le) (start_next s e f y h) same
+
+start_from : (s : Years) (e : ℤ) (f : ℤ → ℕ) (g : ℤ → ℤ) (low : ℕ) → g (pos 1) ≡ e
+    → ((y : ℤ) → HasYear s y → negsuc low ≤ℤ y → g (next_year s y) ≡ g y +ℤ pos (f y)) → (y : ℤ) → HasYear s y
+    → negsuc low ≤ℤ y → g y ≡ start_of_year s e f y
+start_from s e f g low one more (pos (suc n)) h le = start_later s e f g low one more n
+start_from with_zero e f g low one more (pos zero) h le =
+    start_earlier with_zero e f g low one more (pos 0) tt le (start_later with_zero e f g low one more 0)
+start_from with_zero e f g low one more (negsuc zero) h le =
+    start_earlier with_zero e f g low one more (negsuc 0) tt le (start_earlier with_zero e f g low one more (pos 0) tt
+    (omega (arith, signed_arith)) (start_later with_zero e f g low one more 0))
+start_from without_zero e f g low one more (negsuc zero) h le =
+    start_earlier without_zero e f g low one more (negsuc 0) tt le (start_later without_zero e f g low one more 0)
+start_from with_zero e f g low one more (negsuc (suc n)) h le =
+    start_earlier with_zero e f g low one more (negsuc (suc n)) tt le
+    (start_from with_zero e f g low one more (negsuc n) tt (omega (arith, signed_arith)))
+start_from without_zero e f g low one more (negsuc (suc n)) h le =
+    start_earlier without_zero e f g low one more (negsuc (suc n)) tt le
+    (start_from without_zero e f g low one more (negsuc n) tt (omega (arith, signed_arith)))
+start_from s e f g low one more y h le = absurd h
+
+-- and so the first day of each year, where it grows so everywhere
+lowest : (y : ℤ) → negsuc (unsigned_abs y) ≤ℤ y
+lowest (pos n) = omega (arith, signed_arith)
+lowest (negsuc n) = omega (arith, signed_arith)
+
 pub start_is : (s : Years) (e : ℤ) (f : ℤ → ℕ) (g : ℤ → ℤ) → g (pos 1) ≡ e
     → ((y : ℤ) → HasYear s y → g (next_year s y) ≡ g y +ℤ pos (f y)) → (y : ℤ) → HasYear s y
     → g y ≡ start_of_year s e f y
-start_is s e f g one more (pos (suc n)) h = start_later s e f g one more n
-start_is with_zero e f g one more (pos zero) h =
-    start_earlier with_zero e f g (pos 0) more tt (start_later with_zero e f g one more 0)
-start_is without_zero e f g one more (pos zero) h = absurd h
-start_is from_one e f g one more (pos zero) h = absurd h
-start_is with_zero e f g one more (negsuc zero) h =
-    start_earlier with_zero e f g (negsuc 0) more tt
-    (start_earlier with_zero e f g (pos 0) more tt (start_later with_zero e f g one more 0))
-start_is with_zero e f g one more (negsuc (suc n)) h =
-    start_earlier with_zero e f g (negsuc (suc n)) more tt (start_is with_zero e f g one more (negsuc n) tt)
-start_is without_zero e f g one more (negsuc zero) h =
-    start_earlier without_zero e f g (negsuc 0) more tt (start_later without_zero e f g one more 0)
-start_is without_zero e f g one more (negsuc (suc n)) h =
-    start_earlier without_zero e f g (negsuc (suc n)) more tt (start_is without_zero e f g one more (negsuc n) tt)
-start_is from_one e f g one more (negsuc n) h = absurd h
+start_is s e f g one more y h = start_from s e f g (unsigned_abs y) one (λ z has le. more z has) y h (lowest y)
 
--- the same where the formula is known to be right only from some year on, in a calendar with a year 0
+-- in a calendar with a year 0 the next year is the year and one
+pub next_is : (y : ℤ) → next_year with_zero y ≡ y +ℤ pos 1
+next_is (pos n) = omega (arith, signed_arith)
+next_is (negsuc zero) = refl
+next_is (negsuc (suc n)) = omega (arith, signed_arith)
+
+pub any_year : (y : ℤ) → HasYear with_zero y
+any_year (pos zero) = tt
+any_year y = tt
+
 pub start_is_from : (e : ℤ) (f : ℤ → ℕ) (g : ℤ → ℤ) (low : ℕ) → g (pos 1) ≡ e
     → ((y : ℤ) → negsuc low ≤ℤ y → g (y +ℤ pos 1) ≡ g y +ℤ pos (f y)) → (y : ℤ) → negsuc low ≤ℤ y
     → g y ≡ start_of_year with_zero e f y
-start_is_from e f g low one more (pos zero) h =
-    back_one _ _ _ _ (f (pos 0)) (more (pos 0) h) (start_next with_zero e f (pos 0) tt)
-    (one ∙ sym (start_one with_zero e f))
-start_is_from e f g low one more (pos (suc zero)) h = one ∙ sym (start_one with_zero e f)
-start_is_from e f g low one more (pos (suc (suc n))) h =
-    let below : negsuc low ≤ℤ pos (suc n) = omega (arith, signed_arith) in
-    let next : pos (suc n) +ℤ pos 1 ≡ pos (suc (suc n)) = omega (arith, signed_arith) in
-    rw next at (more (pos (suc n)) below)
-    ∙ ap (λ z. z +ℤ pos (f (pos (suc n)))) (start_is_from e f g low one more (pos (suc n)) below)
-    ∙ sym (start_next with_zero e f (pos (suc n)) tt)
-start_is_from e f g low one more (negsuc zero) h =
-    back_one _ _ _ _ (f (negsuc 0)) (more (negsuc 0) h) (start_next with_zero e f (negsuc 0) tt)
-    (back_one _ _ _ _ (f (pos 0)) (more (pos 0) (omega (arith, signed_arith))) (start_next with_zero e f (pos 0) tt)
-    (one ∙ sym (start_one with_zero e f)))
-start_is_from e f g low one more (negsuc (suc n)) h =
-    let next : negsuc (suc n) +ℤ pos 1 ≡ negsuc n = omega (arith, signed_arith) in
-    back_one _ _ _ _ (f (negsuc (suc n))) (rw next at (more (negsuc (suc n)) h))
-    (start_next with_zero e f (negsuc (suc n)) tt)
-    (start_is_from e f g low one more (negsuc n) (omega (arith, signed_arith)))
+start_is_from e f g low one more y le =
+    start_from with_zero e f g low one (λ z has le. rw (next_is z) (more z le)) y (any_year y) le
 
 -- years begin in their order
 years_mono : (f : ℤ → ℕ) (n k : ℕ) → days_of_years f n ≤ days_of_years f (k + n)
 years_mono f n zero = let same : 0 + n ≡ n = omega arith in rw same (omega arith)
-years_mono f n (suc k) =
-    let next : suc k + n ≡ suc (k + n) = omega arith in rw next (omega (arith, years_mono f n k, years_suc f (k + n)))
+years_mono f n (suc k) = grind (arith, signed_arith, years_mono f n k, years_suc f (k + n))
 
 years_le : (f : ℤ → ℕ) (m n : ℕ) → m ≤ n → days_of_years f m ≤ days_of_years f n
 years_le f m n h = let same : n - m + m ≡ n = omega arith in rw same at (years_mono f m (n - m))
@@ -159,38 +154,25 @@ abs_le (pos n) (pos k) h le = omega (arith, signed_arith)
 
 back_le : (s : Years) (y z : ℤ) → y ≤ℤ z → z <ℤ pos 1
     → unsigned_abs (year_before s z) ≤ unsigned_abs (year_before s y)
-back_le with_zero y z h lt =
-    abs_le (pos 1 -ℤ z) (pos 1 -ℤ y) (omega (arith, signed_arith)) (omega (arith, signed_arith))
+back_le with_zero y z h lt = grind (arith, signed_arith, abs_le)
 back_le s y z h lt = abs_le (neg_ℤ z) (neg_ℤ y) (omega (arith, signed_arith)) (omega (arith, signed_arith))
 
 pub start_mono : (s : Years) (e : ℤ) (f : ℤ → ℕ) (y z : ℤ) → y ≤ℤ z → start_of_year s e f y ≤ℤ start_of_year s e f z
 unfolding start_of_year
-start_mono s e f (pos (suc n)) (pos (suc m)) le =
-    omega (arith, signed_arith, years_le f n m (omega (arith, signed_arith)))
+start_mono s e f (pos (suc n)) (pos (suc m)) le = grind (arith, signed_arith, years_le)
 start_mono s e f (pos (suc n)) (pos zero) le = absurd (omega (arith, signed_arith))
 start_mono s e f (pos (suc n)) (negsuc m) le = absurd (omega (arith, signed_arith))
 start_mono s e f (pos zero) (pos (suc m)) le = omega (arith, signed_arith)
 start_mono s e f (negsuc n) (pos (suc m)) le = omega (arith, signed_arith)
-start_mono s e f y z le =
-    let lt : z <ℤ pos 1 = omega (arith, signed_arith) in
-    omega (
-      arith,
-      signed_arith,
-      start_before s e f y _ (omega (arith, signed_arith)) refl,
-      start_before s e f z _ lt refl,
-      years_le (lengths_before s f) _ _ (back_le s y z le lt),
-    )
+start_mono s e f y z le = grind (arith, signed_arith, start_before, years_le, lengths_before, back_le)
 
 next_le : (s : Years) (y z : ℤ) → HasYear s z → y <ℤ z → next_year s y ≤ℤ z
 next_le s (pos n) z h lt = omega (arith, signed_arith)
-next_le with_zero (negsuc zero) z h lt = omega (arith, signed_arith)
-next_le without_zero (negsuc zero) (pos zero) h lt = absurd h
-next_le without_zero (negsuc zero) (pos (suc n)) h lt = omega (arith, signed_arith)
-next_le without_zero (negsuc zero) (negsuc n) h lt = absurd (omega (arith, signed_arith))
-next_le from_one (negsuc zero) (pos zero) h lt = absurd h
-next_le from_one (negsuc zero) (pos (suc n)) h lt = omega (arith, signed_arith)
-next_le from_one (negsuc zero) (negsuc n) h lt = absurd h
 next_le s (negsuc (suc n)) z h lt = omega (arith, signed_arith)
+next_le with_zero (negsuc zero) z h lt = omega (arith, signed_arith)
+next_le s (negsuc zero) (pos (suc n)) h lt = omega (arith, signed_arith)
+next_le without_zero (negsuc zero) (negsuc n) h lt = absurd (omega (arith, signed_arith))
+next_le s y z h lt = absurd h
 
 -- a later year begins after all days of an earlier one
 pub begins_after : (s : Years) (e : ℤ) (f : ℤ → ℕ) (y z : ℤ) → HasYear s y → HasYear s z → y <ℤ z
@@ -238,17 +220,14 @@ date_unique r y z m k d j h g e =
 
 has_day_from : (s : Years) (e : ℤ) (f : ℤ → ℕ) (y n : ℤ) → HasYear s y → start_of_year s e f y ≤ℤ n
     → IsSinceFirstDay (first_day_by s e) n
-has_day_from from_one e f (pos (suc k)) n h le =
-    omega (
-      arith,
-      signed_arith,
-      start_one from_one e f,
-      start_mono from_one e f (pos 1) (pos (suc k)) (omega (arith, signed_arith)),
-    )
-has_day_from from_one e f (pos zero) n h le = absurd h
-has_day_from from_one e f (negsuc k) n h le = absurd h
-has_day_from with_zero e f y n h le = tt
-has_day_from without_zero e f y n h le = tt
+has_day_from from_one e f (pos (suc k)) n h le = grind (
+  arith,
+  signed_arith,
+  start_one from_one e f,
+  start_mono from_one e f (pos 1) (pos (suc k)) (omega (arith, signed_arith)),
+)
+has_day_from from_one e f y n h le = absurd h
+has_day_from s e f y n h le = tt
 
 -- each date's day is one that the calendar has
 pub has_day_of : (r : Rules) (y : ℤ) (m d : ℕ) → IsDateOf r y m d → HasDayOf r (day_number_of r y m d)
@@ -259,9 +238,7 @@ has_day_of r y m d h =
 pub date_at_place : (r : Rules) (y n s : ℤ) (m d place : ℕ) (ms : List Month) → ms ≡ r.months y → HasYear r.years y
     → 1 ≤ d → d ≤ days_of_month ms m → days_before_month ms m + d ≡ place + 1 → s ≡ year_start r y → n ≡ s +ℤ pos place
     → IsDateOf r y m d × (day_number_of r y m d ≡ n)
-date_at_place r y n s m d place ms e h a b c f k =
-    let sum : days_before_month (r.months y) m + d ≡ place + 1 = rw (← e) c in
-    ((h, a, rw (← e) b), omega (arith, signed_arith, sum, f, k))
+date_at_place r y n s m d place ms e h a b c f k = grind (arith, signed_arith)
 
 -- and a date's number from the parts that the code adds up
 pub number_from_parts : (r : Rules) (y s : ℤ) (m d before : ℕ) (ms : List Month) → ms ≡ r.months y
@@ -287,5 +264,4 @@ day_from_one e b n months years days place m d sum placed p q =
 
 pub year_from_one : (y : ℤ) → HasYear from_one y → pos 1 ≤ℤ y
 year_from_one (pos (suc n)) h = omega (arith, signed_arith)
-year_from_one (pos zero) h = absurd h
-year_from_one (negsuc n) h = absurd h
+year_from_one y h = absurd h

@@ -156,7 +156,8 @@ abbrev pub index_of : List ℕ → ℕ → ℕ
 index_of starts place = place / 30 + bool_byte (leb (slice_index starts (place / 30 + 1)) place)
 
 -- that month, in a year with so many days
-pub placed_by : (leap : Bool) (days : ℕ) (starts : List ℕ) (place : ℕ) → IsTrue (are_months (months_by_length leap days))
+pub placed_by : (leap : Bool) (days : ℕ) (starts : List ℕ) (place : ℕ)
+    → IsTrue (are_months (months_by_length leap days))
     → place < total_days (months_by_length leap days)
     → ((i : ℕ) → i ≤ length (months_by_length leap days)
     → slice_index starts i ≡ total_days (take i (months_by_length leap days)))

@@ -99,10 +99,6 @@ day_at year day place m d n low opens sum e =
 end_by : (x y : ℤ) (m n days : ℕ) → y ≡ epoch +ℤ pos n → x ≡ epoch +ℤ pos m → m + days ≡ n → y ≡ x +ℤ pos days
 end_by x y m n days p q h = omega (arith, signed_arith, p, q, h)
 
-end_of : (n : ℕ) → new_year_of (suc n + 1) ≡ new_year_of (suc n) +ℤ pos (days_in_year (suc n))
-end_of n =
-    end_by _ _ _ _ _ (grind (arith, new_year_is (suc n))) (new_year_is n) (days_more n)
-
 pub length_of_year : (year : ℕ) → 1 ≤ year → IsYearLength (is_leap_year year) (days_in_year year)
 length_of_year zero low = absurd (omega arith)
 length_of_year (suc n) low = length_of n
@@ -113,7 +109,8 @@ total (suc n) low = total_of n
 
 pub end_of_year : (year : ℕ) → 1 ≤ year → new_year_of (year + 1) ≡ new_year_of year +ℤ pos (days_in_year year)
 end_of_year zero low = absurd (omega arith)
-end_of_year (suc n) low = end_of n
+end_of_year (suc n) low =
+    end_by _ _ _ _ _ (grind (arith, new_year_is (suc n))) (new_year_is n) (days_more n)
 
 -- the year of a day is this estimate or the one before
 pub estimate : (days year : ℕ) → year ≡ (days + 29) * 98_496 / 35_975_351 + 1
@@ -136,19 +133,6 @@ one_more : (more parts : ℕ) → more ≡ bool_byte (leb 181_440 parts) → par
 one_more more parts e h = grind (arith, nat_tests)
 
 -- so the code's sum is the next new year
-days_after : (n day monday time weeks rest more e r : ℕ) → day ≡ new_year_after n
-    → monday ≡ 7 * ((32_400 + parts_after n) / 181_440) → time ≡ (32_400 + parts_after n) % 181_440
-    → 181_440 * weeks + rest ≡ 765_433 * (if is_leap_year (suc n) then 13 else 12) → rest < 181_440
-    → more ≡ bool_byte (leb 181_440 (time + rest))
-    → e ≡ days_from_monday (is_leap_year (suc (suc n))) (is_leap_year (suc n)) (time + rest - more * 181_440)
-    → r ≡ monday + 7 * (weeks + more) + e → r ≡ day + days_in_year (suc n)
-days_after n day monday time weeks rest more e r o s t w h m q k =
-    let step = parts_step n (is_leap_year (suc n)) refl in
-    let week = one_more more (time + rest) m (omega (arith, t, h)) in
-    let next_time : time + rest - more * 181_440 ≡ (32_400 + parts_after (suc n)) % 181_440 =
-    omega (arith, step, t, w, week) in
-    omega (arith, o, s, rw next_time at q, k, by_week (suc n), days_more n)
-
 pub days_by : (year day monday part time weeks rest more e r : ℕ) → 1 ≤ year → IsOpening year day monday part time
     → 181_440 * weeks + rest ≡ 765_433 * (if is_leap_year year then 13 else 12) → rest < 181_440
     → more ≡ bool_byte (leb 181_440 (time + rest))
@@ -157,8 +141,12 @@ pub days_by : (year day monday part time weeks rest more e r : ℕ) → 1 ≤ ye
 days_by zero day monday part time weeks rest more e r low o w h m q k = absurd (omega arith)
 days_by (suc n) day monday part time weeks rest more e r low o w h m q k =
     let after : suc n + 1 ≡ suc (suc n) = omega arith in
-    days_after n day monday time weeks rest more e r (omega (arith, signed_arith, o.0, new_year_is n))
-    (omega (arith, o.1)) (omega (arith, o.3)) w h m (rw after at q) k
+    let opens : day ≡ new_year_after n = omega (arith, signed_arith, o.0, new_year_is n) in
+    let step = parts_step n (is_leap_year (suc n)) refl in
+    let week = one_more more (time + rest) m (omega (arith, o.3, h)) in
+    let next_time : time + rest - more * 181_440 ≡ (32_400 + parts_after (suc n)) % 181_440 =
+    omega (arith, step, o.3, w, week) in
+    omega (arith, opens, o.1, rw (after, next_time) at q, k, by_week (suc n), days_more n)
 
 days_bound : (leap : Bool) (days : ℕ) → IsYearLength leap days → days ≤ 385
 days_bound false days h = omega (arith, h)
@@ -177,16 +165,15 @@ after_year_one (suc (suc year)) day n low e h = omega arith
 pub three : (low days : ℕ) → low ≤ days → days ≤ low + 2 → (days ≡ low) ⊎ ((days ≡ low + 1) ⊎ (days ≡ low + 2))
 three low days h k = grind arith
 
+one_of_three : (low days : ℕ) (P : ℕ → Type 0) → low ≤ days → days ≤ low + 2 → P low → P (low + 1) → P (low + 2)
+    → P days
+one_of_three low days P h k a b c =
+    elim (three low days h k) [ inl e ↦ rw e a | inr e ↦ elim e [ inl f ↦ rw f b | inr f ↦ rw f c ] ]
+
 pub one_of_six : (leap : Bool) (days : ℕ) → IsYearLength leap days → Contains year_lengths days
 one_of_six false days h =
-    elim (three 353 days h.0 h.1) [
-      | inl e ↦ (0, (omega arith), sym e)
-      | inr e ↦ elim e
-          [ inl f ↦ (1, (omega arith), sym f) | inr f ↦ (2, (omega arith), sym f) ]
-    ]
+    one_of_three 353 days (Contains year_lengths) h.0 h.1 (0, omega arith, refl) (1, omega arith, refl)
+    (2, omega arith, refl)
 one_of_six true days h =
-    elim (three 383 days h.0 h.1) [
-      | inl e ↦ (3, (omega arith), sym e)
-      | inr e ↦ elim e
-          [ inl f ↦ (4, (omega arith), sym f) | inr f ↦ (5, (omega arith), sym f) ]
-    ]
+    one_of_three 383 days (Contains year_lengths) h.0 h.1 (3, omega arith, refl) (4, omega arith, refl)
+    (5, omega arith, refl)

@@ -3,6 +3,7 @@ use Rattle.std.proofs.Common.{◌≡◌, ℕ, ◌+◌, ◌*◌, ◌≤◌, Optio
 use Rattle.std.proofs.Common.{arith, ℤ}
 use Rattle.std.proofs.Props.{props}
 use Rattle.std.proofs.lemmas.Int.{ints}
+use Rattle.day_numbers.proofs.DateLemmas.{same_made}
 use Rattle.maya_calendars.specs.Rounds.{epoch}
 use Rattle.maya_calendars.specs.Places.{ArePlaces}
 use Rattle.maya_calendars.specs.LongCounts.{IsLongCount, long_day}
@@ -11,25 +12,13 @@ use Rattle.maya_calendars.specs.declared.long_count.LongCount.{LongCount}
 abbrev pub Numbers : Type 0
 Numbers = ℕ × ℕ × ℕ × ℕ × ℕ
 
-abbrev AreIn : Numbers → Type 0
-AreIn x = ArePlaces x.0 x.1 x.2 x.3 x.4
-
-make : (x : Numbers) → AreIn x → LongCount
-make x h = record { baktun = x.0; katun = x.1; tun = x.2; uinal = x.3; kin = x.4; places = h }
-
-in_prop : (x : Numbers) → IsProp (AreIn x)
-in_prop x = hlevel props
-
-same_made : (x y : Numbers) → x ≡ y → (h : AreIn x) (g : AreIn y) → make x h ≡ make y g
-same_made x y e h = subst (λ z. (g : AreIn z) → make x h ≡ make z g) e (λ g. ap (make x) (in_prop x h g))
-
 -- two long counts with the same places are one value
 pub same_places : (c d : LongCount)
     → ◌≡◌ {A = Numbers} (c.baktun, c.katun, c.tun, c.uinal, c.kin) (d.baktun, d.katun, d.tun, d.uinal, d.kin) → c ≡ d
-unfolding make
 same_places c d same =
-    same_made (c.baktun, c.katun, c.tun, c.uinal, c.kin) (d.baktun, d.katun, d.tun, d.uinal, d.kin) same c.places
-    d.places
+    same_made (λ (x : Numbers). ArePlaces x.0 x.1 x.2 x.3 x.4)
+    (λ x h. record { baktun = x.0; katun = x.1; tun = x.2; uinal = x.3; kin = x.4; places = h })
+    (λ x. hlevel props) _ _ same c.places d.places
 
 -- the places of a number of days are the only ones
 same_numbers : (b k t u n b' k' t' u' n' : ℕ) → k ≤ 19 → t ≤ 19 → u ≤ 17 → n ≤ 19 → k' ≤ 19 → t' ≤ 19 → u' ≤ 17

@@ -72,6 +72,7 @@ pub struct Haab {
 
 impl Haab {
     /// The day of the month, from 0 to 19, and to 4 in Uayeb.
+    #[tactic(auto, using(crate::proofs::NameListLemmas::day_below))]
     pub fn day(&self) -> u8
         ensures value { result ≡ self.now.day }
         ensures in_month { (number : ℕ) → IsNumbered all_months number self.now.month → result ≤ last_day number }
@@ -81,6 +82,7 @@ impl Haab {
     }
 
     /// The number of the month, from 1 for Pop to 19 for Uayeb.
+    #[tactic(auto, using(crate::proofs::NameListLemmas::month_at))]
     pub fn month(&self) -> u8
         ensures value { IsNumbered all_months result self.now.month }
         ensures in_range { (1 ≤ result) × (result ≤ 19) }
@@ -123,6 +125,7 @@ impl Haab {
 /// It is 8 Cumku on R.D. -1137142, and from each day to the next, before that day as after it, it moves
 /// one place on in the round: after day 19 of a month comes day 0 of the next, and after 4 Uayeb comes
 /// 0 Pop (Reingold and Dershowitz, *Calendrical Calculations*).
+#[tactic(auto, using(crate::proofs::HaabLemmas::haab_each_day))]
 pub fn haab_on(day: Day) -> Haab
     ensures value { let h = haab_of day.number in (result.day ≡ h.0) × IsNumbered all_months h.1 result.month }
     ensures each_day { StepsOnEachDay haab_after haab_of }

@@ -117,6 +117,7 @@ impl Tzolkin {
 /// It is 4 Ahau on R.D. -1137142, and from each day to the next, before that day as after it, its number
 /// moves one place on in the round of 1 to 13 and its name in the round of the twenty day names
 /// (Reingold and Dershowitz, *Calendrical Calculations*).
+#[tactic(auto, using(crate::proofs::TzolkinLemmas::tzolkin_each_day))]
 pub fn tzolkin_on(day: Day) -> Tzolkin
     ensures value { let t = tzolkin_of day.number in (result.number ≡ t.0) × IsNumbered all_names t.1 result.name }
     ensures each_day { StepsOnEachDay tzolkin_after tzolkin_of }

@@ -7,7 +7,7 @@ use Rattle.day_numbers.specs.Dates.{IsBetween}
 use Rattle.day_numbers.specs.Days.{IsDayNumber}
 use Rattle.day_numbers.specs.Rules.{with_zero, HasYear, IsDateOf, year_length, year_start, days_of_month}
 use Rattle.day_numbers.specs.Rules.{days_before_month, day_number_of}
-use Rattle.day_numbers.proofs.RulesLemmas.{next_year, start_is, start_is_from, start_next}
+use Rattle.day_numbers.proofs.RulesLemmas.{any_year, next_is, next_year, start_is, start_is_from, start_next}
 use Rattle.day_numbers.proofs.SignedArithmeticLemmas.{signed_arith}
 use Rattle.solar_calendars.specs.TwelveMonths.{twelve_months}
 use Rattle.solar_calendars.specs.Gregorian.{gregorian_rules, is_gregorian_leap}
@@ -43,11 +43,6 @@ leap_late : (m : ℕ) → cond (is_gregorian_leap (pos (suc m))) 1 0 + m / 4 + s
     ≡ suc m / 4 + m / 100 + suc m / 400
 leap_late m = grind (arith, nat_tests)
 
-pub any_year : (y : ℤ) → HasYear with_zero y
-any_year (pos zero) = tt
-any_year (pos (suc n)) = tt
-any_year (negsuc n) = tt
-
 gregorian_next : (y : ℤ) → HasYear with_zero y
     → closed (next_year with_zero y) ≡ closed y +ℤ pos (year_length gregorian_rules y)
 gregorian_next (pos zero) h = refl
@@ -57,11 +52,6 @@ gregorian_next (negsuc (suc n)) h = omega (arith, signed_arith, length_is (negsu
 
 pub gregorian_start : (y : ℤ) → HasYear with_zero y → closed y ≡ year_start gregorian_rules y
 gregorian_start y h = start_is with_zero _ _ closed refl gregorian_next y h
-
-next_is : (y : ℤ) → next_year with_zero y ≡ y +ℤ pos 1
-next_is (pos n) = omega (arith, signed_arith)
-next_is (negsuc zero) = refl
-next_is (negsuc (suc n)) = omega (arith, signed_arith)
 
 -- a year begins after the days of the one before
 pub january : (y : ℤ) → year_start gregorian_rules (y +ℤ pos 1)

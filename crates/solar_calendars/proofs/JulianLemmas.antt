@@ -42,8 +42,8 @@ pub julian_date : (n y : ℤ) (k m d : ℕ) → HasYear without_zero y → pos k
     → IsDateOf julian_rules y m d × (day_number_of julian_rules y m d ≡ n)
 julian_date n y k m d h e f low high sum =
     let leap = leap_by_count y (k / 1461) f in
-    date_at_place julian_rules y n (year_start julian_rules y) m d (k % 1461 / 4) _ (ap twelve_months leap) h low high sum refl
-    (omega (arith, signed_arith, e, f, julian_start y h))
+    date_at_place julian_rules y n (year_start julian_rules y) m d (k % 1461 / 4) _ (ap twelve_months leap) h low high
+    sum refl (omega (arith, signed_arith, e, f, julian_start y h))
 
 pub before_near : (y : ℤ) → IsBetween (neg_ℤ (pos 99_999)) (pos 99_999) y
     → IsBetween (neg_ℤ (pos 100_000)) (pos 100_000) (years_before y)

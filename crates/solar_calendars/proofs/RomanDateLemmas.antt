@@ -1,10 +1,11 @@
 -- The Roman date of a day.
-use Rattle.std.proofs.Common.{◌≡◌, ℕ, ◌≤◌, Bool, sym, subst, ap, ◌∙◌, arith, ℤ, pos, negsuc, ◌≤ℤ◌}
+use Rattle.std.proofs.Common.{◌≡◌, ℕ, ◌≤◌, Bool, sym, subst, ◌∙◌, arith, ℤ, pos, negsuc, ◌≤ℤ◌}
 use Rattle.std.proofs.Props.{props}
 use Rattle.std.proofs.lemmas.Bool.Decides.{nat_tests}
 use Rattle.day_numbers.specs.Days.{IsDayNumber}
 use Rattle.day_numbers.specs.Dates.{IsYear}
 use Rattle.day_numbers.specs.Rules.{IsDateOf, day_number_of, days_of_month}
+use Rattle.day_numbers.proofs.DateLemmas.{same_made}
 use Rattle.day_numbers.proofs.RulesLemmas.{date_in_year}
 use Rattle.day_numbers.proofs.SignedArithmeticLemmas.{signed_arith}
 use Rattle.solar_calendars.specs.Julian.{julian_rules, is_julian_leap}
@@ -20,26 +21,12 @@ use Rattle.solar_calendars.proofs.RomanNameLemmas.{NamesDay, named_is, stands, o
 abbrev AreParts : RomanParts → Type 0
 AreParts p = IsYear p.year × (p.month ≤ 99) × (count_of p.name ≤ 99)
 
-make : (p : RomanParts) → AreParts p → RomanDate
-make p h = record {
-  year = p.year;
-  month = p.month;
-  name = p.name;
-  year_in = h.0;
-  month_in = h.1;
-  count_in = h.2;
-}
-
-parts_prop : (p : RomanParts) → IsProp (AreParts p)
-parts_prop p = hlevel props
-
-made : (p q : RomanParts) → p ≡ q → (h : AreParts p) (g : AreParts q) → make p h ≡ make q g
-made p q e h = subst (λ r. (g : AreParts r) → make p h ≡ make r g) e (λ g. ap (make p) (parts_prop p h g))
-
 pub roman_same : (d e : RomanDate) → parts_of d ≡ parts_of e → d ≡ e
-unfolding make
 roman_same d e p =
-    made (parts_of d) (parts_of e) p (d.year_in, d.month_in, d.count_in) (e.year_in, e.month_in, e.count_in)
+    same_made AreParts
+    (λ p h. record { year = p.year; month = p.month; name = p.name; year_in = h.0; month_in = h.1; count_in = h.2 })
+    (λ p. hlevel props) (parts_of d) (parts_of e) p (d.year_in, d.month_in, d.count_in)
+    (e.year_in, e.month_in, e.count_in)
 
 -- two valid Roman dates of one day are one date: both are the name of one Julian date
 pub one_roman_date : OneRomanDate

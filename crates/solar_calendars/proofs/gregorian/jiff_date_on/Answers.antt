@@ -3,9 +3,6 @@ use Rattle.day_numbers.proofs.SignedArithmeticLemmas.{signed_arith}
 use Rattle.solar_calendars.proofs.GregorianLemmas.{jiff_day}
 use Rattle.solar_calendars.proofs.gregorian.jiff_date_on.Goals as goal
 
-pub unwrap-date-requires : goal.unwrap-date-requires
-unwrap-date-requires c = grind (arith, signed_arith, w64, pos, to_z-of_z)
-
 pub returns : goal.returns
 returns c =
     let n : FitsSigned w64 c.args.day = c.ranges.day in

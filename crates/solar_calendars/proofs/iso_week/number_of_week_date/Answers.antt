@@ -15,9 +15,3 @@ found c = search (rules, w32, w64, pos, to_z-of_z)
 
 pub returns-then-number-first_of_week_year-clause-valid : goal.returns-then-number-first_of_week_year-clause-valid
 returns-then-number-first_of_week_year-clause-valid c = search (rules, found)
-
-pub returns-then-number-first_of_week_year-clause-value : goal.returns-then-number-first_of_week_year-clause-value
-returns-then-number-first_of_week_year-clause-value c = search (rules, found, to_z-of_z)
-
-pub returns-else-number-first_of_week_year-clause-valid : goal.returns-else-number-first_of_week_year-clause-valid
-returns-else-number-first_of_week_year-clause-valid c = search (rules, found)

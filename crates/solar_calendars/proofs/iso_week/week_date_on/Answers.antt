@@ -1,14 +1,8 @@
 use Rattle.std.proofs.Common.{arith, rules, to_z-of_z, FitsSigned, w32, w64, ◌+ℤ◌, pos}
 use Rattle.std.proofs.lemmas.Option.{IfSome_then}
 use Rattle.day_numbers.proofs.SignedArithmeticLemmas.{signed_arith}
-use Rattle.solar_calendars.proofs.IsoWeekLemmas.{thursday_in_range, from_monday, week_date_is}
+use Rattle.solar_calendars.proofs.IsoWeekLemmas.{week_date_is}
 use Rattle.solar_calendars.proofs.iso_week.week_date_on.Goals as goal
-
-pub year_and_days_before-year-requires : goal.year_and_days_before-year-requires
-year_and_days_before-year-requires c = search (rules, w64, pos, to_z-of_z, thursday_in_range)
-
-pub weekday_from-requires-clause-to : goal.weekday_from-requires-clause-to
-weekday_from-requires-clause-to c = search (rules, w64, to_z-of_z, from_monday)
 
 pub returns-clause-value : goal.returns-clause-value
 returns-clause-value c =

@@ -9,6 +9,3 @@ returns-clause-value c =
     let months = simp to_z-of_z at c.year-year.ensures.months in
     let before = rw months at c.month_by_number-before.ensures.before in
     omega (arith, signed_casts, start, before, c.year-year.ensures.near)
-
-pub returns-clause-near : goal.returns-clause-near
-returns-clause-near c = omega (arith, signed_casts, c.year-year.ensures.near)

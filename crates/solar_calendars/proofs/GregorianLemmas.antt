@@ -128,7 +128,7 @@ valid_month : (y : ℤ) (m d : ℕ) → (1 ≤ m) × (m ≤ 12)
 valid_month y m d h = rw (month_days y m h.0 h.1) (λ a. a, λ a. a)
 
 -- a month of the rules is one from 1 to 12
-month_in : (leap : Bool) (m d : ℕ) → 1 ≤ d → d ≤ days_of_month (twelve_months leap) m → (1 ≤ m) × (m ≤ 12)
+pub month_in : (leap : Bool) (m d : ℕ) → 1 ≤ d → d ≤ days_of_month (twelve_months leap) m → (1 ≤ m) × (m ≤ 12)
 month_in leap m d a b = grind (arith, nat_tests)
 
 pub jiff_valid : (y : ℤ) (m d : ℕ) → IsBetween (neg_ℤ (pos 9_999)) (pos 9_999) y

@@ -1,7 +1,6 @@
 -- Each day lies in the year of weeks of its week's Thursday.
-use Rattle.std.proofs.Common.{◌≡◌, ℕ, ◌+◌, ◌-◌, ◌*◌, ◌/◌, ◌≤◌, ◌<◌, Option, Some, None, IsSome, IfSome}
+use Rattle.std.proofs.Common.{◌≡◌, ℕ, ◌+◌, ◌*◌, ◌/◌, ◌≤◌, ◌<◌, Option, Some, None, IsSome, IfSome}
 use Rattle.std.proofs.Common.{sym, ap, ◌∙◌, arith, ℤ, pos, ◌+ℤ◌, ◌≤ℤ◌, ◌<ℤ◌}
-use Rattle.day_numbers.specs.Days.{IsDayNumber}
 use Rattle.day_numbers.specs.Rules.{year_start, year_length}
 use Rattle.day_numbers.specs.declared.ymd.Ymd.{Ymd}
 use Rattle.day_numbers.proofs.SignedArithmeticLemmas.{signed_arith}
@@ -23,16 +22,7 @@ pub week_year_is : (y f m z : ℤ) → f ≡ year_start gregorian_rules y → m 
 unfolding week_year_start
 week_year_is y f m z e p s = omega (arith, signed_arith, e, p, s)
 
--- the number of a week date from its place in the year
-pub week_number_is : (y s : ℤ) (w d p : ℕ) → 1 ≤ w → 1 ≤ d → s ≡ week_year_start y → p ≡ 7 * (w - 1) + d - 1
-    → s +ℤ pos p ≡ week_day_number y w d
-week_number_is y s w d p a b e k = omega (arith, signed_arith, e, k)
-
--- the Thursday of the week of a day is in range
-pub thursday_in_range : (n m : ℤ) → IsDayNumber n → m ≡ monday_on_or_before n → IsDayNumber (m +ℤ pos 3)
-thursday_in_range n m h e = omega (arith, signed_arith, h, e)
-
--- the Gregorian year of that Thursday is the year of weeks of the day
+-- the Gregorian year of the Thursday of the week of a day is the year of weeks of the day
 pub in_week_year : (n m y : ℤ) → m ≡ monday_on_or_before n → year_start gregorian_rules y ≤ℤ (m +ℤ pos 3)
     → (m +ℤ pos 3) <ℤ (year_start gregorian_rules y +ℤ pos (year_length gregorian_rules y))
     → (week_year_start y ≤ℤ n) × (n <ℤ week_year_start (y +ℤ pos 1))

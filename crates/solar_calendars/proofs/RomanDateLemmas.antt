@@ -1,19 +1,18 @@
 -- The Roman date of a day.
-use Rattle.std.proofs.Common.{◌≡◌, ℕ, ◌≤◌, Bool, sym, subst, ◌∙◌, arith, ℤ, pos, negsuc, ◌≤ℤ◌}
+use Rattle.std.proofs.Common.{◌≡◌, ℕ, ◌≤◌, sym, subst, ◌∙◌, arith, ℤ, pos, negsuc, ◌≤ℤ◌}
 use Rattle.std.proofs.Props.{props}
-use Rattle.std.proofs.lemmas.Bool.Decides.{nat_tests}
 use Rattle.day_numbers.specs.Days.{IsDayNumber}
 use Rattle.day_numbers.specs.Dates.{IsYear}
-use Rattle.day_numbers.specs.Rules.{IsDateOf, day_number_of, days_of_month}
+use Rattle.day_numbers.specs.Rules.{IsDateOf, day_number_of}
 use Rattle.day_numbers.proofs.DateLemmas.{same_made}
 use Rattle.day_numbers.proofs.RulesLemmas.{date_in_year}
 use Rattle.day_numbers.proofs.SignedArithmeticLemmas.{signed_arith}
 use Rattle.solar_calendars.specs.Julian.{julian_rules, is_julian_leap}
-use Rattle.solar_calendars.specs.TwelveMonths.{twelve_months}
 use Rattle.solar_calendars.specs.Roman.{count_of, roman_day_number, IsRomanDate}
 use Rattle.solar_calendars.specs.declared.roman_date.RomanDate.{RomanDate}
 use Rattle.solar_calendars.specs.RomanPlaces.{RomanParts, parts_on, parts_of}
 use Rattle.solar_calendars.specs.Laws.{OneRomanDate}
+use Rattle.solar_calendars.proofs.GregorianLemmas.{month_in}
 use Rattle.solar_calendars.proofs.JulianLemmas.{closed, julian_start}
 use Rattle.solar_calendars.proofs.RomanNameLemmas.{NamesDay, named_is, stands, only_name}
 
@@ -36,9 +35,6 @@ one_roman_date d e h g same =
     roman_same d e (sym s.same ∙ other)
 
 -- ---- the date on a day
-month_is : (leap : Bool) (m : ℕ) → 1 ≤ days_of_month (twelve_months leap) m → (1 ≤ m) × (m ≤ 12)
-month_is leap m h = grind (arith, nat_tests)
-
 -- a year that holds a day in range
 closed_near : (y : ℤ) → closed y ≤ℤ pos 3_652_059 → y ≤ℤ pos 99_998
 closed_near (pos n) h = omega (arith, signed_arith)
@@ -54,7 +50,7 @@ pub names_day : (r : RomanDate) (y n : ℤ) (m d : ℕ) → parts_of r ≡ parts
     → IsRomanDate r.year r.month r.name × (roman_day_number r.year r.month r.name ≡ n)
 unfolding NamesDay
 names_day r y n m d e h k =
-    let months = month_is (is_julian_leap y) m (omega (arith, h.1, h.2)) in
+    let months = month_in (is_julian_leap y) m d h.1 h.2 in
     let v = named_is y m d h.0 months.0 months.1 h.1 h.2 in
     subst (NamesDay n) (sym e) (v.0, v.1 ∙ k)
 

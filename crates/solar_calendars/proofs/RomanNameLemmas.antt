@@ -24,12 +24,8 @@ first_placed : (two : Bool) (i l p : ℕ) → p + 13 ≤ l
 first_placed true i l p c = ((omega arith, omega arith), refl)
 first_placed false i l p c = ((omega arith, omega arith), refl)
 
-Standing : Bool → ℕ → ℕ → ℕ → ℕ → RomanName → Type 0
-Standing two i l p d x = IsPlaced two i l p x × (place two i x ≡ pos d -ℤ pos 1)
-
 within_placed : (two : Bool) (i l p d : ℕ) → 13 ≤ i → i ≤ 15 → p + 13 ≤ l → 1 ≤ d → d ≤ i
     → IsPlaced two i l p (name_within i d) × (place two i (name_within i d) ≡ pos d -ℤ pos 1)
-unfolding Standing
 within_placed two i l p d a b c e f =
     grind (arith, signed_arith, cases_eq, first_placed, cases_lt, ne_eqb, lt-leb, le-leb)
 
@@ -50,12 +46,8 @@ after_same two i l p d (Ides k) g h a b t e = absurd (omega (arith, signed_arith
 after_same two i l p d SecondSixth g h a b t e = grind (arith, signed_arith, t h)
 
 -- the same after the Ides, by the length of the month
-After : Bool → ℕ → ℕ → ℕ → ℕ → RomanName → Type 0
-After two i l p d x = IsPlaced two i l p x × (place two i x ≡ pos d -ℤ pos 1 -ℤ pos l)
-
 leap_placed : (i l p d : ℕ) → l ≡ 29 → p ≡ 13 → p < d → d ≤ l
     → IsPlaced true i l p (name_after true l d) × (place true i (name_after true l d) ≡ pos d -ℤ pos 1 -ℤ pos l)
-unfolding After
 leap_placed i l p d x y a b = grind (arith, signed_arith, cases_lt, cases_eq, lt-leb, ne_eqb, le-leb)
 
 after_placed : (two : Bool) (i l p d : ℕ) → (two ≡ true → (l ≡ 29) × (p ≡ 13)) → p < d → d ≤ l
@@ -87,10 +79,6 @@ this_month y m name d h a b p one less at =
       number = omega (arith, signed_arith, n, at);
       same = rw (le-leb d (day_of_ides m) less) (ap (λ (z : RomanName). record { year = y; month = m; name = z }) x);
     }
-
-same_parts : {y z : ℤ} {m n : ℕ} {a b : RomanName} → y ≡ z → m ≡ n → a ≡ b
-    → ◌≡◌ {A = RomanParts} (record { year = y; month = m; name = a }) (record { year = z; month = n; name = b })
-same_parts e f g = rw (e, f, g) refl
 
 after_ides : (py y : ℤ) (pm m d : ℕ) (two : Bool) (name : RomanName) → day_of_ides pm < d
     → year_of_next_month py pm ≡ y → next_month pm ≡ m

@@ -43,16 +43,6 @@ pub postponed_after : (leap after_leap : Bool) (d t : ℕ)
 postponed_after leap after_leap d t =
     grind (arith, signed_arith, cond, nat_le, chosen, later, weekday_after, falls_on_place, next_allowed_after)
 
-weekday_cases : (P : ℕ → Type 0) → P 0 → P 1 → P 2 → P 3 → P 4 → P 5 → P 6 → (r : ℕ) → r < 7 → P r
-weekday_cases P p q r s t u v zero h = p
-weekday_cases P p q r s t u v (suc zero) h = q
-weekday_cases P p q r s t u v (suc (suc zero)) h = r
-weekday_cases P p q r s t u v (suc (suc (suc zero))) h = s
-weekday_cases P p q r s t u v (suc (suc (suc (suc zero)))) h = t
-weekday_cases P p q r s t u v (suc (suc (suc (suc (suc zero))))) h = u
-weekday_cases P p q r s t u v (suc (suc (suc (suc (suc (suc zero)))))) h = v
-weekday_cases P p q r s t u v (suc (suc (suc (suc (suc (suc (suc k))))))) h = absurd (omega arith)
-
 -- the same by the days after the Monday of its week, from the parts between noon of the Saturday before and the molad
 abbrev pub days_from_monday : Bool → Bool → ℕ → ℕ
 days_from_monday leap after_leap time =
@@ -66,11 +56,8 @@ IsWeekBy leap after_leap d q t w =
 
 week_by : (leap after_leap : Bool) (d q t : ℕ) → t < 25_920 → (w : ℕ) → w < 7 → IsWeekBy leap after_leap d q t w
 unfolding IsWeekBy allowed
-week_by leap after_leap d q t h =
-    weekday_cases (IsWeekBy leap after_leap d q t)
-    (λ e. grind (arith, nat_tests)) (λ e. grind (arith, nat_tests)) (λ e. grind (arith, nat_tests))
-    (λ e. grind (arith, nat_tests)) (λ e. grind (arith, nat_tests)) (λ e. grind (arith, nat_tests))
-    (λ e. grind (arith, nat_tests))
+week_by leap after_leap d q t h (suc (suc (suc (suc (suc (suc (suc k))))))) less = absurd (omega arith)
+week_by leap after_leap d q t h w less = λ e. grind (arith, nat_tests)
 
 pub opens_by_week : (leap after_leap : Bool) (parts : ℕ)
     → 7 * ((32_400 + parts) / 181_440) + days_from_monday leap after_leap ((32_400 + parts) % 181_440)

@@ -31,19 +31,16 @@ within_placed two i l p d a b c e f =
 
 within_same : (two : Bool) (i l p d : ℕ) (name : RomanName) → 13 ≤ i → IsPlaced two i l p name → 1 ≤ d → d ≤ i
     → place two i name ≡ pos d -ℤ pos 1 → name_within i d ≡ name
-within_same two i l p d (Kalends k) g h a b e = grind (arith, signed_arith, nat_tests)
-within_same two i l p d (Nones k) g h a b e = grind (arith, signed_arith, nat_tests)
-within_same two i l p d (Ides k) g h a b e = grind (arith, signed_arith, nat_tests)
 within_same two i l p d SecondSixth g h a b e = absurd (omega (arith, signed_arith, e))
+within_same two i l p d name g h a b e = grind (arith, signed_arith, nat_tests)
 
 after_same : (two : Bool) (i l p d : ℕ) (name : RomanName) → 13 ≤ i → IsPlaced two i l p name → p < d → d ≤ l
     → (two ≡ true → l ≡ 29)
     → place two i name ≡ pos d -ℤ pos 1 -ℤ pos l → name_after two l d ≡ name
 after_same true i l p d (Kalends k) g h a b t e = grind (arith, signed_arith, cases_lt, lt-leb, ne_eqb, le-leb)
 after_same false i l p d (Kalends k) g h a b t e = grind (arith, signed_arith)
-after_same two i l p d (Nones k) g h a b t e = absurd (omega (arith, signed_arith, e, h))
-after_same two i l p d (Ides k) g h a b t e = absurd (omega (arith, signed_arith, e, h))
 after_same two i l p d SecondSixth g h a b t e = grind (arith, signed_arith, t h)
+after_same two i l p d name g h a b t e = absurd (omega (arith, signed_arith, e, h))
 
 -- the same after the Ides, by the length of the month
 leap_placed : (i l p d : ℕ) → l ≡ 29 → p ≡ 13 → p < d → d ≤ l

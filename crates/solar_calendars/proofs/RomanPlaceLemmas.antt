@@ -8,7 +8,7 @@ use Rattle.day_numbers.specs.Dates.{IsBetween}
 use Rattle.day_numbers.proofs.SignedArithmeticLemmas.{signed_arith}
 use Rattle.solar_calendars.specs.Roman.{day_of_ides, has_two_sixths, days_back, roman_day_number, IsRomanDate}
 use Rattle.solar_calendars.specs.declared.roman_date.RomanName.{RomanName}
-use Rattle.solar_calendars.specs.declared.roman_date.RomanName.TheVariants.{Kalends, Nones, Ides, SecondSixth}
+use Rattle.solar_calendars.specs.declared.roman_date.RomanName.TheVariants.{Kalends, SecondSixth}
 use Rattle.solar_calendars.specs.RomanPlaces.{kalends, ides, month_before, year_of_month_before}
 use Rattle.solar_calendars.specs.RomanPlaces.{kalends_back, HasPlace, place, prior_length, prior_ides}
 use Rattle.solar_calendars.proofs.RomanMonthLemmas.{IsMonth, ides_small}
@@ -86,9 +86,8 @@ placed y m name h a b =
 pub number : (y : ℤ) (m : ℕ) (name : RomanName) → HasPlace y m name
     → roman_day_number y m name ≡ kalends y m +ℤ place (has_two_sixths y m) (day_of_ides m) name
 number y m (Kalends k) p = omega (arith, signed_arith, back_is (has_two_sixths y m) k p.0)
-number y m (Nones k) p = omega (arith, signed_arith, ides_small m, p)
-number y m (Ides k) p = omega (arith, signed_arith, ides_small m, p)
 number y m SecondSixth p = omega (arith, signed_arith)
+number y m name p = omega (arith, signed_arith, ides_small m, p)
 
 -- where there are two sixths, February has 29 days
 pub sixths_length : (y : ℤ) (m : ℕ) → has_two_sixths y m ≡ true → (prior_length y m ≡ 29) × (prior_ides m ≡ 13)
@@ -120,6 +119,5 @@ kalends_place y d m k l e f = omega (arith, signed_arith, e, f)
 pub place_near : (y : ℤ) (m : ℕ) (name : RomanName) → HasYear without_zero y → 1 ≤ m → m ≤ 12 → HasPlace y m name
     → IsBetween (neg_ℤ (pos 50)) (pos 50) (place (has_two_sixths y m) (day_of_ides m) name)
 place_near y m (Kalends k) h a b p = omega (arith, signed_arith, p, small_prior y m h a b)
-place_near y m (Nones k) h a b p = omega (arith, signed_arith, p, ides_small m)
-place_near y m (Ides k) h a b p = omega (arith, signed_arith, p, ides_small m)
 place_near y m SecondSixth h a b p = omega (arith, signed_arith)
+place_near y m name h a b p = omega (arith, signed_arith, p, ides_small m)

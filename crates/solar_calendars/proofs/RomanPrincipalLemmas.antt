@@ -41,14 +41,10 @@ day_in_month m name = 1
 
 principal_is : (y : ℤ) (m : ℕ) (name : RomanName) → IsMonth y m → IsDateOf julian_rules y m (day_in_month m name)
     × (principal_day y m name ≡ day_number_of julian_rules y m (day_in_month m name))
-principal_is y m (Kalends k) h =
-    ((h.0, omega arith, omega (arith, months_small (is_julian_leap y) m h.1 h.2)), refl)
-principal_is y m (Nones k) h =
-    ((h.0, omega (arith, ides_small m), omega (arith, ides_small m, months_small (is_julian_leap y) m h.1 h.2)), refl)
-principal_is y m (Ides k) h =
-    ((h.0, omega (arith, ides_small m), omega (arith, ides_small m, months_small (is_julian_leap y) m h.1 h.2)), refl)
 principal_is y m SecondSixth h =
     ((h.0, omega arith, omega (arith, months_small (is_julian_leap y) m h.1 h.2)), refl)
+principal_is y m name h =
+    ((h.0, omega (arith, ides_small m), omega (arith, ides_small m, months_small (is_julian_leap y) m h.1 h.2)), refl)
 
 abs_is : (z : ℤ) → pos 0 ≤ℤ z → pos (unsigned_abs z) ≡ z
 abs_is (pos n) h = refl
@@ -72,22 +68,16 @@ of_month y z m k other h g low high =
 -- the principal days of a month follow each other
 after_kalends : (y : ℤ) (m : ℕ) (x : RomanName) → kalends y m <ℤ principal_day y m x
     → nones y m ≤ℤ principal_day y m x
-after_kalends y m (Kalends k) lt = absurd (omega (arith, signed_arith))
-after_kalends y m (Nones k) lt = omega (arith, signed_arith)
-after_kalends y m (Ides k) lt = omega (arith, signed_arith)
-after_kalends y m SecondSixth lt = absurd (omega (arith, signed_arith))
+after_kalends y m SecondSixth lt = omega (arith, signed_arith)
+after_kalends y m x lt = omega (arith, signed_arith)
 
 after_nones : (y : ℤ) (m : ℕ) (x : RomanName) → nones y m <ℤ principal_day y m x → ides y m ≤ℤ principal_day y m x
-after_nones y m (Kalends k) lt = absurd (omega (arith, signed_arith, ides_small m))
-after_nones y m (Nones k) lt = absurd (omega (arith, signed_arith))
-after_nones y m (Ides k) lt = omega (arith, signed_arith)
-after_nones y m SecondSixth lt = absurd (omega (arith, signed_arith, ides_small m))
+after_nones y m SecondSixth lt = omega (arith, signed_arith, ides_small m)
+after_nones y m x lt = omega (arith, signed_arith, ides_small m)
 
 up_to_ides : (y : ℤ) (m : ℕ) (x : RomanName) → principal_day y m x ≤ℤ ides y m
-up_to_ides y m (Kalends k) = omega (arith, signed_arith, ides_small m)
-up_to_ides y m (Nones k) = omega (arith, signed_arith)
-up_to_ides y m (Ides k) = omega (arith, signed_arith)
 up_to_ides y m SecondSixth = omega (arith, signed_arith, ides_small m)
+up_to_ides y m x = omega (arith, signed_arith, ides_small m)
 
 after_ides : (y z : ℤ) (m k : ℕ) (x : RomanName) → IsMonth y m → IsMonth z k
     → ides (year_of_month_before y m) (month_before m) <ℤ principal_day z k x → kalends y m ≤ℤ principal_day z k x
@@ -107,8 +97,6 @@ after_ides y z m k x h g lt =
 -- no principal day lies between that of a name and the one before it
 none_between : (y z : ℤ) (m k : ℕ) (name x : RomanName) → IsMonth y m → IsMonth z k
     → preceding_day y m name <ℤ principal_day z k x → principal_day y m name ≤ℤ principal_day z k x
-none_between y z m k (Kalends c) x h g lt = after_ides y z m k x h g lt
-none_between y z m k SecondSixth x h g lt = after_ides y z m k x h g lt
 none_between y z m k (Nones c) x h g lt =
     by_lt_z (principal_day z k x) (nones y m)
     (λ less.
@@ -123,22 +111,19 @@ none_between y z m k (Ides c) x h g lt =
     (omega (arith, signed_arith, ides_small m, months_small (is_julian_leap y) m h.1 h.2)) in
     absurd (omega (arith, signed_arith, same, after_nones y m x (rw same at lt))))
     (λ ge. ge)
+none_between y z m k name x h g lt = after_ides y z m k x h g lt
 
 -- the principal day before that of a name is one, and lies before it
 preceding_is : (y : ℤ) (m : ℕ) (name : RomanName) → IsMonth y m
     → (z : ℤ) × (k : ℕ) × (x : RomanName) × IsMonth z k × (preceding_day y m name ≡ principal_day z k x)
-preceding_is y m (Kalends c) h = (_, _, Ides 1, (follows y m h.0 h.1 h.2).is_month, refl)
-preceding_is y m SecondSixth h = (_, _, Ides 1, (follows y m h.0 h.1 h.2).is_month, refl)
 preceding_is y m (Nones c) h = (y, m, Kalends 1, h, refl)
 preceding_is y m (Ides c) h = (y, m, Nones 1, h, refl)
+preceding_is y m name h = (_, _, Ides 1, (follows y m h.0 h.1 h.2).is_month, refl)
 
 precedes : (y : ℤ) (m : ℕ) (name : RomanName) → IsMonth y m → preceding_day y m name <ℤ principal_day y m name
-precedes y m (Kalends c) h =
-    omega (arith, signed_arith, ides_are y m h.0 h.1 h.2, (small_prior y m h.0 h.1 h.2).0)
-precedes y m SecondSixth h =
-    omega (arith, signed_arith, ides_are y m h.0 h.1 h.2, (small_prior y m h.0 h.1 h.2).0)
 precedes y m (Nones c) h = omega (arith, signed_arith, ides_small m)
 precedes y m (Ides c) h = omega (arith, signed_arith, ides_small m)
+precedes y m name h = omega (arith, signed_arith, ides_are y m h.0 h.1 h.2, (small_prior y m h.0 h.1 h.2).0)
 
 -- ---- the first principal day from a day on
 -- a principal day lies before day n exactly where it lies before day p

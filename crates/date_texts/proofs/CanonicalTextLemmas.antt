@@ -1,5 +1,6 @@
 -- Canonical texts: they are in the grammar, they are of digits, letters, dashes and dots, and they are short.
-use Rattle.std.proofs.Common.{◌≡◌, ℕ, ◌+◌, ◌≤◌, Bool, true, false, List, [], ◌∷◌, ◌++◌, length, IsTrue, ℤ, refl, arith, length-append, ◌||◌, ◌==◌}
+use Rattle.std.proofs.Common.{◌≡◌, ℕ, ◌+◌, ◌≤◌, Bool, true, false, List, [], ◌∷◌, ◌++◌, length, IsTrue, ℤ, refl, arith}
+use Rattle.std.proofs.Common.{length-append, ◌||◌, ◌==◌}
 use Rattle.std.specs.Prelude.{reverse, map}
 use Rattle.std.specs.Char.{is_ascii_alphanumeric, is_ascii_digit}
 use Rattle.std.specs.Fmt.{decimal}
@@ -109,10 +110,7 @@ then : {b : ℕ} {ys : List ℕ} (c : ℕ) → is_mark c ≡ true → IsShort b 
 then c e h = record { marks = rw e h.marks; few = omega (arith, h.few) }
 
 joined : {a b : ℕ} {xs ys : List ℕ} → IsShort a xs → IsShort b ys → IsShort (a + b) (xs ++ ys)
-joined {xs = xs} {ys = ys} h g = record {
-  marks = rw (list_all-append is_mark xs ys, h.marks, g.marks) refl;
-  few = omega (arith, length-append xs ys, h.few, g.few);
-}
+joined {xs = xs} {ys = ys} h g = grind (arith, list_all-append, is_mark, length-append)
 
 wider : {a b : ℕ} {xs : List ℕ} → IsShort a xs → a ≤ b → IsShort b xs
 wider h less = record { marks = h.marks; few = omega (arith, h.few) }
@@ -123,10 +121,12 @@ year_short (minus h) = then 45 refl (numeral_short h)
 
 civil_short : (g : Grammar) (d : Ymd) → IsShort 13 (canonical_civil g d.year d.month d.day)
 civil_short Week d =
-    let week = joined (numeral_short (two_digits d.month d.month_in)) (then 45 refl (numeral_short (short d.day d.day_in))) in
+    let week = joined (numeral_short (two_digits d.month d.month_in))
+    (then 45 refl (numeral_short (short d.day d.day_in))) in
     joined (year_short (year_is_year d.year d.year_in)) (then 45 refl (then 87 refl week))
 civil_short g d =
-    let month = joined (numeral_short (two_digits d.month d.month_in)) (then 45 refl (numeral_short (two_digits d.day d.day_in))) in
+    let month = joined (numeral_short (two_digits d.month d.month_in))
+    (then 45 refl (numeral_short (two_digits d.day d.day_in))) in
     wider (joined (year_short (year_is_year d.year d.year_in)) (then 45 refl month)) (omega arith)
 
 name_short : (name : RomanName) → count_of name ≤ 99 → IsShort 3 (canonical_name name)
@@ -166,10 +166,7 @@ reversed (c ∷ cs) h =
     rw (reverse-append (c ∷ []) cs, list_all-append is_mark (reverse cs) (c ∷ []), reversed cs both.1, both.0) refl
 
 pub canonical_trimmed : (date : Date) → trimmed (canonical_text date) ≡ canonical_text date
-canonical_trimmed date =
-    let text = canonical_text date in
-    let marks = (canonical_short date).marks in
-    rw (start_stays text marks, start_stays (reverse text) (reversed text marks)) (reverse-reverse text)
+canonical_trimmed date = grind (arith, canonical_short, start_stays, reversed, reverse-reverse)
 
 -- ---- and each byte is plain
 mark_plain : (c : ℕ) → is_mark c ≡ true → is_plain c ≡ true
@@ -177,3 +174,6 @@ mark_plain c h = grind (arith, nat_tests)
 
 pub marks_plain : (text : List ℕ) → AreMarks text → IsTrue (list_all is_plain text)
 marks_plain text h = all_pass is_mark is_plain mark_plain text h
+
+pub canonical_plain : (date : Date) → IsTrue (list_all is_plain (canonical_text date))
+canonical_plain date = marks_plain (canonical_text date) (canonical_short date).marks

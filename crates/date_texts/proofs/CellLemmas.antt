@@ -14,7 +14,7 @@ use Rattle.date_texts.specs.declared.target.Target.{Target}
 use Rattle.date_texts.specs.declared.target.Target.TheVariants.{Date as DateTarget, Haab, Tzolkin}
 use Rattle.date_texts.specs.declared.date.Date.{Date}
 use Rattle.date_texts.specs.declared.date.Date.TheVariants.{Civil, Long, Roman}
-use Rattle.date_texts.specs.Calendars.{Reckoning, by_rules, by_weeks, by_places, by_names, reckoning, IsDateBy}
+use Rattle.date_texts.specs.Calendars.{Reckoning, by_rules, by_weeks, reckoning, IsDateBy}
 use Rattle.date_texts.specs.Calendars.{IsCivil, grammar}
 use Rattle.date_texts.specs.Calendars.{day_number_by, first_day_by}
 use Rattle.date_texts.specs.Dates.{calendar_of_date, IsDateOfCalendar, day_number_of_date}
@@ -33,14 +33,12 @@ use Rattle.date_texts.proofs.DatePartLemmas.{civil_same}
 one_date_by : (r : Reckoning) (d e : Ymd) → IsDateBy r d → IsDateBy r e → day_number_by r d ≡ day_number_by r e → d ≡ e
 one_date_by (by_rules rules) d e = rules_one_date rules d e
 one_date_by by_weeks d e = one_week_date d e
-one_date_by by_places d e = λ h. elim h [ ]
-one_date_by by_names d e = λ h. elim h [ ]
+one_date_by r d e = λ h. elim h [ ]
 
 since_first_day : (r : Reckoning) (d : Ymd) → IsDateBy r d → IsSinceFirstDay (first_day_by r) (day_number_by r d)
 since_first_day (by_rules rules) d = rules_have_days rules d
 since_first_day by_weeks d = λ h. tt
-since_first_day by_places d = λ h. elim h [ ]
-since_first_day by_names d = λ h. elim h [ ]
+since_first_day r d = λ h. elim h [ ]
 
 one_date_on_day : OneRomanDate → (n : ℤ) (d e : Date) → calendar_of_date d ≡ calendar_of_date e
     → IsDateOfCalendar d → day_number_of_date d ≡ n → IsDateOfCalendar e → day_number_of_date e ≡ n → d ≡ e
@@ -84,9 +82,6 @@ pub one_cell : OneRomanDate → OneCell
 one_cell one (DateTarget c) n x y = one_date_cell one c n x y
 one_cell one Haab n x y = λ e f. e ∙ sym f
 one_cell one Tzolkin n x y = λ e f. e ∙ sym f
-
-pub date_cell_is : (t : Target) (c : Calendar) (n : ℤ) (x : List ℕ) → t ≡ DateTarget c → IsDateCell c n x → IsCell t n x
-date_cell_is t c n x e h = rw e h
 
 -- the canonical text of a year, a month and a day, or of a year, a week and a weekday, is a cell
 pub civil_cell_is : (c : Calendar) (n : ℤ) (d : Ymd) (x : List ℕ) → IsCivil c → IsDateBy (reckoning c) d

@@ -15,13 +15,14 @@ use Rattle.maya_calendars.specs.declared.long_count.LongCount.{LongCount}
 use Rattle.maya_calendars.specs.Laws.{HaabDaysInRange, TzolkinNumbersInRange}
 use Rattle.date_texts.specs.declared.calendar.Calendar.{Calendar}
 use Rattle.date_texts.specs.declared.date.Date.{Date}
-use Rattle.date_texts.specs.declared.date.Date.TheVariants.{Civil, Long, Roman}
+use Rattle.date_texts.specs.declared.date.Date.TheVariants.{Long}
 use Rattle.date_texts.specs.Cells.{IsCell, IsDateCell, on_date, no_date, is_plain, numbered_name}
 use Rattle.date_texts.specs.Dates.{IsDateOfCalendar}
 use Rattle.date_texts.specs.LongText.{canonical_long}
 use Rattle.date_texts.specs.DateText.{canonical_text}
 use Rattle.date_texts.specs.declared.target.Target.{Target}
-use Rattle.date_texts.proofs.CanonicalTextLemmas.{canonical_short, marks_plain, numeral_short, place, short}
+use Rattle.date_texts.proofs.CanonicalTextLemmas.{canonical_plain, canonical_short, marks_plain, numeral_short, place}
+use Rattle.date_texts.proofs.CanonicalTextLemmas.{short}
 use Rattle.date_texts.proofs.CellLemmas.{each_cell}
 use Rattle.date_texts.proofs.WritingLemmas.{one_or_two}
 
@@ -54,15 +55,14 @@ text_room n = grind (arith, length-append, four_digits)
 
 date_length : (date : Date) → IsDateOfCalendar date → length (canonical_text date) ≤ 16
 date_length (Long n) h = long_length n.baktun n.katun n.tun n.uinal n.kin n.places.0 h.0 h.1 h.2 h.3
-date_length (Civil d) h = omega (arith, (canonical_short (Civil d)).few)
-date_length (Roman d) h = omega (arith, (canonical_short (Roman d)).few)
+date_length date h = omega (arith, (canonical_short date).few)
 
 -- ---- cells: their bytes are digits and letters of ASCII, spaces, dashes and dots, and they have 16 bytes at most
 abbrev pub IsCellText : List ℕ → Type 0
 IsCellText text = ArePlain text × (length text ≤ 16)
 
 date_cell : (c : Calendar) (n : ℤ) (text : List ℕ) → IsDateCell c n text → IsCellText text
-date_cell c n text (on_date date p h i e) = rw e (marks_plain (canonical_text date) (canonical_short date).marks, date_length date h)
+date_cell c n text (on_date date p h i e) = grind (arith, canonical_plain date, date_length date h)
 date_cell c n text (no_date none e) = rw e (refl, omega arith)
 
 abbrev is_short : List ℕ → Bool
@@ -83,7 +83,11 @@ numbered : (number : ℕ) (name : List ℕ) → number ≤ 99 → IsTrue (list_a
     → IsCellText (numbered_name number name)
 numbered number name small h =
     let both = and_parts (list_all is_plain name) (is_short name) h in (
-      rw (list_all-append is_plain (decimal number) (32 ∷ name), marks_plain _ (numeral_short (short number small)).marks, both.0) refl,
+      rw (
+        list_all-append is_plain (decimal number) (32 ∷ name),
+        marks_plain _ (numeral_short (short number small)).marks,
+        both.0,
+      ) refl,
       omega (arith, length-append {A = ℕ}, one_or_two number small, short_length name both.1),
     )
 
@@ -91,4 +95,5 @@ pub cell_text : HaabDaysInRange → TzolkinNumbersInRange → (target : Target) 
     → IsCell target n text → IsCellText text
 unfolding words
 cell_text days numbers =
-    each_cell IsCellText (λ name. list_all is_plain name && is_short name) days numbers date_cell numbered refl refl refl
+    each_cell IsCellText (λ name. list_all is_plain name && is_short name) days numbers date_cell numbered refl refl
+    refl

@@ -21,7 +21,7 @@ letter_read (c ∷ cs) rest e = letter_read_by c cs rest (c == 87) refl e
 
 month_read : (grammar : Grammar) (bytes : List ℕ) (x : ℕ × List ℕ) → month_at grammar bytes ≡ Some x
     → (text : List ℕ) × IsMonthText grammar text x.0 × (bytes ≡ text ++ x.1)
-unfolding month_at after_mark
+unfolding after_mark
 month_read Civil bytes x e = let (text, is, joined) = (numbers 1).found bytes x e in (text, of_month is, joined)
 month_read Week bytes x e =
     let rest = bind_some (after_week_letter bytes) _ x e in
@@ -34,7 +34,7 @@ month_read grammar bytes x e = absurd (cc)
 
 month_take : (grammar : Grammar) (text rest : List ℕ) (n : ℕ) → IsMonthText grammar text n → NoDigitFirst rest
     → month_at grammar (text ++ rest) ≡ Some (n, rest)
-unfolding month_at after_mark after_week_letter
+unfolding after_mark after_week_letter
 month_take _ _ rest n (of_month {text = text} h) stop = (numbers 1).taken text rest n h stop
 month_take _ _ rest n (capital_week {text = text} h) stop = (numbers 1).taken text rest n h stop
 month_take _ _ rest n (small_week {text = text} h) stop = (numbers 1).taken text rest n h stop

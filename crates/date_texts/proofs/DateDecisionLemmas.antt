@@ -1,10 +1,11 @@
 -- What can be decided of dates: whether a calendar has a date, which date a text says, and which cell a day has. The
 -- dates that a `Date` holds are finitely many, so what can be decided of each of them can be decided of all.
-use Rattle.std.proofs.Common.{◌≡◌, inl, inr, ℕ, zero, suc, ◌+◌, ◌-◌, ◌<◌, ◌≤◌, min, List, [], Option, None, Some, refl, sym}
-use Rattle.std.proofs.Common.{subst, ap, arith, ℤ, pos, negsuc, ◌-ℤ◌, ◌↔◌}
+use Rattle.std.proofs.Common.{◌≡◌, inl, inr, ℕ, zero, suc, ◌+◌, ◌-◌, ◌<◌, ◌≤◌, min, List, [], Option, None, Some, refl}
+use Rattle.std.proofs.Common.{sym}
+use Rattle.std.proofs.Common.{subst, ap, arith, rules, ℤ, pos, negsuc, ◌-ℤ◌, ◌↔◌}
 use Rattle.std.specs.Str.{str_to_ascii_lowercase}
 use Rattle.day_numbers.specs.Dates.{IsYear}
-use Rattle.day_numbers.specs.Rules.{Years, from_one, with_zero, without_zero, HasYear}
+use Rattle.day_numbers.specs.Rules.{Years, from_one, without_zero, HasYear}
 use Rattle.day_numbers.specs.declared.ymd.Ymd.{Ymd}
 use Rattle.day_numbers.proofs.DateLemmas.{ymd_same}
 use Rattle.day_numbers.proofs.SignedArithmeticLemmas.{signed_arith}
@@ -17,8 +18,8 @@ use Rattle.solar_calendars.proofs.RomanDateLemmas.{roman_same}
 use Rattle.solar_calendars.proofs.RomanPlaceLemmas.{month_of, placed}
 use Rattle.maya_calendars.specs.declared.long_count.LongCount.{LongCount}
 use Rattle.maya_calendars.proofs.LongCountLemmas.{same_places}
-use Rattle.date_texts.specs.Calendars.{IsCivil, IsDateBy, Reckoning, by_names, by_places, by_rules, by_weeks}
-use Rattle.date_texts.specs.Calendars.{calendar_name, grammar, reckoning, target_name}
+use Rattle.date_texts.specs.Calendars.{IsCivil, IsDateBy, Reckoning, by_rules, by_weeks}
+use Rattle.date_texts.specs.Calendars.{calendar_name, grammar, reckoning}
 use Rattle.date_texts.specs.Cells.{IsCell, no_date, on_date}
 use Rattle.date_texts.specs.CivilReading.{civil_at}
 use Rattle.date_texts.specs.DateText.{IsDateText, SaysDate, canonical_text}
@@ -42,26 +43,21 @@ use Rattle.date_texts.proofs.DecisionLemmas.{is_true, some_below}
 use Rattle.date_texts.proofs.LongReadingLemmas.{long_says, places_in}
 use Rattle.date_texts.proofs.ReadingLemmas.{bind_some, none_some, numeral_below, year_in}
 use Rattle.date_texts.proofs.RomanReadingLemmas.{count_in, roman_says}
-use Rattle.date_texts.proofs.TargetNameLemmas.{named_by_search, target_by_name}
+use Rattle.date_texts.proofs.TargetNameLemmas.{calendar_in, calendar_is_named, named_by_search, target_by_name}
 
 -- ---- whether a calendar has a date
 is_year : (years : Years) (y : ℤ) → Is (HasYear years y)
 is_year from_one (pos (suc n)) = inl tt
-is_year from_one (pos zero) = inr (λ h. h)
-is_year from_one (negsuc n) = inr (λ h. h)
-is_year with_zero (pos (suc n)) = inl tt
-is_year with_zero (pos zero) = inl tt
-is_year with_zero (negsuc n) = inl tt
-is_year without_zero (pos (suc n)) = inl tt
+is_year from_one y = inr (λ h. h)
 is_year without_zero (pos zero) = inr (λ h. h)
-is_year without_zero (negsuc n) = inl tt
+is_year s (pos zero) = inl tt
+is_year s y = inl tt
 
 is_date_by : (r : Reckoning) (d : Ymd) → Is (IsDateBy r d)
 is_date_by (by_rules rules) d = search (all_three, is_year, is_at_most)
 is_date_by by_weeks d =
     all_four (is_at_most 1 d.month) (is_at_most 1 d.day) (is_at_most d.day 7) (is_less_z _ _)
-is_date_by by_places d = inr (λ h. h)
-is_date_by by_names d = inr (λ h. h)
+is_date_by r d = inr (λ h. h)
 
 has_place : (year : ℤ) (month : ℕ) (name : RomanName) → Is (HasPlace year month name)
 has_place year month (Kalends n) = both (is_at_most 1 n) (is_at_most _ _)
@@ -79,8 +75,7 @@ is_roman_date year month name =
 
 pub is_date_of_calendar : (date : Date) → Is (IsDateOfCalendar date)
 is_date_of_calendar (Civil d) = is_date_by (reckoning d.calendar) d.ymd
-is_date_of_calendar (Long n) =
-    all_four (is_at_most n.katun 19) (is_at_most n.tun 19) (is_at_most n.uinal 17) (is_at_most n.kin 19)
+is_date_of_calendar (Long n) = search (rules, all_four, is_at_most)
 is_date_of_calendar (Roman d) = is_roman_date d.year d.month d.name
 
 -- ---- whether some value is as said
@@ -167,10 +162,8 @@ name_by (suc (suc (suc k))) n = SecondSixth
 
 few : (k n : ℕ) → count_of (name_by k n) ≤ 99
 unfolding name_by
-few zero n = omega arith
-few (suc zero) n = omega arith
-few (suc (suc zero)) n = omega arith
 few (suc (suc (suc k))) n = omega arith
+few k n = omega arith
 
 kind_of : (x : RomanName) → count_of x ≤ 99 → (k : ℕ) × (n : ℕ) × (k < 4) × (n < 100) × (name_by k n ≡ x)
 unfolding name_by
@@ -190,7 +183,8 @@ romans =
       month_in = omega arith;
       count_in = few x.1.1.0 x.1.1.1;
     })
-    (λ d. let year = place_of_year d.year d.year_in in let (k, n, is_kind, is_count, name) = kind_of d.name d.count_in in (
+    (λ d. let year = place_of_year d.year d.year_in in
+    let (k, n, is_kind, is_count, name) = kind_of d.name d.count_in in (
       (year.0, (d.month, (k, n))),
       (year.1, (omega (arith, d.month_in), (is_kind, is_count))),
       roman_same _ d (rw (year.2, within 99 d.month d.month_in, name) refl),
@@ -280,18 +274,16 @@ pub says_date : (calendar : Calendar) (text : List ℕ) → Is ((date : Date) ×
 says_date calendar text = says_by calendar (trimmed text) _ refl
 
 -- ---- the calendar that a text names
-named_among : (found : Option Target) (text : List ℕ)
-    → ((t : Target) → (found ≡ Some t) ↔ IsNamed text (target_name t))
+named_by : (o : Option Calendar) (text : List ℕ) → ((e : Calendar) → (o ≡ Some e) ↔ IsNamed text (calendar_name e))
     → Is ((calendar : Calendar) × IsNamed text (calendar_name calendar))
-named_among None text h = inr (λ is. let e = (h (DateTarget is.0)).1 is.1 in cc)
-named_among (Some (DateTarget calendar)) text h = inl (calendar, (h (DateTarget calendar)).0 refl)
-named_among (Some Haab) text h = inr (λ is. let e = (h (DateTarget is.0)).1 is.1 in cc)
-named_among (Some Tzolkin) text h = inr (λ is. let e = (h (DateTarget is.0)).1 is.1 in cc)
+named_by None text h = inr (λ is. none_some ((h is.0).1 is.1))
+named_by (Some c) text h = inl (c, (h c).0 refl)
 
 pub names_calendar : (text : List ℕ) → Is ((calendar : Calendar) × IsNamed text (calendar_name calendar))
 names_calendar text =
-    named_among _ text
-    (λ t. named_by_search (target_by_name (str_to_ascii_lowercase (trimmed text))) (trimmed text) text t refl refl)
+    let found = target_by_name (str_to_ascii_lowercase (trimmed text)) in
+    named_by (calendar_in found) text
+    (calendar_is_named found _ text (λ t. named_by_search found (trimmed text) text t refl refl) refl)
 
 -- ---- the cell of a day
 pub has_cell : (t : Target) (n : ℤ) → (cell : List ℕ) × IsCell t n cell

@@ -63,7 +63,8 @@ says_parts calendar text (Roman d) (of, is) = (of, rw (sym of, roman_said text _
 parts_say : (calendar : Calendar) (text : List ℕ) (date : Date) → calendar_of_date date ≡ calendar
     → parts_at calendar text ≡ Some (parts_of date) → SaysDate calendar text date
 parts_say calendar text (Civil d) of e =
-    let x = bind_some (civil_at (grammar calendar) text) _ _ (sym (civil_parts_at calendar text (subst IsCivil of d.civil)) ∙ e) in
+    let at = civil_parts_at calendar text (subst IsCivil of d.civil) in
+    let x = bind_some (civil_at (grammar calendar) text) _ _ (sym at ∙ e) in
     (of, civil_says (grammar calendar) text (d.ymd.year, d.ymd.month, d.ymd.day) (cc))
 parts_say calendar text (Long n) of e =
     let x = bind_some (long_at text) _ _ (rw (sym of) at e) in

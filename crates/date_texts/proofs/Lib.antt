@@ -3,7 +3,7 @@
 --     clauses of `read_date`, and the laws `one_date_text` and `canonical_texts_read_back`. TextWords has the words of
 --     these.
 --   TargetNameLemmas: `calendar_named`, `target_named`, and the laws `one_calendar` and `one_target`.
---   TargetRankLemmas, TargetCountLemmas: the law `few_targets`.
+--   TargetCountLemmas: the law `few_targets`.
 --   CellLemmas: `cell`, `value` of `write_cell`, and the law `one_cell`.
 --   CanonicalTextLemmas: the law `canonical_texts_read_back`, and the bytes and the lengths of canonical texts.
 --   CellTextLemmas: the laws `cells_are_short`, and with it the room in `cell` and `write_cell`, and `cells_are_plain`.
@@ -22,9 +22,8 @@ pub mod RomanReadingLemmas
 pub mod CanonicalTextLemmas
 pub mod DateTextLemmas
 pub mod CellLemmas
-pub mod TargetRankLemmas
-pub mod TargetCountLemmas
 pub mod TargetNameLemmas
+pub mod TargetCountLemmas
 pub mod CellTextLemmas
 pub mod BufferLemmas
 pub mod WritingLemmas

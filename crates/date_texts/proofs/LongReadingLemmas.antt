@@ -33,6 +33,5 @@ long_said text x (places, are, joined) = absurd (search (rules, are))
 
 pub places_in : (text : List ℕ) (x : ℕ × ℕ × ℕ × ℕ × ℕ) → IsLongText text x.0 x.1 x.2 x.3 x.4
     → ArePlaces x.0 x.1 x.2 x.3 x.4
-places_in text x (a ∷ b ∷ c ∷ d ∷ f ∷ [], (is_a, (is_b, (is_c, (is_d, (is_f, end))))), joined) =
-    (below is_a, below is_b, below is_c, below is_d, below is_f)
+places_in text x (a ∷ b ∷ c ∷ d ∷ f ∷ [], (is_a, (is_b, (is_c, (is_d, (is_f, end))))), joined) = search (rules, below)
 places_in text x (places, are, joined) = absurd (search (rules, are))

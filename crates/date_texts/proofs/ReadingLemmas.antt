@@ -2,7 +2,8 @@
 -- grammars stand on this one.
 use Rattle.std.proofs.Common.{◌≡◌, ℕ, zero, suc, ◌+◌, ◌-◌, ◌*◌, ◌^◌, ◌≤◌, ◌<◌, Bool, true, false, List, [], ◌∷◌}
 use Rattle.std.proofs.Common.{◌++◌, length, ◌==◌, refl, sym, subst, ap, ◌∙◌, arith, IsTrue, cond, Option, Some, None}
-use Rattle.std.proofs.Common.{add-one, append-nil, ℤ, pos, neg_ℤ, rules, get_or, take, drop, negsuc, replicate, length-append}
+use Rattle.std.proofs.Common.{add-one, append-nil, ℤ, pos, neg_ℤ, rules, get_or, take, drop, negsuc, replicate}
+use Rattle.std.proofs.Common.{length-append}
 use Rattle.std.specs.Char.{is_ascii_digit}
 use Rattle.std.specs.Fmt.{decimal}
 use Rattle.std.proofs.lemmas.List.{length-replicate}
@@ -40,10 +41,6 @@ digits_step (suc k) n (c ∷ cs) some long e =
     let less : suc k - 1 ≡ k = omega arith in
     let whole : length (c ∷ cs) - 1 ≡ length cs = omega arith in
     rw (less, whole, take-length, e) refl
-
-pub no_digit_first : (bytes : List ℕ) → is_ascii_digit (get_or bytes 0 0) ≡ false → NoDigitFirst bytes
-no_digit_first [] e = tt
-no_digit_first (c ∷ cs) e = e
 
 -- digits and then no digit are read to the last digit
 digits_take : (k n : ℕ) (ds x : List ℕ) → IsTrue (all_digits ds) → length ds ≤ k → NoDigitFirst x
@@ -125,34 +122,25 @@ all_is_read : {A : Type 0} (bytes : List ℕ) (x y : A) → all_read bytes x ≡
 all_is_read [] x y e = (refl, cc)
 all_is_read (c ∷ cs) x y e = absurd (cc)
 
-module _ {A C : Type 0} {read : List ℕ → Option (A × List ℕ)} {IsText : List ℕ → A → Type 0} (is : Reads read IsText) where
+module _ {A C : Type 0} {read : List ℕ → Option (A × List ℕ)} {IsText : List ℕ → A → Type 0}
+    (is : Reads read IsText) where
   -- a part, the byte behind it, and what is read then
-  pub part_found : (b : ℕ) (next : A × List ℕ → Option C) (bytes : List ℕ) (y : C) → (part_at read b bytes >>= next) ≡ Some y
+  pub part_found : (b : ℕ) (next : A × List ℕ → Option C) (bytes : List ℕ) (y : C)
+      → (part_at read b bytes >>= next) ≡ Some y
       → (x : A) × Joined b (λ text. IsText text x) (λ rest. next (x, rest) ≡ Some y) bytes
   unfolding part_at
-  part_found b next bytes y e =
-      let part = bind_some (part_at read b bytes) next y e in
-      let x = bind_some (read bytes) _ part.0 part.1 in
-      let rest = bind_some (after_byte b x.0.1) _ part.0 x.2 in
-      let text = is.found bytes x.0 x.1 in
-      let then = rw (sym (some_inside rest.2)) at part.2 in
-      (x.0.0, (text.0, rest.0, text.1, then, text.2 ∙ ap (λ t. text.0 ++ t) (byte_read b x.0.1 rest.0 rest.1)))
+  part_found b next bytes y e = search (rules, bind_some, some_inside, byte_read)
 
   pub part_taken : (b : ℕ) (next : A × List ℕ → Option C) (bytes : List ℕ) (y : C) (x : A) → is_ascii_digit b ≡ false
-      → Joined b (λ text. IsText text x) (λ rest. next (x, rest) ≡ Some y) bytes → (part_at read b bytes >>= next) ≡ Some y
+      → Joined b (λ text. IsText text x) (λ rest. next (x, rest) ≡ Some y) bytes
+      → (part_at read b bytes >>= next) ≡ Some y
   unfolding part_at
-  part_taken b next bytes y x stop (text, rest, is_text, then, joined) =
-      rw (joined, is.taken text (b ∷ rest) x is_text stop, byte_taken b rest) then
+  part_taken b next bytes y x stop (text, rest, is_text, then, joined) = search (rules, byte_taken)
 
   -- a part, and nothing behind it
   pub last_found : (make : A → C) (bytes : List ℕ) (y : C) → (read bytes >>= λ x. all_read x.1 (make x.0)) ≡ Some y
       → (x : A) × IsText bytes x × (make x ≡ y)
-  last_found make bytes y e =
-      let x = bind_some (read bytes) _ y e in
-      let end = all_is_read x.0.1 (make x.0.0) y x.2 in
-      let text = is.found bytes x.0 x.1 in
-      let joined = text.2 ∙ ap (λ t. text.0 ++ t) end.0 ∙ append-nil text.0 in
-      (x.0.0, subst (λ t. IsText t x.0.0) (sym joined) text.1, end.1)
+  last_found make bytes y e = search (rules, bind_some, all_is_read, append-nil)
 
   pub last_taken : (make : A → C) (bytes : List ℕ) (x : A) → IsText bytes x
       → (read bytes >>= λ x. all_read x.1 (make x.0)) ≡ Some (make x)
@@ -165,7 +153,8 @@ number_read_by : (more c : ℕ) (cs : List ℕ) (b : Bool) → is_ascii_digit c 
 number_read_by more c cs true eb x e =
     let (ds, digits, few, joined, value) = digits_read more (c - 48) cs in
     let from_zero : c - 48 ≡ 10 * 0 + (c - 48) = omega arith in
-    subst (λ (y : ℕ × List ℕ). (text : List ℕ) × IsNumeral (suc more) text y.0 × (c ∷ cs ≡ text ++ y.1)) (some_inside e) (
+    subst (λ (y : ℕ × List ℕ). (text : List ℕ) × IsNumeral (suc more) text y.0 × (c ∷ cs ≡ text ++ y.1))
+    (some_inside e) (
       c ∷ ds,
       record {
         some = omega arith;
@@ -229,8 +218,7 @@ year_take : (text x : List ℕ) (z : ℤ) → IsYearText text z → NoDigitFirst
 unfolding year_at after_byte
 year_take [] x z (plain {n = n} h) stop = absurd (omega (arith, h.some))
 year_take (c ∷ cs) x z (plain {n = n} h) stop =
-    let both = and_parts (is_ascii_digit c) (all_digits cs) h.digits in
-    rw (digit_no_dash c both.0, number_take 4 (c ∷ cs) x n h stop)
+    rw (digit_no_dash c (and_parts (is_ascii_digit c) (all_digits cs) h.digits).0, number_take 4 (c ∷ cs) x n h stop)
 year_take text x z (minus {text = ds} {n = n} h) stop = rw (number_take 4 ds x n h stop)
 
 pub years : Reads year_at IsYearText

@@ -20,7 +20,8 @@ use Rattle.date_texts.proofs.ReadingLemmas.{last_found, last_taken, numeral_belo
 -- ---- what is read is in the grammar
 count_read : (bytes : List ℕ) (n : ℕ) → count_at bytes ≡ Some n → IsNumeral 2 bytes n
 unfolding count_at
-count_read bytes n e = let (k, is, same) = last_found (numbers 1) (λ k. k) bytes n e in subst (IsNumeral 2 bytes) same is
+count_read bytes n e =
+    let (k, is, same) = last_found (numbers 1) (λ k. k) bytes n e in subst (IsNumeral 2 bytes) same is
 
 -- a letter is looked for, and then the others
 letter_read : (b : Bool) (cs : List ℕ) (make : ℕ → RomanName) (other : Option RomanName) (name : RomanName) (P : Type 0)
@@ -88,16 +89,15 @@ name_take : (text : List ℕ) (name : RomanName) → IsNameText text name → na
 unfolding name_at counted_at
 name_take _ _ (of_kalends {c = c} {n = n} {text = ds} e h) =
     rw (no_sixth_test c ds n _ h refl, e, count_take ds n h) refl
-name_take _ _ (of_nones {c = c} {n = n} {text = ds} e h) =
-    rw (no_sixth_test c ds n _ h refl, e, count_take ds n h) refl
-name_take _ _ (of_ides {c = c} {n = n} {text = ds} e h) =
-    rw (no_sixth_test c ds n _ h refl, e, count_take ds n h) refl
+name_take _ _ (of_nones {c = c} {n = n} {text = ds} e h) = grind (arith, count_take ds n h)
+name_take _ _ (of_ides {c = c} {n = n} {text = ds} e h) = grind (arith, count_take ds n h)
 name_take _ _ (of_second_sixth {text = text} e) = rw e refl
 
 pub roman_said : (text : List ℕ) (x : ℤ × ℕ × RomanName) → IsRomanText text x.0 x.1 x.2 → roman_at text ≡ Some x
 unfolding roman_at
 roman_said text x (year, after_year, is_year, (month, day, is_month, is_name, j2), j1) =
-    let e1 = part_taken (numbers 1) 45 _ after_year _ x.1 refl (month, day, is_month, rw (name_take day x.2 is_name) refl, j2) in
+    let e1 = part_taken (numbers 1) 45 _ after_year _ x.1 refl
+    (month, day, is_month, rw (name_take day x.2 is_name) refl, j2) in
     part_taken years 45 _ text _ x.0 refl (year, after_year, is_year, e1, j1)
 
 pub count_in : {text : List ℕ} {name : RomanName} → IsNameText text name → count_of name ≤ 99

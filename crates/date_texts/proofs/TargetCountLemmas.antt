@@ -2,17 +2,37 @@
 use Rattle.std.proofs.Common.{◌≡◌, ◌≢◌, ◌<◌, ℕ, List, [], ◌∷◌, sym, ap, ◌∙◌, arith, inl, inr, length, map}
 use Rattle.std.proofs.Common.{get_or, Some, false, true, eqb}
 use Rattle.std.specs.Prelude.{slice_get}
-use Rattle.std.specs.List.{list_any}
+use Rattle.std.specs.List.{list_any, position_or_len}
+use Rattle.std.proofs.lemmas.List.Folds.{find_at}
 use Rattle.std.proofs.lemmas.Bool.Decides.{eqb_tells}
 use Rattle.std.proofs.lemmas.List.{get_or-map, length-map}
 use Rattle.std.proofs.lemmas.Map.Keys.{IsDistinct-from_apart}
 use Rattle.std.proofs.lemmas.Map.Steps.{length-le_from_distinct_below}
 use Rattle.std.proofs.lemmas.Option.{slice_get-get_or}
 use Rattle.date_texts.specs.declared.target.Target.{Target}
-use Rattle.date_texts.specs.declared.target.Target.TheVariants.{Haab}
+use Rattle.date_texts.specs.declared.target.Target.TheVariants.{Date, Haab}
+use Rattle.date_texts.specs.declared.calendar.Calendar.TheVariants.{Gregorian}
 use Rattle.date_texts.specs.declared.target.TheConstants.{MAX_TARGETS}
 use Rattle.date_texts.specs.Laws.{FewTargets}
-use Rattle.date_texts.proofs.TargetRankLemmas.{rank_of, rank_below, same_rank}
+use Rattle.date_texts.specs.Calendars.{target_name, all_targets}
+use Rattle.date_texts.proofs.ReadingLemmas.{some_inside}
+use Rattle.date_texts.proofs.TargetNameLemmas.{has_name, finds_own}
+
+-- a target by its rank among all targets
+rank_of : Target → ℕ
+rank_of t = position_or_len (has_name (target_name t)) all_targets
+
+there : (t : Target) → slice_get all_targets (rank_of t) ≡ Some t
+unfolding rank_of
+there t = sym (find_at (has_name (target_name t)) all_targets) ∙ finds_own t
+
+same_rank : (t u : Target) → rank_of t ≡ rank_of u → t ≡ u
+same_rank t u e = some_inside (sym (there t) ∙ ap (λ k. slice_get all_targets k) e ∙ there u)
+
+rank_below : (t : Target) → rank_of t < MAX_TARGETS
+unfolding rank_of
+rank_below (Date Gregorian) = omega arith
+rank_below t = omega arith
 
 below : (ts : List Target) (q : ℕ) → list_any (eqb q) (map rank_of ts) ≡ true → q < MAX_TARGETS
 below [] q e = cc

@@ -18,7 +18,7 @@ after_mark grammars.LongCount bytes = None
 after_mark grammars.Roman bytes = None
 
 -- a month or a week, and its mark before it
-unfoldable pub month_at : Grammar → List ℕ → Option (ℕ × List ℕ)
+abbrev pub month_at : Grammar → List ℕ → Option (ℕ × List ℕ)
 month_at grammar bytes = after_mark grammar bytes >>= number_at 1
 
 unfoldable pub civil_at : Grammar → List ℕ → Option (ℤ × ℕ × ℕ)

@@ -25,6 +25,7 @@ static PAIRS: [u8; 200] = *b"\
 
 /// The two digits of a number.
 #[inline(always)]
+#[tactic(auto, using(crate::proofs::PairLemmas::pairs_at))]
 fn two_digits(number: u8) -> (u8, u8)
     requires { number ≤ 99 }
     ensures { result ≡ (48 + number / 10, 48 + number % 10) }
@@ -83,6 +84,7 @@ pub fn put_short(buffer: &mut [u8], at: usize, number: u8) -> usize
 
 /// Writes a number in decimal.
 #[inline(always)]
+#[tactic(auto, using(itoa::proofs::Decimal::length_pair))]
 pub fn put_number(buffer: &mut [u8], at: usize, number: u16) -> usize
     requires room { at + length (decimal number) ≤ length buffer.old }
     requires small { number ≤ 9_999 }

@@ -45,6 +45,7 @@ fn write_civil<C: ArithmeticCalendar>(buffer: &mut [u8], by: &C, calendar: Calen
 /// Writes the long count of a day to the front of a cell's room, and returns how many bytes it has: none before the
 /// first long count.
 #[inline(never)]
+#[tactic(auto, using(crate::proofs::CellTextLemmas::long_room))]
 fn write_long_count(buffer: &mut [u8], day: Day) -> u8
     requires { MAX_CELL ≤ length buffer.old }
     ensures few { result ≤ MAX_CELL }
@@ -84,6 +85,7 @@ fn write_date_cell(buffer: &mut [u8], calendar: Calendar, day: Day) -> u8
 /// Writes a number without leading zeros, one space and a name to the front of a cell's room, and returns how many
 /// bytes they have.
 #[inline(always)]
+#[tactic(auto, using(crate::proofs::WritingLemmas::one_or_two))]
 fn write_numbered(buffer: &mut [u8], number: u8, name: &str) -> u8
     requires room { MAX_CELL ≤ length buffer.old }
     requires small { number ≤ 99 }
@@ -99,6 +101,7 @@ fn write_numbered(buffer: &mut [u8], number: u8, name: &str) -> u8
 /// Writes the haab of a day to the front of a cell's room, and returns how many bytes it has.
 // A function of its own, as that of the tzolkin, so that a row without the column does not find the name.
 #[inline(never)]
+#[tactic(auto, using(crate::proofs::CellTextLemmas::month_length))]
 fn write_haab(buffer: &mut [u8], day: Day) -> u8
     requires { MAX_CELL ≤ length buffer.old }
     ensures few { result ≤ MAX_CELL }
@@ -110,6 +113,7 @@ fn write_haab(buffer: &mut [u8], day: Day) -> u8
 
 /// Writes the tzolkin of a day to the front of a cell's room, and returns how many bytes it has.
 #[inline(never)]
+#[tactic(auto, using(crate::proofs::CellTextLemmas::day_name_length))]
 fn write_tzolkin(buffer: &mut [u8], day: Day) -> u8
     requires { MAX_CELL ≤ length buffer.old }
     ensures few { result ≤ MAX_CELL }

@@ -45,7 +45,7 @@ fn after_mark(grammar: Grammar, bytes: &[u8]) -> Option<&[u8]>
 
 /// The year, month and day that the bytes spell, or the year, week and weekday.
 #[inline(always)]
-#[tactic(auto, unfolding(crate::specs::CivilReading::civil_at, crate::specs::CivilReading::month_at, crate::specs::Reading::part_at))]
+#[tactic(auto, unfolding(crate::specs::CivilReading::civil_at, crate::specs::Reading::part_at))]
 fn civil_at(grammar: Grammar, bytes: &[u8]) -> Option<(i32, u8, u8)>
     ensures value { result ≡ civil_spec grammar bytes.now }
     ensures near { IfSome result (λ d. IsYmd d.0 d.1 d.2) }
@@ -70,6 +70,7 @@ pub fn civil_date_at(calendar: Calendar, grammar: Grammar, text: &[u8]) -> Optio
 
 /// Writes a year, a month and a day, or a year, a week and a weekday, to the front.
 #[inline(always)]
+#[tactic(auto, using(crate::proofs::WritingLemmas::one_or_two))]
 pub fn put_civil(buffer: &mut [u8], grammar: Grammar, date: Ymd) -> usize
     requires { MAX_CELL ≤ length buffer.old }
     ensures value { IsPut buffer.old buffer.new 0 result (canonical_civil grammar date.year date.month date.day) }

@@ -27,11 +27,13 @@ pub fn one_target()
 {}
 
 /// A text says one date of a calendar at most.
+#[tactic(auto, using(crate::proofs::DateTextLemmas::one_date_text))]
 pub fn one_date_text()
     ensures { OneDateText }
 {}
 
 /// The canonical text of a date says that date in its calendar.
+#[tactic(auto, using(crate::proofs::DateTextLemmas::canonical_text_is))]
 pub fn canonical_texts_read_back()
     ensures { CanonicalTextsReadBack }
 {}
@@ -49,6 +51,7 @@ pub fn first_days(calendar: Calendar, day: Day)
 }
 
 /// A target and a day have one cell at most.
+#[tactic(auto, using(crate::proofs::CellLemmas::one_cell))]
 pub fn one_cell()
     ensures { OneCell }
 {
@@ -56,6 +59,7 @@ pub fn one_cell()
 }
 
 /// The bytes of a cell are digits and letters of ASCII, spaces, dashes and dots.
+#[tactic(auto, using(crate::proofs::CellTextLemmas::cell_text))]
 pub fn cells_are_plain()
     ensures { CellsArePlain }
 {
@@ -64,6 +68,7 @@ pub fn cells_are_plain()
 }
 
 /// A cell has [`MAX_CELL`](crate::MAX_CELL) bytes at most, whatever the day.
+#[tactic(auto, using(crate::proofs::CellTextLemmas::cell_text))]
 pub fn cells_are_short()
     ensures { CellsAreShort }
 {
@@ -72,6 +77,7 @@ pub fn cells_are_short()
 }
 
 /// A list that names no target twice has [`MAX_TARGETS`](crate::MAX_TARGETS) targets at most.
+#[tactic(auto, using(crate::proofs::TargetCountLemmas::few))]
 pub fn few_targets()
     ensures { FewTargets }
 {}

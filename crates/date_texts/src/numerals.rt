@@ -31,7 +31,7 @@ fn digits_at(more: u8, number: u32, bytes: &[u8]) -> (u32, &[u8])
 
 /// A number of one to `more + 1` digits at the front, and the bytes after it.
 #[inline(always)]
-#[tactic(auto, unfolding(crate::specs::Reading::number_at))]
+#[tactic(auto, unfolding(crate::specs::Reading::number_at), using(crate::proofs::ReadingLemmas::digits_below))]
 pub fn number_at(more: u8, bytes: &[u8]) -> Option<(u32, &[u8])>
     requires { more ≤ 4 }
     ensures value { seen_number result ≡ number_spec more bytes.now }

@@ -81,6 +81,7 @@ pub fn roman_date_at(text: &[u8]) -> Option<Date>
 
 /// Writes a letter and a count.
 #[inline(always)]
+#[tactic(auto, using(crate::proofs::WritingLemmas::one_or_two))]
 fn put_count(buffer: &mut [u8], at: usize, letter: u8, count: u8) -> usize
     requires room { at + 3 ≤ length buffer.old }
     requires small { count ≤ 99 }

@@ -15,6 +15,7 @@ use arrayvec::ArrayString;
 
 /// Writes a date to the front.
 #[inline(always)]
+#[tactic(auto, using(crate::proofs::CellTextLemmas::text_room))]
 fn put_date(buffer: &mut [u8], date: Date) -> usize
     requires { MAX_TEXT ≤ length buffer.old }
     ensures value { IsPut buffer.old buffer.new 0 result (canonical_text date) }
@@ -43,6 +44,7 @@ fn put_date(buffer: &mut [u8], date: Date) -> usize
 /// let week_date = read_date(Calendar::Iso, "2004-w53-6")?;
 /// assert_eq!(rt; write_date(&week_date).as_str(), "2004-W53-6");
 /// ```
+#[tactic(auto, using(crate::proofs::CanonicalTextLemmas::canonical_plain))]
 pub fn write_date(date: &Date) -> ArrayString<MAX_TEXT>
     ensures { result.bytes ≡ canonical_text date.now }
 {

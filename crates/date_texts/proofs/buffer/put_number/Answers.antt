@@ -1,16 +1,9 @@
 use Rattle.std.proofs.Common.{arith, ap, sym, ◌∙◌, ◌++◌, ◌/◌, ◌%◌}
 use Rattle.std.specs.Fmt.{decimal}
-use Rattle.itoa.proofs.Decimal.{decimal_pair, length_pair}
+use Rattle.itoa.proofs.Decimal.{decimal_pair}
 use Rattle.date_texts.proofs.BufferLemmas.{put_same, put_then}
 use Rattle.date_texts.proofs.WritingLemmas.{two_digits}
 use Rattle.date_texts.proofs.buffer.put_number.Goals as goal
-
-pub put_short-after-requires-clause-room : goal.put_short-after-requires-clause-room
-put_short-after-requires-clause-room c = omega (arith, length_pair c.args.number (omega arith) (omega arith))
-
-pub put_two_digits-requires-clause-room : goal.put_two_digits-requires-clause-room
-put_two_digits-requires-clause-room c =
-    omega (arith, length_pair c.args.number (omega arith) (omega arith), c.put_short-after.ensures.value.follows)
 
 pub returns : goal.returns
 returns c =

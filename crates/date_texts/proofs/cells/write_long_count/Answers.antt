@@ -8,17 +8,12 @@ use Rattle.date_texts.specs.declared.target.Target.TheVariants.{Date as DateTarg
 use Rattle.date_texts.specs.declared.date.Date.TheVariants.{Long}
 use Rattle.date_texts.specs.DateText.{canonical_text}
 use Rattle.std.proofs.lemmas.Int.{ints}
-use Rattle.date_texts.proofs.CellLemmas.{since_first_in}
-use Rattle.date_texts.proofs.CellTextLemmas.{long_room}
 use Rattle.date_texts.proofs.cells.write_long_count.Goals as goal
 
 short_text : CellsAreShort → (n : ℤ) (count : LongCount) → IsLongCount count → long_day count ≡ n
     → length (canonical_text (Long count)) ≤ 16
 short_text law n count is day =
     law (DateTarget Longcount) n (canonical_text (Long count)) (on_date (Long count) refl is day refl)
-
-pub put_long-requires : goal.put_long-requires
-put_long-requires c = grind (arith, ints, long_room)
 
 pub overflow_cast-result : goal.overflow_cast-result
 overflow_cast-result c = grind (arith, ints, short_text)
@@ -30,6 +25,3 @@ pub returns-in-Some-clause-value : goal.returns-in-Some-clause-value
 returns-in-Some-clause-value c =
     let found = c.in-Some.ensures.value in
     on_date (Long c.in-Some.count) refl found.0 found.1 c.put_long.ensures.value
-
-pub returns-in-None-clause-value : goal.returns-in-None-clause-value
-returns-in-None-clause-value c = grind (arith, ints, since_first_in)

@@ -6,10 +6,7 @@ use Rattle.date_texts.proofs.DateTextLemmas.{civil, civil_parts, none_says, some
 use Rattle.date_texts.proofs.civil_text.civil_date_at.Goals as goal
 
 pub returns-in_err-year : goal.returns-in_err-year
-returns-in_err-year c =
-    none_says c.args.calendar c.args.text.now c.from_residual.result (cc)
-    (civil_parts c.args.calendar c.args.grammar c.args.text.now c.civil_at.result c.requires.civil c.requires.own
-    c.civil_at.ensures.value ∙ ap (λ o. o >>= λ x. Some (civil x)) c.in_err-year.was)
+returns-in_err-year c = search (rules, none_says, civil_parts, civil)
 
 pub returns : goal.returns
 returns c =

@@ -5,7 +5,9 @@ use Rattle.date_texts.proofs.DateTextLemmas.{none_says, some_says}
 use Rattle.date_texts.proofs.long_text.long_date_at.Goals as goal
 
 pub returns-in_err-baktun : goal.returns-in_err-baktun
-returns-in_err-baktun c = none_says Longcount c.args.text.now c.from_residual.result (cc) (rw (← c.long_at.ensures.value, c.in_err-baktun.was) refl)
+returns-in_err-baktun c =
+    none_says Longcount c.args.text.now c.from_residual.result (cc)
+    (rw (← c.long_at.ensures.value, c.in_err-baktun.was) refl)
 
 pub returns : goal.returns
 returns c =

@@ -1,6 +1,5 @@
 use Rattle.std.proofs.Common.{arith}
 use Rattle.date_texts.proofs.BufferLemmas.{put_same, put_then}
-use Rattle.date_texts.proofs.CellTextLemmas.{four_digits}
 use Rattle.date_texts.proofs.PlaceLemmas.{put_front, row_text}
 use Rattle.date_texts.proofs.long_text.put_place.Goals as goal
 
@@ -11,10 +10,3 @@ returns-then-place-lt20 c =
     (put_then c.put_byte-fourth.ensures c.put_byte.ensures)) in
     rw (c.place_row-row.ensures, count) (put_front _ rest (omega arith)
     (put_same bytes (rw c.place_row-row.ensures at row)))
-
-pub put_number-requires-clause-room : goal.put_number-requires-clause-room
-put_number-requires-clause-room c =
-    omega (arith, four_digits c.args.place c.requires.small, c.put_byte-after.ensures.follows)
-
-pub returns : goal.returns
-returns c = put_then c.put_byte-after.ensures c.put_number.ensures

@@ -1,5 +1,5 @@
 use Rattle.std.proofs.Common.{arith, ◌∙◌, sym}
-use Rattle.date_texts.proofs.ReadingLemmas.{digits_step, digits_stop, no_digit_first, fits_more}
+use Rattle.date_texts.proofs.ReadingLemmas.{digits_step, fits_more}
 use Rattle.date_texts.proofs.numerals.digits_at.Goals as goal
 
 pub loop-left-preserved : goal.loop-left-preserved
@@ -13,6 +13,3 @@ loop-left-preserved c =
           c.loop-left.invariant.few c.loop-left.invariant.small c.if-not-is_ascii_digit.false
           c.is_ascii_digit.ensures.value;
     }
-
-pub returns-then-not-is_ascii_digit : goal.returns-then-not-is_ascii_digit
-returns-then-not-is_ascii_digit c = grind (arith, no_digit_first, digits_stop)

@@ -5,7 +5,7 @@ use Rattle.date_texts.proofs.DateTextLemmas.{none_says, some_says}
 use Rattle.date_texts.proofs.roman_text.roman_date_at.Goals as goal
 
 pub returns-in_err-year : goal.returns-in_err-year
-returns-in_err-year c = none_says RomanCalendar c.args.text.now c.from_residual.result (cc) (rw (← c.roman_at.ensures.value, c.in_err-year.was) refl)
+returns-in_err-year c = search (rules, none_says)
 
 pub returns : goal.returns
 returns c =

@@ -1,11 +1,7 @@
 use Rattle.std.proofs.Common.{arith}
 use Rattle.date_texts.specs.declared.date.Date.TheVariants.{Long}
 use Rattle.date_texts.proofs.CanonicalTextLemmas.{canonical_short}
-use Rattle.date_texts.proofs.CellTextLemmas.{text_room}
 use Rattle.date_texts.proofs.write.put_date.Goals as goal
-
-pub put_long-requires : goal.put_long-requires
-put_long-requires c = omega (arith, text_room c.in-Long.count)
 
 pub returns-in-Long-clause-few : goal.returns-in-Long-clause-few
 returns-in-Long-clause-few c = omega (arith, (canonical_short (Long c.in-Long.count)).few, c.put_long.ensures.follows)

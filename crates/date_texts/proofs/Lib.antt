@@ -2,7 +2,7 @@
 --   ReadingLemmas, CivilReadingLemmas, LongReadingLemmas, RomanReadingLemmas, DatePartLemmas, DateTextLemmas: the
 --     clauses of `read_date`, and the laws `one_date_text` and `canonical_texts_read_back`. TextWords has the words of
 --     these.
---   TargetNameLemmas: `calendar_named`, `target_named`, and the laws `one_calendar` and `one_target`.
+--   TargetNameLemmas: `calendar_named` and `target_named`.
 --   TargetCountLemmas: the law `few_targets`.
 --   CellLemmas: `cell`, `value` of `write_cell`, and the law `one_cell`.
 --   CanonicalTextLemmas: the law `canonical_texts_read_back`, and the bytes and the lengths of canonical texts.

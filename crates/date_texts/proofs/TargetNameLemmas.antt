@@ -10,7 +10,6 @@ use Rattle.date_texts.specs.declared.calendar.Calendar.TheVariants.{Gregorian}
 use Rattle.date_texts.specs.declared.target.Target.{Target}
 use Rattle.date_texts.specs.declared.target.Target.TheVariants.{Date}
 use Rattle.date_texts.specs.Calendars.{calendar_name, target_name, all_targets}
-use Rattle.date_texts.specs.Laws.{OneCalendar, OneTarget}
 use Rattle.date_texts.specs.Names.{IsNamed}
 use Rattle.date_texts.specs.Trimmed.{trimmed}
 use Rattle.date_texts.proofs.ReadingLemmas.{some_inside}
@@ -75,15 +74,3 @@ pub calendar_is_named : (o : Option Target) (r : Option Calendar) (text : List �
 calendar_is_named (Some (Date c)) r text h same e =
     (λ q. (h (Date e)).0 (cc), λ q. let is = (h (Date e)).1 q in cc)
 calendar_is_named o r text h same e = (λ q. absurd (cc), λ q. let is = (h (Date e)).1 q in absurd (cc))
-
-inside : {c e : Calendar} → Date c ≡ Date e → c ≡ e
-inside h = cc
-
-same_target : (t u : Target) → target_name t ≡ target_name u → t ≡ u
-same_target t u e = some_inside (sym (finds_own t) ∙ ap target_by_name e ∙ finds_own u)
-
-pub one_target : OneTarget
-one_target text t u h k = same_target t u (sym h ∙ k)
-
-pub one_calendar : OneCalendar
-one_calendar text c e h k = inside (one_target text (Date c) (Date e) h k)

@@ -1,23 +1,19 @@
 -- Reading finds the civil dates and week dates that the grammar relates to a text, and nothing else.
-use Rattle.std.proofs.Common.{◌≡◌, ℕ, Bool, true, false, List, [], ◌∷◌, ◌++◌, ◌==◌, refl, subst, ap, ◌∙◌}
-use Rattle.std.proofs.Common.{◌≤◌, arith, cond, Some, None, ℤ, ◌⊎◌, inl, inr}
+use Rattle.std.proofs.Common.{◌≡◌, ℕ, List, [], ◌∷◌, ◌++◌, refl, subst, ap, ◌∙◌}
+use Rattle.std.proofs.Common.{◌≤◌, arith, Some, ℤ, ◌⊎◌, inl, inr}
 use Rattle.date_texts.specs.declared.grammar.Grammar.{Grammar}
 use Rattle.date_texts.specs.declared.grammar.Grammar.TheVariants.{Civil, Week}
 use Rattle.date_texts.specs.CivilText.{IsMonthText, of_month, capital_week, small_week, IsCivilText}
 use Rattle.date_texts.specs.CivilReading.{after_week_letter, after_mark, month_at, civil_at}
-use Rattle.date_texts.proofs.ReadingLemmas.{NoDigitFirst, Reads, bind_some, byte_read_by, numbers, years}
+use Rattle.std.proofs.lemmas.Bool.Decides.{nat_tests}
+use Rattle.date_texts.proofs.ReadingLemmas.{NoDigitFirst, Reads, bind_some, some_inside, numbers, years}
 use Rattle.date_texts.proofs.ReadingLemmas.{numeral_below, part_found, part_taken, last_found, last_taken}
 
 -- the letter before a week
-letter_read_by : (c : ℕ) (cs rest : List ℕ) (t : Bool) → (c == 87) ≡ t
-    → cond t (Some cs) (cond (c == 119) (Some cs) None) ≡ Some rest → (c ∷ cs ≡ 87 ∷ rest) ⊎ (c ∷ cs ≡ 119 ∷ rest)
-letter_read_by c cs rest true e h = inl (byte_read_by 87 c cs rest true e h)
-letter_read_by c cs rest false e h = inr (byte_read_by 119 c cs rest (c == 119) refl h)
-
 letter_read : (bytes rest : List ℕ) → after_week_letter bytes ≡ Some rest → (bytes ≡ 87 ∷ rest) ⊎ (bytes ≡ 119 ∷ rest)
 unfolding after_week_letter
 letter_read [] rest e = absurd (cc)
-letter_read (c ∷ cs) rest e = letter_read_by c cs rest (c == 87) refl e
+letter_read (c ∷ cs) rest e = grind (arith, nat_tests, some_inside)
 
 month_read : (grammar : Grammar) (bytes : List ℕ) (x : ℕ × List ℕ) → month_at grammar bytes ≡ Some x
     → (text : List ℕ) × IsMonthText grammar text x.0 × (bytes ≡ text ++ x.1)

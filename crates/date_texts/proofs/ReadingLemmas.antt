@@ -104,15 +104,10 @@ pub record Reads {A : Type 0} (read : List ℕ → Option (A × List ℕ)) (IsTe
       → (text : List ℕ) × IsText text x.0 × (bytes ≡ text ++ x.1)
   pub taken : (text rest : List ℕ) (x : A) → IsText text x → NoDigitFirst rest → read (text ++ rest) ≡ Some (x, rest)
 
-pub byte_read_by : (b c : ℕ) (cs rest : List ℕ) (t : Bool) → (c == b) ≡ t → cond t (Some cs) None ≡ Some rest
-    → c ∷ cs ≡ b ∷ rest
-byte_read_by b c cs rest true eb e = let same : c ≡ b = grind (arith, nat_tests) in cc
-byte_read_by b c cs rest false eb e = absurd (cc)
-
 byte_read : (b : ℕ) (bytes rest : List ℕ) → after_byte b bytes ≡ Some rest → bytes ≡ b ∷ rest
 unfolding after_byte
 byte_read b [] rest e = absurd (cc)
-byte_read b (c ∷ cs) rest e = byte_read_by b c cs rest (c == b) refl e
+byte_read b (c ∷ cs) rest e = grind (arith, nat_tests, some_inside)
 
 byte_taken : (b : ℕ) (rest : List ℕ) → after_byte b (b ∷ rest) ≡ Some rest
 unfolding after_byte

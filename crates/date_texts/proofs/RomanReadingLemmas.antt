@@ -1,18 +1,16 @@
 -- Reading finds the Roman dates that the grammar relates to a text, and nothing else.
-use Rattle.std.proofs.Common.{◌≡◌, ℕ, ◌≤◌, Bool, true, false, List, [], ◌∷◌, ◌==◌, refl, subst}
-use Rattle.std.proofs.Common.{arith, cond, Option, Some, ℤ}
+use Rattle.std.proofs.Common.{◌≡◌, ℕ, ◌≤◌, true, false, List, [], ◌∷◌, refl, subst}
+use Rattle.std.proofs.Common.{arith, Some, ℤ}
 use Rattle.std.specs.Prelude.{codes}
 use Rattle.std.specs.Char.{is_ascii_digit, to_ascii_lowercase}
 use Rattle.std.specs.Str.{str_to_ascii_lowercase, str_eq_ignore_ascii_case}
 use Rattle.std.proofs.lemmas.Bool.Decides.{nat_tests}
 use Rattle.std.proofs.lemmas.Slice.Eq.{bytes_eq-Decides}
-use Rattle.std.proofs.lemmas.Bool.{and_parts}
+use Rattle.std.proofs.lemmas.Bool.{and_parts, false_from_ne_true}
 use Rattle.solar_calendars.specs.Roman.{count_of}
 use Rattle.solar_calendars.specs.declared.roman_date.RomanName.{RomanName}
-use Rattle.solar_calendars.specs.declared.roman_date.RomanName.TheVariants.{Kalends, Nones, Ides, SecondSixth}
 use Rattle.date_texts.specs.Numerals.{IsNumeral}
 use Rattle.date_texts.specs.RomanText.{IsNameText, of_kalends, of_nones, of_ides, of_second_sixth, IsRomanText}
-use Rattle.date_texts.specs.Reading.{◌>>=◌}
 use Rattle.date_texts.specs.RomanReading.{count_at, counted_at, name_at, roman_at}
 use Rattle.date_texts.proofs.ReadingLemmas.{bind_some, some_inside, numbers, years, part_found, part_taken}
 use Rattle.date_texts.proofs.ReadingLemmas.{last_found, last_taken, numeral_below}
@@ -23,37 +21,21 @@ unfolding count_at
 count_read bytes n e =
     let (k, is, same) = last_found (numbers 1) (λ k. k) bytes n e in subst (IsNumeral 2 bytes) same is
 
--- a letter is looked for, and then the others
-letter_read : (b : Bool) (cs : List ℕ) (make : ℕ → RomanName) (other : Option RomanName) (name : RomanName) (P : Type 0)
-    → cond b (count_at cs >>= λ n. Some (make n)) other ≡ Some name
-    → (b ≡ true → (n : ℕ) → IsNumeral 2 cs n → make n ≡ name → P) → (other ≡ Some name → P) → P
-letter_read true cs make other name P e f g = grind (arith, bind_some, count_read, some_inside)
-letter_read false cs make other name P e f g = g e
-
-same_number : (a b : ℕ) → (a == b) ≡ true → a ≡ b
-same_number a b e = grind (arith, nat_tests)
-
 counted_read : (bytes : List ℕ) (name : RomanName) → counted_at bytes ≡ Some name → IsNameText bytes name
 unfolding counted_at
 counted_read [] name e = absurd (cc)
 counted_read (c ∷ cs) name e =
-    letter_read (to_ascii_lowercase c == 107) cs Kalends _ name (IsNameText (c ∷ cs) name) e
-    (λ t n h same. subst (IsNameText (c ∷ cs)) same (of_kalends (same_number _ _ t) h))
-    (λ e2. letter_read (to_ascii_lowercase c == 110) cs Nones _ name (IsNameText (c ∷ cs) name) e2
-    (λ t n h same. subst (IsNameText (c ∷ cs)) same (of_nones (same_number _ _ t) h))
-    (λ e3. letter_read (to_ascii_lowercase c == 105) cs Ides _ name (IsNameText (c ∷ cs) name) e3
-    (λ t n h same. subst (IsNameText (c ∷ cs)) same (of_ides (same_number _ _ t) h))
-    (λ e4. absurd (cc))))
-
-sixth_read_by : (bytes : List ℕ) (b : Bool) (name : RomanName) → str_eq_ignore_ascii_case bytes (codes "K6B") ≡ b
-    → cond b (Some SecondSixth) (counted_at bytes) ≡ Some name → IsNameText bytes name
-sixth_read_by bytes true name t e =
-    grind (arith, some_inside e, of_second_sixth ((bytes_eq-Decides (str_to_ascii_lowercase bytes) (codes "k6b")).0 t))
-sixth_read_by bytes false name t e = counted_read bytes name e
+    grind (arith, nat_tests, bind_some, count_read, some_inside, of_kalends, of_nones, of_ides)
 
 name_read : (bytes : List ℕ) (name : RomanName) → name_at bytes ≡ Some name → IsNameText bytes name
 unfolding name_at
-name_read bytes name e = sixth_read_by bytes (str_eq_ignore_ascii_case bytes (codes "K6B")) name refl e
+name_read bytes name e = grind (
+  arith,
+  some_inside,
+  counted_read,
+  of_second_sixth,
+  bytes_eq-Decides (str_to_ascii_lowercase bytes) (codes "k6b"),
+)
 
 pub roman_says : (text : List ℕ) (x : ℤ × ℕ × RomanName) → roman_at text ≡ Some x → IsRomanText text x.0 x.1 x.2
 unfolding roman_at
@@ -79,16 +61,16 @@ no_second_sixth c (a ∷ []) n h e = cc
 no_second_sixth c (a ∷ b ∷ []) n h e = grind (arith, and_parts, digit_no_letter)
 no_second_sixth c (a ∷ b ∷ d ∷ ds) n h e = omega (arith, h.few)
 
-no_sixth_test : (c : ℕ) (ds : List ℕ) (n : ℕ) (b : Bool) → IsNumeral 2 ds n
-    → str_eq_ignore_ascii_case (c ∷ ds) (codes "K6B") ≡ b → b ≡ false
-no_sixth_test c ds n true h t =
-    absurd (no_second_sixth c ds n h ((bytes_eq-Decides (str_to_ascii_lowercase (c ∷ ds)) (codes "k6b")).0 t))
-no_sixth_test c ds n false h t = refl
+no_sixth_test : (c : ℕ) (ds : List ℕ) (n : ℕ) → IsNumeral 2 ds n
+    → str_eq_ignore_ascii_case (c ∷ ds) (codes "K6B") ≡ false
+no_sixth_test c ds n h =
+    let tells = bytes_eq-Decides (str_to_ascii_lowercase (c ∷ ds)) (codes "k6b") in
+    false_from_ne_true _ (λ t. no_second_sixth c ds n h (tells.0 t))
 
 name_take : (text : List ℕ) (name : RomanName) → IsNameText text name → name_at text ≡ Some name
 unfolding name_at counted_at
 name_take _ _ (of_kalends {c = c} {n = n} {text = ds} e h) =
-    rw (no_sixth_test c ds n _ h refl, e, count_take ds n h) refl
+    rw (no_sixth_test c ds n h, e, count_take ds n h) refl
 name_take _ _ (of_nones {c = c} {n = n} {text = ds} e h) = grind (arith, count_take ds n h)
 name_take _ _ (of_ides {c = c} {n = n} {text = ds} e h) = grind (arith, count_take ds n h)
 name_take _ _ (of_second_sixth {text = text} e) = rw e refl

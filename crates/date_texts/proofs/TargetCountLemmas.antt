@@ -36,11 +36,7 @@ rank_below t = omega arith
 
 below : (ts : List Target) (q : ℕ) → list_any (eqb q) (map rank_of ts) ≡ true → q < MAX_TARGETS
 below [] q e = cc
-below (t ∷ ts) q e =
-    elim (eqb_tells q (rank_of t)) [
-      | inl same ↦ rw same.1 (rank_below t)
-      | inr other ↦ below ts q (rw other.0 at e)
-    ]
+below (t ∷ ts) q e = grind (arith, eqb_tells q (rank_of t), rank_below t, below ts q)
 
 apart : (ts : List Target) → ((i j : ℕ) → i < j → j < length ts → slice_get ts i ≢ slice_get ts j)
     → (i j d : ℕ) → i < j → j < length (map rank_of ts) → eqb (get_or (map rank_of ts) i d)

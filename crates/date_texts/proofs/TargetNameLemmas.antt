@@ -1,10 +1,10 @@
 -- A text names one target at most, and one calendar.
-use Rattle.std.proofs.Common.{◌≡◌, ◌↔◌, ℕ, List, [], ◌∷◌, Bool, true, false, cond, IsTrue, Option, Some, None, refl}
-use Rattle.std.proofs.Common.{sym, ap, ◌∙◌}
+use Rattle.std.proofs.Common.{◌≡◌, ◌↔◌, ℕ, List, [], ◌∷◌, Bool, true, IsTrue, Option, Some, None, refl}
+use Rattle.std.proofs.Common.{sym, ap, ◌∙◌, arith}
 use Rattle.std.specs.Prelude.{find}
 use Rattle.std.specs.Str.{bytes_eq, str_to_ascii_lowercase}
 use Rattle.std.proofs.lemmas.Slice.Eq.{bytes_eq-Decides}
-use Rattle.std.proofs.lemmas.Bool.Decides.{same_from_decides}
+use Rattle.std.proofs.lemmas.Bool.Decides.{nat_tests, same_from_decides}
 use Rattle.date_texts.specs.declared.calendar.Calendar.{Calendar}
 use Rattle.date_texts.specs.declared.calendar.Calendar.TheVariants.{Gregorian}
 use Rattle.date_texts.specs.declared.target.Target.{Target}
@@ -25,14 +25,9 @@ pub finds_own : (t : Target) → target_by_name (target_name t) ≡ Some t
 finds_own (Date Gregorian) = refl
 finds_own t = refl
 
-found_passes_by : {X : Type 0} (test : X → Bool) (x y : X) (xs : List X) (b : Bool) → test x ≡ b
-    → cond b (Some x) (find test xs) ≡ Some y → ((find test xs ≡ Some y) → test y ≡ true) → test y ≡ true
-found_passes_by test x y xs true p e h = ap test (sym (some_inside e)) ∙ p
-found_passes_by test x y xs false p e h = h e
-
 found_passes : {X : Type 0} (test : X → Bool) (y : X) (xs : List X) → find test xs ≡ Some y → test y ≡ true
 found_passes test y [] e = absurd (cc)
-found_passes test y (x ∷ xs) e = found_passes_by test x y xs (test x) refl e (found_passes test y xs)
+found_passes test y (x ∷ xs) e = grind (arith, nat_tests, some_inside, found_passes test y xs)
 
 pub target_found : (name : List ℕ) (t : Target) → (target_by_name name ≡ Some t) ↔ (name ≡ target_name t)
 target_found name t = (

@@ -11,7 +11,7 @@ use Rattle.date_texts.specs.Buffers.{IsPut}
 -- one piece behind another
 pub put_then : {a b c : List ℕ} {at i j : ℕ} {x y : List ℕ} → IsPut a b at i x → IsPut b c i j y
     → IsPut a c at j (x ++ y)
-put_then {a = a} {at = at} {x = x} {y = y} h g = grind (arith, length-append, append_assoc, take)
+put_then {a = a} {at = at} {x = x} {y = y} h g = grind (arith, length-append, append_assoc)
 
 -- the same piece, said in another way
 pub put_same : {a b : List ℕ} {at i : ℕ} {x y : List ℕ} → x ≡ y → IsPut a b at i x → IsPut a b at i y

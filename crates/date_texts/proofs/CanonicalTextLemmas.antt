@@ -1,7 +1,6 @@
 -- Canonical texts: they are in the grammar, they are of digits, letters, dashes and dots, and they are short.
 use Rattle.std.proofs.Common.{◌≡◌, ℕ, ◌+◌, ◌≤◌, Bool, true, false, List, [], ◌∷◌, ◌++◌, length, IsTrue, ℤ, refl, arith}
-use Rattle.std.proofs.Common.{length-append, ◌||◌, ◌==◌}
-use Rattle.std.specs.Prelude.{reverse, map}
+use Rattle.std.proofs.Common.{length-append, ◌||◌, ◌==◌, reverse, map}
 use Rattle.std.specs.Char.{is_ascii_alphanumeric, is_ascii_digit}
 use Rattle.std.specs.Fmt.{decimal}
 use Rattle.std.specs.List.{list_all}

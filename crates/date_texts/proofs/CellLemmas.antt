@@ -1,7 +1,6 @@
 -- A target and a day have one cell.
-use Rattle.std.proofs.Common.{◌≡◌, ◌≤◌, ℕ, Bool, IsTrue, List, [], Option, Some, None, ℤ, refl, sym, subst}
-use Rattle.std.proofs.Common.{ap, ◌∙◌, arith}
-use Rattle.std.specs.Prelude.{IfSome, IsSome}
+use Rattle.std.proofs.Common.{◌≡◌, ◌≤◌, ℕ, Bool, IsTrue, List, [], Option, Some, None, ℤ, refl, sym, subst, ap, ◌∙◌}
+use Rattle.std.proofs.Common.{arith, IfSome, IsSome}
 use Rattle.std.specs.List.{list_all}
 use Rattle.day_numbers.specs.declared.ymd.Ymd.{Ymd}
 use Rattle.day_numbers.specs.Days.{IsSinceFirstDay}

@@ -1,7 +1,6 @@
 -- The bytes and the lengths of cells.
 use Rattle.std.proofs.Common.{ℕ, zero, suc, ◌+◌, ◌-◌, ◌≤◌, ◌<◌, ◌≡◌, ◌&&◌, List, [], ◌∷◌, Bool, true, IsTrue, ℤ, refl}
-use Rattle.std.proofs.Common.{arith, length, length-append}
-use Rattle.std.specs.Prelude.{IsAscii, nat_le}
+use Rattle.std.proofs.Common.{arith, length, length-append, IsAscii, nat_le}
 use Rattle.std.specs.Fmt.{decimal}
 use Rattle.std.specs.List.{list_all}
 use Rattle.std.proofs.lemmas.Bool.{and_parts}

@@ -1,11 +1,10 @@
 -- Reading finds the civil dates and week dates that the grammar relates to a text, and nothing else.
-use Rattle.std.proofs.Common.{◌≡◌, ℕ, List, [], ◌∷◌, ◌++◌, refl, subst, ap, ◌∙◌}
-use Rattle.std.proofs.Common.{◌≤◌, arith, Some, ℤ, ◌⊎◌, inl, inr}
+use Rattle.std.proofs.Common.{◌≡◌, ℕ, List, [], ◌∷◌, ◌++◌, refl, subst, ap, ◌∙◌, ◌≤◌, arith, Some, ℤ, ◌⊎◌, inl, inr}
+use Rattle.std.proofs.lemmas.Bool.Decides.{nat_tests}
 use Rattle.date_texts.specs.declared.grammar.Grammar.{Grammar}
 use Rattle.date_texts.specs.declared.grammar.Grammar.TheVariants.{Civil, Week}
 use Rattle.date_texts.specs.CivilText.{IsMonthText, of_month, capital_week, small_week, IsCivilText}
 use Rattle.date_texts.specs.CivilReading.{after_week_letter, after_mark, month_at, civil_at}
-use Rattle.std.proofs.lemmas.Bool.Decides.{nat_tests}
 use Rattle.date_texts.proofs.ReadingLemmas.{NoDigitFirst, Reads, bind_some, some_inside, numbers, years}
 use Rattle.date_texts.proofs.ReadingLemmas.{numeral_below, part_found, part_taken, last_found, last_taken}
 

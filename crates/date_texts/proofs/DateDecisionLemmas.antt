@@ -1,8 +1,7 @@
 -- What can be decided of dates: whether a calendar has a date, which date a text says, and which cell a day has. The
 -- dates that a `Date` holds are finitely many, so what can be decided of each of them can be decided of all.
 use Rattle.std.proofs.Common.{◌≡◌, inl, inr, ℕ, zero, suc, ◌+◌, ◌-◌, ◌<◌, ◌≤◌, min, List, [], Option, None, Some, refl}
-use Rattle.std.proofs.Common.{sym}
-use Rattle.std.proofs.Common.{subst, ap, arith, rules, ℤ, pos, negsuc, ◌-ℤ◌, ◌↔◌}
+use Rattle.std.proofs.Common.{sym, subst, ap, arith, rules, ℤ, pos, negsuc, ◌-ℤ◌, ◌↔◌}
 use Rattle.std.specs.Str.{str_to_ascii_lowercase}
 use Rattle.day_numbers.specs.Dates.{IsYear}
 use Rattle.day_numbers.specs.Rules.{Years, from_one, without_zero, HasYear}

@@ -1,7 +1,6 @@
 -- How many targets there are at most, where none is named twice.
-use Rattle.std.proofs.Common.{◌≡◌, ◌≢◌, ◌<◌, ℕ, List, [], ◌∷◌, sym, ap, ◌∙◌, arith, inl, inr, length, map}
-use Rattle.std.proofs.Common.{get_or, Some, false, true, eqb}
-use Rattle.std.specs.Prelude.{slice_get}
+use Rattle.std.proofs.Common.{◌≡◌, ◌≢◌, ◌<◌, ℕ, List, [], ◌∷◌, sym, ap, ◌∙◌, arith, inl, inr, length, map, get_or, Some}
+use Rattle.std.proofs.Common.{false, true, eqb, slice_get}
 use Rattle.std.specs.List.{list_any, position_or_len}
 use Rattle.std.proofs.lemmas.List.Folds.{find_at}
 use Rattle.std.proofs.lemmas.Bool.Decides.{eqb_tells}

@@ -1,5 +1,5 @@
 -- Digits two at a time.
-use Rattle.std.proofs.Common.{◌≡◌, ℕ, ◌+◌, ◌<◌, ◌≤◌, ◌%◌, ◌/◌, ◌∷◌, ◌++◌, length, replicate}
+use Rattle.std.proofs.Common.{◌≡◌, ℕ, ◌+◌, ◌<◌, ◌≤◌, ◌%◌, ◌/◌, ◌∷◌, ◌++◌, length}
 use Rattle.std.proofs.Common.{arith, append_assoc, length-append, eq-zero-or-pos}
 use Rattle.std.specs.Fmt.{decimal}
 use Rattle.std.proofs.lemmas.Fmt.{decimal_digit}
@@ -26,9 +26,7 @@ year_by_pairs n h = grind (
   small_year,
   decimal_pair,
   length_pair,
-  replicate,
   append_assoc,
-  pair,
   two_digits,
 )
 

@@ -1,6 +1,5 @@
 -- Reading civil dates and week dates from left to right. No public contract cites this file.
-use Rattle.std.specs.Prelude.{ℕ, List, [], ◌∷◌, Option, Some, None, ℤ, ◌==◌}
-use Rattle.std.specs.Prelude.{if◌then◌else◌}
+use Rattle.std.specs.Prelude.{ℕ, List, [], ◌∷◌, Option, Some, None, ℤ, ◌==◌, if◌then◌else◌}
 use Rattle.date_texts.specs.declared.grammar.Grammar.{Grammar}
 use Rattle.date_texts.specs.declared.grammar.Grammar.TheVariants as grammars
 use Rattle.date_texts.specs.Reading.{number_at, ◌>>=◌, part_at, year_at, all_read}

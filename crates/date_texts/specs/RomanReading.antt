@@ -1,6 +1,5 @@
 -- Reading Roman dates from left to right. No public contract cites this file.
-use Rattle.std.specs.Prelude.{ℕ, List, [], ◌∷◌, Option, Some, None, ℤ, ◌==◌}
-use Rattle.std.specs.Prelude.{if◌then◌else◌, codes}
+use Rattle.std.specs.Prelude.{ℕ, List, [], ◌∷◌, Option, Some, None, ℤ, ◌==◌, if◌then◌else◌, codes}
 use Rattle.std.specs.Char.{to_ascii_lowercase}
 use Rattle.std.specs.Str.{str_eq_ignore_ascii_case}
 use Rattle.solar_calendars.specs.declared.roman_date.RomanName.{RomanName}

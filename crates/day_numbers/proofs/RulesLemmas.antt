@@ -260,7 +260,7 @@ unfolding start_of_year
 day_from_one e b n months years days place m d sum placed p q =
     let next : years + 1 ≡ suc years = omega arith in
     let before = rw next at placed in
-    omega (arith, signed_arith, sum, before, p, q)
+    omega (arith, signed_arith, before, p, q)
 
 pub year_from_one : (y : ℤ) → HasYear from_one y → pos 1 ≤ℤ y
 year_from_one (pos (suc n)) h = omega (arith, signed_arith)

@@ -1,10 +1,9 @@
 -- Where the months of a Hebrew year begin, and which one a place in the year lies in.
 use Rattle.std.proofs.Common.{◌≡◌, ℕ, zero, suc, ◌+◌, ◌-◌, ◌*◌, ◌/◌, ◌<◌, ◌≤◌, Bool, true, false, List, [], ◌∷◌, length}
-use Rattle.std.proofs.Common.{IsTrue, refl, ap, arith, add-one, ◌⊎◌, inl, inr, take, get_or, cond, leb}
-use Rattle.std.specs.Prelude.{slice_index}
-use mir.Val.{bool_byte}
+use Rattle.std.proofs.Common.{IsTrue, refl, ap, arith, add-one, ◌⊎◌, inl, inr, take, get_or, cond, leb, slice_index}
 use Rattle.std.proofs.lemmas.Bool.{cases_lt}
 use Rattle.std.proofs.lemmas.Bool.Decides.{nat_tests}
+use mir.Val.{bool_byte}
 use Rattle.day_numbers.specs.declared.rules.Month.{Month}
 use Rattle.day_numbers.specs.Rules.{total_days, days_of_month, days_before_month, has_number}
 use Rattle.day_numbers.specs.Rules.{are_months}

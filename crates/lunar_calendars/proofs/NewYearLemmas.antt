@@ -41,7 +41,7 @@ next_allowed_after d = rw (weekday_after d) (chosen (is_closed d) _ _ _ _ (later
 pub postponed_after : (leap after_leap : Bool) (d t : ℕ)
     → postponed leap after_leap (epoch +ℤ pos d) t ≡ epoch +ℤ pos (opening leap after_leap d t)
 postponed_after leap after_leap d t =
-    grind (arith, signed_arith, cond, nat_le, chosen, later, weekday_after, falls_on_place, next_allowed_after)
+    grind (arith, signed_arith, nat_le, chosen, later, weekday_after, falls_on_place, next_allowed_after)
 
 -- the same by the days after the Monday of its week, from the parts between noon of the Saturday before and the molad
 abbrev pub days_from_monday : Bool → Bool → ℕ → ℕ

@@ -1,10 +1,9 @@
 -- The lengths of Hebrew years.
-use Rattle.std.proofs.Common.{◌≡◌, ℕ, zero, suc, ◌+◌, ◌-◌, ◌*◌, ◌/◌, ◌%◌, ◌≤◌, ◌<◌, Bool, true, false}
-use Rattle.std.proofs.Common.{if◌then◌else◌, leb}
-use Rattle.std.proofs.Common.{refl, sym, ap, ◌∙◌, arith, ℤ, pos, ◌+ℤ◌, ◌-ℤ◌, ◌<ℤ◌, ◌≤ℤ◌, unsigned_abs, ◌⊎◌, inl, inr}
-use Rattle.std.specs.Prelude.{Contains}
-use mir.Val.{bool_byte}
+use Rattle.std.proofs.Common.{◌≡◌, ℕ, zero, suc, ◌+◌, ◌-◌, ◌*◌, ◌/◌, ◌%◌, ◌≤◌, ◌<◌, Bool, true, false, if◌then◌else◌}
+use Rattle.std.proofs.Common.{leb, refl, sym, ap, ◌∙◌, arith, ℤ, pos, ◌+ℤ◌, ◌-ℤ◌, ◌<ℤ◌, ◌≤ℤ◌, unsigned_abs, ◌⊎◌, inl}
+use Rattle.std.proofs.Common.{inr, Contains}
 use Rattle.std.proofs.lemmas.Bool.Decides.{nat_tests}
+use mir.Val.{bool_byte}
 use Rattle.day_numbers.specs.Rules.{total_days, days_of_years, start_of_year, year_start, days_before_month}
 use Rattle.day_numbers.specs.Rules.{day_number_of}
 use Rattle.day_numbers.proofs.RulesLemmas.{years_zero, years_suc}
@@ -94,7 +93,7 @@ pub day_at : (year day place m d : ℕ) (n : ℤ) → 1 ≤ year → epoch +ℤ 
     → days_before_month (months_of_year year) m + d ≡ place + 1 → n ≡ epoch +ℤ pos (day + place)
     → day_number_of hebrew_rules (pos year) m d ≡ n
 day_at year day place m d n low opens sum e =
-    omega (arith, signed_arith, year_start_is year low, opens, sum, e)
+    omega (arith, signed_arith, year_start_is year low, opens, e)
 
 end_by : (x y : ℤ) (m n days : ℕ) → y ≡ epoch +ℤ pos n → x ≡ epoch +ℤ pos m → m + days ≡ n → y ≡ x +ℤ pos days
 end_by x y m n days p q h = omega (arith, signed_arith, p, q, h)

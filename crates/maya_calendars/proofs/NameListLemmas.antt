@@ -1,6 +1,5 @@
 -- The lists of the months of the haab and of the names of the tzolkin have each once, in the order of their variants.
-use Rattle.std.specs.Prelude.{◌∷◌, codes}
-use Rattle.std.proofs.Common.{◌≡◌, ℕ, ◌+◌, ◌-◌, ◌≤◌, refl, arith, List, [], get_or}
+use Rattle.std.proofs.Common.{◌∷◌, codes, ◌≡◌, ℕ, ◌+◌, ◌-◌, ◌≤◌, refl, arith, List, [], get_or}
 use Rattle.std.proofs.lemmas.Bool.Decides.{nat_tests}
 use Rattle.day_numbers.specs.Numbered.{IsNumbered, name_of_number, words}
 use Rattle.day_numbers.proofs.NameLemmas.{named_by_tag}

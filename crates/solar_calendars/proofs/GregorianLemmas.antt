@@ -66,8 +66,8 @@ pub in_years : (y n : ℤ) (days years place : ℕ) → y ≡ pos years -ℤ pos
 in_years y n days years place e f sum inside =
     let start = gregorian_start y (any_year y) in
     let next = gregorian_start (y +ℤ pos 1) (any_year (y +ℤ pos 1)) in (
-      omega (arith, signed_arith, start, e, f, sum),
-      omega (arith, signed_arith, start, next, january y, length_is y, e, sum, inside),
+      omega (arith, signed_arith, start, e, f),
+      omega (arith, signed_arith, start, next, january y, length_is y, e, inside),
     )
 
 -- jiff's leap years are the rules'

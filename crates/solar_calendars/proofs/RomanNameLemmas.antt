@@ -1,8 +1,7 @@
 -- Each valid Roman date is the name of one Julian date, and each Julian date has one.
-use Rattle.std.proofs.Common.{inl, inr, ◌≡◌, ℕ, zero, suc, ◌+◌, ◌-◌, ◌<◌, ◌≤◌, Bool, true, false, refl, sym, subst}
-use Rattle.std.proofs.Common.{ap, ◌∙◌, arith, ℤ, pos, negsuc, ◌+ℤ◌, ◌-ℤ◌}
-use Rattle.std.specs.Prelude.{◌==◌, ◌&&◌}
-use Rattle.std.proofs.lemmas.Bool.{cases_eq, cases_lt, ne_eqb, le-leb, lt-leb}
+use Rattle.std.proofs.Common.{inl, inr, ◌≡◌, ℕ, zero, suc, ◌+◌, ◌-◌, ◌<◌, ◌≤◌, Bool, true, false, refl, sym, subst, ap}
+use Rattle.std.proofs.Common.{◌∙◌, arith, ℤ, pos, negsuc, ◌+ℤ◌, ◌-ℤ◌, ◌==◌, ◌&&◌, ne_eqb, le-leb}
+use Rattle.std.proofs.lemmas.Bool.{cases_eq, cases_lt, lt-leb}
 use Rattle.std.proofs.lemmas.Bool.Decides.{nat_tests}
 use Rattle.day_numbers.specs.Rules.{without_zero, HasYear, IsDateOf, day_number_of}
 use Rattle.day_numbers.proofs.RulesLemmas.{next_year, date_unique}
@@ -180,13 +179,13 @@ named_is y m d h a b one long =
           let before : prior_ides nm ≡ day_of_ides m = rw x.2 refl in
           let name = name_after (has_two_sixths ny nm) (prior_length ny nm) d in
           let w = after_placed (has_two_sixths ny nm) (day_of_ides nm) (prior_length ny nm) (prior_ides nm) d
-          (sixths_length ny nm) (omega (arith, before)) (omega (arith, length)) in
+          (sixths_length ny nm) (omega (arith, before)) (omega arith) in
           let v = (placed ny nm name x.0.0 x.0.1 x.0.2).1 w.0 in
           let n = number ny nm name w.0 in
           let e = after_ides y ny m nm d (has_two_sixths ny nm) name more refl refl two
           (ap (λ (z : ℕ). name_after (has_two_sixths ny nm) z d) (sym length)) in
           subst (NamesDay (day_number_of julian_rules y m d)) (sym e)
-          (v, omega (arith, signed_arith, n, w.1, starts, length))
+          (v, omega (arith, signed_arith, n, w.1, starts))
       | inr less ↦
           let name = name_within (day_of_ides m) d in
           let small = small_prior y m h a b in

@@ -1,5 +1,4 @@
-use Rattle.std.proofs.Common.{arith}
-use Rattle.std.specs.Prelude.{slice_index}
+use Rattle.std.proofs.Common.{arith, slice_index}
 use Rattle.lunar_calendars.specs.Hebrew.{months_by_length}
 use Rattle.lunar_calendars.proofs.MonthStartLemmas.{IsPlacedIn, month_of, index_of, placed_by}
 use Rattle.lunar_calendars.proofs.YearLengthLemmas.{total_by}

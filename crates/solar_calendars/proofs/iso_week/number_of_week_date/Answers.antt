@@ -1,4 +1,4 @@
-use Rattle.std.proofs.Common.{◌≡◌, ◌+ℤ◌, pos, rules, to_z-of_z, FitsSigned, w32, w64}
+use Rattle.std.proofs.Common.{◌≡◌, ◌+ℤ◌, pos, rules, to_z-of_z, FitsSigned, w64}
 use Rattle.solar_calendars.specs.IsoWeek.{week_day_number, week_year_start}
 use Rattle.solar_calendars.proofs.iso_week.number_of_week_date.Goals as goal
 use Rattle.solar_calendars.proofs.iso_week.number_of_week_date.Goals.{After-first_of_week_year}
@@ -11,7 +11,7 @@ record Found (c : After-first_of_week_year) : Type 0 where
   end : c.first_of_week_year.result ≡ week_year_start (c.args.date.year +ℤ pos 1)
 
 found : (c : After-first_of_week_year) → Found c
-found c = search (rules, w32, w64, pos, to_z-of_z)
+found c = search (rules, to_z-of_z)
 
 pub returns-then-number-first_of_week_year-clause-valid : goal.returns-then-number-first_of_week_year-clause-valid
 returns-then-number-first_of_week_year-clause-valid c = search (rules, found)

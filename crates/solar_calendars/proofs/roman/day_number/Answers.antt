@@ -22,7 +22,7 @@ overflow_add-result c =
     )
 
 pub returns-in-Some-clause-valid : goal.returns-in-Some-clause-valid
-returns-in-Some-clause-valid c = search (rules, w32, to_z-of_z, placed)
+returns-in-Some-clause-valid c = search (rules, to_z-of_z, placed)
 
 pub returns-in-Some-clause-value : goal.returns-in-Some-clause-value
 returns-in-Some-clause-value c =
@@ -43,4 +43,4 @@ returns-in-Some-clause-value c =
     )
 
 pub returns-in-None-clause-valid : goal.returns-in-None-clause-valid
-returns-in-None-clause-valid c = search (rules, w32, to_z-of_z, placed)
+returns-in-None-clause-valid c = search (rules, to_z-of_z, placed)

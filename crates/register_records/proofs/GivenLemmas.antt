@@ -1,10 +1,9 @@
 -- What a step of a reader of entries does to those that it gave.
-use Rattle.std.proofs.Common.{◌≡◌, ◌<◌, ◌≤◌, ◌+◌, ◌++◌, ℕ, List, [], ◌∷◌, length, Option, Some, None, true, rules}
-use Rattle.std.proofs.Common.{refl, sym, ap, ◌∙◌, arith, append_assoc}
-use Rattle.std.specs.Prelude.{IfSome, nat_lt, option_map}
+use Rattle.std.proofs.Common.{◌≡◌, ◌<◌, ◌≤◌, ◌+◌, ◌++◌, ℕ, List, [], ◌∷◌, length, Option, Some, None, true, rules, refl}
+use Rattle.std.proofs.Common.{sym, ap, ◌∙◌, arith, append_assoc, IfSome, nat_lt, option_map, append-nil, length-append}
 use Rattle.std.proofs.Math.Logic.{∥∥₁_map}
 use Rattle.std.proofs.lemmas.Bool.Decides.{nat_tests}
-use Rattle.std.proofs.lemmas.List.{append-nil, append_cancel_left, length-append}
+use Rattle.std.proofs.lemmas.List.{append_cancel_left}
 use Rattle.register_records.specs.Headers.{IsHeader}
 use Rattle.register_records.specs.Entries.{Fields, Format, HasAllEntries, HasEntries, HasFirstEntries, HasRecords}
 use Rattle.register_records.specs.Entries.{HasTooMany, IsNotSealed, Numbered, body_of, entries_from}
@@ -179,13 +178,13 @@ module _ (format : Format) where
   too_many : (text : Option (List ℕ)) {left : Option (List Fields)} {given : List Numbered}
       → HasRead format text states.Open left given → IfSome left (HasEntry form) → length given ≡ record_limit
       → IfSome text (λ t. HasTooMany format t)
-  too_many text s some e = search (rules, form, length-append)
+  too_many text s some e = search (rules, length-append)
 
   not_sealed : (text : Option (List ℕ)) {left : Option (List Fields)} {given : List Numbered}
       → HasRead format text states.Open left given → IfSome left (LacksSeal form (length given))
       → length given ≤ record_limit → IfSome text (λ t. IsNotSealed format t)
   not_sealed None s lacks h = tt
-  not_sealed (Some text) {given = given} s lacks h = search (rules, form, past_records, ends_so)
+  not_sealed (Some text) {given = given} s lacks h = search (rules, past_records, ends_so)
 
 abbrev pub MayHaveRead : Option (List ℕ) → Format → ReaderState → Option (List Fields) → List Numbered → Type 0
 MayHaveRead o format state left given = ∥ HasRead format o state left given ∥₁

@@ -1,6 +1,5 @@
 -- The byte order mark at the start of a text.
-use Rattle.std.proofs.Common.{◌≡◌, ◌≤◌, ℕ, List, length, drop, get_or, false, arith, ◌==◌}
-use Rattle.std.proofs.Common.{◌&&◌}
+use Rattle.std.proofs.Common.{◌≡◌, ◌≤◌, ℕ, List, length, drop, get_or, false, arith, ◌==◌, ◌&&◌}
 use Rattle.csv.specs.Reading.{strip_bom}
 
 -- a byte order mark goes

@@ -1,20 +1,18 @@
 -- The fields of a line, while they are appended.
 use Rattle.std.proofs.Common.{◌≡◌, ◌<◌, ◌≤◌, ◌+◌, ◌^◌, ◌%◌, ◌++◌, ℕ, List, [], ◌∷◌, true, false, refl, sym, ap, ◌∙◌}
 use Rattle.std.proofs.Common.{rules, arith, append_assoc, append-nil, length, length-append, length-set, map, set, take}
-use Rattle.std.proofs.Common.{drop, get_or}
-use Rattle.std.specs.Prelude.{ℤ}
+use Rattle.std.proofs.Common.{drop, get_or, ℤ, length-take-le, take_all}
 use Rattle.std.specs.Fmt.{decimal, signed_decimal}
 use Rattle.std.proofs.lemmas.Int.{ints}
 use Rattle.std.proofs.lemmas.Bool.{and_parts}
 use Rattle.std.proofs.lemmas.Bool.Decides.{nat_tests}
 use Rattle.std.proofs.lemmas.Fmt.{decimal_by_steps}
-use Rattle.std.proofs.lemmas.List.{at_drop_more, flat_map_more, length-take-le, map-append, take_all, take_more}
-use Rattle.std.proofs.lemmas.List.{take_more_set, take-append-le}
+use Rattle.std.proofs.lemmas.List.{at_drop_more, flat_map_more, map-append, take_more, take_more_set, take-append-le}
 use Rattle.std.proofs.lemmas.Simd.{map-map}
 use Rattle.std.proofs.Math.Seq.{take-append-add}
-use borrow.Rule.Slice.PartMut.{put_mid}
 use Rattle.std.proofs.lemmas.List.Folds.{list_any-append}
 use Rattle.std.specs.List.{flat_map, list_all}
+use borrow.Rule.Slice.PartMut.{put_mid}
 use Rattle.csv.specs.Writing.{field_text, fields_text, is_blank, needs_byte, needs_quotes, row_body}
 use Rattle.csv.proofs.WriteFacts.{fields-snoc}
 use Rattle.day_numbers.specs.Days.{IsDayNumber}
@@ -108,7 +106,7 @@ more_fields d before fields more old new some is n = search (rules, more_fields_
 -- bytes that are written at a place: what lies before, and they
 pub put_there : (room bytes : List ℕ) (at k : ℕ) → at ≤ length room
     → take (at + length bytes) (put_mid at k room bytes) ≡ take at room ++ bytes
-put_there room bytes at k le = search (rules, take, length-take-le, put_mid, take-append-add, take-append-le, take_all)
+put_there room bytes at k le = search (rules, length-take-le, put_mid, take-append-add, take-append-le, take_all)
 
 -- a byte is set in a list, and others are written from the place after it: what lies before, the byte, and some of them
 pub put_after : (room places : List ℕ) (at d k count : ℕ) → at < length room → count ≤ length places
@@ -203,7 +201,7 @@ two_of fields rest a b = rw (length-append fields (a ∷ b ∷ rest)) (omega ari
 in_parts : {X : Type 0} (f : Column → X) (form : Form) (ts : List Target)
     → map f (columns (laid_out form ts))
     ≡ map (λ c. f (entry_column c)) (entry_order form) ++ flat_map (λ c. map f (tail_column ts c)) tail_order
-in_parts f form ts = search (rules, map-append, map, map-map, map_of_all)
+in_parts f form ts = search (rules, map-append, map-map, map_of_all)
 
 pub name_columns : (place : ℕ) (ts : List Target)
     → map (λ (c : Column). c.name) (cell_columns place ts) ≡ map target_name ts

@@ -1,9 +1,8 @@
 -- A text has one fate: each test that decides it is decided by the text.
 use Rattle.std.proofs.Common.{inl, inr, ◌≡◌, ◌≤◌, ◌<◌, ◌++◌, ℕ, List, [], ◌∷◌, length, Bool, true, false, refl, rules}
+use Rattle.std.proofs.Common.{sym, ap, ◌∙◌, arith, subst, Option, None, Some, codes, if◌then◌else◌, IsSomeAnd}
+use Rattle.std.proofs.Common.{IsTrue}
 use Rattle.std.proofs.lemmas.List.{append_cancel_left}
-use Rattle.std.proofs.Common.{sym}
-use Rattle.std.proofs.Common.{ap, ◌∙◌, arith, subst, Option, None, Some, codes, fold}
-use Rattle.std.specs.Prelude.{if◌then◌else◌, IsSomeAnd, IsTrue}
 use Rattle.csv.specs.Reading.{strip_bom}
 use Rattle.date_texts.specs.Names.{IsNamed}
 use Rattle.date_texts.specs.Numerals.{IsNumeral}
@@ -27,14 +26,14 @@ is_header_of : (form : Form) (texts : Option Texts) → Is (IsSomeAnd texts (λ 
     × IsNamed t.calendar (codes "calendar") × IsNamed t.date (codes "date")
     × (form ≡ Sealed → IsNamed t.note (codes "note"))))
 is_header_of form None = inr (λ h. h)
-is_header_of form (Some t) = search (rules, all_four, is_named, codes, is_noted)
+is_header_of form (Some t) = search (rules, all_four, is_named, is_noted)
 
 is_header : (form : Form) (first : Fields) → Is (IsHeader form first)
 is_header form first = is_header_of form (texts_of form first)
 
 -- whether a seal agrees with a number
 is_numeral : (text : List ℕ) (n : ℕ) → Is (IsNumeral 7 text n)
-is_numeral text n = search (rules, both, is_at_most, is_true, is_number, fold)
+is_numeral text n = search (rules, both, is_at_most, is_true, is_number)
 
 agrees : (seal : Fields) (n : ℕ) → Is (Agrees seal n)
 agrees (a ∷ b ∷ []) n = is_numeral (trimmed b) n

@@ -1,6 +1,7 @@
 -- A text has one table at most.
-use Rattle.std.proofs.Common.{◌≡◌, ℕ, List, refl, subst, sym, ◌∙◌, rules}
-use Rattle.std.specs.Prelude.{ℤ, Result}
+use Rattle.std.proofs.Common.{◌≡◌, ℕ, List, refl, subst, sym, ◌∙◌, rules, ℤ, Result}
+use Rattle.std.proofs.Math.Logic.{∥∥₁_elim}
+use Rattle.std.proofs.Props.{props}
 use Rattle.day_numbers.specs.Days.{IsDayNumber}
 use Rattle.date_texts.specs.Calendars.{calendar_name}
 use Rattle.date_texts.specs.Dates.{IsDateOfCalendar, day_number_of_date}
@@ -15,8 +16,6 @@ use Rattle.date_texts.specs.declared.target.Target.{Target}
 use Rattle.date_texts.specs.declared.date.Date.{Date}
 use Rattle.date_texts.specs.declared.refusal.Refusal.{Refusal}
 use Rattle.date_texts.specs.Laws.{OneCalendar, OneCell, OneDateText}
-use Rattle.std.proofs.Math.Logic.{∥∥₁_elim}
-use Rattle.std.proofs.Props.{props}
 use Rattle.register_records.proofs.EveryTableLemmas.{has_outcome}
 use Rattle.register_records.proofs.RowTailLemmas.{one_beside, one_cells}
 

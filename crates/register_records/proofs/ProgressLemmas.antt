@@ -1,11 +1,11 @@
 -- How far the table of a source has come.
 use Rattle.std.proofs.Common.{◌≡◌, ◌+◌, ◌++◌, ℕ, List, [], ◌∷◌, length, map, Option, refl, sym, ap, ◌∙◌, arith, rules}
-use Rattle.std.proofs.Common.{append_assoc, inl, inr}
+use Rattle.std.proofs.Common.{append_assoc, inl, inr, append-nil, length-append}
 use Rattle.std.specs.Io.KnownBytes.{Appends}
 use Rattle.std.specs.List.{range_with_len}
 use Rattle.std.proofs.KnownBytes.{Appends-trans}
 use Rattle.std.proofs.Math.Logic.{∥∥₁_map}
-use Rattle.std.proofs.lemmas.List.{append-nil, length-append}
+use Rattle.std.proofs.lemmas.Slice.Zip.{all_zipped_more}
 use Rattle.register_records.specs.Causes.{entry_fault_cause, row_fault_cause}
 use Rattle.register_records.specs.Conversions.{Progress}
 use Rattle.register_records.specs.Entries.{Format, HasAllEntries, HasEntries, HasFirstEntries, Numbered}
@@ -21,7 +21,6 @@ use Rattle.register_records.specs.declared.ends.Cause.TheVariants as cause
 use Rattle.register_records.specs.declared.ends.Note.{Note}
 use Rattle.register_records.specs.declared.writing.RowFault.{RowFault}
 use Rattle.register_records.specs.declared.writing.RowFault.TheVariants as row
-use Rattle.std.proofs.lemmas.Slice.Zip.{all_zipped_more}
 
 -- one more at the end
 numbered_last : (j : ℕ) (entries : List Numbered) (x : Numbered)

@@ -1,6 +1,5 @@
 -- A cell that is read gives its day again.
-use Rattle.std.proofs.Common.{sym, subst}
-use Rattle.std.specs.Prelude.{Ok}
+use Rattle.std.proofs.Common.{sym, subst, Ok}
 use Rattle.day_numbers.specs.Days.{IsDayNumber}
 use Rattle.date_texts.specs.Cells.{no_date, on_date}
 use Rattle.date_texts.specs.DateText.{IsDateText}

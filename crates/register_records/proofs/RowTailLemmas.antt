@@ -1,16 +1,15 @@
 -- The fields of a tail, while they are appended, and the cells among them.
 use Rattle.std.proofs.Common.{◌≡◌, ◌<◌, ◌≤◌, ◌+◌, ◌++◌, ℕ, List, [], ◌∷◌, true, false, refl, sym, ap, ◌∙◌, rules, arith}
 use Rattle.std.proofs.Common.{add-one, append_assoc, append-nil, drop, drop-cons, get_or, length, length-drop, map, set}
-use Rattle.std.proofs.Common.{subst, take}
+use Rattle.std.proofs.Common.{subst, take, ◌==◌, ℤ, pos, negsuc, Bool, IsTrue, nat_le, Ok, Err, Result, take_all}
+use Rattle.std.proofs.Common.{take_at}
 use Rattle.std.proofs.lemmas.Slice.Zip.{AllZip-long}
-use Rattle.std.specs.Prelude.{◌==◌, ℤ, pos, negsuc, Bool, IsTrue, nat_le, Ok, Err, Result}
 use Rattle.std.specs.Fmt.{decimal, signed_decimal}
 use Rattle.std.specs.List.{AllZip, flat_map, list_all, onto_first, position_or_len, slice_split}
 use Rattle.std.proofs.lemmas.Bool.{or_parts}
 use Rattle.std.proofs.lemmas.Bool.Decides.{nat_tests}
 use Rattle.std.proofs.lemmas.Fmt.{length-decimal-le, length_signed_le}
 use Rattle.std.proofs.lemmas.Int.{ints}
-use Rattle.std.proofs.lemmas.List.{take_all, take_at}
 use Rattle.std.proofs.lemmas.List.Splits.{length-slice_split}
 use Rattle.std.proofs.Math.Logic.{∥∥₁_elim}
 use Rattle.std.proofs.Props.{props}
@@ -169,7 +168,7 @@ day_cells n place all (t ∷ ts) (x ∷ cells) e a =
     let rest : drop (place + 1) all ≡ cells = cc (split, e) in
     let more = day_cells n (place + 1) all ts cells rest a.1 in
     cc (first, more)
-day_cells n place all ts cells e a = search (rules, length, length-drop, drop, get_or, add-one, drop-cons)
+day_cells n place all ts cells e a = search (rules, length-drop, add-one, drop-cons)
 
 nothing_at : (place : ℕ) → get_or {A = List ℕ} [] place [] ≡ []
 nothing_at place = search rules

@@ -1,7 +1,6 @@
 -- What the reads of one entry, or of the end, say of the records that were left.
 use Rattle.std.proofs.Common.{◌≡◌, ℕ, List, [], ◌∷◌, Bool, Option, Some, None, true, false, refl, sym, ◌∙◌, arith}
-use Rattle.std.proofs.Common.{rules}
-use Rattle.std.specs.Prelude.{IfSome, IfErr, IsErrAnd, Result}
+use Rattle.std.proofs.Common.{rules, IfSome, IfErr, IsErrAnd, Result}
 use Rattle.register_records.specs.Records.{Fields}
 use Rattle.register_records.specs.Seals.{Agrees, is_seal}
 use Rattle.register_records.specs.ReadingState.{Ends, HasEntry, IsNoSeal, LacksSeal, Reads, TakesFirst}

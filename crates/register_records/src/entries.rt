@@ -96,7 +96,7 @@ impl Entry {
     /// Makes this entry that of a record, where it lies: an entry is large. Returns true only where its calendar and
     /// its date are those of the entry before it.
     #[inline(always)]
-    #[tactic(auto, using(crate::proofs::BareLemmas::bare_record, crate::proofs::FieldLemmas::fit_body,))]
+    #[tactic(auto, using(crate::proofs::BareLemmas::bare_record, crate::proofs::FieldLemmas::fit_body))]
     pub(crate) fn set(&mut self, number: u32, csv_record: &ByteRecord, form: Form) -> bool
         requires from_one { 1 ≤ number }
         requires limited { number ≤ record_limit }

@@ -33,7 +33,8 @@ pub fn every_text_has_table()
     ensures { EveryTextHasTable }
 {}
 
-/// A cell of a calendar, unless it is empty, gives its day again where it stands in a record as a date of that calendar.
+/// A cell of a calendar, unless it is empty, gives its day again where it stands in a record as a date of that
+/// calendar.
 pub fn cells_read_back()
     ensures { CellsReadBack }
 {

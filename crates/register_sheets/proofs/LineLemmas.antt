@@ -1,9 +1,8 @@
 -- What csv's writer has written of a line.
-use Rattle.std.proofs.Common.{◌≡◌, ◌≢◌, ◌∙◌, ◌+◌, ◌-◌, ◌^◌, ℕ, List, [], ◌∷◌, ◌++◌, Option, Some, true}
-use Rattle.std.proofs.Common.{false, length, refl, sym, ap, arith, append_assoc, append-nil, length-append}
-use Rattle.std.specs.Prelude.{◌==◌, ◌&&◌, ◌||◌, not, min}
+use Rattle.std.proofs.Common.{◌≡◌, ◌≢◌, ◌∙◌, ◌+◌, ◌-◌, ◌^◌, ℕ, List, [], ◌∷◌, ◌++◌, Option, Some, true, false, length}
+use Rattle.std.proofs.Common.{refl, sym, ap, arith, append_assoc, append-nil, length-append, ◌==◌, ◌&&◌, ◌||◌, not, min}
+use Rattle.std.proofs.Common.{ne_eqb}
 use Rattle.std.specs.Io.KnownBytes.{Appends}
-use Rattle.std.proofs.lemmas.Bool.{ne_eqb}
 use Rattle.csv.specs.Writing.{default_writer, escaped, field_text, fields_text, fields_written, has_written, is_blank}
 use Rattle.csv.specs.Writing.{next_sep, row_body, row_text, tail_text, text_written, with_delimiter, writer_setup}
 use Rattle.csv.specs.declared.writer.QuoteStyle.TheVariants as style

@@ -1,7 +1,6 @@
 -- Records that are picked, grouped and joined, one after the other.
-use Rattle.std.proofs.Common.{◌≡◌, ◌<◌, ◌+◌, ◌∙◌, ℕ, suc, List, [], ◌∷◌, ◌++◌, take, map, length, get_or}
-use Rattle.std.proofs.Common.{sym, arith, append_assoc, append-nil}
-use Rattle.std.specs.Prelude.{max, Option, None, IsSome, IfSome}
+use Rattle.std.proofs.Common.{◌≡◌, ◌<◌, ◌+◌, ◌∙◌, ℕ, suc, List, [], ◌∷◌, ◌++◌, take, map, length, get_or, sym, arith}
+use Rattle.std.proofs.Common.{append_assoc, append-nil, max, Option, None, IsSome, IfSome}
 use Rattle.std.specs.List.{concat}
 use Rattle.std.proofs.lemmas.List.{flat_map_more, map-append, take_more}
 use Rattle.std.proofs.lemmas.List.Folds.{concat-append}

@@ -25,8 +25,8 @@ fn push_own(lines: &mut SheetLines, record: &ByteRecord, fill: usize) -> Result<
 }
 
 /// The records of a sheet, each with its own fields, empty ones behind them up to `fill` in all, and then the next
-/// `width` of the fields of these `lengths` in `bytes`, as far as they go. `delimiter` stands between two fields, of what
-/// is read and of what is written, and each line ends with a line feed.
+/// `width` of the fields of these `lengths` in `bytes`, as far as they go. `delimiter` stands between two fields, of
+/// what is read and of what is written, and each line ends with a line feed.
 ///
 /// # Errors
 ///

@@ -1,10 +1,10 @@
-use Rattle.std.proofs.Common.{rules, append_assoc, take}
+use Rattle.std.proofs.Common.{rules, append_assoc}
 use Rattle.csv.proofs.WriteFacts.{escaped-double, escaped-other}
 use Rattle.register_records.specs.LineRoom.{writing}
 use Rattle.register_records.proofs.csv_lines.put_escaped.Goals as goal
 
 pub returns-then-byte-eq-QUOTE-clause-value : goal.returns-then-byte-eq-QUOTE-clause-value
-returns-then-byte-eq-QUOTE-clause-value c = search (rules, escaped-double, append_assoc, take)
+returns-then-byte-eq-QUOTE-clause-value c = search (rules, escaped-double, append_assoc)
 
 pub returns-clause-value : goal.returns-clause-value
 returns-clause-value c =

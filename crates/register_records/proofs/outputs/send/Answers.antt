@@ -1,5 +1,4 @@
-use Rattle.std.proofs.Common.{◌≡◌, ◌≢◌, ◌∙◌, ℕ, Bool, false, arith, rules, take-add, length-drop}
-use Rattle.std.specs.Prelude.{◌==◌, ◌&&◌, ◌||◌}
+use Rattle.std.proofs.Common.{◌≡◌, ◌≢◌, ◌∙◌, ℕ, Bool, arith, rules, take-add, length-drop, ◌==◌, ◌&&◌, ◌||◌}
 use Rattle.std.proofs.lemmas.Bool.Decides.{nat_tests}
 use Rattle.std.proofs.KnownBytes.{Appends-trans}
 use Rattle.csv.proofs.WriteFacts.{slice-end}
@@ -7,7 +6,7 @@ use Rattle.register_records.proofs.outputs.send.Goals as goal
 
 -- an offer that took some did not fail
 took_some : (a : Bool) (n : ℕ) (b : Bool) → n ≢ 0 → (a || ((n == 0) && b)) ≡ a
-took_some a n b h = search (rules, false, nat_tests)
+took_some a n b h = search (rules, nat_tests)
 
 pub offers-preserved : goal.offers-preserved
 offers-preserved g c =

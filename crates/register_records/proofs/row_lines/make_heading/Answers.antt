@@ -1,14 +1,14 @@
-use Rattle.std.proofs.Common.{append-nil, map, rules, take}
+use Rattle.std.proofs.Common.{append-nil, rules}
 use Rattle.std.proofs.lemmas.List.{take_all, with_items_is}
 use Rattle.register_records.proofs.LineLemmas.{ended, heading_names, one_column, same_body, same_line}
 use Rattle.register_records.proofs.LineLemmas.{room_for_rest, some_fields}
 use Rattle.register_records.proofs.row_lines.make_heading.Goals as goal
 
 pub columns-init : goal.columns-init
-columns-init c = search (rules, same_body, append-nil, map)
+columns-init c = search (rules, same_body, append-nil)
 
 pub columns-preserved : goal.columns-preserved
-columns-preserved c = search (rules, map, take, one_column, some_fields, room_for_rest)
+columns-preserved c = search (rules, one_column, some_fields, room_for_rest)
 
 pub returns-clause-value : goal.returns-clause-value
-returns-clause-value c = search (rules, map, take, take_all, heading_names, with_items_is, same_line, ended)
+returns-clause-value c = search (rules, take_all, heading_names, with_items_is, same_line, ended)

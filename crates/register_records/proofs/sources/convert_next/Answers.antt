@@ -1,5 +1,4 @@
-use Rattle.std.proofs.Common.{◌≡◌, ◌∙◌, ℕ, List, Option, ap, false, refl, rules, subst, sym, true}
-use Rattle.std.specs.Prelude.{IfSome}
+use Rattle.std.proofs.Common.{◌≡◌, ◌∙◌, ℕ, List, Option, ap, false, refl, rules, subst, sym, true, IfSome}
 use Rattle.std.specs.Io.KnownBytes.{Appends}
 use Rattle.date_texts.specs.declared.target.Target.{Target}
 use Rattle.register_records.specs.Causes.{entry_fault_cause}

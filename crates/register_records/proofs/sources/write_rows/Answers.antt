@@ -1,5 +1,4 @@
-use Rattle.std.proofs.Common.{refl, sym, rules}
-use Rattle.std.specs.Prelude.{IfSome}
+use Rattle.std.proofs.Common.{refl, sym, rules, IfSome}
 use Rattle.register_records.specs.Entries.{HasTooMany}
 use Rattle.register_records.proofs.ProgressLemmas.{all_rows, finish, first_rows, front, start, known_of}
 use Rattle.register_records.proofs.sources.write_rows.Goals as goal

@@ -1,6 +1,5 @@
-use Rattle.std.proofs.Common.{◌≡◌, ◌∙◌, ◌-◌, ◌+◌, [], ◌∷◌, ◌++◌, suc, append_assoc, ap, arith}
-use Rattle.std.proofs.Common.{length-append, rules, true}
-use Rattle.std.specs.Prelude.{Ok}
+use Rattle.std.proofs.Common.{◌≡◌, ◌∙◌, ◌-◌, ◌+◌, [], ◌∷◌, ◌++◌, suc, append_assoc, ap, arith, length-append, rules}
+use Rattle.std.proofs.Common.{true, Ok}
 use Rattle.csv.specs.Records.{fields_of}
 use Rattle.register_sheets.proofs.picking.pick.Goals as goal
 

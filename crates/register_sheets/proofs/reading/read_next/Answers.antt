@@ -1,5 +1,4 @@
-use Rattle.std.proofs.Common.{◌≡◌, ℕ, List, Bor, true, false}
-use Rattle.std.specs.Prelude.{Some}
+use Rattle.std.proofs.Common.{◌≡◌, ℕ, List, Bor, true, false, Some}
 use Rattle.csv.specs.Records.{fields_of}
 use Rattle.register_records.proofs.EntryStepLemmas.{reads}
 use Rattle.register_sheets.proofs.SheetLemmas.{first_left, none_left}

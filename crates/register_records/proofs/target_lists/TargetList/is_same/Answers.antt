@@ -1,5 +1,4 @@
-use Rattle.std.proofs.Common.{◌≡◌, ◌≤◌, ◌*◌, ◌∙◌, ap, arith, length, length-take, rules, sym}
-use Rattle.std.proofs.lemmas.List.{take_all}
+use Rattle.std.proofs.Common.{◌≡◌, ◌≤◌, ◌*◌, ◌∙◌, ap, arith, length, length-take, rules, sym, take_all}
 use Rattle.date_texts.specs.declared.target.Target.{Target}
 use Rattle.register_records.specs.ShortLists.{items_in}
 use Rattle.register_records.specs.declared.short_lists.ShortList.{ShortList}

@@ -1,5 +1,4 @@
-use Rattle.std.proofs.Common.{◌≡◌, ◌*◌, take, true}
-use Rattle.std.specs.Prelude.{◌↔◌}
+use Rattle.std.proofs.Common.{◌≡◌, ◌*◌, take, true, ◌↔◌}
 use Rattle.register_records.specs.declared.target_lists.TheConstants.{WORD_LEN}
 use Rattle.register_records.proofs.target_lists.TargetList.is_same.Given as goal
 

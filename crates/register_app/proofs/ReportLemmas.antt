@@ -14,7 +14,7 @@ pub lines_more : (summary : Bool) (ends : List SourceEnd) (i : ℕ) (e : SourceE
     → e ≡ get_or ends i e
     → text ++ lines_from summary (i + 1) (drop i ends) ≡ all
     → (text ++ line_of_end summary (i + 1) e) ++ lines_from summary (i + 1 + 1) (drop (i + 1) ends) ≡ all
-lines_more summary ends i e text all lt at is = grind (arith, append_assoc, drop, drop_more)
+lines_more summary ends i e text all lt at is = grind (arith, append_assoc, drop_more)
 
 -- past the last end no line is left
 pub lines_end : (summary : Bool) (ends : List SourceEnd) (i : ℕ) (text all : List ℕ) → length ends ≤ i

@@ -13,7 +13,7 @@ use Rattle.register_arguments.specs.Requests.{Check, FailFirst}
 pub set_by_text : (b : Bool) (text : Option Text) → ((b ≡ true) ↔ (text ≡ Some (codes "true"))) → b ≡ is_set text
 set_by_text true None is = absurd (let e = is.0 refl in cc)
 set_by_text false None is = refl
-set_by_text true (Some t) is = search (rules, bytes_eq-Decides, codes)
+set_by_text true (Some t) is = search (rules, bytes_eq-Decides)
 set_by_text false (Some t) is =
     other (bytes_eq t (codes "true")) (λ e. absurd (unlike (is.1 (ap (λ (x : Text). Some x)
     ((bytes_eq-Decides t (codes "true")).0 e)))))

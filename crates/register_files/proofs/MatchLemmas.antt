@@ -1,7 +1,6 @@
 -- Lists that match so far, with one more at the end of one of them.
 use Rattle.std.proofs.Common.{rules, ◌≡◌, ◌∙◌, ◌+◌, ◌<◌, ◌⊎◌, ℕ, List, [], ◌∷◌, ◌++◌, length, get_or, map, suc, zero}
-use Rattle.std.proofs.Common.{sym, ap, refl, arith, inl, inr, codes, Some, None, length-append, option_map}
-use Rattle.std.proofs.Common.{slice_get}
+use Rattle.std.proofs.Common.{sym, ap, refl, arith, inl, inr, codes, Some, None, length-append, option_map, slice_get}
 use Rattle.std.proofs.lemmas.List.{length-map}
 use Rattle.std.proofs.lemmas.Option.{slice_get-get_or, slice_get-map}
 use Rattle.register_files.specs.Openings.{AreMatched}

@@ -214,7 +214,7 @@ module _ {W : Type 0} (o : outputs.Ghosts W) (text : Option (List ℕ)) (table :
       → Gained (IsFrontOfTable layout text record_limit)
   most_so most good first are =
       gained_so (IsFrontOfTable layout text record_limit) (is_some table.writer) refl good
-      (λ none. absurd (let zero : length rows ≡ 0 = ap length none in omega (arith, most, zero)))
+      (λ none. absurd (let zero : length rows ≡ 0 = ap length none in omega (arith, most)))
       (λ some. front_so record_limit (sym most ∙ sym (length-map rows row_seen)) are first)
 
   -- the rows of all entries were written
@@ -243,7 +243,7 @@ module _ {W : Type 0} (o : outputs.Ghosts W) (text : Option (List ℕ)) (table :
         too_many = λ e.
             let most : table.rows ≡ record_limit = sym long ∙ (many e).0 in (
               (many e).1,
-              most_so (holds.counted ∙ most) good (first_so given is all (λ zero. omega (arith, most, zero))) are,
+              most_so (holds.counted ∙ most) good (first_so given is all (λ zero. omega (arith, most))) are,
             );
         not_sealed = λ e.
             let u = unsealed e in (

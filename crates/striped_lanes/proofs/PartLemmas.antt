@@ -54,7 +54,7 @@ part_lengths c k (x ∷ xs) h =
       | inr n ↦ rw (ne_eqb i (k % c) n) (ap length (part_other c i k x xs (λ e. n (sym e))))
     ]) in
     let put = total_put c (λ n. n) f (k % c) (1 + f (k % c)) (mod_below k c h) in
-    omega (arith, same, part_lengths c (k + 1) xs h, put)
+    omega (arith, same, part_lengths c (k + 1) xs h)
 
 -- the first item of the next stripe is the first of all
 pub part_head : {X : Type 0} (c i k : ℕ) (xs zs : List X) (x : X) → k % c ≡ i → x ∷ zs ≡ part c i k xs

@@ -18,7 +18,7 @@ returns-in-Ok-Help-clause-refused g c =
     let just : MeanJust arguments help = search (rules, c.in-Ok-Help.ensures.asked) in
     λ had. never_refused arguments help c.print_page.result.status just (λ fault e. cc)
     (λ two. elim c.print_page.ensures.statuses
-    [ inl zero ↦ absurd (omega (arith, two, zero)) | inr one ↦ absurd (omega (arith, two, one)) ])
+    [ inl zero ↦ absurd (omega (arith, two)) | inr one ↦ absurd (omega (arith, two, one)) ])
 
 pub returns-in-Ok-Version-clause-refused : goal.returns-in-Ok-Version-clause-refused
 returns-in-Ok-Version-clause-refused g c =
@@ -26,7 +26,7 @@ returns-in-Ok-Version-clause-refused g c =
     let just : MeanJust arguments version = search (rules, c.in-Ok-Version.ensures.asked) in
     λ had. never_refused arguments version c.print_page-in-Ok-Version.result.status just (λ fault e. cc)
     (λ two. elim c.print_page-in-Ok-Version.ensures.statuses
-    [ inl zero ↦ absurd (omega (arith, two, zero)) | inr one ↦ absurd (omega (arith, two, one)) ])
+    [ inl zero ↦ absurd (omega (arith, two)) | inr one ↦ absurd (omega (arith, two, one)) ])
 
 pub convert_files-requires-clause-few : goal.convert_files-requires-clause-few
 convert_files-requires-clause-few g c =
@@ -98,10 +98,10 @@ pub returns-in-Ok-Version-clause-reported : goal.returns-in-Ok-Version-clause-re
 returns-in-Ok-Version-clause-reported g c = search rules
 
 pub returns-then-is_empty-clause-reported : goal.returns-then-is_empty-clause-reported
-returns-then-is_empty-clause-reported g c = search (rules, at_most_three, map)
+returns-then-is_empty-clause-reported g c = search (rules, at_most_three)
 
 pub returns-else-is_empty-clause-reported : goal.returns-else-is_empty-clause-reported
-returns-else-is_empty-clause-reported g c = search (rules, map, at_most_three)
+returns-else-is_empty-clause-reported g c = search (rules, at_most_three)
 
 pub returns-in-Err-clause-reported : goal.returns-in-Err-clause-reported
 returns-in-Err-clause-reported g c = λ high good.

@@ -13,7 +13,7 @@ flag_read E None None none some = (λ e. absurd (cc), λ e. absurd (cc))
 flag_read E None (Some b) none some = let e = none refl in absurd (cc)
 flag_read E (Some t) None none some = grind (arith, some t refl)
 flag_read E (Some t) (Some true) none some = (λ e. ap (λ (x : Text). Some x) (some t refl), λ e. refl)
-flag_read E (Some t) (Some false) none some = search (rules, codes)
+flag_read E (Some t) (Some false) none some = search rules
 
 pub returns : goal.returns
 returns c = search (rules, one_text-rows, flag_read, set_by_text)

@@ -4,7 +4,7 @@ use Rattle.register_files.proofs.ApartLemmas.{all_before, apart_by, none_before,
 use Rattle.register_files.proofs.opening.check_sources_kept.Goals as goal
 
 pub files-init : goal.files-init
-files-init g c = search (rules, none_before, codes)
+files-init g c = search (rules, none_before)
 
 pub files-preserved : goal.files-preserved
 files-preserved g c =

@@ -8,7 +8,7 @@ use Rattle.register_files.proofs.MatchLemmas.{made_as, so_far_all, so_far_more, 
 use Rattle.register_files.proofs.opening.make_outputs.Goals as goal
 
 pub files-init : goal.files-init
-files-init g c = search (rules, so_far_none, codes, no_pairs)
+files-init g c = search (rules, so_far_none, no_pairs)
 
 pub files-preserved : goal.files-preserved
 files-preserved g c =

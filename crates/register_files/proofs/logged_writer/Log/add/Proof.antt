@@ -1,5 +1,5 @@
 -- An empty body. The borrow is opened and closed at another ghost value.
-use Rattle.std.proofs.Common.{ℕ, List, [], ◌∷◌, ◌++◌, refl, MutBor}
+use Rattle.std.proofs.Common.{ℕ, List, [], ◌∷◌, ◌++◌, refl, MutBor, ◌<◌, ◌^◌, length}
 use seplogic.Ra.Ura.{Ura}
 use mir.Syntax.{named}
 use mir.Val.{Val, vunit, vptr}
@@ -37,7 +37,6 @@ use denote.Builtin.{u8}
 use denote.Exit.{yes}
 use denote.Slice.{ShrSlice, slice_val, shr_slice_vals, shr_slice_Tells}
 use denote.Triple.Walked.{stay_none_slice, Goes-none_slice}
-use Rattle.std.proofs.Common.{◌<◌, ◌^◌, length}
 
 abbrev Arg : Type 0
 Arg = MutBor Log × (Bor (List ℕ) × Unit {0})

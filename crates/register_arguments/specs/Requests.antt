@@ -98,8 +98,10 @@ abbrev pub usage_check : List Text → Check
 usage_check arguments = record { fails = IsUsageFault arguments; passes = AreTaken arguments }
 
 abbrev pub target_check : Option Text → Check
-target_check value =
-    record { fails = IsTargetFault value; passes = (targets : List Target) × AreTargetsOf value targets }
+target_check value = record {
+  fails = IsTargetFault value;
+  passes = (targets : List Target) × AreTargetsOf value targets;
+}
 
 abbrev pub option_check : ValueOption → Option Text → Check
 option_check option value = record {

@@ -1,4 +1,4 @@
--- Canonical texts: they are in the grammar, they are of digits, letters, dashes and dots, and they are short.
+-- Canonical texts: they are in the grammar, they consist of digits, letters, dashes and dots, and they are short.
 use Rattle.std.proofs.Common.{◌≡◌, ℕ, ◌+◌, ◌≤◌, Bool, true, false, List, [], ◌∷◌, ◌++◌, length, IsTrue, ℤ, refl, arith}
 use Rattle.std.proofs.Common.{length-append, ◌||◌, ◌==◌, reverse, map}
 use Rattle.std.specs.Char.{is_ascii_alphanumeric, is_ascii_digit}
@@ -80,14 +80,14 @@ canonical_says (Roman d) = (
   ),
 )
 
--- ---- they are of digits, letters, dashes and dots, and short
+-- ---- they consist of digits, letters, dashes and dots, and are short
 abbrev pub is_mark : ℕ → Bool
 is_mark c = is_ascii_alphanumeric c || ((c == 45) || (c == 46))
 
 abbrev pub AreMarks : List ℕ → Type 0
 AreMarks text = IsTrue (list_all is_mark text)
 
--- what passes one test, passes another
+-- what passes one test passes another
 all_pass : (p q : ℕ → Bool) → ((c : ℕ) → p c ≡ true → q c ≡ true) → (text : List ℕ) → IsTrue (list_all p text)
     → IsTrue (list_all q text)
 all_pass p q more [] h = refl

@@ -6,7 +6,8 @@
 --   TargetCountLemmas: the law `few_targets`.
 --   CellLemmas: `cell`, `value` of `write_cell`, and the law `one_cell`.
 --   CanonicalTextLemmas: the law `canonical_texts_read_back`, and the bytes and the lengths of canonical texts.
---   CellTextLemmas: the laws `cells_are_short`, and with it the room in `cell` and `write_cell`, and `cells_are_plain`.
+--   CellTextLemmas: the laws `cells_are_short` and `cells_are_plain`, and with the first the room in `cell` and
+--     `write_cell`.
 --   PairLemmas, WritingLemmas, BufferLemmas: the digits and pieces in `write_date` and `write_cell`.
 --   PlaceLemmas: the places of long counts there.
 --   DecisionLemmas, DateDecisionLemmas: what can be decided of numbers, texts and dates, for the laws of the crates

@@ -67,7 +67,7 @@ digits_read zero n bytes = ([], refl, omega arith, refl, refl)
 digits_read (suc k) n [] = ([], refl, omega arith, refl, refl)
 digits_read (suc k) n (c ∷ cs) = digits_read_by k n c cs (is_ascii_digit c) refl (digits_read k (10 * n + (c - 48)) cs)
 
--- the first digit leaves room for those that follow
+-- a number of the digits that are read so far fits, and with each digit ten times as much does
 ten_more : (m : ℕ) → 1 ≤ m → m ≤ 4 → 10 ^ (5 - (m - 1)) ≡ 10 * 10 ^ (5 - m)
 ten_more m low high = let e : 5 - (m - 1) ≡ suc (5 - m) = omega arith in rw e (pow-succ' 10 (5 - m))
 
@@ -96,8 +96,8 @@ some_inside e = cc
 pub none_some : {A : Type 0} {x : A} → None ≡ Some x → ⊥
 none_some e = cc
 
--- a reader finds at the front what a grammar relates to a value, and nothing else; where no digit follows, it finds it
--- to its end
+-- a reader finds at the front what a grammar relates to a value, and nothing else; where no digit follows, it reads
+-- that to its end
 pub record Reads {A : Type 0} (read : List ℕ → Option (A × List ℕ)) (IsText : List ℕ → A → Type 0) : Type 0 where
   pub found : (bytes : List ℕ) (x : A × List ℕ) → read bytes ≡ Some x
       → (text : List ℕ) × IsText text x.0 × (bytes ≡ text ++ x.1)

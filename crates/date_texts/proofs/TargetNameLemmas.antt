@@ -1,4 +1,4 @@
--- A text names one target at most, and one calendar.
+-- The search by name finds the target that a text names.
 use Rattle.std.proofs.Common.{◌≡◌, ◌↔◌, ℕ, List, [], ◌∷◌, Bool, true, IsTrue, Option, Some, None, refl, sym, ap, ◌∙◌}
 use Rattle.std.proofs.Common.{arith, find}
 use Rattle.std.specs.Str.{bytes_eq, str_to_ascii_lowercase}

@@ -16,7 +16,7 @@ after_mark grammars.Week bytes = after_week_letter bytes
 after_mark grammars.LongCount bytes = None
 after_mark grammars.Roman bytes = None
 
--- a month or a week, and its mark before it
+-- a month or a week, and the mark before it
 abbrev pub month_at : Grammar → List ℕ → Option (ℕ × List ℕ)
 month_at grammar bytes = after_mark grammar bytes >>= number_at 1
 

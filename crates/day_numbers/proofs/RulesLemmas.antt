@@ -113,17 +113,18 @@ start_from without_zero e f g low one more (negsuc (suc n)) h le =
     (start_from without_zero e f g low one more (negsuc n) tt (omega (arith, signed_arith)))
 start_from s e f g low one more y h le = absurd h
 
--- and so the first day of each year, where it grows so everywhere
+-- no year lies before the one that many years before year 0
 lowest : (y : ℤ) → negsuc (unsigned_abs y) ≤ℤ y
 lowest (pos n) = omega (arith, signed_arith)
 lowest (negsuc n) = omega (arith, signed_arith)
 
+-- and so the first day of each year, where it grows so everywhere
 pub start_is : (s : Years) (e : ℤ) (f : ℤ → ℕ) (g : ℤ → ℤ) → g (pos 1) ≡ e
     → ((y : ℤ) → HasYear s y → g (next_year s y) ≡ g y +ℤ pos (f y)) → (y : ℤ) → HasYear s y
     → g y ≡ start_of_year s e f y
 start_is s e f g one more y h = start_from s e f g (unsigned_abs y) one (λ z has le. more z has) y h (lowest y)
 
--- in a calendar with a year 0 the next year is the year and one
+-- in a calendar with a year 0 the next year is the year plus one
 pub next_is : (y : ℤ) → next_year with_zero y ≡ y +ℤ pos 1
 next_is (pos n) = omega (arith, signed_arith)
 next_is (negsuc zero) = refl

@@ -140,11 +140,12 @@ module _ (one : OneTarget) (arguments : List Text) where
   pub mean_just : (meaning : Meaning) → Mean arguments meaning → MeanJust arguments meaning
   mean_just meaning means other = (λ e. subst (Mean arguments) (sym e) means, λ m. one_meaning meaning other means m)
 
--- an error is a request for help or for the version, running out of memory, or a fault of usage
-pub asks : (arguments : List Text) (error : Error) (kind : ErrorKind) → HasKind (fault_of command_line arguments) error
-    → kind_of error ≡ kind → kind ≢ OutOfMemory → IsAmong kind (fault_of command_line arguments)
-asks arguments error kind (inl memory) is other = absurd (other (sym is ∙ memory))
-asks arguments error kind (inr among) is other = rw is at among
+-- the kind of an error, unless memory ran out, is one that the arguments have
+pub is_among : (arguments : List Text) (error : Error) (kind : ErrorKind)
+    → HasKind (fault_of command_line arguments) error → kind_of error ≡ kind → kind ≢ OutOfMemory
+    → IsAmong kind (fault_of command_line arguments)
+is_among arguments error kind (inl memory) is other = absurd (other (sym is ∙ memory))
+is_among arguments error kind (inr among) is other = rw is at among
 
 pub misuses : (arguments : List Text) (error : Error) → HasKind (fault_of command_line arguments) error
     → kind_of error ≢ OutOfMemory → kind_of error ≢ DisplayHelp

@@ -38,7 +38,7 @@ module _ (one : OneTarget) where
       (one n t u named.0 other.0) (same_targets ns ts us named.1 other.1)
   same_targets names targets others named other = absurd (search rules)
 
-  -- names up to a further one name these targets and one behind them
+  -- where a name follows these names, the targets are those that these name, and then one with that name
   past : (before : List (List ℕ)) (name : List ℕ) (after : List (List ℕ)) (earlier targets : List Target)
       → AreNamesOf (before ++ name ∷ after) targets → AreNamesOf before earlier
       → (target : Target) × (later : List Target) × (targets ≡ earlier ++ target ∷ later)
@@ -68,7 +68,7 @@ meet (b ∷ bs) name after (f ∷ fs) other back e =
       | inr (inr (mid, is)) ↦ inr (inr (mid, ap (λ xs. b ∷ xs) is))
     ])
 
--- the name is the first at fault: no targets that are named once have names up to it
+-- the name is the first at fault: targets whose names go on with it have one name twice
 abbrev IsAtFault : List ℕ → List ℕ → Type 0
 IsAtFault list name =
     (earlier : List Target) × (stands : StandsBehind list earlier name)
@@ -94,7 +94,7 @@ module _ (one : OneTarget) (list : List ℕ) where
         rw (cut, one name other target own is) (twice_in earlier target later among),
   )
 
-  -- one name is at fault
+  -- one name at most is at fault
   same_name : (name other : List ℕ) → IsAtFault list name → IsAtFault list other → name ≡ other
   same_name name other (earlier, x, bars) (before, y, stops) = search (rules, meet)
 

@@ -65,7 +65,8 @@ pub nothing_put : (e : SourceEnd) (made old new : List ℕ) (count : ℕ)
     → new ≡ with_front (sound_part e made) old → count ≡ length (sound_part e made)
     → IfBroken e (λ c. c ≡ cause.SinkFault → (count ≡ 0) × (new ≡ old))
 nothing_put (end.Whole rows refused journal) made old new count put counted = tt
-nothing_put (end.Broken c) made old new count put counted = λ sink. (rw sink at counted, (rw sink at put) ∙ front_of_none old)
+nothing_put (end.Broken c) made old new count put counted =
+    λ sink. (rw sink at counted, (rw sink at put) ∙ front_of_none old)
 
 pub header_put : (layout : Layout) (text : List ℕ) (e : SourceEnd) (made old new : List ℕ) (count : ℕ)
     → new ≡ with_front (sound_part e made) old → count ≡ length (sound_part e made)
@@ -73,7 +74,8 @@ pub header_put : (layout : Layout) (text : List ℕ) (e : SourceEnd) (made old n
     → IfBroken e (λ c. c ≡ cause.BadHeader → HasNoHeader layout.format text × (count ≡ 0) × (new ≡ old))
 header_put layout text (end.Whole rows refused journal) made old new count put counted h = tt
 header_put layout text (end.Broken c) made old new count put counted h = λ bad.
-    let none : made ≡ [] = (h bad).0 in ((h bad).1, rw (bad, none) at counted, (rw (bad, none) at put) ∙ front_of_none old)
+    let none : made ≡ [] = (h bad).0 in
+    ((h bad).1, rw (bad, none) at counted, (rw (bad, none) at put) ∙ front_of_none old)
 
 pub many_put : (layout : Layout) (text : List ℕ) (e : SourceEnd) (made old new : List ℕ) (count : ℕ)
     → new ≡ with_front (sound_part e made) old → count ≡ length (sound_part e made)

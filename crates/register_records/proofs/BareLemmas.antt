@@ -100,6 +100,7 @@ utf8_texts form ends bytes t e h =
     let plain : ArePlainTexts t = rw e at (plain_record form ends bytes h) in
     rw (plain_utf8 _ plain.0, plain_utf8 _ plain.1, plain_utf8 _ plain.2, plain_utf8 _ plain.3) refl
 
+-- no byte of a plain record's texts calls for quotes
 bare_option : (o : Option Texts) → IfSome o ArePlainTexts
     → has_special (option_map_or body_of_texts o (Err refusal.FieldCount)) ≡ false
 bare_option o h = search (rules, or_from, plain_bare)
@@ -145,7 +146,7 @@ plain_by_chunks text chunks long is h k =
     (plain_join (take end text) (drop end text) front
     (subst IsPlain same (plain_halves (end - start) (drop start text) h).1))
 
--- the texts of a body that holds no such byte need no quotes in a table
+-- the texts of a body none of whose bytes calls for quotes need none in a table
 pub unquoted : (d : ℕ) → is_delimiter d ≡ true → (body : Result Texts Refusal) → has_special body ≡ false
     → (needs_quotes (writing d) (shown (λ (t : Texts). t.id) (result_ok body)) ≡ false)
     × (needs_quotes (writing d) (shown (λ (t : Texts). t.calendar) (result_ok body)) ≡ false)

@@ -164,12 +164,13 @@ same_of_all : {X Y : Type 0} (f g : X → List Y) → ((x : X) → f x ≡ g x) 
 same_of_all f g same [] = refl
 same_of_all f g same (x ∷ xs) = cc (same x, same_of_all f g same xs)
 
+-- the columns of an entry: the first has its number, the others its texts
 pub first_field : (form : Form) (f : EntryColumn → List ℕ) (d : ℕ) (before field bytes : List ℕ)
     → needs_quotes (writing d) field ≡ false → field ≡ f Number → bytes ≡ before ++ field
     → bytes ≡ before ++ body d (map f (take 1 (entry_order form)))
 first_field form f d before field bytes h is b = search (rules, only_field)
 
--- there is room for those that follow
+-- there is room for the columns that follow
 pub room_behind : (form : Form) → number_room + columns_room quoted_room (drop 1 (entry_order form)) ≤ entry_room
 room_behind form = search rules
 
@@ -231,5 +232,6 @@ fields_in_parts form ts row =
     ∙ ap (λ (fields : List (List ℕ)). map (entry_field row) (entry_order form) ++ fields)
     (same_of_all _ (column_texts ts row.outcome row.cells) (same_fields row ts) tail_order)
 
+-- the name of a target has room
 pub short_name : (t : Target) → length (target_name t) ≤ name_limit
 short_name t = search rules

@@ -13,14 +13,14 @@ abbrev IsOnlySeal : Fields → List Fields → Type 0
 IsOnlySeal seal [] = ⊤
 IsOnlySeal seal (r ∷ rest) = (is_seal r ≡ true → r ≡ seal) × IsOnlySeal seal rest
 
--- so it is of those that are left
+-- so it is the only seal of those that are left
 only_left : (records left : List Fields) (seal : Fields) → AreLeftOf records left → IsOnlySeal seal records
     → IsOnlySeal seal left
 only_left records left seal none only = only
 only_left records left seal (kept a) only = (only.0, only_left _ _ seal a only.1)
 only_left records left seal (taken a) only = only_left _ _ seal a only.1
 
--- and the last is it, where that is a seal
+-- and where the last record is a seal, it is this one
 last_only : (seal r : Fields) (rest : List Fields) → IsOnlySeal seal (rest ++ r ∷ []) → is_seal r ≡ true → r ≡ seal
 last_only seal r [] only is = only.0 is
 last_only seal r (x ∷ rest) only is = last_only seal r rest only.1 is

@@ -39,7 +39,8 @@ agrees : (seal : Fields) (n : ℕ) → Is (Agrees seal n)
 agrees (a ∷ b ∷ []) n = is_numeral (trimmed b) n
 agrees seal n = inr (λ h. h)
 
--- whether the first seal stands last and agrees with the number of records before it: what follows these decides
+-- the records up to the first seal, and the rest: whether the seal stands last and agrees with their number can be
+-- decided from these
 from_seal : (after : List Fields) → (rest : List Fields) × (after ≡ before_seal after ++ rest)
 unfolding before_seal
 from_seal [] = ([], refl)
@@ -75,7 +76,7 @@ one_after : (format : Format) (text : List ℕ) (a b : List Fields) → HasRecor
     → a ≡ b
 one_after format text a b p q = let e : p.0 ∷ a ≡ q.0 ∷ b = sym p.1 ∙ q.1 in cc
 
--- what a fate says of the records behind the header: no two fates say what holds of the same
+-- what a fate says of the records behind the header: no two fates hold of the same records
 abbrev IsFateOf : Form → Fate → List Fields → Type 0
 IsFateOf form accepted after = AreAll form after
 IsFateOf form no_header after = ⊥

@@ -30,6 +30,7 @@ module _ (one_calendar : OneCalendar) (one_date_text : OneDateText) (one_cell : 
   text_clash {name = name} {c = c} {e = e} {d = d} n none s =
       let same = one_calendar name e c s.named n in none d (rw (← same) s.dated)
 
+  -- its date is one of its calendar, or it is not; and its day is in range, or it is not
   date_clash : {name text : List ℕ} {c e : Calendar} {d f : Date} → Says name text c d → Says name text e f
       → ¬ (IsDateOfCalendar d) → IsDateOfCalendar f → ⊥
   date_clash s k none is = none (rw (one_date s k) is)

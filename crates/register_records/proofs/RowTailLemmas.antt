@@ -148,6 +148,7 @@ weekday_fits d h number = record {
   short = short_length _ (each_name is_short weekday_names number refl refl);
 }
 
+-- the number of a refusal has one digit
 pub refusal_fits : (d : ℕ) → is_delimiter d ≡ true → (r : Refusal) → Fits d 1 (decimal (refusal_number r))
 refusal_fits d h r = search (rules, plain_decimal, length-decimal-le)
 

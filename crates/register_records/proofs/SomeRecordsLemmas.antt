@@ -130,6 +130,7 @@ rows_placed form targets (entry ∷ entries) (row ∷ rows) are = (
 )
 rows_placed form targets entries rows are = search (rules, placed, of_form)
 
+-- and their fields and lines
 fields_placed : (form : Form) (targets : List Target) (row : TableRow)
     → row_fields form targets (placed_row form row) ≡ row_fields form targets row
 fields_placed form targets row = search (rules, fields_in_parts, placed_row)

@@ -22,7 +22,7 @@ pub week_year_is : (y f m z : ℤ) → f ≡ year_start gregorian_rules y → m 
 unfolding week_year_start
 week_year_is y f m z e p s = omega (arith, signed_arith, e, p, s)
 
--- the Gregorian year of the Thursday of the week of a day is the year of weeks of the day
+-- the Gregorian year of the Thursday in a day's week is the year of weeks of the day
 pub in_week_year : (n m y : ℤ) → m ≡ monday_on_or_before n → year_start gregorian_rules y ≤ℤ (m +ℤ pos 3)
     → (m +ℤ pos 3) <ℤ (year_start gregorian_rules y +ℤ pos (year_length gregorian_rules y))
     → (week_year_start y ≤ℤ n) × (n <ℤ week_year_start (y +ℤ pos 1))

@@ -8,20 +8,20 @@ use Rattle.register_arguments.specs.Requests.{Ask, FailFirst, MeanJust, help, ta
 use Rattle.register_arguments.specs.Requests.{version, wrong}
 use Rattle.register_arguments.specs.declared.request_faults.RequestFault.{RequestFault}
 use Rattle.register_arguments.specs.declared.requests.Request.{Request}
-use Rattle.register_arguments.proofs.ArgumentLemmas.{asks, mean_just, misuses, found_just}
+use Rattle.register_arguments.proofs.ArgumentLemmas.{is_among, mean_just, misuses, found_just}
 use Rattle.register_arguments.proofs.requests.read_request.Goals as goal
 
 pub returns-in-DisplayHelp-clause-asked : goal.returns-in-DisplayHelp-clause-asked
 returns-in-DisplayHelp-clause-asked c =
     let arguments = map string_bytes c.args.arguments.now in
     mean_just c.one_target.ensures arguments help
-    (asks arguments c.in-Err.error _ c.in-Err.ensures.kinds (sym c.kind.ensures ∙ c.in-DisplayHelp.is) (λ e. cc))
+    (is_among arguments c.in-Err.error _ c.in-Err.ensures.kinds (sym c.kind.ensures ∙ c.in-DisplayHelp.is) (λ e. cc))
 
 pub returns-in-DisplayVersion-clause-asked : goal.returns-in-DisplayVersion-clause-asked
 returns-in-DisplayVersion-clause-asked c =
     let arguments = map string_bytes c.args.arguments.now in
     mean_just c.one_target.ensures arguments version
-    (asks arguments c.in-Err.error _ c.in-Err.ensures.kinds (sym c.kind.ensures ∙ c.in-DisplayVersion.is) (λ e. cc))
+    (is_among arguments c.in-Err.error _ c.in-Err.ensures.kinds (sym c.kind.ensures ∙ c.in-DisplayVersion.is) (λ e. cc))
 
 pub returns-in_default : goal.returns-in_default
 returns-in_default c =

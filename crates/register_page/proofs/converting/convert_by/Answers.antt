@@ -2,7 +2,8 @@ use Rattle.std.proofs.Common.{◌≡◌, ◌∙◌, length, sym, ap}
 use Rattle.register_records.specs.Views.{layout_of}
 use Rattle.register_page.specs.Conversions.{sound_part}
 use Rattle.register_page.specs.Rooms.{with_front}
-use Rattle.register_page.proofs.RoomLemmas.{header_put, if_broken, many_put, nothing_put, part_put, sealed_put, whole_put}
+use Rattle.register_page.proofs.RoomLemmas.{header_put, if_broken, many_put, nothing_put, part_put, sealed_put}
+use Rattle.register_page.proofs.RoomLemmas.{whole_put}
 use Rattle.register_page.proofs.converting.convert_by.Goals as goal
 
 pub returns : goal.returns

@@ -25,8 +25,9 @@ so_far list given t by next u step = record {
 }
 
 given_cells : (c : After-next)
-    → Given (λ cell. cell.now) (take c.args.count (drop (position_or_len is_cells tail_order) (fields_of c.args.self.now)))
-    c.cells.yielded c.next.result
+    → Given (λ cell. cell.now)
+    (take c.args.count (drop (position_or_len is_cells tail_order) (fields_of c.args.self.now))) c.cells.yielded
+    c.next.result
 given_cells c =
     let self = c.args.self.now in
     so_far (YieldsList-at c.into_iter-cell-iterator.ensures.into_iter_gives

@@ -13,7 +13,7 @@
   }
   at('date-calendar').value = 'julian';
 
-  // What is told aloud waits until the typing rests.
+  // What is read aloud waits until the typing rests.
   function say(words) {
     clearTimeout(saying);
     saying = setTimeout(() => fill(at('date-said'), words), 700);

@@ -119,7 +119,7 @@ function registerCalls(global) {
   class NoMemory extends Error {}
 
   // An instance of the module, for one task, and dropped with it: what was cut off leaves nothing behind. A part of its
-  // memory is told as { place, length } in bytes, since views are of no use after the memory grew.
+  // memory is given as { place, length } in bytes, since views are of no use after the memory grew.
   class Calls {
     constructor(instance, heap) {
       this.exports = instance.exports;

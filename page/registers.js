@@ -1,4 +1,4 @@
-// A register: files are chosen, converted side by side, a worker for each, and told.
+// A register: files are chosen, converted side by side, a worker for each, and reported.
 
 'use strict';
 
@@ -18,7 +18,7 @@
     at('register-chosen').replaceChildren(...lines);
   }
 
-  function tell(words) {
+  function report(words) {
     fill(at('register-said'), words);
   }
 
@@ -70,7 +70,7 @@
       bar.value = done.reduce((sum, job) => sum + job.file.size, 0);
     }
     const seconds = Math.round((performance.now() - task.begun) / 1000);
-    if (task.jobs.length > 1) tell(WORDS.converting(done.length, task.jobs.length, seconds));
+    if (task.jobs.length > 1) report(WORDS.converting(done.length, task.jobs.length, seconds));
   }
 
   function tick() {
@@ -81,7 +81,7 @@
     clearInterval(task.clock);
     task = null;
     page.showBusy('register', false);
-    tell(words);
+    report(words);
   }
 
   async function start(job) {
@@ -135,7 +135,7 @@
     if (task) return;
     page.forget(at('register-results'));
     if (files.length === 0) {
-      tell(WORDS.nothingChosen);
+      report(WORDS.nothingChosen);
       at('register-files').focus();
       return;
     }

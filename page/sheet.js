@@ -15,7 +15,7 @@
   const option = (text, value) => plain('option', text, { value });
   at('sheet-encoding').append(...Object.entries(WORDS.encodings).map(([label, words]) => option(words, label)));
 
-  const tell = (words) => fill(at('sheet-said'), words);
+  const report = (words) => fill(at('sheet-said'), words);
 
   // A worker serves one reading of a sheet. An answer that comes after a newer one was begun is of no use.
   async function asked(task, words) {
@@ -34,7 +34,7 @@
 
   function showFault(said) {
     const encoding = at('sheet-encoding').selectedOptions[0].textContent;
-    tell(WORDS.notDone(page.wordsOf(said, encoding)));
+    report(WORDS.notDone(page.wordsOf(said, encoding)));
   }
 
   function group(words, options) {
@@ -61,14 +61,14 @@
     page.showBusy('sheet', false);
     if (file === null) return;
     if (file.size > MOST_BYTES) {
-      tell(WORDS.notDone(WORDS.tooLarge));
+      report(WORDS.notDone(WORDS.tooLarge));
       return;
     }
-    tell(WORDS.sheetReading);
+    report(WORDS.sheetReading);
     const said = await begin();
     if (said === null) return;
     if (said.answer && said.answer.records > 0) showSheet(said.answer);
-    else if (said.answer) tell(WORDS.notDone(WORDS.emptySheet));
+    else if (said.answer) report(WORDS.notDone(WORDS.emptySheet));
     else showFault(said);
   }
 
@@ -78,7 +78,7 @@
     at('sheet-rows').replaceChildren(page.tableOf(WORDS.sheetRows(rows.length), heading, rows));
     offerColumns(heading);
     at('sheet-choices').hidden = false;
-    tell(`${WORDS.sheetHas(records - 1, widest)} ${widest === 1 ? WORDS.oneColumn : ''}`);
+    report(`${WORDS.sheetHas(records - 1, widest)} ${widest === 1 ? WORDS.oneColumn : ''}`);
   }
 
   // What is chosen, or null while something is not.
@@ -141,12 +141,12 @@
   async function convert() {
     const chosen = choice();
     if (chosen === null) {
-      tell(WORDS.chooseThree);
+      report(WORDS.chooseThree);
       at(['sheet-id', 'sheet-calendar', 'sheet-date'].find((name) => at(name).value === '')).focus();
       return;
     }
     page.forget(at('sheet-results'));
-    tell(WORDS.sheetConverting);
+    report(WORDS.sheetConverting);
     page.showBusy('sheet', true);
     const said = await asked('convertedSheet', { choice: chosen, columns: [...order] });
     if (said === null) return;
@@ -184,7 +184,7 @@
     article.append(made('p', words, { className: isWhole ? 'total' : 'total wrong' }));
     if (isWhole) showJoined(article, answer);
     else if (WORDS.causeAdvice[ending]) article.append(made('p', WORDS.causeAdvice[ending]));
-    tell(WORDS.endedOne(file.name, words));
+    report(WORDS.endedOne(file.name, words));
   }
 
   function choose(list) {
@@ -205,7 +205,7 @@
   at('sheet-stop').addEventListener('click', () => {
     begin();
     page.showBusy('sheet', false);
-    tell(WORDS.stopped);
+    report(WORDS.stopped);
   });
   document.querySelector('nav a[href="#sheet-part"]').addEventListener('click', () => { at('sheet-box').open = true; });
   page.takesDropped(at('sheet-file'), (target) => at('sheet-part').contains(target));

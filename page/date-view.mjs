@@ -33,8 +33,9 @@ export function dateView(step) {
     say(kind === 'empty' ? '' : textOf(line));
     byId('date-cells').hidden = cells.length === 0;
     byId('date-cells').replaceChildren(...cells.map(([name, cell]) => {
-      const part = element('div'), isNone = cell === '';
-      part.append(element('dt', name), element('dd', isNone ? WORDS.noCell : cell, { className: isNone ? 'none' : '' }));
+      const part = element('div');
+      const day = cell === '' ? element('dd', WORDS.noCell, { className: 'none' }) : element('dd', cell);
+      part.append(element('dt', name), day);
       return part;
     }));
   });

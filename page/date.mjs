@@ -59,7 +59,9 @@ export function shown(state) {
   const { answer, fault, why } = state.result.reply;
   if (fault) return { line: WORDS.fault(why), kind: 'wrong', cells: [] };
   const { ending, heading, row } = answer;
-  if (ending !== 0) return { line: WORDS.isNoDay(WORDS.causes[ending] || WORDS.faults[ending]), kind: 'wrong', cells: [] };
+  if (ending !== 0) {
+    return { line: WORDS.isNoDay(WORDS.causes[ending] || WORDS.faults[ending]), kind: 'wrong', cells: [] };
+  }
   const of = (name) => row[heading.indexOf(name)];
   const refusal = Number(of('refusal'));
   if (refusal) {

@@ -125,8 +125,8 @@ export function drawReport(article, id, report, saved) {
   clear(article);
   article.className = report.kind;
   article.setAttribute('aria-labelledby', id);
-  const isBroken = report.kind === 'broken';
-  const line = element('p', report.words, { className: isBroken ? 'total wrong' : report.kind === 'done' ? 'total' : '' });
+  const className = { broken: 'total wrong', done: 'total' }[report.kind] || '';
+  const line = element('p', report.words, { className });
   article.append(textElement('h3', report.title, { id }), line, ...report.advice.map((words) => element('p', words)));
   if (report.counts.length) article.append(countsTable(report.counts));
   article.append(...report.tables.map(tableBox));

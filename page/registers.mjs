@@ -42,10 +42,19 @@ export function chosen(state, change, folders = []) {
   return { ...state, choice: { ...state.choice, ...change }, notice: '', folders };
 }
 
+/** @returns {Job} */
+const endedJob = (job, reply) => ({ ...job, status: 'ended', reply });
+
+/** @returns {Job} */
+const stoppedJob = (job) => ({ ...job, status: 'stopped' });
+
+/** @returns {Job} */
+const waitingJob = (file, number) => ({ number, file, status: 'waits', begun: 0, reply: null, isSaved: false });
+
 // Starts what can be started now. A file that is too large has its answer at once.
 function scheduled(state, now) {
-  const jobs = state.run.jobs.map((job) =>
-    (job.status === 'waits' && job.file.size > MOST_BYTES ? { ...job, status: 'ended', reply: { fault: 'tooLarge' } } : job));
+  const isTooLarge = ({ status, file }) => status === 'waits' && file.size > MOST_BYTES;
+  const jobs = state.run.jobs.map((job) => (isTooLarge(job) ? endedJob(job, { fault: 'tooLarge' }) : job));
   for (const [i, job] of jobs.entries()) {
     if (job.status !== 'waits') continue;
     const running = jobs.filter(({ status }) => status === 'runs');
@@ -65,9 +74,8 @@ export function started(state, now) {
   if (isRunning(state)) return state;
   const { choice } = state, number = state.runs + 1;
   if (choice.files.length === 0) return { ...state, notice: 'nothingChosen' };
-  const jobs = choice.files.map((file, i) =>
-    ({ number: i, file, status: /** @type {'waits'} */ ('waits'), begun: 0, reply: null, isSaved: false }));
-  return scheduled({ ...state, runs: number, run: { number, choice, begun: now, jobs }, notice: '' }, now);
+  const run = { number, choice, begun: now, jobs: choice.files.map(waitingJob) };
+  return scheduled({ ...state, runs: number, run, notice: '' }, now);
 }
 
 /**
@@ -77,7 +85,7 @@ export function started(state, now) {
  */
 export function stopped(state) {
   if (!isRunning(state)) return state;
-  const jobs = state.run.jobs.map((job) => (job.status === 'ended' ? job : { ...job, status: /** @type {'stopped'} */ ('stopped') }));
+  const jobs = state.run.jobs.map((job) => (job.status === 'ended' ? job : stoppedJob(job)));
   return { ...state, run: { ...state.run, jobs } };
 }
 
@@ -87,8 +95,9 @@ const keyOf = (run, job) => `register ${run.number} ${job.number}`;
 export function tasks({ run }) {
   if (run === null) return [];
   return run.jobs.filter(({ status }) => status === 'runs').map((job) => {
-    const { delimiter, sealed, columns } = run.choice, key = keyOf(run, job);
-    return { key, worker: key, name: 'register', words: { file: job.file, delimiter, sealed, columns } };
+    const { delimiter, sealed, columns } = run.choice, words = { file: job.file, delimiter, sealed, columns };
+    const key = keyOf(run, job);
+    return { key, worker: key, name: 'register', words };
   });
 }
 
@@ -100,7 +109,7 @@ export function tasks({ run }) {
 export function replied(state, key, reply, now) {
   const job = state.run && state.run.jobs.find((it) => it.status === 'runs' && keyOf(state.run, it) === key);
   if (!job) return state;
-  const jobs = state.run.jobs.map((it) => (it === job ? { ...job, status: /** @type {'ended'} */ ('ended'), reply } : it));
+  const jobs = state.run.jobs.map((it) => (it === job ? endedJob(job, reply) : it));
   return scheduled({ ...state, run: { ...state.run, jobs } }, now);
 }
 

@@ -90,7 +90,8 @@ function brokenRegister(reply, name) {
 export function registerReport(job, now) {
   const { file, number, status, reply } = job, name = `${file.name}.out.csv`;
   if (status !== 'ended') {
-    return { title: file.name, number, ...brokenReport(jobWords(job, now), ''), kind: status === 'stopped' ? 'stopped' : '' };
+    const kind = status === 'stopped' ? 'stopped' : '';
+    return { title: file.name, number, ...brokenReport(jobWords(job, now), ''), kind };
   }
   const report = registers.isWhole(job) ? wholeRegister(reply.answer, name) : brokenRegister(reply, name);
   return { title: file.name, ...report, number };
@@ -148,7 +149,8 @@ export function sheetReport(state) {
   const stem = title.replace(/\.[^.]*$/, '');
   const [name, own] = [`${stem}${WORDS.sheetSuffix}`, `${stem}${WORDS.registerSuffix}`];
   return {
-    title, number: 0, kind: 'done', words: WORDS.whole(rows, refused, shortYears), advice: [], counts: countRows(counts),
+    title, number: 0, kind: 'done', words: WORDS.whole(rows, refused, shortYears), advice: [],
+    counts: countRows(counts),
     tables: [tableReport(WORDS.sheetJoined(first.rows.length), first), ...refusedTable(answer)],
     links: [
       { words: WORDS.save(name, WORDS.bytes(table.size)), blob: table, name, isTable: true },
@@ -161,7 +163,9 @@ export function sheetReport(state) {
 function readingWords(state) {
   const { reply } = state.begins;
   if (reply.fault) {
-    if (isUnread(reply)) return [WORDS.brokeOff(READ_FAULT, WORDS.causes[READ_FAULT]), ' ', WORDS.causeAdvice[READ_FAULT]];
+    if (isUnread(reply)) {
+      return [WORDS.brokeOff(READ_FAULT, WORDS.causes[READ_FAULT]), ' ', WORDS.causeAdvice[READ_FAULT]];
+    }
     return WORDS.notDone(faultWords(reply, sheet.MOST_BYTES, encodingOf(state)));
   }
   const { records, widest } = reply.answer;

@@ -7,8 +7,8 @@ import {
 } from './elements.mjs';
 import { previewTable, sheetReport, sheetStatus, sheetTable } from './reports.mjs';
 import {
-  beginning, columnsChosen, isRunning, missing, picked, saved, shownPreview, shownRun, shownUnknown, sourceChosen, started,
-  stopped,
+  beginning, columnsChosen, isRunning, missing, picked, saved, shownPreview, shownRun, shownUnknown, sourceChosen,
+  started, stopped,
 } from './sheet.mjs';
 import { WORDS } from './words.mjs';
 
@@ -65,7 +65,8 @@ function takeChoices(step) {
     if (state.notice === 'chooseThree') byId(`sheet-${missing(state)}`).focus();
   });
   byId('sheet-stop').addEventListener('click', () => step(stopped));
-  document.querySelector('nav a[href="#sheet-part"]').addEventListener('click', () => { byId('sheet-box').open = true; });
+  const toSheet = document.querySelector('nav a[href="#sheet-part"]');
+  toSheet.addEventListener('click', () => { byId('sheet-box').open = true; });
 }
 
 // A table of what is known, or nothing.

@@ -11,8 +11,8 @@ export const MOST_BYTES = 2 ** 28;
  * @typedef {{ id: string, calendar: string, date: string, order: string, names: Record<string, string> }} Picks
  * @typedef {{ source: Source, picks: Picks, columns: string[], status: 'runs' | 'ended' | 'stopped', key: string,
  *   reply: any, isSaved: boolean }} Run
- * @typedef {{ source: Source, reading: number, begins: any, picks: Picks, columns: string[], unknown: any, preview: any,
- *   run: Run | null, runs: number, worker: number, notice: string, folders: string[] }} SheetState
+ * @typedef {{ source: Source, reading: number, begins: any, picks: Picks, columns: string[], unknown: any,
+ *   preview: any, run: Run | null, runs: number, worker: number, notice: string, folders: string[] }} SheetState
  */
 
 const noPicks = () => ({ id: '', calendar: '', date: '', order: 'year', names: {} });
@@ -21,7 +21,8 @@ const noPicks = () => ({ id: '', calendar: '', date: '', order: 'year', names: {
 export function initial() {
   return {
     source: { file: null, encoding: 'utf-8', delimiter: 44 }, reading: 0, begins: null, picks: noPicks(),
-    columns: ['weekday', 'gregorian'], unknown: null, preview: null, run: null, runs: 0, worker: 0, notice: '', folders: [],
+    columns: ['weekday', 'gregorian'], unknown: null, preview: null, run: null, runs: 0, worker: 0, notice: '',
+    folders: [],
   };
 }
 

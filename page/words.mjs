@@ -25,8 +25,6 @@ export const WORDS = {
   date: 'Date',
   waits: 'Type a date, and its day comes here in all calendars.',
   weekday: 'Weekday',
-  dayNumber: 'Day number',
-  dayNumberIs: '1 is Monday, 1 January of the Gregorian year 1',
   isDay: (weekday, number) => `${weekday}, day number ${number}`,
   isNoDay: (reason) => `No day: ${reason}.`,
   isTooLong: 'the date is over 32 bytes',
@@ -54,8 +52,8 @@ export const WORDS = {
     longcount: 'Baktun, katun, tun, uinal, kin: `12.16.11.16.9`.',
     french: 'Year, month, day: `8-2-18`. Months: 1 Vendémiaire, 2 Brumaire, 3 Frimaire, 4 Nivôse, 5 Pluviôse, ' +
       '6 Ventôse, 7 Germinal, 8 Floréal, 9 Prairial, 10 Messidor, 11 Thermidor, 12 Fructidor, 13 the extra days. ' +
-      'Days of the years 4, 8 and 12 come out a day early: the leap years here are 4, 8 and 12, and those of the time ' +
-      'were 3, 7 and 11.',
+      'Days of the years 4, 8 and 12 come out a day early: the leap years here are 4, 8 and 12, and those of the ' +
+      'time were 3, 7 and 11.',
     roman: 'Year and month of the Kalends (K), Nones (N) or Ides (I), and the days up to it, it counted too: ' +
       '`1945-11-K3` is 30 October. `1944-3-K6B` is 25 February of a leap year. Both are Julian.',
   },
@@ -108,7 +106,6 @@ export const WORDS = {
     `${shortYears === 0 ? '' : `, ${WORDS.shortYears(shortYears)}`}.`,
   shortYears: (n) => `${WORDS.number(n)} with a year of one or two digits, taken as it stands: \`82\` is the year 82`,
   countsCaption: 'Refused records, by the reason',
-  countsNumber: 'Refusal',
   countsRecords: 'Records',
   countsReason: 'The record is refused because',
   countsAdvice: 'What to do',
@@ -122,11 +119,10 @@ export const WORDS = {
   save: (name, size) => ['Save ', own(name), `, ${size}`],
   savePart: (name, size) => ['Save the part that there is, ', own(name), `, ${size}`],
   brokeOff: (cause, words) => `Broke off, cause ${cause}: ${words}.`,
-  has: (words) => `The table has ${words}.`,
   hasNothing: 'There is no table.',
   notDone: (words) => ['Not converted: ', words, '.'],
-  tooLarge: (most) => `the file has over ${WORDS.bytes(most)}, more than the page takes; split it, or use the program ` +
-    '`register`',
+  tooLarge: (most) => `the file has over ${WORDS.bytes(most)}, more than the page takes; split it, or use the ` +
+    'program `register`',
   noMemory: 'memory ran out; close other pages or programs and try again, or split the file',
   otherColumns: 'the file has other columns than when it was chosen, so it is read anew: choose them again',
   fault: (why) => ['the page failed (', own(why), ')'],
@@ -161,8 +157,8 @@ export const WORDS = {
       'have other names or another order, there are more of them, the delimiter is another one, a title stands above ' +
       'them, or the text is UTF-16',
     7: 'it has more than 1,000,000 records',
-    8: 'it has no line `END,N` with its own delimiter, or only one like `END,N,,` that came from a spreadsheet; or the first one has ' +
-      'another number than its records, or is not the last line',
+    8: 'it has no line `END,N` with its own delimiter, or only one like `END,N,,` that came from a spreadsheet; or the ' +
+      'first one has another number than its records, or is not the last line',
   },
   causeAdvice: {
     1: 'Close other pages or programs and try again, or split the register.',

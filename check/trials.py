@@ -33,7 +33,8 @@ def program_of(path):
     """The program at this path, or the launcher; its first run, which may build it, has an end in six hours."""
     program = os.path.realpath(path or ROOT / "register")
     try:
-        subprocess.run([program, "--help"], stdin=subprocess.DEVNULL, stdout=subprocess.DEVNULL, check=True, timeout=6 * 3600)
+        how = {"stdin": subprocess.DEVNULL, "stdout": subprocess.DEVNULL, "timeout": 6 * 3600}
+        subprocess.run([program, "--help"], check=True, **how)
     except (OSError, subprocess.SubprocessError) as error:
         print(f"{program} does not run: {error}", "0 passed, 1 failed", sep="\n")
         sys.exit(1)

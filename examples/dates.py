@@ -1,5 +1,9 @@
-import io, subprocess
-import pandas as pd
+import io, subprocess, sys
+
+try:
+    import pandas as pd
+except ImportError:
+    sys.exit(f"{sys.executable} has no pandas: apt-get install python3-pandas gives it to /usr/bin/python3")
 
 records = pd.DataFrame(
     [["007", "julian", "1700-02-29"], ["NA", "gregorian", "1700-02-29"], ["C-6", "french", "2-4-15"]],

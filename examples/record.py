@@ -1,11 +1,19 @@
 """Prints a record of a register by its number, which stands in the column `row` of its table.
 
-Usage: python3 examples/record.py FILE NUMBER [DELIMITER]
+Usage: python3 examples/record.py FILE NUMBER [comma|semicolon|tab]
 """
 
 import csv, itertools, sys
 
-file, number, delimiter = (sys.argv[1:] + [","])[:3]
+DELIMITERS = {"comma": ",", "semicolon": ";", "tab": "\t", "\\t": "\t"}
+
+arguments = sys.argv[1:]
+if not 2 <= len(arguments) <= 3 or not arguments[1].isdecimal():
+    sys.exit(__doc__)
+file, number, word = (arguments + ["comma"])[:3]
+delimiter = DELIMITERS.get(word, word)
+if len(delimiter) != 1:
+    sys.exit(__doc__)
 csv.field_size_limit(sys.maxsize)
 with open(file, newline="", encoding="utf-8-sig", errors="replace") as text:
     # A blank line is no record, and record 0 is the header.

@@ -1,9 +1,12 @@
 //! How a thread waits, by clocks that cannot be read, stand still, go back, jump or run.
 
-use lane_rings::Patience;
+use lane_rings::{Gone, Patience, Sender, patient_lane};
+use std::alloc::{AllocError, Global};
 use std::cell::Cell;
 use std::io;
 use std::io::ErrorKind;
+use std::sync::Wait;
+use std::test::Fail;
 use std::time::{Clock, CpuClock, Duration};
 
 // What a clock does each time it is read, in microseconds.
@@ -249,4 +252,62 @@ fn naps_are_longer_one_lane_downstream_where_threads_share_processors(rt: HostRu
     assert!(rt; naps_by_lane(5, 2) == [100, 115, 130]);
     assert!(rt; naps_by_lane(1, 4) == [1, 1, 1]);
     assert!(rt; naps_by_lane(5, 4) == [100, 100, 100]);
+}
+
+// The runtime of a lane by a clock at whose first reading the sender leaves the lane.
+#[derive(Drop)]
+struct LeavingClock<'a, R> {
+    rt: &'a R,
+    clock: StepClock,
+    sender: Cell<Option<Sender<u32>>>,
+}
+
+impl<'a, R: Wait> Wait for LeavingClock<'a, R> {}
+
+impl<'a, R> Clock for LeavingClock<'a, R> {
+    fn monotonic(&self) -> io::Result<Duration> {
+        drop(self.sender.take());
+        self.clock.monotonic()
+    }
+
+    fn since_1970(&self) -> io::Result<Duration> {
+        self.monotonic()
+    }
+
+    fn sleep(&self, duration: Duration) {
+        self.clock.sleep(duration);
+    }
+}
+
+impl<'a, R> CpuClock for LeavingClock<'a, R> {
+    fn thread_cpu_time(&self) -> io::Result<Duration> {
+        self.clock.thread_cpu_time()
+    }
+
+    fn process_cpu_time(&self) -> io::Result<Duration> {
+        self.clock.process_cpu_time()
+    }
+}
+
+// Whether a receiver whose last wait was so long that it slept begins the next one anew: it yields before it looks
+// again, and finds the sender gone.
+fn waits_anew(rt: &impl Wait, alloc: Global) -> Result<bool, AllocError> {
+    let clock = StepClock::new(Step::Forward(1000));
+    let mut patience = Patience::for_run(1, 4);
+    let slept = clock.rest(&mut patience, 4);
+    clock.sleeps.set(0);
+    let (sender, mut receiver) = patient_lane(alloc, 1, patience)?;
+    let clock = LeavingClock {
+        rt,
+        clock,
+        sender: Cell::new(Some(sender)),
+    };
+    let is_gone = receiver.wait(&clock) == Err(Gone { value: () });
+    Ok(is_gone && slept == (1, 750) && clock.clock.sleeps.get() == 0)
+}
+
+#[test]
+fn each_wait_of_a_receiver_begins_anew(rt: HostRuntime) -> Result<(), Fail> {
+    assert!(rt; waits_anew(&rt, rt.alloc())?);
+    Ok(())
 }

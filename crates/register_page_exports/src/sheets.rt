@@ -1,11 +1,11 @@
 //! Sheets, for a page: lists of fields that it lends, and texts and lists in rooms that it lends.
 
-ghost use Rattle.std.specs.Prelude.{◌≡◌, ◌≢◌, ◌⊎◌, length, take};
+ghost use Rattle.std.specs.Prelude.{◌≡◌, ◌≢◌, ◌↔◌, ◌⊎◌, length, take};
 ghost use Rattle.std.specs.Int.{div_ceil};
 ghost use Rattle.register_records.specs.Entries.{text_records};
 ghost use Rattle.register_page.specs.Rooms.{with_front};
 ghost use Rattle.register_sheets.specs.Fields.{fields_by};
-ghost use Rattle.register_sheets.specs.Sheets.{groups, joined, records_text};
+ghost use Rattle.register_sheets.specs.Sheets.{HasLongField, all_chosen, groups, joined, records_text};
 ghost use Rattle.register_page_exports.specs.SheetReports.{PutsFields, PutsNothing, PutsText};
 
 use register_page::put;
@@ -69,6 +69,8 @@ pub extern "C" fn sheet_pick(
     ensures picked { report.new.ending ≡ 0 → PutsFields places.now (take most (text_records delimiter sheet.now))
         bytes.old bytes.new lengths.old lengths.new report.new }
     ensures none { report.new.ending ≢ 0 → PutsNothing bytes.old bytes.new lengths.old lengths.new report.new }
+    ensures long { report.new.ending ≡ 2
+        → HasLongField (all_chosen places.now (take most (text_records delimiter sheet.now))) }
 {
     match pick(alloc, sheet, delimiter, places, most) {
         Ok(picked) => *report = put_fields(&picked, bytes, lengths),
@@ -111,6 +113,7 @@ pub extern "C" fn sheet_write(
         room.old room.new report.new.length }
     ensures none { report.new.ending ≢ 0 → (report.new.length ≡ 0) × (room.new ≡ room.old)
         × ((report.new.ending ≡ 1) ⊎ ((report.new.ending ≡ 3) × (width ≡ 0))) }
+    ensures width { (report.new.ending ≡ 3) ↔ (width ≡ 0) }
 {
     match write(alloc, bytes, lengths, width, delimiter) {
         Ok(text) => *report = put_text(text.as_slice(), room),

@@ -1,11 +1,12 @@
 -- What a table in the making holds. No public contract cites this file.
-use Rattle.std.specs.Prelude.{◌≡◌, ℕ, List, [], length, map, Option, None, Some, false, true}
+use Rattle.std.specs.Prelude.{◌≡◌, ◌≤◌, ℕ, List, [], length, map, Option, None, Some, false, true}
 use Rattle.std.specs.List.{Contains}
 use Rattle.std.specs.Io.KnownBytes.{Appends, append_known}
 use Rattle.register_records.specs.declared.outputs.Output as outputs
 use Rattle.register_records.specs.declared.rows.Row.{Row}
 use Rattle.register_records.specs.declared.setups.Setup.{Setup}
 use Rattle.register_records.specs.declared.writing.RowWriter.{RowWriter}
+use Rattle.register_records.specs.declared.writing.TheConstants.{MOST_WAITING}
 use Rattle.register_records.specs.Entries.{AreNumberedFrom, Numbered}
 use Rattle.register_records.specs.Outcomes.{TableRow}
 use Rattle.register_records.specs.Seen.{entry_seen}
@@ -41,6 +42,10 @@ module _ {W : Type 0} {o : outputs.Ghosts W} where
 
   abbrev pub made_by : TableWriter W o → Setup
   made_by table = table.setup
+
+  -- so many bytes of lines wait that they are to be written, and the output has not failed
+  abbrev pub IsFull : TableWriter W o → Type 0
+  IsFull table = (output_failed table.course ≡ false) × (MOST_WAITING ≤ length (waiting_of table.writer))
 
   -- no line waits, unless the output failed
   abbrev pub AllSent : TableWriter W o → Type 0

@@ -30,6 +30,7 @@ pub(crate) struct RunningSource<R: Read, W: Output> {
 
 impl<R: Read + Drop, W: Output + Drop> RunningSource<R, W> {
     ghost use Rattle.register_run.specs.Cases.{case, case_of, ended_case};
+    ghost use Rattle.register_run.specs.TablesWritten.{AllSent, IsFull};
 
     /// Starts the threads of a source.
     pub(crate) fn start<'s, 'e, T: Host, G: Gate + Sync>(
@@ -54,20 +55,18 @@ impl<R: Read + Drop, W: Output + Drop> RunningSource<R, W> {
         self.open
     }
 
-    /// Takes the rows that are there now and writes them in one call. Returns whether there was an item.
+    /// Takes the rows that are there now, and writes them in one call. Returns whether there was an item.
     #[tactic(auto, using(crate::proofs::RunningSourceLemmas::wrote_same))]
     pub(crate) fn visit(&mut self) -> bool
-        ensures { case_of self.new ≡ case_of self.old }
+        ensures case { case_of self.new ≡ case_of self.old }
+        ensures sent { AllSent self.new.table }
     {
         let mut moved = false;
         for _ in 0..MOST_AT_ONCE {
-            if !self.step() {
+            if self.table.is_full() || !self.step() {
                 break;
             }
             moved = true;
-            if self.table.is_full() {
-                break;
-            }
         }
         self.table.send();
         moved
@@ -76,6 +75,7 @@ impl<R: Read + Drop, W: Output + Drop> RunningSource<R, W> {
     /// Takes one item, where one is there now, and adds it to the table if it is a row.
     #[tactic(auto, using(crate::proofs::RunningSourceLemmas::wrote_same))]
     fn step(&mut self) -> bool
+        requires { IsFull self.old.table → ⊥ }
         ensures { case_of self.new ≡ case_of self.old }
     {
         if !self.open {
@@ -100,6 +100,7 @@ impl<R: Read + Drop, W: Output + Drop> RunningSource<R, W> {
     /// Adds the row that a look found to the table from where it lies in its lane, unless it came after a stop.
     #[tactic(auto, using(crate::proofs::RunningSourceLemmas::wrote_row))]
     fn add_row(&mut self)
+        requires { IsFull self.old.table → ⊥ }
         ensures case { case_of self.new ≡ case_of self.old }
         ensures threads { self.new.threads ≡ self.old.threads }
     {

@@ -1,14 +1,16 @@
 //! The table of a source, as far as it was written.
 
 ghost use Rattle.std.specs.Prelude.{◌≡◌, ◌≢◌, ◌↔◌, ◌+◌, ◌<◌, ◌≤◌, ◌⊎◌, [], ◌∷◌, ◌++◌, None, Some, IfErr, IfSome};
-ghost use Rattle.std.specs.Prelude.{true, false, vec_capacity, vec_len};
+ghost use Rattle.std.specs.Prelude.{true, false, length, vec_capacity, vec_len};
 ghost use Rattle.std.specs.Option.{is_some};
 ghost use Rattle.std.proofs.Props.{props};
 ghost use Rattle.register_records.specs.Causes.{row_fault_cause};
 ghost use Rattle.register_records.specs.Entries.{record_limit};
 ghost use Rattle.register_records.specs.Tables.{refusal_notes};
-ghost use Rattle.register_records.specs.Views.{row_seen, has_output_failed};
+ghost use Rattle.register_records.specs.Views.{row_seen, has_output_failed, waiting_in};
 ghost use Rattle.register_records.specs.declared.ends.Cause.TheVariants as cause;
+ghost use Rattle.register_records.specs.declared.row_lines.TheConstants.{LINE_ROOM};
+ghost use Rattle.register_records.specs.declared.writing.TheConstants.{MOST_WAITING};
 ghost use Rattle.register_run.specs.Courses.{fault_of, is_of_table, output_failed};
 
 use crate::ended_sources::{EndedSource, Met, end_of_source};
@@ -79,6 +81,9 @@ pub(crate) struct TableWriter<W: Output> {
     ghost of_table: { IfSome (fault_of course) (λ c. is_of_table c ≡ true) } by { Prim.hlevel props },
     ghost limited: { rows ≤ record_limit },
     ghost few_refused: { vec_len journal ≤ rows },
+    // No more waits than so many bytes and a line.
+    ghost bounded: { output_failed course ≡ false
+        → IfSome writer (λ w. length (waiting_in w) ≤ MOST_WAITING + LINE_ROOM) } by { Prim.hlevel props },
 }
 
 impl<W: Output + Drop> TableWriter<W> {
@@ -87,7 +92,7 @@ impl<W: Output + Drop> TableWriter<W> {
     ghost use Rattle.register_records.specs.declared.rows.Row.{Row};
     ghost use Rattle.std.specs.Prelude.{IfOk};
     ghost use Rattle.register_run.specs.SourceThreads.{AreStaffed};
-    ghost use Rattle.register_run.specs.TablesWritten.{AllSent, Holds, made_by, made_for};
+    ghost use Rattle.register_run.specs.TablesWritten.{AllSent, Holds, IsFull, made_by, made_for};
     ghost use Rattle.register_run.specs.Written.{Concludes};
 
     /// The table of a source before its heading.
@@ -109,8 +114,14 @@ impl<W: Output + Drop> TableWriter<W> {
         }
     }
 
-    /// Whether so many lines wait that they are to be written. Until then a row takes no memory for its line.
-    pub(crate) fn is_full(&self) -> bool {
+    /// Whether so many lines wait that they are to be written. Until then a row takes no memory for its line. Where the
+    /// output has failed, none is written any more and none is added.
+    pub(crate) fn is_full(&self) -> bool
+        ensures { (result ≡ true) ↔ IsFull self.now }
+    {
+        if let Course::OutputFailed(_) = self.course {
+            return false;
+        }
         match &self.writer {
             Some(writer) => writer.pending_len() >= MOST_WAITING,
             None => false,
@@ -120,6 +131,7 @@ impl<W: Output + Drop> TableWriter<W> {
     /// Adds a row that was taken, where no fault was met: its line waits to be sent. A row with another number than the
     /// next one or with other targets is `Unconfirmed`, and after a fault nothing is added.
     pub(crate) fn add(&mut self, row: &Row)
+        requires { IsFull self.old → ⊥ }
         ensures output { made_for self.new ≡ made_for self.old }
         ensures setup { made_by self.new ≡ made_by self.old }
         ensures rows { (rows : List Row) → Holds self.old rows
@@ -142,6 +154,7 @@ impl<W: Output + Drop> TableWriter<W> {
 
     /// Writes the heading, where that was not done and no fault was met.
     pub(crate) fn write_heading(&mut self)
+        ensures full { IsFull self.new → IsFull self.old }
         ensures output { made_for self.new ≡ made_for self.old }
         ensures setup { made_by self.new ≡ made_by self.old }
         ensures rows { (rows : List Row) → Holds self.old rows → Holds self.new rows }
@@ -166,6 +179,7 @@ impl<W: Output + Drop> TableWriter<W> {
     /// before.
     fn append(&mut self, row: &Row) -> Result<(), RowFault>
         requires unfailed { output_failed self.old.course ≡ false }
+        requires room { IsFull self.old → ⊥ }
         requires number { row.now.entry.number ≡ self.old.rows + 1 }
         requires targets { row_targets row.now ≡ targets_of (made_by self.old) }
         ensures output { made_for self.new ≡ made_for self.old }

@@ -1,14 +1,16 @@
 -- Records that are picked, grouped and joined, one after the other.
 use Rattle.std.proofs.Common.{◌≡◌, ◌<◌, ◌+◌, ◌∙◌, ℕ, suc, List, [], ◌∷◌, ◌++◌, take, map, length, get_or, sym, arith}
-use Rattle.std.proofs.Common.{append_assoc, append-nil, max, Option, None, IsSome, IfSome}
+use Rattle.std.proofs.Common.{append_assoc, append-nil, max, subst, Option, None, IsSome, IfSome}
 use Rattle.std.specs.List.{concat}
 use Rattle.std.proofs.lemmas.List.{flat_map_more, map-append, take_more}
+use Rattle.std.proofs.lemmas.List.Concat.{flat_map-append}
+use Rattle.std.proofs.lemmas.List.Elements.{Contains-append_left, Contains-append_right}
 use Rattle.std.proofs.lemmas.List.Folds.{concat-append}
 use Rattle.csv.specs.Records.{field_at}
 use Rattle.register_records.specs.Entries.{Fields}
 use Rattle.register_records.specs.ReadingState.{TakesFirst}
 use Rattle.register_sheets.specs.Reading.{left_in}
-use Rattle.register_sheets.specs.Sheets.{all_chosen, chosen, widest}
+use Rattle.register_sheets.specs.Sheets.{HasLongField, all_chosen, chosen, widest}
 
 -- a field that a record has not
 pub absent : (fields : List (List ℕ)) (place : ℕ) → field_at fields place ≡ None → get_or fields place [] ≡ []
@@ -38,6 +40,16 @@ one_more_length old now new fields field h e =
 pub all_more_chosen : (places : List ℕ) (records : List Fields) (fields : Fields)
     → all_chosen places (records ++ fields ∷ []) ≡ all_chosen places records ++ chosen places fields
 all_more_chosen places records fields = sym (flat_map_more (chosen places) [] records fields)
+
+-- a long field of one of the records is one of them all
+pub long_among : (places : List ℕ) (done rest all : List Fields) (fields : Fields) → done ++ fields ∷ rest ≡ all
+    → HasLongField (chosen places fields) → HasLongField (all_chosen places all)
+long_among places done rest all fields is (k, field, below, here, long) =
+    let (at, within, there) =
+    Contains-append_right (all_chosen places done) (all_chosen places (fields ∷ rest)) field
+    (Contains-append_left (chosen places fields) (all_chosen places rest) field (k, below, here)) in
+    subst (λ a. HasLongField (all_chosen places a)) is
+    (subst HasLongField (sym (flat_map-append (chosen places) done (fields ∷ rest))) (at, field, within, there, long))
 
 pub widest_more : (records : List Fields) (fields : Fields)
     → widest (records ++ fields ∷ []) ≡ max (widest records) (length fields)

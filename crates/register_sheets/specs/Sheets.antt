@@ -1,6 +1,6 @@
 -- Records of a sheet, and the text of records.
-use Rattle.std.specs.Prelude.{◌≡◌, ◌++◌, ◌-◌, ℕ, zero, suc, List, [], ◌∷◌, length, map, max, take, drop, get_or}
-use Rattle.std.specs.Prelude.{replicate}
+use Rattle.std.specs.Prelude.{◌≡◌, ◌≤◌, ◌++◌, ◌-◌, ◌^◌, ℕ, zero, suc, List, [], ◌∷◌, Any, length, map, max, take, drop}
+use Rattle.std.specs.Prelude.{get_or, replicate}
 use Rattle.std.specs.List.{concat, flat_map}
 use Rattle.register_records.specs.Entries.{Fields}
 use Rattle.register_records.specs.Lines.{line_text}
@@ -13,6 +13,10 @@ chosen places fields = map (λ place. get_or fields place []) places
 -- those of each record
 abbrev pub all_chosen : List ℕ → List Fields → Fields
 all_chosen places records = flat_map (chosen places) records
+
+-- one of these fields has 4 GiB or more
+abbrev pub HasLongField : Fields → Type 0
+HasLongField fields = Any (λ field. 2 ^ 32 ≤ length field) fields
 
 -- the most fields of a record
 abbrev pub widest : List Fields → ℕ

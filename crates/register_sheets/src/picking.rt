@@ -1,10 +1,10 @@
 //! The fields of records.
 
-ghost use Rattle.std.specs.Prelude.{◌≡◌, ◌<◌, ◌+◌, ◌++◌, ◌^◌, ◌∷◌, [], List, map, length, take, IfOk, OnOk};
+ghost use Rattle.std.specs.Prelude.{◌≡◌, ◌<◌, ◌≤◌, ◌+◌, ◌++◌, ◌^◌, ◌∷◌, [], List, map, length, take, IfErr, IfOk, OnOk};
 ghost use Rattle.std.specs.List.{concat};
 ghost use Rattle.csv.specs.Records.{fields_of};
 ghost use Rattle.register_records.specs.Entries.{Fields, text_records};
-ghost use Rattle.register_sheets.specs.Sheets.{IsPicked, chosen};
+ghost use Rattle.register_sheets.specs.Sheets.{HasLongField, IsPicked, all_chosen, chosen};
 
 use crate::reading::{SheetFault, field_at, read_next, records_of};
 use csv::ByteRecord;
@@ -28,6 +28,7 @@ impl Picked {
     fn push(&mut self, field: &[u8]) -> Result<(), SheetFault>
         ensures bytes { OnOk result (self.new.bytes.items ≡ self.old.bytes.items ++ field.now) }
         ensures lengths { OnOk result (self.new.lengths.items ≡ self.old.lengths.items ++ length field.now ∷ []) }
+        ensures long { IfErr result (λ e. e ≡ SheetFault.LongField → 2 ^ 32 ≤ length field.now) }
         ensures kept { (self.new.records ≡ self.old.records) × (self.new.widest ≡ self.old.widest) }
     {
         let Ok(length) = u32::try_from(field.len()) else {
@@ -45,6 +46,8 @@ impl Picked {
             ≡ self.old.bytes.items ++ concat (chosen places.now (fields_of record.now))) }
         ensures lengths { OnOk result (self.new.lengths.items
             ≡ self.old.lengths.items ++ map length (chosen places.now (fields_of record.now))) }
+        ensures long { IfErr result (λ e. e ≡ SheetFault.LongField
+            → HasLongField (chosen places.now (fields_of record.now))) }
         ensures kept { (self.new.records ≡ self.old.records) × (self.new.widest ≡ self.old.widest) }
     {
         'places: for place in places {
@@ -56,8 +59,10 @@ impl Picked {
     /// Appends the fields of a record at these places, and counts the record.
     fn add(&mut self, record: &ByteRecord, places: &[u32]) -> Result<(), SheetFault>
         requires { self.old.records + 1 < 2 ^ 64 }
-        ensures { OnOk result ((records : List Fields) → IsPicked places.now self.old records
+        ensures picked { OnOk result ((records : List Fields) → IsPicked places.now self.old records
             → IsPicked places.now self.new (records ++ fields_of record.now ∷ [])) }
+        ensures long { IfErr result (λ e. e ≡ SheetFault.LongField
+            → HasLongField (chosen places.now (fields_of record.now))) }
     {
         self.push_chosen(record, places)?;
         self.records += 1;
@@ -89,8 +94,10 @@ pub fn pick(
     places: &[u32],
     most: usize,
 ) -> Result<Picked, SheetFault>
-    ensures { IfOk result (λ picked.
+    ensures picked { IfOk result (λ picked.
         IsPicked places.now picked (take most (text_records delimiter sheet.now))) }
+    ensures long { IfErr result (λ e. e ≡ SheetFault.LongField
+        → HasLongField (all_chosen places.now (take most (text_records delimiter sheet.now)))) }
 {
     let mut records = records_of(alloc, sheet, delimiter);
     let mut record = ByteRecord::new(alloc);

@@ -1,6 +1,6 @@
 //! The text of records.
 
-ghost use Rattle.std.specs.Prelude.{◌≡◌, ◌≢◌, length, IfOk, IfErr};
+ghost use Rattle.std.specs.Prelude.{◌≡◌, ◌≢◌, ◌↔◌, length, Err, IfOk};
 ghost use Rattle.std.specs.Int.{div_ceil};
 ghost use Rattle.register_sheets.specs.Fields.{fields_by};
 ghost use Rattle.register_sheets.specs.Sheets.{groups, records_text};
@@ -32,7 +32,7 @@ pub fn write(
 ) -> Result<Vec<u8>, SheetFault>
     ensures text { IfOk result (λ text. (width ≢ 0) × (text.items ≡ records_text delimiter
         (groups (div_ceil (length lengths.now) width) width (fields_by lengths.now bytes.now)))) }
-    ensures width { IfErr result (λ e. e ≡ SheetFault.NoWidth → width ≡ 0) }
+    ensures width { (result ≡ Err SheetFault.NoWidth) ↔ (width ≡ 0) }
 {
     if width == 0 {
         return Err(SheetFault::NoWidth);

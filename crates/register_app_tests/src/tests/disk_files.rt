@@ -1,7 +1,8 @@
 //! Files of the system, and their tables.
 
 use crate::tests::helpers::{Heard, ONE_RECORD, ONE_ROW, hear};
-use register_files::{Destination, Disk, Exclusive, Source};
+use register_files::{Destination, Disk, Exclusive, FileStore, LoggedWriter, Source};
+use register_records::PlainOutput;
 use std::alloc::{AllocError, Global};
 use std::fs::OpenOptions;
 use std::os::unix::fs::symlink;
@@ -184,4 +185,26 @@ fn files_on_disk_get_their_tables(rt: HostRuntime) -> Result<(), Fail> {
     }
     fs::remove_dir_all(&rt, FOLDER)?;
     Ok(())
+}
+
+/// Two folders of two file systems of Linux, each of which has the number 1 there.
+const PROCESSES: &str = "/proc";
+
+const DEVICES: &str = "/sys";
+
+/// Whether the system's store says that two names are those of one file.
+fn are_one_file<F: Files>(files: &F, name: &str, other: &str) -> bool
+where
+    F::File: Exclusive,
+{
+    FileStore::<
+        Source<&'static [u8], F::File>,
+        PlainOutput<LoggedWriter<Destination<Vec<u8>, F::File>>>,
+    >::are_one_file(&Disk::new(files), name, other)
+}
+
+#[test]
+fn files_of_two_file_systems_are_two(rt: HostRuntime) {
+    assert!(rt; are_one_file(&rt, PROCESSES, "/proc/."));
+    assert!(rt; !are_one_file(&rt, PROCESSES, DEVICES));
 }

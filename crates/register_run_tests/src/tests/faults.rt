@@ -67,6 +67,15 @@ fn sinks_of(alloc: Global, faults: Faults) -> Result<Vec<Sink>, AllocError> {
     Ok(sinks)
 }
 
+/// How many bytes these are of the front of a table, or none where they are anything else.
+fn bytes_of_front(bytes: &[u8], table: &[u8]) -> Option<usize> {
+    if table.starts_with(bytes) {
+        Some(bytes.len())
+    } else {
+        None
+    }
+}
+
 /// How many lines these bytes are of the front of a table, or none where they are anything else.
 fn lines_of_front(bytes: &[u8], table: &[u8]) -> Option<usize> {
     if !table.starts_with(bytes) || bytes.last().is_some_and(|byte| *byte != b'\n') {
@@ -76,11 +85,12 @@ fn lines_of_front(bytes: &[u8], table: &[u8]) -> Option<usize> {
 }
 
 /// What is seen of a source and its output: the number of the cause, or 0, whether the output has failed, and how many
-/// lines of the table stand on it, if nothing else does.
+/// bytes and lines of the table's front stand on it, if nothing else does.
 #[derive(Clone, Copy)]
 struct Seen {
     cause: u8,
     has_failed: bool,
+    bytes: Option<usize>,
     lines: Option<usize>,
 }
 
@@ -113,6 +123,7 @@ fn seen_beside_whole(report: &Report<Sink>, table: &[u8]) -> Option<Seen> {
     Some(Seen {
         cause,
         has_failed: sink.has_failed(),
+        bytes: bytes_of_front(sink.bytes(), table),
         lines: lines_of_front(sink.bytes(), table),
     })
 }
@@ -209,7 +220,7 @@ fn count_of_broken_writes(
             return Ok(place.saturating_sub(1));
         }
         assert!(rt;
-            seen.cause == 4 && seen.has_failed,
+            seen.cause == 4 && seen.has_failed && seen.lines.is_some(),
             "{stripes} stripes, at {place}, {by_flush}"
         );
     }
@@ -222,6 +233,25 @@ fn a_write_and_a_flush_fail_at_each_place(rt: HostRuntime) -> Result<(), Fail> {
         let broken = count_of_broken_writes(&rt, rt.alloc(), stripes, by_flush)?;
         // The heading and the rows are at least two writes.
         assert!(rt; (2..MANY - 1).contains(&broken), "{broken}");
+    }
+    Ok(())
+}
+
+// Each write takes one byte, so the heading or the line of the first row is cut where a write fails. What was written
+// before stays, and nothing is added, no line feed either.
+#[test]
+fn a_line_that_is_cut_ends_in_what_was_written(rt: HostRuntime) -> Result<(), Fail> {
+    for (stripes, written) in [(1, 0), (1, 7), (1, 40), (1, 50), (4, 7), (4, 50)] {
+        let faults = Faults {
+            write: written.saturating_add(1),
+            most: 1,
+            ..NO_FAULT
+        };
+        let seen = seen_of(&rt, rt.alloc(), (stripes, 3), faults)?;
+        assert!(rt;
+            seen.cause == 4 && seen.has_failed && seen.bytes == Some(written as usize),
+            "{stripes} stripes, {written} bytes"
+        );
     }
     Ok(())
 }

@@ -1,6 +1,8 @@
 use Rattle.std.proofs.Common.{◌≡◌, ◌∙◌, ◌-◌, ◌+◌, [], ◌∷◌, ◌++◌, suc, append_assoc, ap, arith, length-append, rules}
 use Rattle.std.proofs.Common.{true, Ok}
 use Rattle.csv.specs.Records.{fields_of}
+use Rattle.register_records.proofs.StepLemmas.{passed_on}
+use Rattle.register_sheets.proofs.SheetLemmas.{long_among}
 use Rattle.register_sheets.proofs.picking.pick.Goals as goal
 
 pub records-preserved : goal.records-preserved
@@ -15,8 +17,19 @@ records-preserved c =
       reading = c.read_next.ensures.reading (c.in_ok-read_next.was ∙ ap Ok yes);
       done = (
         done ++ fields ∷ [],
-        c.in_ok-add.ensures done picked,
+        c.in_ok-add.ensures.picked done picked,
         length-append done (fields ∷ []) ∙ ap (λ n. n + 1) counted,
         append_assoc done (fields ∷ []) _ ∙ rw (found, step) at rest,
       );
     }
+
+pub returns-in_err-add-clause-long : goal.returns-in_err-add-clause-long
+returns-in_err-add-clause-long c =
+    let (done, picked, counted, rest) = c.records.invariant.done in
+    let yes : c.in_ok-read_next.field-0 ≡ true = search rules in
+    let found = c.read_next.ensures.found (c.in_ok-read_next.was ∙ ap Ok yes) in
+    let step : c.args.most - c.records.counter ≡ suc (c.args.most - (c.records.counter + 1)) =
+    omega (arith, c.records-test.true) in
+    passed_on _ c.in_err-add.field-0.0 _ c.from_residual-in_err-add.ensures.1 (λ is.
+    long_among c.args.places.now done _ _ (fields_of c.read_next.new.record) (rw (found, step) at rest)
+    (c.in_err-add.ensures.long is))

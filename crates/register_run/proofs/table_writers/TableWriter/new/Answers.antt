@@ -12,4 +12,5 @@ invariant_of-result g c = record {
   of_table = tt;
   limited = omega arith;
   few_refused = omega arith;
+  bounded = λ e. tt;
 }

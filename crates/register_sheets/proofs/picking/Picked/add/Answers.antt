@@ -6,8 +6,8 @@ use Rattle.register_sheets.specs.Sheets.{all_chosen, chosen}
 use Rattle.register_sheets.proofs.SheetLemmas.{all_more_chosen, widest_more}
 use Rattle.register_sheets.proofs.picking.Picked.add.Goals as goal
 
-pub returns : goal.returns
-returns c records picked =
+pub returns-clause-picked : goal.returns-clause-picked
+returns-clause-picked c records picked =
     let fields = fields_of c.args.record.now in
     let places = c.args.places.now in
     let more = all_more_chosen places records fields in

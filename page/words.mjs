@@ -1,9 +1,12 @@
-// All words of the page, in one language: for another, this file is the one to write anew. Between ` stand words of a
-// register, as they are typed. The reasons and causes are those of the documents, which page/try-words compares.
+// All words of the page, in one language: for another, this file is the one to write anew. Words are a text, in which
+// words of a register, as they are typed, stand between `; or a list of such texts and of texts of a user's own, as
+// names of files are, in which a ` is a letter. The reasons and causes are those of the documents, which page/try-words
+// compares.
 
-'use strict';
+// A text of a user's own.
+const own = (text) => ({ own: text });
 
-const WORDS = {
+export const WORDS = {
   lang: 'en',
   title: 'register: historical dates from calendar to calendar',
   name: 'register',
@@ -13,7 +16,7 @@ const WORDS = {
     'Trusted, and not proved: the compiler for another target, linker and lowering, the heap, the browser’s ' +
     'engine, and the script of this page. How a sheet is cut is its user’s choice.',
   noScript: 'This page needs JavaScript and WebAssembly, which are switched off here.',
-  noModule: (why) => `The converter could not be started in this browser: ${why}`,
+  noModule: (why) => ['The converter could not be started in this browser: ', own(why)],
   parts: 'Parts of this page',
 
   // ---- One date ----
@@ -22,10 +25,9 @@ const WORDS = {
   date: 'Date',
   waits: 'Type a date, and its day comes here in all calendars.',
   weekday: 'Weekday',
-  dayNumber: 'Day number',
-  dayNumberIs: '1 is Monday, 1 January of the Gregorian year 1',
   isDay: (weekday, number) => `${weekday}, day number ${number}`,
   isNoDay: (reason) => `No day: ${reason}.`,
+  isTooLong: 'the date is over 32 bytes',
   noCell: 'before its first day',
   calendars: {
     gregorian: 'Gregorian', iso: 'ISO week', julian: 'Julian', coptic: 'Coptic', ethiopic: 'Ethiopic',
@@ -50,7 +52,7 @@ const WORDS = {
     longcount: 'Baktun, katun, tun, uinal, kin: `12.16.11.16.9`.',
     french: 'Year, month, day: `8-2-18`. Months: 1 Vendémiaire, 2 Brumaire, 3 Frimaire, 4 Nivôse, 5 Pluviôse, ' +
       '6 Ventôse, 7 Germinal, 8 Floréal, 9 Prairial, 10 Messidor, 11 Thermidor, 12 Fructidor, 13 the extra days. ' +
-      'Days of the years 4, 8 and 12 come out one day early: the leap years here are 4, 8 and 12, and those of the ' +
+      'Days of the years 4, 8 and 12 come out a day early: the leap years here are 4, 8 and 12, and those of the ' +
       'time were 3, 7 and 11.',
     roman: 'Year and month of the Kalends (K), Nones (N) or Ides (I), and the days up to it, it counted too: ' +
       '`1945-11-K3` is 30 October. `1944-3-K6B` is 25 February of a leap year. Both are Julian.',
@@ -68,7 +70,7 @@ const WORDS = {
   tab: 'a tab',
   sealed: 'The registers are sealed',
   sealedIs: 'They have the header `id,calendar,date,note`, and end with the line `END,N` for their N records. One ' +
-    'that lost records breaks off.',
+    'that lost whole records breaks off; only one that was cut inside of a record with the id `END` can look whole.',
   columns: 'Columns of the table',
   columnsIs: 'They come in the order in which you tick them.',
   all: 'All',
@@ -79,10 +81,14 @@ const WORDS = {
   stop: 'Stop',
   tables: 'Tables',
   nothingChosen: 'Choose a register first.',
-  chosen: (name, size) => `${name}, ${size}`,
+  chosen: (name, size) => [own(name), `, ${size}`],
+  folders: (names) => ['A folder cannot be taken: ', own(names.join(', ')), '. Open it, and choose its files.'],
+  stopFirst: 'A conversion goes on: stop it first.',
   bytes: (n) => {
-    const [size, unit] = n < 1e3 ? [n, n === 1 ? 'byte' : 'bytes'] : n < 1e6 ? [n / 1e3, 'KB'] : [n / 1e6, 'MB'];
-    return `${size < 10 && n >= 1e3 ? size.toFixed(1) : Math.round(size)} ${unit}`;
+    const units = [{ unit: 1, name: n === 1 ? 'byte' : 'bytes' }, { unit: 1e3, name: 'KB' }, { unit: 1e6, name: 'MB' },
+      { unit: 1e9, name: 'GB' }];
+    const { unit, name } = units.filter((it) => n >= it.unit).pop() || units[0];
+    return `${n / unit < 10 && unit > 1 ? String(+(n / unit).toFixed(1)) : Math.round(n / unit)} ${name}`;
   },
   number: (n) => n.toLocaleString('en'),
   progress: 'Progress',
@@ -91,14 +97,15 @@ const WORDS = {
   running: (seconds) => `Is being converted, ${seconds} s so far.`,
   stopped: 'Stopped.',
   stoppedAfter: (done) => `Stopped. ${done === 0 ? 'Nothing was converted.' : `${done} converted before.`}`,
-  endedOne: (name, words) => `${name}: ${words}`,
+  endedOne: (name, words) => [own(name), ': ', words],
   ended: (whole, broken) => [whole && `${whole} converted to the end`, broken && `${broken} broke off`]
     .filter(Boolean).join(', ') + '.',
   rows: (n) => (n === 1 ? '1 row' : `${WORDS.number(n)} rows`),
   refused: (n) => (n === 0 ? 'none refused' : `${WORDS.number(n)} refused`),
-  whole: (rows, refused) => `${WORDS.rows(rows)}, ${WORDS.refused(refused)}.`,
+  whole: (rows, refused, shortYears = 0) => `${WORDS.rows(rows)}, ${WORDS.refused(refused)}` +
+    `${shortYears === 0 ? '' : `, ${WORDS.shortYears(shortYears)}`}.`,
+  shortYears: (n) => `${WORDS.number(n)} with a year of one or two digits, taken as it stands: \`82\` is the year 82`,
   countsCaption: 'Refused records, by the reason',
-  countsNumber: 'Refusal',
   countsRecords: 'Records',
   countsReason: 'The record is refused because',
   countsAdvice: 'What to do',
@@ -109,16 +116,16 @@ const WORDS = {
     return n === 1 ? 'The refused row' : `The ${n} refused rows`;
   },
   reason: (number, reason) => `${number}: ${reason}`,
-  save: (name) => `Save ${name}`,
-  savePart: (name) => `Save the part that there is, ${name}`,
+  save: (name, size) => ['Save ', own(name), `, ${size}`],
+  savePart: (name, size) => ['Save the part that there is, ', own(name), `, ${size}`],
   brokeOff: (cause, words) => `Broke off, cause ${cause}: ${words}.`,
-  has: (words) => `The table has ${words}.`,
   hasNothing: 'There is no table.',
-  notDone: (words) => `Not converted: ${words}.`,
-  tooLarge: 'the file has over 1 GB, more than a page can hold; split it, or use the program `register`',
+  notDone: (words) => ['Not converted: ', words, '.'],
+  tooLarge: (most) => `the file has over ${WORDS.bytes(most)}, more than the page takes; split it, or use the ` +
+    'program `register`',
   noMemory: 'memory ran out; close other pages or programs and try again, or split the file',
-  noReading: 'the file could not be read; is it a folder, or was it moved or changed? Choose it again',
-  fault: (why) => `the page failed (${why})`,
+  otherColumns: 'the file has other columns than when it was chosen, so it is read anew: choose them again',
+  fault: (why) => ['the page failed (', own(why), ')'],
 
   // The reason of each refusal, from 1, and what to do on this page.
   refusals: [
@@ -150,13 +157,13 @@ const WORDS = {
       'have other names or another order, there are more of them, the delimiter is another one, a title stands above ' +
       'them, or the text is UTF-16',
     7: 'it has more than 1,000,000 records',
-    8: 'it has no line `END,N` with its own delimiter, or only one like `END,N,,` that came from a spreadsheet; or the first one has ' +
-      'another number than its records, or is not the last line',
+    8: 'it has no line `END,N` with its own delimiter, or only one like `END,N,,` that came from a spreadsheet; or the ' +
+      'first one has another number than its records, or is not the last line',
   },
   causeAdvice: {
     1: 'Close other pages or programs and try again, or split the register.',
     4: 'The table needs more memory than there is: choose fewer columns, or split the register.',
-    5: 'Choose it again.',
+    5: 'It was changed since it was chosen, or while it was read, or was moved, or is a folder: choose it again.',
     6: 'Does another sign stand between its fields? Choose it above. Has it other columns, a title line or another ' +
       'encoding? Take it in as a sheet, below. A workbook (.xlsx, .ods) is saved as CSV UTF-8 first.',
     7: 'Split it, each part with the header.',
@@ -225,7 +232,7 @@ const WORDS = {
   idColumn: 'Id',
   calendarColumn: 'Calendar',
   dateColumn: 'Date',
-  column: (number, name) => (name === '' ? `column ${number}` : name),
+  column: (number, name) => (name === '' ? `column ${number}` : own(name)),
   choose: 'Choose',
   rowNumber: 'the number of the record',
   ofColumn: 'As the column says',
@@ -237,7 +244,7 @@ const WORDS = {
   unknownNames: 'Names that no calendar has',
   unknownNamesIs: 'Choose the calendar of each, or leave it, and its records are refused.',
   records: (n) => `${WORDS.number(n)} ${n === 1 ? 'record' : 'records'}`,
-  unknownName: (name, n) => `${name === '' ? '(empty)' : name}, in ${WORDS.records(n)}`,
+  unknownName: (name, n) => [name === '' ? '(empty)' : own(name), `, in ${WORDS.records(n)}`],
   tooManyNames: (n) => `${WORDS.number(n)} more names are not shown: is this the column with the calendars?`,
   leave: 'leave it',
   behind: 'Columns to be put behind those of the sheet',
@@ -250,7 +257,7 @@ const WORDS = {
   sheetConverting: 'The sheet is being converted.',
   sheetSaved: 'Each record is in its line, in UTF-8 with a byte order mark, as spreadsheets want it.',
   sheetJoined: (n) => `The sheet with its dates, first ${n === 1 ? 'record' : `${n} records`}`,
-  saveRegister: (name) => `Save the register, ${name}`,
+  saveRegister: (name) => ['Save the register, ', own(name)],
   sheetSuffix: '.dates.csv',
   registerSuffix: '.register.csv',
 };

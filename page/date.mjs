@@ -1,0 +1,72 @@
+// One date: what is typed, what was asked, and what came of it. Each step takes the state and gives the next.
+
+import { WORDS } from './words.mjs';
+
+// What a register and every table have; the other columns are the day in calendars.
+const NO_CALENDARS = ['row', 'id', 'calendar', 'date', 'note', 'rd', 'weekday', 'refusal'];
+// The refusal of a field that is too long; here that can only be the date.
+const TOO_LONG = 2;
+
+/**
+ * `result` is what came of `choice`, or null.
+ * @typedef {{ calendar: string, text: string }} DateChoice
+ * @typedef {{ choice: DateChoice, asked: number, result: { choice: DateChoice, reply: any } | null }} DateState
+ */
+
+/** @returns {DateState} */
+export const initial = () => ({ choice: { calendar: 'julian', text: '' }, asked: 0, result: null });
+
+/**
+ * A calendar or a text is chosen.
+ * @param {DateState} state
+ * @returns {DateState}
+ */
+export function chosen(state, change) {
+  return { ...state, choice: { ...state.choice, ...change }, asked: state.asked + 1 };
+}
+
+const isEmpty = ({ choice }) => choice.text.trim() === '';
+const hasResult = ({ choice, result }) => result !== null && result.choice === choice;
+const keyOf = ({ asked }) => `date ${asked}`;
+
+/** What a worker is to be asked now. */
+export function tasks(state) {
+  if (isEmpty(state) || hasResult(state)) return [];
+  return [{ key: keyOf(state), worker: 'date', name: 'date', words: state.choice }];
+}
+
+/** The worker that stays for the next date. */
+export const keptWorkers = () => ['date'];
+
+/**
+ * An answer came. That to an older question is dropped.
+ * @param {DateState} state
+ * @returns {DateState}
+ */
+export function replied(state, key, reply) {
+  if (key !== keyOf(state)) return state;
+  return { ...state, result: { choice: state.choice, reply } };
+}
+
+function cellsOf(heading, row) {
+  return heading.flatMap((name, i) => (NO_CALENDARS.includes(name) ? [] : [[WORDS.calendars[name] || name, row[i]]]));
+}
+
+/** What is shown: a line, what kind of line it is, and the cells, each with its name. */
+export function shown(state) {
+  if (isEmpty(state)) return { line: WORDS.waits, kind: 'empty', cells: [] };
+  if (!hasResult(state)) return { line: '', kind: 'empty', cells: [] };
+  const { answer, fault, why } = state.result.reply;
+  if (fault) return { line: WORDS.fault(why), kind: 'wrong', cells: [] };
+  const { ending, heading, row } = answer;
+  if (ending !== 0) {
+    return { line: WORDS.isNoDay(WORDS.causes[ending] || WORDS.faults[ending]), kind: 'wrong', cells: [] };
+  }
+  const of = (name) => row[heading.indexOf(name)];
+  const refusal = Number(of('refusal'));
+  if (refusal) {
+    const reason = refusal === TOO_LONG ? WORDS.isTooLong : WORDS.refusals[refusal - 1];
+    return { line: WORDS.isNoDay(reason), kind: 'wrong', cells: [] };
+  }
+  return { line: WORDS.isDay(of('weekday'), of('rd')), kind: 'day', cells: cellsOf(heading, row) };
+}

@@ -1,0 +1,231 @@
+// What the parts of the view share: elements with words in them, tables, links that save, files that are dropped.
+
+import { WORDS } from './words.mjs';
+
+/**
+ * Words: a text, a text of the user's own, or a list of such.
+ * @typedef {string | { own: string } | any[]} Words
+ */
+
+/**
+ * The same words as one text.
+ * @param {Words} words
+ */
+export function textOf(words) {
+  return [words].flat(Infinity).map((part) => (typeof part === 'string' ? part : part.own)).join('');
+}
+
+/** @returns {any} */
+export const byId = (id) => document.getElementById(id);
+
+/** Puts words into an element: what stands between two ` is code, but in a text of the user's own. */
+export function setText(element, words) {
+  element.replaceChildren(...[words].flat(Infinity).flatMap((part) => {
+    if (typeof part !== 'string') return [part.own];
+    return part.split('`').map((piece, i) => {
+      if (i % 2 === 0) return piece;
+      const code = document.createElement('code');
+      code.textContent = piece;
+      return code;
+    });
+  }));
+  return element;
+}
+
+/**
+ * A new element with words in it.
+ * @param {Words} words
+ * @returns {any}
+ */
+export function element(name, words = '', properties = {}) {
+  return Object.assign(setText(document.createElement(name), words), properties);
+}
+
+/** A new element with a text of the user's own. */
+export const textElement = (name, text, properties = {}) => element(name, { own: text }, properties);
+
+/** An option of a list. */
+export const option = (words, value) => textElement('option', textOf(words), { value });
+
+/** Draws a value by `draw`, if it is another than the one before. */
+export function whenChanged(draw) {
+  let before;
+  return (value) => {
+    if (value === before) return;
+    before = value;
+    draw(value);
+  };
+}
+
+/** Puts words into the element of this name, if they are others than those before: else they are read aloud again. */
+export function wordsIn(id) {
+  let before = '';
+  return (words) => {
+    if (textOf(words) !== before) setText(byId(id), words);
+    before = textOf(words);
+  };
+}
+
+function bodyRow({ fields, reason, span }) {
+  const line = element('tr');
+  for (const field of fields) line.append(textElement('td', field, { title: field }));
+  if (reason) {
+    line.className = 'refused';
+    line.append(element('td', reason, { className: 'reason', colSpan: span }));
+  }
+  return line;
+}
+
+/** A table in a box of its own, which can be moved sideways. */
+export function tableBox({ caption, heading, rows }) {
+  const box = element('div', '', { className: 'rows', tabIndex: 0 });
+  box.setAttribute('role', 'region');
+  box.setAttribute('aria-label', caption);
+  const table = box.appendChild(element('table'));
+  table.append(element('caption', caption));
+  const head = table.appendChild(element('thead')).appendChild(element('tr'));
+  for (const name of heading) head.append(textElement('th', name, { scope: 'col', title: name }));
+  table.appendChild(element('tbody')).append(...rows.map(bodyRow));
+  return box;
+}
+
+/** How many records were refused, by the reason, with what to do. */
+function countsTable(rows) {
+  const table = element('table', '', { className: 'counts' });
+  table.append(element('caption', WORDS.countsCaption));
+  const head = table.appendChild(element('thead')).appendChild(element('tr'));
+  for (const name of [WORDS.countsRecords, WORDS.countsReason, WORDS.countsAdvice]) {
+    head.append(element('th', name, { scope: 'col' }));
+  }
+  const body = table.appendChild(element('tbody'));
+  for (const [count, reason, advice] of rows) {
+    const line = body.appendChild(element('tr'));
+    line.append(element('td', count, { className: 'number' }), element('th', reason, { scope: 'row' }),
+      element('td', advice));
+  }
+  return table;
+}
+
+// A link that saves, which looks like a button; the second and further ones are grey.
+function downloadLink({ words, blob, name, isTable }, isSecond, saved) {
+  const href = URL.createObjectURL(blob);
+  const link = element('a', words, { href, download: name, className: isSecond ? 'save second' : 'save' });
+  if (isTable) link.addEventListener('click', saved);
+  return link;
+}
+
+/** Empties a box, and lets go of what its links save. */
+export function clear(box) {
+  for (const link of box.querySelectorAll('a.save')) URL.revokeObjectURL(link.href);
+  box.replaceChildren();
+}
+
+/** Draws into an article what became of a register or a sheet; `saved` is told when its table is saved. */
+export function drawReport(article, id, report, saved) {
+  clear(article);
+  article.className = report.kind;
+  article.setAttribute('aria-labelledby', id);
+  const className = { broken: 'total wrong', done: 'total' }[report.kind] || '';
+  const line = element('p', report.words, { className });
+  article.append(textElement('h3', report.title, { id }), line, ...report.advice.map((words) => element('p', words)));
+  if (report.counts.length) article.append(countsTable(report.counts));
+  article.append(...report.tables.map(tableBox));
+  if (report.links.length) {
+    const links = report.links.map((link, i) => downloadLink(link, i > 0, saved));
+    article.appendChild(element('p', '', { className: 'buttons' })).append(...links);
+  }
+  if (report.hint) article.append(element('p', report.hint, { className: 'hint' }));
+}
+
+/** Ticks for columns, which are chosen in the order in which they are ticked; the answer draws such an order. */
+export function columnTicks(box, names, none, choose) {
+  const ticks = box.appendChild(element('div', '', { className: 'ticks' }));
+  let order = [];
+  const boxes = names.map((name) => {
+    const tick = element('input', '', { type: 'checkbox', value: name, autocomplete: 'off' });
+    ticks.appendChild(element('label')).append(tick, name);
+    return tick;
+  });
+  const line = box.appendChild(element('p', '', { className: 'buttons' }));
+  const inOrder = box.appendChild(element('p', '', { className: 'hint' }));
+  for (const [words, wanted] of [[WORDS.all, names], [WORDS.none, []]]) {
+    const button = line.appendChild(element('button', words, { type: 'button', className: 'second small' }));
+    button.addEventListener('click', () => choose(wanted));
+  }
+  ticks.addEventListener('change', ({ target }) => {
+    choose(target.checked ? [...order, target.value] : order.filter((name) => name !== target.value));
+  });
+  return (wanted) => {
+    order = wanted;
+    for (const tick of boxes) tick.checked = order.includes(tick.value);
+    setText(inOrder, order.length ? WORDS.order(order) : none);
+  };
+}
+
+/** The value that is chosen among those of this name. */
+export function checkedOf(name) {
+  return /** @type {HTMLInputElement} */ (document.querySelector(`input[name=${name}]:checked`)).value;
+}
+
+/** Draws which of the choices of this name is made. */
+export function check(name, value) {
+  for (const choice of document.querySelectorAll(`input[name=${name}]`)) {
+    const input = /** @type {HTMLInputElement} */ (choice);
+    input.checked = input.value === String(value);
+  }
+}
+
+/** Tells `choose` the value that is chosen among those of this name. */
+export function onCheck(name, choose) {
+  for (const choice of document.querySelectorAll(`input[name=${name}]`)) {
+    choice.addEventListener('change', () => choose(/** @type {HTMLInputElement} */ (choice).value));
+  }
+}
+
+function listOf(files) {
+  const data = new DataTransfer();
+  for (const file of files) data.items.add(file);
+  return data.files;
+}
+
+/**
+ * Files are chosen in a field, or dropped where `isHere` says so. The same file can be chosen again. Folders among what
+ * is dropped are left out, and told by their names.
+ */
+export function takeFiles(input, isHere, choose) {
+  const box = input.closest('.drop');
+  input.value = '';
+  input.addEventListener('click', () => { input.value = ''; });
+  input.addEventListener('change', () => choose([...input.files], []));
+  document.addEventListener('dragover', (event) => {
+    event.preventDefault();
+    box.classList.toggle('over', isHere(event.target));
+  });
+  document.addEventListener('dragleave', () => box.classList.remove('over'));
+  document.addEventListener('drop', (event) => {
+    event.preventDefault();
+    box.classList.remove('over');
+    if (!isHere(event.target)) return;
+    const items = [...event.dataTransfer.items].filter(({ kind }) => kind === 'file');
+    const entries = items.map((item) => (item.webkitGetAsEntry ? item.webkitGetAsEntry() : null));
+    const isFolder = (entry) => entry !== null && entry.isDirectory;
+    const files = items.filter((_, i) => !isFolder(entries[i])).map((item) => item.getAsFile());
+    if (!input.disabled) input.files = listOf(files);
+    if (items.length) choose(files, entries.filter(isFolder).map(({ name }) => name));
+  });
+}
+
+/** Draws whether a task goes on: then it cannot be started again, and can be stopped. The keys stay where they are. */
+export function drawRunning(name, isRunning) {
+  const start = byId(`${name}-start`), stop = byId(`${name}-stop`), active = document.activeElement;
+  start.setAttribute('aria-disabled', String(isRunning));
+  if (!isRunning && active === stop) start.focus();
+  stop.disabled = !isRunning;
+  for (const choices of document.querySelectorAll(`[data-choices=${name}]`)) {
+    if (isRunning && choices.contains(active)) stop.focus();
+    for (const control of choices.querySelectorAll('input, select, button')) {
+      /** @type {HTMLInputElement} */ (control).disabled = isRunning;
+    }
+  }
+  byId(`${name}-progress`).hidden = !isRunning;
+}

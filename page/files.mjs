@@ -1,0 +1,50 @@
+// Files of a user, which may change at any time: each is read from its beginning to its end, whatever it said that it
+// has, and once more when the work is done.
+
+/** The file cannot be read: it is a folder, say, or was moved, or the browser saw that it was changed. */
+export class NoReading extends Error {}
+
+/** The file has more or fewer bytes than it said when it was chosen, or others when it is read again. */
+export class ChangedFile extends Error {}
+
+/**
+ * Gives the pieces of a file to `take`, in order, each with its place. They have to be as many bytes as the file says.
+ * @param {Blob} file
+ * @param {(at: number, piece: Uint8Array) => void} take
+ */
+async function readPieces(file, take) {
+  const reader = file.stream().getReader();
+  let at = 0;
+  for (;;) {
+    const { done, value } = await reader.read().catch((fault) => {
+      throw new NoReading(fault.message);
+    });
+    if (done) break;
+    if (at + value.length > file.size) throw new ChangedFile();
+    take(at, value);
+    at += value.length;
+  }
+  if (at !== file.size) throw new ChangedFile();
+}
+
+/**
+ * Reads a file into bytes that `bytesAt(at, length)` gives, in pieces, of which each is also given to `look`.
+ * @param {Blob} file
+ */
+export function readFile(file, bytesAt, look = (_) => {}) {
+  return readPieces(file, (at, piece) => {
+    bytesAt(at, piece.length).set(piece);
+    look(piece);
+  });
+}
+
+/**
+ * Reads a file again, and throws unless it has the bytes that `bytesAt` gives.
+ * @param {Blob} file
+ */
+export function checkUnchanged(file, bytesAt) {
+  return readPieces(file, (at, piece) => {
+    const before = bytesAt(at, piece.length);
+    for (let i = 0; i < piece.length; i += 1) if (piece[i] !== before[i]) throw new ChangedFile();
+  });
+}

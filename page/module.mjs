@@ -1,0 +1,292 @@
+// What stands between the page, or Node, and the WebAssembly module: a heap, and the module's four calls.
+
+const PAGE = 65536;
+// What the module's memory can have: pointers of 32 bits, without the last page.
+const MOST = 2 ** 32 - PAGE;
+// Fields that are turned into bytes, or back, at once.
+const AT_ONCE = 256;
+
+/** Memory ran out: what the module answers by an ending 1, and what the heap of this script throws. */
+export class NoMemory extends Error {}
+
+/**
+ * A heap above the module's stack and data. Each block has 16 bytes before it, with its size. A block that is freed
+ * waits for one of its size, and the last block grows and shrinks in place. A memory that cannot grow gives 0.
+ */
+class Heap {
+  constructor(most) {
+    this.most = most;
+    this.freed = new Map();
+  }
+
+  begin(exports) {
+    this.memory = exports.memory;
+    this.top = Math.ceil(Number(exports.__heap_base.value) / 16) * 16;
+  }
+
+  // Whether the memory has so many bytes, which it grows to have, by an eighth at least.
+  reaches(end) {
+    const has = this.memory.buffer.byteLength;
+    if (end <= has) return true;
+    if (end > this.most) return false;
+    const pages = Math.ceil(Math.max(end - has, Math.min(has / 8, this.most - has)) / PAGE);
+    // A memory of 64-bit pointers takes a BigInt; one of 32-bit pointers, and older engines, a number.
+    for (const wanted of [BigInt(pages), pages]) {
+      try {
+        this.memory.grow(wanted);
+        return true;
+      } catch (fault) {
+        if (!(fault instanceof TypeError)) return false;
+      }
+    }
+    return false;
+  }
+
+  sizeOf(pointer) {
+    return Number(new DataView(this.memory.buffer).getBigUint64(pointer - 16, true));
+  }
+
+  setSize(pointer, size) {
+    new DataView(this.memory.buffer).setBigUint64(pointer - 16, BigInt(size), true);
+  }
+
+  malloc(bytes) {
+    let size = 32;
+    if (bytes > PAGE) size = Math.ceil(bytes / PAGE) * PAGE;
+    else while (size < bytes) size *= 2;
+    const freed = this.freed.get(size);
+    if (freed && freed.length) return freed.pop();
+    const pointer = this.top + 16;
+    if (!this.reaches(pointer + size)) return 0;
+    this.setSize(pointer, size);
+    this.top = pointer + size;
+    return pointer;
+  }
+
+  free(pointer) {
+    const size = this.sizeOf(pointer);
+    if (pointer + size === this.top) {
+      this.top = pointer - 16;
+    } else if (this.freed.has(size)) {
+      this.freed.get(size).push(pointer);
+    } else {
+      this.freed.set(size, [pointer]);
+    }
+  }
+
+  // A block of so many bytes that begins with the first `kept` of this one, which is freed; or 0, and it stays.
+  realloc(pointer, kept, bytes) {
+    const size = this.sizeOf(pointer);
+    if (bytes <= size) return pointer;
+    if (pointer + size === this.top) {
+      const wanted = Math.ceil(bytes / 16) * 16;
+      if (!this.reaches(pointer + wanted)) return 0;
+      this.setSize(pointer, wanted);
+      this.top = pointer + wanted;
+      return pointer;
+    }
+    const next = this.malloc(bytes);
+    if (next === 0) return 0;
+    new Uint8Array(this.memory.buffer).copyWithin(next, pointer, pointer + kept);
+    this.free(pointer);
+    return next;
+  }
+
+  // The answer is two words, an option of a pointer, put where the module wants it.
+  answer(to, pointer) {
+    const view = new DataView(this.memory.buffer);
+    view.setBigUint64(Number(to), pointer === 0 ? 0n : 1n, true);
+    view.setBigUint64(Number(to) + 8, BigInt(pointer), true);
+  }
+
+  imports() {
+    return {
+      env: {
+        rattle_alloc: (to, bytes) => this.answer(to, this.malloc(Number(bytes))),
+        rattle_realloc: (to, pointer, kept, bytes) =>
+          this.answer(to, this.realloc(Number(pointer), Number(kept), Number(bytes))),
+        rattle_dealloc: (pointer) => this.free(Number(pointer)),
+      },
+    };
+  }
+}
+
+/**
+ * A part of the module's memory, in bytes. Views are of no use after the memory grew, so it is given like this.
+ * @typedef {{ pointer: number, length: number, items?: number }} Part
+ */
+
+/** An instance of the module, for one task, and dropped with it: what was cut off leaves nothing behind. */
+export class Module {
+  constructor(instance, heap) {
+    this.exports = instance.exports;
+    this.heap = heap;
+    heap.begin(instance.exports);
+  }
+
+  /** @returns {Part} */
+  malloc(length) {
+    const pointer = this.heap.malloc(length);
+    if (pointer === 0) throw new NoMemory();
+    return { pointer, length };
+  }
+
+  /** @param {Part[]} parts */
+  free(...parts) {
+    for (const part of parts) this.heap.free(part.pointer);
+  }
+
+  /**
+   * The bytes of a part, to be used before the next call.
+   * @param {Part} part
+   */
+  bytes({ pointer, length }) {
+    return new Uint8Array(this.exports.memory.buffer, pointer, length);
+  }
+
+  put(bytes) {
+    const part = this.malloc(bytes.length);
+    this.bytes(part).set(bytes);
+    return part;
+  }
+
+  // The fields of CSV go in and out as the bytes of all, and the length of each. Some hundred are turned into bytes at
+  // once, which is far faster; where one is not of ASCII alone, letters and bytes are not as many, and each is turned
+  // by itself.
+  putFields(fields) {
+    const { pointer } = this.malloc(fields.reduce((sum, field) => sum + 3 * field.length, 0));
+    const lengths = this.malloc(4 * fields.length);
+    const to = new Uint8Array(this.exports.memory.buffer), encoder = new TextEncoder();
+    const counts = new Uint32Array(this.exports.memory.buffer, lengths.pointer, fields.length);
+    let at = pointer;
+    for (let i = 0; i < fields.length; i += AT_ONCE) {
+      const some = fields.slice(i, i + AT_ONCE), all = some.join(''), encoded = encoder.encode(all);
+      const isAscii = encoded.length === all.length;
+      if (isAscii) to.set(encoded, at);
+      some.forEach((field, k) => {
+        const bytes = isAscii ? field : encoder.encode(field);
+        if (typeof bytes !== 'string') to.set(bytes, at);
+        counts[i + k] = bytes.length;
+        at += bytes.length;
+      });
+    }
+    return { bytes: { pointer, length: at - pointer }, lengths: { ...lengths, items: fields.length } };
+  }
+
+  fieldsOf(bytes, lengths, count) {
+    const from = this.bytes(bytes), decoder = new TextDecoder('utf-8', { ignoreBOM: true });
+    const counts = new Uint32Array(this.exports.memory.buffer, lengths.pointer, count);
+    const fields = [];
+    let at = 0;
+    for (let i = 0; i < count; i += AT_ONCE) {
+      const some = counts.subarray(i, i + AT_ONCE), length = some.reduce((sum, n) => sum + n, 0);
+      const all = decoder.decode(from.subarray(at, at + length));
+      const isAscii = all.length === length;
+      let begin = 0;
+      for (const n of some) {
+        const end = begin + n;
+        fields.push(isAscii ? all.slice(begin, end) : decoder.decode(from.subarray(at + begin, at + end)));
+        begin = end;
+      }
+      at += length;
+    }
+    return fields;
+  }
+
+  // Calls the export `name` and returns the numbers of its report. A BigInt stands for each pointer and length.
+  call(name, numbers, words) {
+    const report = this.malloc(8 * numbers);
+    this.exports[name](...words.flatMap((word) => {
+      if (typeof word !== 'object') return [word];
+      return [BigInt(word.pointer), BigInt(word.items === undefined ? word.length : word.items)];
+    }), BigInt(report.pointer));
+    const view = new DataView(this.exports.memory.buffer, report.pointer, report.length);
+    const reported = Array.from({ length: numbers }, (_, i) => Number(view.getBigUint64(8 * i, true)));
+    this.free(report);
+    return reported;
+  }
+
+  /**
+   * Converts the register `text`. `setup` has the numbers of the columns, the byte of the delimiter, and whether the
+   * register is sealed; `guess` is how long the table may be.
+   * @param {Part} text
+   */
+  convert(text, setup, guess) {
+    const columns = this.put(Uint8Array.from(setup.columns));
+    let buffer = this.malloc(guess);
+    for (;;) {
+      const [ending, length, rows, refused, ...counts] = this.call('register_convert', 11,
+        [text, columns, setup.delimiter, setup.sealed ? 1 : 0, buffer]);
+      if (length <= buffer.length) {
+        this.free(columns);
+        return { ending, rows, refused, counts, table: { pointer: buffer.pointer, length } };
+      }
+      this.free(buffer);
+      buffer = this.malloc(length);
+    }
+  }
+
+  /**
+   * What stands in these columns, from 0, of the first `most` records.
+   * @param {Part} text
+   */
+  pick(text, delimiter, columns, most) {
+    const numbers = this.malloc(4 * columns.length);
+    new Uint32Array(this.exports.memory.buffer, numbers.pointer, columns.length).set(columns);
+    numbers.items = columns.length;
+    let bytes = this.malloc(4096), lengths = this.malloc(4096);
+    for (;;) {
+      lengths.items = lengths.length / 4;
+      const [ending, length, count, records, widest] = this.call('sheet_pick', 5,
+        [text, delimiter, numbers, BigInt(most), bytes, lengths]);
+      if (ending === 1) throw new NoMemory();
+      if (ending !== 0) throw new Error(`sheet_pick: ${ending}`);
+      if (length <= bytes.length && count <= lengths.items) {
+        const fields = this.fieldsOf(bytes, lengths, count);
+        this.free(lengths, bytes, numbers);
+        return { records, widest, fields };
+      }
+      this.free(lengths, bytes);
+      bytes = this.malloc(length);
+      lengths = this.malloc(4 * count);
+    }
+  }
+
+  /** A CSV text of the fields, of which each `width` are a record. */
+  write(fields, width, delimiter) {
+    return this.makeText('sheet_write', fields, (bytes, lengths) => [bytes, lengths, BigInt(width), delimiter]);
+  }
+
+  /** The sheet, each record in its line, filled up to `fill` fields, and then with `width` of the further fields. */
+  join(text, delimiter, fill, fields, width) {
+    return this.makeText('sheet_join', fields,
+      (bytes, lengths) => [text, delimiter, BigInt(fill), bytes, lengths, BigInt(width)]);
+  }
+
+  makeText(name, fields, words) {
+    const { bytes, lengths } = this.putFields(fields);
+    let buffer = this.malloc(4096);
+    for (;;) {
+      const [ending, length] = this.call(name, 2, [...words(bytes, lengths), buffer]);
+      if (ending === 1) throw new NoMemory();
+      if (ending !== 0) throw new Error(`${name}: ${ending}`);
+      if (length <= buffer.length) {
+        this.free(lengths, bytes);
+        return { pointer: buffer.pointer, length };
+      }
+      this.free(buffer);
+      buffer = this.malloc(length);
+    }
+  }
+}
+
+/** An instance of the compiled module; `most` is what its memory may have. */
+export async function instantiate(compiled, most = MOST) {
+  const heap = new Heap(most);
+  return new Module(await WebAssembly.instantiate(compiled, heap.imports()), heap);
+}
+
+/** How long the table of a register can be expected to be: what a record has, and a line's further cells. */
+export function expectedLength(size, lines, columns) {
+  return PAGE + size + Math.min(lines, 1000001) * (28 + 12 * columns);
+}

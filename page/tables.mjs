@@ -1,0 +1,73 @@
+// Tables in the module's memory, whose columns are found by the names in their heading.
+
+// Rows that are shown, and how far into a table refused ones are looked for.
+export const SHOWN = 10;
+const REFUSED_SHOWN = 100, LOOKED_AT = 2 ** 24;
+// Every record.
+export const EVERY = 2 ** 53;
+
+export const range = (count) => [...Array(count).keys()];
+
+/** Fields, of which each `width` are a row. */
+export function rowsOf(fields, width) {
+  return range(Math.ceil(fields.length / width)).map((i) => fields.slice(i * width, (i + 1) * width));
+}
+
+/**
+ * Rows to be shown, under their heading. A row with a number in the column `refusal` was refused, and its fields from
+ * the column `from` on are empty up to there.
+ * @typedef {{ heading: string[], rows: string[][], from: number, refusal: number }} ShownRows
+ */
+
+/** The table of a register. */
+export class Table {
+  constructor(module, text, delimiter) {
+    this.module = module;
+    this.text = text;
+    this.delimiter = delimiter;
+    const { widest } = module.pick(text, delimiter, [], 1);
+    this.heading = module.pick(text, delimiter, range(widest), 1).fields;
+  }
+
+  /** The number of the column of this name; one that the table does not have is a fault of the page. */
+  column(name) {
+    const number = this.heading.indexOf(name);
+    if (number < 0) throw new Error(`the table has no column ${name}`);
+    return number;
+  }
+
+  /** The columns of these names, of the first `most` rows. */
+  rows(names, most) {
+    const columns = names.map((name) => this.column(name));
+    const more = most === EVERY ? EVERY : most + 1;
+    return rowsOf(this.module.pick(this.text, this.delimiter, columns, more).fields, columns.length).slice(1);
+  }
+
+  /**
+   * The first rows.
+   * @returns {ShownRows}
+   */
+  firstRows() {
+    const { heading } = this;
+    return { heading, rows: this.rows(heading, SHOWN), from: this.column('rd'), refusal: this.column('refusal') };
+  }
+
+  /**
+   * The first of the refused rows, with what the register has of them and the refusal. Where all stand among the first
+   * rows, there are none here: once is enough.
+   * @returns {ShownRows}
+   */
+  refusedRows() {
+    const front = { ...this.text, length: Math.min(this.text.length, LOOKED_AT) };
+    const table = new Table(this.module, front, this.delimiter);
+    const refusals = table.rows(['refusal'], EVERY);
+    // The last record may be cut.
+    if (front.length < this.text.length) refusals.pop();
+    const numbers = refusals.flatMap(([refusal], i) => (refusal === '' ? [] : [i])).slice(0, REFUSED_SHOWN);
+    const heading = [...this.heading.slice(0, this.column('rd')), 'refusal'];
+    const last = heading.length - 1, shown = { heading, rows: [], from: last, refusal: last };
+    if (numbers.length === 0 || numbers[numbers.length - 1] < SHOWN) return shown;
+    const rows = table.rows(heading, numbers[numbers.length - 1] + 1);
+    return { ...shown, rows: numbers.map((i) => rows[i]) };
+  }
+}

@@ -13,6 +13,7 @@ ghost use Rattle.register_run.specs.Popped.{AreOpen, IsInTurn, popped};
 ghost use Rattle.register_run.specs.Worlds.{World};
 ghost use Rattle.striped_lanes.specs.Machine.{turn as turn_in};
 
+use crate::ended_sources::lower;
 use crate::gates::Gate;
 use crate::reading::{ReaderTask, Reading, Sent, read_source, stopped_after};
 use crate::running::{Host, RunContext};
@@ -251,7 +252,10 @@ fn join_threads<R: Read + Drop>(
     let Reading { closed, sent } = reader.join(rt);
     match join_stripes(rt, stripes, closed) {
         Ok(ended) if ended == sent.outcome.is_ok() => sent,
-        _ => stopped_after(sent.count, unconfirmed_or_lower(sent.outcome)),
+        _ => {
+            let met = sent.outcome.err().unwrap_or(Cause::Unconfirmed);
+            stopped_after(sent.count, lower(met, Cause::Unconfirmed))
+        }
     }
 }
 
@@ -275,15 +279,4 @@ fn next_open(stripes: &[Stripe], turn: usize) -> usize
         }
     }
     next
-}
-
-/// `Unconfirmed`, unless the reader met a lower cause.
-fn unconfirmed_or_lower(outcome: Result<u32, Cause>) -> Cause
-    ensures either { (result ≡ Cause.NoMemory) ⊎ (result ≡ Cause.Unconfirmed) }
-    ensures lower { (result ≡ Cause.NoMemory) ↔ (outcome ≡ Err Cause.NoMemory) }
-{
-    match outcome {
-        Err(Cause::NoMemory) => Cause::NoMemory,
-        _ => Cause::Unconfirmed,
-    }
 }

@@ -70,7 +70,8 @@ pub(crate) struct JoinedThreads<R> {
 }
 
 impl<R: Read + Drop> SourceThreads<R> {
-    ghost use Rattle.register_run.specs.SourceThreads.{AreStaffed, HasGiven, IsNext, Passed, started_by, started_on};
+    ghost use Rattle.register_run.specs.SourceThreads.{AreStaffed, HasGiven, IsNext, Passed, rows_taken};
+    ghost use Rattle.register_run.specs.SourceThreads.{started_by, started_on};
 
     /// Starts the threads of a source. Where they do not start, the source is dropped and the cause is kept.
     pub(crate) fn start<'s, 'e, T: Host, G: Gate + Sync>(
@@ -111,6 +112,7 @@ impl<R: Read + Drop> SourceThreads<R> {
         ensures setup { started_by self.new ≡ started_by self.old }
         ensures kept { (row : Row) → Passed self.old row → Passed self.new row }
         ensures row { result ≡ Found.Row → IsNext self.new }
+        ensures none { rows_taken self.new ≡ rows_taken self.old }
     {
         if self.turn >= self.stripes.len() {
             return Found::Stop;

@@ -32,6 +32,13 @@ module _ {T : Type 0} where
       → entries_in all ≡ entries_in items
   no_more items all last none is = rw (is, entries_in_append, none, append-nil)
 
+  -- nor were they where a mark that was next was passed
+  pub mark_passed : (old new seen rest : List (Item T)) (mark : Item T) → entries_in (mark ∷ []) ≡ []
+      → IsPrefix (mark ∷ []) seen → new ++ rest ≡ old ++ seen → length new ≡ length old + 1
+      → length (entries_in new) ≡ length (entries_in old)
+  mark_passed old new seen rest mark none next is one =
+      ap (λ l. length l) (no_more old new mark none (took_next old old seen new rest mark refl next is one))
+
   -- an item that is an entry is one of the entries
   pub entry_within : (items : List (Item T)) (x : T) → Contains items (item.Entry x) → Contains (entries_in items) x
   entry_within [] x (k, below, is) = absurd (omega arith)

@@ -40,9 +40,8 @@ module _ (stripes : List Stripe) (at : ℕ) (new old : Stripe) (within : at < le
   looked_at found looked = record {
     row = λ e d. subst IsRowNext (sym (get_or-set_same stripes at new d within)) (looked.row e);
     ended = λ e all. absurd (let a = new_open all in let b = looked.ended e in cc);
-    same = λ all.
-        let (was, none) = looked.same (new_open all) in
-        (were_open was all, let more = popped_more 0 (omega (arith, none)) in omega (arith, more));
+    still = λ all. were_open (looked.still (new_open all)) all;
+    none = (let none = looked.none in let more = popped_more 0 (omega (arith, none)) in omega (arith, more));
   }
 
   -- the stripe gave a row

@@ -36,17 +36,19 @@ is_end look.Row = false
 is_end look.End = true
 is_end look.Stop = true
 
--- what a look at a stripe does: it pops no row, unless the lane has ended
+-- what a look at a stripe does: it pops no row, and opens no lane that has ended
 pub record HasLooked (old new : Stripe) (found : Look) : Type 0 where
   pub row : found ≡ look.Row → IsRowNext new
   pub ended : is_end found ≡ true → new.«open» ≡ false
-  pub same : new.«open» ≡ true → (old.«open» ≡ true) × (popped_from new ≡ popped_from old)
+  pub still : new.«open» ≡ true → old.«open» ≡ true
+  pub none : popped_from new ≡ popped_from old
 
 -- the same of the stripe with this number among these
 pub record HasLookedAt (at : ℕ) (old new : List Stripe) (found : Look) : Type 0 where
   pub row : found ≡ look.Row → IsRowNextAt new at
   pub ended : is_end found ≡ true → AreOpen new → ⊥
-  pub same : AreOpen new → AreOpen old × (popped new ≡ popped old)
+  pub still : AreOpen new → AreOpen old
+  pub none : popped new ≡ popped old
 
 -- one row was popped; where no lane has ended now, none had before
 abbrev pub HasPopped : List Stripe → List Stripe → Type 0

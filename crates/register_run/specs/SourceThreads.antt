@@ -8,7 +8,7 @@ use Rattle.register_run.specs.declared.source_threads.SourceThreads.{SourceThrea
 use Rattle.register_run.specs.Stripes.{AnyTook, stripe_setup}
 use Rattle.register_run.specs.JoinedThreads.{HasStarted}
 use Rattle.register_run.specs.declared.stripes.Stripe.{Stripe}
-use Rattle.register_run.specs.Popped.{HasPopped, IsRowNextAt}
+use Rattle.register_run.specs.Popped.{HasPopped, IsRowNextAt, popped}
 
 -- the stripes of a source whose threads ended so: as many as the setup has stripes, each started by it; or none, where
 -- the threads did not start
@@ -33,6 +33,10 @@ module _ {R : Type 0} where
   -- a look found a row, which was not taken yet
   abbrev pub IsNext : SourceThreads R → Type 0
   IsNext threads = (threads.turn < length threads.stripes.items) × IsRowNextAt threads.stripes.items threads.turn
+
+  -- how many rows were taken
+  abbrev pub rows_taken : SourceThreads R → ℕ
+  rows_taken threads = popped threads.stripes.items
 
   -- one row was taken
   abbrev pub HasGiven : SourceThreads R → SourceThreads R → Type 0

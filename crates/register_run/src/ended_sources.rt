@@ -1,11 +1,11 @@
 //! What is left of a source when its threads have been joined.
 
-ghost use Rattle.std.specs.Prelude.{◌≡◌, ◌≤◌, ◌⊎◌, [], None, Ok, true, length, vec_len};
+ghost use Rattle.std.specs.Prelude.{◌≡◌, ◌≤◌, ◌↔◌, ◌⊎◌, None, Ok, IfSome, true, vec_len};
 ghost use Rattle.register_records.specs.Sources.{IfBroken, IfWhole, cause_number};
 ghost use Rattle.register_records.specs.Views.{layout_of};
 ghost use Rattle.register_records.specs.declared.ends.Cause.TheVariants as cause;
 ghost use Rattle.register_records.specs.declared.ends.SourceEnd.TheVariants as ended;
-ghost use Rattle.register_run.specs.Courses.{HasMetNone, IsLowest, IsMet};
+ghost use Rattle.register_run.specs.Courses.{Differs, HasMetNone, IsLowest, IsMet};
 ghost use Rattle.register_run.specs.Headline.{IsSourceEnd};
 ghost use Rattle.register_run.specs.Histories.{IsMachineWithTable};
 ghost use Rattle.register_run.specs.Threads.{AreThreadsOf};
@@ -56,50 +56,46 @@ pub(crate) fn lower(one: Cause, other: Cause) -> Cause
     }
 }
 
+/// Whether what was written is not what the threads ended with.
+fn differs(met: Met) -> bool
+    ensures { (result ≡ true) ↔ Differs met.sent.outcome met.sent.count met.headed met.rows }
+{
+    match met.sent.outcome {
+        Ok(count) => !met.headed || met.rows != count,
+        // A reader that gave up has sent no end, so no heading was written but before a row; and all that it had sent
+        // by then is written.
+        Err(_) => met.rows != met.sent.count || (met.headed && met.rows == 0),
+    }
+}
+
+/// The lowest of the causes that were met, if there is one.
+fn lowest_met(met: Met) -> Option<Cause>
+    ensures some { IfSome result (IsLowest (IsMet met)) }
+    ensures none { result ≡ None → (met.sent.outcome ≡ Ok met.rows) × (met.fault ≡ None) × (met.headed ≡ true) }
+{
+    let of_table = match met.fault {
+        None if differs(met) => Some(Cause::Unconfirmed),
+        fault => fault,
+    };
+    match (met.sent.outcome, of_table) {
+        (Err(one), Some(other)) => Some(lower(one, other)),
+        (Err(one), None) => Some(one),
+        (Ok(_), of_table) => of_table,
+    }
+}
+
 /// How a source ended: by what was met of it, and by the journal of the rows that were written.
 pub(crate) fn end_of_source(met: Met, journal: Vec<Note>) -> SourceEnd
     requires few { vec_len journal ≤ met.rows }
     ensures whole { IfWhole result (HasMetNone met journal.items) }
     ensures broken { IfBroken result (IsLowest (IsMet met)) }
 {
-    let Met {
-        sent,
-        fault,
-        headed,
-        rows,
-    } = met;
-    match sent.outcome {
-        Ok(count) => match fault {
-            None => {
-                if headed && rows == count {
-                    let refused = journal.len() as u32;
-                    return SourceEnd::Whole {
-                        rows,
-                        refused,
-                        journal,
-                    };
-                }
-                broken(Cause::Unconfirmed)
-            }
-            Some(cause) => broken(cause),
-        },
-        Err(cause) => match fault {
-            None => {
-                // A reader that gave up has sent no end, so no heading was written but before a row; and all that it
-                // had sent by then is written.
-                if rows != sent.count || (headed && rows == 0) {
-                    return broken(lower(cause, Cause::Unconfirmed));
-                }
-                broken(cause)
-            }
-            Some(other) => broken(lower(cause, other)),
+    match lowest_met(met) {
+        Some(cause) => SourceEnd::Broken { cause },
+        None => SourceEnd::Whole {
+            rows: met.rows,
+            refused: journal.len() as u32,
+            journal,
         },
     }
-}
-
-/// The end of a source that broke off for this cause.
-fn broken(cause: Cause) -> SourceEnd
-    ensures { result ≡ SourceEnd.Broken cause }
-{
-    SourceEnd::Broken { cause }
 }

@@ -232,34 +232,6 @@ fn hand_back<R, W>(kind: RunFaultKind, sources: Vec<R>, outputs: Vec<W>) -> RunF
     }
 }
 
-/// The run, inside the scope of its threads.
-fn run_all<'s, 'e, T: Host, R: Read + Send + Drop + 'e, W: Output + Drop, G: Gate + Sync>(
-    context: &RunContext<'s, 'e, T, G>,
-    sources: Vec<R>,
-    outputs: Vec<W>,
-    lists: Lists<R, W>,
-) -> Report<W>
-    requires { (vec_len sources ≡ lists.count) × (vec_len outputs ≡ lists.count) }
-    ensures report { IsReport R.Read W.Output context.now.setup.now sources.items outputs.items result }
-    ensures machine { IsReportOfMachine R.Read W.Output context.now.setup.now sources.items outputs.items result }
-    ensures threads { IsReportOfThreads context.now.setup.now result }
-{
-    let Lists {
-        running_sources,
-        ended_sources,
-        outputs: written,
-        ends,
-        ran,
-        ..
-    } = lists;
-    let mut running_sources = start_all(context, sources, outputs, running_sources);
-    // This thread is two lanes downstream of the readers.
-    let patience = context.patience.one_lane_downstream().one_lane_downstream();
-    visit_until_ended(context.rt, patience, &mut running_sources);
-    let ended_sources = finish_all(context.rt, running_sources, ended_sources);
-    report(ended_sources, written, ends, ran)
-}
-
 /// The run, with threads that end before it returns.
 fn run_in_scope<T: Host, R: Read + Send + Drop, W: Output + Drop, G: Gate + Sync>(
     rt: &T,
@@ -285,6 +257,15 @@ fn run_in_scope<T: Host, R: Read + Send + Drop, W: Output + Drop, G: Gate + Sync
                 × IsReportOfMachine R.Read W.Output setup.entry.now sources.items outputs.items result
                 × IsReportOfThreads setup.entry.now result }
         {
+            let lists = lists;
+            let Lists {
+                running_sources,
+                ended_sources,
+                outputs: written,
+                ends,
+                ran,
+                ..
+            } = lists;
             let context = RunContext {
                 scope,
                 rt,
@@ -293,7 +274,16 @@ fn run_in_scope<T: Host, R: Read + Send + Drop, W: Output + Drop, G: Gate + Sync
                 patience,
                 setup,
             };
-            run_all(&context, sources, outputs, lists)
+            let mut running_sources = start_all(&context, sources, outputs, running_sources);
+            // This thread is two lanes downstream of the readers.
+            let patience = patience.one_lane_downstream().one_lane_downstream();
+            visit_until_ended(rt, patience, &mut running_sources);
+            report(
+                finish_all(rt, running_sources, ended_sources),
+                written,
+                ends,
+                ran,
+            )
         },
     )
 }

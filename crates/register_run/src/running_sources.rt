@@ -1,7 +1,7 @@
 //! A source that runs, as the thread that writes has it.
 
-ghost use Rattle.std.specs.Prelude.{◌≡◌};
-ghost use Rattle.register_run.specs.SourceThreads.{started_by};
+ghost use Rattle.std.specs.Prelude.{◌≡◌, ◌≤◌, ◌+◌};
+ghost use Rattle.register_run.specs.SourceThreads.{rows_taken, started_by};
 ghost use Rattle.register_run.specs.TablesWritten.{made_by};
 ghost use Rattle.register_run.specs.Written.{Wrote};
 
@@ -55,11 +55,13 @@ impl<R: Read + Drop, W: Output + Drop> RunningSource<R, W> {
         self.open
     }
 
-    /// Takes the rows that are there now, and writes them in one call. Returns whether there was an item.
+    /// Takes the rows that are there now, so many at most, and writes them in one call. Returns whether there was an
+    /// item.
     #[tactic(auto, using(crate::proofs::RunningSourceLemmas::wrote_same))]
     pub(crate) fn visit(&mut self) -> bool
         ensures case { case_of self.new ≡ case_of self.old }
         ensures sent { AllSent self.new.table }
+        ensures few { rows_taken self.new.threads ≤ rows_taken self.old.threads + MOST_AT_ONCE }
     {
         let mut moved = false;
         for _ in 0..MOST_AT_ONCE {
@@ -76,7 +78,8 @@ impl<R: Read + Drop, W: Output + Drop> RunningSource<R, W> {
     #[tactic(auto, using(crate::proofs::RunningSourceLemmas::wrote_same))]
     fn step(&mut self) -> bool
         requires { IsFull self.old.table → ⊥ }
-        ensures { case_of self.new ≡ case_of self.old }
+        ensures case { case_of self.new ≡ case_of self.old }
+        ensures few { rows_taken self.new.threads ≤ rows_taken self.old.threads + 1 }
     {
         if !self.open {
             return false;

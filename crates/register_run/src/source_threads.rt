@@ -13,6 +13,7 @@ ghost use Rattle.register_run.specs.Popped.{AreOpen, IsInTurn, popped};
 ghost use Rattle.register_run.specs.Worlds.{World};
 ghost use Rattle.striped_lanes.specs.Machine.{turn as turn_in};
 
+use crate::ended_sources::lower;
 use crate::gates::Gate;
 use crate::reading::{ReaderTask, Reading, Sent, read_source, stopped_after};
 use crate::running::{Host, RunContext};
@@ -69,7 +70,8 @@ pub(crate) struct JoinedThreads<R> {
 }
 
 impl<R: Read + Drop> SourceThreads<R> {
-    ghost use Rattle.register_run.specs.SourceThreads.{AreStaffed, HasGiven, IsNext, Passed, started_by, started_on};
+    ghost use Rattle.register_run.specs.SourceThreads.{AreStaffed, HasGiven, IsNext, Passed, rows_taken};
+    ghost use Rattle.register_run.specs.SourceThreads.{started_by, started_on};
 
     /// Starts the threads of a source. Where they do not start, the source is dropped and the cause is kept.
     pub(crate) fn start<'s, 'e, T: Host, G: Gate + Sync>(
@@ -110,6 +112,7 @@ impl<R: Read + Drop> SourceThreads<R> {
         ensures setup { started_by self.new ≡ started_by self.old }
         ensures kept { (row : Row) → Passed self.old row → Passed self.new row }
         ensures row { result ≡ Found.Row → IsNext self.new }
+        ensures none { rows_taken self.new ≡ rows_taken self.old }
     {
         if self.turn >= self.stripes.len() {
             return Found::Stop;
@@ -251,7 +254,10 @@ fn join_threads<R: Read + Drop>(
     let Reading { closed, sent } = reader.join(rt);
     match join_stripes(rt, stripes, closed) {
         Ok(ended) if ended == sent.outcome.is_ok() => sent,
-        _ => stopped_after(sent.count, unconfirmed_or_lower(sent.outcome)),
+        _ => {
+            let met = sent.outcome.err().unwrap_or(Cause::Unconfirmed);
+            stopped_after(sent.count, lower(met, Cause::Unconfirmed))
+        }
     }
 }
 
@@ -275,15 +281,4 @@ fn next_open(stripes: &[Stripe], turn: usize) -> usize
         }
     }
     next
-}
-
-/// `Unconfirmed`, unless the reader met a lower cause.
-fn unconfirmed_or_lower(outcome: Result<u32, Cause>) -> Cause
-    ensures either { (result ≡ Cause.NoMemory) ⊎ (result ≡ Cause.Unconfirmed) }
-    ensures lower { (result ≡ Cause.NoMemory) ↔ (outcome ≡ Err Cause.NoMemory) }
-{
-    match outcome {
-        Err(Cause::NoMemory) => Cause::NoMemory,
-        _ => Cause::Unconfirmed,
-    }
 }

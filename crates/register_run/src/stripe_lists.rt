@@ -50,7 +50,6 @@ pub(crate) fn start_stripes<'s, 'e, T: Host, G: Gate + Sync>(
 }
 
 /// Looks at the stripe at this place.
-#[tactic(auto, using(crate::proofs::PoppedLemmas::looked_at))]
 pub(crate) fn look_at(stripes: &mut Vec<Stripe>, at: usize) -> Look
     requires { at < vec_len stripes.old }
     ensures len { vec_len stripes.new ≡ vec_len stripes.old }

@@ -241,7 +241,7 @@ fn a_write_and_a_flush_fail_at_each_place(rt: HostRuntime) -> Result<(), Fail> {
 // before stays, and nothing is added, no line feed either.
 #[test]
 fn a_line_that_is_cut_ends_in_what_was_written(rt: HostRuntime) -> Result<(), Fail> {
-    for (stripes, written) in [(1, 0), (1, 7), (1, 40), (1, 50), (4, 7), (4, 50)] {
+    for (stripes, written) in [(1, 0u32), (1, 7), (1, 40), (1, 50), (4, 7), (4, 50)] {
         let faults = Faults {
             write: written.saturating_add(1),
             most: 1,

@@ -49,7 +49,7 @@ pub plain_text : (d : ℕ) (field : List ℕ) → needs_quotes (writing d) field
     → field_text (writing d) field ≡ field
 plain_text d field h = rw h refl
 
-only_field : (d : ℕ) (before field bytes : List ℕ) → needs_quotes (writing d) field ≡ false
+pub only_field : (d : ℕ) (before field bytes : List ℕ) → needs_quotes (writing d) field ≡ false
     → bytes ≡ before ++ field → bytes ≡ before ++ body d (field ∷ [])
 unfolding fields_text
 only_field d before field bytes h e =

@@ -5,11 +5,12 @@ ghost use Rattle.csv.specs.Writing.{needs_quotes};
 ghost use Rattle.date_texts.specs.declared.target.TheConstants.{MAX_TARGETS};
 ghost use Rattle.register_records.specs.BareTexts.{has_special};
 ghost use Rattle.register_records.specs.Columns.{entry_order};
+ghost use Rattle.register_records.specs.Entries.{body_seen};
 ghost use Rattle.register_records.specs.LineRoom.{Begins, GainsFields, entry_name_room, entry_room, name_room};
 ghost use Rattle.register_records.specs.LineRoom.{number_room, writing};
 ghost use Rattle.register_records.specs.LineViews.{GrowsBy, line_bytes, line_capacity};
 ghost use Rattle.register_records.specs.Lines.{line_text};
-ghost use Rattle.register_records.specs.TableColumns.{body_shown, entry_field, entry_name, field_shown, heading};
+ghost use Rattle.register_records.specs.TableColumns.{entry_field, entry_name, field_shown, heading};
 ghost use Rattle.register_records.specs.TableColumns.{row_fields, tail_names};
 ghost use Rattle.register_records.specs.Views.{row_seen, row_targets, tail_fields};
 ghost use Rattle.register_records.specs.declared.row_tails.TheConstants.{TAIL_ROOM};
@@ -19,7 +20,7 @@ use crate::entries::Body;
 use crate::lines::LineBuffer;
 use crate::rows::Row;
 use crate::setups::Form;
-use crate::table_columns::{EntryFields, EntryTexts, TailColumn, entry_columns, tail_columns};
+use crate::table_columns::{TailColumn, entry_columns, tail_columns};
 use date_texts::Target;
 use itoa::Buffer;
 
@@ -86,41 +87,24 @@ pub(crate) fn make_heading(lines: &mut LineBuffer, form: Form, targets: &[Target
 
 /// Begins the line of a row by the fields of an entry. Bare ones are not looked through for bytes that call for quotes.
 #[inline(always)]
-fn put_columns(lines: &mut LineBuffer, form: Form, fields: EntryFields<'_>, bare: bool)
+fn put_columns(lines: &mut LineBuffer, form: Form, number: &str, body: &Body, bare: bool)
     requires room { lines.old.len + entry_room ≤ line_capacity lines.old }
-    requires short { length fields.number.now ≤ number_room }
-    requires number { needs_quotes (writing lines.old.delimiter) fields.number.now ≡ false }
-    requires bare { bare ≡ true → has_special (body_shown fields) ≡ false }
-    ensures value { Begins lines.old.delimiter (line_bytes lines.old) (map (field_shown fields.entry) (entry_order form))
-        (line_bytes lines.new) }
+    requires short { length number.now ≤ number_room }
+    requires number { needs_quotes (writing lines.old.delimiter) number.now ≡ false }
+    requires bare { bare ≡ true → has_special (body_seen body.now) ≡ false }
+    ensures value { Begins lines.old.delimiter (line_bytes lines.old)
+        (map (field_shown number.now (body_seen body.now)) (entry_order form)) (line_bytes lines.new) }
     ensures grows { GrowsBy entry_room lines.old lines.new }
 {
     let columns = entry_columns(form);
-    lines.begin(columns[0].field(fields).as_bytes());
+    lines.begin(columns[0].field(number, body).as_bytes());
     'columns: for i in 1..columns.len() {
-        let field = columns[i].field(fields).as_bytes();
+        let field = columns[i].field(number, body).as_bytes();
         if bare {
             lines.unquoted(field);
         } else {
             lines.field(field);
         }
-    }
-}
-
-/// The same, with code of its own for each form, in which the columns are known.
-#[inline(always)]
-fn put_fields(lines: &mut LineBuffer, form: Form, fields: EntryFields<'_>, bare: bool)
-    requires room { lines.old.len + entry_room ≤ line_capacity lines.old }
-    requires short { length fields.number.now ≤ number_room }
-    requires number { needs_quotes (writing lines.old.delimiter) fields.number.now ≡ false }
-    requires bare { bare ≡ true → has_special (body_shown fields) ≡ false }
-    ensures value { Begins lines.old.delimiter (line_bytes lines.old) (map (field_shown fields.entry) (entry_order form))
-        (line_bytes lines.new) }
-    ensures grows { GrowsBy entry_room lines.old lines.new }
-{
-    match form {
-        Form::Plain => put_columns(lines, Form::Plain, fields, bare),
-        Form::Sealed => put_columns(lines, Form::Sealed, fields, bare),
     }
 }
 
@@ -133,32 +117,13 @@ fn put_entry(lines: &mut LineBuffer, form: Form, row: &Row)
         (map (entry_field (row_seen row.now)) (entry_order form)) (line_bytes lines.new) }
     ensures grows { GrowsBy entry_room lines.old lines.new }
 {
-    let bare = row.entry().is_bare();
+    let entry = row.entry();
     let mut buffer = Buffer::new();
-    let number = buffer.format(row.entry().number());
-    // A call in each arm, so that no column asks again whether there are texts.
-    match row.entry().body() {
-        Body::Fields {
-            id,
-            calendar,
-            date,
-            note,
-        } => {
-            let texts = Some(EntryTexts {
-                id,
-                calendar,
-                date,
-                note,
-            });
-            put_fields(lines, form, EntryFields { number, texts }, bare)
-        }
-        Body::Refused(_) => {
-            let fields = EntryFields {
-                number,
-                texts: None,
-            };
-            put_fields(lines, form, fields, bare)
-        }
+    let number = buffer.format(entry.number());
+    // A call for each form, so that the columns are known in each.
+    match form {
+        Form::Plain => put_columns(lines, Form::Plain, number, entry.body(), entry.is_bare()),
+        Form::Sealed => put_columns(lines, Form::Sealed, number, entry.body(), entry.is_bare()),
     }
 }
 

@@ -1,7 +1,7 @@
 -- The fields of a line, while they are appended.
 use Rattle.std.proofs.Common.{◌≡◌, ◌<◌, ◌≤◌, ◌+◌, ◌^◌, ◌%◌, ◌++◌, ℕ, List, [], ◌∷◌, true, false, refl, sym, ap, ◌∙◌}
 use Rattle.std.proofs.Common.{rules, arith, append_assoc, append-nil, length, length-append, length-set, map, set, take}
-use Rattle.std.proofs.Common.{drop, get_or, ℤ, length-take-le, take_all}
+use Rattle.std.proofs.Common.{Result, drop, get_or, ℤ, length-take-le, take_all}
 use Rattle.std.specs.Fmt.{decimal, signed_decimal}
 use Rattle.std.proofs.lemmas.Int.{ints}
 use Rattle.std.proofs.lemmas.Bool.{and_parts}
@@ -21,16 +21,17 @@ use Rattle.register_records.specs.Lines.{line_text}
 use Rattle.register_records.specs.SetupRules.{is_delimiter}
 use Rattle.date_texts.specs.Cells.{is_plain}
 use Rattle.date_texts.specs.Calendars.{target_name}
+use Rattle.date_texts.specs.declared.refusal.Refusal.{Refusal}
 use Rattle.date_texts.specs.declared.target.Target.{Target}
 use Rattle.register_records.specs.Columns.{Column, cell_columns, columns, entry_column, entry_order, tail_column}
 use Rattle.register_records.specs.Columns.{tail_order}
-use Rattle.register_records.specs.TableColumns.{body_shown, column_texts, entry_field, entry_name, field_shown, heading}
+use Rattle.register_records.specs.TableColumns.{column_texts, entry_field, entry_name, field_shown, heading}
 use Rattle.register_records.specs.TableColumns.{laid_out, row_fields, row_with, tail_names, tail_texts}
 use Rattle.register_records.specs.Outcomes.{TableRow}
 use Rattle.register_records.specs.declared.setups.Form.{Form}
 use Rattle.register_records.specs.declared.table_columns.EntryColumn.{EntryColumn}
 use Rattle.register_records.specs.declared.table_columns.EntryColumn.TheVariants.{Calendar, Date, Id, Note, Number}
-use Rattle.register_records.specs.declared.table_columns.EntryFields.{EntryFields}
+use Rattle.register_records.specs.Records.{Texts}
 use Rattle.register_records.specs.declared.table_columns.TailColumn.{TailColumn}
 use Rattle.register_records.specs.BareTexts.{has_special}
 use Rattle.register_records.proofs.BareLemmas.{unquoted}
@@ -49,7 +50,7 @@ pub plain_text : (d : ℕ) (field : List ℕ) → needs_quotes (writing d) field
     → field_text (writing d) field ≡ field
 plain_text d field h = rw h refl
 
-only_field : (d : ℕ) (before field bytes : List ℕ) → needs_quotes (writing d) field ≡ false
+pub only_field : (d : ℕ) (before field bytes : List ℕ) → needs_quotes (writing d) field ≡ false
     → bytes ≡ before ++ field → bytes ≡ before ++ body d (field ∷ [])
 unfolding fields_text
 only_field d before field bytes h e =
@@ -174,14 +175,14 @@ first_field form f d before field bytes h is b = search (rules, only_field)
 pub room_behind : (form : Form) → number_room + columns_room quoted_room (drop 1 (entry_order form)) ≤ entry_room
 room_behind form = search rules
 
-pub plain_column : (d : ℕ) → is_delimiter d ≡ true → (fields : EntryFields)
-    → needs_quotes (writing d) fields.number.now ≡ false → has_special (body_shown fields) ≡ false
-    → (column : EntryColumn) → needs_quotes (writing d) (field_shown fields column) ≡ false
-plain_column d h fields number bare Number = number
-plain_column d h fields number bare Id = (unquoted d h (body_shown fields) bare).0
-plain_column d h fields number bare Calendar = (unquoted d h (body_shown fields) bare).1
-plain_column d h fields number bare Date = (unquoted d h (body_shown fields) bare).2
-plain_column d h fields number bare Note = (unquoted d h (body_shown fields) bare).3
+pub plain_column : (d : ℕ) → is_delimiter d ≡ true → (number : List ℕ) (body : Result Texts Refusal)
+    → needs_quotes (writing d) number ≡ false → has_special body ≡ false
+    → (column : EntryColumn) → needs_quotes (writing d) (field_shown number body column) ≡ false
+plain_column d h number body plain bare Number = plain
+plain_column d h number body plain bare Id = (unquoted d h body bare).0
+plain_column d h number body plain bare Calendar = (unquoted d h body bare).1
+plain_column d h number body plain bare Date = (unquoted d h body bare).2
+plain_column d h number body plain bare Note = (unquoted d h body bare).3
 
 -- equal fields
 pub same_body : (d : ℕ) (before : List ℕ) (fields wanted : List (List ℕ)) (bytes : List ℕ) → fields ≡ wanted

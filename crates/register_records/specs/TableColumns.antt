@@ -1,6 +1,5 @@
 -- The columns of a table as the code goes through them. No public contract cites this file.
 use Rattle.std.specs.Prelude.{◌≡◌, ℕ, ℤ, List, [], map, Result, Ok, Err}
-use Rattle.std.specs.Option.{ok_or, option_map}
 use Rattle.std.specs.Result.{result_ok}
 use Rattle.std.specs.List.{flat_map}
 use Rattle.date_texts.specs.Cells.{IsCell}
@@ -13,8 +12,6 @@ use Rattle.register_records.specs.Records.{Texts}
 use Rattle.register_records.specs.declared.setups.Form.{Form}
 use Rattle.register_records.specs.declared.table_columns.EntryColumn.{EntryColumn}
 use Rattle.register_records.specs.declared.table_columns.EntryColumn.TheVariants.{Calendar, Date, Id, Note, Number}
-use Rattle.register_records.specs.declared.table_columns.EntryFields.{EntryFields}
-use Rattle.register_records.specs.declared.table_columns.EntryTexts.{EntryTexts}
 use Rattle.register_records.specs.declared.table_columns.TailColumn.{TailColumn}
 
 -- a layout of this form, whatever its delimiter; the heading, and the fields of a row
@@ -34,20 +31,13 @@ entry_name c = (entry_column c).name
 abbrev pub entry_field : TableRow → EntryColumn → List ℕ
 entry_field row c = (entry_column c).field row
 
--- the body of what the code shows of an entry, and what stands of it in a column
-abbrev pub texts_seen : EntryTexts → Texts
-texts_seen t =
-    record { id = t.id.now.bytes; calendar = t.calendar.now.bytes; date = t.date.now.bytes; note = t.note.now.bytes }
-
-abbrev pub body_shown : EntryFields → Result Texts Refusal
-body_shown fields = ok_or (option_map texts_seen fields.texts) FieldCount
-
-abbrev pub field_shown : EntryFields → EntryColumn → List ℕ
-field_shown fields Number = fields.number.now
-field_shown fields Id = shown (λ (t : Texts). t.id) (result_ok (body_shown fields))
-field_shown fields Calendar = shown (λ (t : Texts). t.calendar) (result_ok (body_shown fields))
-field_shown fields Date = shown (λ (t : Texts). t.date) (result_ok (body_shown fields))
-field_shown fields Note = shown (λ (t : Texts). t.note) (result_ok (body_shown fields))
+-- the same by its number in decimal and its body
+abbrev pub field_shown : List ℕ → Result Texts Refusal → EntryColumn → List ℕ
+field_shown number body Number = number
+field_shown number body Id = shown (λ (t : Texts). t.id) (result_ok body)
+field_shown number body Calendar = shown (λ (t : Texts). t.calendar) (result_ok body)
+field_shown number body Date = shown (λ (t : Texts). t.date) (result_ok body)
+field_shown number body Note = shown (λ (t : Texts). t.note) (result_ok body)
 
 -- what heads those of a column of a tail
 abbrev pub tail_names : List Target → TailColumn → List (List ℕ)

@@ -10,7 +10,6 @@
 
 mod causes;
 mod converting;
-mod csv_lines;
 mod ends;
 mod entries;
 mod entry_logs;
@@ -18,6 +17,7 @@ pub mod faults;
 mod flush_tokens;
 mod header;
 pub mod laws;
+mod lines;
 mod outputs;
 mod reading;
 mod record_fields;

@@ -3,12 +3,12 @@
 
 ghost use Rattle.std.specs.Prelude.{◌≡◌, ◌≤◌, length};
 ghost use Rattle.register_records.specs.Columns.{entry_order, tail_order};
+ghost use Rattle.register_records.specs.Entries.{body_seen};
 ghost use Rattle.register_records.specs.LineRoom.{entry_limit, name_limit};
 ghost use Rattle.register_records.specs.TableColumns.{entry_name, field_shown};
 
-use crate::entries::{CALENDAR_LIMIT, DATE_LIMIT, ID_LIMIT, NOTE_LIMIT};
+use crate::entries::Body;
 use crate::setups::Form;
-use arrayvec::ArrayString;
 
 /// A column that a table has of an entry.
 #[derive(Clone, Copy)]
@@ -18,24 +18,6 @@ pub(crate) enum EntryColumn {
     Calendar,
     Date,
     Note,
-}
-
-/// What the columns of an entry show of it.
-#[derive(Clone, Copy)]
-pub(crate) struct EntryFields<'a> {
-    /// The number in decimal.
-    pub(crate) number: &'a str,
-    /// The texts, which an entry whose body was refused has not.
-    pub(crate) texts: Option<EntryTexts<'a>>,
-}
-
-/// The texts of an entry.
-#[derive(Clone, Copy)]
-pub(crate) struct EntryTexts<'a> {
-    pub(crate) id: &'a ArrayString<ID_LIMIT>,
-    pub(crate) calendar: &'a ArrayString<CALENDAR_LIMIT>,
-    pub(crate) date: &'a ArrayString<DATE_LIMIT>,
-    pub(crate) note: &'a ArrayString<NOTE_LIMIT>,
 }
 
 /// A column that a table has of the tail of a row.
@@ -101,20 +83,20 @@ impl EntryColumn {
         }
     }
 
-    /// What the column shows of an entry.
+    /// What the column shows of an entry with this number, in decimal, and this body. A refused body has no texts.
     #[inline(always)]
-    pub fn field<'a>(self, fields: EntryFields<'a>) -> &'a str
-        requires { length fields.number.now ≤ entry_limit EntryColumn.Number }
-        ensures value { result.now ≡ field_shown fields.entry self }
+    pub fn field<'a>(self, number: &'a str, body: &'a Body) -> &'a str
+        requires { length number.now ≤ entry_limit EntryColumn.Number }
+        ensures value { result.now ≡ field_shown number.now (body_seen body.now) self }
         ensures short { length result.now ≤ entry_limit self }
     {
-        match (self, fields.texts) {
-            (EntryColumn::Number, _) => fields.number,
-            (EntryColumn::Id, Some(texts)) => texts.id.as_str(),
-            (EntryColumn::Calendar, Some(texts)) => texts.calendar.as_str(),
-            (EntryColumn::Date, Some(texts)) => texts.date.as_str(),
-            (EntryColumn::Note, Some(texts)) => texts.note.as_str(),
-            (_, None) => "",
+        match (self, body) {
+            (EntryColumn::Number, _) => number,
+            (EntryColumn::Id, Body::Fields { id, .. }) => id.as_str(),
+            (EntryColumn::Calendar, Body::Fields { calendar, .. }) => calendar.as_str(),
+            (EntryColumn::Date, Body::Fields { date, .. }) => date.as_str(),
+            (EntryColumn::Note, Body::Fields { note, .. }) => note.as_str(),
+            (_, Body::Refused(_)) => "",
         }
     }
 }

@@ -6,7 +6,7 @@ ghost use Rattle.std.specs.Io.KnownBytes.{Appends};
 ghost use Rattle.register_records.specs.LineViews.{line_capacity};
 ghost use Rattle.register_records.specs.declared.writing.TheConstants.{ROOM};
 
-use crate::csv_lines::CsvLines;
+use crate::lines::LineBuffer;
 use crate::outputs::{Output, send};
 use crate::row_lines::{LINE_ROOM, make_heading, make_row};
 use crate::rows::Row;
@@ -59,7 +59,7 @@ pub(crate) enum WriterState {
 #[derive(Drop)]
 pub struct RowWriter {
     // The lines that were not sent yet.
-    lines: CsvLines,
+    lines: LineBuffer,
     form: Form,
     state: WriterState,
     ghost roomy: { ROOM ≤ line_capacity lines },
@@ -91,7 +91,7 @@ impl RowWriter {
         ensures never { IfErr result (λ e. e ≢ RowFault.Failed) }
         ensures mark { W.own_mark output.new ≡ W.own_mark output.old }
     {
-        let mut lines = CsvLines::new(alloc, setup.delimiter(), ROOM)?;
+        let mut lines = LineBuffer::new(alloc, setup.delimiter(), ROOM)?;
         make_heading(&mut lines, setup.form(), setup.targets());
         if send(output, lines.as_slice()).is_err() {
             return Err(RowFault::WriteFault);

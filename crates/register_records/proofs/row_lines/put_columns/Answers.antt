@@ -5,5 +5,5 @@ use Rattle.register_records.proofs.row_lines.put_columns.Goals as goal
 pub columns-init : goal.columns-init
 columns-init c = search (rules, first_field, room_behind)
 
-pub put_field-end-requires-clause-bare : goal.put_field-end-requires-clause-bare
-put_field-end-requires-clause-bare c b = search (rules, plain_column)
+pub unquoted-requires-clause-unquoted : goal.unquoted-requires-clause-unquoted
+unquoted-requires-clause-unquoted c = search (rules, plain_column)

@@ -1,11 +1,11 @@
 use Rattle.std.proofs.Common.{rules, append_assoc}
 use Rattle.csv.proofs.WriteFacts.{escaped-double, escaped-other}
 use Rattle.register_records.specs.LineRoom.{writing}
-use Rattle.register_records.proofs.csv_lines.put_escaped.Goals as goal
+use Rattle.register_records.proofs.lines.LineBuffer.put_escaped.Goals as goal
 
 pub returns-then-byte-eq-QUOTE-clause-value : goal.returns-then-byte-eq-QUOTE-clause-value
 returns-then-byte-eq-QUOTE-clause-value c = search (rules, escaped-double, append_assoc)
 
 pub returns-clause-value : goal.returns-clause-value
 returns-clause-value c =
-    rw (escaped-other (writing c.args.delimiter) c.args.byte c.if-byte-eq-QUOTE.false) c.put_byte-2.ensures.value
+    rw (escaped-other (writing c.args.self.now.delimiter) c.args.byte c.if-byte-eq-QUOTE.false) c.put_byte-2.ensures.value

@@ -1,0 +1,13 @@
+use Rattle.std.proofs.Common.{◌≡◌, ◌+◌, ◌*◌, ◌++◌, ◌∷◌, take}
+use Rattle.csv.specs.Writing.{escaped}
+use Rattle.register_records.specs.LineRoom.{writing}
+use Rattle.register_records.specs.LineViews.{GrowsBy, line_bytes}
+use Rattle.register_records.proofs.lines.LineBuffer.put_quotable.Given as goal
+
+abbrev pub invariant-bytes : goal.invariant-bytes
+invariant-bytes l =
+    record {
+      escaped : line_bytes l.self
+          ≡ line_bytes l.fn.self ++ (34 ∷ escaped (writing l.fn.self.delimiter) (take l.b-index l.field));
+      grows : GrowsBy (1 + 2 * l.b-index) l.fn.self l.self;
+    }

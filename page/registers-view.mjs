@@ -47,9 +47,12 @@ export function registersView(step, now) {
       drawn = (run === null ? [] : run.jobs).map(() => ({ article: box.appendChild(element('article')), text: '' }));
     }
     drawn.forEach((before, i) => {
-      const job = run.jobs[i], report = registerReport(job, now()), text = textOf(report.words);
-      if (before.text === text && before.reply === job.reply) return;
-      Object.assign(before, { text, reply: job.reply });
+      const job = run.jobs[i];
+      if (before.job === job && job.status !== 'runs') return;
+      const report = registerReport(job, now()), text = textOf(report.words), isSame = before.text === text;
+      const isDrawn = isSame && before.job.reply === job.reply;
+      Object.assign(before, { text, job });
+      if (isDrawn) return;
       drawReport(before.article, `register-result-${i}`, report, () => step(saved, job.number));
     });
   }

@@ -86,7 +86,7 @@ export function started(state, now) {
 export function stopped(state) {
   if (!isRunning(state)) return state;
   const jobs = state.run.jobs.map((job) => (job.status === 'ended' ? job : stoppedJob(job)));
-  return { ...state, run: { ...state.run, jobs } };
+  return { ...state, run: { ...state.run, jobs }, notice: '' };
 }
 
 const keyOf = (run, job) => `register ${run.number} ${job.number}`;
@@ -110,7 +110,7 @@ export function replied(state, key, reply, now) {
   const job = state.run && state.run.jobs.find((it) => it.status === 'runs' && keyOf(state.run, it) === key);
   if (!job) return state;
   const jobs = state.run.jobs.map((it) => (it === job ? endedJob(job, reply) : it));
-  return scheduled({ ...state, run: { ...state.run, jobs } }, now);
+  return scheduled({ ...state, run: { ...state.run, jobs }, notice: '' }, now);
 }
 
 /**

@@ -118,7 +118,8 @@ export function started(state) {
  */
 export function stopped(state) {
   if (!isRunning(state)) return state;
-  return { ...state, run: { ...state.run, status: /** @type {'stopped'} */ ('stopped') }, worker: state.worker + 1 };
+  const run = { ...state.run, status: /** @type {'stopped'} */ ('stopped') };
+  return { ...state, run, worker: state.worker + 1, notice: '' };
 }
 
 // The choices as a worker takes them, with the reading that they were made from.
@@ -166,7 +167,7 @@ export const keptWorkers = (state) => [workerOf(state)];
 
 // The conversion ended. Where the file was read anew, what is shown of the sheet is what was converted.
 function runReplied(state, reply) {
-  const ended = { ...state, run: { ...state.run, status: /** @type {'ended'} */ ('ended'), reply } };
+  const ended = { ...state, run: { ...state.run, status: /** @type {'ended'} */ ('ended'), reply }, notice: '' };
   if (reply.fault === 'otherColumns') return { ...readAnew(state, state.source), notice: 'otherColumns' };
   if (reply.fault) return ended;
   const { sheetBegins } = reply.answer;

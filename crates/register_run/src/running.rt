@@ -257,15 +257,8 @@ fn run_in_scope<T: Host, R: Read + Send + Drop, W: Output + Drop, G: Gate + Sync
                 × IsReportOfMachine R.Read W.Output setup.entry.now sources.items outputs.items result
                 × IsReportOfThreads setup.entry.now result }
         {
+            // Taken whole, since their room is known of them together.
             let lists = lists;
-            let Lists {
-                running_sources,
-                ended_sources,
-                outputs: written,
-                ends,
-                ran,
-                ..
-            } = lists;
             let context = RunContext {
                 scope,
                 rt,
@@ -274,16 +267,12 @@ fn run_in_scope<T: Host, R: Read + Send + Drop, W: Output + Drop, G: Gate + Sync
                 patience,
                 setup,
             };
-            let mut running_sources = start_all(&context, sources, outputs, running_sources);
+            let mut running_sources = start_all(&context, sources, outputs, lists.running_sources);
             // This thread is two lanes downstream of the readers.
             let patience = patience.one_lane_downstream().one_lane_downstream();
             visit_until_ended(rt, patience, &mut running_sources);
-            report(
-                finish_all(rt, running_sources, ended_sources),
-                written,
-                ends,
-                ran,
-            )
+            let ended_sources = finish_all(rt, running_sources, lists.ended_sources);
+            report(ended_sources, lists.outputs, lists.ends, lists.ran)
         },
     )
 }

@@ -17,9 +17,7 @@ use crate::ended_sources::lower;
 use crate::gates::Gate;
 use crate::reading::{ReaderTask, Reading, Sent, read_source, stopped_after};
 use crate::running::{Host, RunContext};
-use crate::stripe_lists::{
-    call_off_stripes, join_stripes, look_at, pass_at, row_at, start_stripes,
-};
+use crate::stripe_lists::{call_off_stripes, join_stripes, start_stripes};
 use crate::stripes::{Look, StartFault, Stripe, started};
 use crate::turns::turn_behind;
 use register_records::{Cause, Row, Setup};
@@ -107,6 +105,7 @@ impl<R: Read + Drop> SourceThreads<R> {
 
     /// Looks into the lane that has the turn. Lanes that have ended have no turn, and a source with no threads has
     /// stopped.
+    #[tactic(auto, using(crate::proofs::PoppedLemmas::looked_at, crate::proofs::StripeLemmas::same_stripes))]
     pub(crate) fn look(&mut self) -> Found
         ensures source { started_on self.new ≡ started_on self.old }
         ensures setup { started_by self.new ≡ started_by self.old }
@@ -117,7 +116,7 @@ impl<R: Read + Drop> SourceThreads<R> {
         if self.turn >= self.stripes.len() {
             return Found::Stop;
         }
-        match look_at(&mut self.stripes, self.turn) {
+        match self.stripes[self.turn].look() {
             Look::Nothing => Found::Nothing,
             Look::Row => Found::Row,
             Look::End => self.end_of_lane(false),
@@ -126,16 +125,18 @@ impl<R: Read + Drop> SourceThreads<R> {
     }
 
     /// The row that a look found, unless it came after a stop.
+    #[tactic(auto, using(crate::proofs::StripeLemmas::any_here))]
     pub(crate) fn row(&self) -> Option<&Row>
         ensures { IfSome result (λ row. Passed self.now row.now) }
     {
         if self.stopped || self.turn >= self.stripes.len() {
             return None;
         }
-        row_at(&self.stripes, self.turn)
+        self.stripes[self.turn].row()
     }
 
     /// Takes the row that a look found, and gives the turn on.
+    #[tactic(auto, using(crate::proofs::PoppedLemmas::popped_at, crate::proofs::StripeLemmas::same_stripes))]
     pub(crate) fn pass(&mut self)
         requires { IsNext self.old }
         ensures source { started_on self.new ≡ started_on self.old }
@@ -144,7 +145,7 @@ impl<R: Read + Drop> SourceThreads<R> {
         ensures given { HasGiven self.old self.new }
         ensures stopped { self.new.stopped ≡ self.old.stopped }
     {
-        pass_at(&mut self.stripes, self.turn);
+        self.stripes[self.turn].pass();
         self.turn = next_open(&self.stripes, self.turn);
     }
 

@@ -1,16 +1,16 @@
-//! The stripes of a source: they are started, looked at by their places, and joined.
+//! The stripes of a source: they are started and joined.
 
-ghost use Rattle.std.specs.Prelude.{◌≡◌, ◌<◌, [], All, IfOk, IfSome, length, map, replicate, vec_len};
+ghost use Rattle.std.specs.Prelude.{◌≡◌, [], All, IfOk, map, replicate, vec_len};
 ghost use Rattle.lane_rings.specs.Lane.{sender_lane, sent};
 ghost use Rattle.register_run.specs.JoinedThreads.{AreOfLanes};
-ghost use Rattle.register_run.specs.Popped.{HasLookedAt, HasPopped, IsRowNextAt, popped};
-ghost use Rattle.register_run.specs.Stripes.{AnyTook, AreSameStripes, HavePassedOn, feeding_lane, stripe_setup};
+ghost use Rattle.register_run.specs.Popped.{popped};
+ghost use Rattle.register_run.specs.Stripes.{HavePassedOn, feeding_lane, stripe_setup};
 
 use crate::gates::Gate;
 use crate::running::{Host, RunContext};
-use crate::stripes::{Look, StartFault, Stripe};
+use crate::stripes::{StartFault, Stripe};
 use lane_rings::{Closed, Sender, Unconfirmed};
-use register_records::{Entry, Row};
+use register_records::Entry;
 use std::thread::Threads;
 
 /// Starts the converters of a source, and gives the senders that feed them.
@@ -47,39 +47,6 @@ pub(crate) fn start_stripes<'s, 'e, T: Host, G: Gate + Sync>(
         }
     }
     Ok((senders, stripes))
-}
-
-/// Looks at the stripe at this place.
-pub(crate) fn look_at(stripes: &mut Vec<Stripe>, at: usize) -> Look
-    requires { at < vec_len stripes.old }
-    ensures len { vec_len stripes.new ≡ vec_len stripes.old }
-    ensures same { AreSameStripes stripes.old.items stripes.new.items }
-    ensures looked { HasLookedAt at stripes.old.items stripes.new.items result }
-{
-    let stripe = &mut stripes[at];
-    stripe.look()
-}
-
-/// The row that a look at the stripe at this place found.
-#[tactic(auto, using(crate::proofs::StripeLemmas::any_here))]
-pub(crate) fn row_at(stripes: &[Stripe], at: usize) -> Option<&Row>
-    requires { at < length stripes.now }
-    ensures { IfSome result (λ row. AnyTook stripes.now row.now) }
-{
-    let stripe = &stripes[at];
-    stripe.row()
-}
-
-/// Takes the row that a look at the stripe at this place found.
-pub(crate) fn pass_at(stripes: &mut Vec<Stripe>, at: usize)
-    requires within { at < vec_len stripes.old }
-    requires row { IsRowNextAt stripes.old.items at }
-    ensures len { vec_len stripes.new ≡ vec_len stripes.old }
-    ensures same { AreSameStripes stripes.old.items stripes.new.items }
-    ensures popped { HasPopped stripes.old.items stripes.new.items }
-{
-    let stripe = &mut stripes[at];
-    stripe.pass();
 }
 
 /// Joins the threads of all stripes and confirms all lanes. `closed` is what is left of the senders that fed them.

@@ -95,7 +95,7 @@ skip_by f k (name ∷ names) out =
     ] in
     skip (key name == k) refl
 
-drop_drop : {A : Type 0} (m n : ℕ) (xs : List A) → drop (m + n) xs ≡ drop n (drop m xs)
+pub drop_drop : {A : Type 0} (m n : ℕ) (xs : List A) → drop (m + n) xs ≡ drop n (drop m xs)
 drop_drop zero n xs = let e : 0 + n ≡ n = omega arith in rw e refl
 drop_drop (suc m) n [] = drop-nil (suc m + n) ∙ sym (drop-nil n)
 drop_drop (suc m) n (x ∷ xs) = let e : suc m + n ≡ suc (m + n) = omega arith in rw e (drop_drop m n xs)

@@ -3,6 +3,7 @@ pub mod RomanLemmas
 pub mod PartLemmas
 pub mod ItemLemmas
 pub mod KeyLemmas
+pub mod FieldLemmas
 pub mod RuleLemmas
 pub mod RomanLawLemmas
 pub mod LawLemmas

@@ -8,5 +8,6 @@ pub mod Calendars
 pub mod Names
 pub mod Keys
 pub mod SignViews
+pub mod Fields
 pub mod Written
 pub mod Laws

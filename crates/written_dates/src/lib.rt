@@ -2,6 +2,7 @@
 #![tactic(auto)]
 
 mod calendars;
+mod fields;
 mod items;
 pub mod laws;
 mod meanings;
@@ -14,6 +15,7 @@ mod tokens;
 mod written;
 
 pub use calendars::{Calendar, Form};
+pub use fields::{CalendarName, CalendarNames, CalendarNamesError};
 pub use items::{Item, Number};
 pub use meanings::{Calendars, Mark, Meaning, Name};
 pub use names::{ListFault, NameFault, Names, NamesError};

@@ -62,7 +62,7 @@ pub(crate) fn signs_of(text: &[u8]) -> (bool, bool)
 }
 
 /// The text from the first token on that is no blank.
-fn bare(text: &[u8]) -> &[u8]
+pub(crate) fn bare(text: &[u8]) -> &[u8]
     ensures { tokens 0 result.now ≡ bare_spec (tokens 0 text.now) }
 {
     let mut rest = text;

@@ -20,7 +20,9 @@ use Rattle.written_dates.specs.Items.{before, meant, alone}
 
 -- ---- numbers
 pub room_for_digit : (v i : ℕ) → v < 10 ^ i → i < 9 → 10 * v + 9 < 2 ^ 32
-room_for_digit v i h few = let low : i ≤ 8 = omega arith in let most : 10 ^ i ≤ 10 ^ 8 = pow-le-pow_right (lit< tt) low in omega (arith, most)
+room_for_digit v i h few =
+    let low : i ≤ 8 = omega arith in
+    let most : 10 ^ i ≤ 10 ^ 8 = pow-le-pow_right (lit< tt) low in omega (arith, most)
 
 pub small_grows : (v i d : ℕ) → v < 10 ^ i → d < 10 → 10 * v + d < 10 ^ (i + 1)
 small_grows v i d h few = let next : 10 ^ (i + 1) ≡ 10 * 10 ^ i = rw add-one (pow-succ' 10 i) in omega (arith, next)

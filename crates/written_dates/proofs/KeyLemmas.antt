@@ -212,7 +212,8 @@ indexed_more names firsts nexts from place k next name there is few at before g 
       let none : ahead j (drop from names) ≡ 0 = rw (here, e) refl in
       omega (arith, got, none)
   first_by j less false e =
-      let other : j ≢ k = λ s. (let yes : (key name == j) ≡ true = (let t : key name ≡ j = omega (arith, s, is) in grind (arith, nat_tests)) in cc) in
+      let other : j ≢ k = λ s. (let t : key name ≡ j = omega (arith, s, is) in
+      let yes : (key name == j) ≡ true = grind (arith, nat_tests) in cc) in
       let one : ahead j (drop from names) ≡ suc (ahead j (drop (from + 1) names)) = rw (here, e) refl in
       get_or-set_other firsts k j from 0 other ∙ h.first j less ∙ omega (arith, one)
 

@@ -167,8 +167,10 @@ impl Default for Item {
 
 /// The items of a text; nothing where a word is not known, or more than four items stand.
 pub(crate) fn items_of(text: &[u8], names: &Names, calendar: Calendar) -> Option<ArrayVec<Item, 4>>
-    ensures some { IfSome result (λ found. items (names_in calendar names.now.listed.now) 0 (parts text.now) ≡ Some found.items) }
-    ensures none { IfNone result ((found : List Item) → items (names_in calendar names.now.listed.now) 0 (parts text.now) ≡ Some found → 4 < length found) }
+    ensures some { IfSome result (λ found.
+        items (names_in calendar names.now.listed.now) 0 (parts text.now) ≡ Some found.items) }
+    ensures none { IfNone result ((found : List Item)
+        → items (names_in calendar names.now.listed.now) 0 (parts text.now) ≡ Some found → 4 < length found) }
 {
     let mut found: ArrayVec<Item, 4> = ArrayVec::new();
     let mut rest = text;

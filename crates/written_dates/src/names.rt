@@ -168,7 +168,8 @@ impl<'a> Names<'a> {
     pub fn checked(alloc: Global, listed: &'a [Name<'a>]) -> Result<Names<'a>, NamesError>
         ensures names { IfOk result (λ names. names.listed.now ≡ listed.now) }
         ensures sound { IfOk result (λ names. first_fault 0 listed.now ≡ None) }
-        ensures fault { (fault : ListFaultValue) → (result ≡ Err (NamesError.Fault fault)) → first_fault 0 listed.now ≡ Some fault }
+        ensures fault { (fault : ListFaultValue) → (result ≡ Err (NamesError.Fault fault))
+            → first_fault 0 listed.now ≡ Some fault }
     {
         let Ok(names) = Names::layered(alloc, listed) else {
             return Err(NamesError::Memory);

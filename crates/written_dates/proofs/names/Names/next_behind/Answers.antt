@@ -13,5 +13,6 @@ returns-clause-behind c =
     = c.args.self.now.indexed.next c.args.place found.0 (omega arith) found.1 in
     let as_many = c.args.self.now.indexed.as_many in
     let here : c.index.result.now ≡ get_or c.args.self.now.nexts.items c.args.place 0
-    = c.index.ensures ∙ get_or_default_zero c.args.self.now.nexts.items c.args.place c.index.result.now (omega (arith, as_many)) in
+    = c.index.ensures
+    ∙ get_or_default_zero c.args.self.now.nexts.items c.args.place c.index.result.now (omega (arith, as_many)) in
     omega (arith, next, here)

@@ -4,11 +4,10 @@ use Rattle.std.proofs.Common.{◌∙◌, arith, take, drop, append_assoc, append
 use Rattle.std.specs.List.{list_any}
 use Rattle.std.proofs.lemmas.List.{take-append-drop}
 use Rattle.std.proofs.Math.Seq.{drop-append_seam}
-use Rattle.written_dates.specs.declared.tokens.Kind.{Kind}
 use Rattle.written_dates.specs.Tokens.{Piece, first, joins, in_front, tokens}
 use Rattle.written_dates.proofs.KeyLemmas.{drop_drop}
 use Rattle.written_dates.specs.declared.fields.CalendarName.{CalendarName}
-use Rattle.written_dates.specs.Fields.{is_blank, kept_end, bare_end, spelling, entry, is_other, first_twofold}
+use Rattle.written_dates.specs.Fields.{is_blank, kept_end, spelling, entry, is_other, first_twofold}
 
 spelled_front : (a : Piece) (ts : List Piece) → spelling (in_front a ts) ≡ a.text ++ spelling ts
 unfolding in_front

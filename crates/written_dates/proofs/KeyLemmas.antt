@@ -1,7 +1,7 @@
 -- Names whose key is another do not stand in front.
-use Rattle.std.proofs.Common.{◌≡◌, ◌≢◌, ℕ, zero, suc, ◌+◌, ◌*◌, ◌%◌, ◌<◌, ◌≤◌, Bool, true, false, ◌&&◌, ◌==◌, nat_lt}
+use Rattle.std.proofs.Common.{◌≡◌, ◌≢◌, ℕ, zero, suc, ◌+◌, ◌*◌, ◌%◌, ◌<◌, Bool, true, false, ◌&&◌, ◌==◌, nat_lt}
 use Rattle.std.proofs.Common.{List, [], ◌∷◌, cond, length, refl, sym, ap, ◌∙◌, arith, get_or, drop, take, set, replicate, fold}
-use Rattle.std.proofs.Common.{Some, None, slice_get, filter}
+use Rattle.std.proofs.Common.{Some, slice_get}
 use Rattle.std.proofs.Math.Seq.{drop-nil, drop-length}
 use Rattle.std.proofs.Math.ListN.{length-set}
 use Rattle.std.proofs.lemmas.Option.{slice_get_within}
@@ -21,7 +21,7 @@ use Rattle.written_dates.specs.Tokens.{Piece}
 use Rattle.written_dates.specs.Parts.{parts, stands}
 use Rattle.written_dates.specs.Items.{longest}
 use Rattle.written_dates.specs.Keys.{key_of, first_text, key, ahead, place_from, IsIndexed}
-use Rattle.written_dates.specs.Names.{holds, names_in, conflict, share_calendar, same_meaning}
+use Rattle.written_dates.specs.Names.{holds, names_in, conflict}
 
 -- ---- keys
 step : ℕ → ℕ → ℕ

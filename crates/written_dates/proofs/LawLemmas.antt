@@ -15,7 +15,7 @@ use Rattle.written_dates.specs.Tokens.{Piece, first, in_front, tokens}
 use Rattle.written_dates.specs.Items.{number_of_digits}
 use Rattle.written_dates.specs.Signs.{◌>>=◌, three_runs, runs_behind_minus, runs_in_front, digits_first, behind_hyphen}
 use Rattle.written_dates.specs.Laws.{AreDigits, RegisterDatesStay, MinusDatesStay}
-use Rattle.written_dates.specs.Written.{joined, numbers, short_rule, stood}
+use Rattle.written_dates.specs.Written.{joined, short_rule, stood}
 use Rattle.written_dates.proofs.TokenLemmas.{alone}
 
 abbrev piece_of : Kind → List ℕ → Piece

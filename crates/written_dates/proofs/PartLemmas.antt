@@ -1,9 +1,9 @@
 -- Parts can be read from the left.
-use Rattle.std.proofs.Common.{◌≡◌, ℕ, zero, suc, ◌+◌, Bool, true, false, not, ◌&&◌, ◌==◌, List, [], ◌∷◌, ◌++◌, cond}
-use Rattle.std.proofs.Common.{refl, sym, ap, drop, arith, get_or, append-nil, filter}
+use Rattle.std.proofs.Common.{◌≡◌, ℕ, zero, suc, ◌+◌, true, false, List, [], ◌∷◌}
+use Rattle.std.proofs.Common.{refl, drop, arith}
 use Rattle.std.specs.Str.{str_eq_ignore_ascii_case}
-use Rattle.written_dates.specs.Tokens.{Piece, tokens, in_front, joins, first, kind_of}
-use Rattle.written_dates.specs.Parts.{is_part, is_part_kind, parts, stands}
+use Rattle.written_dates.specs.Tokens.{Piece, tokens}
+use Rattle.written_dates.specs.Parts.{is_part_kind, parts, stands}
 
 pub part_first : (text rest : List ℕ) (t : Piece) → tokens 0 text ≡ t ∷ tokens 0 rest → is_part_kind t.kind ≡ true
     → parts text ≡ t ∷ parts rest

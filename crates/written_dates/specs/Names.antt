@@ -1,6 +1,6 @@
 -- Names: the calendars in which each holds, and what is wrong with a list of them.
-use Rattle.std.specs.Prelude.{◌≡◌, ℕ, ◌+◌, Bool, true, false, not, ◌&&◌, ◌==◌, nat_le, if◌then◌else◌}
-use Rattle.std.specs.Prelude.{List, [], ◌∷◌, get_or, drop, filter, length, Option, Some, None, slice_get}
+use Rattle.std.specs.Prelude.{ℕ, ◌+◌, Bool, true, false, not, ◌&&◌, ◌==◌, nat_le, if◌then◌else◌}
+use Rattle.std.specs.Prelude.{List, [], ◌∷◌, get_or, filter, Option, Some, None}
 use Rattle.std.specs.List.{list_any}
 use Rattle.written_dates.specs.declared.calendars.Calendar.{Calendar}
 use Rattle.written_dates.specs.declared.meanings.Mark.{Mark}

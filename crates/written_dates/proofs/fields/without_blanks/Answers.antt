@@ -1,4 +1,4 @@
-use Rattle.std.proofs.Common.{◌≡◌, ◌+◌, ◌∙◌, ◌++◌, rules, sym, ap, List, [], take, length, length-append, arith}
+use Rattle.std.proofs.Common.{◌≡◌, ◌+◌, ◌∙◌, ◌++◌, rules, sym, ap, [], take, length, length-append, arith}
 use Rattle.written_dates.specs.Tokens.{tokens, piece}
 use Rattle.written_dates.specs.Fields.{bare_end, spelling, without_blanks}
 use Rattle.written_dates.proofs.FieldLemmas.{token_stands, ending, ending_blank, ending_other, takes_more, drops_more}

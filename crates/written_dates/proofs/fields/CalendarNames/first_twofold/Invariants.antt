@@ -1,5 +1,5 @@
 use Rattle.std.proofs.Common.{◌≡◌, ◌-◌, drop, length, map}
-use Rattle.written_dates.specs.Fields.{entry, entries, first_twofold}
+use Rattle.written_dates.specs.Fields.{entry, first_twofold}
 use Rattle.written_dates.proofs.fields.CalendarNames.first_twofold.Given as goal
 
 abbrev pub invariant-names : goal.invariant-names

@@ -1,4 +1,4 @@
-use Rattle.std.proofs.Common.{◌≡◌, ◌≤◌, length}
+use Rattle.std.proofs.Common.{◌≤◌, length}
 use Rattle.written_dates.specs.Keys.{IsIndexed}
 use Rattle.written_dates.proofs.names.Names.layered.Given as goal
 

@@ -1,0 +1,10 @@
+pub mod TokenLemmas
+pub mod RomanLemmas
+pub mod PartLemmas
+pub mod ItemLemmas
+pub mod KeyLemmas
+pub mod FieldLemmas
+pub mod RuleLemmas
+pub mod RomanLawLemmas
+pub mod LawLemmas
+pub mod NameLawLemmas

@@ -1,0 +1,72 @@
+-- The field that names a record's calendar.
+use Rattle.std.specs.Prelude.{ℕ, ◌+◌, Bool, true, false, not, ◌&&◌, ◌==◌, if◌then◌else◌, List, [], ◌∷◌, ◌++◌, map}
+use Rattle.std.specs.Prelude.{Option, Some, None}
+use Rattle.std.specs.List.{list_any}
+use Rattle.std.specs.Str.{str_eq_ignore_ascii_case}
+use Rattle.written_dates.specs.declared.tokens.Kind.{Kind}
+use Rattle.written_dates.specs.declared.tokens.Kind.TheVariants.{Blank}
+use Rattle.written_dates.specs.declared.calendars.Calendar.{Calendar}
+use Rattle.written_dates.specs.declared.fields.CalendarName.{CalendarName}
+use Rattle.written_dates.specs.declared.fields.CalendarNames.{CalendarNames}
+use Rattle.written_dates.specs.Calendars.{place, calendar_name}
+use Rattle.written_dates.specs.Tokens.{Piece, tokens}
+use Rattle.written_dates.specs.Signs.{bare}
+
+abbrev pub is_blank : Kind → Bool
+is_blank Blank = true
+is_blank _ = false
+
+abbrev pub kept_end : Piece → List Piece → List Piece
+kept_end p [] = if is_blank p.kind then [] else p ∷ []
+kept_end p (q ∷ rest) = p ∷ q ∷ rest
+
+-- the tokens up to the last one that is no blank
+abbrev pub bare_end : List Piece → List Piece
+bare_end [] = []
+bare_end (p ∷ rest) = kept_end p (bare_end rest)
+
+-- the bytes of tokens
+abbrev pub spelling : List Piece → List ℕ
+spelling [] = []
+spelling (p ∷ rest) = p.text ++ spelling rest
+
+-- a text without the blanks at its ends
+unfoldable pub without_blanks : List ℕ → List ℕ
+without_blanks text = spelling (bare_end (bare (tokens 0 text)))
+
+-- a name without the blanks at its ends, and the calendar that it means
+abbrev pub bare_name : CalendarName → List ℕ × Calendar
+bare_name name = (without_blanks name.text.now, name.calendar)
+
+abbrev pub entry : CalendarName → List ℕ × Calendar
+entry name = (name.text.now, name.calendar)
+
+-- the names, without blanks at their ends
+abbrev pub entries : CalendarNames → List (List ℕ × Calendar)
+entries names = map entry names.bare.items
+
+-- the calendar that the first of the names means which a text is, ASCII letter case aside
+abbrev pub meant_by : List (List ℕ × Calendar) → List ℕ → Option Calendar
+meant_by [] text = None
+meant_by (e ∷ rest) text = if str_eq_ignore_ascii_case e.0 text then Some e.1 else meant_by rest text
+
+-- the calendar that a field means
+abbrev pub calendar_meant : List (List ℕ × Calendar) → List ℕ → Option Calendar
+calendar_meant names field = meant_by names (without_blanks field)
+
+-- one name means two calendars
+abbrev pub is_other : List ℕ × Calendar → List ℕ × Calendar → Bool
+is_other a b = str_eq_ignore_ascii_case a.0 b.0 && not (place a.1 == place b.1)
+
+-- the place of the first name that means another calendar further on, of which the first one has this place
+abbrev pub first_twofold : ℕ → List (List ℕ × Calendar) → Option ℕ
+first_twofold at [] = None
+first_twofold at (e ∷ rest) = if list_any (is_other e) rest then Some at else first_twofold (at + 1) rest
+
+abbrev pub or_field : List ℕ → Option Calendar → List ℕ
+or_field field None = field
+or_field field (Some calendar) = calendar_name calendar
+
+-- what a register gets for a field: the calendar that it means by the names, or else the field as it is
+abbrev pub written_calendar : List (List ℕ × Calendar) → List ℕ → List ℕ
+written_calendar names field = or_field field (calendar_meant names field)

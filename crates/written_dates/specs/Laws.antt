@@ -1,0 +1,54 @@
+-- Laws of what is written.
+use Rattle.std.specs.Prelude.{◌≡◌, ◌<◌, ◌≤◌, ℕ, true, false, IsTrue, List, ◌∷◌, length, Some, slice_get}
+use Rattle.std.specs.Char.{is_ascii_digit}
+use Rattle.std.specs.List.{list_all}
+use Rattle.written_dates.specs.declared.meanings.Name.{Name}
+use Rattle.written_dates.specs.declared.items.Number.{Number}
+use Rattle.written_dates.specs.declared.calendars.Calendar.{Calendar}
+use Rattle.written_dates.specs.declared.calendars.Form.TheVariants.{Civil}
+use Rattle.written_dates.specs.declared.written.Short.TheVariants.{Keep}
+use Rattle.written_dates.specs.declared.written.Choice.{Choice}
+use Rattle.written_dates.specs.declared.meanings.Meaning.TheVariants.{Nothing}
+use Rattle.written_dates.specs.Tokens.{Piece}
+use Rattle.written_dates.specs.Parts.{parts, stands}
+use Rattle.written_dates.specs.Items.{number_of_digits, longest}
+use Rattle.written_dates.specs.Calendars.{form}
+use Rattle.written_dates.specs.Written.{is_turned, joined, short_rule, written}
+
+-- one digit or more
+pub record AreDigits (text : List ℕ) : Type 0 where
+  pub some : 0 < length text
+  pub digits : IsTrue (list_all is_ascii_digit text)
+
+-- a date as registers have it stays, whatever the names, where its year is not last and is kept
+abbrev pub RegisterDatesStay : Type 0
+RegisterDatesStay =
+    (choice : Choice) (calendar : Calendar) (names : List Name) (year month day : List ℕ) → form calendar ≡ Civil
+    → AreDigits year → AreDigits month → AreDigits day → is_turned choice.order year day ≡ false
+    → ((n : Number) → number_of_digits year ≡ Some n → short_rule choice calendar n ≡ Keep)
+    → written choice (Some calendar) names (joined year month day) ≡ joined year month day
+
+-- so does one with a minus
+abbrev pub MinusDatesStay : Type 0
+MinusDatesStay =
+    (choice : Choice) (calendar : Calendar) (names : List Name) (year month day : List ℕ) → form calendar ≡ Civil
+    → AreDigits year → AreDigits month → AreDigits day
+    → written choice (Some calendar) names (45 ∷ joined year month day) ≡ 45 ∷ joined year month day
+
+-- a name stands in front of the parts
+pub record StandsAt (text : List Piece) (names : List Name) (place : ℕ) (name : Name) : Type 0 where
+  pub there : slice_get names place ≡ Some name
+  pub stands : stands (parts name.text.now) text ≡ true
+
+-- what is found in front has as many parts as any name that stands there
+abbrev pub FoundIsLongest : Type 0
+FoundIsLongest =
+    (text : List Piece) (names : List Name) (place : ℕ) (name : Name) → StandsAt text names place name
+    → length (parts name.text.now) ≤ (longest text (0, Nothing) names).0
+
+-- what is found in front, if anything is, is a name that stands there
+abbrev pub FoundStands : Type 0
+FoundStands =
+    (text : List Piece) (names : List Name) → 0 < (longest text (0, Nothing) names).0
+    → (place : ℕ) × (name : Name) × StandsAt text names place name
+    × (longest text (0, Nothing) names ≡ (length (parts name.text.now), name.meaning))

@@ -1,0 +1,13 @@
+pub mod Tokens
+pub mod Roman
+pub mod Parts
+pub mod Items
+pub mod Signs
+pub mod Rules
+pub mod Calendars
+pub mod Names
+pub mod Keys
+pub mod SignViews
+pub mod Fields
+pub mod Written
+pub mod Laws

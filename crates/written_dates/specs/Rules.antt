@@ -1,0 +1,83 @@
+-- What numbers, months and marks say together, by rules of this project.
+use Rattle.std.specs.Prelude.{ℕ, ◌+◌, Bool, true, false, not, ◌&&◌, ◌||◌, ◌==◌, nat_le, nat_lt, if◌then◌else◌}
+use Rattle.std.specs.Prelude.{List, [], ◌∷◌, Option, Some, None}
+use Rattle.written_dates.specs.declared.meanings.Mark.{Mark}
+use Rattle.written_dates.specs.declared.meanings.Mark.TheVariants.{Kalends}
+use Rattle.written_dates.specs.declared.items.Number.{Number as Numeral}
+use Rattle.written_dates.specs.declared.items.Item.{Item}
+use Rattle.written_dates.specs.declared.items.Item.TheVariants.{Number, Month, Mark as Marked}
+use Rattle.written_dates.specs.declared.rules.Order.{Order}
+use Rattle.written_dates.specs.declared.rules.Order.TheVariants.{YearFirst, DayFirst, MonthFirst}
+use Rattle.written_dates.specs.declared.rules.Reading.{Reading}
+use Rattle.written_dates.specs.declared.rules.Reading.TheVariants.{Civil, Roman}
+
+-- three digits or more, or, Roman or named, 100 or more
+abbrev pub is_long : Numeral → Bool
+is_long n = nat_le 3 n.digits || ((n.digits == 0) && nat_le 100 n.value)
+
+-- the number stands in digits, and not as a Roman one or a name
+abbrev pub in_digits : Numeral → Bool
+in_digits n = nat_lt 0 n.digits
+
+abbrev pub civil : Numeral → ℕ → ℕ → Option Reading
+civil year month day = Some (Civil year month day)
+
+-- three numbers in an order
+abbrev pub in_order : Order → Numeral → Numeral → Numeral → Option Reading
+in_order YearFirst a b c = civil a b.value c.value
+in_order DayFirst a b c = civil c b.value a.value
+in_order MonthFirst a b c = civil c a.value b.value
+
+abbrev pub is_year_first : Order → Bool
+is_year_first YearFirst = true
+is_year_first _ = false
+
+-- a number, a month by name, a number: two long numbers say nothing; one is the year; else the order says which
+abbrev pub month_between : Order → Numeral → ℕ → Numeral → Option Reading
+month_between order a month c =
+    if is_long a && is_long c then None
+    else if is_long a || (not (is_long c) && is_year_first order) then civil a month c.value
+    else civil c month a.value
+
+-- a month by name, and two numbers: two long ones say nothing; one is the year; else the last is
+abbrev pub month_in_front : ℕ → Numeral → Numeral → Option Reading
+month_in_front month a c =
+    if is_long a && is_long c then None
+    else if is_long a then civil a month c.value
+    else civil c month a.value
+
+-- three numbers, of which one at most is long, and not the middle one: where the first is, or none is and they are
+-- digits with dashes between them, the year is first; else the order says, which must not be year first where the last
+-- is long
+abbrev pub three_numbers : Bool → Order → Numeral → Numeral → Numeral → Option Reading
+three_numbers dashes order a b c =
+    if is_long b || (is_long a && is_long c) then None
+    else if is_long a then in_order YearFirst a b c
+    else if is_long c then (if is_year_first order then None else in_order order a b c)
+    else if dashes && in_digits a && in_digits b && in_digits c then in_order YearFirst a b c
+    else in_order order a b c
+
+-- what items say as a year, a month and a day
+abbrev pub civil_reading : Bool → Order → List Item → Option Reading
+civil_reading dashes order (Number a ∷ Month m ∷ Number c ∷ []) = month_between order a m c
+civil_reading dashes order (Month m ∷ Number a ∷ Number c ∷ []) = month_in_front m a c
+civil_reading dashes order (Number a ∷ Number b ∷ Number c ∷ []) = three_numbers dashes order a b c
+civil_reading dashes order _ = None
+
+abbrev pub is_kalends : Mark → Bool
+is_kalends Kalends = true
+is_kalends _ = false
+
+-- by charters the days before the Kalends of January are of the year that ends
+abbrev pub charter_year : Bool → ℕ → Mark → ℕ → ℕ → ℕ
+charter_year charters count mark month year =
+    if charters && is_kalends mark && (month == 1) && nat_le 2 count then year + 1 else year
+
+abbrev pub marked : Bool → ℕ → Mark → ℕ → ℕ → Option Reading
+marked charters count mark month year = Some (Roman (charter_year charters count mark month year) month mark count)
+
+-- what items say as a Roman date
+abbrev pub roman_reading : Bool → List Item → Option Reading
+roman_reading charters (Number n ∷ Marked mark ∷ Month m ∷ Number y ∷ []) = marked charters n.value mark m y.value
+roman_reading charters (Marked mark ∷ Month m ∷ Number y ∷ []) = marked charters 1 mark m y.value
+roman_reading charters _ = None

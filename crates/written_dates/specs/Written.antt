@@ -1,0 +1,122 @@
+-- What is written for a text: the rules of this project for dates as people write them.
+use Rattle.std.specs.Prelude.{ℕ, ◌+◌, Bool, not, ◌&&◌, ◌||◌, nat_le, nat_lt, if◌then◌else◌}
+use Rattle.std.specs.Prelude.{List, [], ◌∷◌, ◌++◌, length, Option, Some, None}
+use Rattle.std.specs.Fmt.{decimal}
+use Rattle.written_dates.specs.declared.calendars.Calendar.{Calendar}
+use Rattle.written_dates.specs.declared.calendars.Calendar.TheVariants.{Gregorian, Julian, Hebrew}
+use Rattle.written_dates.specs.declared.calendars.Form.{Form}
+use Rattle.written_dates.specs.declared.calendars.Form.TheVariants as forms
+use Rattle.written_dates.specs.declared.meanings.Mark.{Mark}
+use Rattle.written_dates.specs.declared.meanings.Mark.TheVariants.{Kalends, Nones, Ides}
+use Rattle.written_dates.specs.declared.meanings.Name.{Name}
+use Rattle.written_dates.specs.declared.items.Item.{Item}
+use Rattle.written_dates.specs.declared.items.Number.{Number}
+use Rattle.written_dates.specs.declared.rules.Order.{Order}
+use Rattle.written_dates.specs.declared.rules.Reading.{Reading}
+use Rattle.written_dates.specs.declared.rules.Reading.TheVariants.{Civil, Roman}
+use Rattle.written_dates.specs.declared.written.Short.{Short}
+use Rattle.written_dates.specs.declared.written.Short.TheVariants.{Refuse, Keep, Add}
+use Rattle.written_dates.specs.declared.written.Choice.{Choice}
+use Rattle.written_dates.specs.Calendars.{form}
+use Rattle.written_dates.specs.Tokens.{tokens}
+use Rattle.written_dates.specs.Parts.{parts}
+use Rattle.written_dates.specs.Items.{items, number_of_digits}
+use Rattle.written_dates.specs.Names.{names_in}
+use Rattle.written_dates.specs.Signs.{◌>>=◌, has_other, has_two_dashes, bare, begins_with_dash, three_runs}
+use Rattle.written_dates.specs.Signs.{runs_behind_minus}
+use Rattle.written_dates.specs.Rules.{is_year_first, civil_reading, roman_reading}
+
+-- what is done with a year: years under 100 of at most two digits, and Hebrew ones under 1000 of at most three, are
+-- short
+abbrev pub short_rule : Choice → Calendar → Number → Short
+short_rule choice Gregorian year =
+    if nat_lt year.value 100 && nat_le year.digits 2 then choice.short_years else Keep
+short_rule choice Julian year =
+    if nat_lt year.value 100 && nat_le year.digits 2 then choice.short_years else Keep
+short_rule choice Hebrew year =
+    if nat_lt year.value 1000 && nat_le year.digits 3 then choice.short_hebrew_years else Keep
+short_rule choice calendar year = Keep
+
+-- a year, a month and a day, with dashes (45) between them
+abbrev pub joined : List ℕ → List ℕ → List ℕ → List ℕ
+joined year month day = year ++ (45 ∷ (month ++ (45 ∷ day)))
+
+-- the same in plain numbers
+abbrev pub dated : ℕ → ℕ → ℕ → List ℕ
+dated year month day = joined (decimal year) (decimal month) (decimal day)
+
+-- what is written by the rule for the year, where otherwise the kept text is
+abbrev pub by_rule : Short → List ℕ → ℕ → ℕ → ℕ → List ℕ
+by_rule Refuse kept year month day = []
+by_rule Keep kept year month day = kept
+by_rule (Add more) kept year month day = dated (year + more) month day
+
+-- K, N or I
+abbrev pub letter : Mark → ℕ
+letter Kalends = 75
+letter Nones = 78
+letter Ides = 73
+
+-- what is written for what the text says; for nothing the text as it is
+abbrev pub said : Choice → Calendar → List ℕ → Option Reading → List ℕ
+said choice calendar text None = text
+said choice calendar text (Some (Civil year month day)) =
+    by_rule (short_rule choice calendar year) (dated year.value month day) year.value month day
+said choice calendar text (Some (Roman year month mark count)) =
+    joined (decimal year) (decimal month) (letter mark ∷ decimal count)
+
+-- the numbers that three runs of digits spell, if none has over nine digits
+abbrev pub numbers : List ℕ × List ℕ × List ℕ → Option (Number × Number × Number)
+numbers runs = do
+  year ← number_of_digits runs.0
+  month ← number_of_digits runs.1
+  day ← number_of_digits runs.2
+  Some (year, month, day)
+
+-- what is written for a date as registers have it, which is kept where its numbers are too long
+abbrev pub stood : Choice → Calendar → List ℕ → Option (Number × Number × Number) → List ℕ
+stood choice calendar kept None = kept
+stood choice calendar kept (Some n) =
+    by_rule (short_rule choice calendar n.0) kept n.0.value n.1.value n.2.value
+
+-- what items say in a calendar
+abbrev pub reading_by : Form → Choice → Bool → List Item → Option Reading
+reading_by forms.Civil choice dashes found = civil_reading dashes choice.order found
+reading_by forms.Roman choice dashes found = roman_reading choice.charters found
+reading_by forms.Other choice dashes found = None
+
+-- what a text says; nothing where a dash is in front or a character stands that no date has
+unfoldable pub reading : Choice → Calendar → List Name → List ℕ → Option Reading
+reading choice calendar names text =
+    if has_other (tokens 0 text) || begins_with_dash (bare (tokens 0 text)) then None
+    else items (names_in calendar names) 0 (parts text)
+    >>= reading_by (form calendar) choice (has_two_dashes (tokens 0 text))
+
+-- where the order is not year first, the last of three runs is long and the first is not, the year is last
+abbrev pub is_turned : Order → List ℕ → List ℕ → Bool
+is_turned order first last = not (is_year_first order) && nat_le (length first) 2 && nat_le 3 (length last)
+
+-- three runs of digits, as registers have them, unless the year is last
+abbrev pub unless_turned : Order → Option (List ℕ × List ℕ × List ℕ) → Option (List ℕ × List ℕ × List ℕ)
+unless_turned order None = None
+unless_turned order (Some runs) = if is_turned order runs.0 runs.2 then None else Some runs
+
+-- a dash in front, behind which three runs of digits stand, is a minus: the date stays. Three runs stay by the rule for
+-- the year; any other text is read.
+abbrev pub written_by : Choice → Calendar → List Name → List ℕ → Option (List ℕ × List ℕ × List ℕ)
+    → Option (List ℕ × List ℕ × List ℕ) → List ℕ
+written_by choice calendar names text (Some runs) below = 45 ∷ joined runs.0 runs.1 runs.2
+written_by choice calendar names text None (Some runs) =
+    stood choice calendar (joined runs.0 runs.1 runs.2) (numbers runs)
+written_by choice calendar names text None None = said choice calendar text (reading choice calendar names text)
+
+abbrev pub written_form : Form → Choice → Calendar → List Name → List ℕ → List ℕ
+written_form forms.Civil choice calendar names text =
+    written_by choice calendar names text (runs_behind_minus (tokens 0 text))
+    (unless_turned choice.order (three_runs (tokens 0 text)))
+written_form form choice calendar names text = said choice calendar text (reading choice calendar names text)
+
+-- what is written for a text: where no calendar is known, the text as it is
+abbrev pub written : Choice → Option Calendar → List Name → List ℕ → List ℕ
+written choice None names text = text
+written choice (Some calendar) names text = written_form (form calendar) choice calendar names text

@@ -1,0 +1,190 @@
+//! The items of a text: numbers, months and marks.
+
+ghost use Rattle.std.specs.Prelude.{◌≡◌, ◌<◌, ◌≤◌, ◌+◌, ◌∷◌, [], drop, length, Some, None, IfSome, IfNone, List};
+ghost use Rattle.std.specs.Prelude.{option_to_list};
+ghost use Rattle.written_dates.specs.Tokens.{piece};
+ghost use Rattle.written_dates.specs.Keys.{first_text};
+ghost use Rattle.written_dates.specs.Names.{names_in};
+ghost use Rattle.written_dates.specs.Parts.{parts};
+ghost use Rattle.written_dates.specs.Items.{number_of_digits as digits_spec, number_of as number_spec};
+ghost use Rattle.written_dates.specs.Items.{longest as longest_spec, items, before, meant};
+
+use crate::calendars::Calendar;
+use crate::meanings::{Mark, Meaning, Name};
+use crate::names::{Names, key_of_word};
+use crate::parts::{next_part, stands};
+use crate::roman::roman_number;
+use crate::tokens::{Kind, Token};
+use arrayvec::ArrayVec;
+
+/// A number, and with how many digits it stands; none where it is a Roman one or a name.
+#[derive(Clone, Copy, PartialEq, Eq, Debug)]
+pub struct Number {
+    /// The number.
+    pub value: u32,
+    /// How many digits it has.
+    pub digits: usize,
+}
+
+/// A part of a date.
+#[derive(Clone, Copy, PartialEq, Eq, Debug)]
+pub enum Item {
+    /// A number.
+    Number(Number),
+    /// A month by name.
+    Month(u8),
+    /// A mark.
+    Mark(Mark),
+}
+
+/// The number that one to nine digits spell.
+pub(crate) fn number_of_digits(text: &[u8]) -> Option<Number>
+    ensures { result ≡ digits_spec text.now }
+{
+    if text.len() > 9 {
+        return None;
+    }
+    let mut value: u32 = 0;
+    'digits: for digit in text {
+        if !digit.is_ascii_digit() {
+            return None;
+        }
+        value = 10 * value + (*digit - b'0') as u32;
+    }
+    Some(Number {
+        value,
+        digits: text.len(),
+    })
+}
+
+/// The number that a part is.
+fn number_of(part: Token) -> Option<Number>
+    ensures { result ≡ number_spec (piece part.entry) }
+{
+    if let Kind::Digit = part.kind {
+        return number_of_digits(part.text);
+    }
+    match roman_number(part.text) {
+        Some(value) => Some(Number { value, digits: 0 }),
+        None => None,
+    }
+}
+
+/// The longer of the best name so far, with how many parts it has, what it means and what follows it, and of this one, if
+/// it holds in the calendar and stands in front of the text.
+fn longer<'a>(
+    text: &'a [u8],
+    count: usize,
+    meaning: Meaning,
+    rest: &'a [u8],
+    name: &Name,
+    calendar: Calendar,
+) -> (usize, Meaning, &'a [u8])
+    requires rest { parts rest.now ≡ drop count (parts text.now) }
+    requires shorter { count + length rest.now ≤ length text.now }
+    ensures value { (result.0, result.1)
+        ≡ longest_spec (parts text.now) (count, meaning) (names_in calendar (name.now ∷ [])) }
+    ensures rest { parts result.2.now ≡ drop result.0 (parts text.now) }
+    ensures shorter { result.0 + length result.2.now ≤ length text.now }
+{
+    if name.calendars.has(calendar) {
+        if let Some((more, after)) = stands(name.text, text) {
+            if count < more {
+                return (more, name.meaning, after);
+            }
+        }
+    }
+    (count, meaning, rest)
+}
+
+/// The longest name that stands in front of a text, of those that hold in the calendar: how many parts it has, or 0
+/// where none stands there, what it means, and what follows. Its first part has these bytes.
+fn longest<'a>(
+    text: &'a [u8],
+    first: &[u8],
+    names: &Names,
+    calendar: Calendar,
+) -> (usize, Meaning, &'a [u8])
+    requires { first.now ≡ first_text (parts text.now) }
+    ensures value { (result.0, result.1)
+        ≡ longest_spec (parts text.now) (0, Meaning.Nothing) (names_in calendar names.now.listed.now) }
+    ensures rest { parts result.2.now ≡ drop result.0 (parts text.now) }
+    ensures shorter { result.0 + length result.2.now ≤ length text.now }
+{
+    let mut count = 0;
+    let mut meaning = Meaning::Nothing;
+    let mut rest = text;
+    let mut place = names.first_with(key_of_word(first));
+    'names: while place < names.listed.len() {
+        (count, meaning, rest) = longer(text, count, meaning, rest, &names.listed[place], calendar);
+        place = names.next_behind(place);
+    }
+    (count, meaning, rest)
+}
+
+/// The item that a name means, if it means one.
+fn item_of(meaning: Meaning) -> Option<Item>
+    ensures { option_to_list result ≡ meant meaning }
+{
+    match meaning {
+        Meaning::Nothing => None,
+        Meaning::Month(month) => Some(Item::Month(month)),
+        Meaning::Number(value) => Some(Item::Number(Number { value, digits: 0 })),
+        Meaning::Mark(mark) => Some(Item::Mark(mark)),
+    }
+}
+
+/// The item in front of a text, if it means one, and what follows; nothing where a word is not known.
+fn item_in_front<'a>(
+    text: &'a [u8],
+    part: Token,
+    after: &'a [u8],
+    names: &Names,
+    calendar: Calendar,
+) -> Option<(Option<Item>, &'a [u8])>
+    requires first { parts text.now ≡ piece part ∷ parts after.now }
+    requires shorter { length after.now < length text.now }
+    ensures some { IfSome result (λ front. items (names_in calendar names.now.listed.now) 0 (parts text.now)
+        ≡ before (option_to_list front.0) (items (names_in calendar names.now.listed.now) 0 (parts front.1.now))) }
+    ensures shorter { IfSome result (λ front. length front.1.now < length text.now) }
+    ensures none { IfNone result (items (names_in calendar names.now.listed.now) 0 (parts text.now) ≡ None) }
+{
+    let (count, meaning, rest) = longest(text, part.text, names, calendar);
+    if count > 0 {
+        return Some((item_of(meaning), rest));
+    }
+    match number_of(part) {
+        Some(number) => Some((Some(Item::Number(number)), after)),
+        None => None,
+    }
+}
+
+impl Default for Item {
+    fn default() -> Item {
+        Item::Month(0)
+    }
+}
+
+/// The items of a text; nothing where a word is not known, or more than four items stand.
+pub(crate) fn items_of(text: &[u8], names: &Names, calendar: Calendar) -> Option<ArrayVec<Item, 4>>
+    ensures some { IfSome result (λ found.
+        items (names_in calendar names.now.listed.now) 0 (parts text.now) ≡ Some found.items) }
+    ensures none { IfNone result ((found : List Item)
+        → items (names_in calendar names.now.listed.now) 0 (parts text.now) ≡ Some found → 4 < length found) }
+{
+    let mut found: ArrayVec<Item, 4> = ArrayVec::new();
+    let mut rest = text;
+    'items: while let Some((part, after)) = next_part(rest) {
+        let Some((item, behind)) = item_in_front(rest, part, after, names, calendar) else {
+            return None;
+        };
+        if let Some(item) = item {
+            if found.is_full() {
+                return None;
+            }
+            found.push(item);
+        }
+        rest = behind;
+    }
+    Some(found)
+}

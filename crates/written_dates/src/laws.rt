@@ -1,0 +1,15 @@
+//! Laws of what is written. The functions do nothing: their contracts are the laws.
+
+ghost use Rattle.written_dates.specs.Laws.{FoundIsLongest, FoundStands, MinusDatesStay, RegisterDatesStay};
+
+/// A date as registers have it stays, whatever the names, where its year is not last and is kept, or has a minus.
+pub fn register_dates_stay()
+    ensures year { RegisterDatesStay }
+    ensures minus { MinusDatesStay }
+{}
+
+/// What is found in front of parts is the longest name that stands there.
+pub fn longest_names()
+    ensures longest { FoundIsLongest }
+    ensures stands { FoundStands }
+{}

@@ -1,0 +1,25 @@
+//! Dates as people write them, and the date texts of registers that they become.
+#![tactic(auto)]
+
+mod calendars;
+mod fields;
+mod items;
+pub mod laws;
+mod meanings;
+mod names;
+mod parts;
+mod roman;
+mod rules;
+mod signs;
+mod tokens;
+mod written;
+
+pub use calendars::{Calendar, Form};
+pub use fields::{CalendarName, CalendarNames, CalendarNamesError};
+pub use items::{Item, Number};
+pub use meanings::{Calendars, Mark, Meaning, Name};
+pub use names::{ListFault, NameFault, Names, NamesError};
+pub use roman::roman_number;
+pub use rules::{Order, Reading};
+pub use tokens::{Kind, Token, next_token};
+pub use written::{Choice, Short, write_date};

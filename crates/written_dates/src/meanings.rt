@@ -1,0 +1,73 @@
+//! What names mean, and in which calendars.
+
+ghost use Rattle.std.specs.Prelude.{◌≡◌, true, false, get_or, slice_set};
+
+use crate::calendars::Calendar;
+
+/// The day of a Roman month that a date counts back from.
+#[derive(Clone, Copy, PartialEq, Eq, Debug)]
+pub enum Mark {
+    /// The first day.
+    Kalends,
+    /// The fifth or seventh day.
+    Nones,
+    /// The thirteenth or fifteenth day.
+    Ides,
+}
+
+/// What a name means in a date.
+#[derive(Clone, Copy, PartialEq, Eq, Debug)]
+pub enum Meaning {
+    /// Nothing.
+    Nothing,
+    /// A month.
+    Month(u8),
+    /// A number.
+    Number(u32),
+    /// A mark.
+    Mark(Mark),
+}
+
+/// The calendars in which a name means something.
+#[derive(Clone, Copy, PartialEq, Eq, Debug)]
+pub struct Calendars {
+    /// Whether each calendar is one of them, by its place in `Calendar::ALL`.
+    pub held: [bool; 12],
+}
+
+impl Calendars {
+    ghost use Rattle.written_dates.specs.Calendars.{place};
+
+    /// All of them.
+    pub const ALL: Calendars = Calendars { held: [true; 12] };
+
+    /// None of them.
+    pub const NONE: Calendars = Calendars { held: [false; 12] };
+
+    /// These, and one more.
+    pub fn with(self, calendar: Calendar) -> Calendars
+        ensures { result.held ≡ slice_set self.held (place calendar) true }
+    {
+        let mut held = self.held;
+        held[calendar.place()] = true;
+        Calendars { held }
+    }
+
+    /// Whether the calendar is one of them.
+    pub fn has(self, calendar: Calendar) -> bool
+        ensures { result ≡ get_or self.held (place calendar) false }
+    {
+        self.held[calendar.place()]
+    }
+}
+
+/// A name and what it means in dates.
+#[derive(Clone, Copy)]
+pub struct Name<'a> {
+    /// The name: numbers and words, with blanks and signs that only part these.
+    pub text: &'a [u8],
+    /// What it means.
+    pub meaning: Meaning,
+    /// The calendars in which it does.
+    pub calendars: Calendars,
+}

@@ -1,0 +1,247 @@
+//! Lists of names: what is wrong with one, and an index by which the names that can stand in front of a text are found.
+
+ghost use Rattle.std.specs.Prelude.{◌≡◌, ◌<◌, ◌≤◌, ◌+◌, drop, Some, None, slice_get, OnOk, IfOk, length};
+ghost use Rattle.std.specs.List.{list_any};
+ghost use Rattle.written_dates.specs.declared.meanings.Name.{Name as NameValue};
+ghost use Rattle.written_dates.specs.declared.names.ListFault.{ListFault as ListFaultValue};
+ghost use Rattle.written_dates.specs.Keys.{IsIndexed, ahead, place_from, key, key_of, first_text};
+ghost use Rattle.written_dates.specs.Names.{conflict as conflict_spec, same_name as same_name_spec};
+ghost use Rattle.written_dates.specs.Names.{share_calendar as share_spec, same_meaning as same_meaning_spec};
+ghost use Rattle.written_dates.specs.Names.{same_mark as same_mark_spec, is_meaning as is_meaning_spec};
+ghost use Rattle.written_dates.specs.Names.{fault_of, first_fault};
+ghost use Rattle.written_dates.specs.Parts.{parts};
+
+use crate::calendars::Calendar;
+use crate::meanings::{Mark, Meaning, Name};
+use crate::parts::{next_part, stands};
+use crate::signs::signs_of;
+use std::alloc::{AllocError, Global};
+
+/// What is wrong with a name of a list. Their order is that in which they are looked for.
+#[derive(Clone, Copy, PartialEq, Eq, Debug)]
+pub enum NameFault {
+    /// A character stands in it that is no digit, letter, blank or sign of a date.
+    Character,
+    /// It has no number and no word.
+    NoWord,
+    /// A month that is not 1 to 13, or a number over 999,999,999.
+    NoMeaning,
+    /// A later name that is the same means another thing in the same calendar.
+    TwoMeanings,
+}
+
+/// The first fault of a list.
+#[derive(Clone, Copy, PartialEq, Eq, Debug)]
+pub struct ListFault {
+    /// The place of the name in the list, from 0.
+    pub place: usize,
+    /// What is wrong with it.
+    pub fault: NameFault,
+}
+
+/// Why there are no names.
+#[derive(Clone, Copy, PartialEq, Eq, Debug)]
+pub enum NamesError {
+    /// The list has a fault.
+    Fault(ListFault),
+    /// No memory.
+    Memory,
+}
+
+/// Names, to be found by their first number or word.
+#[derive(Drop)]
+pub struct Names<'a> {
+    /// The names.
+    pub listed: &'a [Name<'a>],
+    firsts: Vec<usize>,
+    nexts: Vec<usize>,
+    ghost indexed: { IsIndexed listed.now firsts.items nexts.items 0 },
+}
+
+/// The key of a number or word.
+pub(crate) fn key_of_word(word: &[u8]) -> usize
+    ensures value { result ≡ key_of word.now }
+    ensures within { result < 1024 }
+{
+    let mut value: usize = 0;
+    'bytes: for byte in word {
+        value = (31 * value + byte.to_ascii_lowercase() as usize) % 1024;
+    }
+    value
+}
+
+/// The key of a name.
+fn key_of_name(name: &Name) -> usize
+    ensures value { result ≡ key name.now }
+    ensures within { result < 1024 }
+{
+    match next_part(name.text) {
+        Some((part, _)) => key_of_word(part.text),
+        None => 0,
+    }
+}
+
+fn same_mark(a: Mark, b: Mark) -> bool
+    ensures { result ≡ same_mark_spec a b }
+{
+    match (a, b) {
+        (Mark::Kalends, Mark::Kalends) | (Mark::Nones, Mark::Nones) | (Mark::Ides, Mark::Ides) => {
+            true
+        }
+        _ => false,
+    }
+}
+
+fn same_meaning(a: Meaning, b: Meaning) -> bool
+    ensures { result ≡ same_meaning_spec a b }
+{
+    match (a, b) {
+        (Meaning::Nothing, Meaning::Nothing) => true,
+        (Meaning::Month(a), Meaning::Month(b)) => a == b,
+        (Meaning::Number(a), Meaning::Number(b)) => a == b,
+        (Meaning::Mark(a), Meaning::Mark(b)) => same_mark(a, b),
+        _ => false,
+    }
+}
+
+fn is_meaning(meaning: Meaning) -> bool
+    ensures { result ≡ is_meaning_spec meaning }
+{
+    match meaning {
+        Meaning::Month(month) => 1 <= month && month <= 13,
+        Meaning::Number(number) => number <= 999_999_999,
+        _ => true,
+    }
+}
+
+/// Whether the names have the same numbers and words, ASCII letter case aside.
+fn same_name(a: &Name, b: &Name) -> bool
+    ensures { result ≡ same_name_spec a.now b.now }
+{
+    stands(a.text, b.text).is_some() && stands(b.text, a.text).is_some()
+}
+
+fn share_calendar(a: &Name, b: &Name) -> bool
+    ensures { result ≡ share_spec a.now b.now }
+{
+    let a = a.calendars;
+    let b = b.calendars;
+    Calendar::ALL
+        .iter()
+        .any(|calendar| a.has(*calendar) && b.has(*calendar))
+}
+
+/// Whether one name means two things in one calendar.
+fn conflict(a: &Name, b: &Name) -> bool
+    ensures { result ≡ conflict_spec a.now b.now }
+{
+    same_name(a, b) && share_calendar(a, b) && !same_meaning(a.meaning, b.meaning)
+}
+
+impl<'a> Names<'a> {
+    /// The names of several lists, one behind the other, each of which was checked. Where two of them are the same and
+    /// hold in a calendar, the first does.
+    pub fn layered(alloc: Global, listed: &'a [Name<'a>]) -> Result<Names<'a>, AllocError>
+        ensures { IfOk result (λ names. names.listed.now ≡ listed.now) }
+    {
+        let mut firsts = vec![in alloc; listed.len(); 1024]?;
+        let mut nexts = vec![in alloc; 0; listed.len()]?;
+        let mut place = listed.len();
+        'names: while place > 0 {
+            place -= 1;
+            let key = key_of_name(&listed[place]);
+            nexts[place] = firsts[key];
+            firsts[key] = place;
+        }
+        Ok(Names {
+            listed,
+            firsts,
+            nexts,
+        })
+    }
+
+    /// The names of one list.
+    ///
+    /// # Errors
+    ///
+    /// `Fault` with the first fault of the list exactly where it has one; `Memory` where there is none.
+    pub fn checked(alloc: Global, listed: &'a [Name<'a>]) -> Result<Names<'a>, NamesError>
+        ensures names { IfOk result (λ names. names.listed.now ≡ listed.now) }
+        ensures sound { IfOk result (λ names. first_fault 0 listed.now ≡ None) }
+        ensures fault { (fault : ListFaultValue) → (result ≡ Err (NamesError.Fault fault))
+            → first_fault 0 listed.now ≡ Some fault }
+    {
+        let Ok(names) = Names::layered(alloc, listed) else {
+            return Err(NamesError::Memory);
+        };
+        match names.first_fault() {
+            Some(fault) => Err(NamesError::Fault(fault)),
+            None => Ok(names),
+        }
+    }
+
+    /// The place of the first name that has a key, or the number of names.
+    pub(crate) fn first_with(&self, key: usize) -> usize
+        requires { key < 1024 }
+        ensures { result ≡ place_from key self.now.listed.now 0 }
+    {
+        self.firsts[key]
+    }
+
+    /// The place of the next name that has the same key, or the number of names.
+    pub(crate) fn next_behind(&self, place: usize) -> usize
+        requires { place < length self.now.listed.now }
+        ensures value { (name : NameValue) → slice_get self.now.listed.now place ≡ Some name
+            → result ≡ place_from (key name) self.now.listed.now (place + 1) }
+        ensures behind { place < result }
+    {
+        self.nexts[place]
+    }
+
+    /// Whether a name later than the one at this place is the same and means another thing in the same calendar.
+    fn has_conflict(&self, place: usize, name: &Name) -> bool
+        requires { slice_get self.now.listed.now place ≡ Some name.now }
+        ensures { result ≡ list_any (conflict_spec name.now) (drop (place + 1) self.now.listed.now) }
+    {
+        let mut other = self.next_behind(place);
+        'names: while other < self.listed.len() {
+            if conflict(name, &self.listed[other]) {
+                return true;
+            }
+            other = self.next_behind(other);
+        }
+        false
+    }
+
+    /// What is wrong with the name at this place.
+    fn fault_at(&self, place: usize, name: &Name) -> Option<NameFault>
+        requires { slice_get self.now.listed.now place ≡ Some name.now }
+        ensures { result ≡ fault_of name.now (drop (place + 1) self.now.listed.now) }
+    {
+        if signs_of(name.text).0 {
+            Some(NameFault::Character)
+        } else if next_part(name.text).is_none() {
+            Some(NameFault::NoWord)
+        } else if !is_meaning(name.meaning) {
+            Some(NameFault::NoMeaning)
+        } else if self.has_conflict(place, name) {
+            Some(NameFault::TwoMeanings)
+        } else {
+            None
+        }
+    }
+
+    /// The first fault of the names.
+    fn first_fault(&self) -> Option<ListFault>
+        ensures { result ≡ first_fault 0 self.now.listed.now }
+    {
+        let mut place = 0;
+        'names: while place < self.listed.len() {
+            if let Some(fault) = self.fault_at(place, &self.listed[place]) {
+                return Some(ListFault { place, fault });
+            }
+            place += 1;
+        }
+        None
+    }
+}

@@ -1,0 +1,138 @@
+//! What the signs of a text say, and dates as registers have them.
+
+ghost use Rattle.std.specs.Prelude.{◌≡◌, ◌≤◌, ◌<◌, ◌∷◌, [], length, Some, None, ℕ, List, Option};
+ghost use Rattle.std.specs.List.{count_by};
+ghost use Rattle.written_dates.specs.Tokens.{tokens};
+ghost use Rattle.written_dates.specs.Signs.{is_sign as sign_spec, is_dash as dash_spec, is_other as other_spec};
+ghost use Rattle.written_dates.specs.Signs.{has_other, has_two_dashes, bare as bare_spec, begins_with_dash as begins_spec};
+ghost use Rattle.written_dates.specs.Signs.{digits_first as digits_spec, behind_hyphen as hyphen_spec};
+ghost use Rattle.written_dates.specs.Signs.{runs_in_front as front_spec, three_runs as runs_spec};
+ghost use Rattle.written_dates.specs.Signs.{runs_behind_minus as minus_spec};
+ghost use Rattle.written_dates.specs.SignViews.{seen_digits, seen_rest, seen_runs};
+
+use crate::tokens::{Kind, next_token};
+
+fn is_sign(kind: Kind) -> bool
+    ensures { result ≡ sign_spec kind }
+{
+    match kind {
+        Kind::Sign | Kind::Hyphen | Kind::Dash => true,
+        _ => false,
+    }
+}
+
+fn is_dash(kind: Kind) -> bool
+    ensures { result ≡ dash_spec kind }
+{
+    match kind {
+        Kind::Hyphen | Kind::Dash => true,
+        _ => false,
+    }
+}
+
+fn is_other(kind: Kind) -> bool
+    ensures { result ≡ other_spec kind }
+{
+    match kind {
+        Kind::Other => true,
+        _ => false,
+    }
+}
+
+/// Whether a character stands in a text that no date has, and whether two dashes are its only signs.
+pub(crate) fn signs_of(text: &[u8]) -> (bool, bool)
+    ensures other { result.0 ≡ has_other (tokens 0 text.now) }
+    ensures dashes { result.1 ≡ has_two_dashes (tokens 0 text.now) }
+{
+    let mut other = false;
+    let mut dashes: usize = 0;
+    let mut signs: usize = 0;
+    let mut rest = text;
+    'tokens: while let Some((token, after)) = next_token(rest) {
+        other = other || is_other(token.kind);
+        if is_dash(token.kind) {
+            dashes += 1;
+        }
+        if is_sign(token.kind) {
+            signs += 1;
+        }
+        rest = after;
+    }
+    (other, signs == 2 && dashes == 2)
+}
+
+/// The text from the first token on that is no blank.
+pub(crate) fn bare(text: &[u8]) -> &[u8]
+    ensures { tokens 0 result.now ≡ bare_spec (tokens 0 text.now) }
+{
+    let mut rest = text;
+    'blanks: while let Some((token, after)) = next_token(rest) {
+        let Kind::Blank = token.kind else {
+            return rest;
+        };
+        rest = after;
+    }
+    rest
+}
+
+/// Whether a dash is in front, behind blanks.
+pub(crate) fn begins_with_dash(text: &[u8]) -> bool
+    ensures { result ≡ begins_spec (bare_spec (tokens 0 text.now)) }
+{
+    match next_token(bare(text)) {
+        Some((token, _)) => is_dash(token.kind),
+        None => false,
+    }
+}
+
+/// The digits in front, and what follows.
+#[tactic(auto, unfolding(crate::specs::Signs::digits_first))]
+fn digits_first(text: &[u8]) -> Option<(&[u8], &[u8])>
+    ensures { seen_digits result ≡ digits_spec (tokens 0 text.now) }
+{
+    let (token, rest) = next_token(text)?;
+    match token.kind {
+        Kind::Digit => Some((token.text, rest)),
+        _ => None,
+    }
+}
+
+/// What follows the dash of registers.
+#[tactic(auto, unfolding(crate::specs::Signs::behind_hyphen))]
+fn behind_hyphen(text: &[u8]) -> Option<&[u8]>
+    ensures { seen_rest result ≡ hyphen_spec (tokens 0 text.now) }
+{
+    let (token, rest) = next_token(text)?;
+    match token.kind {
+        Kind::Hyphen => Some(rest),
+        _ => None,
+    }
+}
+
+/// Three runs of digits with the dash of registers between them, and blanks at most behind them.
+#[tactic(auto, unfolding(crate::specs::Signs::runs_in_front))]
+fn runs_in_front(text: &[u8]) -> Option<(&[u8], &[u8], &[u8])>
+    ensures { seen_runs result ≡ front_spec (tokens 0 text.now) }
+{
+    let (year, rest) = digits_first(text)?;
+    let (month, rest) = digits_first(behind_hyphen(rest)?)?;
+    let (day, rest) = digits_first(behind_hyphen(rest)?)?;
+    match next_token(bare(rest)) {
+        Some(_) => None,
+        None => Some((year, month, day)),
+    }
+}
+
+/// Three runs of digits with the dash of registers between them, and blanks at most around them.
+pub(crate) fn three_runs(text: &[u8]) -> Option<(&[u8], &[u8], &[u8])>
+    ensures { seen_runs result ≡ runs_spec (tokens 0 text.now) }
+{
+    runs_in_front(bare(text))
+}
+
+/// Three such runs behind a minus.
+pub(crate) fn runs_behind_minus(text: &[u8]) -> Option<(&[u8], &[u8], &[u8])>
+    ensures { seen_runs result ≡ minus_spec (tokens 0 text.now) }
+{
+    runs_in_front(behind_hyphen(bare(text))?)
+}

@@ -1,0 +1,592 @@
+//! Texts, and what is written for them, a line of a table each.
+
+use std::alloc::{AllocError, Global};
+use std::test::Fail;
+use written_dates::{
+    Calendar, Calendars, Choice, ListFault, Mark, Meaning, Name, NameFault, Names, NamesError,
+    Order, Short, roman_number, write_date,
+};
+
+/// Names: a text, what it means, and the calendars in which it does, none for all.
+static NAMES: &str = "\
+Jänner|month 1|gregorian julian roman
+Ian|month 1|gregorian julian roman
+März|month 3|gregorian julian roman
+MÄRZ|month 3|gregorian julian roman
+Mai|month 5|gregorian julian roman
+May|month 5|gregorian julian roman
+d'août|month 8|gregorian julian roman
+septembre|month 9|gregorian julian roman
+7bris|month 9|gregorian julian roman
+Nov|month 11|gregorian julian roman
+10bris|month 12|gregorian julian roman
+Martii|month 3|gregorian julian roman
+vendémiaire|month 1|french
+Ventôse|month 6|french
+jours complémentaires|month 13|french
+Nisan|month 1|hebrew
+Menachem Aw|month 5|hebrew
+Aw|month 5|hebrew
+Tischri|month 7|hebrew
+Adar I|month 12|hebrew
+Adar II|month 13|hebrew
+Rabi I|month 3|islamic
+Rabi II|month 4|islamic
+Ramadan|month 9|islamic
+Dhu al-Hijja|month 12|islamic
+Thout|month 1|coptic
+Nasie|month 13|coptic
+Meskerem|month 1|ethiopic
+Kal|K|roman
+Non|N|roman
+Id|I|roman
+pridie|2|roman
+an||
+er||
+den||
+le||
+Sonntag||
+Di||
+Mi||
+anno||
+anno domini||
+";
+
+/// The calendar of this name.
+fn calendar_named(name: &str) -> Option<Calendar> {
+    Calendar::ALL
+        .iter()
+        .find(|calendar| calendar.name() == name)
+        .copied()
+}
+
+/// The number that a text is, or 0.
+fn number_of(text: &str) -> u32 {
+    match text.parse() {
+        Ok(number) => number,
+        Err(_) => 0,
+    }
+}
+
+fn meaning_of(text: &str) -> Meaning {
+    if let Some(number) = text.strip_prefix("month ") {
+        return Meaning::Month((number_of(number) & 0xFF) as u8);
+    }
+    match text {
+        "" => Meaning::Nothing,
+        "K" => Meaning::Mark(Mark::Kalends),
+        "N" => Meaning::Mark(Mark::Nones),
+        "I" => Meaning::Mark(Mark::Ides),
+        _ => Meaning::Number(number_of(text)),
+    }
+}
+
+fn calendars_of(text: &str) -> Calendars {
+    if text.is_empty() {
+        return Calendars::ALL;
+    }
+    let mut calendars = Calendars::NONE;
+    for word in text.split(' ') {
+        if let Some(calendar) = calendar_named(word) {
+            calendars = calendars.with(calendar);
+        }
+    }
+    calendars
+}
+
+/// The name on a line.
+fn name_on(line: &str) -> Option<Name<'_>> {
+    let mut fields = line.split('|');
+    let text = fields.next()?.as_bytes();
+    let meaning = meaning_of(fields.next()?);
+    let calendars = calendars_of(fields.next()?);
+    Some(Name {
+        text,
+        meaning,
+        calendars,
+    })
+}
+
+/// The names on lines.
+fn names_on(alloc: Global, lines: &str) -> Result<Vec<Name<'_>>, AllocError> {
+    let mut names = Vec::new(alloc);
+    for line in lines.lines() {
+        if let Some(name) = name_on(line) {
+            names.push(name)?;
+        }
+    }
+    Ok(names)
+}
+
+/// After a sign `#`: a calendar, the order, what is done with short years and with short Hebrew ones, and whether the
+/// year of a Roman date is that of its day. Below it: a text, and what is written for it, `=` where that is the text.
+/// The answers were found by hand.
+static DATES: &str = "\
+#gregorian day refuse refuse day-of-mark
+12. Mai 1806|1806-5-12
+1806 Mai 12|1806-5-12
+May 12, 1806|1806-5-12
+12.V.1806|1806-5-12
+12. 5. 1806|1806-5-12
+1806/5/12|1806-5-12
+1806–5–12|1806-5-12
+1806-05-12|=
+12.5.1806|1806-5-12
+12/5/1806|1806-5-12
+12,5,1806|1806-5-12
+12 5 1806|1806-5-12
+12-5-1806|1806-5-12
+12–05–1806|1806-5-12
+12\u{2212}5\u{2212}1806|1806-5-12
+12\u{2010}5\u{2014}1806|1806-5-12
+ 12 . 5 . 1806 |1806-5-12
+\u{a0}12.5.1806\u{a0}|1806-5-12
+12.\u{202f}5.\u{202f}1806|1806-5-12
+\u{a0}1806-05-12\u{a0}|1806-05-12
+\t1806-05-12\u{202f} |1806-05-12
+1806 -05-12|1806-5-12
+012.05.1806|=
+XII.V.MDCCCVI|1806-5-12
+XII V 1806|1806-5-12
+xii.5.1806|=
+12.IIII.1806|=
+12.VX.1806|=
+12.iv.1806|=
+12.IV.1806|1806-4-12
+12.IX.MCMXCIX|1999-9-12
+MDCCCVI.V.XII|1806-5-12
+12.Mai.1806|1806-5-12
+12 mai 1806|1806-5-12
+12 MAI 1806|1806-5-12
+12. März 1806|1806-3-12
+12. MÄRZ 1806|1806-3-12
+12. mÄRZ 1806|1806-3-12
+12. MäRZ 1806|1806-3-12
+12ten Mai 1806|=
+den 12. Mai 1806|1806-5-12
+Sonntag, den 12. Mai 1806|1806-5-12
+Di 12.5.1806|1806-5-12
+DI 12.5.1806|1806-5-12
+Mi, 12 Mai 1806|1806-5-12
+12er Mai 1806|1806-5-12
+le 12 septembre 1806|1806-9-12
+12 7bris 1806|1806-9-12
+12. 10bris 1806|1806-12-12
+7bris 12 1806|1806-9-12
+7 bris 12 1806|1806-9-12
+12 d'août 1806|1806-8-12
+12 d\u{2019}août 1806|=
+12 Ventôse 1806|=
+12 Tischri 1806|=
+1806|=
+Mai 1806|=
+12 Mai|=
+|=
+ca. 1750|=
+1806?|=
+12 Mai 1806?|=
+[12 Mai 1806]|=
+10.2.1700/01|=
+12.-13. Mai 1806|=
+12. Mai 1806 13|=
+1806 Mai 1807|=
+Mai 1806 1807|=
+12 Mai 13|
+12. Mai 06|
+12.5.06|
+12.5.006|6-5-12
+12.5.0035|35-5-12
+0035-5-12|=
+35-5-12|
+99-5-12|
+100-5-12|=
+5-12-1806|1806-12-5
+5-12-806|806-12-5
+5-12-86|
+500-12-806|=
+1806-5|=
+1806-5-12-3|=
+1806--5--12|1806-5-12
+1806-5-12.|1806-5-12
+-44-3-15|=
+\u{a0}-44-3-15 |-44-3-15
+-44.3.15|=
+–44-3-15|=
+- 44-3-15|=
+-4-3-1500|=
+1234567890-1-1|=
+12.5.1234567890|=
+06-1234567890-12|=
+123456789-1-1|=
+12.5.123456789|123456789-5-12
+1806-005-12|=
+1806.005.12|=
+12.005.1806|=
+1806 V XII|1806-5-12
+12. 5. MDCCC|1800-5-12
+12. 5. C|100-5-12
+12. 5. XCIX|
+12. 5. MMMM|=
+0-5-12|
+00.00.0000|0-0-0
+1806\r5\t12|1806-5-12
+12&5&1806|=
+12.5.1806*|=
+12. Mai 1806 n. Chr.|=
+Mai 12 13|
+1806 12 Mai|=
+Mai 1806 12|1806-5-12
+12 1806 Mai|=
+12 Mai Mai 1806|=
+#gregorian year refuse refuse day-of-mark
+12. 5. 1806|=
+1806–5–12|1806-5-12
+1806.5.12|1806-5-12
+12-5-1806|
+6.5.12|
+12 Mai 1806|1806-5-12
+1806 Mai 12|1806-5-12
+12 Mai 06|
+Mai 12 06|
+12.5.0035|=
+#gregorian year keep refuse day-of-mark
+6.5.12|6-5-12
+12 Mai 06|12-5-6
+Mai 12 06|6-5-12
+12-5-1806|=
+ 12-05-06 |12-05-06
+12–05–06|12-5-6
+#gregorian month refuse refuse day-of-mark
+May 12, 1806|1806-5-12
+5/12/1806|1806-5-12
+5-12-1806|1806-5-12
+12 May 1806|1806-5-12
+5/12/06|
+1806/5/12|1806-5-12
+1806/12/5|1806-12-5
+#gregorian day 1800 refuse day-of-mark
+12.5.06|1806-5-12
+12-05-06|1812-5-6
+12–05–06|1812-5-6
+12. Mai 06|1806-5-12
+Mai 12, 06|1806-5-12
+12. V. 6|1806-5-12
+12.5.VI|1806-5-12
+8-II-18|1818-2-8
+12.5.0006|6-5-12
+99-1-1|1899-1-1
+-6-5-12|=
+12.5.1806|1806-5-12
+5-6-007|7-6-5
+06-1234567890-12|=
+#gregorian month 1900 refuse day-of-mark
+5/12/06|1906-5-12
+5-12-06|1905-12-6
+May 12 06|1906-5-12
+#julian day refuse refuse day-of-mark
+30-11-1699|1699-11-30
+8-2-18|
+12.5.06|
+ca. 1750|=
+Mai 1806|=
+10.2.1700/01|=
+12 Mai 1806?|=
+-44-3-15|=
+12. 10bris 1699|1699-12-12
+#french day refuse refuse day-of-mark
+8-2-18|=
+8.2.18|18-2-8
+8-II-18|18-2-8
+8.II.18|18-2-8
+15 Ventôse an VI|6-6-15
+15 ventôse an 6|6-6-15
+1er Ventôse an VII|7-6-1
+le 3 jours complémentaires an II|2-13-3
+15 Mai an VI|=
+VI. 6. 15|15-6-6
+3 vendémiaire 12|12-1-3
+#hebrew day refuse refuse day-of-mark
+5 Tischri 507|
+5 Tischri 5507|5507-7-5
+7 Adar II 5603|5603-13-7
+7 Adar I 5603|5603-12-7
+7 Adar 5603|=
+7. Menachem Aw 5603|5603-5-7
+507-7-5|
+0507-7-5|=
+5.7.507|
+99-7-5|
+5 Mai 5507|=
+#hebrew day refuse keep day-of-mark
+5 Tischri 507|507-7-5
+507-07-05|=
+#hebrew day refuse 5000 day-of-mark
+5 Tischri 507|5507-7-5
+507-07-05|5507-7-5
+5.7.1507|1507-7-5
+5 Nisan 1|5001-1-5
+#islamic day refuse refuse day-of-mark
+3 Ramadan 1200|1200-9-3
+3 Rabi I 1200|1200-3-3
+3 Rabi II 95|95-4-3
+3. Dhu al-Hijja 1300|1300-12-3
+3 DHU AL HIJJA 1300|1300-12-3
+12-9-3|=
+3.9.12|12-9-3
+#coptic day refuse refuse day-of-mark
+1 Thout 1500|1500-1-1
+5 Nasie 1499|1499-13-5
+1 Meskerem 1500|=
+#ethiopic day refuse refuse day-of-mark
+1 Meskerem 1900|1900-1-1
+#egyptian day refuse refuse day-of-mark
+3.4.747|747-4-3
+3 Mai 747|=
+#armenian day refuse refuse day-of-mark
+1-2-3|=
+3.2.1|1-2-3
+#roman day refuse refuse day-of-mark
+III. Kal. Nov. 1582|1582-11-K3
+III Kal Nov MDLXXXII|1582-11-K3
+Kal. Ian. 1499|1499-1-K1
+pridie Kal. Ian. 1500|1500-1-K2
+Non. Mai 1500|1500-5-N1
+VIII Id. Mai. 1500|1500-5-I8
+XVI. Kal. Ian. 1499|1499-1-K16
+1500-1-K16|=
+12. Mai 1500|=
+12.5.1500|=
+3 Kal 1500|=
+Kal Ian|=
+III Kal Nov 82|82-11-K3
+-45-1-K2|=
+#roman day refuse refuse charters
+XVI. Kal. Ian. 1499|1500-1-K16
+Kal. Ian. 1499|1499-1-K1
+2 Kal Ian 1499|1500-1-K2
+1 Kal Ian 1499|1499-1-K1
+XVI Kal Mai 1499|1499-5-K16
+IV Non Ian 1499|1499-1-N4
+#iso day 1800 refuse day-of-mark
+1945-W46-1|=
+12.5.06|=
+12 Mai 1806|=
+#longcount day refuse refuse day-of-mark
+12.16.11.16.9|=
+12.5.1806|=
+#none day refuse refuse day-of-mark
+12.5.1806|=
+ 1806-05-12\u{a0}|=
+";
+
+/// What is done with short years, by its name or a number to add.
+fn short_named(text: &str) -> Short {
+    match text {
+        "refuse" => Short::Refuse,
+        "keep" => Short::Keep,
+        _ => match text.parse() {
+            Ok(more) => Short::Add(more),
+            Err(_) => Short::Refuse,
+        },
+    }
+}
+
+/// The calendar and the choice of a line.
+fn choice_on(line: &str) -> Option<(Option<Calendar>, Choice)> {
+    let mut words = line.split(' ');
+    let name = words.next()?;
+    let calendar = calendar_named(name);
+    let order = match words.next()? {
+        "year" => Order::YearFirst,
+        "day" => Order::DayFirst,
+        _ => Order::MonthFirst,
+    };
+    let short_years = short_named(words.next()?);
+    let short_hebrew_years = short_named(words.next()?);
+    let charters = words.next()? == "charters";
+    let choice = Choice {
+        order,
+        short_years,
+        short_hebrew_years,
+        charters,
+    };
+    Some((calendar, choice))
+}
+
+/// Whether the text on a line is written as the line says.
+fn is_written(
+    alloc: Global,
+    names: &Names,
+    calendar: Option<Calendar>,
+    choice: &Choice,
+    line: &str,
+) -> Result<bool, AllocError> {
+    let Some((text, date)) = line.split_once('|') else {
+        return Ok(false);
+    };
+    let mut out = Vec::new(alloc);
+    write_date(&mut out, text.as_bytes(), calendar, names, choice)?;
+    let wanted = if date == "=" { text } else { date };
+    Ok(out.as_slice() == wanted.as_bytes())
+}
+
+#[test]
+fn texts_become_dates(rt: HostRuntime) -> Result<(), Fail> {
+    let listed = names_on(rt.alloc(), NAMES)?;
+    let names = Names::layered(rt.alloc(), listed.as_slice())?;
+    let mut calendar = None;
+    let mut choice = Choice {
+        order: Order::DayFirst,
+        short_years: Short::Refuse,
+        short_hebrew_years: Short::Refuse,
+        charters: false,
+    };
+    for line in DATES.lines() {
+        match line.strip_prefix("#").and_then(choice_on) {
+            Some((of, chosen)) => {
+                calendar = of;
+                choice = chosen;
+            }
+            None => {
+                assert!(rt;
+                    is_written(rt.alloc(), &names, calendar, &choice, line)?,
+                    "at {line:?}"
+                );
+            }
+        }
+    }
+    Ok(())
+}
+
+/// Names, as above, with a sign `;` between them, and the first fault of the list, with the place of the name that has
+/// it; or `sound`.
+static LISTS: &str = "\
+Mai|month 5|gregorian;MAI.|month 5|;Mai|2|french=1 TwoMeanings
+Mai|month 5|gregorian;MAI.|month 5|=sound
+Mai|month 5|gregorian;mai|month 4|julian=sound
+Mai|month 5|gregorian;7|3|;mai|month 4|=0 TwoMeanings
+Mai|month 5|gregorian;Mai|month 4|gregorian;Mai?||=0 TwoMeanings
+7bris|month 9|;7 Bris|month 9|;7.bris|month 10|roman=0 TwoMeanings
+Adar|month 12|;Adar II|month 13|=sound
+Mai?|month 5|=0 Character
+Mai|month 5|;(Mai)|month 5|=1 Character
+.-|month 5|=0 NoWord
+ ||=0 NoWord
+Mai|month 0|=0 NoMeaning
+Mai|month 13|=sound
+Mai|month 14|=0 NoMeaning
+cc|999999999|=sound
+cc|1000000000|=0 NoMeaning
+Kal|K|;kal|N|=0 TwoMeanings
+Kal|K|;kal|K|=sound
+=sound
+";
+
+/// What is said of a list of names.
+fn said_of(listed: &[Name], alloc: Global) -> Option<(usize, &'static str)> {
+    match Names::checked(alloc, listed) {
+        Ok(_) => Some((0, "sound")),
+        Err(NamesError::Memory) => None,
+        Err(NamesError::Fault(ListFault { place, fault })) => {
+            let what = match fault {
+                NameFault::Character => "Character",
+                NameFault::NoWord => "NoWord",
+                NameFault::NoMeaning => "NoMeaning",
+                NameFault::TwoMeanings => "TwoMeanings",
+            };
+            Some((place, what))
+        }
+    }
+}
+
+/// Whether the list on a line has the fault there.
+fn has_fault(alloc: Global, line: &str) -> Result<bool, AllocError> {
+    let Some((list, wanted)) = line.split_once('=') else {
+        return Ok(false);
+    };
+    let mut listed = Vec::new(alloc);
+    for one in list.split(';') {
+        if let Some(name) = name_on(one) {
+            listed.push(name)?;
+        }
+    }
+    let Some((place, what)) = said_of(listed.as_slice(), alloc) else {
+        return Ok(false);
+    };
+    match wanted.split_once(' ') {
+        Some((at, fault)) => Ok(at.parse() == Ok(place) && fault == what),
+        None => Ok(wanted == what),
+    }
+}
+
+#[test]
+fn lists_have_faults(rt: HostRuntime) -> Result<(), Fail> {
+    for line in LISTS.lines() {
+        assert!(rt; has_fault(rt.alloc(), line)?, "at {line:?}");
+    }
+    Ok(())
+}
+
+#[test]
+fn the_first_of_two_lists_holds(rt: HostRuntime) -> Result<(), Fail> {
+    let listed = names_on(
+        rt.alloc(),
+        "Mai|month 4|gregorian\nMai|month 5|\nmai|month 6|",
+    )?;
+    let names = Names::layered(rt.alloc(), listed.as_slice())?;
+    let choice = Choice {
+        order: Order::DayFirst,
+        short_years: Short::Refuse,
+        short_hebrew_years: Short::Refuse,
+        charters: false,
+    };
+    let gregorian = Some(Calendar::Gregorian);
+    let met = is_written(
+        rt.alloc(),
+        &names,
+        gregorian,
+        &choice,
+        "12 Mai 1806|1806-4-12",
+    )? && is_written(
+        rt.alloc(),
+        &names,
+        Some(Calendar::Julian),
+        &choice,
+        "12 Mai 1806|1806-5-12",
+    )?;
+    assert!(rt; met);
+    Ok(())
+}
+
+#[test]
+fn roman_numbers(rt: HostRuntime) {
+    let words = [
+        "MCMXCIV",
+        "MMMCMXCIX",
+        "IV",
+        "IIII",
+        "VV",
+        "IC",
+        "MMMM",
+        "xiv",
+        "",
+        "XIVI",
+        "MDCCCVI",
+    ];
+    let numbers = [
+        Some(1994),
+        Some(3999),
+        Some(4),
+        None,
+        None,
+        None,
+        None,
+        None,
+        None,
+        None,
+        Some(1806),
+    ];
+    for (word, number) in words.iter().zip(&numbers) {
+        assert_eq!(rt; roman_number(word.as_bytes()), *number, "at {word:?}");
+    }
+}

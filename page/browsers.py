@@ -1,5 +1,5 @@
 """Chromium and Firefox, worked by their own drivers: Debian's packages chromium, chromium-driver and firefox-esr."""
-import json, shutil, socket, subprocess, tempfile, time, urllib.request
+import atexit, json, shutil, socket, subprocess, tempfile, time, urllib.request
 
 WAIT = 120
 
@@ -36,10 +36,12 @@ class Chromium:
 
     def __init__(self, saved):
         self.work = tempfile.mkdtemp()
+        atexit.register(shutil.rmtree, self.work, ignore_errors=True)
         port = free_port()
         self.driver = subprocess.Popen(
             ["chromedriver", f"--port={port}"], stdout=subprocess.DEVNULL, stderr=subprocess.DEVNULL
         )
+        atexit.register(self.driver.terminate)
         self.at = f"http://127.0.0.1:{port}/session"
         wait_for("the start of chromedriver", lambda: is_open(port))
         words = [
@@ -121,6 +123,7 @@ class Firefox:
 
     def __init__(self, saved):
         self.work = tempfile.mkdtemp()
+        atexit.register(shutil.rmtree, self.work, ignore_errors=True)
         port = free_port()
         settings = {
             "marionette.port": port,
@@ -147,6 +150,7 @@ class Firefox:
             "1400",
         ]
         self.driver = subprocess.Popen(words, stdout=subprocess.DEVNULL, stderr=subprocess.DEVNULL)
+        atexit.register(self.driver.terminate)
         wait_for("the start of Firefox", lambda: is_open(port))
         self.wire = socket.create_connection(("127.0.0.1", port), timeout=300)
         self.number = 0

@@ -2,7 +2,8 @@
 
 ghost use Rattle.written_dates.specs.Laws.{FoundIsLongest, FoundStands, MinusDatesStay, RegisterDatesStay};
 
-/// A date as registers have it stays, whatever the names, where its year is not last and is kept, or has a minus.
+/// Year, month and day as registers have them stay, whatever the names, where the year is not last and is kept, or has a
+/// minus.
 pub fn register_dates_stay()
     ensures year { RegisterDatesStay }
     ensures minus { MinusDatesStay }

@@ -13,7 +13,7 @@ use Rattle.std.proofs.lemmas.Bool.Decides.{nat_tests}
 use Rattle.std.proofs.lemmas.List.{take_more, get_or-set_same, get_or-set_other, get_or-replicate, length-replicate}
 use Rattle.std.proofs.lemmas.List.Folds.{fold-map}
 use Rattle.std.proofs.lemmas.Slice.Eq.{bytes_eq-Decides}
-use Rattle.written_dates.specs.declared.calendars.Calendar.{Calendar}
+use Rattle.date_texts.specs.declared.calendar.Calendar.{Calendar}
 use Rattle.written_dates.specs.declared.meanings.Meaning.{Meaning}
 use Rattle.written_dates.specs.declared.meanings.Meaning.TheVariants.{Nothing}
 use Rattle.written_dates.specs.declared.meanings.Name.{Name}

@@ -14,7 +14,7 @@ use Rattle.written_dates.specs.Parts.{parts}
 use Rattle.written_dates.specs.Items.{items}
 use Rattle.written_dates.specs.Signs.{◌>>=◌, has_two_dashes}
 use Rattle.written_dates.specs.Rules.{civil_reading, roman_reading}
-use Rattle.written_dates.specs.declared.calendars.Calendar.{Calendar}
+use Rattle.date_texts.specs.declared.calendar.Calendar.{Calendar}
 use Rattle.written_dates.specs.Calendars.{form}
 use Rattle.written_dates.specs.Names.{names_in}
 use Rattle.written_dates.specs.Written.{reading, reading_by}

@@ -5,10 +5,11 @@ use Rattle.std.specs.List.{list_any}
 use Rattle.std.specs.Str.{str_eq_ignore_ascii_case}
 use Rattle.written_dates.specs.declared.tokens.Kind.{Kind}
 use Rattle.written_dates.specs.declared.tokens.Kind.TheVariants.{Blank}
-use Rattle.written_dates.specs.declared.calendars.Calendar.{Calendar}
+use Rattle.date_texts.specs.declared.calendar.Calendar.{Calendar}
 use Rattle.written_dates.specs.declared.fields.CalendarName.{CalendarName}
 use Rattle.written_dates.specs.declared.fields.CalendarNames.{CalendarNames}
-use Rattle.written_dates.specs.Calendars.{place, calendar_name}
+use Rattle.date_texts.specs.Calendars.{calendar_name}
+use Rattle.written_dates.specs.Calendars.{place}
 use Rattle.written_dates.specs.Tokens.{Piece, tokens}
 use Rattle.written_dates.specs.Signs.{bare}
 

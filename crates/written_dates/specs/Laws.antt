@@ -4,7 +4,7 @@ use Rattle.std.specs.Char.{is_ascii_digit}
 use Rattle.std.specs.List.{list_all}
 use Rattle.written_dates.specs.declared.meanings.Name.{Name}
 use Rattle.written_dates.specs.declared.items.Number.{Number}
-use Rattle.written_dates.specs.declared.calendars.Calendar.{Calendar}
+use Rattle.date_texts.specs.declared.calendar.Calendar.{Calendar}
 use Rattle.written_dates.specs.declared.calendars.Form.TheVariants.{Civil}
 use Rattle.written_dates.specs.declared.written.Short.TheVariants.{Keep}
 use Rattle.written_dates.specs.declared.written.Choice.{Choice}

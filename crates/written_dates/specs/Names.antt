@@ -2,7 +2,7 @@
 use Rattle.std.specs.Prelude.{ℕ, ◌+◌, Bool, true, false, not, ◌&&◌, ◌==◌, nat_le, if◌then◌else◌}
 use Rattle.std.specs.Prelude.{List, [], ◌∷◌, get_or, filter, Option, Some, None}
 use Rattle.std.specs.List.{list_any}
-use Rattle.written_dates.specs.declared.calendars.Calendar.{Calendar}
+use Rattle.date_texts.specs.declared.calendar.Calendar.{Calendar}
 use Rattle.written_dates.specs.declared.meanings.Mark.{Mark}
 use Rattle.written_dates.specs.declared.meanings.Mark.TheVariants.{Kalends, Nones, Ides}
 use Rattle.written_dates.specs.declared.meanings.Meaning.{Meaning}
@@ -11,7 +11,8 @@ use Rattle.written_dates.specs.declared.meanings.Name.{Name}
 use Rattle.written_dates.specs.declared.names.NameFault.{NameFault}
 use Rattle.written_dates.specs.declared.names.NameFault.TheVariants.{Character, NoWord, NoMeaning, TwoMeanings}
 use Rattle.written_dates.specs.declared.names.ListFault.{ListFault}
-use Rattle.written_dates.specs.Calendars.{place, all_calendars}
+use Rattle.date_texts.specs.Calendars.{all_calendars}
+use Rattle.written_dates.specs.Calendars.{place}
 use Rattle.written_dates.specs.Tokens.{Piece, tokens}
 use Rattle.written_dates.specs.Parts.{parts, stands}
 use Rattle.written_dates.specs.Signs.{has_other}

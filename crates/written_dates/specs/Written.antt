@@ -2,8 +2,8 @@
 use Rattle.std.specs.Prelude.{ℕ, ◌+◌, Bool, not, ◌&&◌, ◌||◌, nat_le, nat_lt, if◌then◌else◌}
 use Rattle.std.specs.Prelude.{List, [], ◌∷◌, ◌++◌, length, Option, Some, None}
 use Rattle.std.specs.Fmt.{decimal}
-use Rattle.written_dates.specs.declared.calendars.Calendar.{Calendar}
-use Rattle.written_dates.specs.declared.calendars.Calendar.TheVariants.{Gregorian, Julian, Hebrew}
+use Rattle.date_texts.specs.declared.calendar.Calendar.{Calendar}
+use Rattle.date_texts.specs.declared.calendar.Calendar.TheVariants.{Gregorian, Julian, Hebrew}
 use Rattle.written_dates.specs.declared.calendars.Form.{Form}
 use Rattle.written_dates.specs.declared.calendars.Form.TheVariants as forms
 use Rattle.written_dates.specs.declared.meanings.Mark.{Mark}

@@ -1,24 +1,13 @@
-//! The calendars of a register, and how their dates are written.
+//! How the dates of a register's calendars are written.
 
 ghost use Rattle.std.specs.Prelude.{◌≡◌, ◌<◌};
-ghost use Rattle.written_dates.specs.Calendars.{calendar_name, form as form_spec, place as place_spec};
+ghost use Rattle.written_dates.specs.declared.calendars.TheConstants.{CALENDARS};
+ghost use Rattle.written_dates.specs.Calendars.{form as form_spec, place as place_spec};
 
-/// A calendar of a register.
-#[derive(Clone, Copy, PartialEq, Eq, Debug)]
-pub enum Calendar {
-    Gregorian,
-    Iso,
-    Julian,
-    Coptic,
-    Ethiopic,
-    Egyptian,
-    Armenian,
-    Islamic,
-    Hebrew,
-    Longcount,
-    French,
-    Roman,
-}
+use date_texts::Calendar;
+
+/// How many calendars there are.
+pub(crate) const CALENDARS: usize = Calendar::ALL.len();
 
 /// How the dates of a calendar are written.
 #[derive(Clone, Copy, PartialEq, Eq, Debug)]
@@ -31,72 +20,21 @@ pub enum Form {
     Other,
 }
 
-impl Calendar {
-    /// Every calendar once, in the order of their places.
-    pub const ALL: [Calendar; 12] = [
-        Calendar::Gregorian,
-        Calendar::Iso,
-        Calendar::Julian,
-        Calendar::Coptic,
-        Calendar::Ethiopic,
-        Calendar::Egyptian,
-        Calendar::Armenian,
-        Calendar::Islamic,
-        Calendar::Hebrew,
-        Calendar::Longcount,
-        Calendar::French,
-        Calendar::Roman,
-    ];
-
-    /// What the calendar is called in a register, in small letters.
-    pub fn name(self) -> &'static str
-        ensures { result.now ≡ calendar_name self }
-    {
-        match self {
-            Calendar::Gregorian => "gregorian",
-            Calendar::Iso => "iso",
-            Calendar::Julian => "julian",
-            Calendar::Coptic => "coptic",
-            Calendar::Ethiopic => "ethiopic",
-            Calendar::Egyptian => "egyptian",
-            Calendar::Armenian => "armenian",
-            Calendar::Islamic => "islamic",
-            Calendar::Hebrew => "hebrew",
-            Calendar::Longcount => "longcount",
-            Calendar::French => "french",
-            Calendar::Roman => "roman",
-        }
+/// How the dates of a calendar are written.
+pub(crate) fn form_of(calendar: Calendar) -> Form
+    ensures { result ≡ form_spec calendar }
+{
+    match calendar {
+        Calendar::Iso | Calendar::Longcount => Form::Other,
+        Calendar::Roman => Form::Roman,
+        _ => Form::Civil,
     }
+}
 
-    /// How the dates of the calendar are written.
-    pub(crate) fn form(self) -> Form
-        ensures { result ≡ form_spec self }
-    {
-        match self {
-            Calendar::Iso | Calendar::Longcount => Form::Other,
-            Calendar::Roman => Form::Roman,
-            _ => Form::Civil,
-        }
-    }
-
-    /// The calendar's place among all of them, from 0.
-    pub(crate) fn place(self) -> usize
-        ensures value { result ≡ place_spec self }
-        ensures within { result < 12 }
-    {
-        match self {
-            Calendar::Gregorian => 0,
-            Calendar::Iso => 1,
-            Calendar::Julian => 2,
-            Calendar::Coptic => 3,
-            Calendar::Ethiopic => 4,
-            Calendar::Egyptian => 5,
-            Calendar::Armenian => 6,
-            Calendar::Islamic => 7,
-            Calendar::Hebrew => 8,
-            Calendar::Longcount => 9,
-            Calendar::French => 10,
-            Calendar::Roman => 11,
-        }
-    }
+/// The calendar's place in `Calendar::ALL`, from 0.
+pub(crate) fn place_of(calendar: Calendar) -> usize
+    ensures value { result ≡ place_spec calendar }
+    ensures within { result < CALENDARS }
+{
+    calendar as usize
 }

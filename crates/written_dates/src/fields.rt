@@ -7,9 +7,10 @@ ghost use Rattle.written_dates.specs.Fields.{is_blank as blank_spec, without_bla
 ghost use Rattle.written_dates.specs.Fields.{entries, calendar_meant, is_other as other_spec, first_twofold};
 ghost use Rattle.written_dates.specs.Fields.{meant_by as meant_spec, written_calendar};
 
-use crate::calendars::Calendar;
+use crate::calendars::place_of;
 use crate::signs::bare;
 use crate::tokens::{Kind, next_token};
+use date_texts::Calendar;
 use std::alloc::{AllocError, Global};
 
 /// A name that means a calendar.
@@ -75,7 +76,7 @@ fn is_alike(a: &[u8], b: &[u8]) -> bool
 fn is_other(a: &CalendarName, b: &CalendarName) -> bool
     ensures { result ≡ other_spec (entry a.now) (entry b.now) }
 {
-    is_alike(a.text, b.text) && a.calendar.place() != b.calendar.place()
+    is_alike(a.text, b.text) && place_of(a.calendar) != place_of(b.calendar)
 }
 
 /// Whether one of these names is the same and means another calendar.

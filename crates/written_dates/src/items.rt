@@ -9,13 +9,13 @@ ghost use Rattle.written_dates.specs.Parts.{parts};
 ghost use Rattle.written_dates.specs.Items.{number_of_digits as digits_spec, number_of as number_spec};
 ghost use Rattle.written_dates.specs.Items.{longest as longest_spec, items, before, meant};
 
-use crate::calendars::Calendar;
 use crate::meanings::{Mark, Meaning, Name};
 use crate::names::{Names, key_of_word};
 use crate::parts::{next_part, stands};
 use crate::roman::roman_number;
 use crate::tokens::{Kind, Token};
 use arrayvec::ArrayVec;
+use date_texts::Calendar;
 
 /// A number, and with how many digits it stands; none where it is a Roman one or a name.
 #[derive(Clone, Copy, PartialEq, Eq, Debug)]

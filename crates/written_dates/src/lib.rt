@@ -14,7 +14,7 @@ mod signs;
 mod tokens;
 mod written;
 
-pub use calendars::{Calendar, Form};
+pub use calendars::Form;
 pub use fields::{CalendarName, CalendarNames, CalendarNamesError};
 pub use items::{Item, Number};
 pub use meanings::{Calendars, Mark, Meaning, Name};

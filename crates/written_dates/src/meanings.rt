@@ -2,7 +2,8 @@
 
 ghost use Rattle.std.specs.Prelude.{◌≡◌, true, false, get_or, slice_set};
 
-use crate::calendars::Calendar;
+use crate::calendars::{CALENDARS, place_of};
+use date_texts::Calendar;
 
 /// The day of a Roman month that a date counts back from.
 #[derive(Clone, Copy, PartialEq, Eq, Debug)]
@@ -32,24 +33,28 @@ pub enum Meaning {
 #[derive(Clone, Copy, PartialEq, Eq, Debug)]
 pub struct Calendars {
     /// Whether each calendar is one of them, by its place in `Calendar::ALL`.
-    pub held: [bool; 12],
+    pub held: [bool; CALENDARS],
 }
 
 impl Calendars {
     ghost use Rattle.written_dates.specs.Calendars.{place};
 
     /// All of them.
-    pub const ALL: Calendars = Calendars { held: [true; 12] };
+    pub const ALL: Calendars = Calendars {
+        held: [true; CALENDARS],
+    };
 
     /// None of them.
-    pub const NONE: Calendars = Calendars { held: [false; 12] };
+    pub const NONE: Calendars = Calendars {
+        held: [false; CALENDARS],
+    };
 
     /// These, and one more.
     pub fn with(self, calendar: Calendar) -> Calendars
         ensures { result.held ≡ slice_set self.held (place calendar) true }
     {
         let mut held = self.held;
-        held[calendar.place()] = true;
+        held[place_of(calendar)] = true;
         Calendars { held }
     }
 
@@ -57,7 +62,7 @@ impl Calendars {
     pub fn has(self, calendar: Calendar) -> bool
         ensures { result ≡ get_or self.held (place calendar) false }
     {
-        self.held[calendar.place()]
+        self.held[place_of(calendar)]
     }
 }
 

@@ -11,10 +11,11 @@ ghost use Rattle.written_dates.specs.Names.{same_mark as same_mark_spec, is_mean
 ghost use Rattle.written_dates.specs.Names.{fault_of, first_fault};
 ghost use Rattle.written_dates.specs.Parts.{parts};
 
-use crate::calendars::Calendar;
 use crate::meanings::{Mark, Meaning, Name};
 use crate::parts::{next_part, stands};
 use crate::signs::signs_of;
+use date_texts::Calendar;
+use date_texts::laws::all_calendars;
 use std::alloc::{AllocError, Global};
 
 /// What is wrong with a name of a list. Their order is that in which they are looked for.
@@ -124,6 +125,7 @@ fn same_name(a: &Name, b: &Name) -> bool
 fn share_calendar(a: &Name, b: &Name) -> bool
     ensures { result ≡ share_spec a.now b.now }
 {
+    all_calendars();
     let a = a.calendars;
     let b = b.calendars;
     Calendar::ALL

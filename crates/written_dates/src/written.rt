@@ -9,12 +9,13 @@ ghost use Rattle.written_dates.specs.Written.{short_rule as rule_spec, joined, d
 ghost use Rattle.written_dates.specs.Written.{reading as reading_spec, is_turned as turned_spec, unless_turned};
 ghost use Rattle.written_dates.specs.Written.{written_by, written as written_spec};
 
-use crate::calendars::{Calendar, Form};
+use crate::calendars::{Form, form_of};
 use crate::items::{Number, items_of, number_of_digits};
 use crate::meanings::Mark;
 use crate::names::Names;
 use crate::rules::{Order, Reading, civil_of, is_year_first, roman_of};
 use crate::signs::{begins_with_dash, runs_behind_minus, signs_of, three_runs};
+use date_texts::Calendar;
 use itoa::Buffer;
 use std::alloc::AllocError;
 
@@ -102,7 +103,7 @@ fn reading_of(choice: &Choice, calendar: Calendar, names: &Names, text: &[u8]) -
     }
     match items_of(text, names, calendar) {
         None => None,
-        Some(found) => match calendar.form() {
+        Some(found) => match form_of(calendar) {
             Form::Civil => civil_of(dashes, choice.order, found.as_slice()),
             Form::Roman => roman_of(choice.charters, found.as_slice()),
             Form::Other => None,
@@ -267,7 +268,7 @@ pub fn write_date(
         out.extend_from_slice(text)?;
         return Ok(());
     };
-    match calendar.form() {
+    match form_of(calendar) {
         Form::Civil => push_civil(out, choice, calendar, names, text),
         _ => push_said(
             out,

@@ -9,13 +9,14 @@
 //! often, and then the nanoseconds that one took.
 #![tactic(auto)]
 
+use date_texts::Calendar;
 use std::alloc::{AllocError, Global};
 use std::io::{BufRead, BufReader};
 use std::time::{Clock, Instant};
 use std::{env, io};
 use written_dates::{
-    Calendar, CalendarName, CalendarNames, Calendars, Choice, Mark, Meaning, Name, Names, Order,
-    Short, write_date,
+    CalendarName, CalendarNames, Calendars, Choice, Mark, Meaning, Name, Names, Order, Short,
+    write_date,
 };
 
 /// A line of names.

@@ -1,10 +1,11 @@
 //! Texts, and what is written for them, a line of a table each.
 
+use date_texts::Calendar;
 use std::alloc::{AllocError, Global};
 use std::test::Fail;
 use written_dates::{
-    Calendar, Calendars, Choice, ListFault, Mark, Meaning, Name, NameFault, Names, NamesError,
-    Order, Short, roman_number, write_date,
+    Calendars, Choice, ListFault, Mark, Meaning, Name, NameFault, Names, NamesError, Order, Short,
+    roman_number, write_date,
 };
 
 /// Names: a text, what it means, and the calendars in which it does, none for all.

@@ -1,7 +1,7 @@
 use Rattle.std.proofs.Common.{◌≡◌, ◌+◌, ◌∙◌, sym, ap, map, drop, get_or, ◌∷◌, [], true, false, add-one, drop-cons}
 use Rattle.std.specs.List.{list_any}
 use Rattle.written_dates.specs.declared.fields.CalendarName.{CalendarName}
-use Rattle.written_dates.specs.declared.calendars.Calendar.TheVariants.{Gregorian}
+use Rattle.date_texts.specs.declared.calendar.Calendar.TheVariants.{Gregorian}
 use Rattle.written_dates.specs.Fields.{entry, is_other, first_twofold}
 use Rattle.written_dates.proofs.FieldLemmas.{twofold_here, twofold_later}
 use Rattle.written_dates.proofs.fields.CalendarNames.first_twofold.Goals as goal

@@ -3,3 +3,4 @@ pub mod Sheets
 pub mod Reading
 pub mod FieldViews
 pub mod LineViews
+pub mod NameLists

@@ -5,11 +5,16 @@
 mod field_lists;
 mod joining;
 mod lines;
+mod name_calendars;
+mod name_lists;
+mod name_meanings;
 mod picking;
 mod reading;
 mod writing;
 
 pub use joining::join;
+pub use name_lists::{NameLine, NameList, NameListFault};
+pub use name_meanings::Means;
 pub use picking::{Picked, pick};
 pub use reading::SheetFault;
 pub use writing::write;

@@ -1,0 +1,137 @@
+-- Lists of names: a CSV text with the columns `name`, `means` and `in`, by a form of this project.
+use Rattle.std.specs.Prelude.{◌≡◌, ◌≢◌, ◌↔◌, ◌≤◌, ◌+◌, ◌==◌, ◌++◌, ℕ, Bool, true, List, [], ◌∷◌, ⊤, All, Any, codes}
+use Rattle.std.specs.Prelude.{get_or, length, take}
+use Rattle.std.specs.Fmt.{decimal}
+use Rattle.std.specs.List.{flat_map, slice_split}
+use Rattle.std.specs.Str.{is_utf8}
+use Rattle.date_texts.specs.Calendars.{calendar_name}
+use Rattle.date_texts.specs.Names.{IsNamed}
+use Rattle.date_texts.specs.declared.calendar.Calendar.{Calendar}
+use Rattle.register_records.specs.Entries.{Fields}
+use Rattle.written_dates.specs.Calendars.{place}
+use Rattle.written_dates.specs.declared.fields.CalendarName.{CalendarName}
+use Rattle.written_dates.specs.declared.meanings.Calendars.{Calendars}
+use Rattle.written_dates.specs.declared.meanings.Mark.{Mark}
+use Rattle.written_dates.specs.declared.meanings.Mark.TheVariants.{Kalends, Nones, Ides}
+use Rattle.written_dates.specs.declared.meanings.Meaning.{Meaning}
+use Rattle.written_dates.specs.declared.meanings.Meaning.TheVariants as meaning
+use Rattle.written_dates.specs.declared.meanings.Name.{Name}
+use Rattle.register_sheets.specs.declared.name_meanings.Means.{Means}
+use Rattle.register_sheets.specs.declared.name_meanings.Means.TheVariants as means
+use Rattle.register_sheets.specs.declared.name_lists.NameLine.{NameLine}
+use Rattle.register_sheets.specs.declared.name_lists.NameListFault.{NameListFault}
+use Rattle.register_sheets.specs.declared.name_lists.NameListFault.TheVariants as fault
+
+abbrev pub mark_name : Mark → List ℕ
+mark_name Kalends = codes "K"
+mark_name Nones = codes "N"
+mark_name Ides = codes "I"
+
+-- the field `means` says this of a name
+abbrev pub Says : List ℕ → Means → Type 0
+Says field (means.InDates meaning.Nothing) = field ≡ []
+Says field (means.InDates (meaning.Month month)) =
+    (1 ≤ month) × (month ≤ 13) × (field ≡ codes "month " ++ decimal month)
+Says field (means.InDates (meaning.Number number)) = (number ≤ 999_999_999) × (field ≡ decimal number)
+Says field (means.InDates (meaning.Mark mark)) = field ≡ mark_name mark
+Says field (means.Calendar calendar) = IsNamed field (calendar_name calendar)
+Says field means.Open = field ≡ codes "?"
+
+-- the names in a field: what stands between its spaces (32)
+abbrev pub names_in : List ℕ → List (List ℕ)
+names_in field = slice_split (λ b. b == 32) field
+
+-- a name is that of a calendar
+abbrev pub IsCalendar : List ℕ → Type 0
+IsCalendar name = (calendar : Calendar) × IsNamed name (calendar_name calendar)
+
+abbrev pub has : Calendars → Calendar → Bool
+has calendars calendar = get_or calendars.held (place calendar) false
+
+-- a name holds in all calendars where the field `in` is empty, and else in those that it names
+pub record HoldsIn (field : List ℕ) (calendars : Calendars) : Type 0 where
+  pub everywhere : field ≡ [] → (calendar : Calendar) → has calendars calendar ≡ true
+  pub named : field ≢ [] → (calendar : Calendar)
+      → (has calendars calendar ≡ true) ↔ Any (λ name. IsNamed name (calendar_name calendar)) (names_in field)
+  pub known : field ≢ [] → All IsCalendar (names_in field)
+
+-- the field names something that is no calendar
+abbrev pub HasUnknown : List ℕ → Type 0
+HasUnknown field = Any (λ name. ¬ IsCalendar name) (names_in field)
+
+-- the record says this of a name
+pub record IsLine (fields : Fields) (line : NameLine) : Type 0 where
+  pub text : line.text.items ≡ get_or fields 0 []
+  pub says : Says (get_or fields 1 []) line.means
+  pub holds : HoldsIn (get_or fields 2 []) line.calendars
+
+-- these records say this of names, one for one
+abbrev pub AreLines : List Fields → List NameLine → Type 0
+AreLines [] [] = ⊤
+AreLines [] (line ∷ lines) = ⊥
+AreLines (fields ∷ records) [] = ⊥
+AreLines (fields ∷ records) (line ∷ lines) = IsLine fields line × AreLines records lines
+
+-- the names of the first columns
+abbrev pub columns : List (List ℕ)
+columns = codes "name" ∷ codes "means" ∷ codes "in" ∷ []
+
+-- these lines are the list that the records of a text are
+abbrev pub IsListOf : List Fields → List NameLine → Type 0
+IsListOf [] lines = ⊥
+IsListOf (header ∷ records) lines = (take 3 header ≡ columns) × AreLines records lines
+
+-- the field says nothing of a name: it is no text, or says none of what can be said
+abbrev pub SaysNothing : List ℕ → Type 0
+SaysNothing field = (is_utf8 field ≡ true) → (means : Means) → ¬ Says field means
+
+abbrev pub NamesOther : List ℕ → Type 0
+NamesOther field = (is_utf8 field ≡ true) → HasUnknown field
+
+-- the record with this number is none of a list, for this reason
+abbrev pub IsRefused : Fields → ℕ → NameListFault → Type 0
+IsRefused fields number fault.OutOfMemory = ⊤
+IsRefused fields number fault.Header = ⊥
+IsRefused fields number (fault.Means n) = (n ≡ number) × SaysNothing (get_or fields 1 [])
+IsRefused fields number (fault.In n) = (n ≡ number) × NamesOther (get_or fields 2 [])
+
+-- behind records that are lines stands one that is none
+pub record IsRefusedBehind (records : List Fields) (why : NameListFault) : Type 0 where
+  pub before : List Fields
+  pub after : List Fields
+  pub fields : Fields
+  pub lines : List NameLine
+  pub cut : records ≡ before ++ fields ∷ after
+  pub are_lines : AreLines before lines
+  pub refused : IsRefused fields (length before + 1) why
+
+-- the first fault of a list
+abbrev pub IsFaultOf : List Fields → NameListFault → Type 0
+IsFaultOf records fault.OutOfMemory = ⊤
+IsFaultOf [] fault.Header = ⊤
+IsFaultOf (header ∷ records) fault.Header = take 3 header ≢ columns
+IsFaultOf [] other = ⊥
+IsFaultOf (header ∷ records) other = (take 3 header ≡ columns) × IsRefusedBehind records other
+
+-- a name that means something in dates: what it is, what it means, and where
+abbrev pub name_seen : Name → List ℕ × Meaning × Calendars
+name_seen name = (name.text.now, name.meaning, name.calendars)
+
+abbrev pub in_dates : NameLine → Means → List (List ℕ × Meaning × Calendars)
+in_dates line (means.InDates meaning) = (line.text.items, meaning, line.calendars) ∷ []
+in_dates line other = []
+
+-- the names of a list that mean something in dates
+abbrev pub names_in_dates : List NameLine → List (List ℕ × Meaning × Calendars)
+names_in_dates lines = flat_map (λ line. in_dates line line.means) lines
+
+abbrev pub calendar_seen : CalendarName → List ℕ × Calendar
+calendar_seen name = (name.text.now, name.calendar)
+
+abbrev pub of_calendar : NameLine → Means → List (List ℕ × Calendar)
+of_calendar line (means.Calendar calendar) = (line.text.items, calendar) ∷ []
+of_calendar line other = []
+
+-- the names of a list that mean a calendar
+abbrev pub calendar_names_in : List NameLine → List (List ℕ × Calendar)
+calendar_names_in lines = flat_map (λ line. of_calendar line line.means) lines

@@ -1,0 +1,155 @@
+//! Lists of names, read from a text.
+
+ghost use Rattle.std.specs.Prelude.{◌≡◌, ◌↔◌, IfOk, IfErr, map, take, true};
+ghost use Rattle.csv.specs.Records.{fields_of};
+ghost use Rattle.register_records.specs.Entries.{text_records};
+ghost use Rattle.register_sheets.specs.NameLists.{AreLines, IsFaultOf, IsLine, IsListOf, IsRefused, columns};
+ghost use Rattle.register_sheets.specs.NameLists.{calendar_names_in, calendar_seen, name_seen, names_in_dates};
+
+use crate::name_calendars::calendars_said;
+use crate::name_meanings::{Means, means_said};
+use crate::reading::{field_at, read_next, records_of};
+use csv::ByteRecord;
+use std::alloc::{AllocError, Global};
+use std::str;
+use written_dates::{CalendarName, Calendars, Name};
+
+/// A name, and what it means.
+#[derive(Drop)]
+pub struct NameLine {
+    /// The name, as it stands in the list.
+    pub text: Vec<u8>,
+    /// What it means.
+    pub means: Means,
+    /// The calendars in which it means this, where it is something in dates.
+    pub calendars: Calendars,
+}
+
+/// A list of names: what each means in dates, or which calendar it means.
+#[derive(Drop)]
+pub struct NameList {
+    /// The names, in order.
+    pub lines: Vec<NameLine>,
+}
+
+/// Why a text is no list of names. Records are counted from 1 below the header.
+#[derive(Clone, Copy, PartialEq, Eq, Debug)]
+pub enum NameListFault {
+    /// Memory ran out.
+    OutOfMemory,
+    /// The first record does not begin with `name`, `means` and `in`, or there is none.
+    Header,
+    /// `means` of this record says nothing.
+    Means(usize),
+    /// `in` of this record names something that is no calendar.
+    In(usize),
+}
+
+impl From<AllocError> for NameListFault {
+    ghost use Rattle.std.specs.Prelude.{◌≡◌};
+    ghost use Rattle.register_sheets.specs.declared.name_lists.NameListFault.TheVariants.{OutOfMemory};
+
+    ghost from_gives = { λ error fault. fault ≡ OutOfMemory };
+
+    fn from(_error: AllocError) -> Self {
+        NameListFault::OutOfMemory
+    }
+}
+
+/// Whether a record begins with the names of the columns.
+fn is_header(record: &ByteRecord) -> bool
+    ensures { (result ≡ true) ↔ (take 3 (fields_of record.now) ≡ columns) }
+{
+    record.len() >= 3
+        && field_at(record, 0) == b"name".as_slice()
+        && field_at(record, 1) == b"means".as_slice()
+        && field_at(record, 2) == b"in".as_slice()
+}
+
+/// The line of a record with this number.
+fn line_of(alloc: Global, record: &ByteRecord, number: usize) -> Result<NameLine, NameListFault>
+    ensures line { IfOk result (IsLine (fields_of record.now)) }
+    ensures fault { IfErr result (IsRefused (fields_of record.now) number) }
+{
+    let Ok(means) = str::from_utf8(field_at(record, 1)) else {
+        return Err(NameListFault::Means(number));
+    };
+    let Some(means) = means_said(means) else {
+        return Err(NameListFault::Means(number));
+    };
+    let Ok(calendars) = str::from_utf8(field_at(record, 2)) else {
+        return Err(NameListFault::In(number));
+    };
+    let Some(calendars) = calendars_said(calendars) else {
+        return Err(NameListFault::In(number));
+    };
+    Ok(NameLine {
+        text: field_at(record, 0).to_vec(alloc)?,
+        means,
+        calendars,
+    })
+}
+
+impl NameList {
+    /// Reads a list: CSV with commas, of which the first record is the header `name,means,in`, with any columns behind
+    /// these. `means` is `month 1` to `month 13`, a number up to 999999999, the mark `K`, `N` or `I`, a calendar, nothing,
+    /// or `?`, by which a name stays open. `in` has the calendars in which the name means this, with a space between
+    /// two; all where it is empty.
+    ///
+    /// # Errors
+    ///
+    /// The first fault of the list, or `OutOfMemory`.
+    pub fn read(alloc: Global, text: &[u8]) -> Result<NameList, NameListFault>
+        ensures list { IfOk result (λ list. IsListOf (text_records 44 text.now) list.lines.items) }
+        ensures fault { IfErr result (IsFaultOf (text_records 44 text.now)) }
+    {
+        let mut records = records_of(alloc, text, b',');
+        let mut record = ByteRecord::new(alloc);
+        if !read_next(&mut records, &mut record)? || !is_header(&record) {
+            return Err(NameListFault::Header);
+        }
+        let mut lines = Vec::new(alloc);
+        'records: loop {
+            if !read_next(&mut records, &mut record)? {
+                return Ok(NameList { lines });
+            }
+            let line = line_of(alloc, &record, lines.len() + 1)?;
+            if lines.push(line).is_err() {
+                return Err(NameListFault::OutOfMemory);
+            }
+        }
+    }
+
+    /// The names that mean something in dates, in order.
+    pub fn names(&self, alloc: Global) -> Result<Vec<Name<'_>>, AllocError>
+        ensures { IfOk result (λ names. map name_seen names.items ≡ names_in_dates self.now.lines.items) }
+    {
+        let mut names = Vec::new(alloc);
+        'lines: for line in &self.lines {
+            if let Means::InDates(meaning) = line.means {
+                names.push(Name {
+                    text: line.text.as_slice(),
+                    meaning,
+                    calendars: line.calendars,
+                })?;
+            }
+        }
+        Ok(names)
+    }
+
+    /// The names that mean a calendar, in order.
+    pub fn calendar_names(&self, alloc: Global) -> Result<Vec<CalendarName<'_>>, AllocError>
+        ensures { IfOk result (λ names. map calendar_seen names.items ≡ calendar_names_in self.now.lines.items) }
+    {
+        let mut names = Vec::new(alloc);
+        'lines: for line in &self.lines {
+            if let Means::Calendar(calendar) = line.means {
+                names.push(CalendarName {
+                    text: line.text.as_slice(),
+                    calendar,
+                })?;
+            }
+        }
+        Ok(names)
+    }
+}

@@ -2,6 +2,8 @@
 --   LineLemmas: that lines are the text of their fields, for `write` and `join`. ListLemmas: what is left of a list of
 --     fields, for both.
 --   SheetLemmas: `pick`, and that records come one after the other, for `join`.
+--   NameLemmas: `NameList::read`.
 pub mod ListLemmas
 pub mod LineLemmas
 pub mod SheetLemmas
+pub mod NameLemmas

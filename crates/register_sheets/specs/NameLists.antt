@@ -1,14 +1,15 @@
 -- Lists of names: a CSV text with the columns `name`, `means` and `in`, by a form of this project.
-use Rattle.std.specs.Prelude.{◌≡◌, ◌≢◌, ◌↔◌, ◌≤◌, ◌+◌, ◌==◌, ◌++◌, ℕ, Bool, true, List, [], ◌∷◌, ⊤, All, Any, codes}
-use Rattle.std.specs.Prelude.{get_or, length, take}
+use Rattle.std.specs.Prelude.{◌≡◌, ◌≢◌, ◌≤◌, ◌+◌, ◌==◌, ◌++◌, ℕ, Bool, true, List, [], ◌∷◌, ⊤, All, Any, codes}
+use Rattle.std.specs.Prelude.{get_or, length, map}
 use Rattle.std.specs.Fmt.{decimal}
-use Rattle.std.specs.List.{flat_map, slice_split}
-use Rattle.std.specs.Str.{is_utf8}
-use Rattle.date_texts.specs.Calendars.{calendar_name}
+use Rattle.std.specs.Prelude.{IsUtf8}
+use Rattle.std.specs.List.{flat_map, list_any, slice_split}
+use Rattle.std.specs.Str.{bytes_eq, str_to_ascii_lowercase}
+use Rattle.date_texts.specs.Calendars.{all_calendars, calendar_name}
 use Rattle.date_texts.specs.Names.{IsNamed}
+use Rattle.date_texts.specs.Trimmed.{trimmed}
 use Rattle.date_texts.specs.declared.calendar.Calendar.{Calendar}
 use Rattle.register_records.specs.Entries.{Fields}
-use Rattle.written_dates.specs.Calendars.{place}
 use Rattle.written_dates.specs.declared.fields.CalendarName.{CalendarName}
 use Rattle.written_dates.specs.declared.meanings.Calendars.{Calendars}
 use Rattle.written_dates.specs.declared.meanings.Mark.{Mark}
@@ -16,6 +17,7 @@ use Rattle.written_dates.specs.declared.meanings.Mark.TheVariants.{Kalends, None
 use Rattle.written_dates.specs.declared.meanings.Meaning.{Meaning}
 use Rattle.written_dates.specs.declared.meanings.Meaning.TheVariants as meaning
 use Rattle.written_dates.specs.declared.meanings.Name.{Name}
+use Rattle.register_sheets.specs.Sheets.{chosen}
 use Rattle.register_sheets.specs.declared.name_meanings.Means.{Means}
 use Rattle.register_sheets.specs.declared.name_meanings.Means.TheVariants as means
 use Rattle.register_sheets.specs.declared.name_lists.NameLine.{NameLine}
@@ -45,14 +47,18 @@ names_in field = slice_split (λ b. b == 32) field
 abbrev pub IsCalendar : List ℕ → Type 0
 IsCalendar name = (calendar : Calendar) × IsNamed name (calendar_name calendar)
 
-abbrev pub has : Calendars → Calendar → Bool
-has calendars calendar = get_or calendars.held (place calendar) false
+-- the name is the calendar's
+abbrev pub is_named : List ℕ → Calendar → Bool
+is_named name calendar = bytes_eq (str_to_ascii_lowercase (trimmed name)) (calendar_name calendar)
+
+-- for each calendar, whether one of these names is its own
+abbrev pub named_by : List (List ℕ) → List Bool
+named_by names = map (λ calendar. list_any (λ name. is_named name calendar) names) all_calendars
 
 -- a name holds in all calendars where the field `in` is empty, and else in those that it names
 pub record HoldsIn (field : List ℕ) (calendars : Calendars) : Type 0 where
-  pub everywhere : field ≡ [] → (calendar : Calendar) → has calendars calendar ≡ true
-  pub named : field ≢ [] → (calendar : Calendar)
-      → (has calendars calendar ≡ true) ↔ Any (λ name. IsNamed name (calendar_name calendar)) (names_in field)
+  pub everywhere : field ≡ [] → calendars.held ≡ map (λ calendar. true) all_calendars
+  pub named : field ≢ [] → calendars.held ≡ named_by (names_in field)
   pub known : field ≢ [] → All IsCalendar (names_in field)
 
 -- the field names something that is no calendar
@@ -79,14 +85,14 @@ columns = codes "name" ∷ codes "means" ∷ codes "in" ∷ []
 -- these lines are the list that the records of a text are
 abbrev pub IsListOf : List Fields → List NameLine → Type 0
 IsListOf [] lines = ⊥
-IsListOf (header ∷ records) lines = (take 3 header ≡ columns) × AreLines records lines
+IsListOf (header ∷ records) lines = (chosen (0 ∷ 1 ∷ 2 ∷ []) header ≡ columns) × AreLines records lines
 
 -- the field says nothing of a name: it is no text, or says none of what can be said
 abbrev pub SaysNothing : List ℕ → Type 0
-SaysNothing field = (is_utf8 field ≡ true) → (means : Means) → ¬ Says field means
+SaysNothing field = IsUtf8 field → (means : Means) → ¬ Says field means
 
 abbrev pub NamesOther : List ℕ → Type 0
-NamesOther field = (is_utf8 field ≡ true) → HasUnknown field
+NamesOther field = IsUtf8 field → HasUnknown field
 
 -- the record with this number is none of a list, for this reason
 abbrev pub IsRefused : Fields → ℕ → NameListFault → Type 0
@@ -109,9 +115,9 @@ pub record IsRefusedBehind (records : List Fields) (why : NameListFault) : Type 
 abbrev pub IsFaultOf : List Fields → NameListFault → Type 0
 IsFaultOf records fault.OutOfMemory = ⊤
 IsFaultOf [] fault.Header = ⊤
-IsFaultOf (header ∷ records) fault.Header = take 3 header ≢ columns
+IsFaultOf (header ∷ records) fault.Header = chosen (0 ∷ 1 ∷ 2 ∷ []) header ≢ columns
 IsFaultOf [] other = ⊥
-IsFaultOf (header ∷ records) other = (take 3 header ≡ columns) × IsRefusedBehind records other
+IsFaultOf (header ∷ records) other = (chosen (0 ∷ 1 ∷ 2 ∷ []) header ≡ columns) × IsRefusedBehind records other
 
 -- a name that means something in dates: what it is, what it means, and where
 abbrev pub name_seen : Name → List ℕ × Meaning × Calendars

@@ -1,6 +1,6 @@
 //! The calendars that the third field of a list names.
 
-ghost use Rattle.std.specs.Prelude.{◌≡◌, ◌⊎◌, None, IfSome};
+ghost use Rattle.std.specs.Prelude.{◌≡◌, None, IfSome};
 ghost use Rattle.register_sheets.specs.NameLists.{HasUnknown, HoldsIn};
 
 use date_texts::calendar_named;

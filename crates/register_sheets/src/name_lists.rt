@@ -1,10 +1,11 @@
 //! Lists of names, read from a text.
 
-ghost use Rattle.std.specs.Prelude.{◌≡◌, ◌↔◌, IfOk, IfErr, map, take, true};
+ghost use Rattle.std.specs.Prelude.{◌≡◌, ◌↔◌, ◌∷◌, [], IfOk, IfErr, map, true};
 ghost use Rattle.csv.specs.Records.{fields_of};
 ghost use Rattle.register_records.specs.Entries.{text_records};
-ghost use Rattle.register_sheets.specs.NameLists.{AreLines, IsFaultOf, IsLine, IsListOf, IsRefused, columns};
+ghost use Rattle.register_sheets.specs.NameLists.{IsFaultOf, IsLine, IsListOf, IsRefused, columns};
 ghost use Rattle.register_sheets.specs.NameLists.{calendar_names_in, calendar_seen, name_seen, names_in_dates};
+ghost use Rattle.register_sheets.specs.Sheets.{chosen};
 
 use crate::name_calendars::calendars_said;
 use crate::name_meanings::{Means, means_said};
@@ -58,10 +59,9 @@ impl From<AllocError> for NameListFault {
 
 /// Whether a record begins with the names of the columns.
 fn is_header(record: &ByteRecord) -> bool
-    ensures { (result ≡ true) ↔ (take 3 (fields_of record.now) ≡ columns) }
+    ensures { (result ≡ true) ↔ (chosen (0 ∷ 1 ∷ 2 ∷ []) (fields_of record.now) ≡ columns) }
 {
-    record.len() >= 3
-        && field_at(record, 0) == b"name".as_slice()
+    field_at(record, 0) == b"name".as_slice()
         && field_at(record, 1) == b"means".as_slice()
         && field_at(record, 2) == b"in".as_slice()
 }

@@ -1,6 +1,6 @@
 //! What the second field of a list says.
 
-ghost use Rattle.std.specs.Prelude.{◌≡◌, ◌++◌, ◌≤◌, Some, None, codes, IfSome};
+ghost use Rattle.std.specs.Prelude.{◌≡◌, ◌↔◌, ℕ, None, true, IfSome};
 ghost use Rattle.std.specs.Fmt.{decimal};
 ghost use Rattle.register_sheets.specs.NameLists.{Says, mark_name};
 ghost use Rattle.register_sheets.specs.declared.name_meanings.Means.{Means as MeansValue};

@@ -9,6 +9,7 @@ use std::alloc::Global;
 use std::test::Fail;
 
 mod examples;
+mod names;
 
 const REGISTER: &str = "id,calendar,date
 B-1582-17,Julian,1582-10-04

@@ -121,7 +121,7 @@ impl OptionFacts {
         if !self.try_number(alloc, without, 1)? {
             return Ok(());
         }
-        let (mut taken, mut other) = (1, MOST);
+        let (mut taken, mut other) = (1usize, MOST);
         for _ in 0..MOST.ilog2() {
             let middle = taken.midpoint(other);
             if self.try_number(alloc, without, middle)? {

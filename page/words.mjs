@@ -10,7 +10,7 @@ const own = (text) => ({ own: text });
 // What the page says behind the sentences of refusals and causes, by their numbers.
 const { id, calendar, date, note } = FACTS.limits;
 const OF_REFUSALS = {
-  2: `: its id is over ${id} bytes, its calendar over ${calendar}, its date over ${date} or its note over ${note}; ` +
+  2: `: the id over ${id} bytes, the calendar over ${calendar}, the date over ${date} or the note over ${note}; ` +
     '`é` and a Hebrew letter have 2 bytes',
 };
 const OF_CAUSES = {

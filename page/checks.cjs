@@ -1,6 +1,6 @@
 // What the trials in Node share: they count what passed and what failed.
 'use strict';
-require('./fetch-files.cjs');
+require('./read-files.cjs');
 
 let passed = 0, failed = 0;
 

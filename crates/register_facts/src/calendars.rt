@@ -33,9 +33,10 @@ pub struct TargetFacts {
     all: Vec<&'static str>,
 }
 
-/// The number of the first of all days, and that of the last.
+/// The number of the first of all days.
 const FIRST: i64 = -3_652_424;
 
+/// That of the last.
 const LAST: i64 = 3_652_059;
 
 /// 12 November 1945, whose dates stand as examples.

@@ -1,10 +1,14 @@
 """What the checks in Python have in common: they count what they try, and show what differs."""
+import json
 import os
 import pathlib
 import subprocess
 import sys
 
 ROOT = pathlib.Path(__file__).resolve().parent.parent
+
+# What the product knows of itself. The gate compares it with what the program register_facts prints.
+FACTS = json.loads((ROOT / "crates/register_facts/stdout").read_text("utf-8"))
 
 
 class Trials:
@@ -20,7 +24,7 @@ class Trials:
         if not is_same:
             print(f"FAILED: {what}")
             for name, text in (("expected:", expected), ("came:    ", came)):
-                print(*(f"  {name} {line}" for line in text.split("\n")[:60]), sep="\n", flush=True)
+                print(*(f"  {name} {line}" for line in str(text).split("\n")[:60]), sep="\n", flush=True)
         return is_same
 
     def end(self):
@@ -48,3 +52,23 @@ def output_of(words, **how):
     ran = subprocess.run(words, stdin=subprocess.DEVNULL, stdout=subprocess.PIPE, stderr=subprocess.STDOUT, **how)
     late = "no end in ten minutes\n" if ran.returncode in (124, 137) else ""
     return ran.returncode, ran.stdout.decode("utf-8", "backslashreplace") + late
+
+
+def said_by_help():
+    """What a page of help has to say of the refusals, the causes and the options with values, whatever its line breaks
+    are: their sentences, and the values and defaults."""
+    for it in [*FACTS["refusals"], *FACTS["causes"]]:
+        yield f"{it['number']} {it['sentence']}"
+    without = set(FACTS["targets"]["all"]) - set(FACTS["targets"]["default"])
+    calendars = {it["name"] for it in FACTS["calendars"]}
+    others = [name for name in FACTS["targets"]["all"] if name not in calendars]
+    all_but = f"all but {', '.join(sorted(without))}" if without else "all"
+    for it in FACTS["options"]:
+        name, words, default = it["name"], it["words"], it["default"]
+        if "," in (default or ""):
+            yield (f"--{name} {it['value']} the columns, in the order wanted, separated by commas: calendars, "
+                   f"{', '.join(others)}; or the word {words[-1]}. Without it: {all_but}, in the order above.")
+        elif words:
+            yield f"{', '.join(words[:-1])} or {words[-1]}. Without it: {default}."
+        elif it["most"] is not None:
+            yield f"{it['least']} to {it['most']}. Without it: {default}."

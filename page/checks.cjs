@@ -1,5 +1,7 @@
 // What the trials in Node share: they count what passed and what failed.
 'use strict';
+require('./read-files.cjs');
+
 let passed = 0, failed = 0;
 
 const shown = (it) => (Buffer.isBuffer(it) ? it.toString() : JSON.stringify(it) || '').slice(0, 400);

@@ -1,9 +1,8 @@
 // One date: what is typed, what was asked, and what came of it. Each step takes the state and gives the next.
 
+import { NO_TARGETS } from './calendars.mjs';
 import { WORDS } from './words.mjs';
 
-// What a register and every table have; the other columns are the day in calendars.
-const NO_CALENDARS = ['row', 'id', 'calendar', 'date', 'note', 'rd', 'weekday', 'refusal'];
 // The refusal of a field that is too long; here that can only be the date.
 const TOO_LONG = 2;
 
@@ -49,7 +48,7 @@ export function replied(state, key, reply) {
 }
 
 function cellsOf(heading, row) {
-  return heading.flatMap((name, i) => (NO_CALENDARS.includes(name) ? [] : [[WORDS.calendars[name] || name, row[i]]]));
+  return heading.flatMap((name, i) => (NO_TARGETS.includes(name) ? [] : [[WORDS.calendars[name] || name, row[i]]]));
 }
 
 /** What is shown: a line, what kind of line it is, and the cells, each with its name. */

@@ -1,7 +1,7 @@
 // Registers: which files are chosen and how they are to be read, what runs, and what came of it. Each step takes the
 // state and gives the next.
 
-import { TARGETS } from './calendars.mjs';
+import { DEFAULT_TARGETS } from './calendars.mjs';
 
 // A file that is larger is not read.
 export const MOST_BYTES = 1e9;
@@ -22,7 +22,7 @@ const BYTES_AT_ONCE = 2 ** 24;
  * @returns {RegistersState}
  */
 export function initial(processors) {
-  const choice = { files: [], delimiter: 44, sealed: false, columns: [...TARGETS] };
+  const choice = { files: [], delimiter: 44, sealed: false, columns: [...DEFAULT_TARGETS] };
   return { choice, atOnce: Math.max(1, Math.min(4, processors - 1)), runs: 0, run: null, notice: '', folders: [] };
 }
 

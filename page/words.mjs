@@ -1,10 +1,25 @@
 // All words of the page, in one language: for another, this file is the one to write anew. Words are a text, in which
 // words of a register, as they are typed, stand between `; or a list of such texts and of texts of a user's own, as
-// names of files are, in which a ` is a letter. The reasons and causes are those of the documents, which page/try-words
-// compares.
+// names of files are, in which a ` is a letter. The sentences of refusals and causes are those of the product's own list.
+
+import { FACTS } from './unbuilt-facts.mjs';
 
 // A text of a user's own.
 const own = (text) => ({ own: text });
+
+// What the page says behind the sentences of refusals and causes, by their numbers.
+const { id, calendar, date, note } = FACTS.limits;
+const OF_REFUSALS = {
+  2: `: the id over ${id} bytes, the calendar over ${calendar}, the date over ${date} or the note over ${note}; ` +
+    '`é` and a Hebrew letter have 2 bytes',
+};
+const OF_CAUSES = {
+  4: ', as on a full disk',
+  6: ': not `id,calendar,date` (of a sealed register, `id,calendar,date,note`), but other names or order, more ' +
+    'columns, another delimiter, UTF-16, or a title line',
+  8: ': no line `END,N` with its own delimiter, or only one like `END,N,,` that came from a spreadsheet; or the ' +
+    'first one has another number than its records, or is not the last line',
+};
 
 export const WORDS = {
   lang: 'en',
@@ -27,7 +42,7 @@ export const WORDS = {
   weekday: 'Weekday',
   isDay: (weekday, number) => `${weekday}, day number ${number}`,
   isNoDay: (reason) => `No day: ${reason}.`,
-  isTooLong: 'the date is over 32 bytes',
+  isTooLong: `the date is over ${date} bytes`,
   noCell: 'before its first day',
   calendars: {
     gregorian: 'Gregorian', iso: 'ISO week', julian: 'Julian', coptic: 'Coptic', ethiopic: 'Ethiopic',
@@ -128,16 +143,7 @@ export const WORDS = {
   fault: (why) => ['the page failed (', own(why), ')'],
 
   // The reason of each refusal, from 1, and what to do on this page.
-  refusals: [
-    'it does not have three fields; in a sealed register, four',
-    'its id is over 40 bytes, its calendar over 16, its date over 32 or its note over 80; `é` and a Hebrew letter ' +
-      'have 2 bytes',
-    'a field is not UTF-8',
-    'no calendar has the name',
-    'the date is not written as its calendar wants it',
-    'the calendar has no such date',
-    'the day is before 1 January -9999 or after 31 December 9999, Gregorian',
-  ],
+  refusals: FACTS.refusals.map(({ number, sentence }) => sentence + (OF_REFUSALS[number] || '')),
   advice: [
     'Put quotes round a field with a comma; or take the file in as a sheet, and choose its columns',
     'Give short ids, and keep what is longer in the sheet',
@@ -149,17 +155,8 @@ export const WORDS = {
   ],
 
   // Why a register broke off, by the cause; what its table has; and what to do on this page.
-  causes: {
-    1: 'it ran out of memory',
-    4: 'the table could not be written, as on a full disk',
-    5: 'the register could not be read',
-    6: 'the header is missing or is not `id,calendar,date` (of a sealed register, `id,calendar,date,note`): columns ' +
-      'have other names or another order, there are more of them, the delimiter is another one, a title stands above ' +
-      'them, or the text is UTF-16',
-    7: 'it has more than 1,000,000 records',
-    8: 'it has no line `END,N` with its own delimiter, or only one like `END,N,,` that came from a spreadsheet; or the ' +
-      'first one has another number than its records, or is not the last line',
-  },
+  causes: Object.fromEntries(FACTS.causes.map(
+    ({ number, sentence }) => [number, sentence + (OF_CAUSES[number] || '')])),
   causeAdvice: {
     1: 'Close other pages or programs and try again, or split the register.',
     4: 'The table needs more memory than there is: choose fewer columns, or split the register.',

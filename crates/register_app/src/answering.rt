@@ -28,11 +28,11 @@ use std::sync::Wait;
 use std::thread::Threads;
 use std::time::{Clock, CpuClock};
 
-/// All texts were converted, refused records included, or a page was printed.
-const COMPLETE: u8 = 0;
+/// The status where all texts were converted, refused records included, or a page was printed.
+pub const COMPLETE: u8 = 0;
 
-/// The conversion of a text broke off, or a page could not be printed.
-const INCOMPLETE: u8 = 1;
+/// The status where the conversion of a text broke off, or a page could not be printed.
+pub const INCOMPLETE: u8 = 1;
 
 /// Memory ran out before the run.
 const OUT_OF_MEMORY: u8 = 3;

@@ -6,4 +6,4 @@ mod answering;
 mod refusals;
 mod reporting;
 
-pub use answering::{Outcome, answer};
+pub use answering::{COMPLETE, INCOMPLETE, Outcome, answer};

@@ -17,13 +17,13 @@ What goes in: UTF-8 text. Its first record is the header
 
 and each further record has an id of your own of up to 40 bytes, the name of
 a calendar, and a date in that calendar. Letter case and spaces round the
-names do not matter. How dates are written:
+names do not matter. The calendars, and how their dates are written:
 
-    1945-11-12     gregorian, julian, coptic, ethiopic, egyptian, armenian,
-                   islamic, hebrew, french: year, month, day; or -44-3-15
-    2004-W53-6     iso: year, week, weekday from 1 for Monday
-    12.16.11.16.9  longcount: five numbers
-    1945-11-K3     roman: year, month and name
+    gregorian, iso (2004-W53-6: year, week, weekday from 1 for Monday),
+    julian, coptic, ethiopic, egyptian, armenian, islamic, hebrew,
+    longcount (12.16.11.16.9: five numbers), french,
+    roman (1945-11-K3: year, month and name);
+    where nothing is said, 1945-11-12 or -44-3-15: year, month, day
 
 Gregorian and iso years have a year 0; in julian and roman the year before 1
 is -1; the others begin with year 1. Hebrew month 1 is Nisan. A Roman name is
@@ -50,9 +50,8 @@ the date was converted. Else it has the first reason why it was not:
 Options:
 
     --to LIST         the columns, in the order wanted, separated by commas:
-                      gregorian, iso, julian, coptic, ethiopic, egyptian,
-                      armenian, islamic, hebrew, longcount, french, roman,
-                      haab, tzolkin; or the word none. Without it: all.
+                      calendars, haab, tzolkin; or the word none. Without
+                      it: all, in the order above.
     --delimiter WORD  what stands between two fields, in text and table:
                       comma, semicolon or tab. Without it: comma.
     --sealed          break off where records were lost: the last line is

@@ -7,5 +7,6 @@ mod request_faults;
 mod requests;
 
 pub use help::{HELP, PRINT_FAULT};
+pub use option_values::NO_TARGET;
 pub use request_faults::{MEMORY_FAULT, RequestFault, own_line};
-pub use requests::{Job, MAX_FILES, Request, VERSION, read_request};
+pub use requests::{Job, MAX_FILES, Request, VERSION, command, read_request};

@@ -14,7 +14,7 @@ use register_records::{MAX_RING, MAX_STRIPES};
 use std::alloc::Global;
 
 /// The word that asks for no target.
-const NO_TARGET: &str = "none";
+pub const NO_TARGET: &str = "none";
 
 /// The targets that a list names, in its order: names between commas, each as [`target_named`] reads it,
 /// or the word `none` alone for no target.

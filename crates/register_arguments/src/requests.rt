@@ -96,8 +96,12 @@ fn empty_command<'a>(alloc: Global) -> Command<'a>
         .no_binary_name(true)
 }
 
-/// The command line, as clap reads it.
-fn command<'a>(alloc: Global) -> Result<Command<'a>, AllocError>
+/// The command line, as clap reads it: its options and flags, and the files.
+///
+/// # Errors
+///
+/// Memory ran out.
+pub fn command<'a>(alloc: Global) -> Result<Command<'a>, AllocError>
     ensures { IfOk result (λ c. app_of c ≡ command_line) }
 {
     empty_command(alloc)

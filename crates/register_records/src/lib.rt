@@ -35,7 +35,7 @@ mod writing;
 
 pub use converting::convert;
 pub use ends::{Cause, Note, SourceEnd};
-pub use entries::{Body, Entry};
+pub use entries::{Body, CALENDAR_LIMIT, DATE_LIMIT, Entry, ID_LIMIT, MAX_RECORDS, NOTE_LIMIT};
 pub use outputs::{Output, OutputFault, PlainOutput, send};
 pub use reading::{EntryFault, EntryReader};
 pub use row_lines::LINE_ROOM;

@@ -3,7 +3,9 @@
 use crate::common::{Watch, calls, sample};
 use day_numbers::{ArithmeticCalendar, Ymd};
 use lunar_calendars::{Hebrew, Islamic};
-use solar_calendars::{Armenian, Coptic, Egyptian, Ethiopic, French, Gregorian, IsoWeek, Julian};
+use solar_calendars::{
+    Armenian, Coptic, Egyptian, Ethiopic, French, Gregorian, IsoWeek, Julian, Republican,
+};
 use std::alloc::Global;
 use std::io;
 use std::time::Clock;
@@ -68,6 +70,7 @@ pub(crate) fn measure_calendars<R: Clock + Print>(
     measure(rt, alloc, rounds, "egyptian", &Egyptian)?;
     measure(rt, alloc, rounds, "armenian", &Armenian)?;
     measure(rt, alloc, rounds, "french", &French)?;
+    measure(rt, alloc, rounds, "republican", &Republican)?;
     measure(rt, alloc, rounds, "islamic", &Islamic)?;
     measure(rt, alloc, rounds, "hebrew", &Hebrew)
 }

@@ -17,9 +17,9 @@ use std::{fs, io};
 /// The records of a run without arguments.
 pub(crate) const FEW: u32 = 1_000;
 
-/// The setup with every target, or with none.
+/// The setup with every default target, or with none.
 fn setup(every_target: bool) -> Option<Setup> {
-    let targets: &[Target] = if every_target { &Target::ALL } else { &[] };
+    let targets: &[Target] = if every_target { &Target::DEFAULT } else { &[] };
     Setup::new(targets, 16, b',', 1, Form::Plain).ok()
 }
 

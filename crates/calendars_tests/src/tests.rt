@@ -3,6 +3,7 @@
 mod dates;
 mod days;
 mod examples;
+mod french_years;
 mod maya;
 mod months;
 mod new_years;

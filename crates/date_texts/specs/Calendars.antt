@@ -7,13 +7,14 @@ use Rattle.solar_calendars.specs.Gregorian.{gregorian_rules}
 use Rattle.solar_calendars.specs.IsoWeek.{IsWeekDate, week_day_number}
 use Rattle.solar_calendars.specs.Julian.{julian_rules}
 use Rattle.solar_calendars.specs.ThirteenMonths.{coptic_rules, ethiopic_rules, egyptian_rules, armenian_rules}
-use Rattle.solar_calendars.specs.French.{french_rules}
+use Rattle.solar_calendars.specs.French.{french_rules, republican_rules}
 use Rattle.lunar_calendars.specs.Islamic.{islamic_rules}
 use Rattle.lunar_calendars.specs.Hebrew.{hebrew_rules}
 use Rattle.maya_calendars.specs.Rounds.{epoch as long_count_epoch}
 use Rattle.date_texts.specs.declared.calendar.Calendar.{Calendar}
 use Rattle.date_texts.specs.declared.calendar.Calendar.TheVariants.{Gregorian, Iso, Julian, Coptic, Ethiopic, Egyptian}
 use Rattle.date_texts.specs.declared.calendar.Calendar.TheVariants.{Armenian, Islamic, Hebrew, Longcount, French, Roman}
+use Rattle.date_texts.specs.declared.calendar.Calendar.TheVariants.{Republican}
 use Rattle.date_texts.specs.declared.target.Target.{Target}
 use Rattle.date_texts.specs.declared.grammar.Grammar.{Grammar}
 use Rattle.date_texts.specs.declared.grammar.Grammar.TheVariants as grammars
@@ -40,6 +41,7 @@ known_by Hebrew = (codes "hebrew", by_rules hebrew_rules)
 known_by Longcount = (codes "longcount", by_places)
 known_by French = (codes "french", by_rules french_rules)
 known_by Roman = (codes "roman", by_names)
+known_by Republican = (codes "republican", by_rules republican_rules)
 
 abbrev pub calendar_name : Calendar → List ℕ
 calendar_name calendar = (known_by calendar).0
@@ -52,15 +54,23 @@ target_name (DateTarget calendar) = calendar_name calendar
 target_name Haab = codes "haab"
 target_name Tzolkin = codes "tzolkin"
 
--- every calendar, in the order of the default targets
-abbrev pub all_calendars : List Calendar
-all_calendars =
+-- the calendars whose dates stand in a table by default, in their order
+abbrev pub default_calendars : List Calendar
+default_calendars =
     Gregorian ∷ Iso ∷ Julian ∷ Coptic ∷ Ethiopic ∷ Egyptian ∷ Armenian ∷ Islamic ∷ Hebrew ∷ Longcount ∷ French ∷ Roman
     ∷ []
 
--- the default targets: the dates of every calendar, the haab and the tzolkin
+-- every calendar
+abbrev pub all_calendars : List Calendar
+all_calendars = default_calendars ++ Republican ∷ []
+
+-- what stands in a table by default: the dates of these calendars, the haab and the tzolkin
+abbrev pub default_targets : List Target
+default_targets = map DateTarget default_calendars ++ Haab ∷ Tzolkin ∷ []
+
+-- every target
 abbrev pub all_targets : List Target
-all_targets = map DateTarget all_calendars ++ Haab ∷ Tzolkin ∷ []
+all_targets = default_targets ++ DateTarget Republican ∷ []
 
 -- how the dates of a calendar are written
 abbrev pub grammar : Calendar → Grammar

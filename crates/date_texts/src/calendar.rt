@@ -21,6 +21,7 @@ macro_rules! by_calendar {
             Calendar::Islamic => { let $by = &lunar_calendars::Islamic; $answer }
             Calendar::Hebrew => { let $by = &lunar_calendars::Hebrew; $answer }
             Calendar::French => { let $by = &solar_calendars::French; $answer }
+            Calendar::Republican => { let $by = &solar_calendars::Republican; $answer }
             Calendar::Longcount => $long,
             Calendar::Roman => $roman,
         }
@@ -29,11 +30,12 @@ macro_rules! by_calendar {
 
 pub(crate) use by_calendar;
 
-/// Hands every calendar, in the order of the default targets, to a macro.
+/// Hands every calendar to a macro: those of the default targets, in their order, and those that no default target has.
 macro_rules! every_calendar {
     ($list:ident) => {
         $list![
-            Gregorian, Iso, Julian, Coptic, Ethiopic, Egyptian, Armenian, Islamic, Hebrew, Longcount, French, Roman
+            Gregorian, Iso, Julian, Coptic, Ethiopic, Egyptian, Armenian, Islamic, Hebrew, Longcount, French, Roman;
+            Republican
         ]
     };
 }
@@ -41,7 +43,7 @@ macro_rules! every_calendar {
 pub(crate) use every_calendar;
 
 macro_rules! calendars {
-    ($($calendar:ident),+) => { [$(Calendar::$calendar),+] };
+    ($($calendar:ident),+; $($other:ident),+) => { [$(Calendar::$calendar,)+ $(Calendar::$other),+] };
 }
 
 /// A calendar whose dates are read and written.
@@ -57,17 +59,20 @@ pub enum Calendar {
     Islamic,
     Hebrew,
     Longcount,
+    /// The French calendar by its arithmetic leap rule.
     French,
     /// The Roman names of the days of the Julian calendar.
     Roman,
+    /// The French calendar as it was used.
+    Republican,
 }
 
 impl Calendar {
     ghost use Rattle.date_texts.specs.Calendars.{calendar_name, IsDateBy, day_number_by, grammar as grammar_spec};
     ghost use Rattle.date_texts.specs.Calendars.{reckoning};
 
-    /// Every calendar once, in the order of the default targets.
-    pub const ALL: [Calendar; 12] = every_calendar!(calendars);
+    /// Every calendar once: those of the default targets, in their order, and then `Republican`.
+    pub const ALL: [Calendar; 13] = every_calendar!(calendars);
 
     /// The name in small letters, as registers and the headings of tables have it.
     pub fn name(&self) -> &'static str
@@ -86,6 +91,7 @@ impl Calendar {
             Calendar::Longcount => "longcount",
             Calendar::French => "french",
             Calendar::Roman => "roman",
+            Calendar::Republican => "republican",
         }
     }
 

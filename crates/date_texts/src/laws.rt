@@ -3,9 +3,10 @@
 ghost use Rattle.std.specs.Prelude.{◌≡◌};
 ghost use Rattle.day_numbers.specs.Days.{IsSinceFirstDay};
 ghost use Rattle.date_texts.specs.declared.date.Date.{Date};
-ghost use Rattle.date_texts.specs.declared.target.TheConstants.Target.{ALL};
+ghost use Rattle.date_texts.specs.declared.target.TheConstants.Target.{ALL, DEFAULT};
 ghost use Rattle.date_texts.specs.declared.calendar.TheConstants.Calendar.{ALL as EVERY_CALENDAR};
-ghost use Rattle.date_texts.specs.Calendars.{all_calendars, all_targets, first_day_by, reckoning};
+ghost use Rattle.date_texts.specs.Calendars.{all_calendars, all_targets, default_targets, first_day_by};
+ghost use Rattle.date_texts.specs.Calendars.{reckoning};
 ghost use Rattle.date_texts.specs.Dates.{IsDateOfCalendar, calendar_of_date, day_number_of_date};
 ghost use Rattle.date_texts.specs.Laws.{CanonicalTextsReadBack, CellsArePlain, CellsAreShort, FewTargets, OneCalendar};
 ghost use Rattle.date_texts.specs.Laws.{OneCell, OneDateText, OneTarget};
@@ -82,12 +83,18 @@ pub fn few_targets()
     ensures { FewTargets }
 {}
 
-/// `Target::ALL` has every calendar in order, the haab and the tzolkin.
-pub fn default_targets()
+/// `Target::ALL` has every target: the default ones in their order, and then the French calendar as it was used.
+pub fn all_targets()
     ensures { ALL ≡ all_targets }
 {}
 
-/// `Calendar::ALL` has every calendar, in the order of the default targets.
+/// `Target::DEFAULT` has the default targets in their order.
+pub fn default_targets()
+    ensures { DEFAULT ≡ default_targets }
+{}
+
+/// `Calendar::ALL` has every calendar: those of the default targets, in their order, and then the French one as it was
+/// used.
 pub fn all_calendars()
     ensures { EVERY_CALENDAR ≡ all_calendars }
 {}

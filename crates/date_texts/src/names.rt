@@ -17,7 +17,7 @@ fn target_spelled(name: &[u8]) -> Option<Target>
     let [first, .., last] = name else {
         return None;
     };
-    // These two letters leave one target, whose name is then compared.
+    // These two letters, or else the length, leave one target, whose name is then compared.
     let target = match (*first, *last) {
         (b'g', _) => Target::Date(Calendar::Gregorian),
         (b'i', b'o') => Target::Date(Calendar::Iso),
@@ -30,7 +30,8 @@ fn target_spelled(name: &[u8]) -> Option<Target>
         (b'h', b'w') => Target::Date(Calendar::Hebrew),
         (b'l', _) => Target::Date(Calendar::Longcount),
         (b'f', _) => Target::Date(Calendar::French),
-        (b'r', _) => Target::Date(Calendar::Roman),
+        (b'r', _) if name.len() == 5 => Target::Date(Calendar::Roman),
+        (b'r', _) => Target::Date(Calendar::Republican),
         (b'h', _) => Target::Haab,
         (b't', _) => Target::Tzolkin,
         _ => return None,

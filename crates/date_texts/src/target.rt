@@ -5,7 +5,15 @@ ghost use Rattle.std.specs.Prelude.{◌≡◌};
 use crate::calendar::{Calendar, every_calendar};
 
 macro_rules! targets {
-    ($($calendar:ident),+) => { [$(Target::Date(Calendar::$calendar),)+ Target::Haab, Target::Tzolkin] };
+    ($($calendar:ident),+; $($other:ident),+) => {
+        [$(Target::Date(Calendar::$calendar),)+ Target::Haab, Target::Tzolkin, $(Target::Date(Calendar::$other)),+]
+    };
+}
+
+macro_rules! default_targets {
+    ($($calendar:ident),+; $($other:ident),+) => {
+        [$(Target::Date(Calendar::$calendar),)+ Target::Haab, Target::Tzolkin]
+    };
 }
 
 /// How many targets there are, and so the most that a list can name without naming one twice.
@@ -22,9 +30,13 @@ pub enum Target {
 impl Target {
     ghost use Rattle.date_texts.specs.Calendars.{target_name};
 
-    /// Every target once, in the order in which a table has them by default: the calendars, the haab and
-    /// the tzolkin.
+    /// Every target once: those that a table has by default, in their order, and then the French calendar as it was
+    /// used.
     pub const ALL: [Target; MAX_TARGETS] = every_calendar!(targets);
+
+    /// The targets that a table has by default, in their order: every calendar but the French one as it was used, the
+    /// haab and the tzolkin.
+    pub const DEFAULT: [Target; MAX_TARGETS - 1] = every_calendar!(default_targets);
 
     /// The name in small letters, which heads the target's column.
     pub fn name(&self) -> &'static str

@@ -57,6 +57,9 @@ longcount|0.0.0.9999.0|0.0.0.9999.0|none
 longcount|9999.9999.9999.9999.9999|9999.9999.9999.9999.9999|none
 french|4000-13-6|4000-13-06|none
 french|4-13-6|0004-13-06|655875
+republican|8-2-18|0008-02-18|657019
+republican|3-13-6|0003-13-06|655510
+republican|4-13-6|0004-13-06|none
 roman|0801-01-K8|0801-01-K8|292192
 roman|-44-03-i1|-0044-03-I1|-15999
 roman|-1-3-k6b|-0001-03-K6B|-312
@@ -115,7 +118,7 @@ fn date_texts_name_days(rt: HostRuntime) {
 /// Texts, and after a bar the names of the calendars that read them, if any does. Most are near those that are read: of
 /// years, months and days, of weeks, of long counts and of Roman names.
 static READERS: &str = "\
-1945-11-12|gregorian julian coptic ethiopic egyptian armenian islamic hebrew french;\
+1945-11-12|gregorian julian coptic ethiopic egyptian armenian islamic hebrew french republican;\
 1945-W11-2|iso;1.9.4.5.11|longcount;1945-11-K2|roman;\
  01945-011-12;100000-01-01;100000-W01-1;000001-01-01;+1945-11-12;-;--1-1-1;1945;1945-11;1945-11-;\
 1945--12;-11-12;1945-11-12-;1945-11-123;1945 -11-12;1945- 11-12;1945/11/12;\u{660}1-1-1;\
@@ -164,6 +167,7 @@ hebrew|hebrew
 longcount|longcount
 french|french
 roman|roman
+republican|republican
 haab|haab
 tzolkin|tzolkin
  Gregorian\t|gregorian
@@ -173,11 +177,14 @@ ISO|iso
  hAAb |haab
 TZOLKIN\t|tzolkin
 ROMAN |roman
+\tRepublican|republican
 julian calendar|none
 jul ian|none
 long count|none
 mayan|none
 romans|none
+republicain|none
+repub|none
 julia|none
 \u{a0}julian|none
 \u{212a}ulian|none
@@ -205,37 +212,37 @@ fn targets_have_names(rt: HostRuntime) {
     }
 }
 
-/// A day number and the cells of its day in all fourteen targets: one day, and the day 0.0.0.0.0 and the day before
+/// A day number and the cells of its day in all fifteen targets: one day, and the day 0.0.0.0.0 and the day before
 /// it, on which some calendars have no date yet.
 ///
 /// After them stand days as another program has them: the calendar of GNU Emacs, for the Egyptian and Armenian columns
-/// a division of the days since the epoch by 365, and for the Roman column a table of the days of a month, looked up at
-/// the Julian date.
+/// a division of the days since the epoch by 365, for the Roman column a table of the days of a month, looked up at the
+/// Julian date, and for the last column a count of years of 365 and 366 days.
 static CELLS: &str = "\
 710347,1945-11-12,1945-W46-1,1945-10-30,1662-03-03,1938-03-03,2694-07-10,1395-04-05,\
-1364-12-06,5706-09-07,12.16.11.16.9,0154-02-21,1945-11-K3,7 Zac,11 Muluc
+1364-12-06,5706-09-07,12.16.11.16.9,0154-02-21,1945-11-K3,7 Zac,11 Muluc,0154-02-20
 -1137142,-3113-08-11,-3113-W33-1,-3114-09-06,,,,,\
-,0647-06-11,0.0.0.0.0,,-3114-09-I8,8 Cumku,4 Ahau
+,0647-06-11,0.0.0.0.0,,-3114-09-I8,8 Cumku,4 Ahau,
 -1137143,-3113-08-10,-3113-W32-7,-3114-09-05,,,,,\
-,0647-06-10,,,-3114-09-N1,7 Cumku,3 Cauac
+,0647-06-10,,,-3114-09-N1,7 Cumku,3 Cauac,
 227015,0622-07-19,0622-W29-5,0622-07-16,0338-11-22,0614-11-22,1370-04-28,0071-01-23,\
-0001-01-01,4382-05-03,9.9.9.5.17,,0622-08-K17,15 Yaxkin,6 Caban
+0001-01-01,4382-05-03,9.9.9.5.17,,0622-08-K17,15 Yaxkin,6 Caban,
 334455,0916-09-15,0916-W38-2,0916-09-10,0633-01-13,0909-01-13,1664-09-08,0365-06-03,\
-0304-03-09,4677-07-11,10.4.7.13.17,,0916-09-I4,5 Kankin,1 Caban
+0304-03-09,4677-07-11,10.4.7.13.17,,0916-09-I4,5 Kankin,1 Caban,
 456789,1251-08-24,1251-W34-4,1251-08-17,0967-12-24,1243-12-24,1999-11-07,0700-08-02,\
-0649-05-27,5011-05-28,11.1.7.10.11,,1251-09-K16,4 Kayab,5 Chuen
+0649-05-27,5011-05-28,11.1.7.10.11,,1251-09-K16,4 Kayab,5 Chuen,
 601716,1648-06-10,1648-W24-3,1648-05-31,1364-10-06,1640-10-06,2396-11-29,1097-08-24,\
-1058-05-18,5408-03-20,12.1.10.2.18,,1648-06-K2,6 Cumku,8 Etznab
+1058-05-18,5408-03-20,12.1.10.2.18,,1648-06-K2,6 Cumku,8 Etznab,
 654415,1792-09-22,1792-W38-6,1792-09-11,1509-01-14,1785-01-14,2541-04-13,1242-01-08,\
-1207-02-05,5553-07-06,12.8.16.9.17,0001-01-01,1792-09-I3,0 Yaxkin,5 Caban
+1207-02-05,5553-07-06,12.8.16.9.17,0001-01-01,1792-09-I3,0 Yaxkin,5 Caban,0001-01-01
 693596,1900-01-01,1900-W01-1,1899-12-20,1616-04-23,1892-04-23,2648-08-19,1349-05-14,\
-1317-08-28,5660-11-01,12.14.5.6.18,0108-04-12,1900-01-K13,6 Mac,4 Etznab
+1317-08-28,5660-11-01,12.14.5.6.18,0108-04-12,1900-01-K13,6 Mac,4 Etznab,0108-04-10
 737000,2018-11-02,2018-W44-5,2018-10-20,1735-02-23,2011-02-23,2767-07-18,1468-04-13,\
-1440-02-22,5779-08-24,13.0.5.17.2,0227-02-12,2018-11-K13,15 Zac,1 Ik
+1440-02-22,5779-08-24,13.0.5.17.2,0227-02-12,2018-11-K13,15 Zac,1 Ik,0227-02-10
 764652,2094-07-18,2094-W28-7,2094-07-05,1810-11-11,2086-11-11,2843-04-20,1544-01-15,\
-1518-03-05,5854-05-05,13.4.2.13.14,0302-11-01,2094-07-N3,7 Yaxkin,2 Ix
+1518-03-05,5854-05-05,13.4.2.13.14,0302-11-01,2094-07-N3,7 Yaxkin,2 Ix,0302-10-28
 1000000,2738-11-28,2738-W48-1,2738-11-09,2455-03-13,2731-03-13,3488-02-03,2188-11-03,\
-2182-04-23,6499-08-24,14.16.16.9.2,0947-03-07,2738-11-I5,10 Zip,11 Ik
+2182-04-23,6499-08-24,14.16.16.9.2,0947-03-07,2738-11-I5,10 Zip,11 Ik,0947-02-30
 ";
 
 /// The day of a number.
@@ -291,6 +298,7 @@ islamic,227015,0001-01-01
 hebrew,-1373427,0001-07-01
 longcount,-1137142,0.0.0.0.0
 french,654415,0001-01-01
+republican,654415,0001-01-01
 ";
 
 /// The same of known days of the calendars that have no first day, among them the ends of the range.

@@ -8,7 +8,7 @@ use Rattle.std.proofs.lemmas.Option.{slice_get-get_or}
 use Rattle.std.specs.Str.{bytes_eq}
 use Rattle.std.proofs.lemmas.Slice.Eq.{bytes_eq-Decides}
 use Rattle.date_texts.specs.declared.target.Target.TheVariants.{Haab}
-use Rattle.date_texts.specs.Calendars.{all_targets, target_name}
+use Rattle.date_texts.specs.Calendars.{default_targets, target_name}
 use Rattle.date_texts.specs.declared.target.Target.{Target}
 use Rattle.register_records.specs.SetupRules.{NamesTwice, is_delimiter, is_ring_size, is_stripe_count}
 use Rattle.register_records.specs.declared.setups.Setup.{Setup}
@@ -17,18 +17,18 @@ use Rattle.register_records.specs.declared.setups.SetupFault.TheVariants.{Target
 use Rattle.register_arguments.proofs.NameLemmas.{never_twice}
 use Rattle.register_arguments.specs.Requests.{AreTargetsOf}
 
-names_distinct : IsDistinct bytes_eq (map target_name all_targets)
+names_distinct : IsDistinct bytes_eq (map target_name default_targets)
 unfolding IsDistinct
 names_distinct = search rules
 
-default_once : ¬ NamesTwice all_targets
+default_once : ¬ NamesTwice default_targets
 default_once (i, j, lt, high, same) =
-    let low : i < length all_targets = omega arith in
-    let is : get_or all_targets i Haab ≡ get_or all_targets j Haab =
-    cc (slice_get-get_or all_targets i Haab low, slice_get-get_or all_targets j Haab high) in
-    AllPairs-from_IsDistinct bytes_eq-Decides (map target_name all_targets) names_distinct i j [] lt high
-    (get_or-map target_name all_targets i Haab [] low ∙ ap target_name is
-    ∙ sym (get_or-map target_name all_targets j Haab [] high))
+    let low : i < length default_targets = omega arith in
+    let is : get_or default_targets i Haab ≡ get_or default_targets j Haab =
+    cc (slice_get-get_or default_targets i Haab low, slice_get-get_or default_targets j Haab high) in
+    AllPairs-from_IsDistinct bytes_eq-Decides (map target_name default_targets) names_distinct i j [] lt high
+    (get_or-map target_name default_targets i Haab [] low ∙ ap target_name is
+    ∙ sym (get_or-map target_name default_targets j Haab [] high))
 
 -- the targets asked for are each named once
 pub asked_once : (value : Option (List ℕ)) (targets : List Target) → AreTargetsOf value targets → ¬ NamesTwice targets

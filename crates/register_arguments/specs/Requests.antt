@@ -4,7 +4,7 @@ use Rattle.std.specs.Prelude.{Contains, if◌then◌else◌, Option, Some, None,
 use Rattle.clap.specs.Words.{IsAmong, Text, fault_of}
 use Rattle.clap.specs.declared.error.kind.ErrorKind.{ErrorKind}
 use Rattle.clap.specs.declared.error.kind.ErrorKind.TheVariants.{DisplayHelp, DisplayVersion}
-use Rattle.date_texts.specs.Calendars.{all_targets}
+use Rattle.date_texts.specs.Calendars.{default_targets}
 use Rattle.date_texts.specs.declared.target.Target.{Target}
 use Rattle.register_records.specs.Tables.{Layout}
 use Rattle.register_records.specs.Views.{layout_of}
@@ -27,9 +27,9 @@ pub record Task : Type 0 where
   pub summary : Bool
   pub files : List Text
 
--- these are the targets that the option asks for; without it, all targets in the default order
+-- these are the targets that the option asks for; without it, the default targets in their order
 abbrev pub AreTargetsOf : Option Text → List Target → Type 0
-AreTargetsOf None targets = targets ≡ all_targets
+AreTargetsOf None targets = targets ≡ default_targets
 AreTargetsOf (Some list) targets = AsksForTargets list targets
 
 -- the file stands at a place of the list, and at an earlier place too

@@ -25,7 +25,7 @@ use std::alloc::{AllocError, Global};
 pub const MAX_FILES: usize = 32;
 
 /// The version of the program.
-pub const VERSION: &str = "1.1.0";
+pub const VERSION: &str = "1.2.0";
 
 /// A conversion that the arguments ask for.
 #[derive(Drop)]
@@ -183,7 +183,7 @@ fn read_options<'a>(alloc: Global, arguments: &'a [String]) -> Result<Options<'a
     Ok(options)
 }
 
-/// The targets that the value of `--to` asks for, or all of them where there is none.
+/// The targets that the value of `--to` asks for, or the default ones where there is none.
 fn chosen_targets<'a>(alloc: Global, list: Option<&'a str>) -> Result<Vec<Target>, RequestFault<'a>>
     ensures value { IfOk result (λ targets. AreTargetsOf (option_map (λ l. l.now) list.entry) targets.items) }
     ensures fault { IfErr result (λ error. IfSome (fault_of_error error)
@@ -193,7 +193,7 @@ fn chosen_targets<'a>(alloc: Global, list: Option<&'a str>) -> Result<Vec<Target
         Some(list) => read_targets(alloc, list),
         None => {
             default_targets();
-            match Target::ALL.to_vec(alloc) {
+            match Target::DEFAULT.to_vec(alloc) {
                 Ok(targets) => Ok(targets),
                 Err(_) => Err(RequestFault::OutOfMemory),
             }

@@ -8,7 +8,7 @@ ghost use Rattle.register_records.specs.Views.{layout_of};
 ghost use Rattle.register_page.specs.Requests.{form_by, goes_beyond, layout_by, targets_at};
 ghost use Rattle.register_page.specs.declared.requests.TheConstants.{TOO_MANY};
 
-use date_texts::laws::{default_targets, few_targets};
+use date_texts::laws::{all_targets as every_target, few_targets};
 use date_texts::{MAX_TARGETS, Target};
 use register_records::{Form, Setup, SetupFault};
 
@@ -57,7 +57,7 @@ fn target_at(column: u8) -> Target
     requires { column < MAX_TARGETS }
     ensures { result ≡ get_or all_targets column Target.Tzolkin }
 {
-    default_targets();
+    every_target();
     Target::ALL[column as usize]
 }
 

@@ -74,6 +74,21 @@ fn a_register_fills_the_front_of_the_room(rt: HostRuntime) -> Result<(), Fail> {
     Ok(())
 }
 
+const EVERY_COLUMN: &str =
+    "row,id,calendar,date,rd,weekday,gregorian,iso,julian,coptic,ethiopic,egyptian,armenian,\
+islamic,hebrew,longcount,french,roman,haab,tzolkin,republican,refusal\n";
+
+#[test]
+fn each_column_has_its_place(rt: HostRuntime) -> Result<(), Fail> {
+    let columns = [0, 1, 2, 3, 4, 5, 6, 7, 8, 9, 10, 11, 12, 13, 14];
+    let register = b"id,calendar,date\n";
+    let mut room = [b'#'; 400];
+    let converted = convert_text(rt.alloc(), register, &columns, b',', false, &mut room)?;
+    let length = converted.length;
+    assert!(rt; length <= 400 && &room[..length] == EVERY_COLUMN.as_bytes());
+    Ok(())
+}
+
 #[test]
 fn a_room_that_is_too_small_stays_as_it_was(rt: HostRuntime) -> Result<(), Fail> {
     let mut room = [b'#'; 100];
@@ -94,13 +109,13 @@ fn a_room_that_is_too_small_stays_as_it_was(rt: HostRuntime) -> Result<(), Fail>
 
 #[test]
 fn what_cannot_be_asked_is_a_fault(rt: HostRuntime) -> Result<(), Fail> {
-    let all = [0, 1, 2, 3, 4, 5, 6, 7, 8, 9, 10, 11, 12, 13, 0];
+    let all = [0, 1, 2, 3, 4, 5, 6, 7, 8, 9, 10, 11, 12, 13, 14, 0];
     let cases: [(&[u8], u8, Option<Fault>); 7] = [
-        (&all[..14], b',', None),
+        (&all[..15], b',', None),
         (&all[..0], b'\t', None),
         (&all, b',', Some(Fault::ColumnTwice)),
         (&[3, 2, 3], b',', Some(Fault::ColumnTwice)),
-        (&[3, 14, 3], b'|', Some(Fault::NoSuchColumn)),
+        (&[3, 15, 3], b'|', Some(Fault::NoSuchColumn)),
         (&[3, 2, 3], b'|', Some(Fault::ColumnTwice)),
         (&[3, 2], b'|', Some(Fault::Delimiter)),
     ];

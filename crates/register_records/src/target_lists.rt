@@ -8,7 +8,7 @@ ghost use Rattle.register_records.specs.declared.target_lists.TheConstants.{RANK
 ghost use Rattle.register_records.specs.TargetRanks.{rank_of, ranks_in};
 
 use crate::short_lists::ShortList;
-use date_texts::laws::default_targets;
+use date_texts::laws::all_targets;
 use date_texts::{MAX_TARGETS, Target};
 
 /// The bytes of a word: so many ranks are compared at once.
@@ -81,7 +81,7 @@ fn word(bytes: &[u8]) -> u64
 fn rank(target: Target) -> u8
     ensures { result ≡ rank_of target }
 {
-    default_targets();
+    all_targets();
     'ranks: for i in 0..MAX_TARGETS {
         if Target::ALL[i].name() == target.name() {
             return i as u8 + 1;

@@ -25,7 +25,11 @@ const ISLAMIC: Target = Target::Date(Calendar::Islamic);
 
 const LONGCOUNT: Target = Target::Date(Calendar::Longcount);
 
+const FRENCH: Target = Target::Date(Calendar::French);
+
 const ROMAN: Target = Target::Date(Calendar::Roman);
+
+const REPUBLICAN: Target = Target::Date(Calendar::Republican);
 
 /// The setup of plain registers for these targets, with rings of one and a comma. Nothing is promised of it, nor of the
 /// functions below that call others of the crate, so that a test is proved without all that is proved of these.

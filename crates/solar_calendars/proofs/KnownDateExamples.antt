@@ -7,7 +7,7 @@ use Rattle.solar_calendars.specs.IsoWeek.{week_year_start, week_day_number}
 use Rattle.solar_calendars.specs.ThirteenMonths.{coptic_rules, ethiopic_rules, egyptian_rules, armenian_rules}
 use Rattle.solar_calendars.specs.Roman.{roman_day_number}
 use Rattle.solar_calendars.specs.declared.roman_date.RomanName.TheVariants.{Kalends, SecondSixth}
-use Rattle.solar_calendars.specs.French.{french_rules}
+use Rattle.solar_calendars.specs.French.{french_rules, republican_rules}
 
 -- 29 February of year 0, and the day of the Ethiopic epoch
 gregorian_days : (day_number_of gregorian_rules (pos 0) 2 29 ≡ neg_ℤ (pos 306))
@@ -38,10 +38,11 @@ thirteen_month_days : (day_number_of coptic_rules (pos 3) 13 6 ≡ pos 104_700)
     × (day_number_of egyptian_rules (pos 1) 13 5 ≡ neg_ℤ (pos 272_423))
     × (day_number_of armenian_rules (pos 1) 13 5 ≡ pos 201_807)
     × (day_number_of french_rules (pos 4) 13 6 ≡ pos 655_875)
+    × (day_number_of republican_rules (pos 3) 13 6 ≡ pos 655_510)
 unfolding start_of_year days_of_years
-thirteen_month_days = (refl, refl, refl, refl, refl)
+thirteen_month_days = (refl, refl, refl, refl, refl, refl)
 
 -- there is no year 0, and these years are common
 no_dates : ¬ (IsDateOf julian_rules (pos 0) 1 1) × ¬ (IsDateOf coptic_rules (pos 4) 13 6)
-    × ¬ (IsDateOf french_rules (pos 4_000) 13 6)
-no_dates = (λ h. h.0, λ h. omega (arith, h.2), λ h. omega (arith, h.2))
+    × ¬ (IsDateOf french_rules (pos 4_000) 13 6) × ¬ (IsDateOf republican_rules (pos 4) 13 6)
+no_dates = (λ h. h.0, λ h. omega (arith, h.2), λ h. omega (arith, h.2), λ h. omega (arith, h.2))

@@ -1,5 +1,6 @@
 -- Which file serves which public clause:
---   ThirteenMonthsLemmas: `day_of` and `date_on` of Coptic, Ethiopic, Egyptian and Armenian, by the starts of years.
+--   ThirteenMonthsLemmas: `day_of` and `date_on` of Coptic, Ethiopic, Egyptian, Armenian and Republican, by the starts of
+--     years.
 --   CenturyLemmas: years by their centuries; for IsoWeek and French.
 --   FrenchLemmas: the same of French, upon ThirteenMonthsLemmas.
 --   GregorianLemmas: `day_of` and `date_on` of Gregorian, by `jiff` and by the rules.

@@ -1,5 +1,5 @@
-//! Calendars of the sun: Gregorian, ISO week, Julian, Coptic, Ethiopic, Egyptian, Armenian and French, and the Roman
-//! names of the days of the Julian calendar.
+//! Calendars of the sun: Gregorian, ISO week, Julian, Coptic, Ethiopic, Egyptian, Armenian, French and Republican, and
+//! the Roman names of the days of the Julian calendar.
 //!
 //! Each calendar is a unit type with [`day_numbers::ArithmeticCalendar`], by the rules of Reingold and
 //! Dershowitz, *Calendrical Calculations*, and for the week date of ISO 8601. The Gregorian calendar is
@@ -23,4 +23,4 @@ pub use iso_week::IsoWeek;
 pub use julian::Julian;
 pub use roman::{roman_day_of, roman_on};
 pub use roman_date::{RomanDate, RomanName};
-pub use thirteen_months::{Armenian, Coptic, Egyptian, Ethiopic, French};
+pub use thirteen_months::{Armenian, Coptic, Egyptian, Ethiopic, French, Republican};

@@ -5,7 +5,7 @@
 ghost use Rattle.std.specs.Prelude.{◌≡◌, ◌≤◌, ◌<◌, ◌+◌, Bool, false, ℤ, pos, IsTrue, length};
 ghost use Rattle.day_numbers.specs.Rules.{days_of_years as days_of, total_days, are_months};
 ghost use Rattle.day_numbers.proofs.DateLemmas.{rules_one_to_one};
-ghost use Rattle.solar_calendars.specs.French.{french_rules};
+ghost use Rattle.solar_calendars.specs.French.{french_rules, republican_rules};
 ghost use Rattle.solar_calendars.specs.ThirteenMonths.{thirteen_months as thirteen_months_of, is_third_of_four};
 ghost use Rattle.solar_calendars.specs.ThirteenMonths.{coptic_rules, ethiopic_rules, egyptian_rules, armenian_rules};
 
@@ -228,4 +228,27 @@ impl FromYearOne for French {
 
 impl CalendarByRules for French {
     ghost one_to_one = { rules_one_to_one french_rules };
+}
+
+/// The French Republican calendar as it was used, from 22 September 1792 to 31 December 1805 of the Gregorian calendar
+/// (the decree of 4 Frimaire of year 2, and the tables of concordance).
+///
+/// Its epoch, 1 Vendémiaire of year 1, is R.D. 654415, as that of [`French`]; its months and leap years are those of
+/// [`Coptic`]: a year, from 1 on, is a leap year where its remainder by 4 is 3. So the years in use, 1 to 14, have leap
+/// days in 3, 7 and 11, where [`French`] has them in 4, 8 and 12. Later years count on by the same rule.
+#[derive(Clone, Copy, Debug)]
+pub struct Republican;
+
+impl FromYearOne for Republican {
+    type Years = ThirteenMonths<ThirdOfFour>;
+
+    ghost epoch_day = { republican_rules.epoch };
+
+    fn epoch(&self) -> i64 {
+        654_415
+    }
+}
+
+impl CalendarByRules for Republican {
+    ghost one_to_one = { rules_one_to_one republican_rules };
 }

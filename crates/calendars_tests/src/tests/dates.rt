@@ -7,7 +7,9 @@
 use super::table::{answer, numbers};
 use day_numbers::{ArithmeticCalendar, DateFault, Day, Ymd};
 use lunar_calendars::{Hebrew, Islamic};
-use solar_calendars::{Armenian, Coptic, Egyptian, Ethiopic, French, Gregorian, IsoWeek, Julian};
+use solar_calendars::{
+    Armenian, Coptic, Egyptian, Ethiopic, French, Gregorian, IsoWeek, Julian, Republican,
+};
 use std::process::Abort;
 
 static GREGORIAN: &str = "\
@@ -249,6 +251,52 @@ static FRENCH: &str = "\
 99999 13 5 out
 ";
 
+/// The first day of each year in use, 22 to 24 September of the Gregorian years 1792 to 1805, and the leap days, by the
+/// tables of concordance; 22 Prairial and 9 Thermidor of year 2, 13 Vendémiaire of year 4, 18 Fructidor of year 5, 18
+/// Brumaire of year 8, and 10 Nivôse of year 14, the last day in use; the last day in range; and what lies beside them.
+static REPUBLICAN: &str = "\
+1 1 1 654415
+2 1 1 654780
+3 1 1 655145
+4 1 1 655511
+5 1 1 655876
+6 1 1 656241
+7 1 1 656606
+8 1 1 656972
+9 1 1 657337
+10 1 1 657702
+11 1 1 658067
+12 1 1 658433
+13 1 1 658798
+14 1 1 659163
+3 13 6 655510
+7 13 6 656971
+11 13 6 658432
+2 9 22 655041
+2 11 9 655088
+4 1 13 655523
+5 12 18 656223
+8 2 18 657019
+14 4 10 659262
+8208 2 8 3652059
+4 13 6 none
+8 13 6 none
+12 13 6 none
+3 13 7 none
+3 14 1 none
+3 0 1 none
+3 12 31 none
+3 1 0 none
+8208 2 9 out
+99999 1 1 out
+99999 13 6 out
+0 1 1 none
+-1 1 1 none
+-99999 1 1 none
+99999 1 31 none
+99998 13 6 none
+";
+
 /// The first day, a leap day, a day of 1945, the first days of the last years, and the last day in range; and what
 /// lies beside them.
 static ISLAMIC: &str = "\
@@ -375,6 +423,7 @@ fn known_dates(rt: HostRuntime) {
     check_from_epoch(&rt, &Egyptian, -272_787, EGYPTIAN);
     check_from_epoch(&rt, &Armenian, 201_443, ARMENIAN);
     check_from_epoch(&rt, &French, 654_415, FRENCH);
+    check_from_epoch(&rt, &Republican, 654_415, REPUBLICAN);
     check_from_epoch(&rt, &Islamic, 227_015, ISLAMIC);
     check_from_epoch(&rt, &Hebrew, -1_373_427, HEBREW);
 }

@@ -5,7 +5,9 @@
 use super::dates::has_answer;
 use day_numbers::{ArithmeticCalendar, DateFault};
 use lunar_calendars::{Hebrew, Islamic, hebrew_year_length};
-use solar_calendars::{Armenian, Coptic, Egyptian, Ethiopic, French, Gregorian, IsoWeek, Julian};
+use solar_calendars::{
+    Armenian, Coptic, Egyptian, Ethiopic, French, Gregorian, IsoWeek, Julian, Republican,
+};
 use std::process::Abort;
 
 /// There is no such date.
@@ -109,6 +111,12 @@ impl MonthLengths for French {
             _ => year % 4 == 0,
         };
         thirteen(year, leap)
+    }
+}
+
+impl MonthLengths for Republican {
+    fn lengths(&self, year: i32) -> &'static [u8] {
+        thirteen(year, year % 4 == 3)
     }
 }
 
@@ -227,6 +235,7 @@ fn months_follow_each_other(rt: HostRuntime) {
     walk(&rt, &Egyptian, 1, -272_787, (-2, 820));
     walk(&rt, &Armenian, 1, 201_443, (-2, 820));
     walk(&rt, &French, 1, 654_415, (-2, 8_100));
+    walk(&rt, &Republican, 1, 654_415, (-2, 820));
     walk(&rt, &Islamic, 1, 227_015, (-2, 600));
     walk(&rt, &Hebrew, 7, -1_373_427, (-2, 600));
 }

@@ -300,8 +300,8 @@ fn standard_error_that_breaks_changes_neither_status_nor_tables(rt: HostRuntime)
 const PAGES: [(&str, &str); 4] = [
     ("--help", HELP),
     ("-h", HELP),
-    ("--version", "register 1.1.0\n"),
-    ("-V", "register 1.1.0\n"),
+    ("--version", "register 1.2.0\n"),
+    ("-V", "register 1.2.0\n"),
 ];
 
 const CANNOT_PRINT: &[u8] = b"register: cannot write to standard output\n";
@@ -471,7 +471,7 @@ fn is_page_of_any_memory(
 // The same of a page.
 #[test]
 fn a_page_that_is_refused_memory_is_reported(rt: HostRuntime) {
-    for (argument, page) in [("--help", HELP), ("--version", "register 1.1.0\n")] {
+    for (argument, page) in [("--help", HELP), ("--version", "register 1.2.0\n")] {
         assert!(rt;
             is_page_of_any_memory(&rt, rt.alloc(), argument, page),
             "{argument}"

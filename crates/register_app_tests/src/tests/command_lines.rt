@@ -9,8 +9,8 @@ use std::time::{Clock, CpuClock};
 /// The text that the command lines are run on.
 const TEXT: &[u8] = b"id,calendar,date\nb,julian,1582-10-05\n";
 
-/// Its table with every target.
-const EVERY_TARGET: &[u8] = b"\
+/// Its table with the default targets.
+const DEFAULT_TARGETS: &[u8] = b"\
     row,id,calendar,date,rd,weekday,\
     gregorian,iso,julian,coptic,ethiopic,egyptian,armenian,\
     islamic,hebrew,longcount,french,roman,haab,tzolkin,refusal\n\
@@ -19,7 +19,7 @@ const EVERY_TARGET: &[u8] = b"\
     0990-09-17,5343-07-19,11.18.3.9.18,,1582-10-N3,11 Tzec,13 Etznab,\n";
 
 /// The page of the version.
-const VERSION: &[u8] = b"register 1.1.0\n";
+const VERSION: &[u8] = b"register 1.2.0\n";
 
 /// A command line that is taken.
 const TAKEN: TextCase = TextCase {
@@ -33,10 +33,10 @@ const TAKEN: TextCase = TextCase {
 /// A command line that is refused.
 const REFUSED: TextCase = TextCase { status: 2, ..TAKEN };
 
-const LINES: [TextCase; 23] = [
-    // Every target, in the default order.
+const LINES: [TextCase; 24] = [
+    // The default targets in their order.
     TextCase {
-        output: EVERY_TARGET,
+        output: DEFAULT_TARGETS,
         ..TAKEN
     },
     TextCase {
@@ -44,7 +44,17 @@ const LINES: [TextCase; 23] = [
             "--to",
             "gregorian,iso,julian,coptic,ethiopic,egyptian,armenian,islamic,hebrew,longcount,french,roman,haab,tzolkin",
         ],
-        output: EVERY_TARGET,
+        output: DEFAULT_TARGETS,
+        ..TAKEN
+    },
+    // A target that is none of them.
+    TextCase {
+        arguments: &["--to", "republican"],
+        input: b"id,calendar,date\na,republican,8-2-18\nb,French,8-2-18\n",
+        output: b"\
+            row,id,calendar,date,rd,weekday,republican,refusal\n\
+            1,a,republican,8-2-18,657019,Saturday,0008-02-18,\n\
+            2,b,French,8-2-18,657018,Friday,0008-02-17,\n",
         ..TAKEN
     },
     // The targets that are named, in their order, in either letter case and with blanks.

@@ -232,7 +232,7 @@ const LONG_FIELDS: [&str; 3] = [
 static LONG_ROW: &str =
     "    gregorian   ,            1945-11-12          ,710347,Monday,1945-11-12,\
 1945-W46-1,1945-10-30,1662-03-03,1938-03-03,2694-07-10,1395-04-05,1364-12-06,\
-5706-09-07,12.16.11.16.9,0154-02-21,1945-11-K3,7 Zac,11 Muluc,\n";
+5706-09-07,12.16.11.16.9,0154-02-21,1945-11-K3,7 Zac,11 Muluc,0154-02-20,\n";
 
 #[test]
 fn the_longest_fields_and_the_last_number_fit_a_row(rt: HostRuntime) -> Result<(), Fail> {

@@ -1,6 +1,8 @@
 //! Texts and the tables that they become.
 
-use super::{GREGORIAN, ISLAMIC, ISO, JULIAN, LONGCOUNT, ROMAN, cause_of, converted};
+use super::{
+    FRENCH, GREGORIAN, ISLAMIC, ISO, JULIAN, LONGCOUNT, REPUBLICAN, ROMAN, cause_of, converted,
+};
 use date_texts::Target;
 use register_records::{Form, Note, Setup, SourceEnd};
 use std::alloc::{AllocError, Global};
@@ -16,7 +18,7 @@ struct Case {
     notes: &'static str,
 }
 
-static CASES: [Case; 15] = [
+static CASES: [Case; 16] = [
     Case {
         targets: &[GREGORIAN, JULIAN],
         delimiter: b',',
@@ -100,9 +102,9 @@ a,b\tiso\t1970-W01-4|1\ta,b\tiso\t1970-W01-4\t719163\tThursday\t
         form: Form::Plain,
         lines: "\
 id,calendar,date|row,id,calendar,date,rd,weekday,gregorian,iso,julian,coptic,ethiopic,egyptian,armenian,islamic,\
-hebrew,longcount,french,roman,haab,tzolkin,refusal
+hebrew,longcount,french,roman,haab,tzolkin,republican,refusal
 a,gregorian,1945-11-12|1,a,gregorian,1945-11-12,710347,Monday,1945-11-12,1945-W46-1,1945-10-30,1662-03-03,1938-03-03,\
-2694-07-10,1395-04-05,1364-12-06,5706-09-07,12.16.11.16.9,0154-02-21,1945-11-K3,7 Zac,11 Muluc,
+2694-07-10,1395-04-05,1364-12-06,5706-09-07,12.16.11.16.9,0154-02-21,1945-11-K3,7 Zac,11 Muluc,0154-02-20,
 ",
         notes: "",
     },
@@ -123,6 +125,21 @@ n,islamic,1-12-30|9,n,islamic,1-12-30,,,,6
 o,islamic,2-12-30|10,o,islamic,2-12-30,227723,Saturday,0624-06-26,
 ",
         notes: "2:6 6:6 9:6 ",
+    },
+    Case {
+        targets: &[REPUBLICAN, FRENCH, GREGORIAN],
+        delimiter: b',',
+        form: Form::Plain,
+        lines: "id,calendar,date|row,id,calendar,date,rd,weekday,republican,french,gregorian,refusal
+a,republican,8-2-18|1,a,republican,8-2-18,657019,Saturday,0008-02-18,0008-02-19,1799-11-09,
+b,french,8-2-18|2,b,french,8-2-18,657018,Friday,0008-02-17,0008-02-18,1799-11-08,
+c,Republican ,3-13-6|3,c,Republican ,3-13-6,655510,Tuesday,0003-13-06,0004-01-01,1795-09-22,
+d,republican,4-13-6|4,d,republican,4-13-6,,,,,,6
+e,republican,14-4-10|5,e,republican,14-4-10,659262,Tuesday,0014-04-10,0014-04-10,1805-12-31,
+f,gregorian,1792-09-21|6,f,gregorian,1792-09-21,654414,Friday,,,1792-09-21,
+g,republicain,1-1-1|7,g,republicain,1-1-1,,,,,,4
+",
+        notes: "4:6 7:4 ",
     },
     Case {
         targets: &[GREGORIAN, ISLAMIC],

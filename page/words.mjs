@@ -47,7 +47,7 @@ export const WORDS = {
   calendars: {
     gregorian: 'Gregorian', iso: 'ISO week', julian: 'Julian', coptic: 'Coptic', ethiopic: 'Ethiopic',
     egyptian: 'Egyptian', armenian: 'Armenian', islamic: 'Islamic', hebrew: 'Hebrew', longcount: 'Mayan long count',
-    french: 'French Republican', roman: 'Roman', haab: 'Haab', tzolkin: 'Tzolkin',
+    french: 'French, arithmetic', roman: 'Roman', republican: 'French Republican', haab: 'Haab', tzolkin: 'Tzolkin',
   },
   forms: {
     gregorian: 'Year, month, day: `1699-11-30`. The year 0 is 1 BC.',
@@ -65,10 +65,12 @@ export const WORDS = {
       '8 Marheshvan, 9 Kislev, 10 Tevet, 11 Shevat, 12 Adar; in a leap year 12 Adar I, 13 Adar II. The year begins ' +
       'with month 7.',
     longcount: 'Baktun, katun, tun, uinal, kin: `12.16.11.16.9`.',
-    french: 'Year, month, day: `8-2-18`. Months: 1 Vendémiaire, 2 Brumaire, 3 Frimaire, 4 Nivôse, 5 Pluviôse, ' +
-      '6 Ventôse, 7 Germinal, 8 Floréal, 9 Prairial, 10 Messidor, 11 Thermidor, 12 Fructidor, 13 the extra days. ' +
-      'Days of the years 4, 8 and 12 come out a day early: the leap years here are 4, 8 and 12, and those of the ' +
-      'time were 3, 7 and 11.',
+    french: 'Year, month, day: `8-2-18`, by the arithmetic of the book. For a date of the time choose French ' +
+      'Republican: here days of the years 4, 8 and 12 come out a day early, since the leap years are 4, 8 and 12, and ' +
+      'those of the time were 3, 7 and 11.',
+    republican: 'Year, month, day: `8-2-18`. Months: 1 Vendémiaire, 2 Brumaire, 3 Frimaire, 4 Nivôse, 5 Pluviôse, ' +
+      '6 Ventôse, 7 Germinal, 8 Floréal, 9 Prairial, 10 Messidor, 11 Thermidor, 12 Fructidor, 13 the extra days. As it ' +
+      'was used, to 10 Nivôse XIV; later days go on by every fourth year.',
     roman: 'Year and month of the Kalends (K), Nones (N) or Ides (I), and the days up to it, it counted too: ' +
       '`1945-11-K3` is 30 October. `1944-3-K6B` is 25 February of a leap year. Both are Julian.',
   },

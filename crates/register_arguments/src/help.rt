@@ -22,15 +22,15 @@ names do not matter. The calendars, and how their dates are written:
     gregorian, iso (2004-W53-6: year, week, weekday from 1 for Monday),
     julian, coptic, ethiopic, egyptian, armenian, islamic, hebrew,
     longcount (12.16.11.16.9: five numbers), french,
-    roman (1945-11-K3: year, month and name);
+    roman (1945-11-K3: year, month and name), republican;
     where nothing is said, 1945-11-12 or -44-3-15: year, month, day
 
 Gregorian and iso years have a year 0; in julian and roman the year before 1
 is -1; the others begin with year 1. Hebrew month 1 is Nisan. A Roman name is
 K, N or I and a count of days back from those Kalends, Nones or Ides, which
 are counted too, or K6B.
-French and Islamic dates go by arithmetic: against the calendar as it was
-used, French years 4, 8, 12 are a day early, Islamic days may be 1 or 2 off.
+French dates of the time are republican. By arithmetic go french, in which
+the years 4, 8, 12 are a day early, and islamic: a day may be 1 or 2 off.
 
 What comes out: for each record its row number, its fields, the fixed
 day number (rd; day 1 is Monday, 1 January of the Gregorian year 1), the
@@ -51,7 +51,7 @@ Options:
 
     --to LIST         the columns, in the order wanted, separated by commas:
                       calendars, haab, tzolkin; or the word none. Without
-                      it: all, in the order above.
+                      it: all but republican, in the order above.
     --delimiter WORD  what stands between two fields, in text and table:
                       comma, semicolon or tab. Without it: comma.
     --sealed          break off where records were lost: the last line is

@@ -15,6 +15,7 @@ use Rattle.date_texts.specs.Names.{IsNamed}
 use Rattle.date_texts.specs.declared.calendar.Calendar.{Calendar}
 use Rattle.date_texts.specs.declared.calendar.Calendar.TheVariants.{Gregorian, Iso, Julian, Coptic, Ethiopic, Egyptian}
 use Rattle.date_texts.specs.declared.calendar.Calendar.TheVariants.{Armenian, Islamic, Hebrew, Longcount, French, Roman}
+use Rattle.date_texts.specs.declared.calendar.Calendar.TheVariants.{Republican}
 use Rattle.written_dates.specs.Calendars.{place}
 use Rattle.register_records.specs.Entries.{Fields}
 use Rattle.register_sheets.specs.NameLists.{AreLines, IsFaultOf, IsLine, IsRefused, columns, is_named, named_by, names_in}
@@ -45,6 +46,7 @@ marked f Hebrew = refl
 marked f Longcount = refl
 marked f French = refl
 marked f Roman = refl
+marked f Republican = refl
 
 map_same : (f g : Calendar → Bool) (cs : List Calendar) → ((c : Calendar) → f c ≡ g c) → map f cs ≡ map g cs
 map_same f g [] same = refl

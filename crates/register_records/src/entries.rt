@@ -1,13 +1,13 @@
 //! An entry, and how it is made of a record.
 
-ghost use Rattle.std.specs.Prelude.{◌≡◌, ◌≤◌, ◌↔◌, [], length, IfSome, IsSome, IsTrue, Ok, true, false};
+ghost use Rattle.std.specs.Prelude.{◌≡◌, ◌≤◌, ◌↔◌, ◌∷◌, [], length, IfSome, IsSome, IsTrue, Ok, true, false};
 ghost use Rattle.std.specs.List.{list_all};
 ghost use Rattle.std.specs.Str.{is_utf8};
 ghost use Rattle.csv.specs.Records.{fields_of, text_of};
 ghost use Rattle.register_records.specs.BareTexts.{IsPlain, has_special, is_plain_byte};
 ghost use Rattle.register_records.specs.Entries.{HaveOneDate, are_fit, body_of, body_seen, may_hold, record_limit};
 
-use crate::record_fields::RecordFields;
+use crate::record_fields::{RecordFields, is_text};
 use crate::setups::Form;
 use arrayvec::ArrayString;
 use csv::ByteRecord;
@@ -77,6 +77,24 @@ impl Entry {
             number,
             bare: false,
             body,
+        })
+    }
+
+    /// The entry with this number of a record with these fields, in a register without seals; or `None` exactly where
+    /// the number is not from 1 to 1,000,000.
+    #[tactic(auto, using(crate::proofs::FieldLemmas::fit_body))]
+    pub fn of_fields(number: u32, id: &[u8], calendar: &[u8], date: &[u8]) -> Option<Entry>
+        ensures made { IsSome result ↔ ((1 ≤ number) × (number ≤ record_limit)) }
+        ensures value { IfSome result (λ e. (e.number ≡ number)
+            × (body_seen e.body ≡ body_of Form.Plain (id.now ∷ calendar.now ∷ date.now ∷ []))) }
+    {
+        if number == 0 || number > MAX_RECORDS {
+            return None;
+        }
+        Some(Entry {
+            number,
+            bare: false,
+            body: Body::of_fields(id, calendar, date),
         })
     }
 
@@ -218,6 +236,17 @@ fn copy_text<const N: usize>(copy: &mut ArrayString<N>, field: &[u8])
     copy.push_str(unsafe { str::from_utf8_unchecked(field) });
 }
 
+/// A text that is a field, which is UTF-8.
+fn text_of_field<const N: usize>(field: &[u8]) -> ArrayString<N>
+    requires fits { length field.now ≤ N }
+    requires is_text { is_utf8 field.now ≡ true }
+    ensures { result.bytes ≡ field.now }
+{
+    let mut text = ArrayString::new();
+    copy_text(&mut text, field);
+    text
+}
+
 impl Body {
     /// A body of empty texts.
     fn blank() -> Body
@@ -228,6 +257,26 @@ impl Body {
             id: ArrayString::new(),
             calendar: ArrayString::new(),
             date: ArrayString::new(),
+            note: ArrayString::new(),
+        }
+    }
+
+    /// The body of a record of these fields, in a register without seals.
+    #[tactic(auto, using(crate::proofs::FieldLemmas::no_bytes))]
+    fn of_fields(id: &[u8], calendar: &[u8], date: &[u8]) -> Body
+        ensures value { body_seen result ≡ body_of Form.Plain (id.now ∷ calendar.now ∷ date.now ∷ []) }
+        ensures held { IsTrue (may_hold result) }
+    {
+        if id.len() > ID_LIMIT || calendar.len() > CALENDAR_LIMIT || date.len() > DATE_LIMIT {
+            return Body::Refused(Refusal::FieldTooLong);
+        }
+        if !is_text(id) || !is_text(calendar) || !is_text(date) {
+            return Body::Refused(Refusal::NotUtf8);
+        }
+        Body::Fields {
+            id: text_of_field(id),
+            calendar: text_of_field(calendar),
+            date: text_of_field(date),
             note: ArrayString::new(),
         }
     }

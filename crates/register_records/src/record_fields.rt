@@ -10,7 +10,7 @@ use csv::ByteRecord;
 use std::str;
 
 /// Whether a field is UTF-8.
-fn is_text(field: &[u8]) -> bool
+pub(crate) fn is_text(field: &[u8]) -> bool
     ensures { result ≡ is_utf8 field.now }
 {
     str::from_utf8(field).is_ok()

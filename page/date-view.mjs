@@ -5,7 +5,7 @@ import { chosen, shown } from './date.mjs';
 import { byId, element, option, setText, textOf, whenChanged } from './elements.mjs';
 import { WORDS } from './words.mjs';
 
-// What is read aloud waits until the typing rests.
+// What is read aloud, and what is wrong, waits until the typing rests.
 const REST = 700;
 
 /** The answer draws the state. */
@@ -26,16 +26,25 @@ export function dateView(step) {
     resting = setTimeout(() => setText(byId('date-said'), words), REST);
   });
 
+  let typing;
+  const drawLine = (line, kind) => {
+    setText(byId('date-day'), line).className = `answer ${kind}`;
+    byId('date-text').setAttribute('aria-invalid', String(kind === 'wrong'));
+  };
+
   return whenChanged((state) => {
     drawCalendar(state.choice.calendar);
     const { line, kind, cells } = shown(state);
-    setText(byId('date-day'), line).className = `answer ${kind}`;
+    clearTimeout(typing);
+    drawLine(kind === 'wrong' ? '' : line, kind === 'wrong' ? 'empty' : kind);
+    if (kind === 'wrong') typing = setTimeout(() => drawLine(line, kind), REST);
     say(kind === 'empty' ? '' : textOf(line));
     byId('date-cells').hidden = cells.length === 0;
-    byId('date-cells').replaceChildren(...cells.map(([name, cell]) => {
+    byId('date-cells').replaceChildren(...cells.map(([name, cell, words]) => {
       const part = element('div');
       const day = cell === '' ? element('dd', WORDS.noCell, { className: 'none' }) : element('dd', cell);
       part.append(element('dt', name), day);
+      if (words) part.append(element('dd', words, { className: 'words' }));
       return part;
     }));
   });

@@ -48,16 +48,19 @@ export function replied(state, key, reply) {
 }
 
 function cellsOf(heading, row) {
-  return heading.flatMap((name, i) => (NO_TARGETS.includes(name) ? [] : [[WORDS.calendars[name] || name, row[i]]]));
+  return heading.flatMap((name, i) => (NO_TARGETS.includes(name) ? []
+    : [[WORDS.calendars[name] || name, row[i], WORDS.inWords(name, row[i])]]));
 }
 
-/** What is shown: a line, what kind of line it is, and the cells, each with its name. */
+/** What is shown: a line, what kind of line it is, and the cells, each with its name and its date in words. */
 export function shown(state) {
   if (isEmpty(state)) return { line: WORDS.waits, kind: 'empty', cells: [] };
   if (!hasResult(state)) return { line: '', kind: 'empty', cells: [] };
   const { answer, fault, why } = state.result.reply;
   if (fault) return { line: WORDS.fault(why), kind: 'wrong', cells: [] };
-  const { ending, heading, row } = answer;
+  const { ending, heading, row, written } = answer;
+  // The date as it was read, where that is not how it was typed.
+  const read = written === state.choice.text.trim() ? '' : written;
   if (ending !== 0) {
     return { line: WORDS.isNoDay(WORDS.causes[ending] || WORDS.faults[ending]), kind: 'wrong', cells: [] };
   }
@@ -65,7 +68,7 @@ export function shown(state) {
   const refusal = Number(of('refusal'));
   if (refusal) {
     const reason = refusal === TOO_LONG ? WORDS.isTooLong : WORDS.refusals[refusal - 1];
-    return { line: WORDS.isNoDay(reason), kind: 'wrong', cells: [] };
+    return { line: WORDS.isNoDay(reason, read), kind: 'wrong', cells: [] };
   }
-  return { line: WORDS.isDay(of('weekday'), of('rd')), kind: 'day', cells: cellsOf(heading, row) };
+  return { line: WORDS.isDay(of('weekday'), of('rd'), read), kind: 'day', cells: cellsOf(heading, row) };
 }

@@ -1,10 +1,12 @@
-// What stands between the page, or Node, and the WebAssembly module: a heap, and the module's four calls.
+// What stands between the page, or Node, and the WebAssembly module: a heap, and the module's five calls.
 
 const PAGE = 65536;
 // What the module's memory can have: pointers of 32 bits, without the last page.
 const MOST = 2 ** 32 - PAGE;
 // Fields that are turned into bytes, or back, at once.
 const AT_ONCE = 256;
+// Of three numbers the day stands first.
+const DAY_FIRST = 1;
 
 /** Memory ran out: what the module answers by an ending 1, and what the heap of this script throws. */
 export class NoMemory extends Error {}
@@ -249,6 +251,24 @@ export class Module {
       this.free(lengths, bytes);
       bytes = this.malloc(length);
       lengths = this.malloc(4 * count);
+    }
+  }
+
+  /** A date, as it is typed in the calendar of this number, as registers have it; `names` is the text of a list of names. */
+  writeDate(text, calendar, names) {
+    const [typed, list] = [text, names].map((it) => this.put(new TextEncoder().encode(it)));
+    let buffer = this.malloc(typed.length + 64);
+    for (;;) {
+      const [ending, length] = this.call('date_write', 2, [typed, calendar, DAY_FIRST, list, buffer]);
+      if (ending === 1) throw new NoMemory();
+      if (ending !== 0) throw new Error(`date_write: ${ending}`);
+      if (length <= buffer.length) {
+        const written = new TextDecoder().decode(this.bytes({ ...buffer, length }));
+        this.free(buffer, list, typed);
+        return written;
+      }
+      this.free(buffer);
+      buffer = this.malloc(length);
     }
   }
 

@@ -1,10 +1,7 @@
 // What the page has while it is written, and is served by a local server: what the product knows of itself, as the stored
-// run of the program register_facts has it. page/build-page takes built-facts.mjs in its place. A worker would lose what
-// is sent to it while it waits, so this does not.
+// run of the program register_facts has it. page/build-page takes built-facts.mjs in its place.
 
-const request = new XMLHttpRequest();
-request.open('GET', new URL('../crates/register_facts/stdout', import.meta.url), false);
-request.send();
+import { requested } from './requests.mjs';
 
 /** @type {import('./built-facts.mjs').Facts} */
-export const FACTS = JSON.parse(request.responseText);
+export const FACTS = JSON.parse(requested('../crates/register_facts/stdout'));

@@ -21,6 +21,10 @@ const OF_CAUSES = {
     'first one has another number than its records, or is not the last line',
 };
 
+const JULIAN_MONTHS = 'January February March April May June July August September October November December'.split(' ');
+const FRENCH_MONTHS = ['Vendémiaire', 'Brumaire', 'Frimaire', 'Nivôse', 'Pluviôse', 'Ventôse', 'Germinal', 'Floréal',
+  'Prairial', 'Messidor', 'Thermidor', 'Fructidor', 'Complémentaire'];
+
 export const WORDS = {
   lang: 'en',
   title: 'register: historical dates from calendar to calendar',
@@ -40,14 +44,34 @@ export const WORDS = {
   date: 'Date',
   waits: 'Type a date, and its day comes here in all calendars.',
   weekday: 'Weekday',
-  isDay: (weekday, number) => `${weekday}, day number ${number}`,
-  isNoDay: (reason) => `No day: ${reason}.`,
+  isDay: (weekday, number, read = '') => `${weekday}, day number ${number}${WORDS.readAs(read)}`,
+  isNoDay: (reason, read = '') => `No day: ${reason}${WORDS.readAs(read)}.`,
+  readAs: (read) => (read === '' ? '' : `; read as \`${read}\``),
+  dateInWords: 'Dates in words are read too, and numbers with the day first: `30. November 1699`, `30.11.1699`, ' +
+    '`15 Ventôse an VI`.',
   isTooLong: `the date is over ${date} bytes`,
   noCell: 'before its first day',
   calendars: {
     gregorian: 'Gregorian', iso: 'ISO week', julian: 'Julian', coptic: 'Coptic', ethiopic: 'Ethiopic',
     egyptian: 'Egyptian', armenian: 'Armenian', islamic: 'Islamic', hebrew: 'Hebrew', longcount: 'Mayan long count',
     french: 'French, arithmetic', roman: 'Roman', republican: 'French Republican', haab: 'Haab', tzolkin: 'Tzolkin',
+  },
+  months: {
+    gregorian: JULIAN_MONTHS, julian: JULIAN_MONTHS, french: FRENCH_MONTHS, republican: FRENCH_MONTHS,
+    coptic: ['Thout', 'Paopi', 'Hathor', 'Koiak', 'Tobi', 'Meshir', 'Paremhat', 'Parmouti', 'Pashons', 'Paoni', 'Epip',
+      'Mesori', 'Nasie'],
+    ethiopic: ['Maskaram', 'Teqemt', 'Hedar', 'Tahsas', 'Ter', 'Yakatit', 'Magabit', 'Miyazya', 'Genbot', 'Sane', 'Hamle',
+      'Nahase', 'Pagumen'],
+    islamic: ['Muharram', 'Safar', 'Rabi I', 'Rabi II', 'Jumada I', 'Jumada II', 'Rajab', 'Shaban', 'Ramadan', 'Shawwal',
+      'Dhu al-Qada', 'Dhu al-Hijja'],
+    hebrew: ['Nisan', 'Iyyar', 'Sivan', 'Tammuz', 'Av', 'Elul', 'Tishri', 'Marheshvan', 'Kislev', 'Tevet', 'Shevat',
+      'Adar (in a leap year Adar I)', 'Adar II'],
+  },
+  // A date with its month by name; none before year 1, and in calendars whose months have no names here.
+  inWords: (calendar, date) => {
+    const [, year, month, day] = /^(\d+)-(\d+)-(\d+)$/.exec(date) || [];
+    const names = WORDS.months[calendar];
+    return names && Number(year) > 0 ? `${Number(day)} ${names[Number(month) - 1]} ${Number(year)}` : '';
   },
   forms: {
     gregorian: 'Year, month, day: `1699-11-30`. The year 0 is 1 BC.',

@@ -1,9 +1,10 @@
 // What a worker does: a task for each message, one after the other.
 
-import { TARGETS } from './calendars.mjs';
+import { CALENDARS, TARGETS } from './calendars.mjs';
 import { ChangedFile, NoReading, checkUnchanged, readFile } from './files.mjs';
 import { NoMemory, expectedLength, instantiate } from './module.mjs';
 import { EVERY, SHOWN, Table, range, rowsOf } from './tables.mjs';
+import { NAMES } from './unbuilt-names.mjs';
 
 const COMMA = 44;
 const PIECE = 2 ** 22;
@@ -34,15 +35,16 @@ const numbersOf = (targets) => targets.map((name) => TARGETS.indexOf(name));
 
 // ---- One date ----
 
-/** The heading of a table with all columns, and its row for this date. */
+/** The date as registers have it, the heading of a table with all columns, and the row of this date. */
 async function date({ compiled, calendar, text }) {
   const module = await instantiate(compiled);
-  const register = module.write(['id', 'calendar', 'date', '1', calendar, text], 3, COMMA);
+  const written = module.writeDate(text, CALENDARS.indexOf(calendar), NAMES);
+  const register = module.write(['id', 'calendar', 'date', '1', calendar, written], 3, COMMA);
   const setup = { columns: numbersOf(TARGETS), delimiter: COMMA, sealed: false };
   const { ending, table } = module.convert(register, setup, expectedLength(register.length, 2, TARGETS.length));
-  if (ending !== 0) return { ending };
+  if (ending !== 0) return { ending, written };
   const { heading, rows } = new Table(module, table, COMMA).firstRows();
-  return { ending, heading, row: rows[0] };
+  return { ending, written, heading, row: rows[0] };
 }
 
 // ---- A register ----

@@ -7,6 +7,7 @@ ghost use Rattle.register_page.specs.declared.converting.Converted.{Converted};
 ghost use Rattle.register_page.specs.declared.requests.Fault.{Fault};
 ghost use Rattle.register_page_exports.specs.Reports.{AreCounts, Reports, ReportsEnd};
 
+pub mod dates;
 pub mod sheets;
 
 use date_texts::Refusal;

@@ -87,7 +87,7 @@ pub extern "C" fn sheet_pick(
 }
 
 /// Puts a text into the room.
-fn put_text(text: &[u8], room: &mut [u8]) -> TextReport
+pub(crate) fn put_text(text: &[u8], room: &mut [u8]) -> TextReport
     ensures ending { result.ending ≡ 0 }
     ensures text { PutsText text.now room.old room.new result.length }
 {

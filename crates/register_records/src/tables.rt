@@ -212,6 +212,13 @@ impl<W: Output> Table<W> {
         self.state.fault()
     }
 
+    /// What the table was asked for.
+    pub fn setup(&self) -> &Setup
+        ensures { result.now ≡ made_by self.now }
+    {
+        &self.setup
+    }
+
     /// Whether the heading was written.
     pub fn has_heading(&self) -> bool
         ensures { result ≡ is_headed self.now }

@@ -1,5 +1,5 @@
 -- For which cause a source breaks off.
-use Rattle.std.specs.Prelude.{◌≡◌, ◌≢◌, ◌≤◌, ◌⊎◌, ℕ, Bool, false, true, List, Option, None, Some, Result}
+use Rattle.std.specs.Prelude.{◌≡◌, ◌≢◌, ◌≤◌, ◌⊎◌, ℕ, Bool, true, List, None, Some, Result}
 use Rattle.std.specs.Prelude.{Ok, Err, length}
 use Rattle.register_records.specs.Sources.{cause_number}
 use Rattle.register_records.specs.declared.ends.Cause.{Cause}

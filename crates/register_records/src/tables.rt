@@ -114,6 +114,7 @@ impl<W: Output> Table<W> {
         ensures lost { table_fault self.old ≡ None → has_lost_output self.new ≡ true
             → table_fault self.new ≡ Some cause.SinkFault }
         ensures once { is_headed self.old ≡ true → (self.new ≡ self.old) × (output.new ≡ output.old) }
+        ensures untouched { is_headed self.new ≡ false → has_lost_output self.new ≡ false → output.new ≡ output.old }
         ensures halted { IfSome (table_fault self.old) (λ c. (self.new ≡ self.old) × (output.new ≡ output.old)) }
         ensures waiting { waiting_of self.new ≡ waiting_of self.old }
     {
@@ -183,6 +184,7 @@ impl<W: Output> Table<W> {
         ensures first { IfSome (table_fault self.old) (λ c. table_fault self.new ≡ Some c) }
         ensures fault { table_fault self.old ≡ None → IfSome (table_fault self.new) (λ c. c ≡ cause.SinkFault) }
         ensures heading { is_headed self.new ≡ is_headed self.old }
+        ensures untouched { is_headed self.old ≡ false → output.new ≡ output.old }
         ensures idle { waiting_of self.old ≡ [] → (self.new ≡ self.old) × (output.new ≡ output.old) }
     {
         if self.pending_len() == 0 {

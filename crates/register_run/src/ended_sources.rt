@@ -1,8 +1,8 @@
 //! What is left of a source when its threads have been joined.
 
-ghost use Rattle.std.specs.Prelude.{◌≡◌, ◌≤◌, ◌↔◌, ◌⊎◌, None, Ok, IfSome, true, vec_len};
+ghost use Rattle.std.specs.Prelude.{◌≡◌, ◌≤◌, ◌↔◌, ◌⊎◌, [], None, Ok, IfSome, false, true};
 ghost use Rattle.register_records.specs.Sources.{IfBroken, IfWhole, cause_number};
-ghost use Rattle.register_records.specs.TablesWritten.{HasEnded, made_by, made_for, table_fault, waiting_of};
+ghost use Rattle.register_records.specs.TablesWritten.{has_lost_output, is_headed, made_by, made_for, table_fault, waiting_of};
 ghost use Rattle.register_records.specs.Views.{layout_of};
 ghost use Rattle.register_records.specs.declared.ends.Cause.TheVariants as cause;
 ghost use Rattle.register_records.specs.declared.ends.SourceEnd.TheVariants as ended;
@@ -111,6 +111,7 @@ pub(crate) fn conclude<R: Read + Drop, W: Output + Drop>(
     requires sent { waiting_of table ≡ [] }
     requires passed { ∥ Concludes W.Output (R.remaining joined.source.value) table output joined.sent
         joined.stripes.value.items ∥₁ }
+    requires untouched { is_headed table ≡ false → has_lost_output table ≡ false → output ≡ made_for table }
     requires staffed { AreStaffed (made_by table) joined.sent.outcome joined.stripes.value.items }
     ensures source { result.source.value ≡ joined.source.value }
     ensures output { made_for result.table.value ≡ made_for table }

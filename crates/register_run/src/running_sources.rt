@@ -1,7 +1,7 @@
 //! A source that runs, as the thread that writes has it.
 
-ghost use Rattle.std.specs.Prelude.{◌≡◌, ◌≤◌, ◌<◌, ◌+◌, [], length};
-ghost use Rattle.register_records.specs.TablesWritten.{made_by, waiting_of};
+ghost use Rattle.std.specs.Prelude.{◌≡◌, ◌≤◌, ◌<◌, ◌+◌, [], false, length};
+ghost use Rattle.register_records.specs.TablesWritten.{has_lost_output, is_headed, made_by, made_for, waiting_of};
 ghost use Rattle.register_records.specs.declared.row_lines.TheConstants.{LINE_ROOM};
 ghost use Rattle.register_records.specs.declared.writing.TheConstants.{MOST_WAITING};
 ghost use Rattle.register_run.specs.SourceThreads.{rows_taken, started_by};
@@ -28,6 +28,7 @@ pub(crate) struct RunningSource<R: Read, W: Output> {
     open: bool,
     ghost by_one_setup: { started_by threads ≡ made_by table },
     ghost wrote: { ∥ Wrote W.Output threads table output ∥₁ },
+    ghost untouched: { is_headed table ≡ false → has_lost_output table ≡ false → output ≡ made_for table },
     // No more waits than so many bytes and a line.
     ghost bounded: { length (waiting_of table) ≤ MOST_WAITING + LINE_ROOM },
 }

@@ -1,4 +1,4 @@
-use Rattle.std.proofs.Common.{◌∙◌, subst, sym, IfOk}
+use Rattle.std.proofs.Common.{◌∙◌, rules, subst, sym, IfOk}
 use Rattle.register_run.proofs.Common.{format_of, Carries, AreStaffed, Passed, started_by, HasPassed}
 use Rattle.register_run.proofs.RunningSourceLemmas.{concludes, wrote_same}
 use Rattle.register_run.proofs.running_sources.RunningSource.finish.Goals as goal
@@ -8,6 +8,7 @@ conclude-requires g c =
     let s = c.args.self in let ends = c.finish.ensures in let p = c.finish.result in
     let by_one_setup = s.by_one_setup ∙ sym c.send.ensures.same.1 in record {
       sent = c.send.ensures.sent;
+      untouched = search rules;
       passed =
           concludes g.W.Output s.threads c.send.new.self c.send.new.output (g.R.Read.remaining p.source.value) p.sent p.stripes.value.items
           by_one_setup

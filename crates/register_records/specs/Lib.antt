@@ -20,7 +20,8 @@ pub mod LineRoom
 pub mod BareTexts
 pub mod LineViews
 pub mod ReadingState
-pub mod Conversions
+pub mod TableStates
+pub mod TablesWritten
 pub mod Retrying
 pub mod ShortLists
 pub mod TargetRanks

@@ -30,6 +30,7 @@ mod setups;
 mod short_lists;
 mod sources;
 mod table_columns;
+mod tables;
 mod target_lists;
 mod writing;
 
@@ -42,4 +43,5 @@ pub use row_lines::LINE_ROOM;
 pub use rows::Row;
 pub use setups::{Form, MAX_RING, MAX_STRIPES, Setup, SetupFault};
 pub use sources::convert_source;
+pub use tables::Table;
 pub use writing::{MOST_WAITING, RowFault, RowWriter};

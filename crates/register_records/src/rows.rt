@@ -19,7 +19,6 @@ use crate::target_lists::TargetList;
 use date_texts::laws::{one_calendar, one_cell, one_date_text};
 use date_texts::{MAX_TARGETS, Refusal, Target, calendar_named, day_of_date, read_date};
 use day_numbers::Day;
-use std::alloc::AllocError;
 use std::io::Read;
 use std::snapshot::Snapshot;
 
@@ -131,8 +130,7 @@ fn reconvert(
 }
 
 impl Row {
-    ghost use Rattle.std.specs.Prelude.{◌↔◌, ◌<◌, ◌+◌, ◌∷◌, ◌++◌, [], true, IsOk, Ok, MatchOption, OnErr, OnOk};
-    ghost use Rattle.std.specs.Prelude.{vec_capacity, vec_len};
+    ghost use Rattle.std.specs.Prelude.{◌↔◌, ◌∷◌, [], true, Ok, MatchOption};
     ghost use Rattle.register_records.specs.NextEntries.{ReadsNext};
     ghost use Rattle.register_records.specs.SetupRules.{is_delimiter};
     ghost use Rattle.register_records.specs.Tables.{refusal_notes};
@@ -284,23 +282,5 @@ impl Row {
                 refusal,
             }),
         }
-    }
-
-    /// Appends to a journal what it gains by the row.
-    ///
-    /// # Errors
-    ///
-    /// Out of memory, with the journal as it was, but never where the journal has room for one more.
-    pub fn push_refusal(&self, journal: &mut Vec<Note>) -> Result<(), AllocError>
-        ensures items { OnOk result (journal.new.items
-            ≡ journal.old.items ++ refusal_notes (row_seen self.now).number (row_seen self.now).outcome) }
-        ensures len { vec_len journal.new ≤ vec_len journal.old + 1 }
-        ensures kept { OnErr result (journal.new.items ≡ journal.old.items) }
-        ensures room { vec_len journal.old < vec_capacity journal.old → IsOk result }
-    {
-        if let Some(note) = self.refusal_note() {
-            journal.push(note)?;
-        }
-        Ok(())
     }
 }

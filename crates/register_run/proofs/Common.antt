@@ -12,32 +12,32 @@ pub use Rattle.register_records.specs.Entries.{Numbered, record_limit}
 pub use Rattle.register_records.specs.Outcomes.{AreRowsOf}
 pub use Rattle.register_records.specs.Seen.{entry_seen}
 pub use Rattle.register_records.specs.Sources.{IfBroken, IfWhole, cause_number}
-pub use Rattle.register_records.specs.Tables.{Layout, refusal_notes}
-pub use Rattle.register_records.specs.Views.{format_of, given_of, layout_of, row_seen, row_targets, waiting_in}
+pub use Rattle.register_records.specs.TableStates.{is_of_table}
+pub use Rattle.register_records.specs.Tables.{Layout}
+pub use Rattle.register_records.specs.TablesWritten.{Holds, entries_seen, rows_seen}
+pub use Rattle.register_records.specs.Views.{format_of, given_of, layout_of, row_seen, row_targets}
 pub use Rattle.register_records.specs.declared.ends.Cause.{Cause}
 pub use Rattle.register_records.specs.declared.ends.Note.{Note}
 pub use Rattle.register_records.specs.declared.ends.SourceEnd.{SourceEnd}
 pub use Rattle.register_records.specs.declared.entries.Entry.{Entry}
 pub use Rattle.register_records.specs.declared.rows.Row.{Row}
 pub use Rattle.register_records.specs.declared.setups.Setup.{Setup}
-pub use Rattle.register_records.specs.declared.writing.RowWriter.{RowWriter}
+pub use Rattle.register_records.specs.declared.tables.Table.{Table}
 pub use Rattle.register_run.specs.Carried.{AreDealt, AreOfAllTaken, AreOfTaken, HasEnded, WereDealt, carried, dealt}
 pub use Rattle.register_run.specs.Carried.{row_entries, rows_carried}
 pub use Rattle.register_run.specs.Cases.{case_of, end_of, ended_case, output_of, ran_of}
-pub use Rattle.register_run.specs.Courses.{HasMetNone, IsLowest, IsMet, fault_of, is_of_table}
+pub use Rattle.register_run.specs.MetCauses.{HasMetNone, IsLowest, IsMet}
 pub use Rattle.register_run.specs.Headline.{IsSourceEnd}
 pub use Rattle.register_run.specs.Histories.{Carries, IsMachineWithTable}
 pub use Rattle.register_run.specs.JoinedThreads.{AreOfLanes, HasPassed, IsConverting, IsGiven, IsOfGiven}
 pub use Rattle.register_run.specs.Popped.{popped}
 pub use Rattle.register_run.specs.SourceThreads.{AreStaffed, Passed, started_by}
 pub use Rattle.register_run.specs.Stripes.{AnyTook, HasPassedOn, HavePassedOn, feeding_lane, stripe_setup}
-pub use Rattle.register_run.specs.TablesWritten.{Holds, IsTableSoFar, entries_seen, rows_seen}
 pub use Rattle.register_run.specs.Threads.{AreThreadsOf}
 pub use Rattle.register_run.specs.Worlds.{World}
 pub use Rattle.register_run.specs.declared.ended_sources.Met.{Met}
 pub use Rattle.register_run.specs.declared.reading.Sent.{Sent}
 pub use Rattle.register_run.specs.declared.reports.Ran.{Ran}
 pub use Rattle.register_run.specs.declared.stripes.Stripe.{Stripe}
-pub use Rattle.register_run.specs.declared.table_writers.TableWriter.{TableWriter}
 pub use Rattle.striped_lanes.specs.Machine.{Actor, start, turn}
 pub use Rattle.striped_lanes.specs.Schedules.{run}

@@ -1,80 +1,31 @@
 -- What is known of a source that has ended.
 use Rattle.std.proofs.Common.{rules, ◌≡◌, ◌≢◌, ◌∙◌, ap, refl, sym, subst, ℕ, List, [], ◌∷◌, ◌++◌, length, Option, None}
-use Rattle.std.proofs.Common.{Some, ◌≤◌, inl, inr, arith, append-nil, length-append, map, ◌+◌, true, false, Bool, Err}
-use Rattle.std.proofs.Common.{IfOk, IfSome}
-use Rattle.std.specs.Option.{is_some}
-use Rattle.std.specs.List.{Contains, range_with_len}
-use Rattle.std.specs.Io.KnownBytes.{Appends, append_known}
+use Rattle.std.proofs.Common.{Some, ◌≤◌, inl, inr, arith, length-append, true, false, Bool, Err, Ok, IfOk, IfSome}
+use Rattle.std.specs.List.{Contains}
 use Rattle.std.proofs.lemmas.Bool.{cases_eq, false_from_ne_true}
 use Rattle.std.proofs.lemmas.List.{length-map}
-use Rattle.std.proofs.lemmas.List.Elements.{Contains-append_right}
 use Rattle.std.proofs.Props.{props}
 use Rattle.std.proofs.Math.Logic.{∥∥₁_elim, ∥∥₁_map, ∥∥₁_prop}
-use Rattle.register_run.proofs.Common.{Target, Row, Cause, SourceEnd, RowWriter, AreNumberedFrom, HasAllEntries}
-use Rattle.register_run.proofs.Common.{HasEntries, HasFirstEntries, Numbered, record_limit, AreRowsOf, entry_seen}
-use Rattle.register_run.proofs.Common.{IfBroken, IfWhole, cause_number, Layout, format_of, layout_of, row_seen}
-use Rattle.register_run.proofs.Common.{row_targets, waiting_in, Stripe, Sent, Met, TableWriter, HasMetNone, IsLowest}
-use Rattle.register_run.proofs.Common.{IsMet, fault_of, is_of_table, IsSourceEnd, Carries, IsMachineWithTable}
-use Rattle.register_run.proofs.Common.{HasPassed, IsGiven, IsOfGiven, Holds, IsTableSoFar, entries_seen, rows_seen}
+use Rattle.register_run.proofs.Common.{Row, Cause, SourceEnd, HasAllEntries, HasEntries, HasFirstEntries, Numbered}
+use Rattle.register_run.proofs.Common.{record_limit, AreRowsOf, entry_seen, IfBroken, IfWhole, cause_number, Layout}
+use Rattle.register_run.proofs.Common.{format_of, layout_of, Stripe, Sent, Met, Table, HasMetNone, IsLowest, IsMet}
+use Rattle.register_run.proofs.Common.{is_of_table, IsSourceEnd, Carries, IsMachineWithTable, HasPassed, IsGiven}
+use Rattle.register_run.proofs.Common.{IsOfGiven, Holds, entries_seen, rows_seen}
 use Rattle.register_records.specs.Tables.{table_text}
+use Rattle.register_records.specs.TablesWritten.{HasEnded, has_lost_output, is_headed, made_for, table_fault, waiting_of}
 use Rattle.register_run.specs.JoinedThreads.{IsNotOfOutput, is_of_reading, speaks_of_text}
 use Rattle.register_records.specs.declared.outputs.Output as outputs
 use Rattle.register_records.specs.declared.ends.Cause.TheVariants as cause
 use Rattle.register_records.specs.declared.ends.SourceEnd.TheVariants as end
-use Rattle.register_records.specs.Outcomes.{IsRowOf}
 use Rattle.register_records.specs.Sources.{ArePartOfTable, Gains, IsFrontOfTable, IsTableOf}
 use Rattle.register_records.proofs.SomeRecordsLemmas.{front_of_some}
-use Rattle.register_run.specs.declared.table_writers.Course.{Course}
-use Rattle.register_run.specs.declared.table_writers.Course.TheVariants as course
-use Rattle.register_run.specs.Courses.{Differs, output_failed}
+use Rattle.register_records.proofs.TableLemmas.{are_rows, faultless, front_so, gained_so, table_is, whole_so, written}
+use Rattle.register_run.specs.MetCauses.{Differs}
 use Rattle.register_run.specs.Headline.{IsAllOfTable, causes_of_reading}
-use Rattle.register_run.specs.TablesWritten.{AllSent, waiting_of}
 use Rattle.register_run.proofs.FrontLemmas.{first_of_first, front_all, rows_front}
-use Rattle.register_run.proofs.TableLemmas.{stands_none}
-
--- rows that were made for these targets are the rows of their entries
-pub rows_are : (targets : List Target) (rows : List Row) → ((row : Row) → Contains rows row → row_targets row ≡ targets)
-    → ∥ AreRowsOf targets (entries_seen rows) (rows_seen rows) ∥₁
-rows_are targets [] all = ∣ tt ∣₁
-rows_are targets (row ∷ rest) all =
-    ∥∥₁_elim row.is_row ∥∥₁_prop (λ is.
-    ∥∥₁_map (rows_are targets rest (λ r c. all r (Contains-append_right (row ∷ []) rest r c)))
-    (λ more. (
-      subst (λ ts. IsRowOf ts (entry_seen row.entry) (row_seen row)) (all row (0, omega arith, refl)) is,
-      more,
-    )))
-
--- entries that are numbered in order have these numbers
-numbers_are : (k : ℕ) (entries : List Numbered) → AreNumberedFrom k entries
-    → map (λ (entry : Numbered). entry.number) entries ≡ range_with_len k (length entries)
-numbers_are k [] numbered = refl
-numbers_are k (entry ∷ entries) numbered = let rest = numbers_are (k + 1) entries numbered.1 in cc (numbered.0, rest)
-
-appends_nothing : (given output : Option (List ℕ)) → output ≡ given → Appends given output []
-appends_nothing None output e = tt
-appends_nothing (Some xs) output e = subst (λ o. Appends (Some xs) o []) (sym e) (sym (append-nil xs))
-
-appends_waited : (given output : Option (List ℕ)) (pending table : List ℕ) → pending ≡ []
-    → Appends given (append_known output pending) table → Appends given output table
-appends_waited None output pending table e h = tt
-appends_waited (Some xs) None pending table e h = h
-appends_waited (Some xs) (Some ys) pending table e h = sym (append-nil ys) ∙ ap (λ p. ys ++ p) (sym e) ∙ h
-
-faultless : (c : Course) → fault_of c ≡ None → output_failed c ≡ false
-faultless (course.OutputFailed c) e = cc
-faultless c e = refl
 
 listed : (c : Cause) → Contains causes_of_reading c → is_of_reading c ≡ true
 listed c h = search rules
-
-table_so : {W : Type 0} (o : outputs.Ghosts W) (layout : Layout) (given output : W) (w : Option RowWriter)
-    (rows : List Row) → is_some w ≡ true → waiting_of w ≡ [] → IsTableSoFar o layout given output w rows
-    → Appends (o.contents given) (o.contents output) (table_text layout (rows_seen rows)) × (o.is_flushed output ≡ true)
-table_so o layout given output None rows e none h = absurd (cc)
-table_so o layout given output (Some w) rows e none h = (
-  appends_waited (o.contents given) (o.contents output) (waiting_in w) (table_text layout (rows_seen rows)) none h.0,
-  h.1,
-)
 
 -- the causes of reading are higher than those of a table
 high : (c : Cause) → is_of_reading c ≡ true → 5 ≤ cause_number c
@@ -134,13 +85,26 @@ pub thread_outcome : (met : Met) → IfSome met.fault (λ f. is_of_table f ≡ t
     → IfBroken e (IsLowest (IsMet met)) → e ≡ end.Broken cause.NoThread → met.sent.outcome ≡ Err cause.NoThread
 thread_outcome met of_table e lowest is = search (rules, met_by_threads, met)
 
-module _ {W : Type 0} (o : outputs.Ghosts W) (text : Option (List ℕ)) (table : TableWriter W o) (rows : List Row)
-    (passed : Sent) (holds : Holds table rows) (sent : AllSent table)
+-- where nothing was met, a source ends as its table does
+pub met_none : {W : Type 0} (e : SourceEnd) (met : Met) (table : Table W) → met.sent.outcome ≡ Ok met.rows
+    → met.fault ≡ None → met.headed ≡ true → met.rows ≡ table.rows
+    → IfWhole e (HasEnded table) → IfWhole e (HasMetNone met table.journal.items)
+met_none (end.Whole count refused journal) met table outcome fault headed rows is =
+    (outcome ∙ ap Ok (rows ∙ sym is.1), fault, headed, is.1 ∙ sym rows, is.2, is.3)
+met_none (end.Broken c) met table outcome fault headed rows is = tt
+
+pub never_broken : (e : SourceEnd) (f : Option Cause) (P : Cause → Type 0) → f ≡ None → IfBroken e (λ c. f ≡ Some c)
+    → IfBroken e P
+never_broken (end.Whole count refused journal) f P none is = tt
+never_broken (end.Broken c) f P none is = absurd (let e = sym none ∙ is in cc)
+
+module _ {W : Type 0} (o : outputs.Ghosts W) (text : Option (List ℕ)) (table : Table W) (output : W)
+    (rows : List Row) (passed : Sent) (holds : Holds o table output rows) (sent : waiting_of table ≡ [])
     (has : HasPassed text (format_of table.setup) passed (λ row. Contains rows row)) (headed : Bool)
-    (is_headed : headed ≡ is_some table.writer) where
+    (same_head : headed ≡ is_headed table) where
   -- what was met of the source
   abbrev met : Met
-  met = record { sent = passed; fault = fault_of table.course; headed = headed; rows = table.rows }
+  met = record { sent = passed; fault = table_fault table; headed = headed; rows = table.rows }
 
   abbrev layout : Layout
   layout = layout_of table.setup
@@ -150,43 +114,19 @@ module _ {W : Type 0} (o : outputs.Ghosts W) (text : Option (List ℕ)) (table :
 
   -- what the output has gained is so, and the source has ended so
   abbrev Gained : (List ℕ → Type 0) → Type 0
-  Gained AreSo = Gains (o.contents table.given.value) (o.contents table.output) AreSo
+  Gained AreSo = Gains (o.contents (made_for table)) (o.contents output) AreSo
 
   abbrev EndsSo : SourceEnd → Type 0
-  EndsSo e = ∥ IsSourceEnd o layout text table.given.value table.output e ∥₁
+  EndsSo e = ∥ IsSourceEnd o layout text (made_for table) output e ∥₁
 
   entries_len : length (entries_seen rows) ≡ table.rows
   entries_len = length-map rows (λ (row : Row). entry_seen row.entry) ∙ holds.counted
 
-  table_is : AreRows → IsTableOf layout (entries_seen rows) (rows_seen rows) (table_text layout (rows_seen rows))
-  table_is are = record { numbered = numbers_are 1 (entries_seen rows) holds.numbered; converted = are; written = refl }
-
-  unwritten : output_failed table.course ≡ false → is_some table.writer ≡ false
-      → (table.output ≡ table.given.value) × (rows ≡ [])
-  unwritten good none = search (rules, stands_none, layout)
-
-  written : output_failed table.course ≡ false → is_some table.writer ≡ true
-      → Appends (o.contents table.given.value) (o.contents table.output)
-      (table_text layout (rows_seen rows)) × (o.is_flushed table.output ≡ true)
-  written good some = search (rules, table_so, layout)
-
-  -- without a heading the output has gained nothing, and with one the table of the rows
-  gained_so : (AreSo : List ℕ → Type 0) (b : Bool) → is_some table.writer ≡ b → output_failed table.course ≡ false
-      → (rows ≡ [] → AreSo []) → (is_some table.writer ≡ true → AreSo (table_text layout (rows_seen rows)))
-      → Gained AreSo
-  gained_so AreSo false b good none some = search (rules, unwritten, appends_nothing)
-  gained_so AreSo true b good none some = (table_text layout (rows_seen rows), some b, (written good b).0)
-
-  in_order_so : output_failed table.course ≡ false → AreRows → Gained (ArePartOfTable layout None)
+  in_order_so : has_lost_output table ≡ false → AreRows → Gained (ArePartOfTable layout None)
   in_order_so good are = search (rules, gained_so, layout, front_of_some)
 
-  front_so : (count : ℕ) → count ≡ length (rows_seen rows) → AreRows
-      → HasFirstEntries (format_of table.setup) text (entries_seen rows)
-      → IsFrontOfTable layout text count (table_text layout (rows_seen rows))
-  front_so count counted are first = search (rules, table_is)
-
-  not_failed : o.has_failed table.output ≡ false → output_failed table.course ≡ false
-  not_failed good = false_from_ne_true (output_failed table.course) (λ s. let f = table.failed s in absurd (cc))
+  not_failed : o.has_failed output ≡ false → has_lost_output table ≡ false
+  not_failed good = false_from_ne_true (has_lost_output table) (λ s. let f = holds.failed s in absurd (cc))
 
   module _ (given : List Numbered) (is : IsGiven text (format_of table.setup) passed given)
       (all : (row : Row) → Contains rows row → IsOfGiven given row) where
@@ -202,35 +142,36 @@ module _ {W : Type 0} (o : outputs.Ghosts W) (text : Option (List ℕ)) (table :
       | inr f ↦ first_of_first (format_of table.setup) text given (entries_seen rows) taken_front.0 taken_front.1 f
     ]
 
-    part_so : output_failed table.course ≡ false → (headed ≡ true → table.rows ≢ 0) → AreRows
+    part_so : has_lost_output table ≡ false → (headed ≡ true → table.rows ≢ 0) → AreRows
         → Gained (ArePartOfTable layout text)
     part_so good some are =
-        gained_so (ArePartOfTable layout text) (is_some table.writer) refl good (λ none. inl refl)
-        (λ has. inr (length (rows_seen rows), front_so _ refl are (first_so (some (is_headed ∙ has)))))
+        gained_so o table output rows holds sent (ArePartOfTable layout text) (is_headed table) refl good (λ none. inl refl)
+        (λ has. inr (length rows, front_so o table output rows holds sent text are good (length rows) refl
+        (first_so (some (same_head ∙ has)))))
 
   -- as many rows were written as there may be
-  most_so : length rows ≡ record_limit → output_failed table.course ≡ false
+  most_so : length rows ≡ record_limit → has_lost_output table ≡ false
       → HasFirstEntries (format_of table.setup) text (entries_seen rows) → AreRows
       → Gained (IsFrontOfTable layout text record_limit)
   most_so most good first are =
-      gained_so (IsFrontOfTable layout text record_limit) (is_some table.writer) refl good
+      gained_so o table output rows holds sent (IsFrontOfTable layout text record_limit) (is_headed table) refl good
       (λ none. absurd (let zero : length rows ≡ 0 = ap length none in omega (arith, most)))
-      (λ some. front_so record_limit (sym most ∙ sym (length-map rows row_seen)) are first)
+      (λ some. front_so o table output rows holds sent text are good record_limit (sym most) first)
 
   -- the rows of all entries were written
-  all_so : output_failed table.course ≡ false → HasAllEntries (format_of table.setup) text (entries_seen rows)
+  all_so : has_lost_output table ≡ false → HasAllEntries (format_of table.setup) text (entries_seen rows)
       → AreRows → Gained (IsAllOfTable layout text)
   all_so good all are =
-      gained_so (IsAllOfTable layout text) (is_some table.writer) refl good
+      gained_so o table output rows holds sent (IsAllOfTable layout text) (is_headed table) refl good
       (λ none. inl (refl, subst (λ rs. HasAllEntries (format_of table.setup) text (entries_seen rs)) none all))
-      (λ some. inr (record { entries = entries_seen rows; rows = rows_seen rows; table = table_is are; all = all }))
+      (λ some. inr (record { entries = entries_seen rows; rows = rows_seen rows; table = table_is o table output rows holds sent are; all = all }))
 
   reading_so : (c : Cause) → is_of_reading c ≡ true → IsReadingMet met c → EndsSo (end.Broken c)
   reading_so c reading fact =
-      let good = faultless table.course fact.1 in
+      let good = faultless table.state fact.1 in
       let speaks : speaks_of_text passed.outcome ≡ true = ap speaks_of_text fact.0 ∙ reading in
       ∥∥₁_elim (has.rows speaks) ∥∥₁_prop
-      (λ (given, is, all). ∥∥₁_map (rows_are layout.targets rows holds.targets) (λ are.
+      (λ (given, is, all). ∥∥₁_map (are_rows o table output rows holds sent) (λ are.
       let bad = rw fact.0 at is.bad_header in
       let many = rw fact.0 at is.too_many in
       let unsealed = rw fact.0 at is.not_sealed in
@@ -253,40 +194,40 @@ module _ {W : Type 0} (o : outputs.Ghosts W) (text : Option (List ℕ)) (table :
             );
         in_order = λ unfailed. in_order_so good are;
         sink = λ e. absurd (let k : is_of_reading c ≡ false = ap is_of_reading e in cc);
-        kept = λ e. table.good good;
+        kept = λ e. holds.good good;
       }))
 
   threads_so : (c : Cause) → is_of_reading c ≡ false
-      → (c ≡ cause.SinkFault → fault_of table.course ≡ Some cause.SinkFault) → EndsSo (end.Broken c)
-  threads_so c other sink = ∥∥₁_map (rows_are layout.targets rows holds.targets) (λ are. record {
+      → (c ≡ cause.SinkFault → table_fault table ≡ Some cause.SinkFault) → EndsSo (end.Broken c)
+  threads_so c other sink = ∥∥₁_map (are_rows o table output rows holds sent) (λ are. record {
     part = λ e. absurd (let k = listed c e in cc);
     bad_header = λ e. absurd (let k : is_of_reading c ≡ true = ap is_of_reading e in cc);
     too_many = λ e. absurd (let k : is_of_reading c ≡ true = ap is_of_reading e in cc);
     not_sealed = λ e. absurd (let k : is_of_reading c ≡ true = ap is_of_reading e in cc);
     in_order = λ good. in_order_so (not_failed good) are;
-    sink = λ e. table.failed (table.sink_fault (sink e));
+    sink = λ e. holds.failed (table.sink_fault (sink e));
     kept = λ e. absurd (let k = listed c e in cc);
   })
 
   broken_so : (b : Bool) (c : Cause) → is_of_reading c ≡ b → (is_of_reading c ≡ true → IsReadingMet met c)
-      → (c ≡ cause.SinkFault → fault_of table.course ≡ Some cause.SinkFault) → EndsSo (end.Broken c)
+      → (c ≡ cause.SinkFault → table_fault table ≡ Some cause.SinkFault) → EndsSo (end.Broken c)
   broken_so true c b reading sink = reading_so c b (reading b)
   broken_so false c b reading sink = threads_so c b sink
 
   -- a source with another header has no table
   pub headless : (e : SourceEnd) → IfBroken e (IsLowest (IsMet met))
-      → e ≡ end.Broken cause.BadHeader → (is_some table.writer ≡ false) × (output_failed table.course ≡ false)
+      → e ≡ end.Broken cause.BadHeader → (is_headed table ≡ false) × (has_lost_output table ≡ false)
   headless (end.Whole count refused journal) lowest is = absurd (cc)
   headless (end.Broken c) lowest is =
       let same : c ≡ cause.BadHeader = cc in
       let fact =
       reading_met met c table.of_table lowest (ap is_of_reading same) in
       let speaks : speaks_of_text passed.outcome ≡ true = ap speaks_of_text fact.0 ∙ ap is_of_reading same in (
-        false_from_ne_true (is_some table.writer) (λ some.
+        false_from_ne_true (is_headed table) (λ some.
             ∥∥₁_elim (has.rows speaks) (Prim.hlevel props) (λ (given, so, all).
             let bad = rw fact.0 at so.bad_header in
-            fact.2 (is_headed ∙ some) (none_given given so all (bad same).0))),
-        faultless table.course fact.1,
+            fact.2 (same_head ∙ some) (none_given given so all (bad same).0))),
+        faultless table.state fact.1,
       )
 
   pub source_end : (e : SourceEnd) → IfWhole e (HasMetNone met table.journal.items)
@@ -295,30 +236,20 @@ module _ {W : Type 0} (o : outputs.Ghosts W) (text : Option (List ℕ)) (table :
       broken_so (is_of_reading c) c refl (reading_met met c table.of_table lowest)
       (sink_met met c table.of_table has.not_of_output lowest.0)
   source_end (end.Whole count refused journal) whole lowest =
-      let good = faultless table.course whole.1 in
+      let good = faultless table.state whole.1 in
       let speaks : speaks_of_text passed.outcome ≡ true = ap speaks_of_text whole.0 in
       ∥∥₁_elim (has.rows speaks) ∥∥₁_prop
-      (λ (given, is, all). ∥∥₁_map (rows_are layout.targets rows holds.targets) (λ are.
+      (λ (given, is, all). ∥∥₁_map (are_rows o table output rows holds sent) (λ are.
       let ended = rw whole.0 at is.all in
       let front = taken_front given is all in
       let len : length given ≡ length (entries_seen rows) = sym ended.0 ∙ whole.3 ∙ sym entries_len in
       let same = front_all given (entries_seen rows) front.0 front.1 len in
-      let bytes = written good (sym is_headed ∙ whole.2) in record {
-        table = (
-          table_text layout (rows_seen rows),
-          record {
-            entries = entries_seen rows;
-            rows = rows_seen rows;
-            table = table_is are;
-            counted = whole.3 ∙ sym holds.counted ∙ sym (length-map rows row_seen);
-            noted = whole.5 ∙ holds.noted;
-            refused_counted = whole.4;
-            accepted = subst (λ g. HasEntries (format_of table.setup) text g) same ended.1;
-          },
-          bytes.0,
-        );
-        flushed = bytes.1;
-        good = table.good good;
+      let some = sym same_head ∙ whole.2 in record {
+        table =
+            rw (whole.4, whole.5) (whole_so o table output rows holds sent text are good count (whole.3 ∙ sym holds.counted) some
+            (subst (λ g. HasEntries (format_of table.setup) text g) same ended.1));
+        flushed = (written o table output rows holds sent good some).1;
+        good = holds.good good;
       }))
 
   -- the table of a source that is whole is that of the machine's entries
@@ -327,11 +258,11 @@ module _ {W : Type 0} (o : outputs.Ghosts W) (text : Option (List ℕ)) (table :
       → (e : SourceEnd)
       → IfWhole e (HasMetNone met table.journal.items)
       → ∥ IfWhole e (λ count refused notes.
-      IsMachineWithTable text table.setup (o.contents table.given.value) (o.contents table.output) count stripes) ∥₁
+      IsMachineWithTable text table.setup (o.contents (made_for table)) (o.contents output) count stripes) ∥₁
   with_table stripes carries (end.Broken c) whole = ∣ tt ∣₁
   with_table stripes carries (end.Whole count refused journal) whole =
       ∥∥₁_elim (rw whole.0 at carries) ∥∥₁_prop
-      (λ (machine, all). ∥∥₁_map (rows_are layout.targets rows holds.targets) (λ are.
+      (λ (machine, all). ∥∥₁_map (are_rows o table output rows holds sent) (λ are.
       let front = rows_front machine.given rows machine.numbered holds.numbered all in
       let len : length machine.given ≡ length (entries_seen rows) = machine.counted ∙ whole.3 ∙ sym entries_len in
       let same = front_all machine.given (entries_seen rows) front.0 front.1 len in (
@@ -340,7 +271,7 @@ module _ {W : Type 0} (o : outputs.Ghosts W) (text : Option (List ℕ)) (table :
         (
           table_text layout (rows_seen rows),
           subst (λ es. IsTableOf layout es (rows_seen rows) (table_text layout (rows_seen rows))) (sym same)
-              (table_is are),
-          (written (faultless table.course whole.1) (sym is_headed ∙ whole.2)).0,
+              (table_is o table output rows holds sent are),
+          (written o table output rows holds sent (faultless table.state whole.1) (sym same_head ∙ whole.2)).0,
         ),
       )))

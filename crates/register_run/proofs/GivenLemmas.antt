@@ -13,11 +13,6 @@ use Rattle.register_records.specs.declared.setups.Form.TheVariants.{Sealed}
 use Rattle.register_records.specs.declared.ends.Cause.TheVariants as cause
 use Rattle.register_run.specs.JoinedThreads.{IsOfThreads, Sends}
 
-pub numbered_more : (k : ℕ) (given : List Numbered) (n : Numbered) → AreNumberedFrom k given
-    → n.number ≡ k + length given → AreNumberedFrom k (given ++ n ∷ [])
-numbered_more k [] n h e = (omega arith, tt)
-numbered_more k (first ∷ rest) n h e = (h.0, numbered_more (k + 1) rest n h.1 (omega arith))
-
 -- the faults of reading that these causes are
 fault_of_cause : (f : EntryFault) (c : Cause) → c ≡ entry_fault_cause f
     → (c ≡ cause.BadHeader → f ≡ fault.BadHeader) × (c ≡ cause.TooManyRecords → f ≡ fault.TooManyRecords)

@@ -25,7 +25,6 @@ pub mod HeadlineLemmas
 pub mod ItemLemmas
 pub mod EndedSourceLemmas
 pub mod RunningSourceLemmas
-pub mod TableLemmas
 pub mod ThreadLemmas
 pub mod ScheduleLemmas
 pub mod HistoryLemmas

@@ -2,13 +2,13 @@
 use Rattle.std.specs.Prelude.{List, [], ◌∷◌}
 use Rattle.std.specs.declared.io.traits.Read as reads
 use Rattle.register_records.specs.declared.outputs.Output as outputs
+use Rattle.register_records.specs.TablesWritten.{made_by, made_for}
 use Rattle.register_records.specs.declared.setups.Setup.{Setup}
 use Rattle.register_records.specs.declared.ends.SourceEnd.{SourceEnd}
 use Rattle.register_run.specs.declared.reports.Ran.{Ran}
 use Rattle.register_run.specs.declared.ended_sources.EndedSource.{EndedSource}
 use Rattle.register_run.specs.declared.running_sources.RunningSource.{RunningSource}
 use Rattle.register_run.specs.SourceThreads.{started_on}
-use Rattle.register_run.specs.TablesWritten.{made_by, made_for}
 
 pub record Case (R W : Type 0) : Type 0 where
   pub source : R
@@ -31,7 +31,7 @@ case_of s = case (started_on s.threads) (made_for s.table) (made_by s.table)
 module _ {R W : Type 0} {r : reads.Ghosts R} {o : outputs.Ghosts W} where
   -- what a source that has ended was made of
   abbrev pub ended_case : EndedSource R W r o → Case R W
-  ended_case s = case s.source.value s.given.value s.ran.setup.value
+  ended_case s = case s.source.value (made_for s.table.value) s.ran.setup.value
 
   -- how its threads ran, its output and its end
   abbrev pub ran_of : EndedSource R W r o → Ran

@@ -3,8 +3,7 @@ pub mod JoinedThreads
 pub mod Stripes
 pub mod Popped
 pub mod SourceThreads
-pub mod Courses
-pub mod TablesWritten
+pub mod MetCauses
 pub mod Written
 pub mod Headline
 pub mod Cases

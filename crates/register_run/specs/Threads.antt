@@ -8,7 +8,7 @@ use Rattle.register_records.specs.declared.ends.Cause.TheVariants as cause
 use Rattle.register_records.specs.declared.ends.SourceEnd.{SourceEnd}
 use Rattle.register_records.specs.declared.ends.SourceEnd.TheVariants as ended
 use Rattle.register_run.specs.Stripes.{feeding_lane}
-use Rattle.register_run.specs.Courses.{IsLowest, IsMet}
+use Rattle.register_run.specs.MetCauses.{IsLowest, IsMet}
 use Rattle.register_run.specs.declared.stripes.Stripe.{Stripe}
 use Rattle.register_run.specs.declared.reports.Ran.{Ran}
 

@@ -17,7 +17,6 @@ mod running_sources;
 mod source_threads;
 mod stripe_lists;
 mod stripes;
-mod table_writers;
 mod turns;
 
 pub use gates::{Gate, Open};

@@ -1,36 +1,40 @@
 //! A source that runs, as the thread that writes has it.
 
-ghost use Rattle.std.specs.Prelude.{◌≡◌, ◌≤◌, ◌+◌};
+ghost use Rattle.std.specs.Prelude.{◌≡◌, ◌≤◌, ◌<◌, ◌+◌, [], false, length};
+ghost use Rattle.register_records.specs.TablesWritten.{has_lost_output, is_headed, made_by, made_for, waiting_of};
+ghost use Rattle.register_records.specs.declared.row_lines.TheConstants.{LINE_ROOM};
+ghost use Rattle.register_records.specs.declared.writing.TheConstants.{MOST_WAITING};
 ghost use Rattle.register_run.specs.SourceThreads.{rows_taken, started_by};
-ghost use Rattle.register_run.specs.TablesWritten.{made_by};
 ghost use Rattle.register_run.specs.Written.{Wrote};
 
-use crate::ended_sources::EndedSource;
+use crate::ended_sources::{EndedSource, conclude};
 use crate::gates::Gate;
 use crate::running::{Host, RunContext};
 use crate::source_threads::{Found, SourceThreads};
-use crate::table_writers::TableWriter;
-use register_records::Output;
+use register_records::{MOST_WAITING, Output, Table};
 use std::io::Read;
 use std::thread::Threads;
 
 /// How many items are taken at most before a source's lines are written and the next source has its turn.
 const MOST_AT_ONCE: u32 = 1024;
 
-/// The threads of a source, and its table.
+/// The threads of a source, its table, and the output that takes it.
 #[derive(Drop)]
 pub(crate) struct RunningSource<R: Read, W: Output> {
     threads: SourceThreads<R>,
-    table: TableWriter<W>,
+    table: Table<W>,
+    output: W,
     // Whether items may still come.
     open: bool,
     ghost by_one_setup: { started_by threads ≡ made_by table },
-    ghost wrote: { ∥ Wrote threads table ∥₁ },
+    ghost wrote: { ∥ Wrote W.Output threads table output ∥₁ },
+    ghost untouched: { is_headed table ≡ false → has_lost_output table ≡ false → output ≡ made_for table },
+    // No more waits than so many bytes and a line.
+    ghost bounded: { length (waiting_of table) ≤ MOST_WAITING + LINE_ROOM },
 }
 
 impl<R: Read + Drop, W: Output + Drop> RunningSource<R, W> {
     ghost use Rattle.register_run.specs.Cases.{case, case_of, ended_case};
-    ghost use Rattle.register_run.specs.TablesWritten.{AllSent, IsFull};
 
     /// Starts the threads of a source.
     pub(crate) fn start<'s, 'e, T: Host, G: Gate + Sync>(
@@ -42,10 +46,11 @@ impl<R: Read + Drop, W: Output + Drop> RunningSource<R, W> {
         R: Send + 'e,
         ensures { case_of result ≡ case source output context.now.setup.now }
     {
-        let table = TableWriter::new(context.alloc, output, context.setup);
+        let table = Table::new(context.alloc, &output, context.setup);
         RunningSource {
             threads: SourceThreads::start(context, source),
             table,
+            output,
             open: true,
         }
     }
@@ -60,24 +65,24 @@ impl<R: Read + Drop, W: Output + Drop> RunningSource<R, W> {
     #[tactic(auto, using(crate::proofs::RunningSourceLemmas::wrote_same))]
     pub(crate) fn visit(&mut self) -> bool
         ensures case { case_of self.new ≡ case_of self.old }
-        ensures sent { AllSent self.new.table }
+        ensures sent { waiting_of self.new.table ≡ [] }
         ensures few { rows_taken self.new.threads ≤ rows_taken self.old.threads + MOST_AT_ONCE }
     {
         let mut moved = false;
         for _ in 0..MOST_AT_ONCE {
-            if self.table.is_full() || !self.step() {
+            if self.table.pending_len() >= MOST_WAITING || !self.step() {
                 break;
             }
             moved = true;
         }
-        self.table.send();
+        self.table.send(&mut self.output);
         moved
     }
 
     /// Takes one item, where one is there now, and adds it to the table if it is a row.
     #[tactic(auto, using(crate::proofs::RunningSourceLemmas::wrote_same))]
     fn step(&mut self) -> bool
-        requires { IsFull self.old.table → ⊥ }
+        requires { length (waiting_of self.old.table) < MOST_WAITING }
         ensures case { case_of self.new ≡ case_of self.old }
         ensures few { rows_taken self.new.threads ≤ rows_taken self.old.threads + 1 }
     {
@@ -93,7 +98,7 @@ impl<R: Read + Drop, W: Output + Drop> RunningSource<R, W> {
             Found::LaneEnded => {}
             Found::End => {
                 self.open = false;
-                self.table.write_heading();
+                self.table.write_heading(&mut self.output);
             }
             Found::Stop => self.open = false,
         }
@@ -103,11 +108,12 @@ impl<R: Read + Drop, W: Output + Drop> RunningSource<R, W> {
     /// Adds the row that a look found to the table from where it lies in its lane, unless it came after a stop.
     #[tactic(auto, using(crate::proofs::RunningSourceLemmas::wrote_row))]
     fn add_row(&mut self)
-        requires { IsFull self.old.table → ⊥ }
+        requires { length (waiting_of self.old.table) < MOST_WAITING }
         ensures case { case_of self.new ≡ case_of self.old }
         ensures threads { self.new.threads ≡ self.old.threads }
     {
         if let Some(row) = self.threads.row() {
+            self.table.write_heading(&mut self.output);
             self.table.add(row);
         }
     }
@@ -119,9 +125,10 @@ impl<R: Read + Drop, W: Output + Drop> RunningSource<R, W> {
         let RunningSource {
             threads,
             mut table,
+            mut output,
             ..
         } = self;
-        table.send();
-        table.conclude(threads.finish(rt))
+        table.send(&mut output);
+        conclude(table, output, threads.finish(rt))
     }
 }

@@ -2,7 +2,8 @@ use Rattle.std.proofs.Common.{◌∙◌, [], arith, length-append, rules, length
 use Rattle.register_run.proofs.Common.{format_of, given_of}
 use Rattle.register_run.proofs.DealtLemmas.{dealt_none, dealt_send, dealt_unsent}
 use Rattle.register_run.proofs.MoveLemmas.{set_same}
-use Rattle.register_run.proofs.GivenLemmas.{given_none, numbered_more, sends_all, sends_gone, sends_stopped}
+use Rattle.register_records.proofs.TableLemmas.{numbered_more}
+use Rattle.register_run.proofs.GivenLemmas.{given_none, sends_all, sends_gone, sends_stopped}
 use Rattle.register_run.proofs.reading.send_entries.Goals as goal
 
 pub returns-in-Err-clause-sends : goal.returns-in-Err-clause-sends

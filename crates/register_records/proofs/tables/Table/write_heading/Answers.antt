@@ -1,6 +1,6 @@
 use Rattle.std.proofs.Common.{rules}
-use Rattle.register_run.proofs.TableLemmas.{stands_headed, stands_none}
-use Rattle.register_run.proofs.table_writers.TableWriter.write_heading.Goals as goal
+use Rattle.register_records.proofs.TableLemmas.{stands_headed, stands_none}
+use Rattle.register_records.proofs.tables.Table.write_heading.Goals as goal
 
 pub returns-in-Ok-clause-rows : goal.returns-in-Ok-clause-rows
 returns-in-Ok-clause-rows g c = search (rules, stands_headed, stands_none)

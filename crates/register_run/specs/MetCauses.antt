@@ -1,32 +1,11 @@
--- How far a table goes on, and for which cause a source breaks off.
-use Rattle.std.specs.Prelude.{◌≡◌, ◌≢◌, ◌≤◌, ◌⊎◌, ℕ, Bool, false, true, List, Option, None, Some, Result}
+-- For which cause a source breaks off.
+use Rattle.std.specs.Prelude.{◌≡◌, ◌≢◌, ◌≤◌, ◌⊎◌, ℕ, Bool, true, List, None, Some, Result}
 use Rattle.std.specs.Prelude.{Ok, Err, length}
 use Rattle.register_records.specs.Sources.{cause_number}
 use Rattle.register_records.specs.declared.ends.Cause.{Cause}
 use Rattle.register_records.specs.declared.ends.Cause.TheVariants as cause
 use Rattle.register_records.specs.declared.ends.Note.{Note}
-use Rattle.register_run.specs.declared.table_writers.Course.{Course}
-use Rattle.register_run.specs.declared.table_writers.Course.TheVariants as course
 use Rattle.register_run.specs.declared.ended_sources.Met.{Met}
-
--- the output failed
-abbrev pub output_failed : Course → Bool
-output_failed course.Open = false
-output_failed (course.Halted c) = false
-output_failed (course.OutputFailed c) = true
-
--- why no more is written
-abbrev pub fault_of : Course → Option Cause
-fault_of course.Open = None
-fault_of (course.Halted c) = Some c
-fault_of (course.OutputFailed c) = Some c
-
--- a table breaks off for this cause
-abbrev pub is_of_table : Cause → Bool
-is_of_table cause.NoMemory = true
-is_of_table cause.Unconfirmed = true
-is_of_table cause.SinkFault = true
-is_of_table cause = false
 
 -- what was written is not what the threads ended with: not all rows with the heading; or where they gave up, not the
 -- rows of all entries that were read until then, or the heading without a row

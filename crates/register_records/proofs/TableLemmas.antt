@@ -1,0 +1,378 @@
+-- What a table in the making holds, and what the output of a source has gained.
+use Rattle.std.proofs.Common.{◌≡◌, ◌+◌, ◌++◌, ℕ, Bool, List, [], ◌∷◌, length, map, Option, None, Some, refl, sym, ap, ◌∙◌}
+use Rattle.std.proofs.Common.{◌≢◌, ◌⊎◌, IfSome, append_assoc, append-nil, arith, false, inl, inr, length-append, rules}
+use Rattle.std.proofs.Common.{subst, true}
+use Rattle.std.specs.Io.KnownBytes.{Appends, append_known}
+use Rattle.std.specs.List.{Contains, range_with_len}
+use Rattle.std.specs.Option.{is_some}
+use Rattle.std.proofs.lemmas.List.{length-map, map-append}
+use Rattle.std.proofs.lemmas.List.Elements.{Contains-append_right, Contains-push_cases}
+use Rattle.std.proofs.lemmas.Bool.{false_from_ne_true}
+use Rattle.std.proofs.Math.Logic.{∥∥₁_elim, ∥∥₁_map, ∥∥₁_prop}
+use Rattle.date_texts.specs.declared.target.Target.{Target}
+use Rattle.register_records.specs.Causes.{entry_fault_cause}
+use Rattle.register_records.specs.Entries.{AreNumberedFrom, Format, HasAllEntries, HasEntries, HasFirstEntries}
+use Rattle.register_records.specs.Entries.{Numbered}
+use Rattle.register_records.specs.Laws.{TablesGrow}
+use Rattle.register_records.specs.Outcomes.{AreRowsOf, IsRowOf, TableRow}
+use Rattle.register_records.specs.Seen.{entry_seen}
+use Rattle.register_records.specs.Sources.{ArePartOfTable, Gains, IfWhole, IsFrontOfTable, IsTableOf, IsTableOfAll, IsWholeTable}
+use Rattle.register_records.specs.TableStates.{fault_of, is_of_table, lines_waiting, lost_output}
+use Rattle.register_records.specs.Tables.{Layout, heading_line, journal_of, lines_text, refusal_notes, row_line}
+use Rattle.register_records.specs.Tables.{table_text}
+use Rattle.register_records.specs.TablesWritten.{HasEnded, Holds, IsNextRow, IsSameTable, IsTableSoFar, entries_seen, has_lost_output, is_headed}
+use Rattle.register_records.specs.TablesWritten.{made_by, made_for, rows_seen, table_fault, waiting_of}
+use Rattle.register_records.specs.Views.{layout_of, line_of, row_seen, row_targets, waiting_in, writes_by}
+use Rattle.register_records.specs.declared.ends.Cause.{Cause}
+use Rattle.register_records.specs.declared.ends.Cause.TheVariants as cause
+use Rattle.register_records.specs.declared.ends.Note.{Note}
+use Rattle.register_records.specs.declared.ends.SourceEnd.{SourceEnd}
+use Rattle.register_records.specs.declared.ends.SourceEnd.TheVariants as end
+use Rattle.register_records.specs.declared.outputs.Output as outputs
+use Rattle.register_records.specs.declared.reading.EntryFault.{EntryFault}
+use Rattle.register_records.specs.declared.reading.EntryFault.TheVariants as entry
+use Rattle.register_records.specs.declared.rows.Row.{Row}
+use Rattle.register_records.specs.declared.tables.Table.{Table}
+use Rattle.register_records.specs.declared.tables.TableState.{TableState}
+use Rattle.register_records.specs.declared.tables.TableState.TheVariants as state
+use Rattle.register_records.specs.declared.writing.RowWriter.{RowWriter}
+
+lines_last : (layout : Layout) (rows : List TableRow) (row : TableRow)
+    → lines_text layout (rows ++ row ∷ []) ≡ lines_text layout rows ++ row_line layout row
+unfolding lines_text
+lines_last layout [] row = append-nil (row_line layout row)
+lines_last layout (x ∷ rows) row = search (rules, append_assoc, lines_last layout rows row)
+
+journal_last : (rows : List TableRow) (row : TableRow)
+    → journal_of (rows ++ row ∷ []) ≡ journal_of rows ++ refusal_notes row.number row.outcome
+unfolding journal_of
+journal_last [] row = append-nil (refusal_notes row.number row.outcome)
+journal_last (x ∷ rows) row = grind (arith, journal_last rows row)
+
+table_last : (layout : Layout) (rows : List TableRow) (row : TableRow)
+    → table_text layout (rows ++ row ∷ []) ≡ table_text layout rows ++ row_line layout row
+table_last layout rows row = search (rules, lines_last, append_assoc)
+
+pub tables_grow : TablesGrow
+tables_grow layout rows row = (table_last layout rows row, journal_last rows row)
+
+no_lines : (layout : Layout) → lines_text layout [] ≡ []
+unfolding lines_text
+no_lines layout = refl
+
+pub no_notes : journal_of [] ≡ []
+unfolding journal_of
+no_notes = refl
+
+-- known bytes, and bytes that wait behind them
+appends_heading : (given output new : Option (List ℕ)) (pending heading lines : List ℕ) → output ≡ given
+    → Appends output new heading → pending ≡ [] → lines ≡ []
+    → Appends given (append_known new pending) (heading ++ lines)
+appends_heading None output new pending heading lines e h p l = tt
+appends_heading (Some xs) output None pending heading lines e h p l = subst (λ o. Appends o None heading) e h
+appends_heading (Some xs) output (Some ys) pending heading lines e h p l =
+    grind (arith, append-nil ys, append-nil heading)
+
+appends_more : (given output : Option (List ℕ)) (pending line table : List ℕ)
+    → Appends given (append_known output pending) table
+    → Appends given (append_known output (pending ++ line)) (table ++ line)
+appends_more None output pending line table h = tt
+appends_more (Some xs) None pending line table h = h
+appends_more (Some xs) (Some ys) pending line table h = cc (append_assoc ys pending line, append_assoc xs table line)
+
+-- no heading was written
+pub stands_none : {W : Type 0} (o : outputs.Ghosts W) (layout : Layout) (given output : W) (w : Option RowWriter)
+    (rows : List Row) → is_some w ≡ false → IsTableSoFar o layout given output w rows
+    → IsTableSoFar o layout given output None rows
+stands_none o layout given output None rows e h = h
+stands_none o layout given output (Some w) rows e h = absurd (cc)
+
+module _ {W : Type 0} (o : outputs.Ghosts W) (layout : Layout) (given : W) where
+  -- the heading was written
+  pub stands_headed : (output new : W) (w : RowWriter) (rows : List Row) → IsTableSoFar o layout given output None rows
+      → Appends (o.contents output) (o.contents new) (heading_line layout)
+      → o.is_flushed new ≡ true → writes_by w ≡ layout.format → waiting_in w ≡ []
+      → IsTableSoFar o layout given new (Some w) rows
+  stands_headed output new w rows h wrote flushed by none = search (rules, no_lines, appends_heading)
+
+  -- a line waits behind the others
+  pub stands_more : (output : W) (w new : RowWriter) (rows : List Row) (row : Row)
+      → IsTableSoFar o layout given output (Some w) rows → waiting_in new ≡ waiting_in w ++ line_of w row
+      → writes_by new ≡ writes_by w → row_targets row ≡ layout.targets
+      → IsTableSoFar o layout given output (Some new) (rows ++ row ∷ [])
+  stands_more output w new rows row h more by targets = search (rules, table_last, map-append, appends_more)
+
+-- one more at the end
+pub numbered_more : (k : ℕ) (entries : List Numbered) (entry : Numbered) → AreNumberedFrom k entries
+    → entry.number ≡ k + length entries → AreNumberedFrom k (entries ++ entry ∷ [])
+numbered_more k [] entry h e = (omega (arith, e), tt)
+numbered_more k (first ∷ rest) entry h e = (h.0, numbered_more (k + 1) rest entry h.1 (omega (arith, e)))
+
+pub targets_row : (P : Row → Type 0) (rows : List Row) (row : Row) → ((r : Row) → Contains rows r → P r) → P row
+    → (r : Row) → Contains (rows ++ row ∷ []) r → P r
+targets_row P rows row all here r h =
+    elim (Contains-push_cases rows row r h) [ inl a ↦ all r a | inr e ↦ subst P e here ]
+
+numbered_row : (rows : List Row) (row : Row) (n : ℕ) → AreNumberedFrom 1 (entries_seen rows) → length rows ≡ n
+    → row.entry.number ≡ n + 1 → AreNumberedFrom 1 (entries_seen (rows ++ row ∷ []))
+numbered_row rows row n h count number =
+    let len : length (entries_seen rows) ≡ length rows = length-map rows (λ (r : Row). entry_seen r.entry) in
+    rw map-append (numbered_more 1 (entries_seen rows) (entry_seen row.entry) h (omega (arith, len, count, number)))
+
+-- where the line and the note of the next row were added, a table holds this one too
+pub holds_more : {W : Type 0} (o : outputs.Ghosts W) (old new : Table W) (output : W) (w more : RowWriter)
+    (rows : List Row) (row : Row) → Holds o old output rows → IsNextRow old row
+    → old.writer ≡ Some w → new.writer ≡ Some more → new.state ≡ old.state → IsSameTable old new
+    → waiting_in more ≡ waiting_in w ++ line_of w row → writes_by more ≡ writes_by w
+    → new.journal.items ≡ old.journal.items ++ refusal_notes (row_seen row).number (row_seen row).outcome
+    → new.rows ≡ old.rows + 1 → Holds o new output (rows ++ row ∷ [])
+holds_more o old new output w more rows row h next is now state same line by notes counted =
+    record {
+      stands = λ good.
+          rw (now, same.0, same.1) (stands_more o (layout_of old.setup) (made_for old) output w more rows row
+          (rw is at (h.stands (rw state at good))) line by next.2);
+      failed = rw state h.failed;
+      good = rw (state, same.0) h.good;
+      mark = rw same.0 h.mark;
+      numbered = numbered_row rows row old.rows h.numbered h.counted next.1;
+      counted = omega (arith, length-append rows (row ∷ []), h.counted, counted);
+      targets =
+          rw same.1 (targets_row (λ (r : Row). row_targets r ≡ (layout_of old.setup).targets) rows row h.targets next.2);
+      noted = rw map-append (notes ∙ ap (λ b.
+          b ++ refusal_notes (row_seen row).number (row_seen row).outcome) h.noted
+          ∙ sym (journal_last (rows_seen rows) (row_seen row)));
+    }
+
+-- rows that were made for these targets are the rows of their entries
+rows_are : (targets : List Target) (rows : List Row) → ((row : Row) → Contains rows row → row_targets row ≡ targets)
+    → ∥ AreRowsOf targets (entries_seen rows) (rows_seen rows) ∥₁
+rows_are targets [] all = ∣ tt ∣₁
+rows_are targets (row ∷ rest) all =
+    ∥∥₁_elim row.is_row ∥∥₁_prop (λ is.
+    ∥∥₁_map (rows_are targets rest (λ r c. all r (Contains-append_right (row ∷ []) rest r c)))
+    (λ more. (
+      subst (λ ts. IsRowOf ts (entry_seen row.entry) (row_seen row)) (all row (0, omega arith, refl)) is,
+      more,
+    )))
+
+-- entries that are numbered in order have these numbers
+numbers_are : (k : ℕ) (entries : List Numbered) → AreNumberedFrom k entries
+    → map (λ (entry : Numbered). entry.number) entries ≡ range_with_len k (length entries)
+numbers_are k [] numbered = refl
+numbers_are k (entry ∷ entries) numbered = let rest = numbers_are (k + 1) entries numbered.1 in cc (numbered.0, rest)
+
+-- known bytes, where none wait
+appends_waited : (given output : Option (List ℕ)) (pending table : List ℕ) → pending ≡ []
+    → Appends given (append_known output pending) table → Appends given output table
+appends_waited None output pending table e h = tt
+appends_waited (Some xs) None pending table e h = h
+appends_waited (Some xs) (Some ys) pending table e h = sym (append-nil ys) ∙ ap (λ p. ys ++ p) (sym e) ∙ h
+
+appends_nothing : (given output : Option (List ℕ)) → output ≡ given → Appends given output []
+appends_nothing None output e = tt
+appends_nothing (Some xs) output e = subst (λ o. Appends (Some xs) o []) (sym e) (sym (append-nil xs))
+
+-- the faults of reading that these causes are
+pub only_many : (f : EntryFault) (c : Cause) → c ≡ entry_fault_cause f → c ≡ cause.TooManyRecords
+    → f ≡ entry.TooManyRecords
+only_many f c a is = search rules
+
+pub only_not_sealed : (f : EntryFault) (c : Cause) → c ≡ entry_fault_cause f → c ≡ cause.NotSealed
+    → f ≡ entry.NotSealed
+only_not_sealed f c a is = search rules
+
+pub known_of : (Is : Format → Option (List ℕ) → Type 0) (d e : Format) (text known : Option (List ℕ)) → known ≡ text
+    → e ≡ d → ∥ Is e known ∥₁ → ∥ Is d text ∥₁
+known_of Is d e text known a b h = rw (a, b) at h
+
+pub first_of : (d e : Format) (text known : Option (List ℕ)) (entries given : List Numbered) → known ≡ text → e ≡ d
+    → given ≡ entries → ∥ HasFirstEntries e known given ∥₁ → ∥ HasFirstEntries d text entries ∥₁
+first_of d e text known entries given a b c h = rw (a, b, c) at h
+
+-- how a table ended
+pub ends_whole : {W : Type 0} (e : SourceEnd) (table : Table W) (layout : Layout) (text old now : Option (List ℕ))
+    → IfWhole e (HasEnded table)
+    → ∥ Gains old now (IsWholeTable layout text table.rows (length table.journal.items) table.journal.items) ∥₁
+    → IfWhole e (λ rows refused journal. ∥ Gains old now (IsWholeTable layout text rows refused journal) ∥₁)
+ends_whole (end.Whole rows refused journal) table layout text old now is h = rw (is.1, is.2, is.3) h
+ends_whole (end.Broken c) table layout text old now is h = tt
+
+pub ends_so : (e : SourceEnd) (IsSo : Type 0) → IsSo → IfWhole e (λ rows refused journal. IsSo)
+ends_so (end.Whole rows refused journal) IsSo is = is
+ends_so (end.Broken c) IsSo is = tt
+
+-- which faults there are
+pub other_cause : (f : Option Cause) (c d : Cause) → f ≡ Some c → (c ≡ d → ⊥) → f ≢ Some d
+other_cause f c d e other is = other (cc)
+
+pub sink_alone : (f : Option Cause) → IfSome f (λ c. c ≡ cause.SinkFault) → f ≢ Some cause.Unconfirmed
+sink_alone f h e = search rules
+
+pub no_thread : (f : Option Cause) (c : Cause) → f ≡ Some c → IfSome f (λ c. is_of_table c ≡ true) → c ≢ cause.NoThread
+no_thread f c e of is = search rules
+
+pub of_reading : (f : EntryFault) (c : Cause) → c ≡ entry_fault_cause f → (f ≡ entry.Failed → ⊥)
+    → (c ≢ cause.NoThread) × (c ≢ cause.Unconfirmed)
+of_reading f c e other = search rules
+
+-- a table that goes on has its output
+pub faultless : (s : TableState) → fault_of s ≡ None → lost_output s ≡ false
+faultless state.Open e = refl
+faultless (state.Halted c) e = refl
+faultless (state.OutputFailed c) e = absurd (cc)
+
+pub lost_fault : (s : TableState) → lost_output s ≡ true → IfSome (fault_of s) (λ c. c ≡ cause.SinkFault)
+    → fault_of s ≡ Some cause.SinkFault
+lost_fault state.Open e h = absurd (cc)
+lost_fault (state.Halted c) e h = absurd (cc)
+lost_fault (state.OutputFailed c) e h = ap Some h
+
+pub fault_cases : (f : Option Cause) → (f ≡ None) ⊎ (f ≢ None)
+fault_cases None = inl refl
+fault_cases (Some c) = inr (λ e. cc)
+
+waited : (s : TableState) (w : RowWriter) → lost_output s ≡ false → lines_waiting s (Some w) ≡ [] → waiting_in w ≡ []
+waited state.Open w good sent = sent
+waited (state.Halted c) w good sent = sent
+waited (state.OutputFailed c) w good sent = absurd (cc)
+
+-- a table of which no line waits
+module _ {W : Type 0} (o : outputs.Ghosts W) (table : Table W) (output : W) (rows : List Row)
+    (holds : Holds o table output rows) (sent : waiting_of table ≡ []) where
+  abbrev layout : Layout
+  layout = layout_of table.setup
+
+  abbrev bytes : List ℕ
+  bytes = table_text layout (rows_seen rows)
+
+  abbrev Gained : (List ℕ → Type 0) → Type 0
+  Gained AreSo = Gains (o.contents (made_for table)) (o.contents output) AreSo
+
+  abbrev AreRows : Type 0
+  AreRows = AreRowsOf layout.targets (entries_seen rows) (rows_seen rows)
+
+  pub are_rows : ∥ AreRows ∥₁
+  are_rows = rows_are layout.targets rows holds.targets
+
+  pub table_is : AreRows → IsTableOf layout (entries_seen rows) (rows_seen rows) bytes
+  table_is are = record { numbered = numbers_are 1 (entries_seen rows) holds.numbered; converted = are; written = refl }
+
+  written_by : (w : Option RowWriter) → table.writer ≡ w → has_lost_output table ≡ false → is_some w ≡ true
+      → Appends (o.contents (made_for table)) (o.contents output) bytes × (o.is_flushed output ≡ true)
+  written_by None is good some = absurd (cc)
+  written_by (Some w) is good some =
+      let so = rw is at (holds.stands good) in (
+        appends_waited (o.contents (made_for table)) (o.contents output) (waiting_in w) bytes
+            (waited table.state w good (rw is at sent)) so.0,
+        so.1,
+      )
+
+  pub written : has_lost_output table ≡ false → is_headed table ≡ true
+      → Appends (o.contents (made_for table)) (o.contents output) bytes × (o.is_flushed output ≡ true)
+  written good some = written_by table.writer refl good some
+
+  pub unwritten : has_lost_output table ≡ false → is_headed table ≡ false → (output ≡ made_for table) × (rows ≡ [])
+  unwritten good none = search (rules, stands_none, layout)
+
+  -- without a heading the output has gained nothing, and with one the table of the rows
+  pub gained_so : (AreSo : List ℕ → Type 0) (b : Bool) → is_headed table ≡ b → has_lost_output table ≡ false
+      → (rows ≡ [] → AreSo []) → (is_headed table ≡ true → AreSo bytes) → Gained AreSo
+  gained_so AreSo false b good none some = search (rules, unwritten, appends_nothing)
+  gained_so AreSo true b good none some = (bytes, some b, (written good b).0)
+
+  module _ (text : Option (List ℕ)) (are : AreRows) (good : has_lost_output table ≡ false) where
+    pub front_so : (count : ℕ) → count ≡ length rows → HasFirstEntries layout.format text (entries_seen rows)
+        → IsFrontOfTable layout text count bytes
+    front_so count counted first = record {
+      entries = entries_seen rows;
+      rows = rows_seen rows;
+      table = table_is are;
+      counted = counted ∙ sym (length-map rows row_seen);
+      first = first;
+    }
+
+    pub whole_so : (count : ℕ) → count ≡ length rows → is_headed table ≡ true
+        → HasEntries layout.format text (entries_seen rows)
+        → Gained (IsWholeTable layout text count (length table.journal.items) table.journal.items)
+    whole_so count counted some accepted = (
+      bytes,
+      record {
+        entries = entries_seen rows;
+        rows = rows_seen rows;
+        table = table_is are;
+        counted = counted ∙ sym (length-map rows row_seen);
+        noted = holds.noted;
+        refused_counted = refl;
+        accepted = accepted;
+      },
+      (written good some).0,
+    )
+
+    pub all_so : is_headed table ≡ true → HasAllEntries layout.format text (entries_seen rows)
+        → Gained (IsTableOfAll layout text)
+    all_so some all = (
+      bytes,
+      record { entries = entries_seen rows; rows = rows_seen rows; table = table_is are; all = all },
+      (written good some).0,
+    )
+
+-- a table without a row that waits, to which these entries of a text were given, the last of which may have halted it
+pub record Follows {W : Type 0} (o : outputs.Ghosts W) (format : Format) (text : Option (List ℕ))
+    (given : List Numbered) (table : Table W) (output : W) : Type 0 where
+  pub rows : List Row
+  pub holds : Holds o table output rows
+  pub same : table_fault table ≡ None → given ≡ entries_seen rows
+  pub first : ∥ HasFirstEntries format text (entries_seen rows) ∥₁
+  pub headed : table_fault table ≡ None → is_headed table ≡ true
+  pub sent : waiting_of table ≡ []
+  pub confirmed : table_fault table ≢ Some cause.Unconfirmed
+  pub lost : has_lost_output table ≡ true → table_fault table ≡ Some cause.SinkFault
+
+module _ {W : Type 0} (o : outputs.Ghosts W) (format : Format) (text : Option (List ℕ)) (given : List Numbered)
+    (table : Table W) (output : W) (f : Follows o format text given table output)
+    (by : format ≡ (layout_of (made_by table)).format) where
+  abbrev its_layout : Layout
+  its_layout = layout_of (made_by table)
+
+  abbrev HasGained : (List ℕ → Type 0) → Type 0
+  HasGained AreSo = ∥ Gains (o.contents (made_for table)) (o.contents output) AreSo ∥₁
+
+  pub kept : table_fault table ≢ Some cause.SinkFault → has_lost_output table ≡ false
+  kept other = false_from_ne_true (has_lost_output table) (λ lost. other (f.lost lost))
+
+  pub front : table_fault table ≢ Some cause.SinkFault → HasGained (ArePartOfTable its_layout text)
+  front other =
+      ∥∥₁_elim (are_rows o table output f.rows f.holds f.sent) ∥∥₁_prop (λ are. ∥∥₁_map (rw by at f.first) (λ first.
+      gained_so o table output f.rows f.holds f.sent (ArePartOfTable its_layout text) (is_headed table) refl (kept other)
+      (λ none. inl refl)
+      (λ some. inr (length f.rows, front_so o table output f.rows f.holds f.sent text are (kept other) (length f.rows)
+      refl first))))
+
+  -- the same of a table that goes on
+  module _ (open_ : table_fault table ≡ None) where
+   good : has_lost_output table ≡ false
+   good = faultless table.state open_
+
+   pub first_rows : (count : ℕ) → length given ≡ count → HasGained (IsFrontOfTable its_layout text count)
+   first_rows count counted =
+       ∥∥₁_elim (are_rows o table output f.rows f.holds f.sent) ∥∥₁_prop (λ are. ∥∥₁_map (rw by at f.first) (λ first. (
+         table_text its_layout (rows_seen f.rows),
+         front_so o table output f.rows f.holds f.sent text are good count
+             (sym counted ∙ ap length (f.same open_) ∙ length-map f.rows (λ (row : Row). entry_seen row.entry)) first,
+         (written o table output f.rows f.holds f.sent good (f.headed open_)).0,
+       )))
+
+   -- and of the entries that a reader of the text gave
+   module _ (known : Option (List ℕ)) (e : Format) (gave : List Numbered) (same : known ≡ text)
+       (by' : e ≡ its_layout.format) (gives : gave ≡ given) where
+
+    pub whole_rows : ∥ HasEntries e known gave ∥₁
+        → HasGained (IsWholeTable its_layout text table.rows (length table.journal.items) table.journal.items)
+    whole_rows h = ∥∥₁_elim (are_rows o table output f.rows f.holds f.sent) ∥∥₁_prop (λ are.
+        ∥∥₁_map (rw (same, by', gives ∙ f.same open_) at h)
+        (whole_so o table output f.rows f.holds f.sent text are good table.rows (sym f.holds.counted) (f.headed open_)))
+
+    pub all_rows : ∥ HasAllEntries e known gave ∥₁ → HasGained (IsTableOfAll its_layout text)
+    all_rows h = ∥∥₁_elim (are_rows o table output f.rows f.holds f.sent) ∥∥₁_prop (λ are.
+        ∥∥₁_map (rw (same, by', gives ∙ f.same open_) at h)
+        (all_so o table output f.rows f.holds f.sent text are good (f.headed open_)))

@@ -1,0 +1,21 @@
+use Rattle.std.proofs.Common.{◌≡◌, ◌-◌, false, length}
+use Rattle.register_records.specs.Entries.{record_limit}
+use Rattle.register_records.specs.TablesWritten.{made_by, made_for}
+use Rattle.register_records.specs.Views.{format_of, given_of, reader_failed, reads_by, text_of}
+use Rattle.register_records.proofs.TableLemmas.{Follows}
+use Rattle.register_records.proofs.sources.convert_source.Given as goal
+
+abbrev pub invariant-entries : goal.invariant-entries
+invariant-entries g l =
+    record {
+      text : text_of l.entries ≡ g.R.Read.remaining l.fn.reader;
+      by : reads_by l.entries ≡ format_of l.setup;
+      failed : reader_failed l.entries ≡ false;
+      output : made_for l.table ≡ l.fn.output;
+      setup : made_by l.table ≡ l.setup;
+      follows : Follows g.W.Output (format_of l.setup) (g.R.Read.remaining l.fn.reader) (given_of l.entries) l.table
+          l.output;
+    }
+
+abbrev pub decreases-entries : goal.decreases-entries
+decreases-entries g l = record_limit - length (given_of l.entries)

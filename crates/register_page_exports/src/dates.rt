@@ -1,6 +1,6 @@
 //! Dates as people write them, for a page.
 
-ghost use Rattle.std.specs.Prelude.{◌≡◌, ◌≢◌, ◌⊎◌, ◌≤◌, List, IfOk, IfErr, Some, length, slice_get};
+ghost use Rattle.std.specs.Prelude.{◌≡◌, ◌≢◌, ◌⊎◌, ◌≤◌, ℕ, List, IfOk, Some, length, slice_get};
 ghost use Rattle.date_texts.specs.Calendars.{all_calendars};
 ghost use Rattle.date_texts.specs.declared.calendar.Calendar.{Calendar as CalendarValue};
 ghost use Rattle.register_records.specs.Entries.{text_records};
@@ -11,9 +11,18 @@ ghost use Rattle.register_page_exports.specs.SheetReports.{PutsText};
 
 use crate::sheets::{TextReport, put_text};
 use date_texts::Calendar;
+use date_texts::laws::all_calendars;
 use register_sheets::{NameList, NameListFault};
 use std::alloc::{AllocError, Global};
 use written_dates::{Choice, Names, Order, Short, write_date};
+
+/// The calendar of a number, from 0.
+fn calendar_at(number: u8) -> Option<Calendar>
+    ensures { result ≡ slice_get all_calendars number }
+{
+    all_calendars();
+    Calendar::ALL.get(number as usize).copied()
+}
 
 /// The choice for one date: the order of this number, years as they stand, and Roman years as those of the Kalends.
 fn choice_by(order: u8) -> Choice
@@ -75,7 +84,7 @@ pub extern "C" fn date_write(
         ending: 1,
         length: 0,
     };
-    let Some(calendar) = Calendar::ALL.get(calendar as usize) else {
+    let Some(calendar) = calendar_at(calendar) else {
         report.ending = 3;
         return;
     };
@@ -87,7 +96,7 @@ pub extern "C" fn date_write(
             return;
         }
     };
-    if let Ok(date) = written(alloc, text, *calendar, order, &list) {
+    if let Ok(date) = written(alloc, text, calendar, order, &list) {
         *report = put_text(date.as_slice(), buffer);
     }
 }

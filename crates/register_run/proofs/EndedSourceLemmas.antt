@@ -1,5 +1,5 @@
 -- What is known of a source that has ended.
-use Rattle.std.proofs.Common.{rules, ◌≡◌, ◌≢◌, ◌∙◌, ap, refl, sym, subst, ℕ, List, [], ◌∷◌, ◌++◌, length, Option, None}
+use Rattle.std.proofs.Common.{rules, ◌≡◌, ◌≢◌, ◌∙◌, ap, refl, sym, subst, ℕ, List, [], ◌++◌, length, Option, None}
 use Rattle.std.proofs.Common.{Some, ◌≤◌, inl, inr, arith, length-append, true, false, Bool, Err, Ok, IfOk, IfSome}
 use Rattle.std.specs.List.{Contains}
 use Rattle.std.proofs.lemmas.Bool.{cases_eq, false_from_ne_true}

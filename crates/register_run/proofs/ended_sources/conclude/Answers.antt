@@ -1,7 +1,7 @@
 use Rattle.std.proofs.Common.{◌∙◌, Option, ap, subst, sym, ℕ}
 use Rattle.std.proofs.Props.{props}
 use Rattle.std.proofs.Math.Logic.{∥∥₁_elim, ∥∥₁_prop}
-use Rattle.register_records.specs.TablesWritten.{made_for, table_fault}
+use Rattle.register_records.specs.TablesWritten.{table_fault}
 use Rattle.register_run.proofs.Common.{Cause, AreThreadsOf, Met, Ran}
 use Rattle.register_run.proofs.EndedSourceLemmas.{headless, source_end, with_table}
 use Rattle.register_run.proofs.ThreadLemmas.{threads_of}

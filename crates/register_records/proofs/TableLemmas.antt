@@ -348,8 +348,11 @@ module _ {W : Type 0} (o : outputs.Ghosts W) (start : W) (setup : Setup) (text :
       ∥∥₁_map (rw (sym f.same.1) at f.first) (λ first.
       gained_so o table output f.rows f.holds f.sent (ArePartOfTable (layout_of (made_by table)) text) (is_headed table)
       refl (has_output other) (λ none. inl refl)
-      (λ some. inr (length f.rows, front_so o table output f.rows f.holds f.sent text are (has_output other)
-      (length f.rows) refl first)))))
+      (λ some. inr (
+        length f.rows,
+        front_so o table output f.rows f.holds f.sent text are (has_output other)
+            (length f.rows) refl first,
+      )))))
 
   -- the same of a table that goes on
   module _ (open_ : table_fault table ≡ None) where
@@ -370,7 +373,7 @@ module _ {W : Type 0} (o : outputs.Ghosts W) (start : W) (setup : Setup) (text :
     first_rows count counted =
         let length_is = sym counted ∙ ap length (f.all open_) ∙ length-map f.rows (λ (row : Row). entry_seen row.entry) in
         let gains : ∥ Gains (o.contents (made_for table)) (o.contents output)
-            (IsFrontOfTable (layout_of (made_by table)) text count) ∥₁
+        (IsFrontOfTable (layout_of (made_by table)) text count) ∥₁
         = ∥∥₁_elim (are_rows o table output f.rows f.holds f.sent) ∥∥₁_prop (λ are.
         ∥∥₁_map (rw (sym f.same.1) at f.first) (λ first. (
           table_text (layout_of (made_by table)) (rows_seen f.rows),

@@ -146,8 +146,11 @@ module _ {W : Type 0} (o : outputs.Ghosts W) (text : Option (List ℕ)) (table :
         → Gained (ArePartOfTable layout text)
     part_so good some are =
         gained_so o table output rows holds sent (ArePartOfTable layout text) (is_headed table) refl good (λ none. inl refl)
-        (λ has. inr (length rows, front_so o table output rows holds sent text are good (length rows) refl
-        (first_so (some (same_head ∙ has)))))
+        (λ has. inr (
+          length rows,
+          front_so o table output rows holds sent text are good (length rows) refl
+              (first_so (some (same_head ∙ has))),
+        ))
 
   -- as many rows were written as there may be
   most_so : length rows ≡ record_limit → has_lost_output table ≡ false

@@ -68,16 +68,16 @@ entries-preserved g c =
       failed = read.reads.fails;
       follows = elim (fault_cases (table_fault c.add.new.self)) [
         | inl none ↦ record {
-            rows = f.rows ++ row ∷ [];
-            holds = c.send.ensures.rows _ (c.add.ensures.added none _ _ f.holds);
-            same = same;
-            all = λ e. given;
-            first = of_reader HasFirstEntries _ _ _ _ _ _ text by given c.read_next.new.entries.first;
-            headed = λ e. c.send.ensures.heading ∙ c.add.ensures.heading ∙ f.headed open_;
-            sent = c.send.ensures.sent;
-            confirmed = sink_alone _ (c.send.ensures.fault none);
-            lost = λ lost. lost_fault c.send.new.self.state lost (c.send.ensures.fault none);
-          }
+          rows = f.rows ++ row ∷ [];
+          holds = c.send.ensures.rows _ (c.add.ensures.added none _ _ f.holds);
+          same = same;
+          all = λ e. given;
+          first = of_reader HasFirstEntries _ _ _ _ _ _ text by given c.read_next.new.entries.first;
+          headed = λ e. c.send.ensures.heading ∙ c.add.ensures.heading ∙ f.headed open_;
+          sent = c.send.ensures.sent;
+          confirmed = sink_alone _ (c.send.ensures.fault none);
+          lost = λ lost. lost_fault c.send.new.self.state lost (c.send.ensures.fault none);
+        }
         | inr some ↦
             let idle = sym (ap table_fault (c.send.ensures.idle (c.add.ensures.waiting some ∙ f.sent)).0) in record {
               rows = f.rows;

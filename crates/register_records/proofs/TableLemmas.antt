@@ -22,7 +22,7 @@ use Rattle.register_records.specs.Tables.{Layout, heading_line, journal_of, line
 use Rattle.register_records.specs.Tables.{table_text}
 use Rattle.register_records.specs.TablesWritten.{HasEnded, Holds, IsNextRow, IsSameTable, IsTableSoFar, entries_seen, has_lost_output, is_headed}
 use Rattle.register_records.specs.TablesWritten.{made_by, made_for, rows_seen, table_fault, waiting_of}
-use Rattle.register_records.specs.Views.{layout_of, line_of, row_seen, row_targets, waiting_in, writes_by}
+use Rattle.register_records.specs.Views.{format_of, layout_of, line_of, row_seen, row_targets, waiting_in, writes_by}
 use Rattle.register_records.specs.declared.ends.Cause.{Cause}
 use Rattle.register_records.specs.declared.ends.Cause.TheVariants as cause
 use Rattle.register_records.specs.declared.ends.Note.{Note}
@@ -32,6 +32,7 @@ use Rattle.register_records.specs.declared.outputs.Output as outputs
 use Rattle.register_records.specs.declared.reading.EntryFault.{EntryFault}
 use Rattle.register_records.specs.declared.reading.EntryFault.TheVariants as entry
 use Rattle.register_records.specs.declared.rows.Row.{Row}
+use Rattle.register_records.specs.declared.setups.Setup.{Setup}
 use Rattle.register_records.specs.declared.tables.Table.{Table}
 use Rattle.register_records.specs.declared.tables.TableState.{TableState}
 use Rattle.register_records.specs.declared.tables.TableState.TheVariants as state
@@ -181,13 +182,11 @@ pub only_not_sealed : (f : EntryFault) (c : Cause) → c ≡ entry_fault_cause f
     → f ≡ entry.NotSealed
 only_not_sealed f c a is = search rules
 
-pub known_of : (Is : Format → Option (List ℕ) → Type 0) (d e : Format) (text known : Option (List ℕ)) → known ≡ text
-    → e ≡ d → ∥ Is e known ∥₁ → ∥ Is d text ∥₁
-known_of Is d e text known a b h = rw (a, b) at h
-
-pub first_of : (d e : Format) (text known : Option (List ℕ)) (entries given : List Numbered) → known ≡ text → e ≡ d
-    → given ≡ entries → ∥ HasFirstEntries e known given ∥₁ → ∥ HasFirstEntries d text entries ∥₁
-first_of d e text known entries given a b c h = rw (a, b, c) at h
+-- what holds of the text and the entries of a reader
+pub of_reader : (Is : Format → Option (List ℕ) → List Numbered → Type 0) (d e : Format) (text known : Option (List ℕ))
+    (entries given : List Numbered) → known ≡ text → e ≡ d → given ≡ entries → ∥ Is e known given ∥₁
+    → ∥ Is d text entries ∥₁
+of_reader Is d e text known entries given a b c h = rw (a, b, c) at h
 
 -- how a table ended
 pub ends_whole : {W : Type 0} (e : SourceEnd) (table : Table W) (layout : Layout) (text old now : Option (List ℕ))
@@ -316,63 +315,73 @@ module _ {W : Type 0} (o : outputs.Ghosts W) (table : Table W) (output : W) (row
       (written good some).0,
     )
 
--- a table without a row that waits, to which these entries of a text were given, the last of which may have halted it
-pub record Follows {W : Type 0} (o : outputs.Ghosts W) (format : Format) (text : Option (List ℕ))
+-- a table for this output and by this setup, in which no line waits and to which these entries of the text were added,
+-- but for the last one where that halted it
+pub record Follows {W : Type 0} (o : outputs.Ghosts W) (start : W) (setup : Setup) (text : Option (List ℕ))
     (given : List Numbered) (table : Table W) (output : W) : Type 0 where
   pub rows : List Row
   pub holds : Holds o table output rows
-  pub same : table_fault table ≡ None → given ≡ entries_seen rows
-  pub first : ∥ HasFirstEntries format text (entries_seen rows) ∥₁
+  pub same : (made_for table ≡ start) × (made_by table ≡ setup)
+  pub all : table_fault table ≡ None → given ≡ entries_seen rows
+  pub first : ∥ HasFirstEntries (format_of setup) text (entries_seen rows) ∥₁
   pub headed : table_fault table ≡ None → is_headed table ≡ true
   pub sent : waiting_of table ≡ []
   pub confirmed : table_fault table ≢ Some cause.Unconfirmed
   pub lost : has_lost_output table ≡ true → table_fault table ≡ Some cause.SinkFault
 
-module _ {W : Type 0} (o : outputs.Ghosts W) (format : Format) (text : Option (List ℕ)) (given : List Numbered)
-    (table : Table W) (output : W) (f : Follows o format text given table output)
-    (by : format ≡ (layout_of (made_by table)).format) where
-  abbrev its_layout : Layout
-  its_layout = layout_of (made_by table)
-
+module _ {W : Type 0} (o : outputs.Ghosts W) (start : W) (setup : Setup) (text : Option (List ℕ))
+    (given : List Numbered) (table : Table W) (output : W) (f : Follows o start setup text given table output) where
   abbrev HasGained : (List ℕ → Type 0) → Type 0
-  HasGained AreSo = ∥ Gains (o.contents (made_for table)) (o.contents output) AreSo ∥₁
+  HasGained AreSo = ∥ Gains (o.contents start) (o.contents output) AreSo ∥₁
 
-  pub kept : table_fault table ≢ Some cause.SinkFault → has_lost_output table ≡ false
-  kept other = false_from_ne_true (has_lost_output table) (λ lost. other (f.lost lost))
+  pub marked : o.own_mark output ≡ o.own_mark start
+  marked = f.holds.mark ∙ ap o.own_mark f.same.0
 
-  pub front : table_fault table ≢ Some cause.SinkFault → HasGained (ArePartOfTable its_layout text)
-  front other =
-      ∥∥₁_elim (are_rows o table output f.rows f.holds f.sent) ∥∥₁_prop (λ are. ∥∥₁_map (rw by at f.first) (λ first.
-      gained_so o table output f.rows f.holds f.sent (ArePartOfTable its_layout text) (is_headed table) refl (kept other)
-      (λ none. inl refl)
-      (λ some. inr (length f.rows, front_so o table output f.rows f.holds f.sent text are (kept other) (length f.rows)
-      refl first))))
+  has_output : table_fault table ≢ Some cause.SinkFault → has_lost_output table ≡ false
+  has_output other = false_from_ne_true (has_lost_output table) (λ lost. other (f.lost lost))
+
+  pub kept : table_fault table ≢ Some cause.SinkFault → o.has_failed output ≡ o.has_failed start
+  kept other = f.holds.good (has_output other) ∙ ap o.has_failed f.same.0
+
+  pub front : table_fault table ≢ Some cause.SinkFault → HasGained (ArePartOfTable (layout_of setup) text)
+  front other = rw (f.same.0, f.same.1) at (∥∥₁_elim (are_rows o table output f.rows f.holds f.sent) ∥∥₁_prop (λ are.
+      ∥∥₁_map (rw (sym f.same.1) at f.first) (λ first.
+      gained_so o table output f.rows f.holds f.sent (ArePartOfTable (layout_of (made_by table)) text) (is_headed table)
+      refl (has_output other) (λ none. inl refl)
+      (λ some. inr (
+        length f.rows,
+        front_so o table output f.rows f.holds f.sent text are (has_output other)
+            (length f.rows) refl first,
+      )))))
 
   -- the same of a table that goes on
   module _ (open_ : table_fault table ≡ None) where
-   good : has_lost_output table ≡ false
-   good = faultless table.state open_
+    good : has_lost_output table ≡ false
+    good = faultless table.state open_
 
-   pub first_rows : (count : ℕ) → length given ≡ count → HasGained (IsFrontOfTable its_layout text count)
-   first_rows count counted =
-       ∥∥₁_elim (are_rows o table output f.rows f.holds f.sent) ∥∥₁_prop (λ are. ∥∥₁_map (rw by at f.first) (λ first. (
-         table_text its_layout (rows_seen f.rows),
-         front_so o table output f.rows f.holds f.sent text are good count
-             (sym counted ∙ ap length (f.same open_) ∙ length-map f.rows (λ (row : Row). entry_seen row.entry)) first,
-         (written o table output f.rows f.holds f.sent good (f.headed open_)).0,
-       )))
+    pub flushed : o.is_flushed output ≡ true
+    flushed = (written o table output f.rows f.holds f.sent good (f.headed open_)).1
 
-   -- and of the entries that a reader of the text gave
-   module _ (known : Option (List ℕ)) (e : Format) (gave : List Numbered) (same : known ≡ text)
-       (by' : e ≡ its_layout.format) (gives : gave ≡ given) where
+    pub whole_rows : ∥ HasEntries (format_of setup) text given ∥₁
+        → HasGained (IsWholeTable (layout_of setup) text table.rows (length table.journal.items) table.journal.items)
+    whole_rows h = rw (f.same.0, f.same.1) at (∥∥₁_elim (are_rows o table output f.rows f.holds f.sent) ∥∥₁_prop (λ are.
+        ∥∥₁_map (rw (sym f.same.1, f.all open_) at h)
+        (whole_so o table output f.rows f.holds f.sent text are good table.rows (sym f.holds.counted)
+        (f.headed open_))))
 
-    pub whole_rows : ∥ HasEntries e known gave ∥₁
-        → HasGained (IsWholeTable its_layout text table.rows (length table.journal.items) table.journal.items)
-    whole_rows h = ∥∥₁_elim (are_rows o table output f.rows f.holds f.sent) ∥∥₁_prop (λ are.
-        ∥∥₁_map (rw (same, by', gives ∙ f.same open_) at h)
-        (whole_so o table output f.rows f.holds f.sent text are good table.rows (sym f.holds.counted) (f.headed open_)))
+    pub first_rows : (count : ℕ) → length given ≡ count → HasGained (IsFrontOfTable (layout_of setup) text count)
+    first_rows count counted =
+        let length_is = sym counted ∙ ap length (f.all open_) ∙ length-map f.rows (λ (row : Row). entry_seen row.entry) in
+        let gains : ∥ Gains (o.contents (made_for table)) (o.contents output)
+        (IsFrontOfTable (layout_of (made_by table)) text count) ∥₁
+        = ∥∥₁_elim (are_rows o table output f.rows f.holds f.sent) ∥∥₁_prop (λ are.
+        ∥∥₁_map (rw (sym f.same.1) at f.first) (λ first. (
+          table_text (layout_of (made_by table)) (rows_seen f.rows),
+          front_so o table output f.rows f.holds f.sent text are good count length_is first,
+          (written o table output f.rows f.holds f.sent good (f.headed open_)).0,
+        ))) in rw (f.same.0, f.same.1) at gains
 
-    pub all_rows : ∥ HasAllEntries e known gave ∥₁ → HasGained (IsTableOfAll its_layout text)
-    all_rows h = ∥∥₁_elim (are_rows o table output f.rows f.holds f.sent) ∥∥₁_prop (λ are.
-        ∥∥₁_map (rw (same, by', gives ∙ f.same open_) at h)
-        (all_so o table output f.rows f.holds f.sent text are good (f.headed open_)))
+    pub all_rows : ∥ HasAllEntries (format_of setup) text given ∥₁ → HasGained (IsTableOfAll (layout_of setup) text)
+    all_rows h = rw (f.same.0, f.same.1) at (∥∥₁_elim (are_rows o table output f.rows f.holds f.sent) ∥∥₁_prop (λ are.
+        ∥∥₁_map (rw (sym f.same.1, f.all open_) at h)
+        (all_so o table output f.rows f.holds f.sent text are good (f.headed open_))))

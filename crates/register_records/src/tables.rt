@@ -168,9 +168,7 @@ impl<W: Output> Table<W> {
     fn is_next(&self, row: &Row) -> bool
         ensures { (result ≡ true) ↔ IsNextRow self.now row.now }
     {
-        self.writer.is_some()
-            && row.entry().number() == self.rows + 1
-            && row.is_for(&self.setup)
+        self.writer.is_some() && row.entry().number() == self.rows + 1 && row.is_for(&self.setup)
     }
 
     /// Writes the lines that wait in one call and flushes them, also where a fault was met that is not of the output.

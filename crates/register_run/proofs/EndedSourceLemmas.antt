@@ -1,5 +1,5 @@
 -- What is known of a source that has ended.
-use Rattle.std.proofs.Common.{rules, ◌≡◌, ◌≢◌, ◌∙◌, ap, refl, sym, subst, ℕ, List, [], ◌∷◌, ◌++◌, length, Option, None}
+use Rattle.std.proofs.Common.{rules, ◌≡◌, ◌≢◌, ◌∙◌, ap, refl, sym, subst, ℕ, List, [], ◌++◌, length, Option, None}
 use Rattle.std.proofs.Common.{Some, ◌≤◌, inl, inr, arith, length-append, true, false, Bool, Err, Ok, IfOk, IfSome}
 use Rattle.std.specs.List.{Contains}
 use Rattle.std.proofs.lemmas.Bool.{cases_eq, false_from_ne_true}
@@ -146,8 +146,11 @@ module _ {W : Type 0} (o : outputs.Ghosts W) (text : Option (List ℕ)) (table :
         → Gained (ArePartOfTable layout text)
     part_so good some are =
         gained_so o table output rows holds sent (ArePartOfTable layout text) (is_headed table) refl good (λ none. inl refl)
-        (λ has. inr (length rows, front_so o table output rows holds sent text are good (length rows) refl
-        (first_so (some (same_head ∙ has)))))
+        (λ has. inr (
+          length rows,
+          front_so o table output rows holds sent text are good (length rows) refl
+              (first_so (some (same_head ∙ has))),
+        ))
 
   -- as many rows were written as there may be
   most_so : length rows ≡ record_limit → has_lost_output table ≡ false

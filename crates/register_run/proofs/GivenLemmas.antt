@@ -1,6 +1,6 @@
 -- What a reader gave of a text, by how it ended.
-use Rattle.std.proofs.Common.{rules, ◌≡◌, sym, refl, ℕ, ◌+◌, List, [], ◌∷◌, ◌++◌, length, Option}
-use Rattle.std.proofs.Common.{inr, arith, Err, IfSome, Ok}
+use Rattle.std.proofs.Common.{rules, ◌≡◌, sym, refl, ℕ, List, [], length, Option}
+use Rattle.std.proofs.Common.{inr, Err, IfSome, Ok}
 use Rattle.std.proofs.Math.Logic.{∥∥₁_elim, ∥∥₁_map, ∥∥₁_prop}
 use Rattle.register_run.proofs.Common.{AreNumberedFrom, Format, HasAllEntries, HasEntries, HasFirstEntries, Numbered}
 use Rattle.register_run.proofs.Common.{record_limit, Cause, Sender, Entry, Row, AreDealt, World}

@@ -4,7 +4,7 @@
 --   CarriedLemmas, ConvertingLemmas, DealtLemmas, PoppedLemmas: that each lane carries what the machine deals to its
 --     stripe, in order, and that the writer goes by the machine's turns. HistoryLemmas, upon these: that some schedule
 --     of the machine has the histories of these lanes; the clause `machine`.
---   TableLemmas, RunningSourceLemmas, EndedSourceLemmas: what is known of one source and its output; the fields of
+--   RunningSourceLemmas, EndedSourceLemmas: what is known of one source and its output; the fields of
 --     `IsWhole` and `IsBroken`.
 --   HeadlineLemmas: from there to the clauses `report` and `machine` of `run` and `run_gated`.
 --   ThreadLemmas: that each source had as many stripes as its setup, with lanes of the setup's ring; the clause

@@ -34,10 +34,10 @@ module _ {R W : Type 0} (o : outputs.Ghosts W) where
   wrote_row threads table headed after output sent row here head added refused h =
       ∥∥₁_map h (λ (rows, is, took). elim (fault_cases (table_fault after)) [
         | inl none ↦ (
-            rows ++ row ∷ [],
-            added none sent rows (head rows is),
-            targets_row (λ r. Passed threads r) rows row took here,
-          )
+          rows ++ row ∷ [],
+          added none sent rows (head rows is),
+          targets_row (λ r. Passed threads r) rows row took here,
+        )
         | inr some ↦ (rows, refused some sent rows (head rows is), took)
       ])
 

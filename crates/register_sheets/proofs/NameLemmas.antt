@@ -88,21 +88,27 @@ pub first_fault : (header : Fields) (before : List Fields) (lines : List NameLin
     → IsFaultOf (header ∷ before ++ fields ∷ after) why
 first_fault header before lines fields after number fault.OutOfMemory is are counted refused = tt
 first_fault header before lines fields after number fault.Header is are counted refused = absurd refused
-first_fault header before lines fields after number (fault.Means n) is are counted refused = (is, record {
-  before = before;
-  after = after;
-  fields = fields;
-  lines = lines;
-  cut = refl;
-  are_lines = are;
-  refused = (refused.0 ∙ counted ∙ ap (λ k. k + 1) (sym (lines_count before lines are)), refused.1);
-})
-first_fault header before lines fields after number (fault.In n) is are counted refused = (is, record {
-  before = before;
-  after = after;
-  fields = fields;
-  lines = lines;
-  cut = refl;
-  are_lines = are;
-  refused = (refused.0 ∙ counted ∙ ap (λ k. k + 1) (sym (lines_count before lines are)), refused.1);
-})
+first_fault header before lines fields after number (fault.Means n) is are counted refused = (
+  is,
+  record {
+    before = before;
+    after = after;
+    fields = fields;
+    lines = lines;
+    cut = refl;
+    are_lines = are;
+    refused = (refused.0 ∙ counted ∙ ap (λ k. k + 1) (sym (lines_count before lines are)), refused.1);
+  },
+)
+first_fault header before lines fields after number (fault.In n) is are counted refused = (
+  is,
+  record {
+    before = before;
+    after = after;
+    fields = fields;
+    lines = lines;
+    cut = refl;
+    are_lines = are;
+    refused = (refused.0 ∙ counted ∙ ap (λ k. k + 1) (sym (lines_count before lines are)), refused.1);
+  },
+)

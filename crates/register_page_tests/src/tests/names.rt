@@ -59,13 +59,19 @@ fn what_is_no_list_is_refused(rt: HostRuntime) -> Result<(), Fail> {
     let cases = [
         ("", NameListFault::Header),
         ("name;means;in\n", NameListFault::Header),
-        ("name,means,in\na,month 13,\nb,month 14,\n", NameListFault::Means(2)),
+        (
+            "name,means,in\na,month 13,\nb,month 14,\n",
+            NameListFault::Means(2),
+        ),
         ("name,means,in\na,month 01,\n", NameListFault::Means(1)),
         ("name,means,in\na,1000000000,\n", NameListFault::Means(1)),
         ("name,means,in\na,01,\n", NameListFault::Means(1)),
         ("name,means,in\na,k,\n", NameListFault::Means(1)),
         ("name,means,in\na,haab,\n", NameListFault::Means(1)),
-        ("name,means,in\na,month 1,julian  roman\n", NameListFault::In(1)),
+        (
+            "name,means,in\na,month 1,julian  roman\n",
+            NameListFault::In(1),
+        ),
         ("name,means,in\na,month 1,tzolkin\n", NameListFault::In(1)),
     ];
     for (text, fault) in &cases {

@@ -11,7 +11,7 @@ returns-in-Ok-written-clause-text c done =
     let found : slice_get all_calendars c.args.calendar ≡ Some c.in-Some.calendar = search rules in
     let list : IsListOf (text_records 44 c.args.names.now) c.in-Ok.list.lines.items = search rules in
     let date : IsWritten c.in-Ok.list.lines.items (choice_by c.args.order) c.in-Some.calendar c.args.text.now
-        c.in-Ok-written.date.items = search rules in
+    c.in-Ok-written.date.items = search rules in
     let put : PutsText c.in-Ok-written.date.items c.args.buffer.now c.put_text.new.room c.put_text.result.length =
-        search rules in
+    search rules in
     (_, _, _, found, list, date, put)

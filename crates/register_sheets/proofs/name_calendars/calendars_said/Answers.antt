@@ -20,11 +20,14 @@ returns-in_err-calendar_named-clause-none c none =
 pub names-preserved : goal.names-preserved
 names-preserved c =
     let is = (c.calendar_named.ensures c.in_ok-calendar_named.field-0).0 (search rules) in
-    let whole = map-append (λ (name : Bor (List ℕ)). name.now) c.names.yielded (c.in-Some.name ∷ []) in
-    (tt, tt, c.with-calendars.ensures
-    ∙ ap (λ held. slice_set held (place c.in_ok-calendar_named.field-0) true) c.names.invariant.2
-    ∙ named_more (map (λ name. name.now) c.names.yielded) c.in-Some.name.now _ is ∙ ap named_by (sym whole),
-    rw whole (All-append IsCalendar _ _ c.names.invariant.3 (grind arith)))
+    let whole = map-append (λ (name : Bor (List ℕ)). name.now) c.names.yielded (c.in-Some.name ∷ []) in (
+      tt,
+      tt,
+      c.with-calendars.ensures
+          ∙ ap (λ held. slice_set held (place c.in_ok-calendar_named.field-0) true) c.names.invariant.2
+          ∙ named_more (map (λ name. name.now) c.names.yielded) c.in-Some.name.now _ is ∙ ap named_by (sym whole),
+      rw whole (All-append IsCalendar _ _ c.names.invariant.3 (grind arith)),
+    )
 
 pub returns-clause-some : goal.returns-clause-some
 returns-clause-some c =

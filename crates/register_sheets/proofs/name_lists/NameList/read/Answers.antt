@@ -13,7 +13,7 @@ returns-in_err-line-clause-fault c =
     let fault = rw c.in_err-line.was at c.line_of.ensures.fault in
     let first = first_fault header before _ _ _ _ _ is are (ap (λ n. n + 1) (search rules)) fault in
     let all : IsFaultOf (text_records 44 c.args.text.now) c.in_err-line.field-0.0 =
-        rw (text ∙ ap (λ rest. header ∷ before ++ rest) found) first in
+    rw (text ∙ ap (λ rest. header ∷ before ++ rest) found) first in
     search rules
 
 pub records-preserved : goal.records-preserved
@@ -26,6 +26,11 @@ records-preserved c =
     let items = rw ok at c.push.ensures.items in
     record {
       reading = c.read_next-in-records.ensures.reading (c.in_ok-read_next-2.was ∙ ap Ok yes);
-      lines = (header, before ++ fields_of c.read_next-in-records.new.record ∷ [], is, rw items (lines_more before _ _ _ are line),
-      text ∙ ap (λ rest. header ∷ before ++ rest) found ∙ ap (λ rest. header ∷ rest) (sym (append_assoc before _ _)));
+      lines = (
+        header,
+        before ++ fields_of c.read_next-in-records.new.record ∷ [],
+        is,
+        rw items (lines_more before _ _ _ are line),
+        text ∙ ap (λ rest. header ∷ before ++ rest) found ∙ ap (λ rest. header ∷ rest) (sym (append_assoc before _ _)),
+      );
     }

@@ -3,3 +3,8 @@ pub mod Sheets
 pub mod Reading
 pub mod FieldViews
 pub mod LineViews
+pub mod Choices
+pub mod Converted
+pub mod WidthViews
+pub mod Sending
+pub mod RowViews

@@ -1,12 +1,13 @@
 -- The rows of records, one record after the other.
 use Rattle.std.proofs.Common.{◌≡◌, ◌≤◌, ◌<◌, ◌∙◌, ◌++◌, ◌+◌, ℕ, zero, suc, List, [], ◌∷◌, ◌≢◌, Some, add-one, ap, append-nil, append_assoc, arith}
 use Rattle.std.proofs.lemmas.Bool.Decides.{eqb_tells}
-use Rattle.std.proofs.Common.{cond, count_by, drop, get_or, get_or-set_other, get_or-set_same, inl, inr, set, length, length-append, refl, subst, sym, take}
+use Rattle.std.proofs.Common.{cond, length-take, count_by, drop, get_or, get_or-set_other, get_or-set_same, inl, inr, set, length, length-append, refl, subst, sym, take}
 use Rattle.std.specs.Prelude.{option_to_list, slice_get, map}
 use Rattle.std.specs.List.{AllZip, flat_map}
 use Rattle.std.proofs.Math.Seq.{take-append_seam}
 use Rattle.std.proofs.lemmas.List.{map-append, take-map, take_more, take_more_set}
 use Rattle.std.proofs.lemmas.List.Concat.{flat_map-append}
+use Rattle.std.proofs.lemmas.List.Sums.{sum_by-append}
 use Rattle.register_records.specs.Entries.{Fields, record_limit}
 use Rattle.register_records.specs.Outcomes.{TableRow}
 use Rattle.register_sheets.specs.Converted.{AreFirstRows, AreRowsFrom, AreRowsOfRecord, below, body_record, body_records}
@@ -195,3 +196,16 @@ pub zip_at : {X Y : Type 0} (R : X → Y → Type 0) (xs : List X) (ys : List Y)
     → AllZip R (take i xs) ys → R (get_or xs i d) y → AllZip R (take (i + 1) xs) (ys ++ y ∷ [])
 zip_at R xs ys i d y lt h r =
     subst (λ zs. AllZip R zs (ys ++ y ∷ [])) (sym (take_more xs i d lt)) (zip_more R (take i xs) ys _ y h r)
+
+-- how many rows are seen
+mapped_length : {X Y : Type 0} (f : X → Y) (xs : List X) → length (map f xs) ≡ length xs
+mapped_length f [] = refl
+mapped_length f (x ∷ xs) = ap suc (mapped_length f xs)
+
+pub seen_few : {X Y : Type 0} (f : X → Y) (n : ℕ) (xs : List X) → length (map f (take n xs)) ≤ n
+seen_few f n xs = omega (arith, mapped_length f (take n xs), length-take n xs)
+
+pub seen_count : {X Y : Type 0} (f : X → Y) (n m : ℕ) (xs ys : List X) → n ≡ m → length xs ≡ length ys
+    → length (map f (take n xs)) ≡ length (map f (take m ys))
+seen_count f n m xs ys e h =
+    omega (arith, mapped_length f (take n xs), mapped_length f (take m ys), length-take n xs, length-take m ys)

@@ -214,6 +214,7 @@ fn write_body<W: Output>(
 
 /// Converts a sheet, and returns how many records stand below the names, and the last rows, which know how many were
 /// refused.
+#[tactic(none)]
 fn convert<W: Output>(
     alloc: Global,
     sheet: &[u8],

@@ -1,4 +1,4 @@
-use Rattle.std.proofs.Common.{◌≡◌, ◌≤◌, take}
+use Rattle.std.proofs.Common.{◌≡◌, ◌≤◌, length, take}
 use Rattle.register_sheets.specs.Choices.{asked_targets}
 use Rattle.register_sheets.proofs.choices.asked_targets.Given as goal
 
@@ -7,4 +7,5 @@ invariant-columns l =
     record {
       value : take l.count l.targets ≡ asked_targets (take l.column-index l.columns);
       few : l.count ≤ l.column-index;
+      room : length l.targets ≡ 16;
     }

@@ -1,5 +1,5 @@
 use Rattle.std.proofs.Common.{◌≡◌, ◌≤◌, ◌<◌, ◌∙◌, ◌+◌, ◌++◌, [], ◌∷◌, List, ℕ, Option, append-nil, append_assoc, ap, arith, length}
-use Rattle.std.proofs.Common.{length-append, rules, subst, sym, true, false, get_or}
+use Rattle.std.proofs.Common.{length-append, refl, rules, subst, sym, true, false, get_or}
 use Rattle.std.specs.Prelude.{Ok}
 use Rattle.csv.specs.Records.{fields_of}
 use Rattle.register_records.specs.Entries.{Fields, record_limit}
@@ -29,13 +29,14 @@ returns-then-not-branch-clause-body g c =
       (λ _. omega (arith, ap length whole, length-append done left, ap length none)),
       (λ e. absurd (cc)),
       λ begun head h.
-          subst (λ (records : List Fields). HasMade _ begun _ _ (head ++ records) [])
+          subst (λ (records : List Fields). HasMade c.args.sender.now.delimiter begun (g.W.Output.contents c.records.output)
+          c.records.sender.lines (head ++ records) [])
           (sym (ap (λ xs. body_records c.args.width c.args.setup.now.choice.columns.now xs rows) (sym whole) ∙ front))
           (made begun head h),
     )
 
-pub returns-then-number-MAX_RECORDS-clause-body : goal.returns-then-number-MAX_RECORDS-clause-body
-returns-then-number-MAX_RECORDS-clause-body g c =
+pub returns-then-number-eq-MAX_RECORDS-clause-body : goal.returns-then-number-eq-MAX_RECORDS-clause-body
+returns-then-number-eq-MAX_RECORDS-clause-body g c =
     let (done, rows, whole, same, counted, are, counts, made) = c.records.invariant.body in
     let yes : c.in_ok-read_next.field-0 ≡ true = search rules in
     let found = c.read_next.ensures.found (c.in_ok-read_next.was ∙ ap Ok yes) in
@@ -50,7 +51,8 @@ returns-then-number-MAX_RECORDS-clause-body g c =
       (λ e. absurd (cc)),
       (λ _. (omega arith, omega (arith, ap length whole, length-append done left, ap length found))),
       λ begun head h.
-          subst (λ (records : List Fields). HasMade _ begun _ _ (head ++ records) [])
+          subst (λ (records : List Fields). HasMade c.args.sender.now.delimiter begun (g.W.Output.contents c.records.output)
+          c.records.sender.lines (head ++ records) [])
           (sym (ap (λ xs. body_records c.args.width c.args.setup.now.choice.columns.now xs rows) (sym whole) ∙ front))
           (made begun head h),
     )
@@ -82,7 +84,8 @@ records-preserved g c =
         rows_more choice 0 (c.records.number + 1) done rows fields one (omega arith) are step.rows,
         counts_more rows one _ _ counts step.counted,
         λ begun head h.
-            subst (λ (records : List Fields). HasMade _ begun _ _ records [])
+            subst (λ (records : List Fields). HasMade c.args.sender.now.delimiter begun
+            (g.W.Output.contents c.write_record.new.output) c.write_record.new.sender.lines records [])
             (append_assoc head (body_records c.args.width choice.columns.now done rows) _
             ∙ ap (λ xs. head ++ xs) (sym (body_more c.args.width choice.columns.now done rows fields one same)))
             ((rw inv.delimiter at step.made) begun (head ++ body_records c.args.width choice.columns.now done rows)
@@ -91,7 +94,62 @@ records-preserved g c =
     }
 
 pub returns-in_err-read_next-clause-part : goal.returns-in_err-read_next-clause-part
-returns-in_err-read_next-clause-part g c = ?
+returns-in_err-read_next-clause-part g c =
+    let (done, rows, whole, same, counted, are, counts, made) = c.records.invariant.body in
+    let all = left_of c.args.records.now in
+    let left = left_of c.records.records in
+    let limited : length rows ≤ record_limit = omega (arith, c.records.invariant.limited) in
+    let front = body_front c.args.width c.args.setup.now.choice.columns.now done left rows same in
+    passed_on _ _ _ c.from_residual.ensures.1 (λ is. (
+      rows,
+      has_body c.args.setup.now.choice done left all rows whole same limited are,
+      λ begun head h.
+          subst (λ (records : List Fields).
+          HasFront c.args.sender.now.delimiter begun (g.W.Output.contents c.records.output) (head ++ records))
+          (sym (ap (λ xs. body_records c.args.width c.args.setup.now.choice.columns.now xs rows) (sym whole) ∙ front))
+          (front_made c.args.sender.now.delimiter begun (g.W.Output.contents c.records.output) c.records.sender.lines _ []
+          (made begun head h)),
+    ))
 
 pub returns-in_err-write_record-clause-part : goal.returns-in_err-write_record-clause-part
-returns-in_err-write_record-clause-part g c = ?
+returns-in_err-write_record-clause-part g c =
+    let (done, rows, whole, same, counted, are, counts, made) = c.records.invariant.body in
+    let all = left_of c.args.records.now in
+    let left = left_of c.records.records in
+    let limited : length rows ≤ record_limit = omega (arith, c.records.invariant.limited) in
+    let front = body_front c.args.width c.args.setup.now.choice.columns.now done left rows same in
+    passed_on _ _ _ c.from_residual-in_err-write_record.ensures.1 (λ is. (
+      rows,
+      has_body c.args.setup.now.choice done left all rows whole same limited are,
+      λ begun head h.
+          rw (c.in_err-write_record.ensures.memory is)
+          (subst (λ (records : List Fields).
+          HasFront c.args.sender.now.delimiter begun (g.W.Output.contents c.records.output) (head ++ records))
+          (sym (ap (λ xs. body_records c.args.width c.args.setup.now.choice.columns.now xs rows) (sym whole) ∙ front))
+          (front_made c.args.sender.now.delimiter begun (g.W.Output.contents c.records.output) c.records.sender.lines _ []
+          (made begun head h))),
+    ))
+
+pub records-init : goal.records-init
+records-init g c =
+    record {
+      reading = c.requires.reading;
+      delimiter = refl;
+      count = refl;
+      limited = omega arith;
+      few = λ place. omega (arith, c.requires.none place);
+      failed = refl;
+      mark = refl;
+      body = (
+        [],
+        [],
+        refl,
+        refl,
+        refl,
+        tt,
+        c.requires.none,
+        λ begun head h.
+            subst (λ (records : List Fields). HasMade c.args.sender.now.delimiter begun
+            (g.W.Output.contents c.args.output.now) c.args.sender.now.lines records []) (sym (append-nil head)) h,
+      );
+    }

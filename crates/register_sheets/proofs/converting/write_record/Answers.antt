@@ -7,4 +7,4 @@ returns-clause-made g c begun made h =
     c.in_ok-end.ensures.made begun made _
     (fields_made _ begun _ _ _ made _ _
     (fields_made _ begun _ _ _ made [] _ h c.in_ok-push_own.ensures)
-    c.in_ok-push.ensures)
+    (rw c.choice.ensures at c.in_ok-push.ensures))

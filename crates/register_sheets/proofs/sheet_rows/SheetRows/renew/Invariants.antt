@@ -14,5 +14,6 @@ invariant-dates l =
           (register_entry l.setup.choice column l.number (fields_of l.record)) row)
           (take l.place l.dates) (take l.place (rows_seen l.self));
       count : l.self.count ≡ l.fn.self.count;
+      room : length l.self.rows ≡ length l.fn.self.rows;
       refused : l.self.refused ≡ l.fn.self.refused;
     }

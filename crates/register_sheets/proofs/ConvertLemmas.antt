@@ -13,13 +13,14 @@ use Rattle.register_sheets.specs.Sending.{CountsAll, HasBody, HasFront, IsSent}
 use Rattle.register_sheets.specs.Sheets.{filled, records_text, widest}
 use Rattle.register_sheets.specs.declared.choices.SheetChoice.{SheetChoice}
 use Rattle.register_sheets.specs.declared.lines.SheetLines.{SheetLines}
+use Rattle.register_sheets.proofs.SendingLemmas.{front_more}
 use Rattle.register_sheets.proofs.RowLemmas.{below_names, sheet_made}
 
 -- what was read of a sheet: the records from the names on, and those below them, and its width
 pub record IsRead (choice : SheetChoice) (records left rest : List Fields) (width : ℕ) : Type 0 where
   pub named : choice.above < length records
-  pub left : left ≡ drop choice.above records
-  pub rest : rest ≡ drop 1 left
+  pub from_names : left ≡ drop choice.above records
+  pub from_below : rest ≡ drop 1 left
   pub wide : width ≡ widest (drop choice.above records)
 
 abbrev pub head_made : SheetChoice → List Fields → List Fields → ℕ → List Fields
@@ -31,7 +32,7 @@ first_rows : (choice : SheetChoice) (records left rest : List Fields) (width : �
     → IsRead choice records left rest width → HasBody choice rest rows → AreFirstRows choice records rows
 first_rows choice records left rest width rows read body =
     let below : HasBody choice (below choice records) rows
-    = subst (λ xs. HasBody choice xs rows) (below_names choice records left rest read.left read.rest) body in
+    = subst (λ xs. HasBody choice xs rows) (below_names choice records left rest read.from_names read.from_below) body in
     record { has_names = read.named; converted = below.converted; limited = body.limited }
 
 made_is : (choice : SheetChoice) (records left rest : List Fields) (width : ℕ) (rows : List (List TableRow))
@@ -39,7 +40,7 @@ made_is : (choice : SheetChoice) (records left rest : List Fields) (width : ℕ)
     → head_made choice records left width ++ body_records width choice.columns.now rest rows
     ≡ sheet_records choice records rows
 made_is choice records left rest width rows read =
-    sheet_made choice records left rest width rows read.left read.rest read.wide
+    sheet_made choice records left rest width rows read.from_names read.from_below read.wide
 
 pub whole_sheet : (choice : SheetChoice) (records left rest : List Fields) (width count : ℕ) (refused : List ℕ)
     (rows : List (List TableRow)) (d : ℕ) (begun now : Option (List ℕ)) (lines : SheetLines)
@@ -52,7 +53,7 @@ whole_sheet choice records left rest width count refused rows d begun now lines 
   record {
     rows = rows;
     first = first_rows choice records left rest width rows read body;
-    all = all ∙ ap length (below_names choice records left rest read.left read.rest);
+    all = all ∙ ap length (below_names choice records left rest read.from_names read.from_below);
     counted = counted;
     refused_counted = λ place _. counts place;
     written = ap (λ xs. records_text d xs) (made_is choice records left rest width rows read)
@@ -73,7 +74,7 @@ full_sheet choice records left rest width rows d begun now lines read by body fu
     rows = rows;
     first = first_rows choice records left rest width rows read body;
     full = full.0;
-    more = subst (λ xs. record_limit < length xs) (below_names choice records left rest read.left read.rest) full.1;
+    more = subst (λ xs. record_limit < length xs) (below_names choice records left rest read.from_names read.from_below) full.1;
     written = ap (λ xs. records_text d xs) (made_is choice records left rest width rows read)
         ∙ ap (λ e. records_text e (sheet_records choice records rows)) by;
   },
@@ -103,5 +104,18 @@ pub no_part : (choice : SheetChoice) (records : List Fields) (begun : Option (Li
 no_part choice records begun = ([], inl refl, Appends-nil begun)
 
 -- no rows yet
-pub no_body : (choice : SheetChoice) (rest : List Fields) → HasBody choice rest []
+no_body : (choice : SheetChoice) (rest : List Fields) → HasBody choice rest []
 no_body choice rest = record { converted = tt; limited = omega arith }
+
+pub part_above : (choice : SheetChoice) (records : List Fields) (width : ℕ) (begun now : Option (List ℕ))
+    → choice.above < length records → width ≡ widest (drop choice.above records)
+    → HasFront choice.delimiter begun now ([] ++ take choice.above records)
+    → Gains begun now (ArePartOfSheet choice records)
+part_above choice records width begun now named wide front =
+    let left = drop choice.above records in
+    part_of_body choice records left (drop 1 left) width [] choice.delimiter begun now
+    (record { named = named; from_names = refl; from_below = refl; wide = wide }) refl (no_body choice (drop 1 left))
+    (front_more choice.delimiter begun now (head_made choice records left width)
+    (body_records width choice.columns.now (drop 1 left) [])
+    (front_more choice.delimiter begun now ([] ++ take choice.above records)
+    ((filled width (get_or left 0 []) ++ map (λ name. name.now) choice.headings.now) ∷ []) front))

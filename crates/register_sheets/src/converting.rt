@@ -214,7 +214,6 @@ fn write_body<W: Output>(
 
 /// Converts a sheet, and returns how many records stand below the names, and the last rows, which know how many were
 /// refused.
-#[tactic(none)]
 fn convert<W: Output>(
     alloc: Global,
     sheet: &[u8],
@@ -236,9 +235,10 @@ fn convert<W: Output>(
     ensures sink { IfErr result (λ c. c ≡ SheetCause.SinkFault → W.has_failed output.new ≡ true) }
     ensures mark { W.own_mark output.new ≡ W.own_mark output.old }
 {
-    let choice = setup.choice();
-    let Some(width) = width_of(alloc, sheet, choice.delimiter, choice.above)? else {
-        return Err(SheetCause::NoNames);
+    let choice = setup.choice;
+    let width = match width_of(alloc, sheet, choice.delimiter, choice.above)? {
+        Some(width) => width,
+        None => return Err(SheetCause::NoNames),
     };
     let mut records = records_of(alloc, sheet, choice.delimiter);
     let mut record = ByteRecord::new(alloc);

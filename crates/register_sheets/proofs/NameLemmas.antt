@@ -41,8 +41,8 @@ unfolding calendar_called
 called_by text None is h =
     rw is (sym (none_found (is_name text) all_calendars (λ c.
     elim (cases_Bool (is_name text c)) [
-    | inl named ↦ absurd (cc ((h c).1 ((bytes_eq-Decides (str_to_ascii_lowercase (trimmed text)) (calendar_name c)).0 named)))
-    | inr other ↦ other
+      | inl named ↦ absurd (cc ((h c).1 ((bytes_eq-Decides (str_to_ascii_lowercase (trimmed text)) (calendar_name c)).0 named)))
+      | inr other ↦ other
     ])))
 called_by text (Some c) is h = rw (is, (h c).0 refl) (sym (found_itself c))
 

@@ -127,13 +127,18 @@ pub place_counted : (rows : List TableRow) (row : TableRow) (place n : ℕ) (old
     → CountsRefused (take (place + 1) rows) old (set mid place (get_or mid place 0 + n))
 place_counted rows row place n old mid at is room counted q =
     elim (eqb_tells q place) [
-    | inl same ↦
-        rw (add-one place, one_counted rows place q n row at (λ _. is) (λ ne. absurd (ne same.1)))
-        (omega (arith, counted q, ap (λ k. get_or (set mid place (get_or mid place 0 + n)) k 0) same.1,
-        get_or-set_same mid place (get_or mid place 0 + n) 0 room, ap (λ k. get_or mid k 0) same.1))
-    | inr other ↦
-        rw (add-one place, one_counted rows place q 0 row at (λ e. absurd (other.1 e)) (λ _. refl))
-        (omega (arith, counted q, get_or-set_other mid place q (get_or mid place 0 + n) 0 other.1))
+      | inl same ↦
+          rw (add-one place, one_counted rows place q n row at (λ _. is) (λ ne. absurd (ne same.1)))
+          (omega (
+            arith,
+            counted q,
+            ap (λ k. get_or (set mid place (get_or mid place 0 + n)) k 0) same.1,
+            get_or-set_same mid place (get_or mid place 0 + n) 0 room,
+            ap (λ k. get_or mid k 0) same.1,
+          ))
+      | inr other ↦
+          rw (add-one place, one_counted rows place q 0 row at (λ e. absurd (other.1 e)) (λ _. refl))
+          (omega (arith, counted q, get_or-set_other mid place q (get_or mid place 0 + n) 0 other.1))
     ]
 
 -- heterogeneous lists, one element more

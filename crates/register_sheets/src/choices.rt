@@ -126,7 +126,10 @@ fn is_weekday(column: &AskedColumn) -> bool
 fn days_asked(columns: &[AskedColumn]) -> usize
     ensures { result ≡ count_by is_day_number columns.now }
 {
-    columns.iter().filter(|column| is_day_number(column)).count()
+    columns
+        .iter()
+        .filter(|column| is_day_number(column))
+        .count()
 }
 
 /// How often the weekday is asked.

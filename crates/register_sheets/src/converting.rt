@@ -245,7 +245,14 @@ fn convert<W: Output>(
     let mut sender = SheetSender::new(alloc, choice.delimiter);
     let mut rows = SheetRows::new(alloc, choice.dates.len());
     copy_records(&mut records, &mut record, choice.above, &mut sender, output)?;
-    write_head(&mut records, &mut record, width, choice.headings, &mut sender, output)?;
+    write_head(
+        &mut records,
+        &mut record,
+        width,
+        choice.headings,
+        &mut sender,
+        output,
+    )?;
     let (number, more) = write_body(
         &mut records,
         &mut record,

@@ -1,8 +1,8 @@
 //! How a sheet ends.
 
 use crate::choices::MAX_DATES;
-use std::alloc::AllocError;
 use register_records::OutputFault;
+use std::alloc::AllocError;
 use thiserror::Error;
 
 /// Why a sheet is broken.

@@ -64,7 +64,14 @@ impl SheetRows {
     {
         let dates = setup.choice().dates;
         'dates: for place in 0..dates.len() {
-            renew_row(&mut self.rows[place], &mut self.date, setup, &dates[place], number, record)?;
+            renew_row(
+                &mut self.rows[place],
+                &mut self.date,
+                setup,
+                &dates[place],
+                number,
+                record,
+            )?;
         }
         Ok(())
     }

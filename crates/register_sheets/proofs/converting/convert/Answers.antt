@@ -62,7 +62,7 @@ pub copy_records-requires-clause-reading : goal.copy_records-requires-clause-rea
 copy_records-requires-clause-reading g c = search rules
 
 pub copy_records-requires-clause-more : goal.copy_records-requires-clause-more
-copy_records-requires-clause-more g c = 
+copy_records-requires-clause-more g c =
     let choice = c.args.setup.now.choice in
     let begun = g.W.Output.contents c.args.output.now in
     let all = left_of c.records_of-records.result in
@@ -82,11 +82,11 @@ pub returns-in_err-copy_records-clause-good : goal.returns-in_err-copy_records-c
 returns-in_err-copy_records-clause-good g c = search rules
 
 pub returns-in_err-copy_records-clause-kept : goal.returns-in_err-copy_records-clause-kept
-returns-in_err-copy_records-clause-kept g c = 
+returns-in_err-copy_records-clause-kept g c =
     passed_on _ _ _ c.from_residual-in_err-copy_records.ensures.1 (λ other.
     elim c.in_err-copy_records.ensures.output.causes [
-    | inl memory ↦ c.in_err-copy_records.ensures.output.memory memory
-    | inr sink ↦ absurd (other sink)
+      | inl memory ↦ c.in_err-copy_records.ensures.output.memory memory
+      | inr sink ↦ absurd (other sink)
     ])
 
 pub returns-in_err-copy_records-clause-sink : goal.returns-in_err-copy_records-clause-sink
@@ -96,17 +96,17 @@ pub returns-in_err-copy_records-clause-mark : goal.returns-in_err-copy_records-c
 returns-in_err-copy_records-clause-mark g c = search rules
 
 pub returns-in_err-copy_records-clause-no_names : goal.returns-in_err-copy_records-clause-no_names
-returns-in_err-copy_records-clause-no_names g c = 
+returns-in_err-copy_records-clause-no_names g c =
     passed_on _ _ _ c.from_residual-in_err-copy_records.ensures.1 (λ is.
     elim c.in_err-copy_records.ensures.output.causes [ inl other ↦ absurd (cc (is, other)) | inr other ↦ absurd (cc (is, other)) ])
 
 pub returns-in_err-copy_records-clause-too_many : goal.returns-in_err-copy_records-clause-too_many
-returns-in_err-copy_records-clause-too_many g c = 
+returns-in_err-copy_records-clause-too_many g c =
     passed_on _ _ _ c.from_residual-in_err-copy_records.ensures.1 (λ is.
     elim c.in_err-copy_records.ensures.output.causes [ inl other ↦ absurd (cc (is, other)) | inr other ↦ absurd (cc (is, other)) ])
 
 pub returns-in_err-copy_records-clause-part : goal.returns-in_err-copy_records-clause-part
-returns-in_err-copy_records-clause-part g c = 
+returns-in_err-copy_records-clause-part g c =
     let choice = c.args.setup.now.choice in
     let begun = g.W.Output.contents c.args.output.now in
     let all = left_of c.records_of-records.result in
@@ -130,11 +130,11 @@ pub returns-in_err-write_head-clause-good : goal.returns-in_err-write_head-claus
 returns-in_err-write_head-clause-good g c = search rules
 
 pub returns-in_err-write_head-clause-kept : goal.returns-in_err-write_head-clause-kept
-returns-in_err-write_head-clause-kept g c = 
+returns-in_err-write_head-clause-kept g c =
     passed_on _ _ _ c.from_residual-in_err-write_head.ensures.1 (λ other.
     elim c.in_err-write_head.ensures.output.causes [
-    | inl memory ↦ c.in_err-write_head.ensures.output.memory memory ∙ c.in_ok-copy_records.ensures.output.good
-    | inr sink ↦ absurd (other sink)
+      | inl memory ↦ c.in_err-write_head.ensures.output.memory memory ∙ c.in_ok-copy_records.ensures.output.good
+      | inr sink ↦ absurd (other sink)
     ])
 
 pub returns-in_err-write_head-clause-sink : goal.returns-in_err-write_head-clause-sink
@@ -144,17 +144,17 @@ pub returns-in_err-write_head-clause-mark : goal.returns-in_err-write_head-claus
 returns-in_err-write_head-clause-mark g c = search rules
 
 pub returns-in_err-write_head-clause-no_names : goal.returns-in_err-write_head-clause-no_names
-returns-in_err-write_head-clause-no_names g c = 
+returns-in_err-write_head-clause-no_names g c =
     passed_on _ _ _ c.from_residual-in_err-write_head.ensures.1 (λ is.
     elim c.in_err-write_head.ensures.output.causes [ inl other ↦ absurd (cc (is, other)) | inr other ↦ absurd (cc (is, other)) ])
 
 pub returns-in_err-write_head-clause-too_many : goal.returns-in_err-write_head-clause-too_many
-returns-in_err-write_head-clause-too_many g c = 
+returns-in_err-write_head-clause-too_many g c =
     passed_on _ _ _ c.from_residual-in_err-write_head.ensures.1 (λ is.
     elim c.in_err-write_head.ensures.output.causes [ inl other ↦ absurd (cc (is, other)) | inr other ↦ absurd (cc (is, other)) ])
 
 pub returns-in_err-write_head-clause-part : goal.returns-in_err-write_head-clause-part
-returns-in_err-write_head-clause-part g c = 
+returns-in_err-write_head-clause-part g c =
     let choice = c.args.setup.now.choice in
     let begun = g.W.Output.contents c.args.output.now in
     let all = left_of c.records_of-records.result in
@@ -181,11 +181,11 @@ pub returns-in_err-number-clause-good : goal.returns-in_err-number-clause-good
 returns-in_err-number-clause-good g c = search rules
 
 pub returns-in_err-number-clause-kept : goal.returns-in_err-number-clause-kept
-returns-in_err-number-clause-kept g c = 
+returns-in_err-number-clause-kept g c =
     passed_on _ _ _ c.from_residual-in_err-number.ensures.1 (λ other.
     elim c.in_err-number.ensures.output.causes [
-    | inl memory ↦ c.in_err-number.ensures.output.memory memory ∙ c.in_ok-write_head.ensures.output.good ∙ c.in_ok-copy_records.ensures.output.good
-    | inr sink ↦ absurd (other sink)
+      | inl memory ↦ c.in_err-number.ensures.output.memory memory ∙ c.in_ok-write_head.ensures.output.good ∙ c.in_ok-copy_records.ensures.output.good
+      | inr sink ↦ absurd (other sink)
     ])
 
 pub returns-in_err-number-clause-sink : goal.returns-in_err-number-clause-sink
@@ -195,17 +195,17 @@ pub returns-in_err-number-clause-mark : goal.returns-in_err-number-clause-mark
 returns-in_err-number-clause-mark g c = search rules
 
 pub returns-in_err-number-clause-no_names : goal.returns-in_err-number-clause-no_names
-returns-in_err-number-clause-no_names g c = 
+returns-in_err-number-clause-no_names g c =
     passed_on _ _ _ c.from_residual-in_err-number.ensures.1 (λ is.
     elim c.in_err-number.ensures.output.causes [ inl other ↦ absurd (cc (is, other)) | inr other ↦ absurd (cc (is, other)) ])
 
 pub returns-in_err-number-clause-too_many : goal.returns-in_err-number-clause-too_many
-returns-in_err-number-clause-too_many g c = 
+returns-in_err-number-clause-too_many g c =
     passed_on _ _ _ c.from_residual-in_err-number.ensures.1 (λ is.
     elim c.in_err-number.ensures.output.causes [ inl other ↦ absurd (cc (is, other)) | inr other ↦ absurd (cc (is, other)) ])
 
 pub returns-in_err-number-clause-part : goal.returns-in_err-number-clause-part
-returns-in_err-number-clause-part g c = 
+returns-in_err-number-clause-part g c =
     let choice = c.args.setup.now.choice in
     let begun = g.W.Output.contents c.args.output.now in
     let all = left_of c.records_of-records.result in
@@ -219,7 +219,11 @@ returns-in_err-number-clause-part g c =
     let left = left_of c.copy_records.new.records in
     let rest = left_of c.write_head.new.records in
     let read : IsRead choice all left rest c.in-Some.width = record {
-      named = named; from_names = c.in_ok-copy_records.ensures.left; from_below = c.in_ok-write_head.ensures.left; wide = wide } in
+      named = named;
+      from_names = c.in_ok-copy_records.ensures.left;
+      from_below = c.in_ok-write_head.ensures.left;
+      wide = wide;
+    } in
     let kept_on = c.in_ok-write_head.ensures.kept ∙ kept in
     passed_on _ _ _ c.from_residual-in_err-number.ensures.1 (λ is.
     let (rows, body, front) = c.in_err-number.ensures.part is in
@@ -238,11 +242,11 @@ pub returns-in_err-send-clause-good : goal.returns-in_err-send-clause-good
 returns-in_err-send-clause-good g c = search rules
 
 pub returns-in_err-send-clause-kept : goal.returns-in_err-send-clause-kept
-returns-in_err-send-clause-kept g c = 
+returns-in_err-send-clause-kept g c =
     passed_on _ _ _ c.from_residual-in_err-send.ensures.1 (λ other.
     elim c.in_err-send.ensures.output.causes [
-    | inl memory ↦ c.in_err-send.ensures.output.memory memory ∙ c.in_ok-number.ensures.output.good ∙ c.in_ok-write_head.ensures.output.good ∙ c.in_ok-copy_records.ensures.output.good
-    | inr sink ↦ absurd (other sink)
+      | inl memory ↦ c.in_err-send.ensures.output.memory memory ∙ c.in_ok-number.ensures.output.good ∙ c.in_ok-write_head.ensures.output.good ∙ c.in_ok-copy_records.ensures.output.good
+      | inr sink ↦ absurd (other sink)
     ])
 
 pub returns-in_err-send-clause-sink : goal.returns-in_err-send-clause-sink
@@ -252,17 +256,17 @@ pub returns-in_err-send-clause-mark : goal.returns-in_err-send-clause-mark
 returns-in_err-send-clause-mark g c = search rules
 
 pub returns-in_err-send-clause-no_names : goal.returns-in_err-send-clause-no_names
-returns-in_err-send-clause-no_names g c = 
+returns-in_err-send-clause-no_names g c =
     passed_on _ _ _ c.from_residual-in_err-send.ensures.1 (λ is.
     elim c.in_err-send.ensures.output.causes [ inl other ↦ absurd (cc (is, other)) | inr other ↦ absurd (cc (is, other)) ])
 
 pub returns-in_err-send-clause-too_many : goal.returns-in_err-send-clause-too_many
-returns-in_err-send-clause-too_many g c = 
+returns-in_err-send-clause-too_many g c =
     passed_on _ _ _ c.from_residual-in_err-send.ensures.1 (λ is.
     elim c.in_err-send.ensures.output.causes [ inl other ↦ absurd (cc (is, other)) | inr other ↦ absurd (cc (is, other)) ])
 
 pub returns-in_err-send-clause-part : goal.returns-in_err-send-clause-part
-returns-in_err-send-clause-part g c = 
+returns-in_err-send-clause-part g c =
     let choice = c.args.setup.now.choice in
     let begun = g.W.Output.contents c.args.output.now in
     let all = left_of c.records_of-records.result in
@@ -276,7 +280,11 @@ returns-in_err-send-clause-part g c =
     let left = left_of c.copy_records.new.records in
     let rest = left_of c.write_head.new.records in
     let read : IsRead choice all left rest c.in-Some.width = record {
-      named = named; from_names = c.in_ok-copy_records.ensures.left; from_below = c.in_ok-write_head.ensures.left; wide = wide } in
+      named = named;
+      from_names = c.in_ok-copy_records.ensures.left;
+      from_below = c.in_ok-write_head.ensures.left;
+      wide = wide;
+    } in
     let kept_on = c.in_ok-write_head.ensures.kept ∙ kept in
     let (rows, body, counted, counts, whole, full, filled_up) = c.in_ok-number.ensures.body in
     let written = (rw kept_on at filled_up) begun (head_made choice all left c.in-Some.width) headed in
@@ -293,7 +301,7 @@ pub write_head-requires-clause-reading : goal.write_head-requires-clause-reading
 write_head-requires-clause-reading g c = search rules
 
 pub write_head-requires-clause-more : goal.write_head-requires-clause-more
-write_head-requires-clause-more g c = 
+write_head-requires-clause-more g c =
     let choice = c.args.setup.now.choice in
     let begun = g.W.Output.contents c.args.output.now in
     let all = left_of c.records_of-records.result in
@@ -328,7 +336,7 @@ pub returns-then-more-clause-mark : goal.returns-then-more-clause-mark
 returns-then-more-clause-mark g c = search rules
 
 pub returns-then-more-clause-too_many : goal.returns-then-more-clause-too_many
-returns-then-more-clause-too_many g c = 
+returns-then-more-clause-too_many g c =
     let choice = c.args.setup.now.choice in
     let begun = g.W.Output.contents c.args.output.now in
     let all = left_of c.records_of-records.result in
@@ -342,7 +350,11 @@ returns-then-more-clause-too_many g c =
     let left = left_of c.copy_records.new.records in
     let rest = left_of c.write_head.new.records in
     let read : IsRead choice all left rest c.in-Some.width = record {
-      named = named; from_names = c.in_ok-copy_records.ensures.left; from_below = c.in_ok-write_head.ensures.left; wide = wide } in
+      named = named;
+      from_names = c.in_ok-copy_records.ensures.left;
+      from_below = c.in_ok-write_head.ensures.left;
+      wide = wide;
+    } in
     let kept_on = c.in_ok-write_head.ensures.kept ∙ kept in
     let (rows, body, counted, counts, whole, full, filled_up) = c.in_ok-number.ensures.body in
     let written = (rw kept_on at filled_up) begun (head_made choice all left c.in-Some.width) headed in
@@ -362,7 +374,7 @@ pub returns-clause-mark : goal.returns-clause-mark
 returns-clause-mark g c = search rules
 
 pub returns-clause-whole : goal.returns-clause-whole
-returns-clause-whole g c = 
+returns-clause-whole g c =
     let choice = c.args.setup.now.choice in
     let begun = g.W.Output.contents c.args.output.now in
     let all = left_of c.records_of-records.result in
@@ -376,7 +388,11 @@ returns-clause-whole g c =
     let left = left_of c.copy_records.new.records in
     let rest = left_of c.write_head.new.records in
     let read : IsRead choice all left rest c.in-Some.width = record {
-      named = named; from_names = c.in_ok-copy_records.ensures.left; from_below = c.in_ok-write_head.ensures.left; wide = wide } in
+      named = named;
+      from_names = c.in_ok-copy_records.ensures.left;
+      from_below = c.in_ok-write_head.ensures.left;
+      wide = wide;
+    } in
     let kept_on = c.in_ok-write_head.ensures.kept ∙ kept in
     let (rows, body, counted, counts, whole, full, filled_up) = c.in_ok-number.ensures.body in
     let written = (rw kept_on at filled_up) begun (head_made choice all left c.in-Some.width) headed in
@@ -385,4 +401,3 @@ returns-clause-whole g c =
     (whole_sheet choice all left rest c.in-Some.width c.in_ok-number.number c.write_body.new.rows.refused rows
     choice.delimiter begun (g.W.Output.contents c.send.new.output) _ read refl body counted counts (whole c.if-more.false)
     ((rw kept_last at c.in_ok-send.ensures.sent) begun _ written))
-

@@ -6,4 +6,10 @@
 pub mod ListLemmas
 pub mod LineLemmas
 pub mod SheetLemmas
+pub mod NameListLemmas
+pub mod SendingLemmas
 pub mod NameLemmas
+pub mod RowLemmas
+pub mod WidthLemmas
+pub mod AskedLemmas
+pub mod ConvertLemmas

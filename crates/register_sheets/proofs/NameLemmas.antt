@@ -1,114 +1,52 @@
--- Names of calendars in a field, one after the other, and the lines of a list.
-use Rattle.std.proofs.Common.{◌≡◌, ◌∙◌, ◌+◌, ◌++◌, ◌||◌, ℕ, Bool, true, List, [], ◌∷◌, map, length, slice_set}
-use Rattle.std.proofs.Common.{ap, ap₂, sym, refl, suc, lit<, arith}
-use Rattle.std.specs.List.{list_any}
-use Rattle.std.specs.Str.{bytes_eq}
-use Rattle.std.proofs.lemmas.List.Folds.{list_any-append}
-use Rattle.std.proofs.lemmas.Iterator.{YieldsList}
-use Rattle.std.proofs.lemmas.Iterator.Consumers.{YieldsList-at}
-use Rattle.std.proofs.lemmas.Iterator.Splits.{YieldsList-from_str_split}
-use Rattle.std.specs.Str.Iter.{split_has_more, split_pattern, split_steps, split_text}
-use Rattle.std.specs.Str.Pattern.{FindsChar}
-use Rattle.std.specs.declared.str.Split.{Split}
+-- The calendar that a text names.
+use Rattle.std.proofs.Common.{◌≡◌, ◌↔◌, ◌∙◌, ℕ, zero, suc, Bool, true, false, cond, List, [], ◌∷◌, Option, None, Some, refl}
+use Rattle.std.proofs.Common.{ap, arith, inl, inr, subst, sym, slice_get}
+use Rattle.std.specs.List.{find}
+use Rattle.std.specs.Str.{IsUtf8, bytes_eq, is_utf8, str_to_ascii_lowercase}
+use Rattle.std.proofs.lemmas.Str.{is_utf8-from_IsUtf8}
+use Rattle.std.proofs.lemmas.Bool.{cases_Bool}
+use Rattle.std.proofs.lemmas.Slice.Eq.{bytes_eq-Decides}
 use Rattle.date_texts.specs.Calendars.{all_calendars, calendar_name}
 use Rattle.date_texts.specs.Names.{IsNamed}
+use Rattle.date_texts.specs.Trimmed.{trimmed}
 use Rattle.date_texts.specs.declared.calendar.Calendar.{Calendar}
-use Rattle.date_texts.specs.declared.calendar.Calendar.TheVariants.{Gregorian, Iso, Julian, Coptic, Ethiopic, Egyptian}
-use Rattle.date_texts.specs.declared.calendar.Calendar.TheVariants.{Armenian, Islamic, Hebrew, Longcount, French, Roman}
-use Rattle.date_texts.specs.declared.calendar.Calendar.TheVariants.{Republican}
-use Rattle.written_dates.specs.Calendars.{place}
-use Rattle.register_records.specs.Entries.{Fields}
-use Rattle.register_sheets.specs.NameLists.{AreLines, IsFaultOf, IsLine, IsRefused, columns, is_named, named_by, names_in}
-use Rattle.register_sheets.specs.Sheets.{chosen}
-use Rattle.register_sheets.specs.declared.name_lists.NameListFault.{NameListFault}
-use Rattle.register_sheets.specs.declared.name_lists.NameListFault.TheVariants as fault
-use Rattle.register_sheets.specs.declared.name_lists.NameLine.{NameLine}
+use Rattle.date_texts.specs.declared.calendar.Calendar.TheVariants.{Gregorian}
+use Rattle.register_sheets.specs.Choices.{calendar_called, is_name}
 
--- the split at spaces gives the names of the field
-pub names_of_split : (field : List ℕ) (s t : Split ℕ) → t ≡ s → split_text s ≡ field → split_has_more s ≡ true
-    → split_pattern s ≡ 32
-    → YieldsList (split_steps FindsChar (λ a b. b ≡ a)) (λ name. name.now) t (names_in field)
-names_of_split field s t same text more pattern = YieldsList-at same
-    (YieldsList-from_str_split 32 field (lit< tt) text more pattern)
+-- where no element passes the test
+none_found : {X : Type 0} (test : X → Bool) (xs : List X) → ((x : X) → test x ≡ false) → find test xs ≡ None
+none_found test [] h = refl
+none_found test (x ∷ xs) h = rw (h x) (none_found test xs h)
 
--- one more calendar is marked
-marked : (f : Calendar → Bool) (d : Calendar) → slice_set (map f all_calendars) (place d) true
-    ≡ map (λ c. bytes_eq (calendar_name d) (calendar_name c) || f c) all_calendars
-marked f Gregorian = refl
-marked f Iso = refl
-marked f Julian = refl
-marked f Coptic = refl
-marked f Ethiopic = refl
-marked f Egyptian = refl
-marked f Armenian = refl
-marked f Islamic = refl
-marked f Hebrew = refl
-marked f Longcount = refl
-marked f French = refl
-marked f Roman = refl
-marked f Republican = refl
+-- a calendar's name names it
+found_itself : (c : Calendar) → find (λ other. bytes_eq (calendar_name c) (calendar_name other)) all_calendars ≡ Some c
+found_itself Gregorian = refl
+found_itself c = refl
 
-map_same : (f g : Calendar → Bool) (cs : List Calendar) → ((c : Calendar) → f c ≡ g c) → map f cs ≡ map g cs
-map_same f g [] same = refl
-map_same f g (c ∷ cs) same = ap₂ (λ (b : Bool) (bs : List Bool). b ∷ bs) (same c) (map_same f g cs same)
+name_alone : (c : Calendar) → str_to_ascii_lowercase (trimmed (calendar_name c)) ≡ calendar_name c
+name_alone Gregorian = refl
+name_alone c = refl
 
-or_comm : (a b : Bool) → (a || b) ≡ (b || a)
-or_comm a b = grind arith
+pub called_itself : (c : Calendar) (name : List ℕ) → name ≡ calendar_name c → IsUtf8 name
+    → Some c ≡ calendar_called (calendar_name c)
+unfolding calendar_called
+called_itself c name e h =
+    let text : is_utf8 (calendar_name c) ≡ true = is_utf8-from_IsUtf8 (calendar_name c) (subst IsUtf8 e h) in
+    rw (text, name_alone c) (sym (found_itself c))
 
--- a name more is looked at last
-one_more : (names : List (List ℕ)) (name : List ℕ) (d c : Calendar) → IsNamed name (calendar_name d)
-    → (bytes_eq (calendar_name d) (calendar_name c) || list_any (λ n. is_named n c) names)
-    ≡ list_any (λ n. is_named n c) (names ++ name ∷ [])
-one_more names name d c is =
-    rw (list_any-append (λ n. is_named n c) names (name ∷ []), is)
-    (or_comm (bytes_eq (calendar_name d) (calendar_name c)) (list_any (λ n. is_named n c) names) ∙ grind arith)
+-- what a text that is UTF-8 names
+pub called_by : (text : List ℕ) (called : Option Calendar) → is_utf8 text ≡ true
+    → ((c : Calendar) → (called ≡ Some c) ↔ IsNamed text (calendar_name c)) → called ≡ calendar_called text
+unfolding calendar_called
+called_by text None is h =
+    rw is (sym (none_found (is_name text) all_calendars (λ c.
+    elim (cases_Bool (is_name text c)) [
+      | inl named ↦ absurd (cc ((h c).1 ((bytes_eq-Decides (str_to_ascii_lowercase (trimmed text)) (calendar_name c)).0 named)))
+      | inr other ↦ other
+    ])))
+called_by text (Some c) is h = rw (is, (h c).0 refl) (sym (found_itself c))
 
-pub named_more : (names : List (List ℕ)) (name : List ℕ) (d : Calendar) → IsNamed name (calendar_name d)
-    → slice_set (named_by names) (place d) true ≡ named_by (names ++ name ∷ [])
-named_more names name d is =
-    marked (λ c. list_any (λ n. is_named n c) names) d ∙ map_same _ _ all_calendars (λ c. one_more names name d c is)
-
--- one record and its line more
-pub lines_more : (records : List Fields) (lines : List NameLine) (fields : Fields) (line : NameLine)
-    → AreLines records lines → IsLine fields line → AreLines (records ++ fields ∷ []) (lines ++ line ∷ [])
-lines_more [] [] fields line are is = (is, tt)
-lines_more (f ∷ records) (l ∷ lines) fields line are is = (are.0, lines_more records lines fields line are.1 is)
-lines_more records lines fields line are is = absurd are
-
-pub lines_count : (records : List Fields) (lines : List NameLine) → AreLines records lines
-    → length records ≡ length lines
-lines_count [] [] are = refl
-lines_count (f ∷ records) (l ∷ lines) are = ap suc (lines_count records lines are.1)
-lines_count records lines are = absurd are
-
--- a record that is refused behind lines is the first fault
-pub first_fault : (header : Fields) (before : List Fields) (lines : List NameLine) (fields : Fields)
-    (after : List Fields) (number : ℕ) (why : NameListFault) → chosen (0 ∷ 1 ∷ 2 ∷ []) header ≡ columns
-    → AreLines before lines → number ≡ length lines + 1 → IsRefused fields number why
-    → IsFaultOf (header ∷ before ++ fields ∷ after) why
-first_fault header before lines fields after number fault.OutOfMemory is are counted refused = tt
-first_fault header before lines fields after number fault.Header is are counted refused = absurd refused
-first_fault header before lines fields after number (fault.Means n) is are counted refused = (
-  is,
-  record {
-    before = before;
-    after = after;
-    fields = fields;
-    lines = lines;
-    cut = refl;
-    are_lines = are;
-    refused = (refused.0 ∙ counted ∙ ap (λ k. k + 1) (sym (lines_count before lines are)), refused.1);
-  },
-)
-first_fault header before lines fields after number (fault.In n) is are counted refused = (
-  is,
-  record {
-    before = before;
-    after = after;
-    fields = fields;
-    lines = lines;
-    cut = refl;
-    are_lines = are;
-    refused = (refused.0 ∙ counted ∙ ap (λ k. k + 1) (sym (lines_count before lines are)), refused.1);
-  },
-)
+-- no other text names one
+pub none_called : (text : List ℕ) → is_utf8 text ≡ false → calendar_called text ≡ None
+unfolding calendar_called
+none_called text is = rw is refl

@@ -4,3 +4,8 @@ pub mod Reading
 pub mod FieldViews
 pub mod LineViews
 pub mod NameLists
+pub mod Choices
+pub mod Converted
+pub mod WidthViews
+pub mod Sending
+pub mod RowViews

@@ -15,7 +15,11 @@ use std::alloc::{AllocError, Global};
 
 /// Appends the fields of a record to a line, and empty ones behind them up to `fill` in all.
 #[tactic(auto, using(std::proofs::lemmas::List::take_more, crate::proofs::LineLemmas::gained))]
-fn push_own(lines: &mut SheetLines, record: &ByteRecord, fill: usize) -> Result<(), AllocError>
+pub(crate) fn push_own(
+    lines: &mut SheetLines,
+    record: &ByteRecord,
+    fill: usize,
+) -> Result<(), AllocError>
     ensures { OnOk result (GainsFields (filled fill (fields_of record.now)) lines.old lines.new) }
 {
     'own: for place in 0..record.len() {

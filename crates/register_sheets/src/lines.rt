@@ -17,11 +17,23 @@ impl SheetLines {
     pub fn new(alloc: Global, delimiter: u8) -> SheetLines
         ensures { Begins delimiter [] [] result }
     {
+        SheetLines::over(Vec::new(alloc), delimiter)
+    }
+
+    /// The same in memory that serves again.
+    pub fn over(text: Vec<u8>, delimiter: u8) -> SheetLines
+        ensures { text.items ≡ [] → Begins delimiter [] [] result }
+    {
         let writer = WriterBuilder::new()
             .delimiter(delimiter)
             .flexible(true)
-            .from_writer(Vec::new(alloc));
+            .from_writer(text);
         SheetLines { writer }
+    }
+
+    /// How many bytes have left the writer's own buffer.
+    pub fn written(&self) -> usize {
+        self.writer.get_ref().len()
     }
 
     /// Appends one more field, quoted where it must be.

@@ -5,7 +5,7 @@ use Rattle.std.proofs.lemmas.Iterator.Consumers.{YieldsList-end, YieldsList-turn
 use Rattle.written_dates.specs.Calendars.{place}
 use Rattle.register_sheets.specs.NameLists.{IsCalendar, named_by}
 use Rattle.std.proofs.Common.{Bor, List, ℕ, [], ◌∷◌}
-use Rattle.register_sheets.proofs.NameLemmas.{named_more, names_of_split}
+use Rattle.register_sheets.proofs.NameListLemmas.{named_more, names_of_split}
 use Rattle.register_sheets.proofs.name_calendars.calendars_said.Goals as goal
 
 pub returns-in_err-calendar_named-clause-none : goal.returns-in_err-calendar_named-clause-none

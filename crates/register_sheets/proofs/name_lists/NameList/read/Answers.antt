@@ -2,7 +2,7 @@ use Rattle.std.proofs.Common.{rules, ◌≡◌, ◌∙◌, ◌++◌, ◌+◌, �
 use Rattle.csv.specs.Records.{fields_of}
 use Rattle.register_records.specs.Entries.{text_records}
 use Rattle.register_sheets.specs.NameLists.{IsFaultOf}
-use Rattle.register_sheets.proofs.NameLemmas.{first_fault, lines_more}
+use Rattle.register_sheets.proofs.NameListLemmas.{first_fault, lines_more}
 use Rattle.register_sheets.proofs.name_lists.NameList.read.Goals as goal
 
 pub returns-in_err-line-clause-fault : goal.returns-in_err-line-clause-fault

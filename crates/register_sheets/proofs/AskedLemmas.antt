@@ -1,0 +1,58 @@
+-- The columns asked, one after the other.
+use Rattle.std.proofs.Common.{◌≡◌, ◌≤◌, ◌<◌, ◌∙◌, ◌++◌, ◌+◌, ℕ, suc, List, [], ◌∷◌, Option, Some, None, add-one, add-zero, ap}
+use Rattle.std.proofs.Common.{append-nil, append_assoc, arith, drop, drop-cons, get_or, length, refl, set, sym, take}
+use Rattle.std.specs.Prelude.{option_to_list}
+use Rattle.std.specs.List.{flat_map}
+use Rattle.std.proofs.lemmas.List.{take_more, take_more_set}
+use Rattle.std.proofs.lemmas.List.Concat.{flat_map-append}
+use Rattle.register_records.specs.Entries.{Fields}
+use Rattle.register_records.specs.Outcomes.{TableRow}
+use Rattle.date_texts.specs.declared.target.Target.{Target}
+use Rattle.register_sheets.specs.Choices.{asked_targets, target_in}
+use Rattle.register_sheets.specs.Converted.{asked_text, asked_texts, cells_taken}
+use Rattle.register_sheets.specs.declared.choices.AskedColumn.{AskedColumn}
+use Rattle.register_sheets.specs.declared.choices.AskedColumn.TheVariants.{DayNumber}
+use Rattle.register_sheets.proofs.RowLemmas.{drop_both}
+
+pub asked_step : (columns : List AskedColumn) (i : ℕ) (d : AskedColumn) (row : TableRow) (cells : List (List ℕ))
+    (taken more : ℕ) (made all : Fields) → i < length columns → more ≡ cells_taken (get_or columns i d)
+    → made ++ asked_texts (drop i columns) row (drop taken cells) ≡ all
+    → (made ++ asked_text (get_or columns i d) row (drop taken cells) ∷ [])
+    ++ asked_texts (drop (i + 1) columns) row (drop (taken + more) cells) ≡ all
+asked_step columns i d row cells taken more made all lt is e =
+    let column = get_or columns i d in
+    append_assoc made (asked_text column row (drop taken cells) ∷ []) _
+    ∙ ap (λ rest. made ++ asked_text column row (drop taken cells) ∷ asked_texts (drop (i + 1) columns) row rest)
+    (sym (drop_both taken more (taken + more) cells refl)
+    ∙ ap (λ n. drop n (drop taken cells)) is)
+    ∙ ap (λ rest. made ++ asked_texts rest row (drop taken cells))
+    (sym (drop-cons columns i d lt ∙ ap (λ j. column ∷ drop j columns) (sym (add-one i)))) ∙ e
+
+targets_more : (columns : List AskedColumn) (i : ℕ) (d : AskedColumn) → i < length columns
+    → asked_targets (take (i + 1) columns) ≡ asked_targets (take i columns) ++ target_in (get_or columns i d)
+targets_more columns i d lt =
+    ap asked_targets (take_more columns i d lt)
+    ∙ flat_map-append target_in (take i columns) (get_or columns i d ∷ [])
+    ∙ ap (λ ts. asked_targets (take i columns) ++ ts) (append-nil (target_in (get_or columns i d)))
+
+pub target_taken : (columns : List AskedColumn) (i : ℕ) (d : AskedColumn) (o : Option Target) (t : Target) (ts : List Target)
+    (count : ℕ) → i < length columns → count < length ts → option_to_list o ≡ target_in (get_or columns i d) → o ≡ Some t
+    → take count ts ≡ asked_targets (take i columns)
+    → take (count + 1) (set ts count t) ≡ asked_targets (take (i + 1) columns)
+target_taken columns i d o t ts count lt room is some e =
+    take_more_set ts count t room
+    ∙ ap (λ front. front ++ t ∷ []) e
+    ∙ ap (λ one. asked_targets (take i columns) ++ one) (sym (ap option_to_list some) ∙ is)
+    ∙ sym (targets_more columns i d lt)
+
+pub none_taken : (columns : List AskedColumn) (i : ℕ) (d : AskedColumn) (o : Option Target) (ts : List Target) (count : ℕ)
+    → i < length columns → option_to_list o ≡ target_in (get_or columns i d) → o ≡ None
+    → take count ts ≡ asked_targets (take i columns) → take count ts ≡ asked_targets (take (i + 1) columns)
+none_taken columns i d o ts count lt is none e =
+    e ∙ sym (append-nil (asked_targets (take i columns)))
+    ∙ ap (λ one. asked_targets (take i columns) ++ one) (sym (ap option_to_list none) ∙ is)
+    ∙ sym (targets_more columns i d lt)
+
+pub few_taken : (column : AskedColumn) → cells_taken column ≤ 1
+few_taken DayNumber = omega arith
+few_taken column = omega arith

@@ -1,0 +1,15 @@
+use Rattle.std.proofs.Common.{ℕ, List, [], ◌∷◌, drop, subst, sym}
+use Rattle.register_records.specs.Views.{row_seen}
+use Rattle.register_sheets.specs.Converted.{asked_text}
+use Rattle.register_sheets.specs.LineViews.{GainsFields}
+use Rattle.register_sheets.specs.declared.choices.AskedColumn.{AskedColumn}
+use Rattle.register_sheets.proofs.RowLemmas.{same_head}
+use Rattle.register_sheets.proofs.asked.push_column.Goals as goal
+
+pub returns-in_ok-push_cell-in-Cells-clause-line : goal.returns-in_ok-push_cell-in-Cells-clause-line
+returns-in_ok-push_cell-in-Cells-clause-line c =
+    let row = row_seen c.args.row.now in
+    subst (λ (column : AskedColumn). GainsFields (asked_text column row (drop c.args.taken row.cells) ∷ [])
+    c.args.lines.now c.push_cell.new.lines) (sym c.in-Cells.is)
+    (subst (λ (text : List ℕ). GainsFields (text ∷ []) c.args.lines.now c.push_cell.new.lines)
+    (sym (same_head c.args.taken row.cells [])) c.in_ok-push_cell-in-Cells.ensures)

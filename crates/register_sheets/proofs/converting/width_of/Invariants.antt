@@ -1,0 +1,16 @@
+use Rattle.std.proofs.Common.{◌≡◌, ◌≤◌, ◌++◌, List, ℕ, length, drop, min, Option}
+use Rattle.register_records.specs.Entries.{Fields, text_records}
+use Rattle.register_sheets.specs.Reading.{IsReading, left_of}
+use Rattle.register_sheets.specs.WidthViews.{IsWidth}
+use Rattle.register_sheets.proofs.converting.width_of.Given as goal
+
+abbrev pub invariant-records : goal.invariant-records
+invariant-records l =
+    record {
+      reading : IsReading l.records;
+      done : (done : List Fields) × (done ++ left_of l.records ≡ text_records l.delimiter l.sheet)
+          × (l.count ≡ min l.above (length done)) × IsWidth l.above done l.width;
+    }
+
+abbrev pub decreases-records : goal.decreases-records
+decreases-records l = length (left_of l.records)

@@ -1,0 +1,155 @@
+use Rattle.std.proofs.Common.{◌≡◌, ◌≤◌, ◌<◌, ◌∙◌, ◌+◌, ◌++◌, [], ◌∷◌, List, ℕ, Option, append-nil, append_assoc, ap, arith, length}
+use Rattle.std.proofs.Common.{length-append, refl, rules, subst, sym, true, false, get_or}
+use Rattle.std.specs.Prelude.{Ok}
+use Rattle.csv.specs.Records.{fields_of}
+use Rattle.register_records.specs.Entries.{Fields, record_limit}
+use Rattle.register_records.specs.Outcomes.{TableRow}
+use Rattle.register_records.proofs.StepLemmas.{passed_on}
+use Rattle.register_sheets.specs.Converted.{body_records}
+use Rattle.register_sheets.specs.Reading.{left_of}
+use Rattle.register_sheets.specs.RowViews.{rows_seen}
+use Rattle.register_sheets.specs.Sending.{HasFront, HasMade}
+use Rattle.register_sheets.proofs.RowLemmas.{body_front, body_more, counts_more, has_body, rows_more}
+use Rattle.register_sheets.proofs.SendingLemmas.{front_made}
+use Rattle.register_sheets.proofs.converting.write_body.Goals as goal
+
+pub returns-then-not-branch-clause-body : goal.returns-then-not-branch-clause-body
+returns-then-not-branch-clause-body g c =
+    let (done, rows, whole, same, counted, are, counts, made) = c.records.invariant.body in
+    let no : c.in_ok-read_next.field-0 ≡ false = search rules in
+    let none = c.read_next.ensures.none (c.in_ok-read_next.was ∙ ap Ok no) in
+    let all = left_of c.args.records.now in
+    let left = left_of c.records.records in
+    let limited : length rows ≤ record_limit = omega (arith, c.records.invariant.limited) in
+    let front = body_front c.args.width c.args.setup.now.choice.columns.now done left rows same in (
+      rows,
+      has_body c.args.setup.now.choice done left all rows whole same limited are,
+      counted,
+      counts,
+      (λ _. omega (arith, ap length whole, length-append done left, ap length none)),
+      (λ e. absurd (cc)),
+      λ begun head h.
+          subst (λ (records : List Fields). HasMade c.args.sender.now.delimiter begun (g.W.Output.contents c.records.output)
+          c.records.sender.lines (head ++ records) [])
+          (sym (ap (λ xs. body_records c.args.width c.args.setup.now.choice.columns.now xs rows) (sym whole) ∙ front))
+          (made begun head h),
+    )
+
+pub returns-then-number-eq-MAX_RECORDS-clause-body : goal.returns-then-number-eq-MAX_RECORDS-clause-body
+returns-then-number-eq-MAX_RECORDS-clause-body g c =
+    let (done, rows, whole, same, counted, are, counts, made) = c.records.invariant.body in
+    let yes : c.in_ok-read_next.field-0 ≡ true = search rules in
+    let found = c.read_next.ensures.found (c.in_ok-read_next.was ∙ ap Ok yes) in
+    let all = left_of c.args.records.now in
+    let left = left_of c.records.records in
+    let limited : length rows ≤ record_limit = omega (arith, c.records.invariant.limited) in
+    let front = body_front c.args.width c.args.setup.now.choice.columns.now done left rows same in (
+      rows,
+      has_body c.args.setup.now.choice done left all rows whole same limited are,
+      counted,
+      counts,
+      (λ e. absurd (cc)),
+      (λ _. (omega arith, omega (arith, ap length whole, length-append done left, ap length found))),
+      λ begun head h.
+          subst (λ (records : List Fields). HasMade c.args.sender.now.delimiter begun (g.W.Output.contents c.records.output)
+          c.records.sender.lines (head ++ records) [])
+          (sym (ap (λ xs. body_records c.args.width c.args.setup.now.choice.columns.now xs rows) (sym whole) ∙ front))
+          (made begun head h),
+    )
+
+pub records-preserved : goal.records-preserved
+records-preserved g c =
+    let inv = c.records.invariant in
+    let (done, rows, whole, same, counted, are, counts, made) = inv.body in
+    let yes : c.in_ok-read_next.field-0 ≡ true = search rules in
+    let found = c.read_next.ensures.found (c.in_ok-read_next.was ∙ ap Ok yes) in
+    let fields = fields_of c.read_next.new.record in
+    let one = rows_seen c.write_record.new.rows in
+    let choice = c.args.setup.now.choice in
+    let step = c.in_ok-write_record.ensures in
+    record {
+      reading = c.read_next.ensures.reading (c.in_ok-read_next.was ∙ ap Ok yes);
+      delimiter = step.kept ∙ inv.delimiter;
+      count = step.count ∙ inv.count;
+      limited = omega arith;
+      few = λ place. omega (arith, inv.few place, step.grows place);
+      failed = step.output.good ∙ inv.failed;
+      mark = step.output.marked ∙ inv.mark;
+      body = (
+        done ++ fields ∷ [],
+        rows ++ one ∷ [],
+        append_assoc done (fields ∷ []) _ ∙ rw found at whole,
+        omega (arith, length-append done (fields ∷ []), length-append rows (one ∷ [])),
+        omega (arith, length-append rows (one ∷ [])),
+        rows_more choice 0 (c.records.number + 1) done rows fields one (omega arith) are step.rows,
+        counts_more rows one _ _ counts step.counted,
+        λ begun head h.
+            subst (λ (records : List Fields). HasMade c.args.sender.now.delimiter begun
+            (g.W.Output.contents c.write_record.new.output) c.write_record.new.sender.lines records [])
+            (append_assoc head (body_records c.args.width choice.columns.now done rows) _
+            ∙ ap (λ xs. head ++ xs) (sym (body_more c.args.width choice.columns.now done rows fields one same)))
+            ((rw inv.delimiter at step.made) begun (head ++ body_records c.args.width choice.columns.now done rows)
+            (made begun head h)),
+      );
+    }
+
+pub returns-in_err-read_next-clause-part : goal.returns-in_err-read_next-clause-part
+returns-in_err-read_next-clause-part g c =
+    let (done, rows, whole, same, counted, are, counts, made) = c.records.invariant.body in
+    let all = left_of c.args.records.now in
+    let left = left_of c.records.records in
+    let limited : length rows ≤ record_limit = omega (arith, c.records.invariant.limited) in
+    let front = body_front c.args.width c.args.setup.now.choice.columns.now done left rows same in
+    passed_on _ _ _ c.from_residual.ensures.1 (λ is. (
+      rows,
+      has_body c.args.setup.now.choice done left all rows whole same limited are,
+      λ begun head h.
+          subst (λ (records : List Fields).
+          HasFront c.args.sender.now.delimiter begun (g.W.Output.contents c.records.output) (head ++ records))
+          (sym (ap (λ xs. body_records c.args.width c.args.setup.now.choice.columns.now xs rows) (sym whole) ∙ front))
+          (front_made c.args.sender.now.delimiter begun (g.W.Output.contents c.records.output) c.records.sender.lines _ []
+          (made begun head h)),
+    ))
+
+pub returns-in_err-write_record-clause-part : goal.returns-in_err-write_record-clause-part
+returns-in_err-write_record-clause-part g c =
+    let (done, rows, whole, same, counted, are, counts, made) = c.records.invariant.body in
+    let all = left_of c.args.records.now in
+    let left = left_of c.records.records in
+    let limited : length rows ≤ record_limit = omega (arith, c.records.invariant.limited) in
+    let front = body_front c.args.width c.args.setup.now.choice.columns.now done left rows same in
+    passed_on _ _ _ c.from_residual-in_err-write_record.ensures.1 (λ is. (
+      rows,
+      has_body c.args.setup.now.choice done left all rows whole same limited are,
+      λ begun head h.
+          rw (c.in_err-write_record.ensures.memory is)
+          (subst (λ (records : List Fields).
+          HasFront c.args.sender.now.delimiter begun (g.W.Output.contents c.records.output) (head ++ records))
+          (sym (ap (λ xs. body_records c.args.width c.args.setup.now.choice.columns.now xs rows) (sym whole) ∙ front))
+          (front_made c.args.sender.now.delimiter begun (g.W.Output.contents c.records.output) c.records.sender.lines _ []
+          (made begun head h))),
+    ))
+
+pub records-init : goal.records-init
+records-init g c =
+    record {
+      reading = c.requires.reading;
+      delimiter = refl;
+      count = refl;
+      limited = omega arith;
+      few = λ place. omega (arith, c.requires.none place);
+      failed = refl;
+      mark = refl;
+      body = (
+        [],
+        [],
+        refl,
+        refl,
+        refl,
+        tt,
+        c.requires.none,
+        λ begun head h.
+            subst (λ (records : List Fields). HasMade c.args.sender.now.delimiter begun
+            (g.W.Output.contents c.args.output.now) c.args.sender.now.lines records []) (sym (append-nil head)) h,
+      );
+    }

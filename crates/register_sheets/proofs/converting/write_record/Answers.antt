@@ -1,0 +1,10 @@
+use Rattle.std.proofs.Common.{[]}
+use Rattle.register_sheets.proofs.SendingLemmas.{fields_made}
+use Rattle.register_sheets.proofs.converting.write_record.Goals as goal
+
+pub returns-clause-made : goal.returns-clause-made
+returns-clause-made g c begun made h =
+    c.in_ok-end.ensures.made begun made _
+    (fields_made _ begun _ _ _ made _ _
+    (fields_made _ begun _ _ _ made [] _ h c.in_ok-push_own.ensures)
+    (rw c.choice.ensures at c.in_ok-push.ensures))

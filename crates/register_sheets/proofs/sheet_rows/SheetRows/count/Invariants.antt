@@ -1,0 +1,13 @@
+use Rattle.std.proofs.Common.{◌≡◌, ◌+◌, ◌<◌, ℕ, count_by, get_or, take}
+use Rattle.std.specs.Prelude.{option_to_list, slice_get}
+use Rattle.register_sheets.specs.Converted.{is_refused}
+use Rattle.register_sheets.specs.RowViews.{rows_seen, CountsRefused}
+use Rattle.register_sheets.proofs.sheet_rows.SheetRows.count.Given as goal
+
+abbrev pub invariant-rows : goal.invariant-rows
+invariant-rows l =
+    record {
+      rows : l.self.rows ≡ l.fn.self.rows;
+      count : l.self.count ≡ l.fn.self.count;
+      counted : CountsRefused (take l.place (rows_seen l.fn.self)) l.fn.self.refused l.self.refused;
+    }

@@ -1,0 +1,18 @@
+use Rattle.std.proofs.Common.{◌+◌, ℕ, List, subst, sym, take}
+use Rattle.register_records.specs.Views.{row_seen}
+use Rattle.register_sheets.specs.Converted.{asked_fields}
+use Rattle.register_sheets.specs.LineViews.{GainsFields}
+use Rattle.register_sheets.specs.RowViews.{rows_seen}
+use Rattle.register_sheets.proofs.LineLemmas.{both_gained}
+use Rattle.register_sheets.proofs.RowLemmas.{flat_more, map_more}
+use Rattle.register_sheets.proofs.sheet_rows.SheetRows.push.Goals as goal
+
+pub rows-preserved : goal.rows-preserved
+rows-preserved c =
+    let all = rows_seen c.args.self.now in
+    let i = c.rows.row-index in
+    let row = c.row-item.result in
+    subst (λ (more : List (List ℕ)). GainsFields more c.args.lines.now c.push_asked.new.lines)
+    (sym (flat_more (asked_fields c.args.columns.now) (take (i + 1) all) (take i all) (row_seen row)
+    (map_more row_seen (take c.args.self.now.count c.args.self.now.rows) i row c.rows-test.true c.row-item.is)))
+    (both_gained _ _ c.args.lines.now c.rows.lines c.push_asked.new.lines c.rows.invariant c.in_ok-push_asked.ensures)

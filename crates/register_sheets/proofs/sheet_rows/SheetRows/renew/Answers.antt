@@ -1,0 +1,41 @@
+use Rattle.std.proofs.Common.{◌≡◌, ◌∙◌, ◌<◌, ◌+◌, List, ap, arith, length, length-set, rules, subst, sym, take}
+use Rattle.std.specs.List.{AllZip}
+use Rattle.csv.specs.Records.{fields_of}
+use Rattle.register_records.specs.Outcomes.{IsRowOf, TableRow}
+use Rattle.register_records.specs.Views.{row_seen}
+use Rattle.register_sheets.specs.Choices.{asked_targets, register_entry}
+use Rattle.register_sheets.specs.declared.choices.CalendarField.TheVariants.{Column}
+use Rattle.register_sheets.specs.declared.choices.SheetChoice.{SheetChoice}
+use Rattle.register_sheets.specs.declared.choices.DateColumn.{DateColumn}
+use Rattle.register_sheets.proofs.RowLemmas.{seen_count, seen_few, seen_set, zip_at}
+use Rattle.register_sheets.proofs.sheet_rows.SheetRows.renew.Goals as goal
+
+abbrev none : DateColumn
+none = record { date = 0; calendar = Column 0 }
+
+pub dates-preserved : goal.dates-preserved
+dates-preserved c =
+    let inv = c.dates.invariant in
+    let place = c.dates.place in
+    let choice = c.args.setup.now.choice in
+    let dates = c.choice.result.dates.now in
+    let R : DateColumn → TableRow → Type 0
+    = λ column row. IsRowOf (asked_targets choice.columns.now)
+    (register_entry choice column c.args.number (fields_of c.args.record.now)) row in
+    let room : place < length c.dates.self.rows = search rules in
+    let many = ap (λ (choice : SheetChoice). length choice.dates.now) c.choice.ensures in
+    let few = seen_few row_seen c.args.self.now.count c.args.self.now.rows in
+    let low : place < c.dates.self.count = omega (arith, inv.count, c.requires.count, many, c.dates-test.true, few) in
+    record {
+      rows = subst (λ (ys : List TableRow). AllZip R (take (place + 1) dates) ys)
+          (sym (seen_set row_seen c.dates.self.rows c.dates.self.count place c.renew_row.new.row low room))
+          (zip_at R dates _ place none (row_seen c.renew_row.new.row) c.dates-test.true inv.rows c.in_ok-renew_row.ensures);
+      count = inv.count;
+      room = length-set c.dates.self.rows place c.renew_row.new.row ∙ inv.room;
+      refused = inv.refused;
+    }
+
+pub returns-clause-count : goal.returns-clause-count
+returns-clause-count c =
+    let inv = c.dates.invariant in
+    seen_count row_seen c.dates.self.count c.args.self.now.count c.dates.self.rows c.args.self.now.rows inv.count inv.room

@@ -1,0 +1,135 @@
+-- The sheet that comes back.
+use Rattle.std.specs.Prelude.{◌≡◌, ◌⊎◌, ◌+◌, ◌++◌, ◌<◌, ◌≤◌, ⊤, ℕ, codes, Bool, true, false, List, [], ◌∷◌}
+use Rattle.std.specs.Prelude.{Result, Ok, Err, drop, is_err, get_or, length, map, option_to_list, slice_get, take, count_by}
+use Rattle.std.specs.List.{AllZip, find, flat_map}
+use Rattle.std.specs.Str.{bytes_eq}
+use Rattle.register_records.specs.Columns.{Column, shown, tail_column, tail_order}
+use Rattle.register_records.specs.Entries.{Fields, record_limit}
+use Rattle.register_records.specs.Outcomes.{IsRowOf, TableRow}
+use Rattle.register_sheets.specs.Choices.{asked_targets, register_entry}
+use Rattle.register_sheets.specs.Sheets.{filled, records_text, widest}
+use Rattle.register_sheets.specs.declared.choices.AskedColumn.{AskedColumn}
+use Rattle.register_sheets.specs.declared.choices.AskedColumn.TheVariants.{Cells, DayNumber, Weekday}
+use Rattle.register_sheets.specs.declared.choices.SheetChoice.{SheetChoice}
+use Rattle.register_sheets.specs.declared.sheet_ends.SheetCause.{SheetCause}
+use Rattle.register_sheets.specs.declared.sheet_ends.SheetEnd.{SheetEnd}
+use Rattle.register_sheets.specs.declared.sheet_ends.SheetEnd.TheVariants as end
+
+-- what a table without targets shows of a row in the column of this name
+abbrev pub shown_in : List ℕ → TableRow → List ℕ
+shown_in name row =
+    shown (λ (c : Column). c.field row) (find (λ (c : Column). bytes_eq c.name name) (flat_map (tail_column []) tail_order))
+
+-- what stands in a column asked of a row of which these cells are left, and how many of them it takes
+abbrev pub asked_text : AskedColumn → TableRow → List (List ℕ) → List ℕ
+asked_text DayNumber row cells = shown_in (codes "rd") row
+asked_text Weekday row cells = shown_in (codes "weekday") row
+asked_text (Cells target) row cells = get_or cells 0 []
+
+abbrev pub cells_taken : AskedColumn → ℕ
+cells_taken (Cells target) = 1
+cells_taken column = 0
+
+-- what stands in those columns, and behind them the refusal
+abbrev pub asked_texts : List AskedColumn → TableRow → List (List ℕ) → Fields
+asked_texts [] row cells = shown_in (codes "refusal") row ∷ []
+asked_texts (column ∷ columns) row cells =
+    asked_text column row cells ∷ asked_texts columns row (drop (cells_taken column) cells)
+
+abbrev pub asked_fields : List AskedColumn → TableRow → Fields
+asked_fields columns row = asked_texts columns row row.cells
+
+-- for each column of dates, the row that the table of its register has for the record with this number
+abbrev pub AreRowsOfRecord : SheetChoice → ℕ → Fields → List TableRow → Type 0
+AreRowsOfRecord choice number fields rows =
+    AllZip (λ column row. IsRowOf (asked_targets choice.columns.now) (register_entry choice column number fields) row)
+    choice.dates.now rows
+
+-- those of each of these records, the first of which has the number after k
+abbrev pub AreRowsFrom : SheetChoice → ℕ → List Fields → List (List TableRow) → Type 0
+AreRowsFrom choice k [] [] = ⊤
+AreRowsFrom choice k (fields ∷ records) (rows ∷ others) =
+    AreRowsOfRecord choice (k + 1) fields rows × AreRowsFrom choice (k + 1) records others
+AreRowsFrom choice k records others = ⊥
+
+-- of the records of a sheet, those below the names
+abbrev pub below : SheetChoice → List Fields → List Fields
+below choice records = drop (choice.above + 1) records
+
+-- the most fields of the names and of the records below them
+abbrev pub sheet_width : SheetChoice → List Fields → ℕ
+sheet_width choice records = widest (drop choice.above records)
+
+-- the names, and behind them those of the columns asked
+abbrev pub head_record : SheetChoice → List Fields → Fields
+head_record choice records =
+    filled (sheet_width choice records) (get_or records choice.above []) ++ map (λ name. name.now) choice.headings.now
+
+-- a record, and behind it the columns asked of its rows
+abbrev pub body_record : ℕ → List AskedColumn → Fields → List TableRow → Fields
+body_record width columns fields rows = filled width fields ++ flat_map (asked_fields columns) rows
+
+-- each of these records, as far as there are rows
+abbrev pub body_records : ℕ → List AskedColumn → List Fields → List (List TableRow) → List Fields
+body_records width columns [] others = []
+body_records width columns (fields ∷ records) [] = []
+body_records width columns (fields ∷ records) (rows ∷ others) =
+    body_record width columns fields rows ∷ body_records width columns records others
+
+-- the records of the sheet that comes back, by the rows of the records below the names
+abbrev pub sheet_records : SheetChoice → List Fields → List (List TableRow) → List Fields
+sheet_records choice records rows =
+    take choice.above records ++ head_record choice records
+    ∷ body_records (sheet_width choice records) choice.columns.now (below choice records) rows
+
+-- these are the rows of the first records below the names, so many
+pub record AreFirstRows (choice : SheetChoice) (records : List Fields) (rows : List (List TableRow)) : Type 0 where
+  pub has_names : choice.above < length records
+  pub converted : AreRowsFrom choice 0 (take (length rows) (below choice records)) rows
+  pub limited : length rows ≤ record_limit
+
+abbrev pub is_refused : TableRow → Bool
+is_refused row = is_err row.outcome
+
+-- the rows of a column of dates
+abbrev pub column_rows : ℕ → List (List TableRow) → List TableRow
+column_rows place rows = flat_map (λ (of_record : List TableRow). option_to_list (slice_get of_record place)) rows
+
+-- these bytes are the sheet with the columns asked, with so many records below the names and, for each column of dates,
+-- so many refused ones
+pub record IsWholeSheet (choice : SheetChoice) (records : List Fields) (count : ℕ) (refused : List ℕ)
+    (bytes : List ℕ) : Type 0 where
+  pub rows : List (List TableRow)
+  pub first : AreFirstRows choice records rows
+  pub all : length rows ≡ length (below choice records)
+  pub counted : count ≡ length rows
+  pub refused_counted : (place : ℕ) → place < length choice.dates.now
+      → get_or refused place 0 ≡ count_by is_refused (column_rows place rows)
+  pub written : bytes ≡ records_text choice.delimiter (sheet_records choice records rows)
+
+-- these bytes are its first records, which may be none
+pub record IsFrontOfSheet (choice : SheetChoice) (records : List Fields) (bytes : List ℕ) : Type 0 where
+  pub rows : List (List TableRow)
+  pub count : ℕ
+  pub first : AreFirstRows choice records rows
+  pub written : bytes ≡ records_text choice.delimiter (take count (sheet_records choice records rows))
+
+-- these bytes are none, or the first records
+abbrev pub ArePartOfSheet : SheetChoice → List Fields → List ℕ → Type 0
+ArePartOfSheet choice records bytes = (bytes ≡ []) ⊎ IsFrontOfSheet choice records bytes
+
+-- these bytes are the sheet down to the last record that may be converted, and there are more
+pub record IsFullSheet (choice : SheetChoice) (records : List Fields) (bytes : List ℕ) : Type 0 where
+  pub rows : List (List TableRow)
+  pub first : AreFirstRows choice records rows
+  pub full : length rows ≡ record_limit
+  pub more : record_limit < length (below choice records)
+  pub written : bytes ≡ records_text choice.delimiter (sheet_records choice records rows)
+
+abbrev pub IfWhole : SheetEnd → (ℕ → List ℕ → Type 0) → Type 0
+IfWhole (end.Whole rows refused) P = P rows refused
+IfWhole (end.Broken cause) P = ⊤
+
+abbrev pub IfBroken : SheetEnd → (SheetCause → Type 0) → Type 0
+IfBroken (end.Whole rows refused) P = ⊤
+IfBroken (end.Broken cause) P = P cause

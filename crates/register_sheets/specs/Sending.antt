@@ -1,0 +1,49 @@
+-- How far records are written to an output. No public contract cites this file.
+use Rattle.std.specs.Prelude.{◌≡◌, ◌⊎◌, ◌≤◌, ◌++◌, ℕ, Bool, true, List, [], Option, Result, IfErr, OnOk, count_by, get_or}
+use Rattle.std.specs.Prelude.{length, take}
+use Rattle.std.specs.Io.KnownBytes.{Appends}
+use Rattle.register_records.specs.Entries.{Fields, record_limit}
+use Rattle.register_records.specs.Outcomes.{TableRow}
+use Rattle.register_sheets.specs.Converted.{AreRowsFrom, column_rows, is_refused}
+use Rattle.register_sheets.specs.LineViews.{Begins}
+use Rattle.register_sheets.specs.Sheets.{records_text}
+use Rattle.register_sheets.specs.declared.choices.SheetChoice.{SheetChoice}
+use Rattle.register_sheets.specs.declared.lines.SheetLines.{SheetLines}
+use Rattle.register_sheets.specs.declared.sheet_ends.SheetCause.{SheetCause}
+use Rattle.register_sheets.specs.declared.sheet_ends.SheetCause.TheVariants as cause
+
+-- the first of these records are sent, the others stand in lines, and behind them the fields of one more
+pub record HasMade (delimiter : ℕ) (begun now : Option (List ℕ)) (lines : SheetLines) (made : List Fields)
+    (fields : Fields) : Type 0 where
+  pub sent : List Fields
+  pub waiting : List Fields
+  pub gained : Appends begun now (records_text delimiter sent)
+  pub held : Begins delimiter (records_text delimiter waiting) fields lines
+  pub parted : made ≡ sent ++ waiting
+
+-- all of these records are sent, and none stands in lines
+pub record IsSent (delimiter : ℕ) (begun now : Option (List ℕ)) (lines : SheetLines) (made : List Fields)
+    : Type 0 where
+  pub gained : Appends begun now (records_text delimiter made)
+  pub held : Begins delimiter [] [] lines
+
+-- the bytes sent are those of the first of these records
+abbrev pub HasFront : ℕ → Option (List ℕ) → Option (List ℕ) → List Fields → Type 0
+HasFront delimiter begun now records = (count : ℕ) × Appends begun now (records_text delimiter (take count records))
+
+-- whether the output has failed by this answer, and that its mark stays
+pub record Ends {A : Type 0} (result : Result A SheetCause) (failed fails : Bool) (mark new_mark : ℕ) : Type 0 where
+  pub good : OnOk result (fails ≡ failed)
+  pub causes : IfErr result (λ c. (c ≡ cause.NoMemory) ⊎ (c ≡ cause.SinkFault))
+  pub memory : IfErr result (λ c. c ≡ cause.NoMemory → fails ≡ failed)
+  pub sink : IfErr result (λ c. c ≡ cause.SinkFault → fails ≡ true)
+  pub marked : new_mark ≡ mark
+
+-- these are the rows of the first of these records
+pub record HasBody (choice : SheetChoice) (records : List Fields) (rows : List (List TableRow)) : Type 0 where
+  pub converted : AreRowsFrom choice 0 (take (length rows) records) rows
+  pub limited : length rows ≤ record_limit
+
+-- so many of them were refused for each column of dates
+abbrev pub CountsAll : List (List TableRow) → List ℕ → Type 0
+CountsAll rows refused = (place : ℕ) → get_or refused place 0 ≡ count_by is_refused (column_rows place rows)

@@ -1,0 +1,235 @@
+//! What is chosen of a sheet.
+
+ghost use Rattle.std.specs.Prelude.{◌≡◌, ◌≢◌, ◌≤◌, ◌<◌, ◌↔◌, ◌+◌, ◌++◌, ◌∷◌, [], true, false, count_by, length, nat_lt, option_to_list, take};
+ghost use Rattle.std.specs.Prelude.{Err, IfOk};
+ghost use Rattle.register_records.specs.SetupRules.{NamesTwice, is_delimiter};
+ghost use Rattle.register_records.specs.Views.{targets_of};
+ghost use Rattle.register_sheets.specs.Choices.{AsksOnce, HasDates, added, asked_targets, asks_twice, column_limit};
+ghost use Rattle.register_sheets.specs.Choices.{date_limit, is_day_number, is_weekday, target_in};
+
+use date_texts::{Calendar, Target};
+use register_records::{Form, Setup, SetupFault};
+use thiserror::Error;
+use written_dates::{CalendarNames, Choice, Names};
+
+/// The most columns of dates.
+pub const MAX_DATES: usize = 8;
+
+/// The most columns that may be asked for each column of dates.
+pub const MAX_COLUMNS: usize = 16;
+
+/// Where the id of a record is. A place is that of a field, from 0; a record that has none there has an empty one.
+#[derive(Clone, Copy, PartialEq, Eq, Debug)]
+pub enum IdField {
+    /// In a column.
+    Column(u32),
+    /// It is the number of the record below the names, from 1.
+    Number,
+}
+
+/// Where the calendar of a date is.
+#[derive(Clone, Copy, PartialEq, Eq, Debug)]
+pub enum CalendarField {
+    /// In a column.
+    Column(u32),
+    /// All dates of the column have this one.
+    All(Calendar),
+}
+
+/// A column of dates.
+#[derive(Clone, Copy, PartialEq, Eq, Debug)]
+pub struct DateColumn {
+    /// Where the dates are.
+    pub date: u32,
+    /// Where their calendars are.
+    pub calendar: CalendarField,
+}
+
+/// A column that is asked for each column of dates.
+#[derive(Clone, Copy, PartialEq, Eq, Debug)]
+pub enum AskedColumn {
+    /// The number of the day.
+    DayNumber,
+    /// The weekday.
+    Weekday,
+    /// The date in a calendar, the haab or the tzolkin.
+    Cells(Target),
+}
+
+/// What is chosen of a sheet.
+#[derive(Clone, Copy)]
+pub struct SheetChoice<'a> {
+    /// The byte between two fields, of what is read and of what is written: a comma, a semicolon or a tab.
+    pub delimiter: u8,
+    /// How many records stand above the names.
+    pub above: u32,
+    /// Where the ids are.
+    pub id: IdField,
+    /// The columns of dates: one to eight.
+    pub dates: &'a [DateColumn],
+    /// The columns asked for each of them, in order, none twice; behind them always comes the refusal.
+    pub columns: &'a [AskedColumn],
+    /// What heads the columns that come behind the sheet: for each column of dates, the names of those asked and of the
+    /// refusal.
+    pub headings: &'a [&'a [u8]],
+    /// How dates are read.
+    pub reading: Choice,
+    /// The names in dates.
+    pub names: &'a Names<'a>,
+    /// The names of calendars.
+    pub calendars: &'a CalendarNames<'a>,
+}
+
+/// Why a choice is none: the first of these that applies.
+#[derive(Clone, Copy, PartialEq, Eq, Debug, Error)]
+pub enum ChoiceFault {
+    /// There are not one to eight columns of dates.
+    #[error("the columns of dates are not one to eight")]
+    Dates,
+    /// More columns are asked than there are.
+    #[error("more columns are asked than there are")]
+    TooManyColumns,
+    /// A column is asked twice.
+    #[error("a column is asked twice")]
+    ColumnTwice,
+    /// The delimiter is no comma, semicolon or tab.
+    #[error("the delimiter is no comma, semicolon or tab")]
+    Delimiter,
+    /// There are not as many headings as columns that come behind the sheet.
+    #[error("the headings are not as many as the columns that come behind the sheet")]
+    Headings,
+}
+
+/// A choice that is one.
+#[derive(Clone, Copy)]
+pub struct SheetSetup<'a> {
+    pub(crate) choice: SheetChoice<'a>,
+    setup: Setup,
+    ghost dated: { HasDates choice },
+    ghost asked: { AsksOnce choice },
+    ghost targeted: { targets_of setup ≡ asked_targets choice.columns.now },
+}
+
+fn is_day_number(column: &AskedColumn) -> bool
+    ensures { result ≡ is_day_number column.now }
+{
+    matches!(column, AskedColumn::DayNumber)
+}
+
+fn is_weekday(column: &AskedColumn) -> bool
+    ensures { result ≡ is_weekday column.now }
+{
+    matches!(column, AskedColumn::Weekday)
+}
+
+/// How often the day is asked.
+fn days_asked(columns: &[AskedColumn]) -> usize
+    ensures { result ≡ count_by is_day_number columns.now }
+{
+    columns
+        .iter()
+        .filter(|column| is_day_number(column))
+        .count()
+}
+
+/// How often the weekday is asked.
+fn weekdays_asked(columns: &[AskedColumn]) -> usize
+    ensures { result ≡ count_by is_weekday columns.now }
+{
+    columns.iter().filter(|column| is_weekday(column)).count()
+}
+
+/// Whether the day or the weekday is asked twice.
+fn asks_twice(columns: &[AskedColumn]) -> bool
+    ensures { result ≡ asks_twice columns.now }
+{
+    let days = days_asked(columns) > 1;
+    let weekdays = weekdays_asked(columns) > 1;
+    days || weekdays
+}
+
+/// The target that a column asks for.
+fn target_in(column: AskedColumn) -> Option<Target>
+    ensures { option_to_list result ≡ target_in column }
+{
+    match column {
+        AskedColumn::Cells(target) => Some(target),
+        _ => None,
+    }
+}
+
+/// The targets among the columns asked, and how many they are.
+fn asked_targets(columns: &[AskedColumn]) -> ([Target; MAX_COLUMNS], usize)
+    requires { length columns.now ≤ MAX_COLUMNS }
+    ensures value { take result.1 result.0 ≡ asked_targets columns.now }
+    ensures few { result.1 ≤ MAX_COLUMNS }
+{
+    let mut targets = [Target::Haab; MAX_COLUMNS];
+    let mut count = 0;
+    'columns: for column in columns {
+        match target_in(*column) {
+            Some(target) => {
+                targets[count] = target;
+                count += 1;
+            }
+            None => {}
+        }
+    }
+    (targets, count)
+}
+
+impl<'a> SheetSetup<'a> {
+    /// The setup of a choice.
+    ///
+    /// # Errors
+    ///
+    /// The first fault that applies, in the order of [`ChoiceFault`].
+    pub fn new(choice: SheetChoice<'a>) -> Result<SheetSetup<'a>, ChoiceFault>
+        ensures value { IfOk result (λ s. s.choice ≡ choice.entry) }
+        ensures good { IfOk result (λ s. HasDates choice.entry × AsksOnce choice.entry
+            × (is_delimiter choice.entry.delimiter ≡ true)
+            × (length choice.entry.headings.now ≡ added choice.entry)) }
+        ensures dates { (result ≡ Err ChoiceFault.Dates) ↔ ¬ (HasDates choice.entry) }
+        ensures many { (result ≡ Err ChoiceFault.TooManyColumns)
+            ↔ (HasDates choice.entry × (nat_lt column_limit (length choice.entry.columns.now) ≡ true)) }
+        ensures delimiter { (result ≡ Err ChoiceFault.Delimiter)
+            ↔ (HasDates choice.entry × AsksOnce choice.entry × (is_delimiter choice.entry.delimiter ≡ false)) }
+        ensures headings { (result ≡ Err ChoiceFault.Headings)
+            ↔ (HasDates choice.entry × AsksOnce choice.entry × (is_delimiter choice.entry.delimiter ≡ true)
+            × (length choice.entry.headings.now ≢ added choice.entry)) }
+    {
+        if choice.dates.is_empty() || choice.dates.len() > MAX_DATES {
+            return Err(ChoiceFault::Dates);
+        }
+        if choice.columns.len() > MAX_COLUMNS {
+            return Err(ChoiceFault::TooManyColumns);
+        }
+        if asks_twice(choice.columns) {
+            return Err(ChoiceFault::ColumnTwice);
+        }
+        let (targets, count) = asked_targets(choice.columns);
+        let setup = match Setup::new(&targets[..count], 1, choice.delimiter, 1, Form::Plain) {
+            Ok(setup) => setup,
+            Err(SetupFault::TargetTwice) => return Err(ChoiceFault::ColumnTwice),
+            Err(_) => return Err(ChoiceFault::Delimiter),
+        };
+        if choice.headings.len() != choice.dates.len() * (choice.columns.len() + 1) {
+            return Err(ChoiceFault::Headings);
+        }
+        Ok(SheetSetup { choice, setup })
+    }
+
+    /// What was chosen.
+    pub fn choice(&self) -> SheetChoice<'a>
+        ensures { result ≡ self.now.choice }
+    {
+        self.choice
+    }
+
+    /// What a table is asked for: the targets.
+    pub(crate) fn setup(&self) -> &Setup
+        ensures { targets_of result.now ≡ asked_targets self.now.choice.columns.now }
+    {
+        &self.setup
+    }
+}

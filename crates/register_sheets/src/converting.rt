@@ -1,0 +1,317 @@
+//! A sheet with the columns of its dates' rows behind it.
+
+ghost use Rattle.std.specs.Prelude.{◌≡◌, ◌≢◌, ◌≤◌, ◌<◌, ◌+◌, ◌++◌, ◌∷◌, [], ℕ, List, Option, drop, get_or, length, map};
+ghost use Rattle.std.specs.Prelude.{IfErr, IfOk, IfSome, IfNone, OnOk, false, take, true};
+ghost use Rattle.csv.specs.Records.{fields_of};
+ghost use Rattle.register_records.specs.Entries.{Fields, record_limit, text_records};
+ghost use Rattle.register_records.specs.Outcomes.{TableRow};
+ghost use Rattle.register_records.specs.Sources.{Gains};
+ghost use Rattle.register_sheets.specs.Converted.{ArePartOfSheet, AreRowsOfRecord, IfBroken, IfWhole, IsFrontOfSheet, IsFullSheet};
+ghost use Rattle.register_sheets.specs.Converted.{IsWholeSheet, body_record, body_records, below, head_record};
+ghost use Rattle.register_sheets.specs.Converted.{sheet_width};
+ghost use Rattle.register_sheets.specs.LineViews.{GainsFields};
+ghost use Rattle.register_sheets.specs.Reading.{IsReading, left_of};
+ghost use Rattle.register_sheets.specs.RowViews.{CountsRefused, rows_seen};
+ghost use Rattle.register_sheets.specs.Sending.{CountsAll, Ends, HasBody, HasFront, HasMade};
+ghost use Rattle.register_sheets.specs.Sheets.{filled, widest};
+
+use crate::choices::SheetSetup;
+use crate::joining::push_own;
+use crate::lines::SheetLines;
+use crate::reading::{read_next, records_of};
+use crate::sending::SheetSender;
+use crate::sheet_ends::{SheetCause, SheetEnd};
+use crate::sheet_rows::SheetRows;
+use csv::{ByteRecord, Reader};
+use register_records::Output;
+use std::alloc::{AllocError, Global};
+
+/// The most records below the names.
+const MAX_RECORDS: u32 = 1_000_000;
+
+/// The most fields of the names, above which so many records stand, and of the records below them; `None` where there
+/// are no names.
+fn width_of(
+    alloc: Global,
+    sheet: &[u8],
+    delimiter: u8,
+    above: u32,
+) -> Result<Option<usize>, AllocError>
+    ensures some { IfOk result (λ o. IfSome o (λ width. (above < length (text_records delimiter sheet.now))
+        × (width ≡ widest (drop above (text_records delimiter sheet.now))))) }
+    ensures none { IfOk result (λ o. IfNone o (length (text_records delimiter sheet.now) ≤ above)) }
+{
+    let mut records = records_of(alloc, sheet, delimiter);
+    let mut record = ByteRecord::new(alloc);
+    let mut width = None;
+    let mut count: u32 = 0;
+    'records: loop {
+        if !read_next(&mut records, &mut record)? {
+            return Ok(width);
+        }
+        if count < above {
+            count += 1;
+        } else {
+            width = Some(usize::max(record.len(), width.unwrap_or(0)));
+        }
+    }
+}
+
+/// Writes so many records as they stand.
+fn copy_records<W: Output>(
+    records: &mut Reader<&[u8]>,
+    record: &mut ByteRecord,
+    count: u32,
+    sender: &mut SheetSender,
+    output: &mut W,
+) -> Result<(), SheetCause>
+    requires reading { IsReading records.old }
+    requires more { count < length (left_of records.old) }
+    ensures reading { OnOk result (IsReading records.new) }
+    ensures left { OnOk result (left_of records.new ≡ drop count (left_of records.old)) }
+    ensures kept { sender.new.delimiter ≡ sender.old.delimiter }
+    ensures made { OnOk result ((begun : Option (List ℕ)) (made : List Fields)
+        → HasMade sender.old.delimiter begun (W.contents output.old) sender.old.lines made []
+        → HasMade sender.old.delimiter begun (W.contents output.new) sender.new.lines
+        (made ++ take count (left_of records.old)) []) }
+    ensures part { IfErr result (λ c. c ≡ SheetCause.NoMemory → (begun : Option (List ℕ)) (made : List Fields)
+        → HasMade sender.old.delimiter begun (W.contents output.old) sender.old.lines made []
+        → HasFront sender.old.delimiter begun (W.contents output.new) (made ++ take count (left_of records.old))) }
+    ensures output { Ends result (W.has_failed output.old) (W.has_failed output.new) (W.own_mark output.old)
+        (W.own_mark output.new) }
+{
+    'records: for _ in 0..count {
+        if !read_next(records, record)? {
+            return Ok(());
+        }
+        push_own(&mut sender.lines, record, 0)?;
+        sender.end(output)?;
+    }
+    Ok(())
+}
+
+/// Appends headings to a line.
+fn push_headings(lines: &mut SheetLines, headings: &[&[u8]]) -> Result<(), AllocError>
+    ensures { OnOk result (GainsFields (map (λ name. name.now) headings.now) lines.old lines.new) }
+{
+    'headings: for heading in headings {
+        lines.push(heading)?;
+    }
+    Ok(())
+}
+
+/// Writes the names, filled up to the width, and behind them the headings.
+fn write_head<W: Output>(
+    records: &mut Reader<&[u8]>,
+    record: &mut ByteRecord,
+    width: usize,
+    headings: &[&[u8]],
+    sender: &mut SheetSender,
+    output: &mut W,
+) -> Result<(), SheetCause>
+    requires reading { IsReading records.old }
+    requires more { 0 < length (left_of records.old) }
+    ensures reading { OnOk result (IsReading records.new) }
+    ensures left { OnOk result (left_of records.new ≡ drop 1 (left_of records.old)) }
+    ensures kept { sender.new.delimiter ≡ sender.old.delimiter }
+    ensures made { OnOk result ((begun : Option (List ℕ)) (made : List Fields)
+        → HasMade sender.old.delimiter begun (W.contents output.old) sender.old.lines made []
+        → HasMade sender.old.delimiter begun (W.contents output.new) sender.new.lines
+        (made ++ (filled width (get_or (left_of records.old) 0 []) ++ map (λ name. name.now) headings.now) ∷ []) []) }
+    ensures memory { IfErr result (λ c. c ≡ SheetCause.NoMemory → output.new ≡ output.old) }
+    ensures output { Ends result (W.has_failed output.old) (W.has_failed output.new) (W.own_mark output.old)
+        (W.own_mark output.new) }
+{
+    if !read_next(records, record)? {
+        return Ok(());
+    }
+    push_own(&mut sender.lines, record, width)?;
+    push_headings(&mut sender.lines, headings)?;
+    sender.end(output)?;
+    Ok(())
+}
+
+/// Writes a record, filled up to the width, and behind it the columns asked of its rows.
+fn write_record<W: Output>(
+    record: &ByteRecord,
+    number: u32,
+    width: usize,
+    setup: &SheetSetup,
+    rows: &mut SheetRows,
+    sender: &mut SheetSender,
+    output: &mut W,
+) -> Result<(), SheetCause>
+    requires from_one { 1 ≤ number }
+    requires limited { number ≤ record_limit }
+    requires count { length (rows_seen rows.old) ≡ length setup.now.choice.dates.now }
+    requires room { (place : ℕ) → get_or rows.old.refused place 0 < record_limit }
+    ensures rows { OnOk result
+        (AreRowsOfRecord setup.now.choice number (fields_of record.now) (rows_seen rows.new)) }
+    ensures count { length (rows_seen rows.new) ≡ length (rows_seen rows.old) }
+    ensures counted { OnOk result (CountsRefused (rows_seen rows.new) rows.old.refused rows.new.refused) }
+    ensures grows { OnOk result ((place : ℕ) → get_or rows.new.refused place 0 ≤ get_or rows.old.refused place 0 + 1) }
+    ensures kept { sender.new.delimiter ≡ sender.old.delimiter }
+    ensures made { OnOk result ((begun : Option (List ℕ)) (made : List Fields)
+        → HasMade sender.old.delimiter begun (W.contents output.old) sender.old.lines made []
+        → HasMade sender.old.delimiter begun (W.contents output.new) sender.new.lines
+        (made ++ body_record width setup.now.choice.columns.now (fields_of record.now) (rows_seen rows.new) ∷ []) []) }
+    ensures memory { IfErr result (λ c. c ≡ SheetCause.NoMemory → output.new ≡ output.old) }
+    ensures output { Ends result (W.has_failed output.old) (W.has_failed output.new) (W.own_mark output.old)
+        (W.own_mark output.new) }
+{
+    rows.renew(setup, number, record)?;
+    rows.count();
+    push_own(&mut sender.lines, record, width)?;
+    rows.push(setup.choice().columns, &mut sender.lines)?;
+    sender.end(output)?;
+    Ok(())
+}
+
+/// Writes each record that is left, and returns how many they are, and whether there are more than may be converted.
+fn write_body<W: Output>(
+    records: &mut Reader<&[u8]>,
+    record: &mut ByteRecord,
+    width: usize,
+    setup: &SheetSetup,
+    rows: &mut SheetRows,
+    sender: &mut SheetSender,
+    output: &mut W,
+) -> Result<(u32, bool), SheetCause>
+    requires reading { IsReading records.old }
+    requires count { length (rows_seen rows.old) ≡ length setup.now.choice.dates.now }
+    requires none { (place : ℕ) → get_or rows.old.refused place 0 ≡ 0 }
+    ensures kept { sender.new.delimiter ≡ sender.old.delimiter }
+    ensures body { IfOk result (λ r. (made : List (List TableRow))
+        × HasBody setup.now.choice (left_of records.old) made
+        × (r.0 ≡ length made) × CountsAll made rows.new.refused
+        × (r.1 ≡ false → length made ≡ length (left_of records.old))
+        × (r.1 ≡ true → (length made ≡ record_limit) × (record_limit < length (left_of records.old)))
+        × ((begun : Option (List ℕ)) (head : List Fields)
+        → HasMade sender.old.delimiter begun (W.contents output.old) sender.old.lines head []
+        → HasMade sender.old.delimiter begun (W.contents output.new) sender.new.lines
+        (head ++ body_records width setup.now.choice.columns.now (left_of records.old) made) [])) }
+    ensures part { IfErr result (λ c. c ≡ SheetCause.NoMemory → (made : List (List TableRow))
+        × HasBody setup.now.choice (left_of records.old) made
+        × ((begun : Option (List ℕ)) (head : List Fields)
+        → HasMade sender.old.delimiter begun (W.contents output.old) sender.old.lines head []
+        → HasFront sender.old.delimiter begun (W.contents output.new)
+        (head ++ body_records width setup.now.choice.columns.now (left_of records.old) made))) }
+    ensures output { Ends result (W.has_failed output.old) (W.has_failed output.new) (W.own_mark output.old)
+        (W.own_mark output.new) }
+{
+    let mut number = 0;
+    'records: loop {
+        if !read_next(records, record)? {
+            return Ok((number, false));
+        }
+        if number == MAX_RECORDS {
+            return Ok((number, true));
+        }
+        number += 1;
+        write_record(record, number, width, setup, rows, sender, output)?;
+    }
+}
+
+/// Converts a sheet, and returns how many records stand below the names, and the last rows, which know how many were
+/// refused.
+fn convert<W: Output>(
+    alloc: Global,
+    sheet: &[u8],
+    setup: &SheetSetup,
+    output: &mut W,
+) -> Result<(u32, SheetRows), SheetCause>
+    ensures whole { IfOk result (λ r. Gains (W.contents output.old) (W.contents output.new)
+        (IsWholeSheet setup.now.choice (text_records setup.now.choice.delimiter sheet.now) r.0 r.1.refused)) }
+    ensures flushed { OnOk result (W.is_flushed output.new ≡ true) }
+    ensures part { IfErr result (λ c. c ≡ SheetCause.NoMemory → Gains (W.contents output.old) (W.contents output.new)
+        (ArePartOfSheet setup.now.choice (text_records setup.now.choice.delimiter sheet.now))) }
+    ensures no_names { IfErr result (λ c. c ≡ SheetCause.NoNames → (output.new ≡ output.old)
+        × (length (text_records setup.now.choice.delimiter sheet.now) ≤ setup.now.choice.above)) }
+    ensures too_many { IfErr result (λ c. c ≡ SheetCause.TooManyRecords
+        → Gains (W.contents output.old) (W.contents output.new)
+        (IsFullSheet setup.now.choice (text_records setup.now.choice.delimiter sheet.now))) }
+    ensures good { OnOk result (W.has_failed output.new ≡ W.has_failed output.old) }
+    ensures kept { IfErr result (λ c. (c ≢ SheetCause.SinkFault) → W.has_failed output.new ≡ W.has_failed output.old) }
+    ensures sink { IfErr result (λ c. c ≡ SheetCause.SinkFault → W.has_failed output.new ≡ true) }
+    ensures mark { W.own_mark output.new ≡ W.own_mark output.old }
+{
+    let choice = setup.choice;
+    let width = match width_of(alloc, sheet, choice.delimiter, choice.above)? {
+        Some(width) => width,
+        None => return Err(SheetCause::NoNames),
+    };
+    let mut records = records_of(alloc, sheet, choice.delimiter);
+    let mut record = ByteRecord::new(alloc);
+    let mut sender = SheetSender::new(alloc, choice.delimiter);
+    let mut rows = SheetRows::new(alloc, choice.dates.len());
+    copy_records(&mut records, &mut record, choice.above, &mut sender, output)?;
+    write_head(
+        &mut records,
+        &mut record,
+        width,
+        choice.headings,
+        &mut sender,
+        output,
+    )?;
+    let (number, more) = write_body(
+        &mut records,
+        &mut record,
+        width,
+        setup,
+        &mut rows,
+        &mut sender,
+        output,
+    )?;
+    sender.send(output)?;
+    if more {
+        return Err(SheetCause::TooManyRecords);
+    }
+    Ok((number, rows))
+}
+
+/// Writes to an output the sheet that comes back: the records above the names as they stand; the names, filled up to the
+/// width of the sheet with empty fields, and behind them the headings; then each record below, filled up likewise, and
+/// behind it, for each column of dates, what the columns asked and the refusal have in its row of the table of this
+/// column's register. That register has for each record the id, the calendar and the date that the choice gives. The
+/// width of the sheet is the most fields of the names and of the records below. Lines are sent in blocks.
+///
+/// Returns `Whole` where the whole sheet was written, and else `Broken` with the cause.
+pub fn convert_sheet<W: Output>(
+    alloc: Global,
+    sheet: &[u8],
+    setup: &SheetSetup,
+    output: &mut W,
+) -> SheetEnd
+    // The output has gained the sheet with the columns asked, and nothing else.
+    ensures whole { IfWhole result (λ rows refused. Gains (W.contents output.old) (W.contents output.new)
+        (IsWholeSheet setup.now.choice (text_records setup.now.choice.delimiter sheet.now) rows refused)) }
+    ensures flushed { IfWhole result (λ rows refused. W.is_flushed output.new ≡ true) }
+
+    // Where memory ran out, it has gained the first records of that sheet, or nothing.
+    ensures part { IfBroken result (λ c. c ≡ SheetCause.NoMemory → Gains (W.contents output.old) (W.contents output.new)
+        (ArePartOfSheet setup.now.choice (text_records setup.now.choice.delimiter sheet.now))) }
+    // No record stands below those that stand above the names.
+    ensures no_names { IfBroken result (λ c. c ≡ SheetCause.NoNames → (output.new ≡ output.old)
+        × (length (text_records setup.now.choice.delimiter sheet.now) ≤ setup.now.choice.above)) }
+    // All the records that may be converted were, and there are more.
+    ensures too_many { IfBroken result (λ c. c ≡ SheetCause.TooManyRecords
+        → Gains (W.contents output.old) (W.contents output.new)
+        (IsFullSheet setup.now.choice (text_records setup.now.choice.delimiter sheet.now))) }
+
+    // The output has failed exactly where it had failed before or is the cause.
+    ensures good { IfWhole result (λ rows refused. W.has_failed output.new ≡ W.has_failed output.old) }
+    ensures kept { IfBroken result (λ c. (c ≢ SheetCause.SinkFault) → W.has_failed output.new ≡ W.has_failed output.old) }
+    ensures sink { IfBroken result (λ c. c ≡ SheetCause.SinkFault → W.has_failed output.new ≡ true) }
+    ensures mark { W.own_mark output.new ≡ W.own_mark output.old }
+{
+    match convert(alloc, sheet, setup, output) {
+        Ok((number, rows)) => {
+            let refused = rows.refused();
+            SheetEnd::Whole {
+                rows: number,
+                refused,
+            }
+        }
+        Err(cause) => SheetEnd::Broken { cause },
+    }
+}

@@ -1,0 +1,53 @@
+//! The row of a record in the register of a column of dates.
+
+ghost use Rattle.std.specs.Prelude.{◌≡◌, ◌≤◌, ◌∷◌, [], OnOk, count_by};
+ghost use Rattle.csv.specs.Records.{fields_of};
+ghost use Rattle.register_records.specs.Entries.{record_limit};
+ghost use Rattle.register_records.specs.Outcomes.{IsRowOf};
+ghost use Rattle.register_records.specs.Views.{row_seen};
+ghost use Rattle.register_sheets.specs.Choices.{asked_targets, register_entry};
+ghost use Rattle.register_sheets.specs.Converted.{is_refused};
+
+use crate::choices::{DateColumn, SheetSetup};
+use crate::register_fields::{calendar_of, id_of, put_date};
+use csv::ByteRecord;
+use itoa::Buffer;
+use register_records::{Entry, Row};
+use std::alloc::AllocError;
+
+/// Makes a row that of a record with this number in the register of a column of dates. `date` is used as memory.
+pub(crate) fn renew_row(
+    row: &mut Row,
+    date: &mut Vec<u8>,
+    setup: &SheetSetup,
+    column: &DateColumn,
+    number: u32,
+    record: &ByteRecord,
+) -> Result<(), AllocError>
+    requires from_one { 1 ≤ number }
+    requires limited { number ≤ record_limit }
+    ensures { OnOk result (IsRowOf (asked_targets setup.now.choice.columns.now)
+        (register_entry setup.now.choice column.now number (fields_of record.now)) (row_seen row.new)) }
+{
+    let choice = setup.choice();
+    let mut buffer = Buffer::new();
+    let id = id_of(choice.id, buffer.format(number).as_bytes(), record);
+    let (calendar, called) = calendar_of(choice.calendars, column.calendar, record);
+    put_date(date, &choice, column, called, record)?;
+    let Some(entry) = Entry::of_fields(number, id, calendar, date.as_slice()) else {
+        unreachable!()
+    };
+    row.renew(&entry, setup.setup());
+    Ok(())
+}
+
+/// 1 for a row that was refused, and else 0.
+pub(crate) fn refusals(row: &Row) -> u32
+    ensures value { result ≡ count_by is_refused (row_seen row.now ∷ []) }
+    ensures few { result ≤ 1 }
+{
+    match row.outcome() {
+        Ok(_) => 0,
+        Err(_) => 1,
+    }
+}

@@ -1,0 +1,73 @@
+//! Lines on their way to an output.
+
+ghost use Rattle.std.specs.Prelude.{◌≡◌, ◌++◌, ◌∷◌, [], ℕ, List, Option, true, IfErr, OnOk};
+ghost use Rattle.register_records.specs.Entries.{Fields};
+ghost use Rattle.register_sheets.specs.Sending.{Ends, HasMade, IsSent};
+
+use crate::lines::SheetLines;
+use crate::sheet_ends::SheetCause;
+use register_records::{Output, send};
+use std::alloc::Global;
+use std::mem;
+
+/// How many bytes of lines are gathered before they are sent, or a few more.
+const BLOCK: usize = 16 * 1024;
+
+/// Lines that are sent in blocks.
+#[derive(Drop)]
+pub(crate) struct SheetSender {
+    alloc: Global,
+    delimiter: u8,
+    pub(crate) lines: SheetLines,
+}
+
+impl SheetSender {
+    /// No line yet.
+    pub fn new(alloc: Global, delimiter: u8) -> SheetSender
+        ensures delimiter { result.delimiter ≡ delimiter }
+        ensures none { (begun : Option (List ℕ)) → HasMade delimiter begun begun result.lines [] [] }
+    {
+        SheetSender {
+            alloc,
+            delimiter,
+            lines: SheetLines::new(alloc, delimiter),
+        }
+    }
+
+    /// Sends the lines that are whole, where none is begun.
+    pub fn send<W: Output>(&mut self, output: &mut W) -> Result<(), SheetCause>
+        ensures kept { self.new.delimiter ≡ self.old.delimiter }
+        ensures sent { OnOk result ((begun : Option (List ℕ)) (made : List Fields)
+            → HasMade self.old.delimiter begun (W.contents output.old) self.old.lines made []
+            → IsSent self.old.delimiter begun (W.contents output.new) self.new.lines made) }
+        ensures flushed { OnOk result (W.is_flushed output.new ≡ true) }
+        ensures memory { IfErr result (λ c. c ≡ SheetCause.NoMemory → output.new ≡ output.old) }
+        ensures output { Ends result (W.has_failed output.old) (W.has_failed output.new) (W.own_mark output.old)
+            (W.own_mark output.new) }
+    {
+        let none = SheetLines::new(self.alloc, self.delimiter);
+        let lines = mem::replace(&mut self.lines, none);
+        let mut text = lines.into_text()?;
+        send(output, text.as_slice())?;
+        text.clear();
+        self.lines = SheetLines::over(text, self.delimiter);
+        Ok(())
+    }
+
+    /// Ends a line, and sends the lines where they are a block.
+    pub fn end<W: Output>(&mut self, output: &mut W) -> Result<(), SheetCause>
+        ensures kept { self.new.delimiter ≡ self.old.delimiter }
+        ensures made { OnOk result ((begun : Option (List ℕ)) (made : List Fields) (fields : Fields)
+            → HasMade self.old.delimiter begun (W.contents output.old) self.old.lines made fields
+            → HasMade self.old.delimiter begun (W.contents output.new) self.new.lines (made ++ fields ∷ []) []) }
+        ensures memory { IfErr result (λ c. c ≡ SheetCause.NoMemory → output.new ≡ output.old) }
+        ensures output { Ends result (W.has_failed output.old) (W.has_failed output.new) (W.own_mark output.old)
+            (W.own_mark output.new) }
+    {
+        self.lines.end()?;
+        if self.lines.written() >= BLOCK {
+            self.send(output)?;
+        }
+        Ok(())
+    }
+}

@@ -1,0 +1,60 @@
+//! How a sheet ends.
+
+use crate::choices::MAX_DATES;
+use register_records::OutputFault;
+use std::alloc::AllocError;
+use thiserror::Error;
+
+/// Why a sheet is broken.
+#[derive(Clone, Copy, PartialEq, Eq, Debug, Error)]
+pub enum SheetCause {
+    /// Memory ran out.
+    #[error("out of memory")]
+    NoMemory,
+    /// The output failed.
+    #[error("the sheet could not be written")]
+    SinkFault,
+    /// No record with names stands below those that stand above them.
+    #[error("the sheet has no record with names")]
+    NoNames,
+    /// More than 1,000,000 records stand below the names.
+    #[error("there are more than 1,000,000 records")]
+    TooManyRecords,
+}
+
+/// How a sheet ended.
+#[derive(Clone, Copy, PartialEq, Eq, Debug)]
+pub enum SheetEnd {
+    /// The output has gained the sheet with the columns asked. So many records stand below the names, and so many of
+    /// them were refused for each column of dates, in the order of these; behind them stands 0.
+    Whole {
+        rows: u32,
+        refused: [u32; MAX_DATES],
+    },
+    /// It stopped at a fault.
+    Broken {
+        cause: SheetCause,
+    },
+}
+
+impl From<AllocError> for SheetCause {
+    ghost use Rattle.std.specs.Prelude.{◌≡◌};
+    ghost use Rattle.register_sheets.specs.declared.sheet_ends.SheetCause.TheVariants.{NoMemory};
+
+    ghost from_gives = { λ error cause. cause ≡ NoMemory };
+
+    fn from(_error: AllocError) -> Self {
+        SheetCause::NoMemory
+    }
+}
+
+impl From<OutputFault> for SheetCause {
+    ghost use Rattle.std.specs.Prelude.{◌≡◌};
+    ghost use Rattle.register_sheets.specs.declared.sheet_ends.SheetCause.TheVariants.{SinkFault};
+
+    ghost from_gives = { λ error cause. cause ≡ SinkFault };
+
+    fn from(_error: OutputFault) -> Self {
+        SheetCause::SinkFault
+    }
+}

@@ -2,7 +2,7 @@
 --   LineLemmas: that lines are the text of their fields, for `write` and `join`. ListLemmas: what is left of a list of
 --     fields, for both.
 --   SheetLemmas: `pick`, and that records come one after the other, for `join`.
---   NameLemmas: `NameList::read`.
+--   NameListLemmas: `NameList::read`. The others, and ConvertLemmas above them: `convert_sheet`.
 pub mod ListLemmas
 pub mod LineLemmas
 pub mod SheetLemmas

@@ -1,7 +1,7 @@
 -- The rows of records, one record after the other.
 use Rattle.std.proofs.Common.{◌≡◌, ◌≤◌, ◌<◌, ◌∙◌, ◌++◌, ◌+◌, ℕ, zero, suc, List, [], ◌∷◌, ◌≢◌, Some, add-one, ap, append-nil, append_assoc, arith}
 use Rattle.std.proofs.lemmas.Bool.Decides.{eqb_tells}
-use Rattle.std.proofs.Common.{cond, length-take, count_by, drop, get_or, get_or-set_other, get_or-set_same, inl, inr, set, length, length-append, refl, subst, sym, take}
+use Rattle.std.proofs.Common.{cond, length-take, count_by, drop, get_or, get_or-set_other, get_or-set_same, inl, inr, set, length, refl, subst, sym, take}
 use Rattle.std.specs.Prelude.{option_to_list, slice_get, map}
 use Rattle.std.specs.List.{AllZip, flat_map}
 use Rattle.std.proofs.Math.Seq.{take-append_seam}
@@ -10,8 +10,8 @@ use Rattle.std.proofs.lemmas.List.Concat.{flat_map-append}
 use Rattle.std.proofs.lemmas.List.Sums.{sum_by-append}
 use Rattle.register_records.specs.Entries.{Fields, record_limit}
 use Rattle.register_records.specs.Outcomes.{TableRow}
-use Rattle.register_sheets.specs.Converted.{AreFirstRows, AreRowsFrom, AreRowsOfRecord, below, body_record, body_records}
-use Rattle.register_sheets.specs.Converted.{column_rows, head_record, is_refused, sheet_records, sheet_width}
+use Rattle.register_sheets.specs.Converted.{AreRowsFrom, AreRowsOfRecord, below, body_record, body_records}
+use Rattle.register_sheets.specs.Converted.{column_rows, head_record, is_refused, sheet_records}
 use Rattle.register_sheets.specs.RowViews.{CountsRefused}
 use Rattle.register_sheets.specs.Sending.{CountsAll, HasBody}
 use Rattle.register_sheets.specs.Sheets.{filled, widest}

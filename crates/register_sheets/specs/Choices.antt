@@ -1,5 +1,5 @@
 -- What is chosen of a sheet, and the register of a column of dates.
-use Rattle.std.specs.Prelude.{◌+◌, ◌*◌, ◌-◌, ◌≡◌, ◌<◌, ◌&&◌, ◌||◌, ℕ, Bool, List, [], ◌∷◌, true, false, length, map}
+use Rattle.std.specs.Prelude.{◌+◌, ◌*◌, ◌≡◌, ◌<◌, ◌||◌, ℕ, Bool, List, [], ◌∷◌, true, false, length}
 use Rattle.std.specs.Prelude.{Option, None, get_or, nat_lt, count_by, if◌then◌else◌}
 use Rattle.std.specs.Fmt.{decimal}
 use Rattle.std.specs.List.{find, flat_map}
@@ -8,8 +8,9 @@ use Rattle.date_texts.specs.Calendars.{all_calendars, calendar_name}
 use Rattle.date_texts.specs.Trimmed.{trimmed}
 use Rattle.date_texts.specs.declared.calendar.Calendar.{Calendar}
 use Rattle.date_texts.specs.declared.target.Target.{Target}
+use Rattle.date_texts.specs.declared.target.TheConstants.{MAX_TARGETS}
 use Rattle.register_records.specs.Entries.{Fields, Numbered, body_of}
-use Rattle.register_records.specs.SetupRules.{NamesTwice, is_delimiter}
+use Rattle.register_records.specs.SetupRules.{NamesTwice}
 use Rattle.register_records.specs.declared.setups.Form.TheVariants.{Plain}
 use Rattle.written_dates.specs.Fields.{entries, written_calendar}
 use Rattle.written_dates.specs.Written.{written}
@@ -28,7 +29,7 @@ abbrev pub date_limit : ℕ
 date_limit = 8
 
 abbrev pub column_limit : ℕ
-column_limit = 16
+column_limit = MAX_TARGETS + 2
 
 -- the targets among the columns asked, in order
 abbrev pub target_in : AskedColumn → List Target

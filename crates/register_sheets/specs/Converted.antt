@@ -1,6 +1,6 @@
 -- The sheet that comes back.
-use Rattle.std.specs.Prelude.{◌≡◌, ◌⊎◌, ◌+◌, ◌++◌, ◌<◌, ◌≤◌, ⊤, ℕ, codes, Bool, true, false, List, [], ◌∷◌}
-use Rattle.std.specs.Prelude.{Result, Ok, Err, drop, is_err, get_or, length, map, option_to_list, slice_get, take, count_by}
+use Rattle.std.specs.Prelude.{◌≡◌, ◌⊎◌, ◌+◌, ◌++◌, ◌<◌, ◌≤◌, ⊤, ℕ, codes, Bool, List, [], ◌∷◌}
+use Rattle.std.specs.Prelude.{drop, is_err, get_or, length, map, option_to_list, slice_get, take, count_by}
 use Rattle.std.specs.List.{AllZip, find, flat_map}
 use Rattle.std.specs.Str.{bytes_eq}
 use Rattle.register_records.specs.Columns.{Column, shown, tail_column, tail_order}

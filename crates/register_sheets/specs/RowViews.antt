@@ -1,5 +1,5 @@
 -- What a clause sees of `SheetRows`. No public contract cites this file.
-use Rattle.std.specs.Prelude.{◌≡◌, ◌+◌, ℕ, Bool, List, get_or, map, option_to_list, slice_get, count_by, take}
+use Rattle.std.specs.Prelude.{◌≡◌, ◌+◌, ℕ, List, get_or, map, option_to_list, slice_get, count_by, take}
 use Rattle.register_records.specs.Outcomes.{TableRow}
 use Rattle.register_records.specs.Views.{row_seen}
 use Rattle.register_sheets.specs.Converted.{is_refused}

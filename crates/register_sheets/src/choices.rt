@@ -7,7 +7,7 @@ ghost use Rattle.register_records.specs.Views.{targets_of};
 ghost use Rattle.register_sheets.specs.Choices.{AsksOnce, HasDates, added, asked_targets, asks_twice, column_limit};
 ghost use Rattle.register_sheets.specs.Choices.{date_limit, is_day_number, is_weekday, target_in};
 
-use date_texts::{Calendar, Target};
+use date_texts::{Calendar, MAX_TARGETS, Target};
 use register_records::{Form, Setup, SetupFault};
 use thiserror::Error;
 use written_dates::{CalendarNames, Choice, Names};
@@ -16,7 +16,7 @@ use written_dates::{CalendarNames, Choice, Names};
 pub const MAX_DATES: usize = 8;
 
 /// The most columns that may be asked for each column of dates.
-pub const MAX_COLUMNS: usize = 16;
+pub const MAX_COLUMNS: usize = MAX_TARGETS + 2;
 
 /// Where the id of a record is. A place is that of a field, from 0; a record that has none there has an empty one.
 #[derive(Clone, Copy, PartialEq, Eq, Debug)]
@@ -192,6 +192,8 @@ impl<'a> SheetSetup<'a> {
         ensures dates { (result ≡ Err ChoiceFault.Dates) ↔ ¬ (HasDates choice.entry) }
         ensures many { (result ≡ Err ChoiceFault.TooManyColumns)
             ↔ (HasDates choice.entry × (nat_lt column_limit (length choice.entry.columns.now) ≡ true)) }
+        ensures twice { (result ≡ Err ChoiceFault.ColumnTwice) ↔ (HasDates choice.entry
+            × (nat_lt column_limit (length choice.entry.columns.now) ≡ false) × ¬ (AsksOnce choice.entry)) }
         ensures delimiter { (result ≡ Err ChoiceFault.Delimiter)
             ↔ (HasDates choice.entry × AsksOnce choice.entry × (is_delimiter choice.entry.delimiter ≡ false)) }
         ensures headings { (result ≡ Err ChoiceFault.Headings)

@@ -1,5 +1,6 @@
 use Rattle.std.proofs.Common.{◌≡◌, ◌≤◌, length, take}
 use Rattle.register_sheets.specs.Choices.{asked_targets}
+use Rattle.register_sheets.specs.declared.choices.TheConstants.{MAX_COLUMNS}
 use Rattle.register_sheets.proofs.choices.asked_targets.Given as goal
 
 abbrev pub invariant-columns : goal.invariant-columns
@@ -7,5 +8,5 @@ invariant-columns l =
     record {
       value : take l.count l.targets ≡ asked_targets (take l.column-index l.columns);
       few : l.count ≤ l.column-index;
-      room : length l.targets ≡ 16;
+      room : length l.targets ≡ MAX_COLUMNS;
     }

@@ -1,4 +1,4 @@
-use Rattle.std.proofs.Common.{◌+◌, [], ◌∷◌, ◌++◌, arith, drop, get_or}
+use Rattle.std.proofs.Common.{arith, get_or}
 use Rattle.register_records.specs.Views.{row_seen}
 use Rattle.register_sheets.specs.declared.choices.AskedColumn.TheVariants.{DayNumber}
 use Rattle.register_sheets.proofs.AskedLemmas.{asked_step, few_taken}

@@ -1,4 +1,4 @@
-use Rattle.std.proofs.Common.{◌≡◌, ◌≤◌, ℕ, List, take, drop, map, ◌++◌}
+use Rattle.std.proofs.Common.{◌≡◌, ◌≤◌, ℕ, List, drop, ◌++◌}
 use Rattle.register_records.specs.Views.{row_seen}
 use Rattle.register_sheets.specs.Converted.{asked_texts, asked_fields}
 use Rattle.register_sheets.specs.LineViews.{GainsFields}

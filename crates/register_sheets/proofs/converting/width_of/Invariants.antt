@@ -1,4 +1,4 @@
-use Rattle.std.proofs.Common.{◌≡◌, ◌≤◌, ◌++◌, List, ℕ, length, drop, min, Option}
+use Rattle.std.proofs.Common.{◌≡◌, ◌++◌, List, length, min}
 use Rattle.register_records.specs.Entries.{Fields, text_records}
 use Rattle.register_sheets.specs.Reading.{IsReading, left_of}
 use Rattle.register_sheets.specs.WidthViews.{IsWidth}

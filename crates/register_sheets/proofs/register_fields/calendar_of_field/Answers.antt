@@ -1,4 +1,4 @@
-use Rattle.std.proofs.Common.{◌∙◌, ap, sym}
+use Rattle.std.proofs.Common.{◌∙◌, ap}
 use Rattle.written_dates.specs.Fields.{or_field}
 use Rattle.register_sheets.specs.Choices.{calendar_called}
 use Rattle.register_sheets.proofs.NameLemmas.{called_itself}

@@ -1,4 +1,4 @@
-use Rattle.std.proofs.Common.{◌≡◌, ◌∙◌, ◌<◌, [], ◌∷◌, List, ap, arith, count_by, length, map, rules, sym, take}
+use Rattle.std.proofs.Common.{◌∙◌, ◌<◌, [], ◌∷◌, List, ap, count_by, length, map, rules, sym, take}
 use Rattle.std.specs.Prelude.{slice_get}
 use Rattle.register_records.specs.Views.{row_seen}
 use Rattle.register_records.specs.declared.rows.Row.{Row}

@@ -1,6 +1,4 @@
-use Rattle.std.proofs.Common.{◌≡◌, ◌+◌, ◌<◌, ℕ, count_by, get_or, take}
-use Rattle.std.specs.Prelude.{option_to_list, slice_get}
-use Rattle.register_sheets.specs.Converted.{is_refused}
+use Rattle.std.proofs.Common.{◌≡◌, take}
 use Rattle.register_sheets.specs.RowViews.{rows_seen, CountsRefused}
 use Rattle.register_sheets.proofs.sheet_rows.SheetRows.count.Given as goal
 

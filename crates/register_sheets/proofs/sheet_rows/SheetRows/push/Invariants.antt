@@ -1,4 +1,4 @@
-use Rattle.std.proofs.Common.{take, map}
+use Rattle.std.proofs.Common.{take}
 use Rattle.std.specs.List.{flat_map}
 use Rattle.register_sheets.specs.Converted.{asked_fields}
 use Rattle.register_sheets.specs.LineViews.{GainsFields}

@@ -1,4 +1,4 @@
-use Rattle.std.proofs.Common.{◌≡◌, ◌∙◌, ◌<◌, ◌+◌, List, ap, arith, length, length-set, rules, subst, sym, take}
+use Rattle.std.proofs.Common.{◌∙◌, ◌<◌, ◌+◌, List, ap, arith, length, length-set, rules, subst, sym, take}
 use Rattle.std.specs.List.{AllZip}
 use Rattle.csv.specs.Records.{fields_of}
 use Rattle.register_records.specs.Outcomes.{IsRowOf, TableRow}

@@ -1,8 +1,7 @@
-use Rattle.std.proofs.Common.{◌≡◌, ℕ, length, map, take}
+use Rattle.std.proofs.Common.{◌≡◌, length, take}
 use Rattle.std.specs.List.{AllZip}
 use Rattle.csv.specs.Records.{fields_of}
 use Rattle.register_records.specs.Outcomes.{IsRowOf}
-use Rattle.register_records.specs.Views.{row_seen}
 use Rattle.register_sheets.specs.Choices.{asked_targets, register_entry}
 use Rattle.register_sheets.specs.RowViews.{rows_seen}
 use Rattle.register_sheets.proofs.sheet_rows.SheetRows.renew.Given as goal

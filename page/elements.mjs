@@ -215,6 +215,22 @@ export function takeFiles(input, isHere, choose) {
   });
 }
 
+/**
+ * Each text that is pasted into a field is given to `take`, as it was copied: a field has other line ends. One that came
+ * in another way is given when the field is left. The field stays empty for the next one.
+ */
+export function takePaste(field, take) {
+  field.addEventListener('paste', (event) => {
+    event.preventDefault();
+    const text = event.clipboardData.getData('text/plain');
+    if (text !== '') take(text);
+  });
+  field.addEventListener('change', () => {
+    if (field.value !== '') take(field.value);
+    field.value = '';
+  });
+}
+
 /** Draws whether a task goes on: then it cannot be started again, and can be stopped. The keys stay where they are. */
 export function drawRunning(name, isRunning) {
   const start = byId(`${name}-start`), stop = byId(`${name}-stop`), active = document.activeElement;
@@ -223,7 +239,7 @@ export function drawRunning(name, isRunning) {
   stop.disabled = !isRunning;
   for (const choices of document.querySelectorAll(`[data-choices=${name}]`)) {
     if (isRunning && choices.contains(active)) stop.focus();
-    for (const control of choices.querySelectorAll('input, select, button')) {
+    for (const control of choices.querySelectorAll('input, select, button, textarea')) {
       /** @type {HTMLInputElement} */ (control).disabled = isRunning;
     }
   }

@@ -125,6 +125,11 @@ export const registersStatus = (state, now) => withFolders(state, registersWords
 
 const encodingOf = ({ source }) => WORDS.encodings[source.encoding];
 
+/** The sheet that is chosen. */
+export function sheetChosen({ source: { file } }) {
+  return file === null ? '' : [WORDS.chosen(file.name, WORDS.bytes(file.size)), '.'];
+}
+
 /** How the sheet begins. */
 export function sheetTable(state) {
   const first = sheet.beginning(state);

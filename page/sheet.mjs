@@ -1,8 +1,12 @@
 // A sheet: which file is chosen and how it is to be read, what its columns are, what was found in it, and what came of
 // its conversion. Each step takes the state and gives the next.
 
+import { WORDS } from './words.mjs';
+
 // A file that is larger is not read.
 export const MOST_BYTES = 2 ** 28;
+// What stands between the fields of cells that are copied from a spreadsheet.
+const TAB = 9;
 
 /**
  * `picks` says what the columns are; a calendar of -1 is that of `all`, an id of -1 the number of the record. `names`
@@ -43,6 +47,15 @@ const readAnew = (state, source) => ({
 export function sourceChosen(state, change, folders = []) {
   if (isRunning(state)) return { ...state, notice: 'stopFirst' };
   return { ...readAnew(state, { ...state.source, ...change }), folders };
+}
+
+/**
+ * Cells of a spreadsheet are pasted, with tabs between them: they are the sheet, as a file with this text would be.
+ * @param {SheetState} state
+ * @returns {SheetState}
+ */
+export function pasted(state, text) {
+  return sourceChosen(state, { file: new File([text], WORDS.pasted), encoding: 'utf-8', delimiter: TAB });
 }
 
 /**

@@ -206,7 +206,10 @@ export const WORDS = {
     'columns that you want behind its own. What is chosen here is not proved: look at the register that the page ' +
     'shows.',
   chooseSheet: 'Sheet',
-  dropSheet: 'Choose one file.',
+  dropSheet: 'Choose one file, or drop it here.',
+  pasteSheet: 'Or cells of a spreadsheet',
+  pasteSheetIs: 'Copy them, with the line that has the names, and paste them here.',
+  pasted: 'pasted.csv',
   encoding: 'Encoding',
   encodingIs: 'Are letters with accents wrong below? Choose another.',
   encodings: {

@@ -166,6 +166,13 @@ export const WORDS = {
     'program `register`',
   noMemory: 'memory ran out; close other pages or programs and try again, or split the file',
   otherColumns: 'the file has other columns than when it was chosen, so it is read anew: choose them again',
+  workbook: 'the file is no text but a workbook or a packed file (.xlsx, .ods, .xls, .docx, .zip); save its table as ' +
+    'CSV UTF-8, or copy its cells and paste them in “From a sheet”',
+  database: 'the file is no text but a database (SQLite); save its table as CSV UTF-8, or copy its cells and paste ' +
+    'them in “From a sheet”',
+  pdf: 'the file is no text but a PDF; copy its table into a spreadsheet and save that as CSV UTF-8, or copy its cells ' +
+    'and paste them in “From a sheet”',
+  utf16: 'the file is written in UTF-16, and a register in UTF-8; take it in as a sheet, below, or save it as CSV UTF-8',
   fault: (why) => ['the page failed (', own(why), ')'],
 
   // The reason of each refusal, from 1, and what to do on this page.
@@ -188,7 +195,7 @@ export const WORDS = {
     4: 'The table needs more memory than there is: choose fewer columns, or split the register.',
     5: 'It was changed since it was chosen, or while it was read, or was moved, or is a folder: choose it again.',
     6: 'Does another sign stand between its fields? Choose it above. Has it other columns, a title line or another ' +
-      'encoding? Take it in as a sheet, below. A workbook (.xlsx, .ods) is saved as CSV UTF-8 first.',
+      'encoding? Take it in as a sheet, below.',
     7: 'Split it, each part with the header.',
     8: 'Compare it with the original: records may be lost. Where none are, write the seal anew as the last line.',
   },

@@ -3,6 +3,7 @@
 import { CALENDARS, TARGETS } from './calendars.mjs';
 import { ChangedFile, NoReading, checkUnchanged, readFile } from './files.mjs';
 import { NoMemory, expectedLength, instantiate } from './module.mjs';
+import { kindOf, markedEncoding } from './proposals.mjs';
 import { EVERY, SHOWN, Table, range, rowsOf } from './tables.mjs';
 import { NAMES } from './unbuilt-names.mjs';
 
@@ -12,6 +13,9 @@ const PIECE = 2 ** 22;
 const MOST_COLUMNS = 200, MOST_NAMES = 200;
 
 class NotEncoded extends Error {}
+
+// The file is no text, or none in UTF-8 where it has to be; the message is its kind.
+class OtherKind extends Error {}
 
 // The sheet has other columns than those that were chosen from.
 class OtherColumns extends Error {}
@@ -57,6 +61,8 @@ async function register({ compiled, file, delimiter, sealed, columns }) {
   await readFile(file, bytesAt, (piece) => {
     for (let i = 0; i < piece.length; i += 1) if (piece[i] === 10 || piece[i] === 13) lines += 1;
   });
+  const bytes = bytesAt(0, text.length), kind = kindOf(bytes) || (markedEncoding(bytes) && 'utf16');
+  if (kind !== null) throw new OtherKind(kind);
   const setup = { columns: numbersOf(columns), delimiter, sealed };
   const answer = module.convert(text, setup, expectedLength(text.length, lines, columns.length));
   await checkUnchanged(file, bytesAt);
@@ -82,6 +88,8 @@ async function readSheet({ compiled, number, file, encoding, delimiter }) {
   const bytes = new Uint8Array(file.size);
   const bytesAt = (at, length) => bytes.subarray(at, at + length);
   await readFile(file, bytesAt);
+  const kind = kindOf(bytes);
+  if (kind !== null) throw new OtherKind(kind);
   let decoded;
   try {
     decoded = new TextDecoder(encoding, { fatal: true }).decode(bytes);
@@ -210,7 +218,8 @@ async function convertSheet({ picks, columns, heading, widest, ...source }) {
 
 const TASKS = { date, register, beginning, unknownNames, preview, convertSheet };
 
-function kindOf(fault) {
+function faultOf(fault) {
+  if (fault instanceof OtherKind) return fault.message;
   if (fault instanceof NoReading) return 'noReading';
   if (fault instanceof ChangedFile) return 'changedFile';
   if (fault instanceof NotEncoded) return 'notEncoded';
@@ -227,7 +236,7 @@ export function serve(port) {
   port.onmessage = ({ data }) => {
     last = last.then(() => TASKS[data.task](data.words)).then(
       (answer) => port.postMessage({ number: data.number, answer }),
-      (fault) => port.postMessage({ number: data.number, fault: kindOf(fault), why: String(fault) }),
+      (fault) => port.postMessage({ number: data.number, fault: faultOf(fault), why: String(fault) }),
     );
   };
 }

@@ -83,8 +83,8 @@ export function sheetView(step) {
     (columns) => step(columnsChosen, columns)));
   const drawStatus = wordsIn('sheet-said'), drawChosen = wordsIn('sheet-chosen');
   const drawSource = whenChanged(({ encoding, delimiter }) => {
-    byId('sheet-encoding').value = encoding;
-    check('sheet-delimiter', delimiter);
+    if (encoding !== null) byId('sheet-encoding').value = encoding;
+    if (delimiter !== null) check('sheet-delimiter', delimiter);
   });
   let drawn = { begins: undefined, unknown: undefined, preview: undefined, reply: undefined };
 

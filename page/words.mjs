@@ -109,6 +109,7 @@ export const WORDS = {
   comma: 'a comma',
   semicolon: 'a semicolon',
   tab: 'a tab',
+  delimiters: { 44: 'commas', 59: 'semicolons', 9: 'tabs' },
   sealed: 'The registers are sealed',
   sealedIs: 'They have the header `id,calendar,date,note`, and end with the line `END,N` for their N records. One ' +
     'that lost whole records breaks off; only one that was cut inside of a record with the id `END` can look whole.',
@@ -219,6 +220,7 @@ export const WORDS = {
   pasted: 'pasted.csv',
   encoding: 'Encoding',
   encodingIs: 'Are letters with accents wrong below? Choose another.',
+  looksLike: (what) => `Looks like ${what.join(', ')}.`,
   encodings: {
     'utf-8': 'UTF-8',
     'windows-1252': 'Western Europe (Windows-1252)',

@@ -3,7 +3,7 @@
 import { CALENDARS, TARGETS } from './calendars.mjs';
 import { ChangedFile, NoReading, checkUnchanged, readFile } from './files.mjs';
 import { NoMemory, expectedLength, instantiate } from './module.mjs';
-import { kindOf, markedEncoding } from './proposals.mjs';
+import { kindOf, likelyDelimiter, likelyEncodings, markedEncoding } from './proposals.mjs';
 import { EVERY, SHOWN, Table, range, rowsOf } from './tables.mjs';
 import { NAMES } from './unbuilt-names.mjs';
 
@@ -75,43 +75,52 @@ async function register({ compiled, file, delimiter, sealed, columns }) {
 // ---- Sheets ----
 
 /**
- * What a sheet is read from: `number` is that of the reading.
- * @typedef {{ compiled: WebAssembly.Module, number: number, file: File, encoding: string, delimiter: number }} Source
+ * What a sheet is read from: `number` is that of the reading. An encoding or a delimiter of null is to be proposed.
+ * @typedef {{ compiled: WebAssembly.Module, number: number, file: File, encoding: string | null,
+ *   delimiter: number | null }} Source
  */
 
 // The sheet that was read last, in the module's memory.
 let sheet = null;
 
+// The text that the bytes are in the first of these encodings that they are written in.
+function decodedBy(encodings, bytes) {
+  for (const encoding of encodings) {
+    try {
+      return { encoding, decoded: new TextDecoder(encoding, { fatal: true }).decode(bytes) };
+    } catch (fault) {
+      if (!(fault instanceof TypeError)) throw fault;
+    }
+  }
+  throw new NotEncoded();
+}
+
 /** @param {Source} source */
-async function readSheet({ compiled, number, file, encoding, delimiter }) {
+async function readSheet({ compiled, number, file, ...chosen }) {
   sheet = null;
   const bytes = new Uint8Array(file.size);
   const bytesAt = (at, length) => bytes.subarray(at, at + length);
   await readFile(file, bytesAt);
   const kind = kindOf(bytes);
   if (kind !== null) throw new OtherKind(kind);
-  let decoded;
-  try {
-    decoded = new TextDecoder(encoding, { fatal: true }).decode(bytes);
-  } catch (fault) {
-    throw fault instanceof TypeError ? new NotEncoded() : fault;
-  }
+  const { encoding, decoded } = decodedBy(chosen.encoding === null ? likelyEncodings(bytes) : [chosen.encoding], bytes);
+  const delimiter = chosen.delimiter === null ? likelyDelimiter(decoded) : chosen.delimiter;
   const module = await instantiate(compiled);
   const text = module.put(new TextEncoder().encode(decoded));
   const { records, widest } = module.pick(text, delimiter, [], EVERY);
-  sheet = { number, file, bytesAt, module, text, delimiter, records, widest };
+  sheet = { number, file, bytesAt, module, text, encoding, delimiter, records, widest };
   return sheet;
 }
 
 // The sheet of this reading, which a new worker reads again.
 const sheetOf = async (source) => (sheet && sheet.number === source.number ? sheet : readSheet(source));
 
-/** How a sheet begins: its first records and columns. */
-function beginningOf({ module, text, delimiter, records, widest }) {
+/** How a sheet begins: its first records and columns, and how it was read. */
+function beginningOf({ module, text, encoding, delimiter, records, widest }) {
   const width = Math.min(widest, MOST_COLUMNS);
   const { fields } = module.pick(text, delimiter, range(width), SHOWN + 1);
   const [heading, ...rows] = records ? rowsOf(fields, width) : [[]];
-  return { records, widest, heading, rows };
+  return { encoding, delimiter, records, widest, heading, rows };
 }
 
 async function beginning(source) {

@@ -159,6 +159,8 @@ export const WORDS = {
   },
   reason: (number, reason) => `${number}: ${reason}`,
   save: (name, size) => ['Save ', own(name), `, ${size}`],
+  tablesSaved: 'Tables are saved in UTF-8 with a byte order mark, as spreadsheets want it. Behind the mark they are those ' +
+    'of the program `register`.',
   savePart: (name, size) => ['Save the part that there is, ', own(name), `, ${size}`],
   brokeOff: (cause, words) => `Broke off, cause ${cause}: ${words}.`,
   hasNothing: 'There is no table.',

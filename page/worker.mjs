@@ -17,6 +17,9 @@ class NotEncoded extends Error {}
 // The file is no text, or none in UTF-8 where it has to be; the message is its kind.
 class OtherKind extends Error {}
 
+// Spreadsheets open a text of UTF-8 by this mark.
+const MARK = '\ufeff';
+
 // The sheet has other columns than those that were chosen from.
 class OtherColumns extends Error {}
 
@@ -69,7 +72,7 @@ async function register({ compiled, file, delimiter, sealed, columns }) {
   if (answer.table.length === 0) return { ...answer, table: null };
   const table = new Table(module, answer.table, delimiter);
   const first = table.firstRows(), refused = answer.ending === 0 && answer.refused === 0 ? null : table.refusedRows();
-  return { ...answer, first, refusedRows: refused, table: await blobOf(module, answer.table) };
+  return { ...answer, first, refusedRows: refused, table: await blobOf(module, answer.table, MARK) };
 }
 
 // ---- Sheets ----
@@ -221,7 +224,7 @@ async function convertSheet({ picks, columns, heading, widest, ...source }) {
   return {
     ...answer, sheetBegins, first: firstJoined(read, joined, width),
     refusedRows: answer.refused ? table.refusedRows() : null, shortYears: shortYears(fields, refusals),
-    register: ownRegister, table: await blobOf(module, joined, '\ufeff'),
+    register: ownRegister, table: await blobOf(module, joined, MARK),
   };
 }
 

@@ -82,6 +82,7 @@ export function tableBox({ caption, heading, rows }) {
   box.setAttribute('role', 'region');
   box.setAttribute('aria-label', caption);
   const table = box.appendChild(element('table'));
+  table.style.setProperty('--columns', String(heading.length));
   table.append(element('caption', caption));
   const head = table.appendChild(element('thead')).appendChild(element('tr'));
   for (const name of heading) head.append(textElement('th', name, { scope: 'col', title: name }));

@@ -76,11 +76,14 @@ function bodyRow({ fields, reason, span }) {
   return line;
 }
 
-/** A table in a box of its own, which can be moved sideways. */
-export function tableBox({ caption, heading, rows }) {
+/**
+ * A table in a box of its own, which can be moved sideways, and is named by its caption, behind the title of what it is
+ * of.
+ */
+export function tableBox({ caption, heading, rows }, title = '') {
   const box = element('div', '', { className: 'rows', tabIndex: 0 });
   box.setAttribute('role', 'region');
-  box.setAttribute('aria-label', caption);
+  box.setAttribute('aria-label', textOf(title === '' ? caption : WORDS.captionOf(title, caption)));
   const table = box.appendChild(element('table'));
   table.style.setProperty('--columns', String(heading.length));
   table.append(element('caption', caption));
@@ -130,7 +133,7 @@ export function drawReport(article, id, report, saved) {
   const line = element('p', report.words, { className });
   article.append(textElement('h3', report.title, { id }), line, ...report.advice.map((words) => element('p', words)));
   if (report.counts.length) article.append(countsTable(report.counts));
-  article.append(...report.tables.map(tableBox));
+  article.append(...report.tables.map((table) => tableBox(table, report.title)));
   if (report.links.length) {
     const links = report.links.map((link, i) => downloadLink(link, i > 0, saved));
     article.appendChild(element('p', '', { className: 'buttons' })).append(...links);

@@ -157,6 +157,7 @@ export const WORDS = {
     if (n < all) return `The first ${n} refused rows`;
     return n === 1 ? 'The refused row' : `The ${n} refused rows`;
   },
+  captionOf: (title, caption) => [own(title), ': ', caption],
   reason: (number, reason) => `${number}: ${reason}`,
   save: (name, size) => ['Save ', own(name), `, ${size}`],
   tablesSaved: 'Tables are saved in UTF-8 with a byte order mark, as spreadsheets want it. Behind the mark they are those ' +

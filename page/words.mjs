@@ -212,8 +212,8 @@ export const WORDS = {
 
   // ---- From a sheet ----
   sheet: 'From a sheet',
-  sheetIs: 'A table of your own, saved as CSV or text, whose first line has the names of its columns. You choose ' +
-    'what its columns are. The page makes a register of them, converts it, and gives you the sheet back with the ' +
+  sheetIs: 'A table of your own, saved as CSV or text or copied from a spreadsheet, whose first line has the names of its ' +
+    'columns. You choose what its columns are. The page makes a register of them, converts it, and gives you the sheet back with the ' +
     'columns that you want behind its own. What is chosen here is not proved: look at the register that the page ' +
     'shows.',
   chooseSheet: 'Sheet',

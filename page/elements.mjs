@@ -76,10 +76,7 @@ function bodyRow({ fields, reason, span }) {
   return line;
 }
 
-/**
- * A table in a box of its own, which can be moved sideways, and is named by its caption, behind the title of what it is
- * of.
- */
+/** A table in a box of its own, which can be moved sideways. Its name is its caption, behind the title of its owner. */
 export function tableBox({ caption, heading, rows }, title = '') {
   const box = element('div', '', { className: 'rows', tabIndex: 0 });
   box.setAttribute('role', 'region');
@@ -220,8 +217,8 @@ export function takeFiles(input, isHere, choose) {
 }
 
 /**
- * Each text that is pasted into a field is given to `take`, as it was copied: a field has other line ends. One that came
- * in another way is given when the field is left. The field stays empty for the next one.
+ * Each text that is pasted into a field is given to `take` as it was copied; in the field it would get other line ends.
+ * One that came in another way is given when the field is left. The field stays empty for the next one.
  */
 export function takePaste(field, take) {
   field.addEventListener('paste', (event) => {

@@ -34,7 +34,7 @@ function regularity(lines, delimiter) {
   return [most, most === 0 ? 0 : counts[withCount.indexOf(most)]];
 }
 
-/** The byte of the delimiter that stands outside quotes most regularly in the first lines; a comma where none stands. */
+/** The byte of the delimiter that stands most regularly in the first lines, outside quotes; a comma where none does. */
 export function likelyDelimiter(text) {
   const lines = text.slice(0, LETTERS).replace(/"[^"]*("|$)/g, '').split(/[\r\n]+/).slice(0, LINES);
   const found = DELIMITERS.map((delimiter) => ({ delimiter, of: regularity(lines, delimiter) }));

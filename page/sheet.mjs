@@ -18,7 +18,8 @@ const TAB = 9;
  * @typedef {{ source: Source, picks: Picks, columns: string[], status: 'runs' | 'ended' | 'stopped', key: string,
  *   reply: any, isSaved: boolean }} Run
  * @typedef {{ source: Source, proposed: Proposed, reading: number, begins: any, picks: Picks, columns: string[],
- *   unknown: any, preview: any, run: Run | null, runs: number, worker: number, notice: string, folders: string[] }} SheetState
+ *   unknown: any, preview: any, run: Run | null, runs: number, worker: number, notice: string,
+ *   folders: string[] }} SheetState
  */
 
 /** @type {Proposed} */
@@ -45,8 +46,8 @@ const readAnew = (state, source) => ({
 });
 
 /**
- * A file, an encoding or a delimiter is chosen: the sheet is read anew, and its columns are to be chosen again. What was
- * chosen for the file before does not hold for another one.
+ * A file, an encoding or a delimiter is chosen: the sheet is read anew, and its columns are to be chosen again. For
+ * another file, encoding and delimiter are proposed anew, unless they come with it.
  * @param {SheetState} state
  * @returns {SheetState}
  */

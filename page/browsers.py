@@ -29,6 +29,12 @@ def is_open(port):
         return False
 
 
+def key_acts(keys):
+    """Keys that are pressed together, and let go."""
+    downs = [{"type": "keyDown", "value": key} for key in keys]
+    return downs + [{"type": "keyUp", "value": key} for key in reversed(keys)]
+
+
 class Chromium:
     """Chromium, which chromedriver works over HTTP."""
 
@@ -79,8 +85,8 @@ class Chromium:
         found = self.http("POST", "/element", {"using": "css selector", "value": which})
         self.http("POST", f"/element/{next(iter(found.values()))}/value", {"text": text})
 
-    def press(self, key):
-        acts = [{"type": kind, "value": key} for kind in ("keyDown", "keyUp")]
+    def press(self, *keys):
+        acts = key_acts(keys)
         self.http("POST", "/actions", {"actions": [{"type": "key", "id": "keys", "actions": acts}]})
 
     def tab(self):
@@ -185,8 +191,8 @@ class Firefox:
         found = self.ask("FindElement", {"using": "css selector", "value": which})["value"]
         self.ask("ElementSendKeys", {"id": next(iter(found.values())), "text": text})
 
-    def press(self, key):
-        acts = [{"type": kind, "value": key} for kind in ("keyDown", "keyUp")]
+    def press(self, *keys):
+        acts = key_acts(keys)
         self.ask("PerformActions", {"actions": [{"type": "key", "id": "keys", "actions": acts}]})
 
     def tab(self):

@@ -76,12 +76,13 @@ function bodyRow({ fields, reason, span }) {
   return line;
 }
 
-/** A table in a box of its own, which can be moved sideways. */
-export function tableBox({ caption, heading, rows }) {
+/** A table in a box of its own, which can be moved sideways. Its name is its caption, behind the title of its owner. */
+export function tableBox({ caption, heading, rows }, title = '') {
   const box = element('div', '', { className: 'rows', tabIndex: 0 });
   box.setAttribute('role', 'region');
-  box.setAttribute('aria-label', caption);
+  box.setAttribute('aria-label', textOf(title === '' ? caption : WORDS.captionOf(title, caption)));
   const table = box.appendChild(element('table'));
+  table.style.setProperty('--columns', String(heading.length));
   table.append(element('caption', caption));
   const head = table.appendChild(element('thead')).appendChild(element('tr'));
   for (const name of heading) head.append(textElement('th', name, { scope: 'col', title: name }));
@@ -129,7 +130,7 @@ export function drawReport(article, id, report, saved) {
   const line = element('p', report.words, { className });
   article.append(textElement('h3', report.title, { id }), line, ...report.advice.map((words) => element('p', words)));
   if (report.counts.length) article.append(countsTable(report.counts));
-  article.append(...report.tables.map(tableBox));
+  article.append(...report.tables.map((table) => tableBox(table, report.title)));
   if (report.links.length) {
     const links = report.links.map((link, i) => downloadLink(link, i > 0, saved));
     article.appendChild(element('p', '', { className: 'buttons' })).append(...links);
@@ -215,6 +216,22 @@ export function takeFiles(input, isHere, choose) {
   });
 }
 
+/**
+ * Each text that is pasted into a field is given to `take` as it was copied; in the field it would get other line ends.
+ * One that came in another way is given when the field is left. The field stays empty for the next one.
+ */
+export function takePaste(field, take) {
+  field.addEventListener('paste', (event) => {
+    event.preventDefault();
+    const text = event.clipboardData.getData('text/plain');
+    if (text !== '') take(text);
+  });
+  field.addEventListener('change', () => {
+    if (field.value !== '') take(field.value);
+    field.value = '';
+  });
+}
+
 /** Draws whether a task goes on: then it cannot be started again, and can be stopped. The keys stay where they are. */
 export function drawRunning(name, isRunning) {
   const start = byId(`${name}-start`), stop = byId(`${name}-stop`), active = document.activeElement;
@@ -223,7 +240,7 @@ export function drawRunning(name, isRunning) {
   stop.disabled = !isRunning;
   for (const choices of document.querySelectorAll(`[data-choices=${name}]`)) {
     if (isRunning && choices.contains(active)) stop.focus();
-    for (const control of choices.querySelectorAll('input, select, button')) {
+    for (const control of choices.querySelectorAll('input, select, button, textarea')) {
       /** @type {HTMLInputElement} */ (control).disabled = isRunning;
     }
   }

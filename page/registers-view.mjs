@@ -5,7 +5,7 @@ import {
   byId, check, checkedOf, clear, columnTicks, drawReport, drawRunning, element, onCheck, takeFiles, textOf,
   whenChanged, wordsIn,
 } from './elements.mjs';
-import { chosen, isRunning, saved, shownRun, started, stopped } from './registers.mjs';
+import { chosen, hasTable, isRunning, saved, shownRun, started, stopped } from './registers.mjs';
 import { registerReport, registersStatus } from './reports.mjs';
 import { WORDS } from './words.mjs';
 
@@ -77,6 +77,7 @@ export function registersView(step, now) {
     drawRunning('register', isRunning(state));
     drawProgress(run);
     drawJobs(run);
+    byId('register-saved').hidden = run === null || !run.jobs.some(hasTable);
     drawStatus(registersStatus(state, now()));
   };
 }

@@ -123,7 +123,8 @@ export function saved(state, number) {
   return { ...state, run: { ...state.run, jobs } };
 }
 
-const hasTable = ({ reply }) => reply !== null && Boolean(reply.answer && reply.answer.table);
+/** Whether a register has a table, or a part of one, that can be saved. */
+export const hasTable = ({ reply }) => reply !== null && Boolean(reply.answer && reply.answer.table);
 
 /** Whether a table is shown that was not saved. */
 export function isUnsaved(state) {

@@ -125,6 +125,15 @@ export const registersStatus = (state, now) => withFolders(state, registersWords
 
 const encodingOf = ({ source }) => WORDS.encodings[source.encoding];
 
+/** The sheet that is chosen, and what was proposed for it: of one column no delimiter was. */
+export function sheetChosen(state) {
+  const { source: { file } } = state, { encoding, delimiter } = sheet.shownProposed(state);
+  const first = sheet.beginning(state), separator = first && first.widest > 1 && WORDS.delimiters[delimiter];
+  const looks = [separator, WORDS.encodings[encoding]].filter(Boolean);
+  if (file === null) return '';
+  return [WORDS.chosen(file.name, WORDS.bytes(file.size)), '.', looks.length ? ` ${WORDS.looksLike(looks)}` : ''];
+}
+
 /** How the sheet begins. */
 export function sheetTable(state) {
   const first = sheet.beginning(state);

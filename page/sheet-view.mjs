@@ -2,13 +2,13 @@
 
 import { BESIDE, CALENDARS } from './calendars.mjs';
 import {
-  byId, check, clear, columnTicks, drawReport, drawRunning, element, onCheck, option, tableBox, takeFiles, whenChanged,
-  wordsIn,
+  byId, check, clear, columnTicks, drawReport, drawRunning, element, onCheck, option, tableBox, takeFiles, takePaste,
+  whenChanged, wordsIn,
 } from './elements.mjs';
-import { previewTable, sheetReport, sheetStatus, sheetTable } from './reports.mjs';
+import { previewTable, sheetChosen, sheetReport, sheetStatus, sheetTable } from './reports.mjs';
 import {
-  beginning, columnsChosen, isRunning, missing, picked, saved, shownPreview, shownRun, shownUnknown, sourceChosen,
-  started, stopped,
+  beginning, columnsChosen, isRunning, missing, pasted, picked, saved, shownPreview, shownRun, shownUnknown,
+  sourceChosen, started, stopped,
 } from './sheet.mjs';
 import { WORDS } from './words.mjs';
 
@@ -51,6 +51,10 @@ function takeChoices(step) {
     byId('sheet-box').open = true;
     step(sourceChosen, { file: files[0] || null }, folders);
   });
+  takePaste(byId('sheet-paste'), (text) => {
+    byId('sheet-file').value = '';
+    step(pasted, text);
+  });
   for (const name of PICKS) {
     byId(`sheet-${name}`).addEventListener('change', ({ target }) => step(picked, { [name]: target.value }));
   }
@@ -77,10 +81,10 @@ export function sheetView(step) {
   takeChoices(step);
   const drawColumns = whenChanged(columnTicks(byId('sheet-columns'), BESIDE, WORDS.noneBehind,
     (columns) => step(columnsChosen, columns)));
-  const drawStatus = wordsIn('sheet-said');
+  const drawStatus = wordsIn('sheet-said'), drawChosen = wordsIn('sheet-chosen');
   const drawSource = whenChanged(({ encoding, delimiter }) => {
-    byId('sheet-encoding').value = encoding;
-    check('sheet-delimiter', delimiter);
+    if (encoding !== null) byId('sheet-encoding').value = encoding;
+    if (delimiter !== null) check('sheet-delimiter', delimiter);
   });
   let drawn = { begins: undefined, unknown: undefined, preview: undefined, reply: undefined };
 
@@ -109,6 +113,7 @@ export function sheetView(step) {
     const { source, picks, columns } = state, run = shownRun(state), reply = run && run.reply;
     const now = { begins: beginning(state), unknown: shownUnknown(state), preview: shownPreview(state), reply };
     drawSource(source);
+    drawChosen(sheetChosen(state));
     if (now.begins !== drawn.begins) drawBeginning(state);
     if (now.unknown !== drawn.unknown) offerNames(now.unknown);
     drawPicks(picks);

@@ -1,28 +1,38 @@
 // A sheet: which file is chosen and how it is to be read, what its columns are, what was found in it, and what came of
 // its conversion. Each step takes the state and gives the next.
 
+import { WORDS } from './words.mjs';
+
 // A file that is larger is not read.
 export const MOST_BYTES = 2 ** 28;
+// What stands between the fields of cells that are copied from a spreadsheet.
+const TAB = 9;
 
 /**
+ * An encoding or a delimiter of null is proposed when the sheet is read; `proposed` has what was for this file.
  * `picks` says what the columns are; a calendar of -1 is that of `all`, an id of -1 the number of the record. `names`
  * has calendars for names that no calendar has. A result of `picks` or `source` holds what it came from.
- * @typedef {{ file: File | null, encoding: string, delimiter: number }} Source
+ * @typedef {{ file: File | null, encoding: string | null, delimiter: number | null }} Source
+ * @typedef {{ encoding: string | null, delimiter: number | null }} Proposed
  * @typedef {{ id: string, calendar: string, date: string, order: string, names: Record<string, string> }} Picks
  * @typedef {{ source: Source, picks: Picks, columns: string[], status: 'runs' | 'ended' | 'stopped', key: string,
  *   reply: any, isSaved: boolean }} Run
- * @typedef {{ source: Source, reading: number, begins: any, picks: Picks, columns: string[], unknown: any,
- *   preview: any, run: Run | null, runs: number, worker: number, notice: string, folders: string[] }} SheetState
+ * @typedef {{ source: Source, proposed: Proposed, reading: number, begins: any, picks: Picks, columns: string[],
+ *   unknown: any, preview: any, run: Run | null, runs: number, worker: number, notice: string,
+ *   folders: string[] }} SheetState
  */
+
+/** @type {Proposed} */
+const NOTHING = { encoding: null, delimiter: null };
 
 const noPicks = () => ({ id: '', calendar: '', date: '', order: 'year', names: {} });
 
 /** @returns {SheetState} */
 export function initial() {
   return {
-    source: { file: null, encoding: 'utf-8', delimiter: 44 }, reading: 0, begins: null, picks: noPicks(),
-    columns: ['weekday', 'gregorian'], unknown: null, preview: null, run: null, runs: 0, worker: 0, notice: '',
-    folders: [],
+    source: { file: null, encoding: 'utf-8', delimiter: 44 }, proposed: NOTHING, reading: 0, begins: null,
+    picks: noPicks(), columns: ['weekday', 'gregorian'], unknown: null, preview: null, run: null, runs: 0, worker: 0,
+    notice: '', folders: [],
   };
 }
 
@@ -36,13 +46,24 @@ const readAnew = (state, source) => ({
 });
 
 /**
- * A file, an encoding or a delimiter is chosen: the sheet is read anew, and its columns are to be chosen again.
+ * A file, an encoding or a delimiter is chosen: the sheet is read anew, and its columns are to be chosen again. For
+ * another file, encoding and delimiter are proposed anew, unless they come with it.
  * @param {SheetState} state
  * @returns {SheetState}
  */
 export function sourceChosen(state, change, folders = []) {
   if (isRunning(state)) return { ...state, notice: 'stopFirst' };
-  return { ...readAnew(state, { ...state.source, ...change }), folders };
+  const isFile = 'file' in change, source = { ...state.source, ...(isFile ? NOTHING : {}), ...change };
+  return { ...readAnew(state, source), proposed: isFile ? NOTHING : state.proposed, folders };
+}
+
+/**
+ * Cells of a spreadsheet are pasted, with tabs between them: they are the sheet, as a file with this text would be.
+ * @param {SheetState} state
+ * @returns {SheetState}
+ */
+export function pasted(state, text) {
+  return sourceChosen(state, { file: new File([text], WORDS.pasted), encoding: 'utf-8', delimiter: TAB });
 }
 
 /**
@@ -69,6 +90,12 @@ export function columnsChosen(state, columns) {
 // ---- What is known of it ----
 
 export const isTooLarge = ({ source }) => source.file !== null && source.file.size > MOST_BYTES;
+
+/** What was proposed, and not chosen otherwise. */
+export const shownProposed = ({ source, proposed }) => ({
+  encoding: proposed.encoding === source.encoding ? proposed.encoding : null,
+  delimiter: proposed.delimiter === source.delimiter ? proposed.delimiter : null,
+});
 
 /** How the sheet begins, or null while that is not known. */
 export const beginning = ({ begins }) => (begins !== null && begins.reply.answer && begins.reply.answer.records > 0 ?
@@ -175,6 +202,19 @@ function runReplied(state, reply) {
   return isSame ? ended : { ...ended, begins: { reply: { answer: sheetBegins } } };
 }
 
+// The sheet was read, and what was not chosen is as it was proposed.
+function readingReplied(state, reply) {
+  const { source, proposed } = state, begins = { reply };
+  if (reply.fault) return { ...state, begins };
+  const { encoding, delimiter } = reply.answer;
+  return {
+    ...state, begins, source: { ...source, encoding, delimiter }, proposed: {
+      encoding: source.encoding === null ? encoding : proposed.encoding,
+      delimiter: source.delimiter === null ? delimiter : proposed.delimiter,
+    },
+  };
+}
+
 /**
  * An answer came. One to a question that is not asked any more is dropped.
  * @param {SheetState} state
@@ -183,7 +223,7 @@ function runReplied(state, reply) {
 export function replied(state, key, reply) {
   const { begins, picks } = state;
   if (isRunning(state)) return key === state.run.key ? runReplied(state, reply) : state;
-  if (begins === null) return key === readingKey(state) ? { ...state, begins: { reply } } : state;
+  if (begins === null) return key === readingKey(state) ? readingReplied(state, reply) : state;
   if (key === unknownKey(state)) return { ...state, unknown: { begins, calendar: picks.calendar, reply } };
   if (key === previewKey(state)) return { ...state, preview: { begins, picks, reply } };
   return state;

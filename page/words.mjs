@@ -109,6 +109,7 @@ export const WORDS = {
   comma: 'a comma',
   semicolon: 'a semicolon',
   tab: 'a tab',
+  delimiters: { 44: 'commas', 59: 'semicolons', 9: 'tabs' },
   sealed: 'The registers are sealed',
   sealedIs: 'They have the header `id,calendar,date,note`, and end with the line `END,N` for their N records. One ' +
     'that lost whole records breaks off; only one that was cut inside of a record with the id `END` can look whole.',
@@ -156,8 +157,11 @@ export const WORDS = {
     if (n < all) return `The first ${n} refused rows`;
     return n === 1 ? 'The refused row' : `The ${n} refused rows`;
   },
+  captionOf: (title, caption) => [own(title), ': ', caption],
   reason: (number, reason) => `${number}: ${reason}`,
   save: (name, size) => ['Save ', own(name), `, ${size}`],
+  tablesSaved: 'Tables are saved in UTF-8 with a byte order mark, as spreadsheets want it. Behind the mark they are those ' +
+    'of the program `register`.',
   savePart: (name, size) => ['Save the part that there is, ', own(name), `, ${size}`],
   brokeOff: (cause, words) => `Broke off, cause ${cause}: ${words}.`,
   hasNothing: 'There is no table.',
@@ -166,6 +170,13 @@ export const WORDS = {
     'program `register`',
   noMemory: 'memory ran out; close other pages or programs and try again, or split the file',
   otherColumns: 'the file has other columns than when it was chosen, so it is read anew: choose them again',
+  workbook: 'the file is no text but a workbook or a packed file (.xlsx, .ods, .xls, .docx, .zip); save its table as ' +
+    'CSV UTF-8, or copy its cells and paste them in “From a sheet”',
+  database: 'the file is no text but a database (SQLite); save its table as CSV UTF-8, or copy its cells and paste ' +
+    'them in “From a sheet”',
+  pdf: 'the file is no text but a PDF; copy its table into a spreadsheet and save that as CSV UTF-8, or copy its cells ' +
+    'and paste them in “From a sheet”',
+  utf16: 'the file is written in UTF-16, and a register in UTF-8; take it in as a sheet, below, or save it as CSV UTF-8',
   fault: (why) => ['the page failed (', own(why), ')'],
 
   // The reason of each refusal, from 1, and what to do on this page.
@@ -188,7 +199,7 @@ export const WORDS = {
     4: 'The table needs more memory than there is: choose fewer columns, or split the register.',
     5: 'It was changed since it was chosen, or while it was read, or was moved, or is a folder: choose it again.',
     6: 'Does another sign stand between its fields? Choose it above. Has it other columns, a title line or another ' +
-      'encoding? Take it in as a sheet, below. A workbook (.xlsx, .ods) is saved as CSV UTF-8 first.',
+      'encoding? Take it in as a sheet, below.',
     7: 'Split it, each part with the header.',
     8: 'Compare it with the original: records may be lost. Where none are, write the seal anew as the last line.',
   },
@@ -201,14 +212,18 @@ export const WORDS = {
 
   // ---- From a sheet ----
   sheet: 'From a sheet',
-  sheetIs: 'A table of your own, saved as CSV or text, whose first line has the names of its columns. You choose ' +
-    'what its columns are. The page makes a register of them, converts it, and gives you the sheet back with the ' +
+  sheetIs: 'A table of your own, saved as CSV or text or copied from a spreadsheet, whose first line has the names of its ' +
+    'columns. You choose what its columns are. The page makes a register of them, converts it, and gives you the sheet back with the ' +
     'columns that you want behind its own. What is chosen here is not proved: look at the register that the page ' +
     'shows.',
   chooseSheet: 'Sheet',
-  dropSheet: 'Choose one file.',
+  dropSheet: 'Choose one file, or drop it here.',
+  pasteSheet: 'Or cells of a spreadsheet',
+  pasteSheetIs: 'Copy them, with the line that has the names, and paste them here.',
+  pasted: 'pasted.csv',
   encoding: 'Encoding',
   encodingIs: 'Are letters with accents wrong below? Choose another.',
+  looksLike: (what) => `Looks like ${what.join(', ')}.`,
   encodings: {
     'utf-8': 'UTF-8',
     'windows-1252': 'Western Europe (Windows-1252)',

@@ -3,6 +3,7 @@
 import { CALENDARS, TARGETS } from './calendars.mjs';
 import { ChangedFile, NoReading, checkUnchanged, readFile } from './files.mjs';
 import { NoMemory, expectedLength, instantiate } from './module.mjs';
+import { kindOf, likelyDelimiter, likelyEncodings, markedEncoding } from './proposals.mjs';
 import { EVERY, SHOWN, Table, range, rowsOf } from './tables.mjs';
 import { NAMES } from './unbuilt-names.mjs';
 
@@ -12,6 +13,12 @@ const PIECE = 2 ** 22;
 const MOST_COLUMNS = 200, MOST_NAMES = 200;
 
 class NotEncoded extends Error {}
+
+// The file is no text, or none in UTF-8 where it has to be; the message is its kind.
+class OtherKind extends Error {}
+
+// Spreadsheets open a text of UTF-8 by this mark.
+const MARK = '\ufeff';
 
 // The sheet has other columns than those that were chosen from.
 class OtherColumns extends Error {}
@@ -57,53 +64,66 @@ async function register({ compiled, file, delimiter, sealed, columns }) {
   await readFile(file, bytesAt, (piece) => {
     for (let i = 0; i < piece.length; i += 1) if (piece[i] === 10 || piece[i] === 13) lines += 1;
   });
+  const bytes = bytesAt(0, text.length), kind = kindOf(bytes) || (markedEncoding(bytes) && 'utf16');
+  if (kind !== null) throw new OtherKind(kind);
   const setup = { columns: numbersOf(columns), delimiter, sealed };
   const answer = module.convert(text, setup, expectedLength(text.length, lines, columns.length));
   await checkUnchanged(file, bytesAt);
   if (answer.table.length === 0) return { ...answer, table: null };
   const table = new Table(module, answer.table, delimiter);
   const first = table.firstRows(), refused = answer.ending === 0 && answer.refused === 0 ? null : table.refusedRows();
-  return { ...answer, first, refusedRows: refused, table: await blobOf(module, answer.table) };
+  return { ...answer, first, refusedRows: refused, table: await blobOf(module, answer.table, MARK) };
 }
 
 // ---- Sheets ----
 
 /**
- * What a sheet is read from: `number` is that of the reading.
- * @typedef {{ compiled: WebAssembly.Module, number: number, file: File, encoding: string, delimiter: number }} Source
+ * What a sheet is read from: `number` is that of the reading. An encoding or a delimiter of null is to be proposed.
+ * @typedef {{ compiled: WebAssembly.Module, number: number, file: File, encoding: string | null,
+ *   delimiter: number | null }} Source
  */
 
 // The sheet that was read last, in the module's memory.
 let sheet = null;
 
+// The text that the bytes are in the first of these encodings that they are written in.
+function decodedBy(encodings, bytes) {
+  for (const encoding of encodings) {
+    try {
+      return { encoding, decoded: new TextDecoder(encoding, { fatal: true }).decode(bytes) };
+    } catch (fault) {
+      if (!(fault instanceof TypeError)) throw fault;
+    }
+  }
+  throw new NotEncoded();
+}
+
 /** @param {Source} source */
-async function readSheet({ compiled, number, file, encoding, delimiter }) {
+async function readSheet({ compiled, number, file, ...chosen }) {
   sheet = null;
   const bytes = new Uint8Array(file.size);
   const bytesAt = (at, length) => bytes.subarray(at, at + length);
   await readFile(file, bytesAt);
-  let decoded;
-  try {
-    decoded = new TextDecoder(encoding, { fatal: true }).decode(bytes);
-  } catch (fault) {
-    throw fault instanceof TypeError ? new NotEncoded() : fault;
-  }
+  const kind = kindOf(bytes);
+  if (kind !== null) throw new OtherKind(kind);
+  const { encoding, decoded } = decodedBy(chosen.encoding === null ? likelyEncodings(bytes) : [chosen.encoding], bytes);
+  const delimiter = chosen.delimiter === null ? likelyDelimiter(decoded) : chosen.delimiter;
   const module = await instantiate(compiled);
   const text = module.put(new TextEncoder().encode(decoded));
   const { records, widest } = module.pick(text, delimiter, [], EVERY);
-  sheet = { number, file, bytesAt, module, text, delimiter, records, widest };
+  sheet = { number, file, bytesAt, module, text, encoding, delimiter, records, widest };
   return sheet;
 }
 
 // The sheet of this reading, which a new worker reads again.
 const sheetOf = async (source) => (sheet && sheet.number === source.number ? sheet : readSheet(source));
 
-/** How a sheet begins: its first records and columns. */
-function beginningOf({ module, text, delimiter, records, widest }) {
+/** How a sheet begins: its first records and columns, and how it was read. */
+function beginningOf({ module, text, encoding, delimiter, records, widest }) {
   const width = Math.min(widest, MOST_COLUMNS);
   const { fields } = module.pick(text, delimiter, range(width), SHOWN + 1);
   const [heading, ...rows] = records ? rowsOf(fields, width) : [[]];
-  return { records, widest, heading, rows };
+  return { encoding, delimiter, records, widest, heading, rows };
 }
 
 async function beginning(source) {
@@ -204,13 +224,14 @@ async function convertSheet({ picks, columns, heading, widest, ...source }) {
   return {
     ...answer, sheetBegins, first: firstJoined(read, joined, width),
     refusedRows: answer.refused ? table.refusedRows() : null, shortYears: shortYears(fields, refusals),
-    register: ownRegister, table: await blobOf(module, joined, '\ufeff'),
+    register: ownRegister, table: await blobOf(module, joined, MARK),
   };
 }
 
 const TASKS = { date, register, beginning, unknownNames, preview, convertSheet };
 
-function kindOf(fault) {
+function faultOf(fault) {
+  if (fault instanceof OtherKind) return fault.message;
   if (fault instanceof NoReading) return 'noReading';
   if (fault instanceof ChangedFile) return 'changedFile';
   if (fault instanceof NotEncoded) return 'notEncoded';
@@ -227,7 +248,7 @@ export function serve(port) {
   port.onmessage = ({ data }) => {
     last = last.then(() => TASKS[data.task](data.words)).then(
       (answer) => port.postMessage({ number: data.number, answer }),
-      (fault) => port.postMessage({ number: data.number, fault: kindOf(fault), why: String(fault) }),
+      (fault) => port.postMessage({ number: data.number, fault: faultOf(fault), why: String(fault) }),
     );
   };
 }

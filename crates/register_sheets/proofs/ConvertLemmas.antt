@@ -1,14 +1,13 @@
 -- The sheet that comes back, of what was sent.
-use Rattle.std.proofs.Common.{◌≡◌, ◌≤◌, ◌<◌, ◌∙◌, ◌++◌, ℕ, List, [], ◌∷◌, Option, ap, arith, get_or, drop, inl, inr, length, subst}
-use Rattle.std.proofs.Common.{sym, take, refl}
+use Rattle.std.proofs.Common.{◌≡◌, ◌<◌, ◌∙◌, ◌++◌, ℕ, List, [], ◌∷◌, Option, ap, arith, get_or, drop, inl, inr, length, subst}
+use Rattle.std.proofs.Common.{take, refl}
 use Rattle.std.specs.Prelude.{map}
-use Rattle.std.specs.Io.KnownBytes.{Appends}
 use Rattle.std.proofs.KnownBytes.{Appends-nil}
 use Rattle.register_records.specs.Entries.{Fields, record_limit}
 use Rattle.register_records.specs.Outcomes.{TableRow}
 use Rattle.register_records.specs.Sources.{Gains}
-use Rattle.register_sheets.specs.Converted.{AreFirstRows, ArePartOfSheet, IsFrontOfSheet, IsFullSheet, IsWholeSheet, below}
-use Rattle.register_sheets.specs.Converted.{body_records, head_record, sheet_records}
+use Rattle.register_sheets.specs.Converted.{AreFirstRows, ArePartOfSheet, IsFullSheet, IsWholeSheet, below}
+use Rattle.register_sheets.specs.Converted.{body_records, sheet_records}
 use Rattle.register_sheets.specs.Sending.{CountsAll, HasBody, HasFront, IsSent}
 use Rattle.register_sheets.specs.Sheets.{filled, records_text, widest}
 use Rattle.register_sheets.specs.declared.choices.SheetChoice.{SheetChoice}

@@ -1,6 +1,6 @@
 -- The calendar that a text names.
-use Rattle.std.proofs.Common.{◌≡◌, ◌↔◌, ◌∙◌, ℕ, zero, suc, Bool, true, false, cond, List, [], ◌∷◌, Option, None, Some, refl}
-use Rattle.std.proofs.Common.{ap, arith, inl, inr, subst, sym, slice_get}
+use Rattle.std.proofs.Common.{◌≡◌, ◌↔◌, ℕ, Bool, true, false, List, [], ◌∷◌, Option, None, Some, refl}
+use Rattle.std.proofs.Common.{inl, inr, subst, sym}
 use Rattle.std.specs.List.{find}
 use Rattle.std.specs.Str.{IsUtf8, bytes_eq, is_utf8, str_to_ascii_lowercase}
 use Rattle.std.proofs.lemmas.Str.{is_utf8-from_IsUtf8}

@@ -1,4 +1,4 @@
-use Rattle.std.proofs.Common.{◌≡◌, ◌<◌, ◌++◌, List, ℕ, [], length, drop, take, Option}
+use Rattle.std.proofs.Common.{◌≡◌, ◌++◌, List, ℕ, [], drop, take, Option}
 use Rattle.register_records.specs.Entries.{Fields}
 use Rattle.register_sheets.specs.Reading.{IsReading, left_of}
 use Rattle.register_sheets.specs.Sending.{HasMade}

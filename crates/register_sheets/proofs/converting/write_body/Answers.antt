@@ -1,9 +1,8 @@
-use Rattle.std.proofs.Common.{◌≡◌, ◌≤◌, ◌<◌, ◌∙◌, ◌+◌, ◌++◌, [], ◌∷◌, List, ℕ, Option, append-nil, append_assoc, ap, arith, length}
-use Rattle.std.proofs.Common.{length-append, refl, rules, subst, sym, true, false, get_or}
+use Rattle.std.proofs.Common.{◌≡◌, ◌≤◌, ◌∙◌, ◌+◌, ◌++◌, [], ◌∷◌, List, append-nil, append_assoc, ap, arith, length}
+use Rattle.std.proofs.Common.{length-append, refl, rules, subst, sym, true, false}
 use Rattle.std.specs.Prelude.{Ok}
 use Rattle.csv.specs.Records.{fields_of}
 use Rattle.register_records.specs.Entries.{Fields, record_limit}
-use Rattle.register_records.specs.Outcomes.{TableRow}
 use Rattle.register_records.proofs.StepLemmas.{passed_on}
 use Rattle.register_sheets.specs.Converted.{body_records}
 use Rattle.register_sheets.specs.Reading.{left_of}

@@ -1,10 +1,8 @@
-use Rattle.std.proofs.Common.{◌≡◌, ◌∙◌, [], ◌∷◌, ◌++◌, List, ℕ, ap, get_or, rules, subst, sym, true}
-use Rattle.std.specs.Prelude.{Ok, map}
+use Rattle.std.proofs.Common.{◌≡◌, ◌∙◌, [], List, ap, get_or, rules, true}
+use Rattle.std.specs.Prelude.{Ok}
 use Rattle.csv.specs.Records.{fields_of}
 use Rattle.register_records.specs.Entries.{Fields}
 use Rattle.register_sheets.specs.Reading.{left_of}
-use Rattle.register_sheets.specs.Sending.{HasMade}
-use Rattle.register_sheets.specs.Sheets.{filled}
 use Rattle.register_sheets.proofs.SendingLemmas.{fields_made}
 use Rattle.register_sheets.proofs.converting.write_head.Goals as goal
 

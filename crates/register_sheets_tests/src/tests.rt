@@ -4,14 +4,27 @@
 use date_texts::{Calendar, Target};
 use register_records::PlainOutput;
 use register_sheets::{
-    AskedColumn, CalendarField, ChoiceFault, DateColumn, IdField, SheetCause, SheetChoice,
-    SheetEnd, SheetSetup, convert_sheet,
+    AskedColumn, CalendarField, DateColumn, IdField, SheetCause, SheetChoice, SheetEnd, SheetSetup,
+    convert_sheet,
 };
 use std::alloc::Global;
 use std::test::Fail;
 use written_dates::{
     CalendarName, CalendarNames, Calendars, Choice, Meaning, Name, Names, Order, Short,
 };
+
+/// What a name means in dates.
+const NAMES: [Name<'static>; 1] = [Name {
+    text: b"Mai",
+    meaning: Meaning::Month(5),
+    calendars: Calendars::ALL,
+}];
+
+/// A name of a calendar.
+const CALENDARS: [CalendarName<'static>; 1] = [CalendarName {
+    text: b"a. St.",
+    calendar: Calendar::Julian,
+}];
 
 /// How dates are read in these tests.
 const READING: Choice = Choice {
@@ -27,56 +40,59 @@ const COLUMNS: [AskedColumn; 2] = [
     AskedColumn::Cells(Target::Date(Calendar::Gregorian)),
 ];
 
-/// A sheet by this choice as it comes back, with how it ended.
-fn converted(
+/// The second field has dates, the third their calendars.
+const ONE_DATE: [DateColumn; 1] = [DateColumn {
+    date: 1,
+    calendar: CalendarField::Column(2),
+}];
+
+/// What comes behind the sheet's own names.
+const HEADINGS: [&[u8]; 3] = [b"rd", b"gregorian", b"refusal"];
+
+/// The names that hold in these tests.
+#[derive(Drop)]
+struct Known<'a> {
+    names: Names<'a>,
+    calendars: CalendarNames<'a>,
+}
+
+/// A sheet as it comes back by these names, with how it ended.
+fn converted_by(
     alloc: Global,
     sheet: &[u8],
     above: u32,
-    dates: &[DateColumn],
-    headings: &[&[u8]],
+    known: &Known<'static>,
 ) -> Result<(Vec<u8>, SheetEnd), Fail> {
-    let listed = [Name {
-        text: "Mai".as_bytes(),
-        meaning: Meaning::Month(5),
-        calendars: Calendars::ALL,
-    }];
-    let names = Names::layered(alloc, &listed)?;
-    let called = [CalendarName {
-        text: b"a. St.",
-        calendar: Calendar::Julian,
-    }];
-    let calendars = CalendarNames::layered(alloc, &called)?;
     let setup = SheetSetup::new(SheetChoice {
         delimiter: b';',
         above,
         id: IdField::Number,
-        dates,
+        dates: &ONE_DATE,
         columns: &COLUMNS,
-        headings,
+        headings: &HEADINGS,
         reading: READING,
-        names: &names,
-        calendars: &calendars,
+        names: &known.names,
+        calendars: &known.calendars,
     })?;
     let mut output = PlainOutput::new(Vec::new(alloc), 1);
     let end = convert_sheet(alloc, sheet, &setup, &mut output);
     Ok((output.into_inner(), end))
 }
 
-const ONE_DATE: [DateColumn; 1] = [DateColumn {
-    date: 1,
-    calendar: CalendarField::Column(2),
-}];
+/// A sheet as it comes back, with how it ended.
+fn converted(alloc: Global, sheet: &[u8], above: u32) -> Result<(Vec<u8>, SheetEnd), Fail> {
+    let known = Known {
+        names: Names::layered(alloc, &NAMES)?,
+        calendars: CalendarNames::layered(alloc, &CALENDARS)?,
+    };
+    converted_by(alloc, sheet, above, &known)
+}
 
 #[test]
 fn words_names_and_short_records(rt: HostRuntime) -> Result<(), Fail> {
-    let sheet = "Parish of Lund\nName;Date;Style;Note\nAnna;12. Mai 1806;gregorian\nBo;3 Mai 1700;A. ST.;\"a;b\"\nCy\n";
-    let (text, end) = converted(
-        rt.alloc(),
-        sheet.as_bytes(),
-        1,
-        &ONE_DATE,
-        &[b"rd", b"gregorian", b"refusal"],
-    )?;
+    let sheet =
+        "Parish of Lund\nName;Date;Style;Note\nAnna;12. Mai 1806;gregorian\nBo;3 Mai 1700;A. ST.;\"a;b\"\nCy\n";
+    let (text, end) = converted(rt.alloc(), sheet.as_bytes(), 1)?;
     let wanted = "Parish of Lund\nName;Date;Style;Note;rd;gregorian;refusal\n\
         Anna;12. Mai 1806;gregorian;;659394;1806-05-12;\n\
         Bo;3 Mai 1700;A. ST.;\"a;b\";620681;1700-05-14;\n\
@@ -88,14 +104,12 @@ fn words_names_and_short_records(rt: HostRuntime) -> Result<(), Fail> {
 
 #[test]
 fn no_record_with_names(rt: HostRuntime) -> Result<(), Fail> {
-    let (text, end) = converted(
-        rt.alloc(),
-        b"a\nb\n",
-        2,
-        &ONE_DATE,
-        &[b"rd", b"gregorian", b"refusal"],
-    )?;
+    let (text, end) = converted(rt.alloc(), b"a\nb\n", 2)?;
     assert!(rt; text.is_empty());
-    assert!(rt; end == SheetEnd::Broken { cause: SheetCause::NoNames });
+    assert!(rt;
+        end == SheetEnd::Broken {
+            cause: SheetCause::NoNames
+        }
+    );
     Ok(())
 }

@@ -7,7 +7,7 @@ use Rattle.register_run.specs.Reports.{IsReport, stripes_of}
 use Rattle.register_run.specs.Threads.{AreThreads}
 use Rattle.register_run.specs.declared.reports.Ran.{Ran}
 use Rattle.register_run.specs.declared.reports.Report.{Report}
-use Rattle.register_records.specs.Views.{layout_of}
+use Rattle.register_records.specs.Views.{layout_of, reading_of}
 use Rattle.register_records.specs.declared.outputs.Output as outputs
 use Rattle.register_records.specs.declared.setups.Setup.{Setup}
 use Rattle.register_run.specs.declared.reports.Verdict.TheVariants.{Complete}
@@ -37,9 +37,11 @@ pub record IsPrinted {W E : Type 0} (o : outputs.Ghosts W) (e : outputs.Ghosts E
   pub failed : status ≢ 0 → (o.has_failed written ≡ true)
       × (e.has_failed after ≡ false → Appends (e.contents before) (e.contents after) PRINT_FAULT.now)
 
--- the setup is the task's: its layout, the size of its rings, and the converters of a source
+-- the setup is the task's: how registers are read and tables written, the size of rings, and the converters of a source
 abbrev pub IsSetupOf : Task → Setup → Type 0
-IsSetupOf task setup = (layout_of setup ≡ task.layout) × (setup.ring ≡ task.ring) × (setup.stripes ≡ task.stripes)
+IsSetupOf task setup =
+    (reading_of setup ≡ task.reading) × (layout_of setup ≡ task.layout) × (setup.ring ≡ task.ring)
+    × (setup.stripes ≡ task.stripes)
 
 -- tables were made: the threads of each source, which ran as is handed on, were started by the setup that the task asks
 -- for, with its ring and its stripes, each source has ended as it should, the status is 0 exactly where all are whole,

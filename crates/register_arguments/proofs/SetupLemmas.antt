@@ -1,6 +1,8 @@
 -- What the arguments ask for fits a setup: each target once, the default ones too, since their names differ.
 use Rattle.std.proofs.Common.{rules, ◌≡◌, ◌∙◌, ◌<◌, ℕ, true, false, List, [], length, map, sym, ap, arith, Some, None}
 use Rattle.std.proofs.Common.{Option, Result, Err, inl, inr, true≢false, get_or}
+use Rattle.std.proofs.Common.{Bool, refl}
+use Rattle.std.specs.Prelude.{if◌then◌else◌}
 use Rattle.std.specs.List.{IsDistinct}
 use Rattle.std.proofs.lemmas.List.{get_or-map}
 use Rattle.std.proofs.lemmas.Map.Made.{AllPairs-from_IsDistinct}
@@ -10,12 +12,19 @@ use Rattle.std.proofs.lemmas.Slice.Eq.{bytes_eq-Decides}
 use Rattle.date_texts.specs.declared.target.Target.TheVariants.{Haab}
 use Rattle.date_texts.specs.Calendars.{default_targets, target_name}
 use Rattle.date_texts.specs.declared.target.Target.{Target}
+use Rattle.register_records.specs.Records.{has_notes}
+use Rattle.register_records.specs.declared.setups.Form.TheVariants.{Plain, Sealed}
 use Rattle.register_records.specs.SetupRules.{NamesTwice, is_delimiter, is_ring_size, is_stripe_count}
 use Rattle.register_records.specs.declared.setups.Setup.{Setup}
 use Rattle.register_records.specs.declared.setups.SetupFault.{SetupFault}
 use Rattle.register_records.specs.declared.setups.SetupFault.TheVariants.{TargetTwice, RingSize, Delimiter, Stripes}
 use Rattle.register_arguments.proofs.NameLemmas.{never_twice}
 use Rattle.register_arguments.specs.Requests.{AreTargetsOf}
+
+-- a table has notes where its register has seals
+pub notes_by : (sealed : Bool) → has_notes (if sealed then Sealed else Plain) ≡ sealed
+notes_by true = refl
+notes_by false = refl
 
 names_distinct : IsDistinct bytes_eq (map target_name default_targets)
 unfolding IsDistinct

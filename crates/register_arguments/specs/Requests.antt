@@ -6,8 +6,9 @@ use Rattle.clap.specs.declared.error.kind.ErrorKind.{ErrorKind}
 use Rattle.clap.specs.declared.error.kind.ErrorKind.TheVariants.{DisplayHelp, DisplayVersion}
 use Rattle.date_texts.specs.Calendars.{default_targets}
 use Rattle.date_texts.specs.declared.target.Target.{Target}
+use Rattle.register_records.specs.Entries.{Reading}
 use Rattle.register_records.specs.Tables.{Layout}
-use Rattle.register_records.specs.Views.{layout_of}
+use Rattle.register_records.specs.Views.{layout_of, reading_of}
 use Rattle.register_records.specs.declared.setups.Form.TheVariants.{Plain, Sealed}
 use Rattle.register_arguments.specs.CommandLine.{AreTaken, Values, command_line, values_in}
 use Rattle.register_arguments.specs.Faults.{Fault, usage, too_many_files, file_twice}
@@ -18,9 +19,10 @@ use Rattle.register_arguments.specs.declared.requests.Options.{Options}
 use Rattle.register_arguments.specs.declared.requests.Request.{Request}
 use Rattle.register_arguments.specs.declared.requests.Request.TheVariants as request
 
--- what arguments can ask of a run: how its registers are written and its tables laid out, the size of its rings, the
--- converters of a source, whether a summary is wanted, and the files
+-- what arguments can ask of a run: how its registers are read and how its tables are written, the size of its rings,
+-- the converters of a source, whether a summary is wanted, and the files
 pub record Task : Type 0 where
+  pub reading : Reading
   pub layout : Layout
   pub ring : ℕ
   pub stripes : ℕ
@@ -59,9 +61,11 @@ AreFilesToConvert files = (length files ≤ most_files) × ((file : Text) → ¬
 pub record Ask (values : Values) (task : Task) : Type 0 where
   pub targets : AreTargetsOf values.to task.layout.targets
   pub ring : IsValueOf ring_option values.ring task.ring
-  pub delimiter : IsValueOf delimiter_option values.delimiter task.layout.format.delimiter
+  pub delimiter : IsValueOf delimiter_option values.delimiter task.reading.delimiter
+  pub same_delimiter : task.layout.writing.delimiter ≡ task.reading.delimiter
   pub stripes : IsValueOf stripes_option values.stripes task.stripes
-  pub form : task.layout.format.form ≡ (if values.sealed then Sealed else Plain)
+  pub form : task.reading.form ≡ (if values.sealed then Sealed else Plain)
+  pub notes : task.layout.writing.has_notes ≡ values.sealed
   pub summary : task.summary ≡ values.summary
   pub files : task.files ≡ values.files
   pub files_fit : AreFilesToConvert values.files
@@ -150,6 +154,7 @@ MeanJust arguments meaning = (other : Meaning) → (other ≡ meaning) ↔ Mean 
 -- what a job asks of a run
 abbrev pub task_of : Job → Task
 task_of job = record {
+  reading = reading_of job.setup;
   layout = layout_of job.setup;
   ring = job.setup.ring;
   stripes = job.setup.stripes;

@@ -1,6 +1,6 @@
 -- Columns and their targets.
 use Rattle.std.proofs.Common.{◌≡◌, ◌<◌, ◌≤◌, ◌+◌, ◌∙◌, ℕ, List, [], ◌∷◌, arith, ap, length, take, get_or}
-use Rattle.std.proofs.Common.{set, refl, sym, subst, zero, suc}
+use Rattle.std.proofs.Common.{Bool, false, set, refl, sym, subst, true, zero, suc}
 use Rattle.std.specs.List.{slice_get, take-map}
 use Rattle.std.proofs.lemmas.List.{length-map, length-take, map-append, take_all, take_more, take_more_set}
 use Rattle.date_texts.specs.Calendars.{all_targets}
@@ -9,7 +9,8 @@ use Rattle.date_texts.specs.declared.target.TheConstants.{MAX_TARGETS}
 use Rattle.date_texts.specs.declared.target.Target.TheVariants.{Tzolkin}
 use Rattle.date_texts.specs.Laws.{FewTargets}
 use Rattle.register_records.specs.SetupRules.{NamesTwice}
-use Rattle.register_page.specs.Requests.{targets_at}
+use Rattle.register_records.specs.Records.{has_notes}
+use Rattle.register_page.specs.Requests.{form_by, targets_at}
 use Rattle.register_page.specs.declared.requests.TheConstants.{TOO_MANY}
 
 pub one_more : (columns : List ℕ) (targets : List Target) (i : ℕ) (x : Target) → i < length columns
@@ -19,6 +20,11 @@ pub one_more : (columns : List ℕ) (targets : List Target) (i : ℕ) (x : Targe
 one_more columns targets i x lt room is before =
     take_more_set targets i x room
     ∙ rw (before, take_more columns i 0 lt, is) (sym (map-append _ (take i columns) (get_or columns i 0 ∷ [])))
+
+-- a table has notes where its register has seals
+pub notes_by : (sealed : Bool) → has_notes (form_by sealed) ≡ sealed
+notes_by true = refl
+notes_by false = refl
 
 in_front : {T : Type 0} (n : ℕ) (xs : List T) (i : ℕ) → i < length (take n xs)
     → slice_get (take n xs) i ≡ slice_get xs i

@@ -4,7 +4,7 @@ use Rattle.std.specs.Prelude.{◌⊎◌}
 use Rattle.std.proofs.Math.Dec.{leb-zero}
 use Rattle.std.proofs.Math.Logic.{∥∥₁_map}
 use Rattle.std.proofs.lemmas.Grind.{merely}
-use Rattle.register_records.specs.Entries.{HasNoHeader, HasTooMany, IsNotSealed, record_limit}
+use Rattle.register_records.specs.Entries.{HasNoHeader, HasTooMany, IsNotSealed, Reading, record_limit}
 use Rattle.register_records.specs.Sources.{ArePartOfTable, Gains, IfBroken, IfWhole, IsFrontOfTable, IsTableOfAll}
 use Rattle.register_records.specs.Sources.{IsWholeTable}
 use Rattle.register_records.specs.Tables.{Layout}
@@ -40,22 +40,22 @@ is_sound cause.BadHeader made = inr ((λ e. cc), refl)
 is_sound cause.TooManyRecords made = inr ((λ e. cc), refl)
 is_sound cause.NotSealed made = inr ((λ e. cc), refl)
 
-pub whole_put : (layout : Layout) (text : List ℕ) (e : SourceEnd) (made old new : List ℕ) (count : ℕ)
+pub whole_put : (reading : Reading) (layout : Layout) (text : List ℕ) (e : SourceEnd) (made old new : List ℕ) (count : ℕ)
     → new ≡ with_front (sound_part e made) old → count ≡ length (sound_part e made)
     → IfWhole e (λ rows refused journal. ∥ Gains (Some []) (Some made)
-    (IsWholeTable layout (Some text) rows refused journal) ∥₁)
+    (IsWholeTable reading layout (Some text) rows refused journal) ∥₁)
     → IfWhole e (λ rows refused journal. ∥ Puts old new count
-    (IsWholeTable layout (Some text) rows refused journal) ∥₁)
-whole_put layout text (end.Whole rows refused journal) made old new count put counted h =
+    (IsWholeTable reading layout (Some text) rows refused journal) ∥₁)
+whole_put reading layout text (end.Whole rows refused journal) made old new count put counted h =
     may_put _ made old new count put counted h
-whole_put layout text (end.Broken c) made old new count put counted h = tt
+whole_put reading layout text (end.Broken c) made old new count put counted h = tt
 
-pub part_put : (layout : Layout) (text : List ℕ) (e : SourceEnd) (made old new : List ℕ) (count : ℕ)
+pub part_put : (reading : Reading) (layout : Layout) (text : List ℕ) (e : SourceEnd) (made old new : List ℕ) (count : ℕ)
     → new ≡ with_front (sound_part e made) old → count ≡ length (sound_part e made)
-    → IfBroken e (λ c. (c ≢ cause.SinkFault) → ∥ Gains (Some []) (Some made) (ArePartOfTable layout (Some text)) ∥₁)
-    → IfBroken e (λ c. ∥ Puts old new count (ArePartOfTable layout (Some text)) ∥₁)
-part_put layout text (end.Whole rows refused journal) made old new count put counted h = tt
-part_put layout text (end.Broken c) made old new count put counted h =
+    → IfBroken e (λ c. (c ≢ cause.SinkFault) → ∥ Gains (Some []) (Some made) (ArePartOfTable reading layout (Some text)) ∥₁)
+    → IfBroken e (λ c. ∥ Puts old new count (ArePartOfTable reading layout (Some text)) ∥₁)
+part_put reading layout text (end.Whole rows refused journal) made old new count put counted h = tt
+part_put reading layout text (end.Broken c) made old new count put counted h =
     elim (is_sound c made) [
       | inl sink ↦ merely ([], inl refl, sym (rw sink at counted), rw sink at put)
       | inr sound ↦ may_put _ made old new count (rw sound.1 at put) (rw sound.1 at counted) (h sound.0)
@@ -68,33 +68,33 @@ nothing_put (end.Whole rows refused journal) made old new count put counted = tt
 nothing_put (end.Broken c) made old new count put counted =
     λ sink. (rw sink at counted, (rw sink at put) ∙ front_of_none old)
 
-pub header_put : (layout : Layout) (text : List ℕ) (e : SourceEnd) (made old new : List ℕ) (count : ℕ)
+pub header_put : (reading : Reading) (layout : Layout) (text : List ℕ) (e : SourceEnd) (made old new : List ℕ) (count : ℕ)
     → new ≡ with_front (sound_part e made) old → count ≡ length (sound_part e made)
-    → IfBroken e (λ c. c ≡ cause.BadHeader → (made ≡ []) × HasNoHeader layout.format text)
-    → IfBroken e (λ c. c ≡ cause.BadHeader → HasNoHeader layout.format text × (count ≡ 0) × (new ≡ old))
-header_put layout text (end.Whole rows refused journal) made old new count put counted h = tt
-header_put layout text (end.Broken c) made old new count put counted h = λ bad.
+    → IfBroken e (λ c. c ≡ cause.BadHeader → (made ≡ []) × HasNoHeader reading text)
+    → IfBroken e (λ c. c ≡ cause.BadHeader → HasNoHeader reading text × (count ≡ 0) × (new ≡ old))
+header_put reading layout text (end.Whole rows refused journal) made old new count put counted h = tt
+header_put reading layout text (end.Broken c) made old new count put counted h = λ bad.
     let none : made ≡ [] = (h bad).0 in
     ((h bad).1, rw (bad, none) at counted, (rw (bad, none) at put) ∙ front_of_none old)
 
-pub many_put : (layout : Layout) (text : List ℕ) (e : SourceEnd) (made old new : List ℕ) (count : ℕ)
+pub many_put : (reading : Reading) (layout : Layout) (text : List ℕ) (e : SourceEnd) (made old new : List ℕ) (count : ℕ)
     → new ≡ with_front (sound_part e made) old → count ≡ length (sound_part e made)
-    → IfBroken e (λ c. c ≡ cause.TooManyRecords → ∥ HasTooMany layout.format text ∥₁
-    × ∥ Gains (Some []) (Some made) (IsFrontOfTable layout (Some text) record_limit) ∥₁)
-    → IfBroken e (λ c. c ≡ cause.TooManyRecords → ∥ HasTooMany layout.format text ∥₁
-    × ∥ Puts old new count (IsFrontOfTable layout (Some text) record_limit) ∥₁)
-many_put layout text (end.Whole rows refused journal) made old new count put counted h = tt
-many_put layout text (end.Broken c) made old new count put counted h = λ many.
+    → IfBroken e (λ c. c ≡ cause.TooManyRecords → ∥ HasTooMany reading text ∥₁
+    × ∥ Gains (Some []) (Some made) (IsFrontOfTable reading layout (Some text) record_limit) ∥₁)
+    → IfBroken e (λ c. c ≡ cause.TooManyRecords → ∥ HasTooMany reading text ∥₁
+    × ∥ Puts old new count (IsFrontOfTable reading layout (Some text) record_limit) ∥₁)
+many_put reading layout text (end.Whole rows refused journal) made old new count put counted h = tt
+many_put reading layout text (end.Broken c) made old new count put counted h = λ many.
     ((h many).0, may_put _ made old new count (rw many at put) (rw many at counted) (h many).1)
 
-pub sealed_put : (layout : Layout) (text : List ℕ) (e : SourceEnd) (made old new : List ℕ) (count : ℕ)
+pub sealed_put : (reading : Reading) (layout : Layout) (text : List ℕ) (e : SourceEnd) (made old new : List ℕ) (count : ℕ)
     → new ≡ with_front (sound_part e made) old → count ≡ length (sound_part e made)
-    → IfBroken e (λ c. c ≡ cause.NotSealed → (layout.format.form ≡ Sealed) × ∥ IsNotSealed layout.format text ∥₁
-    × ∥ Gains (Some []) (Some made) (IsTableOfAll layout (Some text)) ∥₁)
-    → IfBroken e (λ c. c ≡ cause.NotSealed → (layout.format.form ≡ Sealed) × ∥ IsNotSealed layout.format text ∥₁
-    × ∥ Puts old new count (IsTableOfAll layout (Some text)) ∥₁)
-sealed_put layout text (end.Whole rows refused journal) made old new count put counted h = tt
-sealed_put layout text (end.Broken c) made old new count put counted h = λ lacks. (
+    → IfBroken e (λ c. c ≡ cause.NotSealed → (reading.form ≡ Sealed) × ∥ IsNotSealed reading text ∥₁
+    × ∥ Gains (Some []) (Some made) (IsTableOfAll reading layout (Some text)) ∥₁)
+    → IfBroken e (λ c. c ≡ cause.NotSealed → (reading.form ≡ Sealed) × ∥ IsNotSealed reading text ∥₁
+    × ∥ Puts old new count (IsTableOfAll reading layout (Some text)) ∥₁)
+sealed_put reading layout text (end.Whole rows refused journal) made old new count put counted h = tt
+sealed_put reading layout text (end.Broken c) made old new count put counted h = λ lacks. (
   (h lacks).0,
   (h lacks).1,
   may_put _ made old new count (rw lacks at put) (rw lacks at counted) (h lacks).2,

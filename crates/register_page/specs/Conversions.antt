@@ -3,7 +3,7 @@ use Rattle.std.specs.Prelude.{◌≡◌, ◌≢◌, ◌==◌, ◌≤◌, ℕ, Bo
 use Rattle.std.specs.List.{count_by}
 use Rattle.date_texts.specs.Refusals.{refusal_number}
 use Rattle.date_texts.specs.declared.refusal.Refusal.{Refusal}
-use Rattle.register_records.specs.Entries.{HasNoHeader, HasTooMany, IsNotSealed, record_limit}
+use Rattle.register_records.specs.Entries.{HasNoHeader, HasTooMany, IsNotSealed, Reading, record_limit}
 use Rattle.register_records.specs.SetupRules.{NamesTwice, is_delimiter}
 use Rattle.register_records.specs.Sources.{ArePartOfTable, IfBroken, IfWhole, IsFrontOfTable, IsTableOfAll}
 use Rattle.register_records.specs.Sources.{IsWholeTable}
@@ -13,7 +13,7 @@ use Rattle.register_records.specs.declared.ends.Cause.TheVariants as cause
 use Rattle.register_records.specs.declared.ends.Note.{Note}
 use Rattle.register_records.specs.declared.ends.SourceEnd.{SourceEnd}
 use Rattle.register_records.specs.declared.ends.SourceEnd.TheVariants as end
-use Rattle.register_page.specs.Requests.{goes_beyond, layout_by, targets_at}
+use Rattle.register_page.specs.Requests.{goes_beyond, layout_by, reading_by, targets_at}
 use Rattle.register_page.specs.Rooms.{Puts}
 use Rattle.register_page.specs.declared.converting.Converted.{Converted}
 use Rattle.register_page.specs.declared.requests.Fault.{Fault}
@@ -36,22 +36,22 @@ sound_part (end.Broken cause.SinkFault) made = []
 sound_part other made = made
 
 -- the text was converted as it ended, and its table, or what was made of it, was put to the front of the room
-pub record IsConverted (layout : Layout) (text old new : List ℕ) (it : Converted) : Type 0 where
+pub record IsConverted (reading : Reading) (layout : Layout) (text old new : List ℕ) (it : Converted) : Type 0 where
   -- the whole table
   pub whole : IfWhole it.end (λ rows refused journal. ∥ Puts old new it.length
-      (IsWholeTable layout (Some text) rows refused journal) ∥₁)
+      (IsWholeTable reading layout (Some text) rows refused journal) ∥₁)
   pub numbers : IfWhole it.end (λ rows refused journal.
       (rows ≤ record_limit) × (refused ≤ rows) × (refused ≡ length journal))
   -- where the conversion broke off, nothing or a front of the table
-  pub part : IfBroken it.end (λ c. ∥ Puts old new it.length (ArePartOfTable layout (Some text)) ∥₁)
+  pub part : IfBroken it.end (λ c. ∥ Puts old new it.length (ArePartOfTable reading layout (Some text)) ∥₁)
   pub no_memory : IfBroken it.end (λ c. c ≡ cause.SinkFault → (it.length ≡ 0) × (new ≡ old))
   pub bad_header : IfBroken it.end (λ c. c ≡ cause.BadHeader
-      → HasNoHeader layout.format text × (it.length ≡ 0) × (new ≡ old))
-  pub too_many : IfBroken it.end (λ c. c ≡ cause.TooManyRecords → ∥ HasTooMany layout.format text ∥₁
-      × ∥ Puts old new it.length (IsFrontOfTable layout (Some text) record_limit) ∥₁)
+      → HasNoHeader reading text × (it.length ≡ 0) × (new ≡ old))
+  pub too_many : IfBroken it.end (λ c. c ≡ cause.TooManyRecords → ∥ HasTooMany reading text ∥₁
+      × ∥ Puts old new it.length (IsFrontOfTable reading layout (Some text) record_limit) ∥₁)
   pub not_sealed : IfBroken it.end (λ c. c ≡ cause.NotSealed
-      → (layout.format.form ≡ Sealed) × ∥ IsNotSealed layout.format text ∥₁
-      × ∥ Puts old new it.length (IsTableOfAll layout (Some text)) ∥₁)
+      → (reading.form ≡ Sealed) × ∥ IsNotSealed reading text ∥₁
+      × ∥ Puts old new it.length (IsTableOfAll reading layout (Some text)) ∥₁)
   pub never : IfBroken it.end (λ c. (c ≢ cause.NoThread) × (c ≢ cause.Unconfirmed))
 
 -- what is returned for what was asked: the first fault that it has, with the room as it was, or the conversion
@@ -65,4 +65,4 @@ IsReturned columns delimiter sealed text old new (Err fault.Delimiter) =
     × (new ≡ old)
 IsReturned columns delimiter sealed text old new (Ok it) =
     (goes_beyond columns ≡ false) × ¬ (NamesTwice (targets_at columns)) × (is_delimiter delimiter ≡ true)
-    × IsConverted (layout_by columns delimiter sealed) text old new it
+    × IsConverted (reading_by delimiter sealed) (layout_by columns delimiter sealed) text old new it

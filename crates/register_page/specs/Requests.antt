@@ -4,6 +4,7 @@ use Rattle.std.specs.List.{list_any}
 use Rattle.date_texts.specs.Calendars.{all_targets}
 use Rattle.date_texts.specs.declared.target.Target.{Target}
 use Rattle.date_texts.specs.declared.target.Target.TheVariants.{Tzolkin}
+use Rattle.register_records.specs.Entries.{Reading}
 use Rattle.register_records.specs.Tables.{Layout}
 use Rattle.register_records.specs.declared.setups.Form.{Form}
 use Rattle.register_records.specs.declared.setups.Form.TheVariants.{Plain, Sealed}
@@ -21,10 +22,14 @@ targets_at columns = map (λ place. get_or all_targets place Tzolkin) columns
 abbrev pub form_by : Bool → Form
 form_by sealed = if sealed then Sealed else Plain
 
--- the table that is asked for by these columns, this byte between two fields, and whether the register has seals
+-- how the register is read, by this byte between two fields and whether it has seals; and how the table of these columns
+-- is written
+abbrev pub reading_by : ℕ → Bool → Reading
+reading_by delimiter sealed = record { delimiter = delimiter; form = form_by sealed }
+
 abbrev pub layout_by : List ℕ → ℕ → Bool → Layout
 layout_by columns delimiter sealed =
-    record { format = record { delimiter = delimiter; form = form_by sealed }; targets = targets_at columns }
+    record { writing = record { delimiter = delimiter; has_notes = sealed }; targets = targets_at columns }
 
 -- the number of a fault
 abbrev pub fault_number : Fault → ℕ

@@ -1,7 +1,7 @@
 //! A text, and the room for its table.
 
 ghost use Rattle.std.specs.Prelude.{◌≡◌, []};
-ghost use Rattle.register_records.specs.Views.{layout_of};
+ghost use Rattle.register_records.specs.Views.{layout_of, reading_of};
 ghost use Rattle.register_page.specs.Conversions.{IsConverted, IsReturned, sound_part};
 
 use crate::requests::{Fault, setup_for};
@@ -59,7 +59,7 @@ fn sound_part<'a>(end: &SourceEnd, made: &'a [u8]) -> &'a [u8]
 
 /// Converts a text by a setup, as [`convert_text`] does.
 fn convert_by(alloc: Global, text: &[u8], setup: &Setup, room: &mut [u8]) -> Converted
-    ensures { IsConverted (layout_of setup.now) text.now room.old room.new result }
+    ensures { IsConverted (reading_of setup.now) (layout_of setup.now) text.now room.old room.new result }
 {
     let mut output = PlainOutput::new(bytes_for(alloc, room.len()), 0);
     let end = convert_source(alloc, text, &mut output, setup);

@@ -4,8 +4,8 @@ ghost use Rattle.std.specs.Prelude.{◌≡◌, ◌<◌, ◌≤◌, get_or, true,
 ghost use Rattle.date_texts.specs.Calendars.{all_targets};
 ghost use Rattle.date_texts.specs.declared.target.TheConstants.{MAX_TARGETS};
 ghost use Rattle.register_records.specs.SetupRules.{NamesTwice, is_delimiter};
-ghost use Rattle.register_records.specs.Views.{layout_of};
-ghost use Rattle.register_page.specs.Requests.{form_by, goes_beyond, layout_by, targets_at};
+ghost use Rattle.register_records.specs.Views.{layout_of, reading_of};
+ghost use Rattle.register_page.specs.Requests.{form_by, goes_beyond, layout_by, reading_by, targets_at};
 ghost use Rattle.register_page.specs.declared.requests.TheConstants.{TOO_MANY};
 
 use date_texts::laws::{all_targets as every_target, few_targets};
@@ -83,7 +83,8 @@ fn set_targets(targets: &mut [Target; TOO_MANY], columns: &[u8]) -> usize
 ///
 /// The first fault that applies.
 pub(crate) fn setup_for(columns: &[u8], delimiter: u8, sealed: bool) -> Result<Setup, Fault>
-    ensures value { IfOk result (λ s. layout_of s ≡ layout_by columns.now delimiter sealed) }
+    ensures value { IfOk result (λ s. (reading_of s ≡ reading_by delimiter sealed)
+        × (layout_of s ≡ layout_by columns.now delimiter sealed)) }
     ensures good { IfOk result (λ s. (goes_beyond columns.now ≡ false) × (¬ (NamesTwice (targets_at columns.now)))
         × (is_delimiter delimiter ≡ true)) }
     ensures none { IfErr result (λ f. f ≡ Fault.NoSuchColumn → goes_beyond columns.now ≡ true) }

@@ -81,7 +81,7 @@ numbered form k [] = refl
 numbered form k (r ∷ rest) = numbered_if (nat_lt k record_limit) (k + 1) _ _ refl (numbered form (k + 1) rest)
 
 pub every_text_has_table : EveryTextHasTable
-every_text_has_table layout text entries is =
+every_text_has_table reading layout text entries is =
     let (after, has, all, are) = is in
     let rows = all_beside (IsRowOf layout.targets) (has_row layout.targets) entries in (
       _,
@@ -92,7 +92,7 @@ every_text_has_table layout text entries is =
         entries = entries;
         rows = rows.0;
         table = record {
-          numbered = subst (λ es. AreInOrder 1 es) (sym are) (numbered layout.format.form 0 _);
+          numbered = subst (λ es. AreInOrder 1 es) (sym are) (numbered reading.form 0 _);
           converted = rows.1;
           written = refl;
         };

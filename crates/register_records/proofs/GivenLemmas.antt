@@ -5,12 +5,12 @@ use Rattle.std.proofs.Math.Logic.{∥∥₁_map}
 use Rattle.std.proofs.lemmas.Bool.Decides.{nat_tests}
 use Rattle.std.proofs.lemmas.List.{append_cancel_left}
 use Rattle.register_records.specs.Headers.{IsHeader}
-use Rattle.register_records.specs.Entries.{Fields, Format, HasAllEntries, HasEntries, HasFirstEntries, HasRecords}
+use Rattle.register_records.specs.Entries.{Fields, HasAllEntries, HasEntries, HasFirstEntries, HasRecords, Reading}
 use Rattle.register_records.specs.Entries.{HasTooMany, IsNotSealed, Numbered, body_of, entries_from}
 use Rattle.register_records.specs.Entries.{entries_of, record_limit, text_records}
 use Rattle.register_records.specs.Seals.{AreClosed, before_seal, entry_records, is_seal}
 use Rattle.register_records.specs.Seen.{entry_seen}
-use Rattle.register_records.specs.ReadingState.{format_by}
+use Rattle.register_records.specs.ReadingState.{reading_by}
 use Rattle.register_records.specs.ReadingState.{Ends, EndsAt, Gives, HasEntry, IsNoSeal, LacksSeal, HasRead, TakesFirst}
 use Rattle.register_records.specs.declared.entries.Entry.{Entry}
 use Rattle.register_records.specs.declared.reading.ReaderState.{ReaderState}
@@ -49,20 +49,20 @@ entries_none form k = refl
 no_entries : (form : Form) → entry_records form [] ≡ []
 no_entries form = search (rules, before_none)
 
-module _ (format : Format) where
+module _ (reading : Reading) where
   abbrev form : Form
-  form = format.form
+  form = reading.form
 
   -- these records are the text's, and where it is known, these are left of them
   abbrev Has : Option (List ℕ) → List Fields → Type 0
-  Has text after = IfSome text (λ t. HasRecords format t after)
+  Has text after = IfSome text (λ t. HasRecords reading t after)
 
   abbrev AreLeft : Option (List ℕ) → Option (List Fields) → List Fields → Type 0
   AreLeft text left rest = IfSome text (λ t. left ≡ Some rest)
 
   -- a first record that is a header
   header_read : {text : Option (List ℕ)} {left : Option (List Fields)} (rest : List Fields)
-      → Has text rest → AreLeft text left rest → HasRead format text states.Open left []
+      → Has text rest → AreLeft text left rest → HasRead reading text states.Open left []
   header_read rest has is =
       record {
         past = [];
@@ -76,8 +76,8 @@ module _ (format : Format) where
       }
 
   has_read_first : (text : Option (List ℕ)) (left : Option (List Fields)) (f : Fields)
-      → TakesFirst (option_map (text_records format.delimiter) text) left f → IsHeader form f
-      → HasRead format text states.Open left []
+      → TakesFirst (option_map (text_records reading.delimiter) text) left f → IsHeader form f
+      → HasRead reading text states.Open left []
   has_read_first None left f t h = header_read [] tt tt
   has_read_first (Some text) None f t h = absurd t
   has_read_first (Some text) (Some rest) f t h = header_read rest (f, t, h) refl
@@ -93,8 +93,8 @@ module _ (format : Format) where
       (rest2, rw (append_assoc past (f ∷ []) rest2, ← same) has, refl)
 
   has_read_more : {text : Option (List ℕ)} {left left2 : Option (List Fields)} {given : List Numbered} {x : Entry}
-      → HasRead format text states.Open left given → Gives form (length given) left left2 x
-      → length given < record_limit → HasRead format text states.Open left2 (given ++ entry_seen x ∷ [])
+      → HasRead reading text states.Open left given → Gives form (length given) left left2 x
+      → length given < record_limit → HasRead reading text states.Open left2 (given ++ entry_seen x ∷ [])
   has_read_more {given = given} {x = x} s g few =
       let more = record_more _ _ _ s.past s.rest g.fields s.accepted (s.left_is refl) g.first in
       let longer : length (given ++ entry_seen x ∷ []) ≡ length given + 1 = length-append given (entry_seen x ∷ []) in
@@ -115,8 +115,8 @@ module _ (format : Format) where
 
   -- of those that were given, and of records behind them
   module _ {text : Option (List ℕ)} {state : ReaderState} {left : Option (List Fields)} {given : List Numbered}
-      (s : HasRead format text state left given) where
-    first_given : HasFirstEntries format text given
+      (s : HasRead reading text state left given) where
+    first_given : HasFirstEntries reading text given
     first_given = (
       entries_from form (length given) (entry_records form s.rest),
       (
@@ -135,7 +135,7 @@ module _ (format : Format) where
 
     -- the reader gives no more
     stopped : {state2 : ReaderState} {left2 : Option (List Fields)} → ¬ (state2 ≡ states.Open)
-        → (state2 ≡ states.Ended → HasEntries format text given) → HasRead format text state2 left2 given
+        → (state2 ≡ states.Ended → HasEntries reading text given) → HasRead reading text state2 left2 given
     stopped shut all = search rules
 
   ends_none : (k : Form) (count : ℕ) (records : List Fields) → EndsAt k count records → entry_records k records ≡ []
@@ -157,8 +157,8 @@ module _ (format : Format) where
 
   -- the text ends after the entries given
   all_given : {text : Option (List ℕ)} {left : Option (List Fields)} {given : List Numbered}
-      → HasRead format text states.Open left given → Ends form (length given) left → length given ≤ record_limit
-      → HasEntries format text given
+      → HasRead reading text states.Open left given → Ends form (length given) left → length given ≤ record_limit
+      → HasEntries reading text given
   all_given s e few =
       let none = ends_none form _ e.0 e.1 in
       let before = past_records s e.0 none in (
@@ -170,68 +170,68 @@ module _ (format : Format) where
 
   -- no entry is left after those given
   all_above : (text : Option (List ℕ)) {left : Option (List Fields)} {given : List Numbered}
-      → HasRead format text states.Open left given → IfSome left (LacksSeal form (length given))
-      → HasAllEntries format text given
+      → HasRead reading text states.Open left given → IfSome left (LacksSeal form (length given))
+      → HasAllEntries reading text given
   all_above None s lacks = (s.past ++ [], tt, past_given s [] (no_entries form))
   all_above (Some text) s lacks = (s.past ++ s.rest, s.accepted, past_given s s.rest (rw (s.left_is refl) at lacks).0)
 
   too_many : (text : Option (List ℕ)) {left : Option (List Fields)} {given : List Numbered}
-      → HasRead format text states.Open left given → IfSome left (HasEntry form) → length given ≡ record_limit
-      → IfSome text (λ t. HasTooMany format t)
+      → HasRead reading text states.Open left given → IfSome left (HasEntry form) → length given ≡ record_limit
+      → IfSome text (λ t. HasTooMany reading t)
   too_many text s some e = search (rules, length-append)
 
   not_sealed : (text : Option (List ℕ)) {left : Option (List Fields)} {given : List Numbered}
-      → HasRead format text states.Open left given → IfSome left (LacksSeal form (length given))
-      → length given ≤ record_limit → IfSome text (λ t. IsNotSealed format t)
+      → HasRead reading text states.Open left given → IfSome left (LacksSeal form (length given))
+      → length given ≤ record_limit → IfSome text (λ t. IsNotSealed reading t)
   not_sealed None s lacks h = tt
   not_sealed (Some text) {given = given} s lacks h = search (rules, past_records, ends_so)
 
-abbrev pub MayHaveRead : Option (List ℕ) → Format → ReaderState → Option (List Fields) → List Numbered → Type 0
-MayHaveRead o format state left given = ∥ HasRead format o state left given ∥₁
+abbrev pub MayHaveRead : Option (List ℕ) → Reading → ReaderState → Option (List Fields) → List Numbered → Type 0
+MayHaveRead o reading state left given = ∥ HasRead reading o state left given ∥₁
 
 pub first_step : {o p : Option (List ℕ)} {d e : ℕ} {j k : Form} {given : List Numbered} (left : Option (List Fields))
     (f : Fields) → p ≡ o → e ≡ d → k ≡ j → given ≡ []
     → TakesFirst (option_map (text_records d) o) left f → IsHeader j f
-    → MayHaveRead p (format_by e k) states.Open left given
-first_step left f a b c h t i = rw (a, b, c, h) (∣ has_read_first (format_by _ _) _ left f t i ∣₁)
+    → MayHaveRead p (reading_by e k) states.Open left given
+first_step left f a b c h t i = rw (a, b, c, h) (∣ has_read_first (reading_by _ _) _ left f t i ∣₁)
 
-module _ {o : Option (List ℕ)} {format : Format} {state : ReaderState} {left : Option (List Fields)}
-    {given : List Numbered} (has_read : MayHaveRead o format state left given) where
-  pub may_first : ∥ HasFirstEntries format o given ∥₁
-  may_first = ∥∥₁_map has_read (λ s. first_given format s)
+module _ {o : Option (List ℕ)} {reading : Reading} {state : ReaderState} {left : Option (List Fields)}
+    {given : List Numbered} (has_read : MayHaveRead o reading state left given) where
+  pub may_first : ∥ HasFirstEntries reading o given ∥₁
+  may_first = ∥∥₁_map has_read (λ s. first_given reading s)
 
   pub may_fail : {left2 : Option (List Fields)} {given2 : List Numbered} → given2 ≡ given
-      → MayHaveRead o format states.Failed left2 given2
-  may_fail e = rw e (∥∥₁_map has_read (λ s. stopped format s (λ o. absurd (cc)) (λ e. absurd (cc))))
+      → MayHaveRead o reading states.Failed left2 given2
+  may_fail e = rw e (∥∥₁_map has_read (λ s. stopped reading s (λ o. absurd (cc)) (λ e. absurd (cc))))
 
-  pub may_ended : state ≡ states.Ended → ∥ HasEntries format o given ∥₁
+  pub may_ended : state ≡ states.Ended → ∥ HasEntries reading o given ∥₁
   may_ended e = ∥∥₁_map has_read (λ s. s.ended e)
 
   module _ (goes : state ≡ states.Open) {count : ℕ} (counted : count ≡ length given) where
-    opened : ∥ HasRead format o states.Open left given ∥₁
+    opened : ∥ HasRead reading o states.Open left given ∥₁
     opened = rw goes at has_read
 
     pub may_more : {left2 : Option (List Fields)} {given2 : List Numbered} {x : Entry}
-        → Gives format.form count left left2 x → count < record_limit
-        → given2 ≡ given ++ entry_seen x ∷ [] → MayHaveRead o format state left2 given2
+        → Gives reading.form count left left2 x → count < record_limit
+        → given2 ≡ given ++ entry_seen x ∷ [] → MayHaveRead o reading state left2 given2
     may_more g few e =
-        rw (goes, e) (∥∥₁_map opened (λ s. has_read_more format s (rw counted at g) (rw counted at few)))
+        rw (goes, e) (∥∥₁_map opened (λ s. has_read_more reading s (rw counted at g) (rw counted at few)))
 
     module _ (few : length given ≤ record_limit) where
-      pub may_all : Ends format.form count left → ∥ HasEntries format o given ∥₁
-      may_all e = ∥∥₁_map opened (λ s. all_given format s (rw counted at e) few)
+      pub may_all : Ends reading.form count left → ∥ HasEntries reading o given ∥₁
+      may_all e = ∥∥₁_map opened (λ s. all_given reading s (rw counted at e) few)
 
-      pub may_end : {left2 : Option (List Fields)} → Ends format.form count left
-          → MayHaveRead o format states.Ended left2 given
+      pub may_end : {left2 : Option (List Fields)} → Ends reading.form count left
+          → MayHaveRead o reading states.Ended left2 given
       may_end e =
-          ∥∥₁_map opened (λ s. stopped format s (λ o. absurd (cc)) (λ _. all_given format s (rw counted at e) few))
+          ∥∥₁_map opened (λ s. stopped reading s (λ o. absurd (cc)) (λ _. all_given reading s (rw counted at e) few))
 
-      pub may_lack : IfSome left (LacksSeal format.form count) → ∥ IfSome o (λ text. IsNotSealed format text) ∥₁
-      may_lack e = ∥∥₁_map opened (λ s. not_sealed format o s (rw counted at e) few)
+      pub may_lack : IfSome left (LacksSeal reading.form count) → ∥ IfSome o (λ text. IsNotSealed reading text) ∥₁
+      may_lack e = ∥∥₁_map opened (λ s. not_sealed reading o s (rw counted at e) few)
 
-    pub may_above : IfSome left (LacksSeal format.form count) → ∥ HasAllEntries format o given ∥₁
-    may_above e = ∥∥₁_map opened (λ s. all_above format o s (rw counted at e))
+    pub may_above : IfSome left (LacksSeal reading.form count) → ∥ HasAllEntries reading o given ∥₁
+    may_above e = ∥∥₁_map opened (λ s. all_above reading o s (rw counted at e))
 
-    pub may_many : IfSome left (HasEntry format.form) → count ≡ record_limit
-        → ∥ IfSome o (λ text. HasTooMany format text) ∥₁
-    may_many e full = ∥∥₁_map opened (λ s. too_many format o s e (sym counted ∙ full))
+    pub may_many : IfSome left (HasEntry reading.form) → count ≡ record_limit
+        → ∥ IfSome o (λ text. HasTooMany reading text) ∥₁
+    may_many e full = ∥∥₁_map opened (λ s. too_many reading o s e (sym counted ∙ full))

@@ -1,7 +1,7 @@
 -- The fields of a line, while they are appended.
 use Rattle.std.proofs.Common.{◌≡◌, ◌<◌, ◌≤◌, ◌+◌, ◌^◌, ◌%◌, ◌++◌, ℕ, List, [], ◌∷◌, true, false, refl, sym, ap, ◌∙◌}
 use Rattle.std.proofs.Common.{rules, arith, append_assoc, append-nil, length, length-append, length-set, map, set, take}
-use Rattle.std.proofs.Common.{Result, drop, get_or, ℤ, length-take-le, take_all}
+use Rattle.std.proofs.Common.{Bool, Result, drop, get_or, ℤ, length-take-le, take_all}
 use Rattle.std.specs.Fmt.{decimal, signed_decimal}
 use Rattle.std.proofs.lemmas.Int.{ints}
 use Rattle.std.proofs.lemmas.Bool.{and_parts}
@@ -28,7 +28,6 @@ use Rattle.register_records.specs.Columns.{tail_order}
 use Rattle.register_records.specs.TableColumns.{column_texts, entry_field, entry_name, field_shown, heading}
 use Rattle.register_records.specs.TableColumns.{laid_out, row_fields, row_with, tail_names, tail_texts}
 use Rattle.register_records.specs.Outcomes.{TableRow}
-use Rattle.register_records.specs.declared.setups.Form.{Form}
 use Rattle.register_records.specs.declared.table_columns.EntryColumn.{EntryColumn}
 use Rattle.register_records.specs.declared.table_columns.EntryColumn.TheVariants.{Calendar, Date, Id, Note, Number}
 use Rattle.register_records.specs.Records.{Texts}
@@ -166,14 +165,14 @@ same_of_all f g same [] = refl
 same_of_all f g same (x ∷ xs) = cc (same x, same_of_all f g same xs)
 
 -- the columns of an entry: the first has its number, the others its texts
-pub first_field : (form : Form) (f : EntryColumn → List ℕ) (d : ℕ) (before field bytes : List ℕ)
+pub first_field : (notes : Bool) (f : EntryColumn → List ℕ) (d : ℕ) (before field bytes : List ℕ)
     → needs_quotes (writing d) field ≡ false → field ≡ f Number → bytes ≡ before ++ field
-    → bytes ≡ before ++ body d (map f (take 1 (entry_order form)))
-first_field form f d before field bytes h is b = search (rules, only_field)
+    → bytes ≡ before ++ body d (map f (take 1 (entry_order notes)))
+first_field notes f d before field bytes h is b = search (rules, only_field)
 
 -- there is room for the columns that follow
-pub room_behind : (form : Form) → number_room + columns_room quoted_room (drop 1 (entry_order form)) ≤ entry_room
-room_behind form = search rules
+pub room_behind : (notes : Bool) → number_room + columns_room quoted_room (drop 1 (entry_order notes)) ≤ entry_room
+room_behind notes = search rules
 
 pub plain_column : (d : ℕ) → is_delimiter d ≡ true → (number : List ℕ) (body : Result Texts Refusal)
     → needs_quotes (writing d) number ≡ false → has_special body ≡ false
@@ -200,19 +199,19 @@ pub two_of : (fields rest : List (List ℕ)) (a b : List ℕ) → 2 ≤ length (
 two_of fields rest a b = rw (length-append fields (a ∷ b ∷ rest)) (omega arith)
 
 -- what a function gives of the columns of a table: of those of an entry, and of those of a tail
-in_parts : {X : Type 0} (f : Column → X) (form : Form) (ts : List Target)
-    → map f (columns (laid_out form ts))
-    ≡ map (λ c. f (entry_column c)) (entry_order form) ++ flat_map (λ c. map f (tail_column ts c)) tail_order
-in_parts f form ts = search (rules, map-append, map-map, map_of_all)
+in_parts : {X : Type 0} (f : Column → X) (notes : Bool) (ts : List Target)
+    → map f (columns (laid_out notes ts))
+    ≡ map (λ c. f (entry_column c)) (entry_order notes) ++ flat_map (λ c. map f (tail_column ts c)) tail_order
+in_parts f notes ts = search (rules, map-append, map-map, map_of_all)
 
 pub name_columns : (place : ℕ) (ts : List Target)
     → map (λ (c : Column). c.name) (cell_columns place ts) ≡ map target_name ts
 name_columns place [] = refl
 name_columns place (t ∷ ts) = ap (λ (names : List (List ℕ)). target_name t ∷ names) (name_columns (place + 1) ts)
 
-pub heading_names : (form : Form) (ts : List Target)
-    → heading form ts ≡ map entry_name (entry_order form) ++ flat_map (tail_names ts) tail_order
-heading_names form ts = in_parts (λ (c : Column). c.name) form ts
+pub heading_names : (notes : Bool) (ts : List Target)
+    → heading notes ts ≡ map entry_name (entry_order notes) ++ flat_map (tail_names ts) tail_order
+heading_names notes ts = in_parts (λ (c : Column). c.name) notes ts
 
 -- what stands in the columns of a tail does not depend on the entry
 cell_fields : (row : TableRow) (place : ℕ) (ts : List Target)
@@ -226,11 +225,11 @@ same_fields : (row : TableRow) (ts : List Target) (c : TailColumn)
     → map (λ (column : Column). column.field row) (tail_column ts c) ≡ column_texts ts row.outcome row.cells c
 same_fields row ts c = search (rules, cell_fields)
 
-pub fields_in_parts : (form : Form) (ts : List Target) (row : TableRow)
-    → row_fields form ts row ≡ map (entry_field row) (entry_order form) ++ tail_texts ts row.outcome row.cells
-fields_in_parts form ts row =
-    in_parts (λ (c : Column). c.field row) form ts
-    ∙ ap (λ (fields : List (List ℕ)). map (entry_field row) (entry_order form) ++ fields)
+pub fields_in_parts : (notes : Bool) (ts : List Target) (row : TableRow)
+    → row_fields notes ts row ≡ map (entry_field row) (entry_order notes) ++ tail_texts ts row.outcome row.cells
+fields_in_parts notes ts row =
+    in_parts (λ (c : Column). c.field row) notes ts
+    ∙ ap (λ (fields : List (List ℕ)). map (entry_field row) (entry_order notes) ++ fields)
     (same_of_all _ (column_texts ts row.outcome row.cells) (same_fields row ts) tail_order)
 
 -- the name of a target has room

@@ -8,7 +8,7 @@ use Rattle.date_texts.specs.Names.{IsNamed}
 use Rattle.date_texts.specs.Numerals.{IsNumeral}
 use Rattle.date_texts.specs.Trimmed.{trimmed}
 use Rattle.date_texts.proofs.DecisionLemmas.{Is, all_four, both, in_words, is_at_most, is_named, is_number, is_true}
-use Rattle.register_records.specs.Entries.{AreAfterHeader, AreAll, Format, HasRecords, entries_of, record_limit}
+use Rattle.register_records.specs.Entries.{AreAfterHeader, AreAll, HasRecords, Reading, entries_of, record_limit}
 use Rattle.register_records.specs.Entries.{text_records}
 use Rattle.register_records.specs.Headers.{IsHeader}
 use Rattle.register_records.specs.Laws.{Fate, HasFate, OneFate, accepted, no_header, not_sealed, too_many}
@@ -72,9 +72,9 @@ has_records_of form (r ∷ rest) =
     in_words (is_header form r) (λ is. (rest, (r, refl, is)))
     (λ h. let same : h.1.0 ≡ r = cc (h.1.1) in rw same at h.1.2)
 
-one_after : (format : Format) (text : List ℕ) (a b : List Fields) → HasRecords format text a → HasRecords format text b
+one_after : (reading : Reading) (text : List ℕ) (a b : List Fields) → HasRecords reading text a → HasRecords reading text b
     → a ≡ b
-one_after format text a b p q = let e : p.0 ∷ a ≡ q.0 ∷ b = sym p.1 ∙ q.1 in cc
+one_after reading text a b p q = let e : p.0 ∷ a ≡ q.0 ∷ b = sym p.1 ∙ q.1 in cc
 
 -- what a fate says of the records behind the header: no two fates hold of the same records
 abbrev IsFateOf : Form → Fate → List Fields → Type 0
@@ -88,37 +88,37 @@ one_of : (form : Form) (after : List Fields) (fate other : Fate) → IsFateOf fo
 one_of form after fate other h k = search rules
 
 -- the fate of a text with these records behind its header
-module _ (format : Format) (text : List ℕ) (after : List Fields) (has : HasRecords format text after) where
-  of_others : (fate : Fate) (others : List Fields) → HasRecords format text others → IsFateOf format.form fate others
-      → IsFateOf format.form fate after
-  of_others fate others h k = subst (IsFateOf format.form fate) (one_after format text others after h has) k
+module _ (reading : Reading) (text : List ℕ) (after : List Fields) (has : HasRecords reading text after) where
+  of_others : (fate : Fate) (others : List Fields) → HasRecords reading text others → IsFateOf reading.form fate others
+      → IsFateOf reading.form fate after
+  of_others fate others h k = subst (IsFateOf reading.form fate) (one_after reading text others after h has) k
 
-  says : (fate : Fate) → HasFate format text fate → IsFateOf format.form fate after
+  says : (fate : Fate) → HasFate reading text fate → IsFateOf reading.form fate after
   says accepted h = of_others accepted h.1.0 h.1.1 h.1.2
   says no_header h = h after has
   says too_many h = of_others too_many h.0 h.1 h.2
   says not_sealed h = of_others not_sealed h.0 h.1 (h.2, h.3)
 
-  alone : (fate : Fate) → HasFate format text fate
-      → (fate : Fate) × HasFate format text fate × ((other : Fate) → HasFate format text other → other ≡ fate)
-  alone fate h = (fate, h, λ other k. one_of format.form after fate other (says fate h) (says other k))
+  alone : (fate : Fate) → HasFate reading text fate
+      → (fate : Fate) × HasFate reading text fate × ((other : Fate) → HasFate reading text other → other ≡ fate)
+  alone fate h = (fate, h, λ other k. one_of reading.form after fate other (says fate h) (says other k))
 
-  of_records : (fate : Fate) × HasFate format text fate
-      × ((other : Fate) → HasFate format text other → other ≡ fate)
-  of_records = elim (is_at_most (length (entry_records format.form after)) record_limit) [
+  of_records : (fate : Fate) × HasFate reading text fate
+      × ((other : Fate) → HasFate reading text other → other ≡ fate)
+  of_records = elim (is_at_most (length (entry_records reading.form after)) record_limit) [
     | inr more ↦ alone too_many (after, has, omega (arith, more))
-    | inl few ↦ elim (are_closed format.form after) [
-      | inl closed ↦ alone accepted (entries_of format.form after, (after, has, (few, closed), refl))
+    | inl few ↦ elim (are_closed reading.form after) [
+      | inl closed ↦ alone accepted (entries_of reading.form after, (after, has, (few, closed), refl))
       | inr not ↦ alone not_sealed (after, has, few, not)
     ]
   ]
 
-without_header : (format : Format) (text : List ℕ) → ¬ ((after : List Fields) × HasRecords format text after)
-    → (other : Fate) → HasFate format text other → other ≡ no_header
-without_header format text not fate h = search rules
+without_header : (reading : Reading) (text : List ℕ) → ¬ ((after : List Fields) × HasRecords reading text after)
+    → (other : Fate) → HasFate reading text other → other ≡ no_header
+without_header reading text not fate h = search rules
 
 pub one_fate : OneFate
-one_fate format text = elim (has_records_of format.form (text_records format.delimiter text)) [
-  | inl h ↦ of_records format text h.0 h.1
-  | inr not ↦ (no_header, λ after h. not (after, h), without_header format text not)
+one_fate reading text = elim (has_records_of reading.form (text_records reading.delimiter text)) [
+  | inl h ↦ of_records reading text h.0 h.1
+  | inr not ↦ (no_header, λ after h. not (after, h), without_header reading text not)
 ]

@@ -89,4 +89,4 @@ module _ (one_calendar : OneCalendar) (one_date_text : OneDateText) (one_cell : 
       (one_cells one_cell s.outcome targets r.cells s.cells (rw same at a.cells) b.cells)
 
   pub one_table : OneTable
-  one_table layout text entries others rows more h k a b = search (rules, one_beside, one_row)
+  one_table reading targets text entries others rows more h k a b = search (rules, one_beside, one_row)

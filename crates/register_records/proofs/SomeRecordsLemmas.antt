@@ -11,10 +11,10 @@ use Rattle.std.specs.Prelude.{ℤ, ⊤, Err, None, Ok, Result, replicate}
 use Rattle.date_texts.specs.declared.target.Target.{Target}
 use Rattle.date_texts.specs.declared.refusal.Refusal.{Refusal}
 use Rattle.date_texts.specs.declared.refusal.Refusal.TheVariants as refusal
-use Rattle.register_records.specs.Entries.{AreNumberedFrom, HasFirstEntries, Numbered, are_fit}
+use Rattle.register_records.specs.Entries.{AreNumberedFrom, HasFirstEntries, Numbered, Reading, are_fit}
 use Rattle.register_records.specs.Entries.{body_of, entries_from, record_limit}
 use Rattle.register_records.specs.Outcomes.{AreRowsOf, IsOutcome, TableRow}
-use Rattle.register_records.specs.Records.{Fields, Texts}
+use Rattle.register_records.specs.Records.{Fields, Texts, has_notes}
 use Rattle.register_records.specs.Seals.{before_seal, entry_records, is_seal}
 use Rattle.register_records.specs.Seen.{entry_seen}
 use Rattle.register_records.specs.Sources.{IsFrontOfTable}
@@ -98,15 +98,15 @@ entries_made form k [] numbered fit = refl
 entries_made form k (entry ∷ entries) numbered fit =
     search (rules, nat_tests, entry_made, body_made, entries_made form (k + 1) entries numbered.1 fit.2)
 
-some_records : (layout : Layout) (entries : List Numbered) → AreNumberedFrom 1 entries → AreFit entries
-    → HasFirstEntries layout.format None (map (placed_entry layout.format.form) entries)
-some_records layout entries numbered fit = (
+some_records : (reading : Reading) (entries : List Numbered) → AreNumberedFrom 1 entries → AreFit entries
+    → HasFirstEntries reading None (map (placed_entry reading.form) entries)
+some_records reading entries numbered fit = (
   [],
   (
-    records_of layout.format.form entries,
+    records_of reading.form entries,
     tt,
-    append-nil _ ∙ sym (ap (entries_from layout.format.form 0) (all_records layout.format.form entries)
-        ∙ entries_made layout.format.form 0 entries numbered fit),
+    append-nil _ ∙ sym (ap (entries_from reading.form 0) (all_records reading.form entries)
+        ∙ entries_made reading.form 0 entries numbered fit),
   ),
 )
 
@@ -132,23 +132,23 @@ rows_placed form targets entries rows are = search (rules, placed, of_form)
 
 -- and their fields and lines
 fields_placed : (form : Form) (targets : List Target) (row : TableRow)
-    → row_fields form targets (placed_row form row) ≡ row_fields form targets row
+    → row_fields (has_notes form) targets (placed_row form row) ≡ row_fields (has_notes form) targets row
 fields_placed form targets row = search (rules, fields_in_parts, placed_row)
 
-lines_placed : (layout : Layout) (rows : List TableRow)
-    → lines_text layout (map (placed_row layout.format.form) rows) ≡ lines_text layout rows
+lines_placed : (form : Form) (layout : Layout) → layout.writing.has_notes ≡ has_notes form → (rows : List TableRow)
+    → lines_text layout (map (placed_row form) rows) ≡ lines_text layout rows
 unfolding lines_text
-lines_placed layout [] = refl
-lines_placed layout (row ∷ rows) =
-    grind (arith, fields_placed layout.format.form layout.targets row, lines_placed layout rows)
+lines_placed form layout notes [] = refl
+lines_placed form layout notes (row ∷ rows) =
+    grind (arith, notes, fields_placed form layout.targets row, lines_placed form layout notes rows)
 
 -- rows are the first rows of some records, by what an entry may hold
-pub front_of_some : (layout : Layout) (rows : List Row)
-    → AreNumberedFrom 1 (map (λ (row : Row). entry_seen row.entry) rows)
+pub front_of_some : (reading : Reading) (layout : Layout) → layout.writing.has_notes ≡ has_notes reading.form
+    → (rows : List Row) → AreNumberedFrom 1 (map (λ (row : Row). entry_seen row.entry) rows)
     → AreRowsOf layout.targets (map (λ (row : Row). entry_seen row.entry) rows) (map row_seen rows)
-    → IsFrontOfTable layout None (length (map row_seen rows)) (table_text layout (map row_seen rows))
-front_of_some layout rows numbered are =
-    let form = layout.format.form in
+    → IsFrontOfTable reading layout None (length (map row_seen rows)) (table_text layout (map row_seen rows))
+front_of_some reading layout notes rows numbered are =
+    let form = reading.form in
     let entries = map (λ (row : Row). entry_seen row.entry) rows in
     record {
       entries = map (placed_entry form) entries;
@@ -156,8 +156,10 @@ front_of_some layout rows numbered are =
       table = record {
         numbered = subst (AreInOrder 1) (entries_made form 0 entries numbered (rows_fit rows)) (in_order form 0 _);
         converted = rows_placed form layout.targets entries (map row_seen rows) are;
-        written = ap (λ (lines : List ℕ). heading_line layout ++ lines) (sym (lines_placed layout (map row_seen rows)));
+        written =
+            ap (λ (lines : List ℕ). heading_line layout ++ lines)
+            (sym (lines_placed form layout notes (map row_seen rows)));
       };
       counted = sym (length-map (map row_seen rows) (placed_row form));
-      first = some_records layout entries numbered (rows_fit rows);
+      first = some_records reading entries numbered (rows_fit rows);
     }

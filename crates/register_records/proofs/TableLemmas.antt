@@ -11,7 +11,7 @@ use Rattle.std.proofs.lemmas.Bool.{false_from_ne_true}
 use Rattle.std.proofs.Math.Logic.{∥∥₁_elim, ∥∥₁_map, ∥∥₁_prop}
 use Rattle.date_texts.specs.declared.target.Target.{Target}
 use Rattle.register_records.specs.Causes.{entry_fault_cause}
-use Rattle.register_records.specs.Entries.{AreNumberedFrom, Format, HasAllEntries, HasEntries, HasFirstEntries}
+use Rattle.register_records.specs.Entries.{AreNumberedFrom, HasAllEntries, HasEntries, HasFirstEntries, Reading}
 use Rattle.register_records.specs.Entries.{Numbered}
 use Rattle.register_records.specs.Laws.{TablesGrow}
 use Rattle.register_records.specs.Outcomes.{AreRowsOf, IsRowOf, TableRow}
@@ -22,7 +22,7 @@ use Rattle.register_records.specs.Tables.{Layout, heading_line, journal_of, line
 use Rattle.register_records.specs.Tables.{table_text}
 use Rattle.register_records.specs.TablesWritten.{HasEnded, Holds, IsNextRow, IsSameTable, IsTableSoFar, entries_seen, has_lost_output, is_headed}
 use Rattle.register_records.specs.TablesWritten.{made_by, made_for, rows_seen, table_fault, waiting_of}
-use Rattle.register_records.specs.Views.{format_of, layout_of, line_of, row_seen, row_targets, waiting_in, writes_by}
+use Rattle.register_records.specs.Views.{layout_of, line_of, reading_of, row_seen, row_targets, waiting_in, writes_by}
 use Rattle.register_records.specs.declared.ends.Cause.{Cause}
 use Rattle.register_records.specs.declared.ends.Cause.TheVariants as cause
 use Rattle.register_records.specs.declared.ends.Note.{Note}
@@ -92,7 +92,7 @@ module _ {W : Type 0} (o : outputs.Ghosts W) (layout : Layout) (given : W) where
   -- the heading was written
   pub stands_headed : (output new : W) (w : RowWriter) (rows : List Row) → IsTableSoFar o layout given output None rows
       → Appends (o.contents output) (o.contents new) (heading_line layout)
-      → o.is_flushed new ≡ true → writes_by w ≡ layout.format → waiting_in w ≡ []
+      → o.is_flushed new ≡ true → writes_by w ≡ layout.writing → waiting_in w ≡ []
       → IsTableSoFar o layout given new (Some w) rows
   stands_headed output new w rows h wrote flushed by none = search (rules, no_lines, appends_heading)
 
@@ -183,18 +183,19 @@ pub only_not_sealed : (f : EntryFault) (c : Cause) → c ≡ entry_fault_cause f
 only_not_sealed f c a is = search rules
 
 -- what holds of the text and the entries of a reader
-pub of_reader : (Is : Format → Option (List ℕ) → List Numbered → Type 0) (d e : Format) (text known : Option (List ℕ))
+pub of_reader : (Is : Reading → Option (List ℕ) → List Numbered → Type 0) (d e : Reading) (text known : Option (List ℕ))
     (entries given : List Numbered) → known ≡ text → e ≡ d → given ≡ entries → ∥ Is e known given ∥₁
     → ∥ Is d text entries ∥₁
 of_reader Is d e text known entries given a b c h = rw (a, b, c) at h
 
 -- how a table ended
-pub ends_whole : {W : Type 0} (e : SourceEnd) (table : Table W) (layout : Layout) (text old now : Option (List ℕ))
+pub ends_whole : {W : Type 0} (e : SourceEnd) (table : Table W) (reading : Reading) (layout : Layout)
+    (text old now : Option (List ℕ))
     → IfWhole e (HasEnded table)
-    → ∥ Gains old now (IsWholeTable layout text table.rows (length table.journal.items) table.journal.items) ∥₁
-    → IfWhole e (λ rows refused journal. ∥ Gains old now (IsWholeTable layout text rows refused journal) ∥₁)
-ends_whole (end.Whole rows refused journal) table layout text old now is h = rw (is.1, is.2, is.3) h
-ends_whole (end.Broken c) table layout text old now is h = tt
+    → ∥ Gains old now (IsWholeTable reading layout text table.rows (length table.journal.items) table.journal.items) ∥₁
+    → IfWhole e (λ rows refused journal. ∥ Gains old now (IsWholeTable reading layout text rows refused journal) ∥₁)
+ends_whole (end.Whole rows refused journal) table reading layout text old now is h = rw (is.1, is.2, is.3) h
+ends_whole (end.Broken c) table reading layout text old now is h = tt
 
 pub ends_so : (e : SourceEnd) (IsSo : Type 0) → IsSo → IfWhole e (λ rows refused journal. IsSo)
 ends_so (end.Whole rows refused journal) IsSo is = is
@@ -238,6 +239,9 @@ waited (state.OutputFailed c) w good sent = absurd (cc)
 -- a table of which no line waits
 module _ {W : Type 0} (o : outputs.Ghosts W) (table : Table W) (output : W) (rows : List Row)
     (holds : Holds o table output rows) (sent : waiting_of table ≡ []) where
+  abbrev reading : Reading
+  reading = reading_of table.setup
+
   abbrev layout : Layout
   layout = layout_of table.setup
 
@@ -280,8 +284,8 @@ module _ {W : Type 0} (o : outputs.Ghosts W) (table : Table W) (output : W) (row
   gained_so AreSo true b good none some = (bytes, some b, (written good b).0)
 
   module _ (text : Option (List ℕ)) (are : AreRows) (good : has_lost_output table ≡ false) where
-    pub front_so : (count : ℕ) → count ≡ length rows → HasFirstEntries layout.format text (entries_seen rows)
-        → IsFrontOfTable layout text count bytes
+    pub front_so : (count : ℕ) → count ≡ length rows → HasFirstEntries reading text (entries_seen rows)
+        → IsFrontOfTable reading layout text count bytes
     front_so count counted first = record {
       entries = entries_seen rows;
       rows = rows_seen rows;
@@ -291,8 +295,8 @@ module _ {W : Type 0} (o : outputs.Ghosts W) (table : Table W) (output : W) (row
     }
 
     pub whole_so : (count : ℕ) → count ≡ length rows → is_headed table ≡ true
-        → HasEntries layout.format text (entries_seen rows)
-        → Gained (IsWholeTable layout text count (length table.journal.items) table.journal.items)
+        → HasEntries reading text (entries_seen rows)
+        → Gained (IsWholeTable reading layout text count (length table.journal.items) table.journal.items)
     whole_so count counted some accepted = (
       bytes,
       record {
@@ -307,8 +311,8 @@ module _ {W : Type 0} (o : outputs.Ghosts W) (table : Table W) (output : W) (row
       (written good some).0,
     )
 
-    pub all_so : is_headed table ≡ true → HasAllEntries layout.format text (entries_seen rows)
-        → Gained (IsTableOfAll layout text)
+    pub all_so : is_headed table ≡ true → HasAllEntries reading text (entries_seen rows)
+        → Gained (IsTableOfAll reading layout text)
     all_so some all = (
       bytes,
       record { entries = entries_seen rows; rows = rows_seen rows; table = table_is are; all = all },
@@ -323,7 +327,7 @@ pub record Follows {W : Type 0} (o : outputs.Ghosts W) (start : W) (setup : Setu
   pub holds : Holds o table output rows
   pub same : (made_for table ≡ start) × (made_by table ≡ setup)
   pub all : table_fault table ≡ None → given ≡ entries_seen rows
-  pub first : ∥ HasFirstEntries (format_of setup) text (entries_seen rows) ∥₁
+  pub first : ∥ HasFirstEntries (reading_of setup) text (entries_seen rows) ∥₁
   pub headed : table_fault table ≡ None → is_headed table ≡ true
   pub sent : waiting_of table ≡ []
   pub confirmed : table_fault table ≢ Some cause.Unconfirmed
@@ -343,10 +347,11 @@ module _ {W : Type 0} (o : outputs.Ghosts W) (start : W) (setup : Setup) (text :
   pub kept : table_fault table ≢ Some cause.SinkFault → o.has_failed output ≡ o.has_failed start
   kept other = f.holds.good (has_output other) ∙ ap o.has_failed f.same.0
 
-  pub front : table_fault table ≢ Some cause.SinkFault → HasGained (ArePartOfTable (layout_of setup) text)
+  pub front : table_fault table ≢ Some cause.SinkFault → HasGained (ArePartOfTable (reading_of setup) (layout_of setup) text)
   front other = rw (f.same.0, f.same.1) at (∥∥₁_elim (are_rows o table output f.rows f.holds f.sent) ∥∥₁_prop (λ are.
       ∥∥₁_map (rw (sym f.same.1) at f.first) (λ first.
-      gained_so o table output f.rows f.holds f.sent (ArePartOfTable (layout_of (made_by table)) text) (is_headed table)
+      gained_so o table output f.rows f.holds f.sent
+      (ArePartOfTable (reading_of (made_by table)) (layout_of (made_by table)) text) (is_headed table)
       refl (has_output other) (λ none. inl refl)
       (λ some. inr (
         length f.rows,
@@ -362,18 +367,20 @@ module _ {W : Type 0} (o : outputs.Ghosts W) (start : W) (setup : Setup) (text :
     pub flushed : o.is_flushed output ≡ true
     flushed = (written o table output f.rows f.holds f.sent good (f.headed open_)).1
 
-    pub whole_rows : ∥ HasEntries (format_of setup) text given ∥₁
-        → HasGained (IsWholeTable (layout_of setup) text table.rows (length table.journal.items) table.journal.items)
+    pub whole_rows : ∥ HasEntries (reading_of setup) text given ∥₁
+        → HasGained (IsWholeTable (reading_of setup) (layout_of setup) text table.rows (length table.journal.items)
+        table.journal.items)
     whole_rows h = rw (f.same.0, f.same.1) at (∥∥₁_elim (are_rows o table output f.rows f.holds f.sent) ∥∥₁_prop (λ are.
         ∥∥₁_map (rw (sym f.same.1, f.all open_) at h)
         (whole_so o table output f.rows f.holds f.sent text are good table.rows (sym f.holds.counted)
         (f.headed open_))))
 
-    pub first_rows : (count : ℕ) → length given ≡ count → HasGained (IsFrontOfTable (layout_of setup) text count)
+    pub first_rows : (count : ℕ) → length given ≡ count
+        → HasGained (IsFrontOfTable (reading_of setup) (layout_of setup) text count)
     first_rows count counted =
         let length_is = sym counted ∙ ap length (f.all open_) ∙ length-map f.rows (λ (row : Row). entry_seen row.entry) in
         let gains : ∥ Gains (o.contents (made_for table)) (o.contents output)
-        (IsFrontOfTable (layout_of (made_by table)) text count) ∥₁
+        (IsFrontOfTable (reading_of (made_by table)) (layout_of (made_by table)) text count) ∥₁
         = ∥∥₁_elim (are_rows o table output f.rows f.holds f.sent) ∥∥₁_prop (λ are.
         ∥∥₁_map (rw (sym f.same.1) at f.first) (λ first. (
           table_text (layout_of (made_by table)) (rows_seen f.rows),
@@ -381,7 +388,8 @@ module _ {W : Type 0} (o : outputs.Ghosts W) (start : W) (setup : Setup) (text :
           (written o table output f.rows f.holds f.sent good (f.headed open_)).0,
         ))) in rw (f.same.0, f.same.1) at gains
 
-    pub all_rows : ∥ HasAllEntries (format_of setup) text given ∥₁ → HasGained (IsTableOfAll (layout_of setup) text)
+    pub all_rows : ∥ HasAllEntries (reading_of setup) text given ∥₁
+        → HasGained (IsTableOfAll (reading_of setup) (layout_of setup) text)
     all_rows h = rw (f.same.0, f.same.1) at (∥∥₁_elim (are_rows o table output f.rows f.holds f.sent) ∥∥₁_prop (λ are.
         ∥∥₁_map (rw (sym f.same.1, f.all open_) at h)
         (all_so o table output f.rows f.holds f.sent text are good (f.headed open_))))

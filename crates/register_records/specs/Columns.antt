@@ -1,5 +1,5 @@
 -- The columns of a table: their order, their names, and what stands in them.
-use Rattle.std.specs.Prelude.{◌+◌, ℕ, ℤ, List, [], ◌∷◌, ◌++◌, codes, get_or, map, Option}
+use Rattle.std.specs.Prelude.{◌+◌, Bool, true, false, ℕ, ℤ, List, [], ◌∷◌, ◌++◌, codes, get_or, map, Option}
 use Rattle.std.specs.Fmt.{decimal, signed_decimal}
 use Rattle.std.specs.List.{flat_map}
 use Rattle.std.specs.Option.{option_map_or}
@@ -9,20 +9,22 @@ use Rattle.date_texts.specs.Calendars.{target_name}
 use Rattle.date_texts.specs.Refusals.{refusal_number}
 use Rattle.date_texts.specs.declared.target.Target.{Target}
 use Rattle.date_texts.specs.declared.refusal.Refusal.{Refusal}
-use Rattle.register_records.specs.Entries.{Format}
 use Rattle.register_records.specs.Outcomes.{TableRow}
 use Rattle.register_records.specs.Records.{Texts}
-use Rattle.register_records.specs.declared.setups.Form.{Form}
-use Rattle.register_records.specs.declared.setups.Form.TheVariants.{Plain, Sealed}
 use Rattle.register_records.specs.declared.table_columns.EntryColumn.{EntryColumn}
 use Rattle.register_records.specs.declared.table_columns.EntryColumn.TheVariants.{Calendar, Date, Id, Note, Number}
 use Rattle.register_records.specs.declared.table_columns.TailColumn.{TailColumn}
 use Rattle.register_records.specs.declared.table_columns.TailColumn.TheVariants.{Cells, DayNumber, Weekday}
 use Rattle.register_records.specs.declared.table_columns.TailColumn.TheVariants.{Refusal as RefusalColumn}
 
--- what a table is asked for: how it is written, and the targets of its columns
+-- how a line is written: the byte between two fields, and whether there is a column of notes
+pub record Writing : Type 0 where
+  pub delimiter : ℕ
+  pub has_notes : Bool
+
+-- how a table is written: its lines, and the targets of its columns
 pub record Layout : Type 0 where
-  pub format : Format
+  pub writing : Writing
   pub targets : List Target
 
 -- a column: its name, and what stands in it in a row
@@ -37,11 +39,11 @@ column name field = record { name = name; field = field }
 abbrev pub shown : {A : Type 0} → (A → List ℕ) → Option A → List ℕ
 shown text value = option_map_or text value []
 
--- the columns of an entry, in order, with notes where the form is sealed: its number, and its texts, which a record
--- that was refused before has not
-abbrev pub entry_order : Form → List EntryColumn
-entry_order Plain = Number ∷ Id ∷ Calendar ∷ Date ∷ []
-entry_order Sealed = Number ∷ Id ∷ Calendar ∷ Date ∷ Note ∷ []
+-- the columns of an entry, in order, without notes or with them: its number, and its texts, which a record that was
+-- refused before has not
+abbrev pub entry_order : Bool → List EntryColumn
+entry_order false = Number ∷ Id ∷ Calendar ∷ Date ∷ []
+entry_order true = Number ∷ Id ∷ Calendar ∷ Date ∷ Note ∷ []
 
 abbrev pub entry_column : EntryColumn → Column
 entry_column Number = column (codes "row") (λ row. decimal row.number)
@@ -72,4 +74,4 @@ tail_column targets RefusalColumn =
 
 -- the columns of a table, in order
 abbrev pub columns : Layout → List Column
-columns layout = map entry_column (entry_order layout.format.form) ++ flat_map (tail_column layout.targets) tail_order
+columns layout = map entry_column (entry_order layout.writing.has_notes) ++ flat_map (tail_column layout.targets) tail_order

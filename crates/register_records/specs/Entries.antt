@@ -14,8 +14,8 @@ use Rattle.register_records.specs.declared.entries.Body.{Body}
 use Rattle.register_records.specs.declared.entries.Body.TheVariants as body
 use Rattle.register_records.specs.declared.setups.Form.{Form}
 
--- how a register is written, and its table: the byte between two fields, and the form
-pub record Format : Type 0 where
+-- how a register is read: the byte between two fields, and the form
+pub record Reading : Type 0 where
   pub delimiter : ℕ
   pub form : Form
 
@@ -28,12 +28,12 @@ abbrev pub AreAfterHeader : Form → List Fields → List Fields → Type 0
 AreAfterHeader form records after = (header : Fields) × (records ≡ header ∷ after) × IsHeader form header
 
 -- the first record of the text is an accepted header, and these records follow it
-abbrev pub HasRecords : Format → List ℕ → List Fields → Type 0
-HasRecords format text after = AreAfterHeader format.form (text_records format.delimiter text) after
+abbrev pub HasRecords : Reading → List ℕ → List Fields → Type 0
+HasRecords reading text after = AreAfterHeader reading.form (text_records reading.delimiter text) after
 
 -- the first record of the text is no accepted header, or there is none
-abbrev pub HasNoHeader : Format → List ℕ → Type 0
-HasNoHeader format text = (after : List Fields) → HasRecords format text after → ⊥
+abbrev pub HasNoHeader : Reading → List ℕ → Type 0
+HasNoHeader reading text = (after : List Fields) → HasRecords reading text after → ⊥
 
 -- no text is over its limit in bytes
 abbrev pub are_short : Texts → Bool
@@ -104,20 +104,20 @@ AreAccepted form records = (after : List Fields) × AreAfterHeader form records 
 
 -- the text is accepted, and these are its entries. A text may be unknown: then they are those of some records that
 -- could follow an accepted header and are all that a text may have
-abbrev pub HasEntries : Format → Option (List ℕ) → List Numbered → Type 0
-HasEntries format text entries =
-    (after : List Fields) × IfSome text (λ t. HasRecords format t after) × AreAll format.form after
-    × (entries ≡ entries_of format.form after)
+abbrev pub HasEntries : Reading → Option (List ℕ) → List Numbered → Type 0
+HasEntries reading text entries =
+    (after : List Fields) × IfSome text (λ t. HasRecords reading t after) × AreAll reading.form after
+    × (entries ≡ entries_of reading.form after)
 
 -- the text has an accepted header, and these are all its entries, be it accepted or not; where it is unknown, they are
 -- those of some records
-abbrev pub HasAllEntries : Format → Option (List ℕ) → List Numbered → Type 0
-HasAllEntries format text entries =
-    (after : List Fields) × IfSome text (λ t. HasRecords format t after) × (entries ≡ entries_of format.form after)
+abbrev pub HasAllEntries : Reading → Option (List ℕ) → List Numbered → Type 0
+HasAllEntries reading text entries =
+    (after : List Fields) × IfSome text (λ t. HasRecords reading t after) × (entries ≡ entries_of reading.form after)
 
 -- these are the first of them
-abbrev pub HasFirstEntries : Format → Option (List ℕ) → List Numbered → Type 0
-HasFirstEntries format text entries = (rest : List Numbered) × HasAllEntries format text (entries ++ rest)
+abbrev pub HasFirstEntries : Reading → Option (List ℕ) → List Numbered → Type 0
+HasFirstEntries reading text entries = (rest : List Numbered) × HasAllEntries reading text (entries ++ rest)
 
 -- these entries are numbered in order, the first with this number
 abbrev pub AreNumberedFrom : ℕ → List Numbered → Type 0
@@ -125,12 +125,12 @@ AreNumberedFrom k [] = ⊤
 AreNumberedFrom k (entry ∷ entries) = (entry.number ≡ k) × AreNumberedFrom (k + 1) entries
 
 -- more records follow the accepted header of the text than a source may have, and none of them is a seal
-abbrev pub HasTooMany : Format → List ℕ → Type 0
-HasTooMany format text =
-    (after : List Fields) × HasRecords format text after × (record_limit < length (entry_records format.form after))
+abbrev pub HasTooMany : Reading → List ℕ → Type 0
+HasTooMany reading text =
+    (after : List Fields) × HasRecords reading text after × (record_limit < length (entry_records reading.form after))
 
 -- the text has an accepted header and not too many records, but they are not closed as the form wants it
-abbrev pub IsNotSealed : Format → List ℕ → Type 0
-IsNotSealed format text =
-    (after : List Fields) × HasRecords format text after × (length (entry_records format.form after) ≤ record_limit)
-    × ¬ (AreClosed format.form after)
+abbrev pub IsNotSealed : Reading → List ℕ → Type 0
+IsNotSealed reading text =
+    (after : List Fields) × HasRecords reading text after × (length (entry_records reading.form after) ≤ record_limit)
+    × ¬ (AreClosed reading.form after)

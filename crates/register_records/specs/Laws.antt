@@ -5,9 +5,10 @@ use Rattle.date_texts.specs.Calendars.{calendar_name}
 use Rattle.date_texts.specs.Cells.{IsCell}
 use Rattle.date_texts.specs.Names.{IsNamed}
 use Rattle.date_texts.specs.declared.calendar.Calendar.{Calendar}
+use Rattle.date_texts.specs.declared.target.Target.{Target}
 use Rattle.date_texts.specs.declared.target.Target.TheVariants.{Date as DateTarget}
-use Rattle.register_records.specs.Entries.{AreAccepted, Fields, Format, HasEntries, HasNoHeader, HasTooMany}
-use Rattle.register_records.specs.Entries.{IsNotSealed, Numbered, Texts}
+use Rattle.register_records.specs.Entries.{AreAccepted, Fields, HasEntries, HasNoHeader, HasTooMany}
+use Rattle.register_records.specs.Entries.{IsNotSealed, Numbered, Reading, Texts}
 use Rattle.register_records.specs.Outcomes.{AreRowsOf, IsOutcome, TableRow}
 use Rattle.register_records.specs.Sources.{IsWholeTable}
 use Rattle.register_records.specs.Tables.{Layout, journal_of, refusal_notes, row_line, table_text}
@@ -18,16 +19,18 @@ use Rattle.register_records.specs.declared.ends.Note.{Note}
 -- table and one journal at most
 abbrev pub OneTable : Type 0
 OneTable =
-    (layout : Layout) (text : List ℕ) (entries others : List Numbered) (rows more : List TableRow)
-    → HasEntries layout.format (Some text) entries → HasEntries layout.format (Some text) others
-    → AreRowsOf layout.targets entries rows → AreRowsOf layout.targets others more → (entries ≡ others) × (rows ≡ more)
+    (reading : Reading) (targets : List Target) (text : List ℕ) (entries others : List Numbered)
+    (rows more : List TableRow)
+    → HasEntries reading (Some text) entries → HasEntries reading (Some text) others
+    → AreRowsOf targets entries rows → AreRowsOf targets others more → (entries ≡ others) × (rows ≡ more)
 
 -- an accepted text has a whole table
 abbrev pub EveryTextHasTable : Type 0
 EveryTextHasTable =
-    (layout : Layout) (text : List ℕ) (entries : List Numbered) → HasEntries layout.format (Some text) entries
+    (reading : Reading) (layout : Layout) (text : List ℕ) (entries : List Numbered)
+    → HasEntries reading (Some text) entries
     → (count : ℕ) × (refused : ℕ) × (journal : List Note) × (bytes : List ℕ)
-    × IsWholeTable layout (Some text) count refused journal bytes
+    × IsWholeTable reading layout (Some text) count refused journal bytes
 
 -- a cell of a calendar that is not empty, read as a date of that calendar, gives the cell's day again
 abbrev pub CellsReadBack : Type 0
@@ -61,14 +64,14 @@ pub data Fate : Type 0 where
   too_many : Fate
   not_sealed : Fate
 
-abbrev pub HasFate : Format → List ℕ → Fate → Type 0
-HasFate format text accepted = (entries : List Numbered) × HasEntries format (Some text) entries
-HasFate format text no_header = HasNoHeader format text
-HasFate format text too_many = HasTooMany format text
-HasFate format text not_sealed = IsNotSealed format text
+abbrev pub HasFate : Reading → List ℕ → Fate → Type 0
+HasFate reading text accepted = (entries : List Numbered) × HasEntries reading (Some text) entries
+HasFate reading text no_header = HasNoHeader reading text
+HasFate reading text too_many = HasTooMany reading text
+HasFate reading text not_sealed = IsNotSealed reading text
 
 -- a text has one of these fates, and no other
 abbrev pub OneFate : Type 0
 OneFate =
-    (format : Format) (text : List ℕ)
-    → (fate : Fate) × HasFate format text fate × ((other : Fate) → HasFate format text other → other ≡ fate)
+    (reading : Reading) (text : List ℕ)
+    → (fate : Fate) × HasFate reading text fate × ((other : Fate) → HasFate reading text other → other ≡ fate)

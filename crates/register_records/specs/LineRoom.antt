@@ -1,5 +1,5 @@
 -- How a line is written, and how many bytes its fields take at most. No public contract cites this file.
-use Rattle.std.specs.Prelude.{◌≡◌, ◌≤◌, ◌+◌, ◌*◌, ◌++◌, ℕ, List, [], ◌∷◌, drop, length}
+use Rattle.std.specs.Prelude.{◌≡◌, ◌≤◌, ◌+◌, ◌*◌, ◌++◌, true, ℕ, List, [], ◌∷◌, drop, length}
 use Rattle.csv.specs.Writing.{default_writer, row_body, with_delimiter}
 use Rattle.csv.specs.declared.writer.WriterBuilder.{WriterBuilder}
 use Rattle.date_texts.specs.declared.target.TheConstants.{MAX_TARGETS}
@@ -7,7 +7,6 @@ use Rattle.register_records.specs.Columns.{entry_order}
 use Rattle.register_records.specs.declared.entries.TheConstants.{CALENDAR_LIMIT, DATE_LIMIT, ID_LIMIT, NOTE_LIMIT}
 use Rattle.register_records.specs.declared.row_tails.TheConstants.{CELL_ROOM, DAY_NUMBER_LIMIT}
 use Rattle.register_records.specs.declared.row_tails.TheConstants.{REFUSAL_LIMIT, WEEKDAY_LIMIT}
-use Rattle.register_records.specs.declared.setups.Form.TheVariants.{Sealed}
 use Rattle.register_records.specs.declared.table_columns.EntryColumn.{EntryColumn}
 use Rattle.register_records.specs.declared.table_columns.EntryColumn.TheVariants.{Calendar, Date, Id, Note, Number}
 use Rattle.register_records.specs.declared.table_columns.TailColumn.{TailColumn}
@@ -60,7 +59,7 @@ columns_room room (column ∷ columns) = room column + columns_room room columns
 
 -- what a row has of its entry: the number, and the texts
 abbrev pub entry_room : ℕ
-entry_room = number_room + columns_room quoted_room (drop 1 (entry_order Sealed))
+entry_room = number_room + columns_room quoted_room (drop 1 (entry_order true))
 
 -- the names that head columns, of which each has so many bytes at most
 abbrev pub name_limit : ℕ

@@ -9,7 +9,7 @@ use Rattle.csv.specs.declared.parser.Config.{Config}
 use Rattle.csv.specs.declared.parser.State.{State}
 use Rattle.csv.specs.declared.reader.Reader.{Reader}
 use Rattle.csv.specs.declared.reader.Trim.TheVariants as trim
-use Rattle.register_records.specs.Entries.{Fields, Format, HasEntries, HasRecords, Numbered, body_of, body_seen}
+use Rattle.register_records.specs.Entries.{Fields, HasEntries, HasRecords, Numbered, Reading, body_of, body_seen}
 use Rattle.register_records.specs.Entries.{entries_from}
 use Rattle.register_records.specs.Seals.{Agrees, entry_records, is_seal}
 use Rattle.register_records.specs.declared.entries.Entry.{Entry}
@@ -21,8 +21,8 @@ use Rattle.register_records.specs.declared.reading.ReaderState.{ReaderState}
 use Rattle.register_records.specs.declared.reading.ReaderState.TheVariants as states
 
 -- a delimiter and a form
-abbrev pub format_by : ℕ → Form → Format
-format_by delimiter form = record { delimiter = delimiter; form = form }
+abbrev pub reading_by : ℕ → Form → Reading
+reading_by delimiter form = record { delimiter = delimiter; form = form }
 
 -- what an error of csv's reader means: a fault of reading, or out of memory; it gives no other here
 abbrev pub fault_of : ErrorKind → EntryFault
@@ -96,15 +96,15 @@ HasEntry form records = 0 < length (entry_records form records)
 
 -- these entries are the first of a text, which may be unknown. While no call failed and none found that no entry is
 -- left, those of the records that are left follow them; once a call found it so, they are all
-pub record HasRead (format : Format) (text : Option (List ℕ)) (state : ReaderState) (left : Option (List Fields))
+pub record HasRead (reading : Reading) (text : Option (List ℕ)) (state : ReaderState) (left : Option (List Fields))
     (given : List Numbered)
     : Type 0 where
   pub past : List Fields
   pub rest : List Fields
-  pub accepted : IfSome text (λ t. HasRecords format t (past ++ rest))
+  pub accepted : IfSome text (λ t. HasRecords reading t (past ++ rest))
   pub counted : length past ≡ length given
-  pub no_seal : (more : List Fields) → entry_records format.form (past ++ more) ≡ past ++ entry_records format.form more
+  pub no_seal : (more : List Fields) → entry_records reading.form (past ++ more) ≡ past ++ entry_records reading.form more
   pub followed : (more : List Fields)
-      → entries_from format.form 0 (past ++ more) ≡ given ++ entries_from format.form (length given) more
+      → entries_from reading.form 0 (past ++ more) ≡ given ++ entries_from reading.form (length given) more
   pub left_is : state ≡ states.Open → IfSome text (λ t. left ≡ Some rest)
-  pub ended : state ≡ states.Ended → HasEntries format text given
+  pub ended : state ≡ states.Ended → HasEntries reading text given

@@ -1,5 +1,5 @@
 -- A record of a register, and its texts.
-use Rattle.std.specs.Prelude.{ℕ, List, [], ◌∷◌, Option, Some, None}
+use Rattle.std.specs.Prelude.{Bool, true, false, ℕ, List, [], ◌∷◌, Option, Some, None}
 use Rattle.register_records.specs.declared.setups.Form.{Form}
 use Rattle.register_records.specs.declared.setups.Form.TheVariants.{Plain, Sealed}
 
@@ -11,6 +11,11 @@ Fields = List (List ℕ)
 abbrev pub field_count : Form → ℕ
 field_count Plain = 3
 field_count Sealed = 4
+
+-- whether the last of them is a note, for which a table has a column
+abbrev pub has_notes : Form → Bool
+has_notes Plain = false
+has_notes Sealed = true
 
 -- the texts of a record; the note is empty where the form has none
 pub record Texts : Type 0 where

@@ -2,7 +2,7 @@
 use Rattle.std.specs.Prelude.{◌≡◌, ◌⊎◌, ℕ, List, [], length, map, Option, ⊤, Bool, true, false}
 use Rattle.std.specs.Io.KnownBytes.{Appends}
 use Rattle.std.specs.List.{range_with_len}
-use Rattle.register_records.specs.Entries.{HasAllEntries, HasEntries, HasFirstEntries, Numbered}
+use Rattle.register_records.specs.Entries.{HasAllEntries, HasEntries, HasFirstEntries, Numbered, Reading}
 use Rattle.register_records.specs.Outcomes.{AreRowsOf, TableRow}
 use Rattle.register_records.specs.Tables.{Layout, journal_of, table_text}
 use Rattle.register_records.specs.declared.ends.Cause.{Cause}
@@ -22,34 +22,36 @@ pub record IsTableOf (layout : Layout) (entries : List Numbered) (rows : List Ta
   pub written : bytes ≡ table_text layout rows
 
 -- these bytes are the whole table of the text, which is accepted, with so many rows and refused rows, and this journal
-pub record IsWholeTable (layout : Layout) (text : Option (List ℕ)) (count refused : ℕ) (journal : List Note)
-    (bytes : List ℕ) : Type 0 where
+pub record IsWholeTable (reading : Reading) (layout : Layout) (text : Option (List ℕ)) (count refused : ℕ)
+    (journal : List Note) (bytes : List ℕ) : Type 0 where
   pub entries : List Numbered
   pub rows : List TableRow
   pub table : IsTableOf layout entries rows bytes
   pub counted : count ≡ length rows
   pub noted : journal ≡ journal_of rows
   pub refused_counted : refused ≡ length journal
-  pub accepted : HasEntries layout.format text entries
+  pub accepted : HasEntries reading text entries
 
 -- these bytes are a front of the table: its heading and its first rows, so many
-pub record IsFrontOfTable (layout : Layout) (text : Option (List ℕ)) (count : ℕ) (bytes : List ℕ) : Type 0 where
+pub record IsFrontOfTable (reading : Reading) (layout : Layout) (text : Option (List ℕ)) (count : ℕ) (bytes : List ℕ)
+    : Type 0 where
   pub entries : List Numbered
   pub rows : List TableRow
   pub table : IsTableOf layout entries rows bytes
   pub counted : count ≡ length rows
-  pub first : HasFirstEntries layout.format text entries
+  pub first : HasFirstEntries reading text entries
 
 -- these bytes are the heading and the rows of all entries of the text, which need not be accepted
-pub record IsTableOfAll (layout : Layout) (text : Option (List ℕ)) (bytes : List ℕ) : Type 0 where
+pub record IsTableOfAll (reading : Reading) (layout : Layout) (text : Option (List ℕ)) (bytes : List ℕ) : Type 0 where
   pub entries : List Numbered
   pub rows : List TableRow
   pub table : IsTableOf layout entries rows bytes
-  pub all : HasAllEntries layout.format text entries
+  pub all : HasAllEntries reading text entries
 
 -- these bytes are none, or a front of the table
-abbrev pub ArePartOfTable : Layout → Option (List ℕ) → List ℕ → Type 0
-ArePartOfTable layout text bytes = (bytes ≡ []) ⊎ ((count : ℕ) × IsFrontOfTable layout text count bytes)
+abbrev pub ArePartOfTable : Reading → Layout → Option (List ℕ) → List ℕ → Type 0
+ArePartOfTable reading layout text bytes =
+    (bytes ≡ []) ⊎ ((count : ℕ) × IsFrontOfTable reading layout text count bytes)
 
 abbrev pub IfWhole : SourceEnd → (ℕ → ℕ → List Note → Type 0) → Type 0
 IfWhole (end.Whole rows refused journal) P = P rows refused journal.items

@@ -1,5 +1,5 @@
 -- The columns of a table as the code goes through them. No public contract cites this file.
-use Rattle.std.specs.Prelude.{◌≡◌, ℕ, ℤ, List, [], map, Result, Ok, Err}
+use Rattle.std.specs.Prelude.{◌≡◌, Bool, ℕ, ℤ, List, [], map, Result, Ok, Err}
 use Rattle.std.specs.Result.{result_ok}
 use Rattle.std.specs.List.{flat_map}
 use Rattle.date_texts.specs.Cells.{IsCell}
@@ -9,20 +9,19 @@ use Rattle.date_texts.specs.declared.refusal.Refusal.TheVariants.{FieldCount}
 use Rattle.register_records.specs.Columns.{Column, Layout, columns, entry_column, shown, tail_column, tail_order}
 use Rattle.register_records.specs.Outcomes.{TableRow}
 use Rattle.register_records.specs.Records.{Texts}
-use Rattle.register_records.specs.declared.setups.Form.{Form}
 use Rattle.register_records.specs.declared.table_columns.EntryColumn.{EntryColumn}
 use Rattle.register_records.specs.declared.table_columns.EntryColumn.TheVariants.{Calendar, Date, Id, Note, Number}
 use Rattle.register_records.specs.declared.table_columns.TailColumn.{TailColumn}
 
--- a layout of this form, whatever its delimiter; the heading, and the fields of a row
-abbrev pub laid_out : Form → List Target → Layout
-laid_out form targets = record { format = record { delimiter = 0; form = form }; targets = targets }
+-- a layout with notes or without, whatever its delimiter; the heading, and the fields of a row
+abbrev pub laid_out : Bool → List Target → Layout
+laid_out notes targets = record { writing = record { delimiter = 0; has_notes = notes }; targets = targets }
 
-abbrev pub heading : Form → List Target → List (List ℕ)
-heading form targets = map (λ (c : Column). c.name) (columns (laid_out form targets))
+abbrev pub heading : Bool → List Target → List (List ℕ)
+heading notes targets = map (λ (c : Column). c.name) (columns (laid_out notes targets))
 
-abbrev pub row_fields : Form → List Target → TableRow → List (List ℕ)
-row_fields form targets row = map (λ (c : Column). c.field row) (columns (laid_out form targets))
+abbrev pub row_fields : Bool → List Target → TableRow → List (List ℕ)
+row_fields notes targets row = map (λ (c : Column). c.field row) (columns (laid_out notes targets))
 
 -- what heads a column of an entry, and what stands in it
 abbrev pub entry_name : EntryColumn → List ℕ

@@ -2,7 +2,7 @@
 use Rattle.std.specs.Prelude.{ℕ, ℤ, List, [], ◌∷◌, ◌++◌, map, Result, Ok, Err}
 use Rattle.std.specs.List.{flat_map}
 use Rattle.register_records.specs.Columns.{Column, columns}
-pub use Rattle.register_records.specs.Columns.{Layout}
+pub use Rattle.register_records.specs.Columns.{Layout, Writing}
 use Rattle.register_records.specs.Lines.{line_text}
 use Rattle.register_records.specs.Outcomes.{TableRow}
 use Rattle.date_texts.specs.declared.refusal.Refusal.{Refusal}
@@ -10,11 +10,11 @@ use Rattle.register_records.specs.declared.ends.Note.{Note}
 
 -- the line of the heading: the names of the columns
 abbrev pub heading_line : Layout → List ℕ
-heading_line layout = line_text layout.format.delimiter (map (λ (c : Column). c.name) (columns layout))
+heading_line layout = line_text layout.writing.delimiter (map (λ (c : Column). c.name) (columns layout))
 
 -- the line of a row: what stands in the columns
 abbrev pub row_line : Layout → TableRow → List ℕ
-row_line layout row = line_text layout.format.delimiter (map (λ (c : Column). c.field row) (columns layout))
+row_line layout row = line_text layout.writing.delimiter (map (λ (c : Column). c.field row) (columns layout))
 
 -- the lines of rows, in order
 unfoldable pub lines_text : Layout → List TableRow → List ℕ

@@ -30,7 +30,7 @@ abbrev pub IsTableSoFar : {W : Type 0} → outputs.Ghosts W → Layout → W →
 IsTableSoFar o layout given output None rows = (output ≡ given) × (rows ≡ [])
 IsTableSoFar o layout given output (Some w) rows =
     Appends (o.contents given) (append_known (o.contents output) (waiting_in w)) (table_text layout (rows_seen rows))
-    × (o.is_flushed output ≡ true) × (writes_by w ≡ layout.format)
+    × (o.is_flushed output ≡ true) × (writes_by w ≡ layout.writing)
 
 module _ {W : Type 0} where
   -- the output before the heading, and the setup

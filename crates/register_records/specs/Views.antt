@@ -3,12 +3,13 @@ use Rattle.std.specs.Prelude.{Bool, ℕ, List, Option, take}
 use Rattle.std.specs.declared.io.traits.Read.{Ghosts}
 use Rattle.date_texts.specs.declared.target.Target.{Target}
 use Rattle.register_records.specs.RowTails.{cells_of}
-use Rattle.register_records.specs.Entries.{Format, Numbered}
+use Rattle.register_records.specs.Entries.{Numbered, Reading}
 use Rattle.register_records.specs.Outcomes.{TableRow}
+use Rattle.register_records.specs.Records.{has_notes}
 use Rattle.register_records.specs.Seen.{has_ended, has_failed, has_stopped, output_failed, row_made}
 use Rattle.register_records.specs.ShortLists.{items_in}
 use Rattle.register_records.specs.TableColumns.{tail_texts}
-use Rattle.register_records.specs.Tables.{Layout, row_line}
+use Rattle.register_records.specs.Tables.{Layout, Writing, row_line}
 use Rattle.register_records.specs.declared.reading.EntryReader.{EntryReader}
 use Rattle.register_records.specs.declared.rows.Row.{Row}
 use Rattle.register_records.specs.declared.setups.Setup.{Setup}
@@ -18,19 +19,21 @@ use Rattle.register_records.specs.declared.writing.RowWriter.{RowWriter}
 abbrev pub targets_of : Setup → List Target
 targets_of setup = items_in setup.targets.items
 
--- how registers and tables are written
-abbrev pub format_of : Setup → Format
-format_of setup = record { delimiter = setup.delimiter; form = setup.form }
+-- how it has registers read, and how it has lines and tables written
+abbrev pub reading_of : Setup → Reading
+reading_of setup = record { delimiter = setup.delimiter; form = setup.form }
 
--- what it asks of a table
+abbrev pub writing_of : Setup → Writing
+writing_of setup = record { delimiter = setup.delimiter; has_notes = has_notes setup.form }
+
 abbrev pub layout_of : Setup → Layout
-layout_of setup = record { format = format_of setup; targets = items_in setup.targets.items }
+layout_of setup = record { writing = writing_of setup; targets = items_in setup.targets.items }
 
 -- the text that a reader was opened on, where the bytes of the reader underneath were known; and how it reads that text
 abbrev pub text_of : {R : Type 0} {g : Ghosts R} → EntryReader R g → Option (List ℕ)
 text_of {g} r = g.remaining r.source.value
 
-abbrev pub reads_by : {R : Type 0} {g : Ghosts R} → EntryReader R g → Format
+abbrev pub reads_by : {R : Type 0} {g : Ghosts R} → EntryReader R g → Reading
 reads_by r = record { delimiter = r.delimiter; form = r.form }
 
 -- a call returned a fault; a call found that no entry is left
@@ -56,8 +59,8 @@ abbrev pub tail_fields : Row → List (List ℕ)
 tail_fields row = tail_texts (row_targets row) (row_seen row).outcome (row_seen row).cells
 
 -- how a writer writes lines
-abbrev pub writes_by : RowWriter → Format
-writes_by w = record { delimiter = w.lines.delimiter; form = w.form }
+abbrev pub writes_by : RowWriter → Writing
+writes_by w = record { delimiter = w.lines.delimiter; has_notes = w.has_notes }
 
 -- a call of the writer returned a fault; its output failed
 abbrev pub writer_failed : RowWriter → Bool
@@ -72,4 +75,4 @@ waiting_in w = take w.lines.len w.lines.bytes.items
 
 -- the line that it makes of a row
 abbrev pub line_of : RowWriter → Row → List ℕ
-line_of w row = row_line (record { format = writes_by w; targets = row_targets row }) (row_seen row)
+line_of w row = row_line (record { writing = writes_by w; targets = row_targets row }) (row_seen row)

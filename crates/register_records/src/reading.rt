@@ -6,7 +6,7 @@ ghost use Rattle.csv.specs.Reading.{error_kind, has_failed, stops_reader};
 ghost use Rattle.csv.specs.Records.{fields_of};
 ghost use Rattle.register_records.specs.Entries.{HasFirstEntries, HaveOneDate, body_seen, record_limit};
 ghost use Rattle.register_records.specs.ReadingState.{Ends, Gives, HasBegun, HasEntry, IsLive, IsOfReading, LacksSeal};
-ghost use Rattle.register_records.specs.ReadingState.{Reads, HasRead, fault_of, format_by, records_left};
+ghost use Rattle.register_records.specs.ReadingState.{Reads, HasRead, fault_of, reading_by, records_left};
 ghost use Rattle.register_records.specs.Retrying.{inner_remaining};
 ghost use Rattle.register_records.specs.Seals.{Agrees, is_seal as is_seal_record};
 ghost use Rattle.register_records.specs.declared.reading.ReaderState.{ReaderState};
@@ -86,11 +86,11 @@ pub struct EntryReader<R: Read> {
     ghost live: { state ≢ ReaderState.Failed → HasBegun records },
     ghost counted: { length given ≡ count },
     ghost few: { count ≤ record_limit },
-    ghost has_read: { ∥ HasRead (format_by delimiter form) (R.remaining source.value) state
+    ghost has_read: { ∥ HasRead (reading_by delimiter form) (R.remaining source.value) state
         (records_left (inner_remaining R.remaining) records) given ∥₁ },
     // The entries given are the first of the text, and where the bytes of the reader are not known, those of some
     // records.
-    pub ghost first: { ∥ HasFirstEntries (format_by delimiter form) (R.remaining source.value) given ∥₁ },
+    pub ghost first: { ∥ HasFirstEntries (reading_by delimiter form) (R.remaining source.value) given ∥₁ },
 }
 
 /// What an error of csv's reader that stops it means.
@@ -219,7 +219,7 @@ fn read_entry<R: Read>(
 impl<R: Read + Drop> EntryReader<R> {
     ghost use Rattle.register_records.specs.Entries.{HasNoHeader};
     ghost use Rattle.register_records.specs.NextEntries.{ReadsNext, ReturnsNext};
-    ghost use Rattle.register_records.specs.Views.{format_of, given_of, reader_ended, reader_failed, reads_by, text_of};
+    ghost use Rattle.register_records.specs.Views.{given_of, reader_ended, reader_failed, reading_of, reads_by, text_of};
     ghost use Rattle.register_records.specs.declared.reading.EntryFault.TheVariants.{Failed, NotSealed, TooManyRecords};
 
     /// Reads the header of a text: a first record of three fields that are `id`, `calendar` and `date`,
@@ -232,11 +232,11 @@ impl<R: Read + Drop> EntryReader<R> {
     /// returned a fault, and `OutOfMemory`. The reader is dropped with each.
     pub fn open(alloc: Global, reader: R, setup: &Setup) -> Result<EntryReader<R>, EntryFault>
         // It reads the text of the reader, where that is known, and no entry was given yet.
-        ensures text { IfOk result (λ r. (text_of r ≡ R.remaining reader) × (reads_by r ≡ format_of setup.now)) }
+        ensures text { IfOk result (λ r. (text_of r ≡ R.remaining reader) × (reads_by r ≡ reading_of setup.now)) }
         ensures none_given { IfOk result (λ r. given_of r ≡ []) }
         ensures goes { IfOk result (λ r. (reader_failed r ≡ false) × (reader_ended r ≡ false)) }
         ensures bad { IfErr result (λ e. e ≡ EntryFault.BadHeader
-            → IfSome (R.remaining reader) (λ text. HasNoHeader (format_of setup.now) text)) }
+            → IfSome (R.remaining reader) (λ text. HasNoHeader (reading_of setup.now) text)) }
         ensures never { IfErr result (λ e. (e ≢ TooManyRecords) × (e ≢ Failed) × (e ≢ NotSealed)) }
     {
         let source = Snapshot::of(&reader);

@@ -19,7 +19,6 @@ ghost use Rattle.register_records.specs.declared.row_lines.TheConstants.{LINE_RO
 use crate::entries::Body;
 use crate::lines::LineBuffer;
 use crate::rows::Row;
-use crate::setups::Form;
 use crate::table_columns::{TailColumn, entry_columns, tail_columns};
 use date_texts::Target;
 use itoa::Buffer;
@@ -28,13 +27,13 @@ use itoa::Buffer;
 pub const LINE_ROOM: usize = 1024;
 
 /// Begins the line of the heading: the names of the columns that show an entry.
-fn put_entry_names(lines: &mut LineBuffer, form: Form)
+fn put_entry_names(lines: &mut LineBuffer, has_notes: bool)
     requires { lines.old.len + entry_name_room ≤ line_capacity lines.old }
-    ensures value { Begins lines.old.delimiter (line_bytes lines.old) (map entry_name (entry_order form))
+    ensures value { Begins lines.old.delimiter (line_bytes lines.old) (map entry_name (entry_order has_notes))
         (line_bytes lines.new) }
     ensures grows { GrowsBy entry_name_room lines.old lines.new }
 {
-    let columns = entry_columns(form);
+    let columns = entry_columns(has_notes);
     lines.begin(columns[0].name().as_bytes());
     'columns: for i in 1..columns.len() {
         lines.field(columns[i].name().as_bytes());
@@ -71,14 +70,14 @@ fn put_names(lines: &mut LineBuffer, column: TailColumn, targets: &[Target])
 }
 
 /// Appends the line of the heading. There must be memory for `LINE_ROOM` bytes more.
-pub(crate) fn make_heading(lines: &mut LineBuffer, form: Form, targets: &[Target])
+pub(crate) fn make_heading(lines: &mut LineBuffer, has_notes: bool, targets: &[Target])
     requires few { length targets.now ≤ MAX_TARGETS }
     requires room { lines.old.len + LINE_ROOM ≤ line_capacity lines.old }
     ensures value { line_bytes lines.new
-        ≡ line_bytes lines.old ++ line_text (lines.old.delimiter) (heading form targets.now) }
+        ≡ line_bytes lines.old ++ line_text (lines.old.delimiter) (heading has_notes targets.now) }
     ensures grows { GrowsBy LINE_ROOM lines.old lines.new }
 {
-    put_entry_names(lines, form);
+    put_entry_names(lines, has_notes);
     'columns: for column in tail_columns() {
         put_names(lines, *column, targets);
     }
@@ -87,16 +86,16 @@ pub(crate) fn make_heading(lines: &mut LineBuffer, form: Form, targets: &[Target
 
 /// Begins the line of a row by the fields of an entry. Bare ones are not looked through for bytes that call for quotes.
 #[inline(always)]
-fn put_columns(lines: &mut LineBuffer, form: Form, number: &str, body: &Body, bare: bool)
+fn put_columns(lines: &mut LineBuffer, has_notes: bool, number: &str, body: &Body, bare: bool)
     requires room { lines.old.len + entry_room ≤ line_capacity lines.old }
     requires short { length number.now ≤ number_room }
     requires number { needs_quotes (writing lines.old.delimiter) number.now ≡ false }
     requires bare { bare ≡ true → has_special (body_seen body.now) ≡ false }
     ensures value { Begins lines.old.delimiter (line_bytes lines.old)
-        (map (field_shown number.now (body_seen body.now)) (entry_order form)) (line_bytes lines.new) }
+        (map (field_shown number.now (body_seen body.now)) (entry_order has_notes)) (line_bytes lines.new) }
     ensures grows { GrowsBy entry_room lines.old lines.new }
 {
-    let columns = entry_columns(form);
+    let columns = entry_columns(has_notes);
     lines.begin(columns[0].field(number, body).as_bytes());
     'columns: for i in 1..columns.len() {
         let field = columns[i].field(number, body).as_bytes();
@@ -111,19 +110,20 @@ fn put_columns(lines: &mut LineBuffer, form: Form, number: &str, body: &Body, ba
 /// Begins the line of a row: its number and its texts.
 #[inline(always)]
 #[tactic(auto, using(crate::proofs::LineLemmas::plain_decimal))]
-fn put_entry(lines: &mut LineBuffer, form: Form, row: &Row)
+fn put_entry(lines: &mut LineBuffer, has_notes: bool, row: &Row)
     requires { lines.old.len + entry_room ≤ line_capacity lines.old }
     ensures value { Begins lines.old.delimiter (line_bytes lines.old)
-        (map (entry_field (row_seen row.now)) (entry_order form)) (line_bytes lines.new) }
+        (map (entry_field (row_seen row.now)) (entry_order has_notes)) (line_bytes lines.new) }
     ensures grows { GrowsBy entry_room lines.old lines.new }
 {
     let entry = row.entry();
     let mut buffer = Buffer::new();
     let number = buffer.format(entry.number());
-    // A call for each form, so that the columns are known in each.
-    match form {
-        Form::Plain => put_columns(lines, Form::Plain, number, entry.body(), entry.is_bare()),
-        Form::Sealed => put_columns(lines, Form::Sealed, number, entry.body(), entry.is_bare()),
+    // A call for each, so that the columns are known in both.
+    if has_notes {
+        put_columns(lines, true, number, entry.body(), entry.is_bare());
+    } else {
+        put_columns(lines, false, number, entry.body(), entry.is_bare());
     }
 }
 
@@ -143,13 +143,13 @@ fn put_tail(lines: &mut LineBuffer, row: &Row)
 }
 
 /// Appends the line of a row. There must be memory for `LINE_ROOM` bytes more.
-pub(crate) fn make_row(lines: &mut LineBuffer, form: Form, row: &Row)
+pub(crate) fn make_row(lines: &mut LineBuffer, has_notes: bool, row: &Row)
     requires { lines.old.len + LINE_ROOM ≤ line_capacity lines.old }
     ensures value { line_bytes lines.new ≡ line_bytes lines.old ++ line_text (lines.old.delimiter)
-        (row_fields form (row_targets row.now) (row_seen row.now)) }
+        (row_fields has_notes (row_targets row.now) (row_seen row.now)) }
     ensures grows { GrowsBy LINE_ROOM lines.old lines.new }
 {
-    put_entry(lines, form, row);
+    put_entry(lines, has_notes, row);
     put_tail(lines, row);
     lines.end();
 }

@@ -6,7 +6,7 @@ ghost use Rattle.std.specs.Prelude.{IfSome};
 ghost use Rattle.register_records.specs.Sources.{ArePartOfTable, Gains, IfBroken, IfWhole, IsFrontOfTable};
 ghost use Rattle.register_records.specs.Sources.{IsTableOfAll, IsWholeTable};
 ghost use Rattle.register_records.specs.declared.setups.Form.TheVariants.{Sealed};
-ghost use Rattle.register_records.specs.Views.{format_of, layout_of};
+ghost use Rattle.register_records.specs.Views.{layout_of, reading_of};
 
 use crate::ends::{Cause, SourceEnd};
 use crate::outputs::Output;
@@ -43,27 +43,27 @@ pub fn convert_source<R: Read + Drop, W: Output>(
     // The output has gained the table, and nothing else. The text is accepted and the table is its own; where the
     // reader's bytes are not known, they are some that would be accepted.
     ensures whole { IfWhole result (λ rows refused journal. ∥ Gains (W.contents output.old) (W.contents output.new)
-        (IsWholeTable (layout_of setup.now) (R.remaining reader) rows refused journal) ∥₁) }
+        (IsWholeTable (reading_of setup.now) (layout_of setup.now) (R.remaining reader) rows refused journal) ∥₁) }
     ensures numbers { IfWhole result (λ rows refused journal.
         (rows ≤ record_limit) × (refused ≤ rows) × (refused ≡ length journal)) }
     ensures flushed { IfWhole result (λ rows refused journal. W.is_flushed output.new ≡ true) }
 
     // A source that is broken otherwise than by its output leaves a front of the table, or nothing.
     ensures part { IfBroken result (λ c. (c ≢ Cause.SinkFault) → ∥ Gains (W.contents output.old) (W.contents output.new)
-        (ArePartOfTable (layout_of setup.now) (R.remaining reader)) ∥₁) }
+        (ArePartOfTable (reading_of setup.now) (layout_of setup.now) (R.remaining reader)) ∥₁) }
     ensures bad_header { IfBroken result (λ c. c ≡ Cause.BadHeader → (output.new ≡ output.old)
-        × IfSome (R.remaining reader) (λ text. HasNoHeader (format_of setup.now) text)) }
+        × IfSome (R.remaining reader) (λ text. HasNoHeader (reading_of setup.now) text)) }
     // All the records that a source may have were converted, and there are more.
     ensures too_many { IfBroken result (λ c. c ≡ Cause.TooManyRecords
-        → ∥ IfSome (R.remaining reader) (λ text. HasTooMany (format_of setup.now) text) ∥₁
+        → ∥ IfSome (R.remaining reader) (λ text. HasTooMany (reading_of setup.now) text) ∥₁
         × ∥ Gains (W.contents output.old) (W.contents output.new)
-        (IsFrontOfTable (layout_of setup.now) (R.remaining reader) record_limit) ∥₁) }
+        (IsFrontOfTable (reading_of setup.now) (layout_of setup.now) (R.remaining reader) record_limit) ∥₁) }
     // The text is sealed, but its seal is missing or does not agree, or a record follows it. All the records above the
     // seal were converted.
     ensures not_sealed { IfBroken result (λ c. c ≡ Cause.NotSealed → (setup.now.form ≡ Sealed)
-        × ∥ IfSome (R.remaining reader) (λ text. IsNotSealed (format_of setup.now) text) ∥₁
+        × ∥ IfSome (R.remaining reader) (λ text. IsNotSealed (reading_of setup.now) text) ∥₁
         × ∥ Gains (W.contents output.old) (W.contents output.new)
-        (IsTableOfAll (layout_of setup.now) (R.remaining reader)) ∥₁) }
+        (IsTableOfAll (reading_of setup.now) (layout_of setup.now) (R.remaining reader)) ∥₁) }
     ensures never { IfBroken result (λ c. (c ≢ Cause.NoThread) × (c ≢ Cause.Unconfirmed)) }
 
     // The output has failed exactly where it had failed before or is the cause.

@@ -8,7 +8,6 @@ ghost use Rattle.register_records.specs.LineRoom.{entry_limit, name_limit};
 ghost use Rattle.register_records.specs.TableColumns.{entry_name, field_shown};
 
 use crate::entries::Body;
-use crate::setups::Form;
 
 /// A column that a table has of an entry.
 #[derive(Clone, Copy)]
@@ -30,7 +29,7 @@ pub(crate) enum TailColumn {
     Refusal,
 }
 
-/// The columns of an entry, in order. The last has the notes, which only a sealed form has.
+/// The columns of an entry, in order. The last has the notes.
 const ENTRY_COLUMNS: [EntryColumn; 5] = [
     EntryColumn::Number,
     EntryColumn::Id,
@@ -50,14 +49,15 @@ const TAIL_COLUMNS: [TailColumn; 4] = [
 /// How many of them stand before the cells.
 pub(crate) const CELLS_PLACE: usize = 2;
 
-/// The columns that a table has of an entry, in order.
-pub(crate) fn entry_columns(form: Form) -> &'static [EntryColumn]
-    ensures value { result.now ≡ entry_order form }
+/// The columns that a table has of an entry, in order, with notes or without.
+pub(crate) fn entry_columns(has_notes: bool) -> &'static [EntryColumn]
+    ensures value { result.now ≡ entry_order has_notes }
     ensures some { 1 ≤ length result.now }
 {
-    match form {
-        Form::Plain => &ENTRY_COLUMNS[..ENTRY_COLUMNS.len() - 1],
-        Form::Sealed => &ENTRY_COLUMNS,
+    if has_notes {
+        &ENTRY_COLUMNS
+    } else {
+        &ENTRY_COLUMNS[..ENTRY_COLUMNS.len() - 1]
     }
 }
 

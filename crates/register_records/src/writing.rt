@@ -10,7 +10,7 @@ use crate::lines::LineBuffer;
 use crate::outputs::{Output, send};
 use crate::row_lines::{LINE_ROOM, make_heading, make_row};
 use crate::rows::Row;
-use crate::setups::{Form, Setup};
+use crate::setups::Setup;
 use std::alloc::{AllocError, Global};
 use thiserror::Error;
 
@@ -60,14 +60,14 @@ pub(crate) enum WriterState {
 pub struct RowWriter {
     // The lines that were not sent yet.
     lines: LineBuffer,
-    form: Form,
+    has_notes: bool,
     state: WriterState,
     ghost roomy: { ROOM ≤ line_capacity lines },
 }
 
 impl RowWriter {
     ghost use Rattle.register_records.specs.Tables.{heading_line};
-    ghost use Rattle.register_records.specs.Views.{format_of, layout_of, line_of};
+    ghost use Rattle.register_records.specs.Views.{layout_of, line_of, writing_of};
     ghost use Rattle.register_records.specs.Views.{has_output_failed, waiting_in, writer_failed, writes_by};
 
     /// Writes the heading and flushes it.
@@ -83,7 +83,7 @@ impl RowWriter {
         ensures ok { OnOk result (Appends (W.contents output.old) (W.contents output.new)
             (heading_line (layout_of setup.now))) }
         ensures flushed { OnOk result (W.is_flushed output.new ≡ true) }
-        ensures writer { IfOk result (λ w. (writes_by w ≡ format_of setup.now) × (writer_failed w ≡ false)
+        ensures writer { IfOk result (λ w. (writes_by w ≡ writing_of setup.now) × (writer_failed w ≡ false)
             × (waiting_in w ≡ [])) }
         ensures goes { OnOk result (W.has_failed output.new ≡ W.has_failed output.old) }
         ensures memory { IfErr result (λ e. e ≡ RowFault.OutOfMemory → output.new ≡ output.old) }
@@ -92,14 +92,15 @@ impl RowWriter {
         ensures mark { W.own_mark output.new ≡ W.own_mark output.old }
     {
         let mut lines = LineBuffer::new(alloc, setup.delimiter(), ROOM)?;
-        make_heading(&mut lines, setup.form(), setup.targets());
+        let has_notes = setup.form().has_notes();
+        make_heading(&mut lines, has_notes, setup.targets());
         if send(output, lines.as_slice()).is_err() {
             return Err(RowFault::WriteFault);
         }
         lines.clear();
         Ok(RowWriter {
             lines,
-            form: setup.form(),
+            has_notes,
             state: WriterState::Open,
         })
     }
@@ -128,7 +129,7 @@ impl RowWriter {
             self.state = WriterState::OutOfMemory;
             return Err(RowFault::OutOfMemory);
         }
-        make_row(&mut self.lines, self.form, row);
+        make_row(&mut self.lines, self.has_notes, row);
         Ok(())
     }
 

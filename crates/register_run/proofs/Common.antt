@@ -7,7 +7,7 @@ pub use Rattle.lane_rings.specs.declared.item.Gone.{Gone}
 pub use Rattle.lane_rings.specs.declared.item.Item.{Item}
 pub use Rattle.lane_rings.specs.declared.sender.Closed.{Closed}
 pub use Rattle.lane_rings.specs.declared.sender.Sender.{Sender}
-pub use Rattle.register_records.specs.Entries.{AreNumberedFrom, Format, HasAllEntries, HasEntries, HasFirstEntries}
+pub use Rattle.register_records.specs.Entries.{AreNumberedFrom, HasAllEntries, HasEntries, HasFirstEntries, Reading}
 pub use Rattle.register_records.specs.Entries.{Numbered, record_limit}
 pub use Rattle.register_records.specs.Outcomes.{AreRowsOf}
 pub use Rattle.register_records.specs.Seen.{entry_seen}
@@ -15,7 +15,7 @@ pub use Rattle.register_records.specs.Sources.{IfBroken, IfWhole, cause_number}
 pub use Rattle.register_records.specs.TableStates.{is_of_table}
 pub use Rattle.register_records.specs.Tables.{Layout}
 pub use Rattle.register_records.specs.TablesWritten.{Holds, entries_seen, rows_seen}
-pub use Rattle.register_records.specs.Views.{format_of, given_of, layout_of, row_seen, row_targets}
+pub use Rattle.register_records.specs.Views.{given_of, layout_of, reading_of, row_seen, row_targets}
 pub use Rattle.register_records.specs.declared.ends.Cause.{Cause}
 pub use Rattle.register_records.specs.declared.ends.Note.{Note}
 pub use Rattle.register_records.specs.declared.ends.SourceEnd.{SourceEnd}

@@ -8,7 +8,7 @@ use Rattle.std.proofs.Props.{props}
 use Rattle.std.proofs.Math.Logic.{∥∥₁_elim, ∥∥₁_map, ∥∥₁_prop}
 use Rattle.register_run.proofs.Common.{Row, Cause, SourceEnd, HasAllEntries, HasEntries, HasFirstEntries, Numbered}
 use Rattle.register_run.proofs.Common.{record_limit, AreRowsOf, entry_seen, IfBroken, IfWhole, cause_number, Layout}
-use Rattle.register_run.proofs.Common.{format_of, layout_of, Stripe, Sent, Met, Table, HasMetNone, IsLowest, IsMet}
+use Rattle.register_run.proofs.Common.{Reading, layout_of, reading_of, Stripe, Sent, Met, Table, HasMetNone, IsLowest, IsMet}
 use Rattle.register_run.proofs.Common.{is_of_table, IsSourceEnd, Carries, IsMachineWithTable, HasPassed, IsGiven}
 use Rattle.register_run.proofs.Common.{IsOfGiven, Holds, entries_seen, rows_seen}
 use Rattle.register_records.specs.Tables.{table_text}
@@ -100,11 +100,14 @@ never_broken (end.Broken c) f P none is = absurd (let e = sym none ∙ is in cc)
 
 module _ {W : Type 0} (o : outputs.Ghosts W) (text : Option (List ℕ)) (table : Table W) (output : W)
     (rows : List Row) (passed : Sent) (holds : Holds o table output rows) (sent : waiting_of table ≡ [])
-    (has : HasPassed text (format_of table.setup) passed (λ row. Contains rows row)) (headed : Bool)
+    (has : HasPassed text (reading_of table.setup) passed (λ row. Contains rows row)) (headed : Bool)
     (same_head : headed ≡ is_headed table) where
   -- what was met of the source
   abbrev met : Met
   met = record { sent = passed; fault = table_fault table; headed = headed; rows = table.rows }
+
+  abbrev by : Reading
+  by = reading_of table.setup
 
   abbrev layout : Layout
   layout = layout_of table.setup
@@ -117,18 +120,20 @@ module _ {W : Type 0} (o : outputs.Ghosts W) (text : Option (List ℕ)) (table :
   Gained AreSo = Gains (o.contents (made_for table)) (o.contents output) AreSo
 
   abbrev EndsSo : SourceEnd → Type 0
-  EndsSo e = ∥ IsSourceEnd o layout text (made_for table) output e ∥₁
+  EndsSo e = ∥ IsSourceEnd o by layout text (made_for table) output e ∥₁
 
   entries_len : length (entries_seen rows) ≡ table.rows
   entries_len = length-map rows (λ (row : Row). entry_seen row.entry) ∙ holds.counted
 
-  in_order_so : has_lost_output table ≡ false → AreRows → Gained (ArePartOfTable layout None)
-  in_order_so good are = search (rules, gained_so, layout, front_of_some)
+  in_order_so : has_lost_output table ≡ false → AreRows → Gained (ArePartOfTable by layout None)
+  in_order_so good are =
+      gained_so o table output rows holds sent (ArePartOfTable by layout None) (is_headed table) refl good
+      (λ none. inl refl) (λ some. inr (length (rows_seen rows), front_of_some by layout refl rows holds.numbered are))
 
   not_failed : o.has_failed output ≡ false → has_lost_output table ≡ false
   not_failed good = false_from_ne_true (has_lost_output table) (λ s. let f = holds.failed s in absurd (cc))
 
-  module _ (given : List Numbered) (is : IsGiven text (format_of table.setup) passed given)
+  module _ (given : List Numbered) (is : IsGiven text by passed given)
       (all : (row : Row) → Contains rows row → IsOfGiven given row) where
     taken_front : (rest : List Numbered) × (given ≡ entries_seen rows ++ rest)
     taken_front = rows_front given rows is.numbered holds.numbered all
@@ -136,16 +141,16 @@ module _ {W : Type 0} (o : outputs.Ghosts W) (text : Option (List ℕ)) (table :
     none_given : given ≡ [] → table.rows ≡ 0
     none_given e = grind (arith, taken_front.1, entries_len, length-append (entries_seen rows) taken_front.0)
 
-    first_so : table.rows ≢ 0 → HasFirstEntries (format_of table.setup) text (entries_seen rows)
+    first_so : table.rows ≢ 0 → HasFirstEntries by text (entries_seen rows)
     first_so some = elim is.first [
       | inl e ↦ absurd (some (none_given e))
-      | inr f ↦ first_of_first (format_of table.setup) text given (entries_seen rows) taken_front.0 taken_front.1 f
+      | inr f ↦ first_of_first by text given (entries_seen rows) taken_front.0 taken_front.1 f
     ]
 
     part_so : has_lost_output table ≡ false → (headed ≡ true → table.rows ≢ 0) → AreRows
-        → Gained (ArePartOfTable layout text)
+        → Gained (ArePartOfTable by layout text)
     part_so good some are =
-        gained_so o table output rows holds sent (ArePartOfTable layout text) (is_headed table) refl good (λ none. inl refl)
+        gained_so o table output rows holds sent (ArePartOfTable by layout text) (is_headed table) refl good (λ none. inl refl)
         (λ has. inr (
           length rows,
           front_so o table output rows holds sent text are good (length rows) refl
@@ -154,19 +159,19 @@ module _ {W : Type 0} (o : outputs.Ghosts W) (text : Option (List ℕ)) (table :
 
   -- as many rows were written as there may be
   most_so : length rows ≡ record_limit → has_lost_output table ≡ false
-      → HasFirstEntries (format_of table.setup) text (entries_seen rows) → AreRows
-      → Gained (IsFrontOfTable layout text record_limit)
+      → HasFirstEntries by text (entries_seen rows) → AreRows
+      → Gained (IsFrontOfTable by layout text record_limit)
   most_so most good first are =
-      gained_so o table output rows holds sent (IsFrontOfTable layout text record_limit) (is_headed table) refl good
+      gained_so o table output rows holds sent (IsFrontOfTable by layout text record_limit) (is_headed table) refl good
       (λ none. absurd (let zero : length rows ≡ 0 = ap length none in omega (arith, most)))
       (λ some. front_so o table output rows holds sent text are good record_limit (sym most) first)
 
   -- the rows of all entries were written
-  all_so : has_lost_output table ≡ false → HasAllEntries (format_of table.setup) text (entries_seen rows)
-      → AreRows → Gained (IsAllOfTable layout text)
+  all_so : has_lost_output table ≡ false → HasAllEntries by text (entries_seen rows)
+      → AreRows → Gained (IsAllOfTable by layout text)
   all_so good all are =
-      gained_so o table output rows holds sent (IsAllOfTable layout text) (is_headed table) refl good
-      (λ none. inl (refl, subst (λ rs. HasAllEntries (format_of table.setup) text (entries_seen rs)) none all))
+      gained_so o table output rows holds sent (IsAllOfTable by layout text) (is_headed table) refl good
+      (λ none. inl (refl, subst (λ rs. HasAllEntries by text (entries_seen rs)) none all))
       (λ some. inr (record { entries = entries_seen rows; rows = rows_seen rows; table = table_is o table output rows holds sent are; all = all }))
 
   reading_so : (c : Cause) → is_of_reading c ≡ true → IsReadingMet met c → EndsSo (end.Broken c)
@@ -193,7 +198,7 @@ module _ {W : Type 0} (o : outputs.Ghosts W) (text : Option (List ℕ)) (table :
             let u = unsealed e in (
               u.0,
               u.1,
-              all_so good (subst (λ es. HasAllEntries (format_of table.setup) text es) same u.2) are,
+              all_so good (subst (λ es. HasAllEntries by text es) same u.2) are,
             );
         in_order = λ unfailed. in_order_so good are;
         sink = λ e. absurd (let k : is_of_reading c ≡ false = ap is_of_reading e in cc);
@@ -250,7 +255,7 @@ module _ {W : Type 0} (o : outputs.Ghosts W) (text : Option (List ℕ)) (table :
       let some = sym same_head ∙ whole.2 in record {
         table =
             rw (whole.4, whole.5) (whole_so o table output rows holds sent text are good count (whole.3 ∙ sym holds.counted) some
-            (subst (λ g. HasEntries (format_of table.setup) text g) same ended.1));
+            (subst (λ g. HasEntries by text g) same ended.1));
         flushed = (written o table output rows holds sent good some).1;
         good = holds.good good;
       }))

@@ -3,7 +3,7 @@ use Rattle.std.proofs.Common.{rules, ◌≡◌, ◌∙◌, ap, refl, sym, ℕ, z
 use Rattle.std.proofs.Common.{arith, append_assoc, length-append, append-nil, Option}
 use Rattle.std.specs.List.{Contains}
 use Rattle.std.proofs.lemmas.List.Elements.{All-contains, All-contains_itself, All-map, All-weaker}
-use Rattle.register_run.proofs.Common.{AreNumberedFrom, Format, HasFirstEntries, Numbered, entry_seen, Row, IsOfGiven}
+use Rattle.register_run.proofs.Common.{AreNumberedFrom, Reading, HasFirstEntries, Numbered, entry_seen, Row, IsOfGiven}
 use Rattle.register_run.proofs.Common.{entries_seen}
 
 later : (k : ℕ) (ys : List Numbered) (z : Numbered) → AreNumberedFrom k ys → Contains ys z → k ≤ z.number
@@ -54,6 +54,6 @@ none_more xs (y ∷ rest) e = absurd (omega (arith, length-append xs (y ∷ rest
 pub front_all : (given xs rest : List Numbered) → given ≡ xs ++ rest → length given ≡ length xs → given ≡ xs
 front_all given xs rest e len = e ∙ none_more xs rest (sym (ap length e) ∙ len)
 
-pub first_of_first : (format : Format) (text : Option (List ℕ)) (given xs rest : List Numbered) → given ≡ xs ++ rest
-    → HasFirstEntries format text given → HasFirstEntries format text xs
-first_of_first format text given xs rest e (more, (after, has, is)) = search (rules, append_assoc)
+pub first_of_first : (reading : Reading) (text : Option (List ℕ)) (given xs rest : List Numbered) → given ≡ xs ++ rest
+    → HasFirstEntries reading text given → HasFirstEntries reading text xs
+first_of_first reading text given xs rest e (more, (after, has, is)) = search (rules, append_assoc)

@@ -2,7 +2,7 @@
 use Rattle.std.proofs.Common.{rules, ◌≡◌, sym, refl, ℕ, List, [], length, Option}
 use Rattle.std.proofs.Common.{inr, Err, IfSome, Ok}
 use Rattle.std.proofs.Math.Logic.{∥∥₁_elim, ∥∥₁_map, ∥∥₁_prop}
-use Rattle.register_run.proofs.Common.{AreNumberedFrom, Format, HasAllEntries, HasEntries, HasFirstEntries, Numbered}
+use Rattle.register_run.proofs.Common.{AreNumberedFrom, Reading, HasAllEntries, HasEntries, HasFirstEntries, Numbered}
 use Rattle.register_run.proofs.Common.{record_limit, Cause, Sender, Entry, Row, AreDealt, World}
 use Rattle.register_run.proofs.Common.{HasPassed, IsGiven, Sent}
 use Rattle.register_records.specs.Causes.{entry_fault_cause}
@@ -20,33 +20,33 @@ fault_of_cause : (f : EntryFault) (c : Cause) → c ≡ entry_fault_cause f
 fault_of_cause fault.OutOfMemory c is = (λ e. cc, λ e. cc, λ e. cc)
 fault_of_cause f c is = (λ e. cc, λ e. cc, λ e. cc)
 
-module _ (text : Option (List ℕ)) (format : Format) where
+module _ (text : Option (List ℕ)) (reading : Reading) where
   -- the text was not opened
   pub given_none : (f : EntryFault) (c : Cause) → c ≡ entry_fault_cause f
-      → (f ≡ fault.BadHeader → IfSome text (λ t. HasNoHeader format t)) → (f ≡ fault.TooManyRecords → ⊥)
+      → (f ≡ fault.BadHeader → IfSome text (λ t. HasNoHeader reading t)) → (f ≡ fault.TooManyRecords → ⊥)
       → (f ≡ fault.NotSealed → ⊥) → (sent : Sent) → (sent.count ≡ 0) × (sent.outcome ≡ Err c)
-      → IsGiven text format sent []
+      → IsGiven text reading sent []
   given_none f c is bad many unsealed sent (none, why) = search (rules, fault_of_cause)
 
   stopped_so : (f : EntryFault) (c : Cause) (given : List Numbered) → c ≡ entry_fault_cause f
       → (f ≡ fault.BadHeader → ⊥)
       → AreNumberedFrom 1 given
-      → HasFirstEntries format text given
-      → (f ≡ fault.TooManyRecords → (length given ≡ record_limit) × IfSome text (λ t. HasTooMany format t))
-      → (f ≡ fault.NotSealed → (format.form ≡ Sealed) × IfSome text (λ t. IsNotSealed format t)
-      × HasAllEntries format text given)
-      → (sent : Sent) → sent.count ≡ length given → sent.outcome ≡ Err c → IsGiven text format sent given
+      → HasFirstEntries reading text given
+      → (f ≡ fault.TooManyRecords → (length given ≡ record_limit) × IfSome text (λ t. HasTooMany reading t))
+      → (f ≡ fault.NotSealed → (reading.form ≡ Sealed) × IfSome text (λ t. IsNotSealed reading t)
+      × HasAllEntries reading text given)
+      → (sent : Sent) → sent.count ≡ length given → sent.outcome ≡ Err c → IsGiven text reading sent given
   stopped_so f c given is bad numbered first many unsealed sent counted why = search (rules, fault_of_cause)
 
   -- the reading stopped after these entries
   pub given_stopped : (f : EntryFault) (c : Cause) (given : List Numbered) → c ≡ entry_fault_cause f
       → (f ≡ fault.BadHeader → ⊥)
-      → (f ≡ fault.TooManyRecords → (length given ≡ record_limit) × ∥ IfSome text (λ t. HasTooMany format t) ∥₁)
-      → (f ≡ fault.NotSealed → (format.form ≡ Sealed) × ∥ IfSome text (λ t. IsNotSealed format t) ∥₁)
-      → (f ≡ fault.NotSealed → ∥ HasAllEntries format text given ∥₁)
+      → (f ≡ fault.TooManyRecords → (length given ≡ record_limit) × ∥ IfSome text (λ t. HasTooMany reading t) ∥₁)
+      → (f ≡ fault.NotSealed → (reading.form ≡ Sealed) × ∥ IfSome text (λ t. IsNotSealed reading t) ∥₁)
+      → (f ≡ fault.NotSealed → ∥ HasAllEntries reading text given ∥₁)
       → AreNumberedFrom 1 given
-      → ∥ HasFirstEntries format text given ∥₁
-      → (sent : Sent) → sent.count ≡ length given → sent.outcome ≡ Err c → ∥ IsGiven text format sent given ∥₁
+      → ∥ HasFirstEntries reading text given ∥₁
+      → (sent : Sent) → sent.count ≡ length given → sent.outcome ≡ Err c → ∥ IsGiven text reading sent given ∥₁
   given_stopped fault.TooManyRecords c given is bad many unsealed above numbered first sent counted why =
       ∥∥₁_elim first ∥∥₁_prop (λ s.
       ∥∥₁_map (many refl).1 (λ m.
@@ -61,8 +61,8 @@ module _ (text : Option (List ℕ)) (format : Format) where
 
   -- a converter was gone after these entries
   pub given_gone : (given : List Numbered) → AreNumberedFrom 1 given
-      → ∥ HasFirstEntries format text given ∥₁ → (sent : Sent) → sent.outcome ≡ Err cause.Unconfirmed
-      → ∥ IsGiven text format sent given ∥₁
+      → ∥ HasFirstEntries reading text given ∥₁ → (sent : Sent) → sent.outcome ≡ Err cause.Unconfirmed
+      → ∥ IsGiven text reading sent given ∥₁
   given_gone given numbered first sent why = ∥∥₁_map first (λ f. record {
     counted = rw why (λ speaks. cc);
     numbered = numbered;
@@ -75,8 +75,8 @@ module _ (text : Option (List ℕ)) (format : Format) where
 
   -- these are all
   pub given_all : (n : ℕ) (given : List Numbered) → n ≡ length given → AreNumberedFrom 1 given
-      → ∥ HasFirstEntries format text given ∥₁ → ∥ HasEntries format text given ∥₁
-      → ∥ IsGiven text format (record { count = n; outcome = Ok n }) given ∥₁
+      → ∥ HasFirstEntries reading text given ∥₁ → ∥ HasEntries reading text given ∥₁
+      → ∥ IsGiven text reading (record { count = n; outcome = Ok n }) given ∥₁
   given_all n given count numbered first all = ∥∥₁_elim first ∥∥₁_prop (λ f. ∥∥₁_map all (λ a. record {
     counted = λ speaks. sym count;
     numbered = numbered;
@@ -87,7 +87,7 @@ module _ (text : Option (List ℕ)) (format : Format) where
     not_sealed = tt;
   }))
 
-module _ (text text' : Option (List ℕ)) (d d' : Format) (same : text' ≡ text) (by : d' ≡ d) (given old : List Numbered)
+module _ (text text' : Option (List ℕ)) (d d' : Reading) (same : text' ≡ text) (by : d' ≡ d) (given old : List Numbered)
     (kept : given ≡ old) (numbered : AreNumberedFrom 1 old)
     (first : ∥ HasFirstEntries d' text' given ∥₁) (senders : List (Sender Entry))
     (deals : (w : World) → w.converters ≡ length senders → AreDealt w 0 old senders) where
@@ -112,6 +112,6 @@ module _ (text text' : Option (List ℕ)) (d d' : Format) (same : text' ≡ text
   sends_gone sent why = ∥∥₁_map (given_gone text d old numbered first' sent why) (λ is. (old, is, deals))
 
 -- an outcome that does not speak of the text says nothing
-pub passed_not : (text : Option (List ℕ)) (d : Format) (sent : Sent) (c : Cause) (took : Row → Type 0)
+pub passed_not : (text : Option (List ℕ)) (d : Reading) (sent : Sent) (c : Cause) (took : Row → Type 0)
     → sent.outcome ≡ Err c → IsOfThreads c → HasPassed text d sent took
 passed_not text d sent c took why is = search rules

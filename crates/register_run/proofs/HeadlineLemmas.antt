@@ -3,7 +3,7 @@ use Rattle.std.proofs.Common.{rules, ◌≡◌, ◌∙◌, ap, refl, sym, subst,
 use Rattle.std.proofs.Common.{append_assoc, append-nil, arith, true, ◌↔◌, All}
 use Rattle.std.proofs.lemmas.List.{map-append}
 use Rattle.std.specs.declared.io.traits.Read as reads
-use Rattle.register_run.proofs.Common.{Setup, SourceEnd, IfWhole, layout_of, Stripe, Ran, case_of, end_of, ended_case}
+use Rattle.register_run.proofs.Common.{Setup, SourceEnd, IfWhole, layout_of, reading_of, Stripe, Ran, case_of, end_of, ended_case}
 use Rattle.register_run.proofs.Common.{output_of, ran_of, IsSourceEnd, IsMachineWithTable, AreThreadsOf}
 use Rattle.register_records.specs.declared.outputs.Output as outputs
 use Rattle.register_records.specs.declared.ends.Cause.TheVariants as cause
@@ -46,7 +46,7 @@ pub ruleset starts = (start_begin, start_more, start_end)
 abbrev pub Known : {R W : Type 0} → reads.Ghosts R → outputs.Ghosts W → Setup → R → W → W → SourceEnd → Type 0
 Known r o setup source before after e =
     (e ≡ end.Broken cause.BadHeader → after ≡ before)
-    × ∥ IsSourceEnd o (layout_of setup) (r.remaining source) before after e ∥₁
+    × ∥ IsSourceEnd o (reading_of setup) (layout_of setup) (r.remaining source) before after e ∥₁
 
 -- so many outputs are handed back as were handed in, and so many ends as sources
 pub lengths_of : {R W : Type 0} (Holds : R → W → W → SourceEnd → Type 0) (sources : List R) (given written : List W)

@@ -6,7 +6,7 @@ use Rattle.std.proofs.lemmas.Bool.{and_parts}
 use Rattle.std.proofs.lemmas.List.{length-map, length-replicate}
 use Rattle.std.proofs.lemmas.Slice.Zip.{AllZip-long}
 use mathlib.Core.Bool.{beq}
-use Rattle.register_run.proofs.Common.{Closed, AreNumberedFrom, Numbered, Entry, format_of, Setup, Cause, Actor, start}
+use Rattle.register_run.proofs.Common.{Closed, AreNumberedFrom, Numbered, Entry, reading_of, Setup, Cause, Actor, start}
 use Rattle.register_run.proofs.Common.{run, AnyTook, HasPassedOn, HavePassedOn, feeding_lane, stripe_setup}
 use Rattle.register_run.proofs.Common.{WereDealt, dealt, Carries, AreOfLanes, World, Stripe}
 use Rattle.striped_lanes.specs.Histories.{entries_over, rows_over}
@@ -66,7 +66,7 @@ staff setup stripes staffed = grind (arith, length-map stripes stripe_setup, len
 pub joined_of_machine : (text : Option (List ℕ)) (setup : Setup) (stripes : List Stripe) (closed : List (Closed Entry))
     (n : ℕ) (outcome : Result ℕ Cause) (ended complete : Bool) → beq ended complete ≡ true → complete ≡ is_ok outcome
     → map stripe_setup stripes ≡ replicate setup.stripes setup → AreOfLanes (map feeding_lane stripes) closed
-    → ∥ HasSent text (format_of setup) (record { count = n; outcome = outcome }) closed ∥₁
+    → ∥ HasSent text (reading_of setup) (record { count = n; outcome = outcome }) closed ∥₁
     → HavePassedOn ended stripes closed
     → IfOk outcome (λ count. ∥ Carries text setup count stripes (AnyTook stripes) ∥₁)
 joined_of_machine text setup stripes closed n (Err cause) ended complete same is staffed from sent on = tt

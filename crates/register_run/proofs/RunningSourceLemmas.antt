@@ -1,7 +1,7 @@
 -- What a source's table holds, as rows are taken from its threads.
 use Rattle.std.proofs.Common.{◌≡◌, ◌≢◌, subst, ℕ, List, [], ◌∷◌, ◌++◌, None, Option, inl, inr, Err, IfOk, Ok, Result}
 use Rattle.std.proofs.Math.Logic.{∥∥₁_map}
-use Rattle.register_run.proofs.Common.{Row, Cause, format_of, Stripe, Sent, Table, Carries, Passed, started_by}
+use Rattle.register_run.proofs.Common.{Row, Cause, reading_of, Stripe, Sent, Table, Carries, Passed, started_by}
 use Rattle.register_run.proofs.Common.{HasPassed, Holds}
 use Rattle.register_records.specs.declared.outputs.Output as outputs
 use Rattle.register_run.specs.declared.source_threads.SourceThreads.{SourceThreads}
@@ -44,11 +44,11 @@ module _ {R W : Type 0} (o : outputs.Ghosts W) where
   -- the threads have ended
   pub concludes : (threads : SourceThreads R) (table : Table W) (output : W) (text : Option (List ℕ)) (sent : Sent)
       (stripes : List Stripe)
-      → started_by threads ≡ made_by table → HasPassed text (format_of (started_by threads)) sent (Passed threads)
+      → started_by threads ≡ made_by table → HasPassed text (reading_of (started_by threads)) sent (Passed threads)
       → IfOk sent.outcome (λ count. ∥ Carries text (started_by threads) count stripes (Passed threads) ∥₁)
       → ∥ Wrote o threads table output ∥₁ → ∥ Concludes o text table output sent stripes ∥₁
   concludes threads table output text sent stripes same has carries h = ∥∥₁_map h (λ (rows, is, took).
-      let has' = subst (λ s. HasPassed text (format_of s) sent (Passed threads)) same has in
+      let has' = subst (λ s. HasPassed text (reading_of s) sent (Passed threads)) same has in
       let carries' =
       subst (λ s. IfOk sent.outcome (λ count. ∥ Carries text s count stripes (Passed threads) ∥₁)) same carries in (
         rows,

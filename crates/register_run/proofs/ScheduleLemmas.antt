@@ -1,7 +1,7 @@
 -- The law of the machine, for the worlds of texts: their entries are numbered from 1, and their rows as their entries.
 use Rattle.std.proofs.Common.{◌≡◌, ◌+◌, ◌*◌, ◌≤◌, ℕ, List, [], ◌∷◌, Bool, true, false, length, map, refl}
 use Rattle.std.proofs.Common.{Option, if◌then◌else◌, nat_lt}
-use Rattle.register_run.proofs.Common.{Target, Actor, start, run, Format, HasFirstEntries, Numbered, record_limit}
+use Rattle.register_run.proofs.Common.{Target, Actor, start, run, HasFirstEntries, Numbered, Reading, record_limit}
 use Rattle.register_run.proofs.Common.{AreRowsOf, World}
 use Rattle.striped_lanes.specs.Places.{HaveNumbersFrom, ArePoppedInOrder, KeepNumbers}
 use Rattle.striped_lanes.specs.Schedules.{AtMostChange, standing}
@@ -28,21 +28,21 @@ entries_numbered form k (r ∷ records) =
     numbered_if (nat_lt k record_limit) (k + 1) (record { number = k + 1; body = body_of form r })
     (entries_from form (k + 1) records) refl (entries_numbered form (k + 1) records)
 
-first_entries_numbered : (format : Format) (text : Option (List ℕ)) (entries : List Numbered)
-    → HasFirstEntries format text entries → HaveNumbersFrom numbers 1 entries
-first_entries_numbered format text entries (rest, (records, has, are)) =
+first_entries_numbered : (reading : Reading) (text : Option (List ℕ)) (entries : List Numbered)
+    → HasFirstEntries reading text entries → HaveNumbersFrom numbers 1 entries
+first_entries_numbered reading text entries (rest, (records, has, are)) =
     numbered_front numbers 1 entries rest
-    (rw (← are) at (entries_numbered format.form 0 (entry_records format.form records)))
+    (rw (← are) at (entries_numbered reading.form 0 (entry_records reading.form records)))
 
 rows_keep_numbers : (targets : List Target) (w : World) (entries : List Numbered)
     → AreRowsOf targets entries (map w.row_of entries) → KeepNumbers numbers w entries
 rows_keep_numbers targets w [] h = tt
 rows_keep_numbers targets w (x ∷ entries) h = (h.0.number, rows_keep_numbers targets w entries h.1)
 
-module _ (format : Format) (targets : List Target) (text : Option (List ℕ)) (w : World) (schedule : List Actor)
-    (h : IsWorldOf format targets text w) where
+module _ (reading : Reading) (targets : List Target) (text : Option (List ℕ)) (w : World) (schedule : List Actor)
+    (h : IsWorldOf reading targets text w) where
   numbered : HaveNumbersFrom numbers 1 w.entries
-  numbered = first_entries_numbered format text w.entries h.entries
+  numbered = first_entries_numbered reading text w.entries h.entries
 
   same_numbers : KeepNumbers numbers w w.entries
   same_numbers = rows_keep_numbers targets w w.entries h.rows

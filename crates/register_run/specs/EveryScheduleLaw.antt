@@ -5,7 +5,7 @@ use Rattle.striped_lanes.specs.Places as places
 use Rattle.striped_lanes.specs.Places.{table_rows}
 use Rattle.striped_lanes.specs.Schedules.{HasRounds, run}
 use Rattle.date_texts.specs.declared.target.Target.{Target}
-use Rattle.register_records.specs.Entries.{Format, HasFirstEntries}
+use Rattle.register_records.specs.Entries.{HasFirstEntries, Reading}
 use Rattle.register_records.specs.Outcomes.{AreRowsOf}
 use Rattle.register_run.specs.Worlds.{State, World, numbers}
 
@@ -19,8 +19,8 @@ GoesOn w s = places.GoesOn numbers w s
 
 -- a world of a text, which may be unknown: its entries, or the first of them, and the row of each of them; there is a
 -- converter at least, and a lane holds an item at least
-pub record IsWorldOf (format : Format) (targets : List Target) (text : Option (List ℕ)) (w : World) : Type 0 where
-  pub entries : HasFirstEntries format text w.entries
+pub record IsWorldOf (reading : Reading) (targets : List Target) (text : Option (List ℕ)) (w : World) : Type 0 where
+  pub entries : HasFirstEntries reading text w.entries
   pub rows : AreRowsOf targets w.entries (table_rows w)
   pub some_converters : 1 ≤ w.converters
   pub some_room : 1 ≤ w.ring
@@ -32,5 +32,5 @@ Ends w schedule s = HasRounds w (4 * length w.entries) schedule → s.popped ≡
 -- what holds after every schedule, in every world of every text: of the world, the schedule and the state after it
 abbrev pub AfterEverySchedule : (World → List Actor → State → Type 0) → Type 0
 AfterEverySchedule Holds =
-    (format : Format) (targets : List Target) (text : Option (List ℕ)) (w : World) (schedule : List Actor)
-    → IsWorldOf format targets text w → Holds w schedule (run w schedule start)
+    (reading : Reading) (targets : List Target) (text : Option (List ℕ)) (w : World) (schedule : List Actor)
+    → IsWorldOf reading targets text w → Holds w schedule (run w schedule start)

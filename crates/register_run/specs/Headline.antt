@@ -1,7 +1,7 @@
 -- What a run promises of each source.
 use Rattle.std.specs.Prelude.{◌≡◌, ◌⊎◌, ℕ, List, [], ◌∷◌, Option, None, IfSome, ⊤, true, false}
 use Rattle.std.specs.List.{Contains}
-use Rattle.register_records.specs.Entries.{HasAllEntries, HasNoHeader, HasTooMany, IsNotSealed, record_limit}
+use Rattle.register_records.specs.Entries.{HasAllEntries, HasNoHeader, HasTooMany, IsNotSealed, Reading, record_limit}
 use Rattle.register_records.specs.Sources.{ArePartOfTable, Gains, IsFrontOfTable, IsTableOfAll, IsWholeTable}
 use Rattle.register_records.specs.Tables.{Layout}
 use Rattle.register_records.specs.declared.outputs.Output as outputs
@@ -24,16 +24,17 @@ abbrev pub causes_of_reading : List Cause
 causes_of_reading = cause.ReadFault ∷ cause.BadHeader ∷ cause.TooManyRecords ∷ cause.NotSealed ∷ []
 
 -- these bytes are the heading and the rows of all entries of the text, or none where it has no entry
-abbrev pub IsAllOfTable : Layout → Option (List ℕ) → List ℕ → Type 0
-IsAllOfTable layout text bytes =
-    ((bytes ≡ []) × HasAllEntries layout.format text []) ⊎ IsTableOfAll layout text bytes
+abbrev pub IsAllOfTable : Reading → Layout → Option (List ℕ) → List ℕ → Type 0
+IsAllOfTable reading layout text bytes =
+    ((bytes ≡ []) × HasAllEntries reading text []) ⊎ IsTableOfAll reading layout text bytes
 
 -- the output of a source with this text, as it was handed in and as it is handed back, where its bytes are known
-module _ {W : Type 0} (o : outputs.Ghosts W) (layout : Layout) (text : Option (List ℕ)) (given written : W) where
+module _ {W : Type 0} (o : outputs.Ghosts W) (reading : Reading) (layout : Layout) (text : Option (List ℕ))
+    (given written : W) where
   -- the source is whole: the output has gained the table of the text, and nothing else; all that it took was handed on,
   -- and it has failed no more than before
   pub record IsWhole (rows refused : ℕ) (journal : List Note) : Type 0 where
-    pub table : Gains (o.contents given) (o.contents written) (IsWholeTable layout text rows refused journal)
+    pub table : Gains (o.contents given) (o.contents written) (IsWholeTable reading layout text rows refused journal)
     pub flushed : o.is_flushed written ≡ true
     pub good : o.has_failed written ≡ o.has_failed given
 
@@ -41,15 +42,15 @@ module _ {W : Type 0} (o : outputs.Ghosts W) (layout : Layout) (text : Option (L
   -- that agrees all above it. In a table of no known text the rows are in the order of their numbers, from 1, and each
   -- is the row of the entry that it carries
   pub record IsBroken (c : Cause) : Type 0 where
-    pub part : Contains causes_of_reading c → Gains (o.contents given) (o.contents written) (ArePartOfTable layout text)
+    pub part : Contains causes_of_reading c → Gains (o.contents given) (o.contents written) (ArePartOfTable reading layout text)
     pub kept : Contains causes_of_reading c → o.has_failed written ≡ o.has_failed given
-    pub bad_header : c ≡ cause.BadHeader → IfSome text (HasNoHeader layout.format)
-    pub too_many : c ≡ cause.TooManyRecords → IfSome text (HasTooMany layout.format)
-        × Gains (o.contents given) (o.contents written) (IsFrontOfTable layout text record_limit)
-    pub not_sealed : c ≡ cause.NotSealed → (layout.format.form ≡ Sealed) × IfSome text (IsNotSealed layout.format)
-        × Gains (o.contents given) (o.contents written) (IsAllOfTable layout text)
+    pub bad_header : c ≡ cause.BadHeader → IfSome text (HasNoHeader reading)
+    pub too_many : c ≡ cause.TooManyRecords → IfSome text (HasTooMany reading)
+        × Gains (o.contents given) (o.contents written) (IsFrontOfTable reading layout text record_limit)
+    pub not_sealed : c ≡ cause.NotSealed → (reading.form ≡ Sealed) × IfSome text (IsNotSealed reading)
+        × Gains (o.contents given) (o.contents written) (IsAllOfTable reading layout text)
     pub in_order : o.has_failed written ≡ false
-        → Gains (o.contents given) (o.contents written) (ArePartOfTable layout None)
+        → Gains (o.contents given) (o.contents written) (ArePartOfTable reading layout None)
     pub sink : c ≡ cause.SinkFault → o.has_failed written ≡ true
 
   -- the source has ended so

@@ -6,7 +6,7 @@ use Rattle.std.specs.declared.io.traits.Read as reads
 use Rattle.register_records.specs.Entries.{AreNumberedFrom, HasEntries, Numbered}
 use Rattle.register_records.specs.Outcomes.{TableRow}
 use Rattle.register_records.specs.Sources.{Gains, IfWhole, IsTableOf}
-use Rattle.register_records.specs.Views.{format_of, layout_of}
+use Rattle.register_records.specs.Views.{layout_of, reading_of}
 use Rattle.register_records.specs.declared.outputs.Output as outputs
 use Rattle.register_records.specs.declared.entries.Entry.{Entry}
 use Rattle.register_records.specs.declared.rows.Row.{Row}
@@ -41,7 +41,7 @@ pub record IsOfMachine (text : Option (List ℕ)) (setup : Setup) (count : ℕ) 
   pub closed : List (Closed Entry)
   pub counted : length given ≡ count
   pub numbered : AreNumberedFrom 1 given
-  pub entries : HasEntries (format_of setup) text given
+  pub entries : HasEntries (reading_of setup) text given
   pub staffed : map stripe_setup stripes ≡ replicate setup.stripes setup
   pub lanes : AreOfLanes (map feeding_lane stripes) closed
   pub schedule : (w : World) → w.entries ≡ given → w.converters ≡ setup.stripes → w.ring ≡ setup.ring

@@ -5,8 +5,8 @@ use Rattle.std.specs.List.{Contains}
 use Rattle.lane_rings.specs.declared.sender.Sender.{Sender}
 use Rattle.lane_rings.specs.declared.sender.Closed.{Closed}
 use Rattle.lane_rings.specs.Lane.{Lane, HasConfirmation, all_sent, closed_lane, receiver_lane, taken}
-use Rattle.register_records.specs.Entries.{AreNumberedFrom, Format, HasAllEntries, HasEntries, HasFirstEntries}
-use Rattle.register_records.specs.Entries.{HasNoHeader, HasTooMany, IsNotSealed, Numbered, record_limit}
+use Rattle.register_records.specs.Entries.{AreNumberedFrom, HasAllEntries, HasEntries, HasFirstEntries}
+use Rattle.register_records.specs.Entries.{HasNoHeader, HasTooMany, IsNotSealed, Numbered, Reading, record_limit}
 use Rattle.register_records.specs.Seen.{entry_seen}
 use Rattle.register_records.specs.declared.entries.Entry.{Entry}
 use Rattle.register_records.specs.declared.rows.Row.{Row}
@@ -15,7 +15,7 @@ use Rattle.register_records.specs.declared.ends.Cause.{Cause}
 use Rattle.register_records.specs.declared.ends.Cause.TheVariants as cause
 use Rattle.register_run.specs.Carried.{AreDealt, AreOfAllTaken, AreOfTaken, HasEnd, WereDealt}
 use Rattle.register_run.specs.Worlds.{World}
-use Rattle.register_run.specs.declared.reading.Reading.{Reading}
+use Rattle.register_run.specs.declared.reading.ReaderResult.{ReaderResult}
 use Rattle.register_run.specs.declared.reading.Sent.{Sent}
 use Rattle.register_run.specs.declared.converting.Converting.{Converting}
 
@@ -44,17 +44,17 @@ speaks_of_text (Ok count) = true
 speaks_of_text (Err c) = is_of_reading c
 
 -- the entries that a reader gave of a text, by what it has sent: their count, and that it is that of all, or a cause
-pub record IsGiven (text : Option (List ℕ)) (format : Format) (sent : Sent) (given : List Numbered) : Type 0 where
+pub record IsGiven (text : Option (List ℕ)) (reading : Reading) (sent : Sent) (given : List Numbered) : Type 0 where
   pub counted : speaks_of_text sent.outcome ≡ true → length given ≡ sent.count
   pub numbered : AreNumberedFrom 1 given
-  pub first : (given ≡ []) ⊎ HasFirstEntries format text given
-  pub all : IfOk sent.outcome (λ n. (n ≡ length given) × HasEntries format text given)
+  pub first : (given ≡ []) ⊎ HasFirstEntries reading text given
+  pub all : IfOk sent.outcome (λ n. (n ≡ length given) × HasEntries reading text given)
   pub bad_header : IfErr sent.outcome (λ c. c ≡ cause.BadHeader → (given ≡ [])
-      × IfSome text (λ t. HasNoHeader format t))
+      × IfSome text (λ t. HasNoHeader reading t))
   pub too_many : IfErr sent.outcome (λ c. c ≡ cause.TooManyRecords
-      → (length given ≡ record_limit) × IfSome text (λ t. HasTooMany format t))
+      → (length given ≡ record_limit) × IfSome text (λ t. HasTooMany reading t))
   pub not_sealed : IfErr sent.outcome (λ c. c ≡ cause.NotSealed
-      → (format.form ≡ Sealed) × IfSome text (λ t. IsNotSealed format t) × HasAllEntries format text given)
+      → (reading.form ≡ Sealed) × IfSome text (λ t. IsNotSealed reading t) × HasAllEntries reading text given)
 
 -- the cause, if there is one, is no fault of the output
 abbrev pub IsNotOfOutput : Result ℕ Cause → Type 0
@@ -65,21 +65,22 @@ abbrev pub HasStarted : Result ℕ Cause → Type 0
 HasStarted outcome = IfErr outcome (λ c. c ≡ cause.NoThread → ⊥)
 
 -- a reader gave entries of the text, and the machine of as many stripes as there are senders deals them so
-abbrev pub Sends : Option (List ℕ) → Format → Sent → List (Sender Entry) → Type 0
-Sends text format sent senders =
-    (given : List Numbered) × IsGiven text format sent given
+abbrev pub Sends : Option (List ℕ) → Reading → Sent → List (Sender Entry) → Type 0
+Sends text reading sent senders =
+    (given : List Numbered) × IsGiven text reading sent given
     × ((w : World) → w.converters ≡ length senders → AreDealt w 0 given senders)
 
 -- the same, of lanes that were ended
-abbrev pub HasSent : Option (List ℕ) → Format → Sent → List (Closed Entry) → Type 0
-HasSent text format sent closed =
-    (given : List Numbered) × IsGiven text format sent given
+abbrev pub HasSent : Option (List ℕ) → Reading → Sent → List (Closed Entry) → Type 0
+HasSent text reading sent closed =
+    (given : List Numbered) × IsGiven text reading sent given
     × ((w : World) → w.converters ≡ length closed → WereDealt w 0 given closed)
 
 -- a reader of this text, which was given the senders of these lanes, may return this
-pub record IsReading (text : Option (List ℕ)) (format : Format) (lanes : List Lane) (r : Reading) : Type 0 where
+pub record IsReading (text : Option (List ℕ)) (reading : Reading) (lanes : List Lane) (r : ReaderResult)
+    : Type 0 where
   pub from : AreOfLanes lanes r.closed.items
-  pub entries : ∥ HasSent text format r.sent r.closed.items ∥₁
+  pub entries : ∥ HasSent text reading r.sent r.closed.items ∥₁
   pub not_of_output : IsNotOfOutput r.sent.outcome
   pub started : HasStarted r.sent.outcome
 
@@ -100,12 +101,12 @@ abbrev pub IsOfGiven : List Numbered → Row → Type 0
 IsOfGiven given row = Contains given (entry_seen row.entry)
 
 -- each row that was taken is of an entry that the reader gave
-abbrev pub Passes : Option (List ℕ) → Format → Sent → (Row → Type 0) → Type 0
-Passes text format sent took =
-    (given : List Numbered) × IsGiven text format sent given × ((row : Row) → took row → IsOfGiven given row)
+abbrev pub Passes : Option (List ℕ) → Reading → Sent → (Row → Type 0) → Type 0
+Passes text reading sent took =
+    (given : List Numbered) × IsGiven text reading sent given × ((row : Row) → took row → IsOfGiven given row)
 
 -- the threads of a source have ended with this outcome: where it speaks of the text, all that the reader
 -- sent has passed on
-pub record HasPassed (text : Option (List ℕ)) (format : Format) (sent : Sent) (took : Row → Type 0) : Type 0 where
+pub record HasPassed (text : Option (List ℕ)) (reading : Reading) (sent : Sent) (took : Row → Type 0) : Type 0 where
   pub not_of_output : IsNotOfOutput sent.outcome
-  pub rows : speaks_of_text sent.outcome ≡ true → ∥ Passes text format sent took ∥₁
+  pub rows : speaks_of_text sent.outcome ≡ true → ∥ Passes text reading sent took ∥₁

@@ -3,7 +3,7 @@ use Rattle.std.specs.Prelude.{◌≡◌, ◌≢◌, ◌≤◌, ◌<◌, ◌↔�
 use Rattle.std.specs.declared.alloc.Global.{Global}
 use Rattle.std.specs.declared.io.traits.Read as reads
 use Rattle.register_records.specs.Sources.{is_whole_end}
-use Rattle.register_records.specs.Views.{layout_of}
+use Rattle.register_records.specs.Views.{layout_of, reading_of}
 use Rattle.register_records.specs.declared.outputs.Output as outputs
 use Rattle.register_records.specs.declared.setups.Setup.{Setup}
 use Rattle.register_records.specs.declared.ends.Cause.TheVariants as cause
@@ -33,7 +33,7 @@ stripes_of report = map (λ ran. ran.stripes.value.items) report.ran.items
 pub record IsReport {R W : Type 0} (r : reads.Ghosts R) (o : outputs.Ghosts W) (setup : Setup)
     (sources : List R) (given : List W) (report : Report W) : Type 0 where
   pub places : AtEachPlace (λ source before after end. (end ≡ ended.Broken cause.BadHeader → after ≡ before)
-      × ∥ IsSourceEnd o (layout_of setup) (r.remaining source) before after end ∥₁)
+      × ∥ IsSourceEnd o (reading_of setup) (layout_of setup) (r.remaining source) before after end ∥₁)
       sources given report.outputs.items report.ends.items
   pub marks : map o.own_mark report.outputs.items ≡ map o.own_mark given
   pub by_setup : map (λ ran. ran.setup.value) report.ran.items ≡ map (λ source. setup) sources

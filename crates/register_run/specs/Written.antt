@@ -5,7 +5,7 @@ use Rattle.register_records.specs.declared.outputs.Output as outputs
 use Rattle.register_records.specs.declared.rows.Row.{Row}
 use Rattle.register_records.specs.declared.tables.Table.{Table}
 use Rattle.register_records.specs.TablesWritten.{Holds}
-use Rattle.register_records.specs.Views.{format_of}
+use Rattle.register_records.specs.Views.{reading_of}
 use Rattle.register_run.specs.declared.stripes.Stripe.{Stripe}
 use Rattle.register_run.specs.declared.source_threads.SourceThreads.{SourceThreads}
 use Rattle.register_run.specs.declared.reading.Sent.{Sent}
@@ -23,5 +23,5 @@ module _ {W : Type 0} (o : outputs.Ghosts W) where
   -- these stripes
   abbrev pub Concludes : Option (List ℕ) → Table W → W → Sent → List Stripe → Type 0
   Concludes text table output sent stripes =
-      (rows : List Row) × Holds o table output rows × HasPassed text (format_of table.setup) sent (λ row. Contains rows row)
+      (rows : List Row) × Holds o table output rows × HasPassed text (reading_of table.setup) sent (λ row. Contains rows row)
       × IfOk sent.outcome (λ count. ∥ Carries text table.setup count stripes (λ row. Contains rows row) ∥₁)

@@ -3,7 +3,7 @@
 ghost use Rattle.std.specs.Prelude.{◌≡◌, ◌≤◌, ◌↔◌, ◌⊎◌, [], None, Ok, IfSome, false, true};
 ghost use Rattle.register_records.specs.Sources.{IfBroken, IfWhole, cause_number};
 ghost use Rattle.register_records.specs.TablesWritten.{has_lost_output, is_headed, made_by, made_for, table_fault, waiting_of};
-ghost use Rattle.register_records.specs.Views.{layout_of};
+ghost use Rattle.register_records.specs.Views.{layout_of, reading_of};
 ghost use Rattle.register_records.specs.declared.ends.Cause.TheVariants as cause;
 ghost use Rattle.register_records.specs.declared.ends.SourceEnd.TheVariants as ended;
 ghost use Rattle.register_run.specs.MetCauses.{Differs, HasMetNone, IsLowest, IsMet};
@@ -31,7 +31,7 @@ pub(crate) struct EndedSource<R: Read, W: Output> {
     pub ghost marked: { W.own_mark output ≡ W.own_mark (made_for table.value) },
     pub ghost untouched: { end ≡ ended.Broken cause.BadHeader → output ≡ made_for table.value },
     pub ghost threads: { ∥ AreThreadsOf ran.setup.value end ran ∥₁ },
-    pub ghost source_end: { ∥ IsSourceEnd W.Output (layout_of ran.setup.value)
+    pub ghost source_end: { ∥ IsSourceEnd W.Output (reading_of ran.setup.value) (layout_of ran.setup.value)
         (R.remaining source.value) (made_for table.value) output end ∥₁ },
     pub ghost machine: { ∥ IfWhole end (λ count refused journal.
         IsMachineWithTable (R.remaining source.value) ran.setup.value (W.contents (made_for table.value))

@@ -3,7 +3,7 @@
 ghost use Rattle.std.specs.Prelude.{◌≡◌, ◌<◌, ◌≤◌, ◌+◌, ◌/◌, ◌%◌, [], All, Err, map, vec_capacity, vec_len};
 ghost use Rattle.std.specs.List.{AllZip};
 ghost use Rattle.lane_rings.specs.Lane.{sender_lane, sent};
-ghost use Rattle.register_records.specs.Views.{format_of};
+ghost use Rattle.register_records.specs.Views.{reading_of};
 ghost use Rattle.register_run.specs.Carried.{HasEnded};
 ghost use Rattle.register_run.specs.JoinedThreads.{IsNotOfOutput, HasStarted, IsReading, Sends};
 
@@ -26,7 +26,7 @@ pub(crate) struct Sent {
 
 /// What a reader hands back: what is left of its ends of the lanes, and what it has sent.
 #[derive(Drop)]
-pub(crate) struct Reading {
+pub(crate) struct ReaderResult {
     pub(crate) closed: Vec<Closed<Entry>>,
     pub(crate) sent: Sent,
 }
@@ -39,8 +39,8 @@ pub(crate) struct ReaderTask<R> {
     pub(crate) senders: Snapshot<Vec<Sender<Entry>>>,
 }
 
-impl<R: Read> Promise<Reading> for ReaderTask<R> {
-    ghost kept_by = { λ p r. IsReading (R.remaining p.source.value) (format_of p.setup.value)
+impl<R: Read> Promise<ReaderResult> for ReaderTask<R> {
+    ghost kept_by = { λ p r. IsReading (R.remaining p.source.value) (reading_of p.setup.value)
         (map sender_lane p.senders.value.items) r };
 }
 
@@ -52,17 +52,17 @@ pub(crate) fn read_source<R: Read + Drop>(
     setup: &Setup,
     senders: Vec<Sender<Entry>>,
     closed: Vec<Closed<Entry>>,
-) -> Reading
+) -> ReaderResult
     requires some { 0 < vec_len senders }
     requires room { vec_len senders ≤ vec_capacity closed }
     requires none { closed.items ≡ [] }
     requires fresh { All (λ s. sent s ≡ []) senders.items }
-    ensures { IsReading (R.remaining source) (format_of setup.now) (map sender_lane senders.items) result }
+    ensures { IsReading (R.remaining source) (reading_of setup.now) (map sender_lane senders.items) result }
 {
     let mut senders = senders;
     let sent = send_entries(rt, alloc, source, setup, &mut senders);
     let closed = close_all(rt, senders, closed, sent.outcome);
-    Reading { closed, sent }
+    ReaderResult { closed, sent }
 }
 
 /// A reader that stopped after so many entries for this cause.
@@ -89,7 +89,7 @@ fn send_entries<R: Read + Drop>(
     ensures lanes { map sender_lane senders.new.items ≡ map sender_lane senders.old.items }
     ensures not_of_output { IsNotOfOutput result.outcome }
     ensures started { HasStarted result.outcome }
-    ensures sends { ∥ Sends (R.remaining source) (format_of setup.now) result senders.new.items ∥₁ }
+    ensures sends { ∥ Sends (R.remaining source) (reading_of setup.now) result senders.new.items ∥₁ }
 {
     let mut entries = match EntryReader::open(alloc, source, setup) {
         Ok(entries) => entries,

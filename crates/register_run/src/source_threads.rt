@@ -4,7 +4,7 @@ ghost use Rattle.std.specs.Prelude.{◌≡◌, ◌≢◌, ◌↔◌, ◌⊎◌, 
 ghost use Rattle.std.specs.Prelude.{IfSome, length, map, replicate, true, vec_capacity, vec_len};
 ghost use Rattle.std.proofs.Props.{props};
 ghost use Rattle.lane_rings.specs.Lane.{sender_lane, sent};
-ghost use Rattle.register_records.specs.Views.{format_of};
+ghost use Rattle.register_records.specs.Views.{reading_of};
 ghost use Rattle.register_records.specs.declared.ends.Cause.TheVariants as cause;
 ghost use Rattle.register_run.specs.Stripes.{AnyTook, IsReaderOf, feeding_lane, start_fault_cause, stripe_setup};
 ghost use Rattle.register_run.specs.Histories.{Carries};
@@ -15,7 +15,7 @@ ghost use Rattle.striped_lanes.specs.Machine.{turn as turn_in};
 
 use crate::ended_sources::lower;
 use crate::gates::Gate;
-use crate::reading::{ReaderTask, Reading, Sent, read_source, stopped_after};
+use crate::reading::{ReaderResult, ReaderTask, Sent, read_source, stopped_after};
 use crate::running::{Host, RunContext};
 use crate::stripe_lists::{call_off_stripes, join_stripes, start_stripes};
 use crate::stripes::{Look, StartFault, Stripe, started};
@@ -45,7 +45,7 @@ pub(crate) enum Found {
 pub(crate) struct SourceThreads<R: Read> {
     source: Snapshot<R>,
     setup: Snapshot<Setup>,
-    reader: Result<PromisedHandle<Reading, ReaderTask<R>>, StartFault>,
+    reader: Result<PromisedHandle<ReaderResult, ReaderTask<R>>, StartFault>,
     stripes: Vec<Stripe>,
     // The stripe that is next.
     turn: usize,
@@ -173,7 +173,7 @@ impl<R: Read + Drop> SourceThreads<R> {
     /// Joins the threads and confirms all lanes.
     pub(crate) fn finish(self, rt: &impl Threads) -> JoinedThreads<R>
         ensures source { result.source.value ≡ started_on self }
-        ensures passed { HasPassed (R.remaining (started_on self)) (format_of (started_by self)) result.sent
+        ensures passed { HasPassed (R.remaining (started_on self)) (reading_of (started_by self)) result.sent
             (Passed self) }
         ensures machine { IfOk result.sent.outcome (λ count. ∥ Carries (R.remaining (started_on self)) (started_by self)
             count result.stripes.value.items (Passed self) ∥₁) }
@@ -206,7 +206,7 @@ impl<R: Read + Drop> SourceThreads<R> {
 fn start_threads<'s, 'e, T: Host, R: Read + Send + Drop + 'e, G: Gate + Sync>(
     context: &RunContext<'s, 'e, T, G>,
     source: R,
-) -> Result<(PromisedHandle<Reading, ReaderTask<R>>, Vec<Stripe>), StartFault>
+) -> Result<(PromisedHandle<ReaderResult, ReaderTask<R>>, Vec<Stripe>), StartFault>
     ensures reads { IfOk result (λ t. IsReaderOf source context.now.setup.now t.1.items t.0.promise) }
     ensures unpopped { IfOk result (λ t. popped t.1.items ≡ 0) }
 {
@@ -220,10 +220,10 @@ fn start_threads<'s, 'e, T: Host, R: Read + Send + Drop + 'e, G: Gate + Sync>(
     };
     let reader = context.scope.spawn_with(
         task,
-        move || -> Reading
+        move || -> ReaderResult
             requires { (0 < vec_len senders) × (vec_len senders ≤ vec_capacity closed) × (closed.items ≡ [])
                 × All (λ s. sent s ≡ []) senders.items }
-            ensures { IsReading (R.remaining source) (format_of setup.entry.now)
+            ensures { IsReading (R.remaining source) (reading_of setup.entry.now)
                 (map sender_lane senders.items) result }
         { read_source(rt, alloc, source, setup, senders, closed) },
     );
@@ -242,17 +242,17 @@ fn start_threads<'s, 'e, T: Host, R: Read + Send + Drop + 'e, G: Gate + Sync>(
 /// otherwise than the reader did.
 fn join_threads<R: Read + Drop>(
     rt: &impl Threads,
-    reader: PromisedHandle<Reading, ReaderTask<R>>,
+    reader: PromisedHandle<ReaderResult, ReaderTask<R>>,
     stripes: Vec<Stripe>,
 ) -> Sent
     requires { IsReaderOf reader.promise.source.value reader.promise.setup.value stripes.items reader.promise }
-    ensures passed { HasPassed (R.remaining reader.promise.source.value) (format_of reader.promise.setup.value) result
+    ensures passed { HasPassed (R.remaining reader.promise.source.value) (reading_of reader.promise.setup.value) result
         (AnyTook stripes.items) }
     ensures machine { IfOk result.outcome (λ count. ∥ Carries (R.remaining reader.promise.source.value)
         reader.promise.setup.value count stripes.items (AnyTook stripes.items) ∥₁) }
     ensures started { HasStarted result.outcome }
 {
-    let Reading { closed, sent } = reader.join(rt);
+    let ReaderResult { closed, sent } = reader.join(rt);
     match join_stripes(rt, stripes, closed) {
         Ok(ended) if ended == sent.outcome.is_ok() => sent,
         _ => {

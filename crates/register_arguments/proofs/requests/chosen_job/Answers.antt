@@ -1,13 +1,14 @@
 -- What the options mean, and that it fits a setup.
-use Rattle.std.proofs.Common.{rules, arith, ◌≡◌, ◌∙◌, refl, Result, IfErr, IfSome, IsErrAnd, IsSomeAnd}
+use Rattle.std.proofs.Common.{rules, arith, ap, ◌≡◌, ◌∙◌, refl, Result, IfErr, IfSome, IsErrAnd, IsSomeAnd}
 use Rattle.clap.proofs.TakesLemmas.{passed_up}
+use Rattle.register_records.specs.Records.{has_notes}
 use Rattle.register_arguments.specs.CommandLine.{Values}
 use Rattle.register_arguments.specs.Faults.{Fault, fault_of_error}
 use Rattle.register_arguments.specs.Requests.{FailFirst, value_checks}
 use Rattle.register_arguments.specs.declared.request_faults.RequestFault.{RequestFault}
 use Rattle.register_arguments.specs.declared.requests.Job.{Job}
 use Rattle.register_arguments.proofs.OptionLemmas.{found_first, if_some}
-use Rattle.register_arguments.proofs.SetupLemmas.{asked_once, no_fault}
+use Rattle.register_arguments.proofs.SetupLemmas.{asked_once, no_fault, notes_by}
 use Rattle.register_arguments.proofs.requests.chosen_job.Goals as goal
 
 -- where a check finds a fault, which is that of the first check that fails, the error that is passed up is that
@@ -40,7 +41,9 @@ returns-clause-asked c =
       ring = rw fields.1 c.in_ok-ring.ensures.value;
       delimiter = rw (fields.2, c.byte-byte.ensures.value) c.in_ok-delimiter.ensures.value;
       stripes = rw fields.3 c.in_ok-stripes.ensures.value;
+      same_delimiter = refl;
       form = fields.4 ∙ c.chosen_form-form.ensures;
+      notes = ap has_notes (fields.4 ∙ c.chosen_form-form.ensures) ∙ notes_by c.args.options.sealed;
       summary = refl;
       files = refl;
       files_fit = rw c.as_slice.ensures.value at c.in_ok-check_files.ensures.fine;

@@ -1,5 +1,5 @@
 use Rattle.std.proofs.Common.{◌∙◌, refl, sym}
-use Rattle.register_page.proofs.RequestLemmas.{names_once, names_twice}
+use Rattle.register_page.proofs.RequestLemmas.{names_once, names_twice, notes_by}
 use Rattle.register_page.proofs.requests.setup_for.Goals as goal
 
 pub returns-in-Ok-clause-value : goal.returns-in-Ok-clause-value
@@ -7,7 +7,8 @@ returns-in-Ok-clause-value c =
     let once = names_once c.few_targets.ensures _ _ c.set_targets-count.ensures.value
     (λ twice. let e = c.in-Ok.ensures.twice.1 twice in cc e) in
     let value = c.in-Ok.ensures.value in
-    rw (value.0 ∙ once.0, value.2, value.4 ∙ c.form_of.ensures) refl
+    let form = value.4 ∙ c.form_of.ensures in
+    (rw (value.2, form) refl, rw (value.0 ∙ once.0, value.2, form, notes_by c.args.sealed) refl)
 
 pub returns-in-Ok-clause-good : goal.returns-in-Ok-clause-good
 returns-in-Ok-clause-good c =

@@ -9,7 +9,7 @@ use Rattle.register_records.proofs.row_lines.make_heading.Given as goal
 abbrev pub invariant-columns : goal.invariant-columns
 invariant-columns l =
     record {
-      begun : Begins (l.fn.lines.delimiter) (line_bytes l.fn.lines) (map entry_name (entry_order l.fn.form)
+      begun : Begins (l.fn.lines.delimiter) (line_bytes l.fn.lines) (map entry_name (entry_order l.fn.has_notes)
           ++ flat_map (tail_names l.targets) (take l.column-index tail_order)) (line_bytes l.lines);
       short : l.lines.len + columns_room name_room (drop l.column-index tail_order)
           ≤ l.fn.lines.len + entry_name_room + columns_room name_room tail_order;

@@ -10,8 +10,8 @@ abbrev pub invariant-columns : goal.invariant-columns
 invariant-columns l =
     record {
       begun : Begins l.fn.lines.delimiter (line_bytes l.fn.lines) (map (field_shown l.number (body_seen l.body))
-          (take l.i (entry_order l.fn.form))) (line_bytes l.lines);
-      short : l.lines.len + columns_room quoted_room (drop l.i (entry_order l.fn.form)) ≤ l.fn.lines.len + entry_room;
+          (take l.i (entry_order l.fn.has_notes))) (line_bytes l.lines);
+      short : l.lines.len + columns_room quoted_room (drop l.i (entry_order l.fn.has_notes)) ≤ l.fn.lines.len + entry_room;
       kept : l.lines.delimiter ≡ l.fn.lines.delimiter;
       capacity : line_capacity l.lines ≡ line_capacity l.fn.lines;
     }

@@ -2,7 +2,7 @@ use Rattle.std.proofs.Common.{◌≡◌, ◌≢◌, ◌∙◌, ◌+◌, ◌++◌
 use Rattle.std.proofs.Common.{refl, rules, sym, true, ℕ, List}
 use Rattle.std.proofs.lemmas.List.{length-map, map-append}
 use Rattle.csv.proofs.WriteFacts.{appends-none}
-use Rattle.register_records.specs.Entries.{Format, HasAllEntries, HasEntries, HasFirstEntries, HasTooMany, IsNotSealed}
+use Rattle.register_records.specs.Entries.{HasAllEntries, HasEntries, HasFirstEntries, HasTooMany, IsNotSealed, Reading}
 use Rattle.register_records.specs.Entries.{Numbered}
 use Rattle.register_records.specs.Seen.{entry_seen}
 use Rattle.register_records.specs.TablesWritten.{IsNextRow, has_lost_output, made_by, made_for, table_fault}
@@ -127,7 +127,7 @@ returns-in-Ok-false-clause-whole g c =
     let open_ : table_fault c.entries.table ≡ None = search rules in
     let none : c.in-Ok-false.field-0 ≡ false = search rules in
     let read = c.in-Ok-false.ensures.reads in
-    ends_whole _ c.entries.table _ _ _ _ c.end.ensures.whole (whole_rows _ _ _ _ _ _ _ inv.follows open_
+    ends_whole _ c.entries.table _ _ _ _ _ c.end.ensures.whole (whole_rows _ _ _ _ _ _ _ inv.follows open_
     (of_reader HasEntries _ _ _ _ _ _ (read.text.0 ∙ inv.text) (read.text.1 ∙ inv.by)
     ((rw none at read.ends) refl).1 ((rw none at read.all) refl)))
 
@@ -155,7 +155,7 @@ returns-in-Err-read_next-clause-too_many g c is =
     let open_ : table_fault c.entries.table ≡ None = search rules in
     let read = c.in-Err-read_next.ensures.reads in
     let past = read.many (only_many c.in-Err-read_next.fault _ c.from-in-Err-read_next.ensures is) in (
-      of_reader (λ format text _. IfSome text (λ t. HasTooMany format t)) _ _ _ _ [] [] (read.text.0 ∙ inv.text)
+      of_reader (λ reading text _. IfSome text (λ t. HasTooMany reading t)) _ _ _ _ [] [] (read.text.0 ∙ inv.text)
           (read.text.1 ∙ inv.by) refl past.1,
       first_rows _ _ _ _ _ _ _ inv.follows open_ _ past.0,
     )
@@ -168,8 +168,8 @@ returns-in-Err-read_next-clause-not_sealed g c is =
     let which = only_not_sealed c.in-Err-read_next.fault _ c.from-in-Err-read_next.ensures is in
     let lacks = read.not_sealed which in
     let text = read.text.0 ∙ inv.text in let by = read.text.1 ∙ inv.by in (
-      sym (ap (λ (format : Format). format.form) by) ∙ lacks.0,
-      of_reader (λ format text _. IfSome text (λ t. IsNotSealed format t)) _ _ _ _ [] [] text by refl lacks.1,
+      sym (ap (λ (reading : Reading). reading.form) by) ∙ lacks.0,
+      of_reader (λ reading text _. IfSome text (λ t. IsNotSealed reading t)) _ _ _ _ [] [] text by refl lacks.1,
       all_rows _ _ _ _ _ _ _ inv.follows open_
           (of_reader HasAllEntries _ _ _ _ _ _ text by read.kept (read.above which)),
     )

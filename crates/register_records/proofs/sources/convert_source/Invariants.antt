@@ -1,6 +1,6 @@
 use Rattle.std.proofs.Common.{◌≡◌, ◌-◌, false, length}
 use Rattle.register_records.specs.Entries.{record_limit}
-use Rattle.register_records.specs.Views.{format_of, given_of, reader_failed, reads_by, text_of}
+use Rattle.register_records.specs.Views.{given_of, reader_failed, reading_of, reads_by, text_of}
 use Rattle.register_records.proofs.TableLemmas.{Follows}
 use Rattle.register_records.proofs.sources.convert_source.Given as goal
 
@@ -8,7 +8,7 @@ abbrev pub invariant-entries : goal.invariant-entries
 invariant-entries g l =
     record {
       text : text_of l.entries ≡ g.R.Read.remaining l.fn.reader;
-      by : reads_by l.entries ≡ format_of l.setup;
+      by : reads_by l.entries ≡ reading_of l.setup;
       failed : reader_failed l.entries ≡ false;
       follows : Follows g.W.Output l.fn.output l.setup (g.R.Read.remaining l.fn.reader) (given_of l.entries) l.table
           l.output;

@@ -1,5 +1,5 @@
 use Rattle.std.proofs.Common.{◌∙◌, [], arith, length-append, rules, length-set}
-use Rattle.register_run.proofs.Common.{format_of, given_of}
+use Rattle.register_run.proofs.Common.{reading_of, given_of}
 use Rattle.register_run.proofs.DealtLemmas.{dealt_none, dealt_send, dealt_unsent}
 use Rattle.register_run.proofs.MoveLemmas.{set_same}
 use Rattle.register_records.proofs.TableLemmas.{numbered_more}
@@ -10,7 +10,7 @@ pub returns-in-Err-clause-sends : goal.returns-in-Err-clause-sends
 returns-in-Err-clause-sends g c =
     let is =
     given_none (g.R.Read.remaining c.args.source)
-    (format_of c.args.setup.now) c.in-Err.fault c.from.result c.from.ensures c.in-Err.ensures.bad
+    (reading_of c.args.setup.now) c.in-Err.fault c.from.result c.from.ensures c.in-Err.ensures.bad
     c.in-Err.ensures.never.0 c.in-Err.ensures.never.2 c.stopped_after.result c.stopped_after.ensures in
     ∣ ([], is, λ w many. dealt_none w 0 c.args.senders.now.items c.requires.fresh) ∣₁
 

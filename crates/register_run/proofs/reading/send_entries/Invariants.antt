@@ -1,5 +1,5 @@
 use Rattle.std.proofs.Common.{◌≡◌, length, map, vec_len, false}
-use Rattle.register_run.proofs.Common.{sender_lane, AreNumberedFrom, given_of, format_of, AreDealt, World}
+use Rattle.register_run.proofs.Common.{sender_lane, AreNumberedFrom, given_of, reading_of, AreDealt, World}
 use Rattle.register_records.specs.Views.{reader_failed, reads_by, text_of}
 use Rattle.register_run.proofs.reading.send_entries.Given as goal
 
@@ -8,7 +8,7 @@ invariant-loop g l = record {
   len : vec_len l.senders ≡ vec_len l.initial.senders;
   lanes : map sender_lane l.senders.items ≡ map sender_lane l.initial.senders.items;
   text : text_of l.entries ≡ g.R.Read.remaining l.fn.source;
-  by : reads_by l.entries ≡ format_of l.setup;
+  by : reads_by l.entries ≡ reading_of l.setup;
   goes : reader_failed l.entries ≡ false;
   count : l.count ≡ length (given_of l.entries);
   numbered : AreNumberedFrom 1 (given_of l.entries);

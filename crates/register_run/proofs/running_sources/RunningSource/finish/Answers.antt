@@ -1,5 +1,5 @@
 use Rattle.std.proofs.Common.{◌∙◌, rules, subst, sym, IfOk}
-use Rattle.register_run.proofs.Common.{format_of, Carries, AreStaffed, Passed, started_by, HasPassed}
+use Rattle.register_run.proofs.Common.{reading_of, Carries, AreStaffed, Passed, started_by, HasPassed}
 use Rattle.register_run.proofs.RunningSourceLemmas.{concludes, wrote_same}
 use Rattle.register_run.proofs.running_sources.RunningSource.finish.Goals as goal
 
@@ -12,7 +12,7 @@ conclude-requires g c =
       passed =
           concludes g.W.Output s.threads c.send.new.self c.send.new.output (g.R.Read.remaining p.source.value) p.sent p.stripes.value.items
           by_one_setup
-          (subst (λ r. HasPassed (g.R.Read.remaining r) (format_of (started_by s.threads)) p.sent (Passed s.threads))
+          (subst (λ r. HasPassed (g.R.Read.remaining r) (reading_of (started_by s.threads)) p.sent (Passed s.threads))
           (sym ends.source) ends.passed)
           (subst (λ r. IfOk p.sent.outcome (λ count.
           ∥ Carries (g.R.Read.remaining r) (started_by s.threads) count p.stripes.value.items (Passed s.threads) ∥₁))

@@ -3,8 +3,8 @@ use Rattle.std.proofs.Common.{◌≡◌, ℕ, List, Option, None, Some, IfSome, 
 use Rattle.register_arguments.specs.Requests.{MeanJust, Task, table}
 use Rattle.register_files.specs.Openings.{IsOfFiles, missing_file}
 use Rattle.register_files.specs.declared.opening.FileFault.{FileFault}
-use Rattle.register_app.specs.Refusals.{IsOfAsked}
-use Rattle.register_app.specs.declared.refusals.Refusal.TheVariants as refusal
+use Rattle.register_app.specs.ProgramFaults.{IsOfAsked}
+use Rattle.register_app.specs.declared.program_faults.ProgramFault.TheVariants as program_fault
 
 -- a file of the task that the arguments ask for
 asked_file : (arguments : List (List ℕ)) (task : Task) → MeanJust arguments (table task) → (missing : Option (List ℕ))
@@ -15,5 +15,5 @@ asked_file arguments task just None is = tt
 asked_file arguments task just (Some file) is = (task, just, is.0, is.1)
 
 pub asked_by : (arguments : List (List ℕ)) (task : Task) → MeanJust arguments (table task) → (fault : FileFault)
-    → IsOfFiles task.files fault → IsOfAsked arguments (refusal.Files fault)
+    → IsOfFiles task.files fault → IsOfAsked arguments (program_fault.Files fault)
 asked_by arguments task just fault is = asked_file arguments task just (missing_file fault) is

@@ -7,7 +7,7 @@ use Rattle.register_arguments.specs.Faults.{Fault, memory_line}
 use Rattle.register_arguments.specs.Requests.{AreWrong, IsFaultOf, MeanJust, Meaning, wrong}
 use Rattle.register_arguments.specs.declared.request_faults.RequestFault.TheVariants as request_fault
 use Rattle.register_app.specs.Answers.{IsReported}
-use Rattle.register_app.specs.declared.refusals.Refusal.TheVariants as refusal
+use Rattle.register_app.specs.declared.program_faults.ProgramFault.TheVariants as program_fault
 
 -- arguments that ask for something are not refused
 pub never_refused : (arguments : List Text) (meaning : Meaning) (status : ℕ) → MeanJust arguments meaning
@@ -34,7 +34,7 @@ is_wrong arguments (Some fault) just = (just (wrong fault)).0 refl
 pub out_of_memory : (arguments : List Text) (before after : Option (List ℕ))
     → Appends before after memory_line → IsReported arguments 3 before after
 out_of_memory arguments before after line = record {
-  why = refusal.Arguments request_fault.OutOfMemory;
+  why = program_fault.Arguments request_fault.OutOfMemory;
   status_of = refl;
   fault = tt;
   file = tt;

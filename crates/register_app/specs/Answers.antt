@@ -12,11 +12,11 @@ use Rattle.register_records.specs.declared.outputs.Output as outputs
 use Rattle.register_records.specs.declared.setups.Setup.{Setup}
 use Rattle.register_run.specs.declared.reports.Verdict.TheVariants.{Complete}
 use Rattle.register_files.specs.Openings.{AreMade, AreNotSources, AreOpened, AreTwoFiles}
-use Rattle.register_app.specs.Refusals.{IsOfAsked, fault_of_refusal, line_of_refusal, status_of_refusal}
+use Rattle.register_app.specs.ProgramFaults.{IsOfAsked, fault_line, fault_status, request_fault_in}
 use Rattle.register_app.specs.Reports.{lines_from}
 use Rattle.register_arguments.specs.Requests.{IsFaultOf, MeanJust, Task, help, table, version}
 use Rattle.register_arguments.specs.declared.help.TheConstants.{HELP, PRINT_FAULT}
-use Rattle.register_app.specs.declared.refusals.Refusal.{Refusal}
+use Rattle.register_app.specs.declared.program_faults.ProgramFault.{ProgramFault}
 use Rattle.register_arguments.specs.declared.requests.TheConstants.{VERSION}
 
 -- the line on the version
@@ -99,8 +99,8 @@ AreFilesAnswered r o e IsOpened IsMade AreApart arguments status given written o
 -- standard error has gained the line on why nothing is done, with this status: something is wrong with the arguments,
 -- or memory ran out, or a file was missing; of arguments that are not taken, clap says more than the definitions
 pub record IsReported (arguments : List (List ℕ)) (status : ℕ) (before after : Option (List ℕ)) : Type 0 where
-  pub why : Refusal
-  pub status_of : status_of_refusal why ≡ status
-  pub fault : IfSome (fault_of_refusal why) (IsFaultOf arguments)
+  pub why : ProgramFault
+  pub status_of : fault_status why ≡ status
+  pub fault : IfSome (request_fault_in why) (IsFaultOf arguments)
   pub file : IsOfAsked arguments why
-  pub line : IfSome (line_of_refusal why) (Appends before after)
+  pub line : IfSome (fault_line why) (Appends before after)

@@ -1,3 +1,3 @@
-pub mod Refusals
+pub mod ProgramFaults
 pub mod Reports
 pub mod Answers

@@ -2,8 +2,8 @@
 //! the crate `register`, which hands this its arguments, its standard streams and the files of the system.
 #![tactic(auto)]
 
-mod answering;
-mod refusals;
+mod program;
+mod program_faults;
 mod reporting;
 
-pub use answering::{COMPLETE, INCOMPLETE, Outcome, answer};
+pub use program::{COMPLETE, INCOMPLETE, Outcome, answer};

@@ -9,21 +9,21 @@ use std::alloc::{AllocError, Global};
 
 /// Why nothing is done: what is wrong with the arguments, or with the files that they name.
 #[derive(Drop)]
-pub enum Refusal<'a> {
+pub enum ProgramFault<'a> {
     Arguments(RequestFault<'a>),
     Files(FileFault<'a>),
 }
 
-impl Refusal<'_> {
-    ghost use Rattle.register_app.specs.Refusals.{line_of_refusal, status_of_refusal};
+impl ProgramFault<'_> {
+    ghost use Rattle.register_app.specs.ProgramFaults.{fault_line, fault_status};
 
     /// The exit status: 2 for what is wrong with the arguments, and 3 for files and where memory ran out.
     pub fn status(&self) -> u8
-        ensures { result ≡ status_of_refusal self.now }
+        ensures { result ≡ fault_status self.now }
     {
         match self {
-            Refusal::Arguments(fault) => fault.status(),
-            Refusal::Files(_) => 3,
+            ProgramFault::Arguments(fault) => fault.status(),
+            ProgramFault::Files(_) => 3,
         }
     }
 
@@ -33,15 +33,15 @@ impl Refusal<'_> {
     ///
     /// Memory ran out.
     pub fn text(&self, alloc: Global) -> Result<String, AllocError>
-        ensures { IfOk result (λ text. IfSome (line_of_refusal self.now) (λ line. string_bytes text ≡ line)) }
+        ensures { IfOk result (λ text. IfSome (fault_line self.now) (λ line. string_bytes text ≡ line)) }
     {
         match self {
-            Refusal::Arguments(fault) => fault.text(alloc),
-            Refusal::Files(FileFault::CannotOpen(file)) => own_line(alloc, "cannot open ", file),
-            Refusal::Files(FileFault::CannotMake(file)) => {
+            ProgramFault::Arguments(fault) => fault.text(alloc),
+            ProgramFault::Files(FileFault::CannotOpen(file)) => own_line(alloc, "cannot open ", file),
+            ProgramFault::Files(FileFault::CannotMake(file)) => {
                 own_line(alloc, "cannot make ", output_name(alloc, file)?.as_str())
             }
-            Refusal::Files(FileFault::OutOfMemory) => String::from_str(alloc, MEMORY_FAULT),
+            ProgramFault::Files(FileFault::OutOfMemory) => String::from_str(alloc, MEMORY_FAULT),
         }
     }
 }

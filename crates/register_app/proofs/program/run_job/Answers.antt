@@ -14,7 +14,7 @@ use Rattle.register_app.specs.Answers.{IsConverted, IsSetupOf}
 use Rattle.register_app.specs.Reports.{lines_from}
 use Rattle.register_arguments.specs.Requests.{Task}
 use Rattle.register_app.proofs.RefusedLemmas.{out_of_memory}
-use Rattle.register_app.proofs.answering.run_job.Goals as goal
+use Rattle.register_app.proofs.program.run_job.Goals as goal
 
 -- a run whose setup is the task's
 converted : {R W E : Type 0} (r : reads.Ghosts R) (o : outputs.Ghosts W) (e : outputs.Ghosts E) (task : Task)

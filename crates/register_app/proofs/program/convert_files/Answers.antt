@@ -3,7 +3,7 @@ use Rattle.std.proofs.Common.{rules, map, subst}
 use Rattle.register_arguments.specs.Requests.{task_of}
 use Rattle.register_files.specs.Openings.{IsOfFiles}
 use Rattle.register_app.proofs.FileLemmas.{asked_by}
-use Rattle.register_app.proofs.answering.convert_files.Goals as goal
+use Rattle.register_app.proofs.program.convert_files.Goals as goal
 
 pub returns-clause-unwritten : goal.returns-clause-unwritten
 returns-clause-unwritten g c = search rules

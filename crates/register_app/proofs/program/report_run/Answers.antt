@@ -2,7 +2,7 @@
 use Rattle.std.proofs.Common.{rules, arith}
 use Rattle.register_app.proofs.ReportLemmas.{no_lines}
 use Rattle.register_files.proofs.AppendsLemmas.{appends_none}
-use Rattle.register_app.proofs.answering.report_run.Goals as goal
+use Rattle.register_app.proofs.program.report_run.Goals as goal
 
 pub returns-else-summary-clause-lines : goal.returns-else-summary-clause-lines
 returns-else-summary-clause-lines g c = search (rules, no_lines, appends_none)

@@ -5,7 +5,7 @@ use Rattle.std.specs.String.{string_bytes}
 use Rattle.register_arguments.specs.Requests.{MeanJust, help, table, task_of, version}
 use Rattle.register_arguments.specs.Faults.{fault_of_error}
 use Rattle.register_app.proofs.RefusedLemmas.{is_refused, is_wrong, never_refused}
-use Rattle.register_app.proofs.answering.answer.Goals as goal
+use Rattle.register_app.proofs.program.answer.Goals as goal
 
 pub returns-in-Ok-Help-clause-answered : goal.returns-in-Ok-Help-clause-answered
 returns-in-Ok-Help-clause-answered g c = λ low.

@@ -8,12 +8,12 @@ ghost use Rattle.register_app.specs.Answers.{AreConverted, AreFilesAnswered, IsC
 ghost use Rattle.register_app.specs.Answers.{IsPageAnswered, IsPrinted, IsReported, version_line};
 ghost use Rattle.register_records.specs.Sources.{is_whole_end};
 ghost use Rattle.register_files.specs.Openings.{AreMade, IsFresh, IsNewlyMade};
-ghost use Rattle.register_app.specs.Refusals.{IsOfAsked, fault_of_refusal, status_of_refusal};
+ghost use Rattle.register_app.specs.ProgramFaults.{IsOfAsked, fault_status, request_fault_in};
 ghost use Rattle.register_app.specs.Reports.{lines_from};
 ghost use Rattle.register_arguments.specs.Faults.{memory_line};
 ghost use Rattle.register_arguments.specs.Requests.{AreWrong, IsFaultOf, MeanJust, Task, most_files, table, task_of};
 
-use crate::refusals::Refusal;
+use crate::program_faults::ProgramFault;
 use crate::reporting::report_ends;
 use arrayvec::ArrayString;
 use register_arguments::{
@@ -82,9 +82,9 @@ fn report_out_of_memory<E: Output>(errors: &mut E)
 }
 
 /// Reports why nothing is done, and returns the exit status. A fault of `errors` is let go, as above.
-fn report_refusal<E: Output>(alloc: Global, errors: &mut E, why: &Refusal<'_>) -> u8
-    ensures status { (result ≡ 3) ⊎ (result ≡ status_of_refusal why.now) }
-    ensures reported { (arguments : List (List ℕ)) → IfSome (fault_of_refusal why.now) (IsFaultOf arguments)
+fn report_fault<E: Output>(alloc: Global, errors: &mut E, why: &ProgramFault<'_>) -> u8
+    ensures status { (result ≡ 3) ⊎ (result ≡ fault_status why.now) }
+    ensures reported { (arguments : List (List ℕ)) → IfSome (request_fault_in why.now) (IsFaultOf arguments)
         → IsOfAsked arguments why.now → E.has_failed errors.new ≡ false
         → IsReported arguments result (E.contents errors.old) (E.contents errors.new) }
     ensures mark { E.own_mark errors.new ≡ E.own_mark errors.old }
@@ -106,10 +106,10 @@ fn refuse<W: Output, E: Output>(
     alloc: Global,
     output: W,
     errors: &mut E,
-    why: &Refusal<'_>,
+    why: &ProgramFault<'_>,
 ) -> Outcome<W>
-    ensures status { (result.status ≡ 3) ⊎ (result.status ≡ status_of_refusal why.now) }
-    ensures reported { (arguments : List (List ℕ)) → IfSome (fault_of_refusal why.now) (IsFaultOf arguments)
+    ensures status { (result.status ≡ 3) ⊎ (result.status ≡ fault_status why.now) }
+    ensures reported { (arguments : List (List ℕ)) → IfSome (request_fault_in why.now) (IsFaultOf arguments)
         → IsOfAsked arguments why.now → E.has_failed errors.new ≡ false
         → IsReported arguments result.status (E.contents errors.old) (E.contents errors.new) }
     ensures untouched { result.output ≡ output }
@@ -117,7 +117,7 @@ fn refuse<W: Output, E: Output>(
     ensures mark { E.own_mark errors.new ≡ E.own_mark errors.old }
 {
     Outcome {
-        status: report_refusal(alloc, errors, why),
+        status: report_fault(alloc, errors, why),
         output,
         outputs: Vec::new(alloc),
         ran: Vec::new(alloc),
@@ -242,21 +242,11 @@ fn convert_input<
     ensures mark { W.own_mark result.output ≡ W.own_mark output }
     ensures errors_mark { E.own_mark errors.new ≡ E.own_mark errors.old }
 {
-    let Ok(mut sources) = Vec::with_capacity(alloc, 1) else {
-        return refuse(
-            alloc,
-            output,
-            errors,
-            &Refusal::Arguments(RequestFault::OutOfMemory),
-        );
-    };
-    let Ok(mut outputs) = Vec::with_capacity(alloc, 1) else {
-        return refuse(
-            alloc,
-            output,
-            errors,
-            &Refusal::Arguments(RequestFault::OutOfMemory),
-        );
+    let (Ok(mut sources), Ok(mut outputs)) =
+        (Vec::with_capacity(alloc, 1), Vec::with_capacity(alloc, 1))
+    else {
+        let why = ProgramFault::Arguments(RequestFault::OutOfMemory);
+        return refuse(alloc, output, errors, &why);
     };
     sources.push_reserved(input);
     outputs.push_reserved(output);
@@ -301,7 +291,7 @@ fn convert_files<
 {
     let Opened { sources, outputs } = match open_files(alloc, store, job.files.as_slice()) {
         Ok(opened) => opened,
-        Err(fault) => return refuse(alloc, output, errors, &Refusal::Files(fault)),
+        Err(fault) => return refuse(alloc, output, errors, &ProgramFault::Files(fault)),
     };
     let JobEnd {
         status,
@@ -388,6 +378,6 @@ pub fn answer<
                 convert_files(rt, alloc, output, store, errors, &job)
             }
         }
-        Err(fault) => refuse(alloc, output, errors, &Refusal::Arguments(fault)),
+        Err(fault) => refuse(alloc, output, errors, &ProgramFault::Arguments(fault)),
     }
 }

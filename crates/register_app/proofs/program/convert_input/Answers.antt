@@ -2,7 +2,7 @@
 use Rattle.std.proofs.Common.{◌≡◌, ◌∙◌, ◌∷◌, ◌++◌, [], ap, length, rules}
 use Rattle.register_run.proofs.HeadlineLemmas.{lengths_of}
 use Rattle.register_app.proofs.ReportLemmas.{taken_alone}
-use Rattle.register_app.proofs.answering.convert_input.Goals as goal
+use Rattle.register_app.proofs.program.convert_input.Goals as goal
 
 pub returns-clause-converted : goal.returns-clause-converted
 returns-clause-converted g c = λ begun.

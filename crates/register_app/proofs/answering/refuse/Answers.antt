@@ -1,5 +1,0 @@
--- The status is the fault's.
-use Rattle.register_app.proofs.answering.refuse.Goals as goal
-
-pub returns-clause-status : goal.returns-clause-status
-returns-clause-status g c = c.report_refusal.ensures.status

@@ -8,6 +8,7 @@ use Rattle.date_texts.specs.Laws.{OneTarget}
 use Rattle.date_texts.specs.Names.{IsNamed}
 use Rattle.date_texts.specs.declared.target.Target.{Target}
 use Rattle.register_records.specs.SetupRules.{NamesTwice}
+use Rattle.command_lines.proofs.FileLemmas.{meet}
 use Rattle.register_arguments.specs.Faults.{Fault}
 use Rattle.register_arguments.specs.OptionValues.{AreNamesOf, AsksForTargets, IsFirstTargetTwice, IsFirstUnknown}
 use Rattle.register_arguments.specs.OptionValues.{IsListFault, ListMeans, ListMeansJust, StandsBehind, names_in}
@@ -46,27 +47,6 @@ module _ (one : OneTarget) where
   past [] name after [] (t ∷ ts) named front = (t, ts, refl, named.0)
   past (b ∷ bs) name after (u ∷ us) (t ∷ ts) named front = grind (arith, past bs name after us ts named.1 front.1)
   past before name after earlier targets named front = absurd (search rules)
-
--- two places in one list are the same, or one of them comes first
-abbrev pub Meet : List (List ℕ) → List ℕ → List (List ℕ) → List ℕ → Type 0
-Meet before name front other =
-    ((before ≡ front) × (name ≡ other)) ⊎ ((mid : List (List ℕ)) × (front ≡ before ++ name ∷ mid))
-    ⊎ ((mid : List (List ℕ)) × (before ≡ front ++ other ∷ mid))
-
-pub meet : (before : List (List ℕ)) (name : List ℕ) (after front : List (List ℕ)) (other : List ℕ)
-    (back : List (List ℕ)) → before ++ name ∷ after ≡ front ++ other ∷ back
-    → Meet before name front other
-meet [] name after [] other back e = inl (refl, cc)
-meet [] name after (f ∷ fs) other back e = let same : f ≡ name = cc in inr (inl (fs, ap (λ x. x ∷ fs) same))
-meet (b ∷ bs) name after [] other back e = let same : b ≡ other = cc in inr (inr (bs, ap (λ x. x ∷ bs) same))
-meet (b ∷ bs) name after (f ∷ fs) other back e =
-    let same : b ≡ f = cc in
-    let rest : bs ++ name ∷ after ≡ fs ++ other ∷ back = cc in
-    rw (← same) (elim (meet bs name after fs other back rest) [
-      | inl at ↦ inl (ap (λ xs. b ∷ xs) at.0, at.1)
-      | inr (inl (mid, is)) ↦ inr (inl (mid, ap (λ xs. b ∷ xs) is))
-      | inr (inr (mid, is)) ↦ inr (inr (mid, ap (λ xs. b ∷ xs) is))
-    ])
 
 -- the name is the first at fault: targets whose names go on with it have one name twice
 abbrev IsAtFault : List ℕ → List ℕ → Type 0

@@ -1,5 +1,5 @@
 -- What the arguments ask for fits a setup: each target once, the default ones too, since their names differ.
-use Rattle.std.proofs.Common.{rules, ◌≡◌, ◌∙◌, ◌<◌, ℕ, true, false, List, [], length, map, sym, ap, arith, Some, None}
+use Rattle.std.proofs.Common.{rules, ◌≡◌, ◌∙◌, ◌<◌, ℕ, true, false, List, [], length, map, sym, ap, refl, arith, Some, None}
 use Rattle.std.proofs.Common.{Option, Result, Err, inl, inr, true≢false, get_or}
 use Rattle.std.proofs.Common.{Bool, refl}
 use Rattle.std.specs.Prelude.{if◌then◌else◌}
@@ -18,6 +18,9 @@ use Rattle.register_records.specs.SetupRules.{NamesTwice, is_delimiter, is_ring_
 use Rattle.register_records.specs.declared.setups.Setup.{Setup}
 use Rattle.register_records.specs.declared.setups.SetupFault.{SetupFault}
 use Rattle.register_records.specs.declared.setups.SetupFault.TheVariants.{TargetTwice, RingSize, Delimiter, Stripes}
+use Rattle.command_lines.specs.Values.{byte_of}
+use Rattle.command_lines.specs.declared.values.Delimiter.{Delimiter as DelimiterWord}
+use Rattle.command_lines.specs.declared.values.Delimiter.TheVariants as delimiter
 use Rattle.register_arguments.proofs.NameLemmas.{never_twice}
 use Rattle.register_arguments.specs.Requests.{AreTargetsOf}
 
@@ -44,6 +47,12 @@ pub asked_once : (value : Option (List ℕ)) (targets : List Target) → AreTarg
 asked_once None targets is = rw is default_once
 asked_once (Some list) targets (inl none) = rw none.1 never_twice
 asked_once (Some list) targets (inr named) = named.2
+
+-- the byte of a delimiter separates fields
+pub separates : (word : DelimiterWord) → is_delimiter (byte_of word) ≡ true
+separates delimiter.Comma = refl
+separates delimiter.Semicolon = refl
+separates delimiter.Tab = refl
 
 -- so there is such a setup
 pub no_fault : (made : Result Setup SetupFault) (fault : SetupFault) (targets : List Target) (ring byte stripes : ℕ)

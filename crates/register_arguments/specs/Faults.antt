@@ -3,6 +3,8 @@ use Rattle.std.specs.Prelude.{◌++◌, ◌∷◌, ℕ, List, [], codes, Option,
 use Rattle.std.specs.Option.{option_map_or}
 use Rattle.clap.specs.Values.{kind_of}
 use Rattle.clap.specs.declared.error.kind.ErrorKind.{ErrorKind}
+use Rattle.command_lines.specs.declared.files.FilesFault.{FilesFault}
+use Rattle.command_lines.specs.declared.files.FilesFault.TheVariants as files_fault
 use Rattle.date_texts.specs.Calendars.{target_name}
 use Rattle.date_texts.specs.declared.target.Target.{Target}
 use Rattle.register_arguments.specs.declared.request_faults.RequestFault.{RequestFault}
@@ -31,6 +33,11 @@ fault_of_error (request_fault.UnknownDelimiter word) = Some (unknown_delimiter w
 fault_of_error (request_fault.BadStripes word) = Some (bad_stripes word.now)
 fault_of_error request_fault.TooManyFiles = Some too_many_files
 fault_of_error (request_fault.FileTwice file) = Some (file_twice file.now)
+
+-- the error that a fault of files is
+abbrev pub fault_of_files : FilesFault → RequestFault
+fault_of_files files_fault.TooMany = request_fault.TooManyFiles
+fault_of_files (files_fault.Twice file) = request_fault.FileTwice file
 
 -- 2 for what is wrong with the arguments, and 3 where memory ran out
 abbrev pub status_of_fault : RequestFault → ℕ

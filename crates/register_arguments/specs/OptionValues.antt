@@ -1,16 +1,12 @@
 -- What the values of the options mean.
-use Rattle.std.specs.Prelude.{◌≡◌, ◌≢◌, ◌↔◌, ◌⊎◌, ◌==◌, ◌++◌, ◌≤◌, ℕ, List, [], ◌∷◌, codes, length, ⊤, Contains, Result}
-use Rattle.std.specs.Prelude.{Ok, Err, Option, Some, None}
+use Rattle.std.specs.Prelude.{◌≡◌, ◌≢◌, ◌↔◌, ◌⊎◌, ◌==◌, ◌++◌, ℕ, List, [], ◌∷◌, codes, ⊤, Contains, Result, Ok, Err}
 use Rattle.std.specs.List.{slice_split}
-use Rattle.std.specs.Str.Parse.{IsNumeral, digits_value}
 use Rattle.date_texts.specs.Calendars.{target_name}
 use Rattle.date_texts.specs.Names.{IsNamed}
 use Rattle.date_texts.specs.declared.target.Target.{Target}
 use Rattle.register_records.specs.SetupRules.{NamesTwice, largest_ring, most_stripes}
-use Rattle.register_arguments.specs.Faults.{Fault, bad_ring, bad_stripes, target_twice, unknown_delimiter}
-use Rattle.register_arguments.specs.Faults.{unknown_target}
-use Rattle.register_arguments.specs.declared.option_values.Delimiter.{Delimiter}
-use Rattle.register_arguments.specs.declared.option_values.Delimiter.TheVariants as delimiter
+use Rattle.command_lines.specs.Values.{IsNumberWord, ValueOption}
+use Rattle.register_arguments.specs.Faults.{Fault, target_twice, unknown_target}
 
 -- the names in a list: what stands between its commas (44)
 abbrev pub names_in : List ℕ → List (List ℕ)
@@ -68,52 +64,10 @@ ListMeans list (Err fault) = IsListFault list fault
 abbrev pub ListMeansJust : List ℕ → Result (List Target) Fault → Type 0
 ListMeansJust list meaning = (other : Result (List Target) Fault) → (other ≡ meaning) ↔ ListMeans list other
 
--- the words for a comma (44), a semicolon (59) and a tab (9)
-abbrev pub IsDelimiterWord : List ℕ → ℕ → Type 0
-IsDelimiterWord word byte =
-    ((word ≡ codes "comma") × (byte ≡ 44))
-    ⊎ ((word ≡ codes "semicolon") × (byte ≡ 59))
-    ⊎ ((word ≡ codes "tab") × (byte ≡ 9))
-
--- the word is one to five decimal digits, which write the number n, and n is from 1 to `most`
-pub record IsNumberWord (most : ℕ) (word : List ℕ) (n : ℕ) : Type 0 where
-  pub few : length word ≤ 5
-  pub digits : IsNumeral 10 word
-  pub value : n ≡ digits_value 10 word
-  pub some : 1 ≤ n
-  pub no_more : n ≤ most
-
--- an option that asks for a number: which number a word names, the number without it, and the fault of a word that
--- names none
-pub record ValueOption : Type 1 where
-  pub names : List ℕ → ℕ → Type 0
-  pub default : ℕ
-  pub fault : List ℕ → Fault
-
--- this is the number that the option asks for
-abbrev pub IsValueOf : ValueOption → Option (List ℕ) → ℕ → Type 0
-IsValueOf option None n = n ≡ option.default
-IsValueOf option (Some word) n = option.names word n
-
--- what is wrong with the word of an option that asks for a number: it names none
-abbrev pub IsValueFault : ValueOption → Option (List ℕ) → Fault → Type 0
-IsValueFault option value fault =
-    (word : List ℕ) × (fault ≡ option.fault word) × (value ≡ Some word) × ((n : ℕ) → ¬ option.names word n)
-
--- the byte of a delimiter, a comma (44) without a word
-abbrev pub delimiter_option : ValueOption
-delimiter_option = record { names = IsDelimiterWord; default = 44; fault = unknown_delimiter }
-
 -- the size of a ring
 abbrev pub ring_option : ValueOption
-ring_option = record { names = IsNumberWord largest_ring; default = 16; fault = bad_ring }
+ring_option = record { names = IsNumberWord largest_ring; default = 16 }
 
 -- the number of converters
 abbrev pub stripes_option : ValueOption
-stripes_option = record { names = IsNumberWord most_stripes; default = 1; fault = bad_stripes }
-
--- the byte that a delimiter is
-abbrev pub byte_of : Delimiter → ℕ
-byte_of delimiter.Comma = 44
-byte_of delimiter.Semicolon = 59
-byte_of delimiter.Tab = 9
+stripes_option = record { names = IsNumberWord most_stripes; default = 1 }

@@ -1,13 +1,14 @@
 //! The values of the options.
 
-ghost use Rattle.std.specs.Prelude.{◌≡◌, ◌↔◌, ℕ, Some, Ok, Err, IfOk, IfErr, IfSome, IsSomeAnd, option_map, true};
-ghost use Rattle.register_records.specs.SetupRules.{is_delimiter, is_ring_size, is_stripe_count};
-ghost use Rattle.register_arguments.specs.Faults.{fault_of_error};
-ghost use Rattle.register_arguments.specs.OptionValues.{IsNumberWord, IsValueFault, IsValueOf, ListMeansJust};
-ghost use Rattle.register_arguments.specs.OptionValues.{ValueOption, byte_of, delimiter_option, ring_option};
-ghost use Rattle.register_arguments.specs.OptionValues.{stripes_option};
+ghost use Rattle.std.specs.Prelude.{◌≡◌, Ok, Err, IfOk, IfErr, IfSome, IsSomeAnd, option_map, true};
+ghost use Rattle.register_records.specs.SetupRules.{is_ring_size, is_stripe_count};
+ghost use Rattle.command_lines.specs.Meanings.{option_check};
+ghost use Rattle.command_lines.specs.Values.{IsValueOf, byte_of, delimiter_option};
+ghost use Rattle.register_arguments.specs.Faults.{bad_ring, bad_stripes, fault_of_error, unknown_delimiter};
+ghost use Rattle.register_arguments.specs.OptionValues.{ListMeansJust, ring_option, stripes_option};
 
 use crate::request_faults::RequestFault;
+use command_lines::{Delimiter, OptionValue, chosen, number_named};
 use date_texts::laws::one_target;
 use date_texts::{Target, target_named};
 use register_records::{MAX_RING, MAX_STRIPES};
@@ -48,88 +49,6 @@ pub fn read_targets(alloc: Global, list: &str) -> Result<Vec<Target>, RequestFau
     Ok(targets)
 }
 
-/// The most digits of a number.
-const MAX_DIGITS: usize = 5;
-
-/// The number from 1 to `most` that a word of one to five decimal digits names, or `None` where it names none.
-fn number_named(word: &str, most: usize) -> Option<usize>
-    ensures { (n : ℕ) → (result ≡ Some n) ↔ IsNumberWord most word.now n }
-{
-    if word.len() > MAX_DIGITS || word.starts_with('+') {
-        return None;
-    }
-    match word.parse::<usize>() {
-        Ok(number) if 1 <= number && number <= most => Some(number),
-        _ => None,
-    }
-}
-
-/// What an option asks for by one word.
-pub trait OptionValue {
-    // The option.
-    ghost option: { ValueOption };
-
-    // The number that this is.
-    ghost number: { Self → ℕ };
-
-    /// What holds where the option is not given.
-    fn default() -> Self
-        ensures { number result ≡ option.default };
-
-    /// What a word names, or `None` exactly where it names nothing.
-    fn named(word: &str) -> Option<Self>
-        ensures { (n : ℕ) → (option_map number result ≡ Some n) ↔ option.names word.now n };
-
-    /// What is wrong with a word that names nothing.
-    fn fault(word: &str) -> RequestFault<'_>
-        ensures { fault_of_error result ≡ Some (option.fault word.entry.now) };
-}
-
-/// What stands between two fields, by `--delimiter`.
-#[derive(Clone, Copy)]
-pub enum Delimiter {
-    Comma,
-    Semicolon,
-    Tab,
-}
-
-impl Delimiter {
-    /// Its byte.
-    pub fn byte(self) -> u8
-        ensures value { result ≡ byte_of self }
-        ensures fits { is_delimiter result ≡ true }
-    {
-        match self {
-            Delimiter::Comma => b',',
-            Delimiter::Semicolon => b';',
-            Delimiter::Tab => b'\t',
-        }
-    }
-}
-
-impl OptionValue for Delimiter {
-    ghost option = { delimiter_option };
-
-    ghost number = { byte_of };
-
-    fn default() -> Delimiter {
-        Delimiter::Comma
-    }
-
-    fn named(word: &str) -> Option<Delimiter> {
-        match word {
-            "comma" => Some(Delimiter::Comma),
-            "semicolon" => Some(Delimiter::Semicolon),
-            "tab" => Some(Delimiter::Tab),
-            _ => None,
-        }
-    }
-
-    fn fault(word: &str) -> RequestFault<'_> {
-        RequestFault::UnknownDelimiter(word)
-    }
-}
-
 /// How many items a ring holds, by `--ring`.
 #[derive(Clone, Copy)]
 pub struct Ring {
@@ -151,10 +70,6 @@ impl OptionValue for Ring {
             Some(size) => Some(Ring { size }),
             None => None,
         }
-    }
-
-    fn fault(word: &str) -> RequestFault<'_> {
-        RequestFault::BadRing(word)
     }
 }
 
@@ -180,20 +95,46 @@ impl OptionValue for Stripes {
             None => None,
         }
     }
+}
 
-    fn fault(word: &str) -> RequestFault<'_> {
-        RequestFault::BadStripes(word)
+/// The size of a ring that `--ring` asks for.
+///
+/// # Errors
+///
+/// `BadRing` for a word that names none.
+pub fn chosen_ring<'a>(word: Option<&'a str>) -> Result<Ring, RequestFault<'a>>
+    ensures value { IfOk result (λ value. IsValueOf ring_option (option_map (λ w. w.now) word.entry) (value.size)) }
+    ensures fault { IfErr result (λ error. IsSomeAnd (fault_of_error error)
+        ((option_check ring_option bad_ring (option_map (λ w. w.now) word.entry)).fails)) }
+{
+    chosen::<Ring>(word).map_err(RequestFault::BadRing)
+}
+
+/// The delimiter that `--delimiter` asks for.
+///
+/// # Errors
+///
+/// `UnknownDelimiter` for a word that names none.
+pub fn chosen_delimiter<'a>(word: Option<&'a str>) -> Result<Delimiter, RequestFault<'a>>
+    ensures value { IfOk result (λ value. IsValueOf delimiter_option (option_map (λ w. w.now) word.entry) (byte_of value)) }
+    ensures fault { IfErr result (λ error. IsSomeAnd (fault_of_error error)
+        ((option_check delimiter_option unknown_delimiter (option_map (λ w. w.now) word.entry)).fails)) }
+{
+    match chosen::<Delimiter>(word) {
+        Ok(delimiter) => Ok(delimiter),
+        Err(word) => Err(RequestFault::UnknownDelimiter(word)),
     }
 }
 
-/// What the word of an option names, or its default where there is no word.
-pub fn chosen<'a, V: OptionValue>(word: Option<&'a str>) -> Result<V, RequestFault<'a>>
-    ensures value { IfOk result (λ value. IsValueOf V.option (option_map (λ w. w.now) word.entry) (V.number value)) }
+/// The number of converters that `--stripes` asks for.
+///
+/// # Errors
+///
+/// `BadStripes` for a word that names none.
+pub fn chosen_stripes<'a>(word: Option<&'a str>) -> Result<Stripes, RequestFault<'a>>
+    ensures value { IfOk result (λ value. IsValueOf stripes_option (option_map (λ w. w.now) word.entry) (value.count)) }
     ensures fault { IfErr result (λ error. IsSomeAnd (fault_of_error error)
-        (IsValueFault V.option (option_map (λ w. w.now) word.entry))) }
+        ((option_check stripes_option bad_stripes (option_map (λ w. w.now) word.entry)).fails)) }
 {
-    let Some(word) = word else {
-        return Ok(V::default());
-    };
-    V::named(word).ok_or(V::fault(word))
+    chosen::<Stripes>(word).map_err(RequestFault::BadStripes)
 }

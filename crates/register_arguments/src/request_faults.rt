@@ -4,6 +4,7 @@ ghost use Rattle.std.specs.Prelude.{◌≡◌, ◌++◌, IfOk, IfSome};
 ghost use Rattle.std.specs.String.{string_bytes};
 ghost use Rattle.register_arguments.specs.Faults.{program_line};
 
+use command_lines::FilesFault;
 use date_texts::Target;
 use std::alloc::{AllocError, Global};
 
@@ -31,6 +32,19 @@ pub enum RequestFault<'a> {
     TooManyFiles,
     /// A file that is named at two places.
     FileTwice(&'a str),
+}
+
+impl<'a> From<FilesFault<'a>> for RequestFault<'a> {
+    ghost use Rattle.register_arguments.specs.Faults.{fault_of_files};
+
+    ghost from_gives = { λ fault error. error ≡ fault_of_files fault };
+
+    fn from(fault: FilesFault<'a>) -> RequestFault<'a> {
+        match fault {
+            FilesFault::TooMany => RequestFault::TooManyFiles,
+            FilesFault::Twice(file) => RequestFault::FileTwice(file),
+        }
+    }
 }
 
 impl RequestFault<'_> {

@@ -1,28 +1,26 @@
 //! What the arguments ask for.
 
-ghost use Rattle.std.specs.Prelude.{◌≡◌, ℕ, List, IfOk, IfErr, IfSome, IfNone, IsSomeAnd, OnOk, map};
-ghost use Rattle.std.specs.Prelude.{Some, option_map, if◌then◌else◌, unwrap_or, codes, [], false};
+ghost use Rattle.std.specs.Prelude.{◌≡◌, IfOk, IfErr, IfSome, IsSomeAnd, OnOk, map, option_map, if◌then◌else◌};
 ghost use Rattle.std.specs.String.{string_bytes};
-ghost use Rattle.clap.specs.Words.{FailsBy, HasKind, all_of, app_of, fault_of, first_of, found_of, matches_of, one_of};
-ghost use Rattle.clap.specs.Words.{rows_of, rule_of};
-ghost use Rattle.register_arguments.specs.CommandLine.{AreTaken, bare_command, command_line, flag_rule, is_set};
-ghost use Rattle.register_arguments.specs.CommandLine.{files_rule, option_rule, values_in, values_of};
-ghost use Rattle.register_arguments.specs.Faults.{fault_of_error};
-ghost use Rattle.register_arguments.specs.Requests.{AreFilesToConvert, AreTargetsOf, Ask, FailFirst, IsFileFault};
-ghost use Rattle.register_arguments.specs.Requests.{IsFirstFileTwice, IsNamedTwice, IsTargetFault, MeanJust};
-ghost use Rattle.register_arguments.specs.Requests.{meaning_of, task_of, value_checks, values_by, wrong};
+ghost use Rattle.clap.specs.Words.{FailsBy, HasKind, app_of, fault_of, found_of, matches_of, rows_of};
+ghost use Rattle.command_lines.specs.FileLists.{AreFilesToConvert, IsFileFault};
+ghost use Rattle.command_lines.specs.Meanings.{AreTaken, FailFirst, MeanJust, wrong};
+ghost use Rattle.register_arguments.specs.CommandLine.{command_line, values_of};
+ghost use Rattle.register_arguments.specs.Faults.{fault_of_error, file_twice, too_many_files};
+ghost use Rattle.register_arguments.specs.Requests.{AreTargetsOf, Ask, IsTargetFault, meaning_of, register_line};
+ghost use Rattle.register_arguments.specs.Requests.{task_of, value_checks, values_by};
 
-use crate::option_values::{Delimiter, Ring, Stripes, chosen, read_targets};
+use crate::option_values::{chosen_delimiter, chosen_ring, chosen_stripes, read_targets};
 use crate::request_faults::RequestFault;
 use clap::error::ErrorKind;
-use clap::{Arg, ArgAction, ArgMatches, Command};
+use clap::{ArgMatches, Command};
+use command_lines::{
+    check_files, empty_command, files_argument, flag, is_given, option, value_given, values_given,
+};
 use date_texts::Target;
 use date_texts::laws::{default_targets, one_target};
 use register_records::{Form, Setup};
 use std::alloc::{AllocError, Global};
-
-/// The most files of a command line.
-pub const MAX_FILES: usize = 32;
 
 /// The version of the program.
 pub const VERSION: &str = "1.2.0";
@@ -61,41 +59,6 @@ struct Options<'a> {
     files: Vec<&'a str>,
 }
 
-/// An option that takes a value.
-fn option<'a>(alloc: Global, name: &'a str, value: &'a str) -> Arg<'a>
-    ensures rule { rule_of result ≡ option_rule name.entry.now }
-    ensures local { result.global ≡ false }
-{
-    Arg::new(alloc, name).long(name).value_name(value)
-}
-
-/// A flag.
-fn flag<'a>(alloc: Global, name: &'a str) -> Arg<'a>
-    ensures rule { rule_of result ≡ flag_rule name.entry.now }
-    ensures local { result.global ≡ false }
-{
-    Arg::new(alloc, name).long(name).action(ArgAction::SetTrue)
-}
-
-/// The arguments that are no options, as many as there are.
-fn files_argument<'a>(alloc: Global, name: &'a str, value: &'a str) -> Arg<'a>
-    ensures rule { rule_of result ≡ files_rule name.entry.now }
-    ensures local { result.global ≡ false }
-{
-    Arg::new(alloc, name)
-        .value_name(value)
-        .action(ArgAction::Append)
-}
-
-/// The command with none of its options.
-fn empty_command<'a>(alloc: Global) -> Command<'a>
-    ensures { app_of result ≡ bare_command }
-{
-    Command::new(alloc, "register")
-        .version(VERSION)
-        .no_binary_name(true)
-}
-
 /// The command line, as clap reads it: its options and flags, and the files.
 ///
 /// # Errors
@@ -104,7 +67,7 @@ fn empty_command<'a>(alloc: Global) -> Command<'a>
 pub fn command<'a>(alloc: Global) -> Result<Command<'a>, AllocError>
     ensures { IfOk result (λ c. app_of c ≡ command_line) }
 {
-    empty_command(alloc)
+    empty_command(alloc, "register", VERSION)
         .arg(option(alloc, "to", "LIST"))?
         .arg(option(alloc, "ring", "N"))?
         .arg(option(alloc, "stripes", "N"))?
@@ -112,31 +75,6 @@ pub fn command<'a>(alloc: Global) -> Result<Command<'a>, AllocError>
         .arg(flag(alloc, "sealed"))?
         .arg(flag(alloc, "summary"))?
         .arg(files_argument(alloc, "file", "FILE"))
-}
-
-/// The value of an option, where the arguments give one.
-fn value_given<'a>(matches: &ArgMatches<'a>, name: &str) -> Option<&'a str>
-    ensures { option_map (λ v. v.now) result ≡ first_of name.now (rows_of (found_of matches.now)) }
-{
-    matches.get_str(name)
-}
-
-/// Whether the arguments give a flag.
-fn is_given(matches: &ArgMatches<'_>, name: &str) -> bool
-    ensures { result ≡ is_set (one_of name.now (rows_of (found_of matches.now))) }
-{
-    matches.get_one::<bool>(name).unwrap_or(false)
-}
-
-/// The arguments that are no options, as a list to be kept.
-fn files_given<'a>(alloc: Global, matches: &ArgMatches<'a>) -> Result<Vec<&'a str>, AllocError>
-    ensures { IfOk result (λ files. map (λ f. f.now) files.items
-        ≡ unwrap_or (all_of (codes "file") (rows_of (found_of matches.now))) []) }
-{
-    match matches.get_strs("file") {
-        Some(files) => files.to_vec(alloc),
-        None => Ok(Vec::new(alloc)),
-    }
 }
 
 /// What clap finds in the arguments.
@@ -156,7 +94,7 @@ fn read_arguments<'a>(alloc: Global, arguments: &'a [String]) -> Result<ArgMatch
 fn options_found<'a>(alloc: Global, matches: &ArgMatches<'a>) -> Result<Options<'a>, AllocError>
     ensures { IfOk result (λ options. values_by options ≡ values_of (rows_of (found_of matches.now))) }
 {
-    let files = files_given(alloc, matches)?;
+    let files = values_given(alloc, matches, "file")?;
     Ok(Options {
         to: value_given(matches, "to"),
         ring: value_given(matches, "ring"),
@@ -174,8 +112,9 @@ fn options_found<'a>(alloc: Global, matches: &ArgMatches<'a>) -> Result<Options<
 ///
 /// What clap refuses, a request for help or for the version, and running out of memory.
 fn read_options<'a>(alloc: Global, arguments: &'a [String]) -> Result<Options<'a>, clap::Error>
-    ensures taken { IfOk result (λ options. AreTaken (map string_bytes arguments.entry.now)) }
-    ensures values { IfOk result (λ options. values_by options ≡ values_in (map string_bytes arguments.entry.now)) }
+    ensures taken { IfOk result (λ options. AreTaken register_line (map string_bytes arguments.entry.now)) }
+    ensures values { IfOk result (λ options. values_by options
+        ≡ values_of (matches_of command_line (map string_bytes arguments.entry.now))) }
     ensures kinds { IfErr result (HasKind (fault_of command_line (map string_bytes arguments.entry.now))) }
 {
     let matches = read_arguments(alloc, arguments)?;
@@ -208,36 +147,17 @@ fn chosen_form(sealed: bool) -> Form
     if sealed { Form::Sealed } else { Form::Plain }
 }
 
-/// The first file from the left that was named before, or `None` where each is named once.
-fn file_named_twice<'a>(files: &[&'a str]) -> Option<&'a str>
-    ensures first { IfSome result (λ file. IsFirstFileTwice (map (λ f. f.now) files.now) file.now) }
-    ensures none { IfNone result ((file : List ℕ) → ¬ (IsNamedTwice (map (λ f. f.now) files.now) file)) }
-{
-    'places: for place in 0..files.len() {
-        if files[..place].contains(&files[place]) {
-            return Some(files[place]);
-        }
-    }
-    None
-}
-
 /// Finds what is wrong with the files.
 ///
 /// # Errors
 ///
 /// `TooManyFiles` where there are more than 32, and else `FileTwice` for the first that was named before.
-fn check_files<'a>(files: &[&'a str]) -> Result<(), RequestFault<'a>>
+fn files_fit<'a>(files: &[&'a str]) -> Result<(), RequestFault<'a>>
     ensures fine { OnOk result (AreFilesToConvert (map (λ f. f.now) files.now)) }
     ensures fault { IfErr result (λ error. IsSomeAnd (fault_of_error error)
-        (IsFileFault (map (λ f. f.now) files.now))) }
+        (IsFileFault too_many_files file_twice (map (λ f. f.now) files.now))) }
 {
-    if files.len() > MAX_FILES {
-        return Err(RequestFault::TooManyFiles);
-    }
-    match file_named_twice(files) {
-        Some(file) => Err(RequestFault::FileTwice(file)),
-        None => Ok(()),
-    }
+    Ok(check_files(files)?)
 }
 
 /// The conversion that the options ask for.
@@ -245,7 +165,7 @@ fn check_files<'a>(files: &[&'a str]) -> Result<(), RequestFault<'a>>
 /// # Errors
 ///
 /// The first that applies: the faults of the list of targets as [`read_targets`] has them, `BadRing`,
-/// `UnknownDelimiter`, `BadStripes`, and the faults of the files as [`check_files`] has them; and `OutOfMemory` where
+/// `UnknownDelimiter`, `BadStripes`, and the faults of the files as [`files_fit`] has them; and `OutOfMemory` where
 /// memory runs out on the way.
 fn chosen_job<'a>(alloc: Global, options: Options<'a>) -> Result<Job<'a>, RequestFault<'a>>
     ensures asked { IfOk result (λ job. Ask (values_by options.entry) (task_of job)) }
@@ -253,10 +173,10 @@ fn chosen_job<'a>(alloc: Global, options: Options<'a>) -> Result<Job<'a>, Reques
         (FailFirst (value_checks (values_by options.entry)))) }
 {
     let targets = chosen_targets(alloc, options.to)?;
-    let ring = chosen::<Ring>(options.ring)?;
-    let delimiter = chosen::<Delimiter>(options.delimiter)?;
-    let stripes = chosen::<Stripes>(options.stripes)?;
-    check_files(options.files.as_slice())?;
+    let ring = chosen_ring(options.ring)?;
+    let delimiter = chosen_delimiter(options.delimiter)?;
+    let stripes = chosen_stripes(options.stripes)?;
+    files_fit(options.files.as_slice())?;
     let form = chosen_form(options.sealed);
     let byte = delimiter.byte();
     match Setup::new(targets.as_slice(), ring.size, byte, stripes.count, form) {
@@ -281,9 +201,9 @@ pub fn read_request<'a>(
     alloc: Global,
     arguments: &'a [String],
 ) -> Result<Request<'a>, RequestFault<'a>>
-    ensures asked { IfOk result (λ request. MeanJust (map string_bytes arguments.entry.now) (meaning_of request)) }
+    ensures asked { IfOk result (λ request. MeanJust register_line (map string_bytes arguments.entry.now) (meaning_of request)) }
     ensures refused { IfErr result (λ error. IfSome (fault_of_error error)
-        (λ fault. MeanJust (map string_bytes arguments.entry.now) (wrong fault))) }
+        (λ fault. MeanJust register_line (map string_bytes arguments.entry.now) (wrong fault))) }
 {
     one_target();
     let options = match read_options(alloc, arguments) {

@@ -2,13 +2,14 @@
 use Rattle.std.proofs.Common.{rules, arith, ap, ◌≡◌, ◌∙◌, refl, Result, IfErr, IfSome, IsErrAnd, IsSomeAnd}
 use Rattle.clap.proofs.TakesLemmas.{passed_up}
 use Rattle.register_records.specs.Records.{has_notes}
+use Rattle.command_lines.proofs.MeaningLemmas.{found_first, if_some}
+use Rattle.command_lines.specs.Meanings.{FailFirst}
 use Rattle.register_arguments.specs.CommandLine.{Values}
 use Rattle.register_arguments.specs.Faults.{Fault, fault_of_error}
-use Rattle.register_arguments.specs.Requests.{FailFirst, value_checks}
+use Rattle.register_arguments.specs.Requests.{value_checks}
 use Rattle.register_arguments.specs.declared.request_faults.RequestFault.{RequestFault}
 use Rattle.register_arguments.specs.declared.requests.Job.{Job}
-use Rattle.register_arguments.proofs.OptionLemmas.{found_first, if_some}
-use Rattle.register_arguments.proofs.SetupLemmas.{asked_once, no_fault, notes_by}
+use Rattle.register_arguments.proofs.SetupLemmas.{asked_once, no_fault, notes_by, separates}
 use Rattle.register_arguments.proofs.requests.chosen_job.Goals as goal
 
 -- where a check finds a fault, which is that of the first check that fails, the error that is passed up is that
@@ -30,8 +31,8 @@ returns-in_err-delimiter-clause-fault c = search (rules, passes_found)
 pub returns-in_err-stripes-clause-fault : goal.returns-in_err-stripes-clause-fault
 returns-in_err-stripes-clause-fault c = search (rules, passes_found)
 
-pub returns-in_err-check_files-clause-fault : goal.returns-in_err-check_files-clause-fault
-returns-in_err-check_files-clause-fault c = grind (arith, c.as_slice.ensures.value, c.in_err-check_files.ensures.fault)
+pub returns-in_err-files_fit-clause-fault : goal.returns-in_err-files_fit-clause-fault
+returns-in_err-files_fit-clause-fault c = grind (arith, c.as_slice.ensures.value, c.in_err-files_fit.ensures.fault)
 
 pub returns-clause-asked : goal.returns-clause-asked
 returns-clause-asked c =
@@ -39,15 +40,15 @@ returns-clause-asked c =
     record {
       targets = rw (fields.0, c.as_slice-2.ensures.value) c.in_ok-targets.ensures.value;
       ring = rw fields.1 c.in_ok-ring.ensures.value;
-      delimiter = rw (fields.2, c.byte-byte.ensures.value) c.in_ok-delimiter.ensures.value;
+      delimiter = rw (fields.2, c.byte-byte.ensures) c.in_ok-delimiter.ensures.value;
       stripes = rw fields.3 c.in_ok-stripes.ensures.value;
       same_delimiter = refl;
       form = fields.4 ∙ c.chosen_form-form.ensures;
       notes = ap has_notes (fields.4 ∙ c.chosen_form-form.ensures) ∙ notes_by c.args.options.sealed;
       summary = refl;
       files = refl;
-      files_fit = rw c.as_slice.ensures.value at c.in_ok-check_files.ensures.fine;
+      files_fit = rw c.as_slice.ensures.value at c.in_ok-files_fit.ensures.fine;
     }
 
 pub unreachable-requires : goal.unreachable-requires
-unreachable-requires c = search (rules, asked_once, no_fault)
+unreachable-requires c = search (rules, asked_once, no_fault, separates)

@@ -1,5 +1,5 @@
 -- A list of files has one fault at most.
-use Rattle.std.proofs.Common.{rules, ◌≡◌, ◌∙◌, ◌+◌, ℕ, zero, suc, true, false, true≢false, Bor, List, []}
+use Rattle.std.proofs.Common.{rules, ◌≡◌, ◌∙◌, ◌⊎◌, ◌+◌, ℕ, zero, suc, true, false, true≢false, Bor, List, []}
 use Rattle.std.proofs.Common.{◌∷◌, ◌++◌, length, map, take, drop, sym, ap, refl, arith, inl, inr, length-append, subst}
 use Rattle.std.proofs.Common.{◌<◌, Contains, slice_index_or}
 use Rattle.std.specs.List.{list_any}
@@ -8,9 +8,28 @@ use Rattle.std.proofs.lemmas.List.{get_or-map, length-map, map_more, take-map}
 use Rattle.std.proofs.lemmas.List.Folds.{Any-from_list_any, list_any_at}
 use Rattle.std.proofs.lemmas.Slice.Eq.{bytes_eq-Decides}
 use Rattle.clap.specs.Words.{Text}
-use Rattle.register_arguments.specs.Faults.{Fault, file_twice}
-use Rattle.register_arguments.specs.Requests.{AreFilesToConvert, IsFileFault, IsFirstFileTwice, IsNamedTwice}
-use Rattle.register_arguments.proofs.ListLemmas.{meet}
+use Rattle.command_lines.specs.FileLists.{AreFilesToConvert, IsFileFault, IsFirstFileTwice, IsNamedTwice}
+
+-- two places in one list are the same, or one of them comes first
+abbrev pub Meet : List Text → List ℕ → List Text → List ℕ → Type 0
+Meet before name front other =
+    ((before ≡ front) × (name ≡ other)) ⊎ ((mid : List Text) × (front ≡ before ++ name ∷ mid))
+    ⊎ ((mid : List Text) × (before ≡ front ++ other ∷ mid))
+
+pub meet : (before : List Text) (name : Text) (after front : List Text) (other : Text)
+    (back : List Text) → before ++ name ∷ after ≡ front ++ other ∷ back
+    → Meet before name front other
+meet [] name after [] other back e = inl (refl, cc)
+meet [] name after (f ∷ fs) other back e = let same : f ≡ name = cc in inr (inl (fs, ap (λ x. x ∷ fs) same))
+meet (b ∷ bs) name after [] other back e = let same : b ≡ other = cc in inr (inr (bs, ap (λ x. x ∷ bs) same))
+meet (b ∷ bs) name after (f ∷ fs) other back e =
+    let same : b ≡ f = cc in
+    let rest : bs ++ name ∷ after ≡ fs ++ other ∷ back = cc in
+    rw (← same) (elim (meet bs name after fs other back rest) [
+      | inl at ↦ inl (ap (λ xs. b ∷ xs) at.0, at.1)
+      | inr (inl (mid, is)) ↦ inr (inl (mid, ap (λ xs. b ∷ xs) is))
+      | inr (inr (mid, is)) ↦ inr (inr (mid, ap (λ xs. b ∷ xs) is))
+    ])
 
 -- the first file that was named before is named twice
 pub first_is_twice : (files : List Text) (file : Text) → IsFirstFileTwice files file → IsNamedTwice files file
@@ -27,17 +46,18 @@ one_first files file other x y = elim (meet x.before file x.after y.before other
       (record { before = y.before; after = mid; cut = cut; named = y.named }))
 ]
 
-pub fit_no_fault : (files : List Text) (fault : Fault) → AreFilesToConvert files → IsFileFault files fault → ⊥
-fit_no_fault files fault fit (inl many) = absurd (omega (arith, fit.0, many.1))
-fit_no_fault files fault fit (inr twice) = fit.1 twice.0 (first_is_twice files twice.0 twice.3)
+module _ {F : Type 0} (too_many : F) (file_twice : Text → F) (files : List Text) where
+  pub fit_no_fault : (fault : F) → AreFilesToConvert files → IsFileFault too_many file_twice files fault → ⊥
+  fit_no_fault fault fit (inl many) = absurd (omega (arith, fit.0, many.1))
+  fit_no_fault fault fit (inr twice) = fit.1 twice.0 (first_is_twice files twice.0 twice.3)
 
-pub one_file_fault : (files : List Text) (fault other : Fault) → IsFileFault files fault → IsFileFault files other
-    → fault ≡ other
-one_file_fault files fault other (inl many) (inl same) = many.0 ∙ sym same.0
-one_file_fault files fault other (inl many) (inr twice) = absurd (omega (arith, many.1, twice.2))
-one_file_fault files fault other (inr twice) (inl many) = absurd (omega (arith, many.1, twice.2))
-one_file_fault files fault other (inr twice) (inr same) = twice.1 ∙ ap file_twice
-    (one_first files twice.0 same.0 twice.3 same.3) ∙ sym same.1
+  pub one_file_fault : (fault other : F) → IsFileFault too_many file_twice files fault
+      → IsFileFault too_many file_twice files other → fault ≡ other
+  one_file_fault fault other (inl many) (inl same) = many.0 ∙ sym same.0
+  one_file_fault fault other (inl many) (inr twice) = absurd (omega (arith, many.1, twice.2))
+  one_file_fault fault other (inr twice) (inl many) = absurd (omega (arith, many.1, twice.2))
+  one_file_fault fault other (inr twice) (inr same) = twice.1 ∙ ap file_twice
+      (one_first files twice.0 same.0 twice.3 same.3) ∙ sym same.1
 
 -- one more file that was not named before
 pub one_more : (files : List Text) (file : Text) → ((other : Text) → ¬ IsNamedTwice files other)

@@ -1,9 +1,9 @@
 -- None of the files so far is named twice, so the first that is among them is the first named twice.
 use Rattle.std.proofs.Common.{rules, ◌∙◌, List, map, ℕ, sym, subst, arith, take_all}
 use Rattle.std.proofs.lemmas.List.{length-map}
-use Rattle.register_arguments.specs.Requests.{IsNamedTwice}
-use Rattle.register_arguments.proofs.FileLemmas.{first_at, still_once}
-use Rattle.register_arguments.proofs.requests.file_named_twice.Goals as goal
+use Rattle.command_lines.specs.FileLists.{IsNamedTwice}
+use Rattle.command_lines.proofs.FileLemmas.{first_at, still_once}
+use Rattle.command_lines.proofs.files.file_named_twice.Goals as goal
 
 pub returns-then-contains-clause-first : goal.returns-then-contains-clause-first
 returns-then-contains-clause-first c = search (rules, first_at)

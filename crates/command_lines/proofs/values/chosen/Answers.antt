@@ -1,6 +1,6 @@
 -- The word names what it is asked for, or nothing.
 use Rattle.std.proofs.Common.{arith}
-use Rattle.register_arguments.proofs.option_values.chosen.Goals as goal
+use Rattle.command_lines.proofs.values.chosen.Goals as goal
 
 pub returns-clause-value : goal.returns-clause-value
 returns-clause-value g c = grind (arith, c.in-Some.is, c.ok_or.ensures.value)

@@ -1,6 +1,6 @@
 use Rattle.std.proofs.Common.{List, ℕ, map, take}
-use Rattle.register_arguments.specs.Requests.{IsNamedTwice}
-use Rattle.register_arguments.proofs.requests.file_named_twice.Given as goal
+use Rattle.command_lines.specs.FileLists.{IsNamedTwice}
+use Rattle.command_lines.proofs.files.file_named_twice.Given as goal
 
 -- none of the files so far is named twice
 abbrev pub invariant-places : goal.invariant-places

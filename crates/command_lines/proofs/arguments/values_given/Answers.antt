@@ -1,7 +1,7 @@
 -- The list has the values that clap found.
 use Rattle.std.proofs.Common.{rules}
 use Rattle.clap.proofs.WalkLemmas.{raw_values-rows}
-use Rattle.register_arguments.proofs.requests.files_given.Goals as goal
+use Rattle.command_lines.proofs.arguments.values_given.Goals as goal
 
 pub returns-in-Some : goal.returns-in-Some
 returns-in-Some c = search (rules, raw_values-rows)

@@ -3,8 +3,8 @@ use Rattle.std.proofs.Common.{rules, ◌≡◌, Bool, true, false, Option, Some,
 use Rattle.std.specs.Str.Parse.{ParsesBool}
 use Rattle.clap.proofs.WalkLemmas.{one_text-rows}
 use Rattle.clap.specs.Words.{ReadsOne, Text}
-use Rattle.register_arguments.proofs.OptionLemmas.{set_by_text}
-use Rattle.register_arguments.proofs.requests.is_given.Goals as goal
+use Rattle.command_lines.proofs.FlagLemmas.{set_by_text}
+use Rattle.command_lines.proofs.arguments.is_given.Goals as goal
 
 flag_read : (E : Type 0) (text : Option Text) (read : Option Bool) → (text ≡ None → read ≡ None)
     → ((t : Text) → text ≡ Some t → ReadsOne {T = Bool} {E = E} ParsesBool t read)

@@ -4,7 +4,7 @@ use Rattle.std.proofs.Common.{None, refl, sym, if◌then◌else◌}
 use Rattle.std.specs.Option.{option_map_or}
 use Rattle.std.specs.Prelude.{⊤, length, drop, encode_utf8, slice_get}
 use Rattle.std.specs.Str.{chars}
-use Rattle.clap.specs.Words.{IsAmong, Kinds, Rule, Row, Shape, Text, fault_of}
+use Rattle.clap.specs.Words.{IsAmong, Kinds, Rule, Row, Shape, Text}
 use Rattle.clap.specs.Kinds.{or_else, request_kinds, values_kinds}
 use Rattle.clap.specs.Walk.{Held, Step, Waiting, Walk, arg_by_id, arg_by_long, idle, value}
 use Rattle.clap.specs.Faults.{action_fault, built_fault, bundle_step_fault, default_fault, defaults_fault}
@@ -15,7 +15,6 @@ use Rattle.clap.specs.declared.builder.action.ArgAction.{ArgAction}
 use Rattle.clap.specs.declared.builder.action.ArgAction.TheVariants.{Set, Count}
 use Rattle.clap.specs.declared.builder.value_parser.ValueParser.{ValueParser}
 use Rattle.clap.specs.declared.error.kind.ErrorKind.{ErrorKind}
-use Rattle.register_arguments.specs.CommandLine.{command_line}
 
 -- there is one kind at most
 abbrev pub IsLone : Kinds → Type 0
@@ -132,17 +131,12 @@ module _ (s : Shape) (leaf : s.is_leaf ≡ true) where
   lone_below None = refl
   lone_below (Some p) = refl
 
-  lone_app : (h : Held) (arguments : List Text) → IsLone (built_fault (record { top = s; subs = [] }) h arguments)
+  pub lone_app : (h : Held) (arguments : List Text) → IsLone (built_fault (record { top = s; subs = [] }) h arguments)
   lone_app h arguments = search (rules, lone_below, lone_level)
 
-one_of : (kinds : Kinds) (k l : ErrorKind) → IsLone kinds → IsAmong k kinds → IsAmong l kinds → k ≡ l
+pub one_of : (kinds : Kinds) (k l : ErrorKind) → IsLone kinds → IsAmong k kinds → IsAmong l kinds → k ≡ l
 one_of [] k l lone p q = absurd p
 one_of (x ∷ []) k l lone (inl p) (inl q) = p ∙ sym q
 one_of (x ∷ []) k l lone (inl p) (inr q) = absurd q
 one_of (x ∷ []) k l lone (inr p) q = absurd p
 one_of (x ∷ y ∷ xs) k l lone p q = absurd lone
-
--- arguments have one kind of fault at most
-pub one_kind : (arguments : List Text) (k l : ErrorKind) → IsAmong k (fault_of command_line arguments)
-    → IsAmong l (fault_of command_line arguments) → k ≡ l
-one_kind arguments k l = search (rules, one_of, lone_app)

@@ -1,0 +1,4 @@
+pub mod Rules
+pub mod Values
+pub mod FileLists
+pub mod Meanings

@@ -1,0 +1,14 @@
+//! What the command lines of the programs share: how options, flags and files are taken and found, what their words
+//! mean, and that arguments mean one thing.
+#![tactic(auto)]
+
+mod arguments;
+mod files;
+mod values;
+
+pub use arguments::{
+    empty_command, files_argument, flag, is_given, option, repeated_option, value_given,
+    values_given,
+};
+pub use files::{FilesFault, MAX_FILES, check_files};
+pub use values::{Delimiter, OptionValue, chosen, number_named};

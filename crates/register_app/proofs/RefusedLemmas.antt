@@ -4,13 +4,14 @@ use Rattle.std.specs.Option.{option_map_or}
 use Rattle.std.specs.Io.KnownBytes.{Appends}
 use Rattle.clap.specs.Words.{Text}
 use Rattle.register_arguments.specs.Faults.{Fault, memory_line}
-use Rattle.register_arguments.specs.Requests.{AreWrong, IsFaultOf, MeanJust, Meaning, wrong}
+use Rattle.command_lines.specs.Meanings.{Meaning, wrong}
+use Rattle.register_arguments.specs.Requests.{AreWrong, IsFaultOf, MeanJust, Task}
 use Rattle.register_arguments.specs.declared.request_faults.RequestFault.TheVariants as request_fault
 use Rattle.register_app.specs.Answers.{IsReported}
 use Rattle.register_app.specs.declared.program_faults.ProgramFault.TheVariants as program_fault
 
 -- arguments that ask for something are not refused
-pub never_refused : (arguments : List Text) (meaning : Meaning) (status : ℕ) → MeanJust arguments meaning
+pub never_refused : (arguments : List Text) (meaning : Meaning Task Fault) (status : ℕ) → MeanJust arguments meaning
     → ((fault : Fault) → wrong fault ≢ meaning) → status ≢ 2
     → (status ≡ 2) ↔ AreWrong arguments
 never_refused arguments meaning status just differs

@@ -14,7 +14,8 @@ use Rattle.register_run.specs.declared.reports.Verdict.TheVariants.{Complete}
 use Rattle.register_files.specs.Openings.{AreMade, AreNotSources, AreOpened, AreTwoFiles}
 use Rattle.register_app.specs.ProgramFaults.{IsOfAsked, fault_line, fault_status, request_fault_in}
 use Rattle.register_app.specs.Reports.{lines_from}
-use Rattle.register_arguments.specs.Requests.{IsFaultOf, MeanJust, Task, help, table, version}
+use Rattle.command_lines.specs.Meanings.{help, version, work}
+use Rattle.register_arguments.specs.Requests.{IsFaultOf, MeanJust, Task}
 use Rattle.register_arguments.specs.declared.help.TheConstants.{HELP, PRINT_FAULT}
 use Rattle.register_app.specs.declared.program_faults.ProgramFault.{ProgramFault}
 use Rattle.register_arguments.specs.declared.requests.TheConstants.{VERSION}
@@ -85,7 +86,7 @@ IsPageAnswered o e arguments status given written outputs before after =
 abbrev pub IsInputAnswered : {R W E : Type 0} → reads.Ghosts R → outputs.Ghosts W → outputs.Ghosts E → List (List ℕ) → ℕ
     → R → W → W → List W → List Ran → E → E → Type 0
 IsInputAnswered r o e arguments status input given written outputs ran before after =
-    (task : Task) × MeanJust arguments (table task) × (task.files ≡ []) × (outputs ≡ [])
+    (task : Task) × MeanJust arguments (work task) × (task.files ≡ []) × (outputs ≡ [])
     × IsConverted r o e task status (input ∷ []) (given ∷ []) (written ∷ []) ran before after
 
 -- the arguments ask for the tables of files; standard output is as it was
@@ -93,7 +94,7 @@ abbrev pub AreFilesAnswered : {R W E : Type 0} → reads.Ghosts R → outputs.Gh
     → (List ℕ → R → Type 0) → (List ℕ → ℕ → W → Type 0) → (List ℕ → List ℕ → Type 0) → List (List ℕ) → ℕ → W → W
     → List W → List Ran → E → E → Type 0
 AreFilesAnswered r o e IsOpened IsMade AreApart arguments status given written outputs ran before after =
-    (task : Task) × MeanJust arguments (table task) × (task.files ≢ []) × (written ≡ given)
+    (task : Task) × MeanJust arguments (work task) × (task.files ≢ []) × (written ≡ given)
     × AreConverted r o e IsOpened IsMade AreApart task status outputs ran before after
 
 -- standard error has gained the line on why nothing is done, with this status: something is wrong with the arguments,

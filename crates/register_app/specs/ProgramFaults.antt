@@ -2,7 +2,8 @@
 use Rattle.std.specs.Prelude.{◌≡◌, ◌++◌, ℕ, List, codes, IfSome, Option, Some, None, slice_get}
 use Rattle.register_arguments.specs.Faults.{Fault, error_line, fault_of_error, memory_line, program_line}
 use Rattle.register_arguments.specs.Faults.{status_of_fault}
-use Rattle.register_arguments.specs.Requests.{MeanJust, Task, table}
+use Rattle.command_lines.specs.Meanings.{work}
+use Rattle.register_arguments.specs.Requests.{MeanJust, Task}
 use Rattle.register_files.specs.Openings.{missing_file}
 use Rattle.register_files.specs.declared.opening.FileFault.TheVariants as file_fault
 use Rattle.register_app.specs.declared.program_faults.ProgramFault.{ProgramFault}
@@ -34,4 +35,4 @@ fault_line (program_fault.Files file_fault.OutOfMemory) = Some memory_line
 -- the file that cannot be opened or made, where that is why, is one of those whose tables the arguments ask for
 abbrev pub IsOfAsked : List (List ℕ) → ProgramFault → Type 0
 IsOfAsked arguments why = IfSome (missing_file_in why) (λ file.
-    (task : Task) × MeanJust arguments (table task) × (i : ℕ) × (slice_get task.files i ≡ Some file))
+    (task : Task) × MeanJust arguments (work task) × (i : ℕ) × (slice_get task.files i ≡ Some file))

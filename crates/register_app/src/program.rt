@@ -11,7 +11,9 @@ ghost use Rattle.register_files.specs.Openings.{AreMade, IsFresh, IsNewlyMade};
 ghost use Rattle.register_app.specs.ProgramFaults.{IsOfAsked, fault_status, request_fault_in};
 ghost use Rattle.register_app.specs.Reports.{lines_from};
 ghost use Rattle.register_arguments.specs.Faults.{memory_line};
-ghost use Rattle.register_arguments.specs.Requests.{AreWrong, IsFaultOf, MeanJust, Task, most_files, table, task_of};
+ghost use Rattle.command_lines.specs.FileLists.{most_files};
+ghost use Rattle.command_lines.specs.Meanings.{work};
+ghost use Rattle.register_arguments.specs.Requests.{AreWrong, IsFaultOf, MeanJust, Task, task_of};
 
 use crate::program_faults::ProgramFault;
 use crate::reporting::report_ends;
@@ -284,7 +286,7 @@ fn convert_files<
         ⊎ AreMade (IsNewlyMade W.Output (P.is_made store.now)) (task_of job.now).files
         result.outputs.items }
     ensures reported { result.status ≡ 3 → E.has_failed errors.new ≡ false → (arguments : List (List ℕ))
-        → MeanJust arguments (table (task_of job.now))
+        → MeanJust arguments (work (task_of job.now))
         → IsReported arguments result.status (E.contents errors.old) (E.contents errors.new) }
     ensures statuses { (result.status ≡ 0) ⊎ (result.status ≡ 1) ⊎ (result.status ≡ 3) }
     ensures errors_mark { E.own_mark errors.new ≡ E.own_mark errors.old }
@@ -361,7 +363,7 @@ pub fn answer<
 
     // With status 3 the outputs are none, or as they were made.
     ensures unwritten { result.status ≡ 3 → (result.outputs.items ≡ [])
-        ⊎ ((task : Task) × MeanJust (map string_bytes arguments.now) (table task)
+        ⊎ ((task : Task) × MeanJust (map string_bytes arguments.now) (work task)
         × AreMade (IsNewlyMade W.Output (P.is_made store.now)) task.files
         result.outputs.items) }
     ensures statuses { result.status ≤ 3 }

@@ -8,6 +8,7 @@ use Rattle.register_records.specs.Tables.{Layout}
 use Rattle.register_records.specs.Views.{layout_of, reading_of}
 use Rattle.register_records.specs.declared.setups.Form.TheVariants.{Plain, Sealed}
 use Rattle.command_lines.specs.FileLists.{AreFilesToConvert}
+use Rattle.command_lines.specs.Meanings as lines
 use Rattle.command_lines.specs.Meanings.{Check, CommandLine, Meaning, file_check, help, option_check, version, work}
 use Rattle.command_lines.specs.Values.{IsValueOf, delimiter_option}
 use Rattle.register_arguments.specs.CommandLine.{Values, command_line, values_of}
@@ -77,6 +78,16 @@ register_line = record {
   checks = λ found. value_checks (values_of found);
   usage = usage;
 }
+
+-- what the arguments mean and nothing else, what is wrong with them, and that something is
+abbrev pub MeanJust : List Text → Meaning Task Fault → Type 0
+MeanJust = lines.MeanJust register_line
+
+abbrev pub IsFaultOf : List Text → Fault → Type 0
+IsFaultOf = lines.IsFaultOf register_line
+
+abbrev pub AreWrong : List Text → Type 0
+AreWrong = lines.AreWrong register_line
 
 -- what a job asks of a run
 abbrev pub task_of : Job → Task

@@ -4,11 +4,11 @@ ghost use Rattle.std.specs.Prelude.{◌≡◌, IfOk, IfErr, IfSome, IsSomeAnd, O
 ghost use Rattle.std.specs.String.{string_bytes};
 ghost use Rattle.clap.specs.Words.{FailsBy, HasKind, app_of, fault_of, found_of, matches_of, rows_of};
 ghost use Rattle.command_lines.specs.FileLists.{AreFilesToConvert, IsFileFault};
-ghost use Rattle.command_lines.specs.Meanings.{AreTaken, FailFirst, MeanJust, wrong};
+ghost use Rattle.command_lines.specs.Meanings.{AreTaken, FailFirst, wrong};
 ghost use Rattle.register_arguments.specs.CommandLine.{command_line, values_of};
 ghost use Rattle.register_arguments.specs.Faults.{fault_of_error, file_twice, too_many_files};
-ghost use Rattle.register_arguments.specs.Requests.{AreTargetsOf, Ask, IsTargetFault, meaning_of, register_line};
-ghost use Rattle.register_arguments.specs.Requests.{task_of, value_checks, values_by};
+ghost use Rattle.register_arguments.specs.Requests.{AreTargetsOf, Ask, IsTargetFault, MeanJust, meaning_of};
+ghost use Rattle.register_arguments.specs.Requests.{register_line, task_of, value_checks, values_by};
 
 use crate::option_values::{chosen_delimiter, chosen_ring, chosen_stripes, read_targets};
 use crate::request_faults::RequestFault;
@@ -201,9 +201,9 @@ pub fn read_request<'a>(
     alloc: Global,
     arguments: &'a [String],
 ) -> Result<Request<'a>, RequestFault<'a>>
-    ensures asked { IfOk result (λ request. MeanJust register_line (map string_bytes arguments.entry.now) (meaning_of request)) }
+    ensures asked { IfOk result (λ request. MeanJust (map string_bytes arguments.entry.now) (meaning_of request)) }
     ensures refused { IfErr result (λ error. IfSome (fault_of_error error)
-        (λ fault. MeanJust register_line (map string_bytes arguments.entry.now) (wrong fault))) }
+        (λ fault. MeanJust (map string_bytes arguments.entry.now) (wrong fault))) }
 {
     one_target();
     let options = match read_options(alloc, arguments) {

@@ -2,7 +2,8 @@
 use Rattle.std.proofs.Common.{◌≤◌, ◌⊎◌, ◌≡◌, ◌≢◌, ℕ, rules, arith, inl, inr, map, ap, length, refl, []}
 use Rattle.std.proofs.lemmas.List.{length-map, nil_from_length}
 use Rattle.std.specs.String.{string_bytes}
-use Rattle.register_arguments.specs.Requests.{MeanJust, help, table, task_of, version}
+use Rattle.command_lines.specs.Meanings.{help, version, work}
+use Rattle.register_arguments.specs.Requests.{MeanJust, task_of}
 use Rattle.register_arguments.specs.Faults.{fault_of_error}
 use Rattle.register_app.proofs.RefusedLemmas.{is_refused, is_wrong, never_refused}
 use Rattle.register_app.proofs.program.answer.Goals as goal
@@ -32,8 +33,8 @@ pub convert_files-requires-clause-few : goal.convert_files-requires-clause-few
 convert_files-requires-clause-few g c =
     let arguments = map string_bytes c.args.arguments.now in
     let job = c.in-Ok-Convert.job in
-    let just : MeanJust arguments (table (task_of job)) = search (rules, c.in-Ok-Convert.ensures.asked) in
-    let asks = (just (table (task_of job))).0 refl in
+    let just : MeanJust arguments (work (task_of job)) = search (rules, c.in-Ok-Convert.ensures.asked) in
+    let asks = (just (work (task_of job))).0 refl in
     omega (arith, asks.1.files_fit.0, ap length asks.1.files, length-map job.files.items (λ f. f.now))
 
 at_most_three : (status : ℕ) → 2 ≤ status → (status ≡ 0) ⊎ (status ≡ 1) ⊎ (status ≡ 3) → status ≡ 3
@@ -46,7 +47,7 @@ pub returns-then-is_empty-clause-answered : goal.returns-then-is_empty-clause-an
 returns-then-is_empty-clause-answered g c = λ low.
     let arguments = map string_bytes c.args.arguments.now in
     let job = c.in-Ok-Convert.job in
-    let just : MeanJust arguments (table (task_of job)) = search (rules, c.in-Ok-Convert.ensures.asked) in
+    let just : MeanJust arguments (work (task_of job)) = search (rules, c.in-Ok-Convert.ensures.asked) in
     let zero : length job.files.items ≡ 0 = search rules in
     let none : job.files.items ≡ [] = nil_from_length job.files.items zero in
     inr (inl (
@@ -59,7 +60,7 @@ returns-then-is_empty-clause-answered g c = λ low.
 
 pub returns-then-is_empty-clause-refused : goal.returns-then-is_empty-clause-refused
 returns-then-is_empty-clause-refused g c =
-    let just : MeanJust (map string_bytes c.args.arguments.now) (table (task_of c.in-Ok-Convert.job))
+    let just : MeanJust (map string_bytes c.args.arguments.now) (work (task_of c.in-Ok-Convert.job))
     = search (rules, c.in-Ok-Convert.ensures.asked) in
     λ had. never_refused _ _ c.convert_input.result.status just (λ fault e. cc)
     (never_two c.convert_input.result.status c.convert_input.ensures.statuses)
@@ -68,7 +69,7 @@ pub returns-else-is_empty-clause-answered : goal.returns-else-is_empty-clause-an
 returns-else-is_empty-clause-answered g c = λ low.
     let arguments = map string_bytes c.args.arguments.now in
     let job = c.in-Ok-Convert.job in
-    let just : MeanJust arguments (table (task_of job)) = search (rules, c.in-Ok-Convert.ensures.asked) in
+    let just : MeanJust arguments (work (task_of job)) = search (rules, c.in-Ok-Convert.ensures.asked) in
     let some : job.files.items ≢ [] = search rules in
     inr (inr (
       task_of job,
@@ -80,7 +81,7 @@ returns-else-is_empty-clause-answered g c = λ low.
 
 pub returns-else-is_empty-clause-refused : goal.returns-else-is_empty-clause-refused
 returns-else-is_empty-clause-refused g c =
-    let just : MeanJust (map string_bytes c.args.arguments.now) (table (task_of c.in-Ok-Convert.job))
+    let just : MeanJust (map string_bytes c.args.arguments.now) (work (task_of c.in-Ok-Convert.job))
     = search (rules, c.in-Ok-Convert.ensures.asked) in
     λ had. never_refused _ _ c.convert_files.result.status just (λ fault e. cc)
     (never_two c.convert_files.result.status c.convert_files.ensures.statuses)
@@ -113,7 +114,7 @@ pub returns-else-is_empty-clause-unwritten : goal.returns-else-is_empty-clause-u
 returns-else-is_empty-clause-unwritten g c = λ three.
     let arguments = map string_bytes c.args.arguments.now in
     let task = task_of c.in-Ok-Convert.job in
-    let just : MeanJust arguments (table task) = search (rules, c.in-Ok-Convert.ensures.asked) in
+    let just : MeanJust arguments (work task) = search (rules, c.in-Ok-Convert.ensures.asked) in
     elim (c.convert_files.ensures.unwritten three) [ inl none ↦ inl none | inr made ↦ inr (task, just, made) ]
 
 pub returns-else-is_empty-clause-none : goal.returns-else-is_empty-clause-none

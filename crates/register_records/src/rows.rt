@@ -105,6 +105,7 @@ fn next_outcome(
 /// Turns the outcome, the targets and the tail of a row into those of an entry with the next outcome, for the setup's
 /// targets.
 #[inline(always)]
+#[tactic(auto, using(crate::proofs::RowTailLemmas::known_cells))]
 fn reconvert(
     entry: &Entry,
     next: Result<Day, Refusal>,
@@ -124,7 +125,11 @@ fn reconvert(
     ensures written { fields_of tail.new ≡ tail_texts (items_in targets.new.items) (outcome_seen outcome.new)
         (cells_of (items_in targets.new.items) outcome.new tail.new) }
 {
-    tail.renew(targets, *outcome, setup, next);
+    one_cell();
+    if tail.stands(targets, *outcome, setup, next) {
+        return;
+    }
+    tail.set(setup.targets(), next, setup.delimiter());
     *outcome = next;
     *targets = setup.target_list();
 }

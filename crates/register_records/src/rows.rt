@@ -57,27 +57,17 @@ fn day_of_body(body: &Body) -> Result<Day, Refusal>
     }
 }
 
-/// Whether two bodies have the same calendar and date, as they stand in them. The lengths come first, which differ in
-/// most registers of many calendars.
+/// Whether two bodies have the same calendar and date, as they stand in them.
 #[inline(always)]
 fn have_one_date(body: &Body, other: &Body) -> bool
     ensures { result ≡ true → HaveOneDate (body_seen body.now) (body_seen other.now) }
 {
-    let Body::Fields { calendar, date, .. } = body else {
-        return false;
-    };
-    let Body::Fields {
-        calendar: other_calendar,
-        date: other_date,
-        ..
-    } = other
-    else {
-        return false;
-    };
-    calendar.len() == other_calendar.len()
-        && date.len() == other_date.len()
-        && date.as_str() == other_date.as_str()
-        && calendar.as_str() == other_calendar.as_str()
+    match other {
+        Body::Fields { calendar, date, .. } => {
+            body.has_date(calendar.as_str().as_bytes(), date.as_str().as_bytes())
+        }
+        Body::Refused(_) => false,
+    }
 }
 
 /// The outcome of a body: that of the body before where both are known to have the same calendar and date, as in a

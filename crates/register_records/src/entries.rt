@@ -225,6 +225,20 @@ fn is_same<const N: usize>(text: &ArrayString<N>, field: &[u8]) -> bool
     text.as_str().as_bytes() == field
 }
 
+/// Whether a calendar's name and a date are these. The length of the name is compared first: it differs in most registers
+/// of many calendars.
+#[inline(always)]
+fn have_date(
+    calendar: &ArrayString<CALENDAR_LIMIT>,
+    date: &ArrayString<DATE_LIMIT>,
+    name: &[u8],
+    text: &[u8],
+) -> bool
+    ensures { result ≡ true → (calendar.now.bytes ≡ name.now) × (date.now.bytes ≡ text.now) }
+{
+    calendar.len() == name.len() && is_same(date, text) && is_same(calendar, name)
+}
+
 /// Copies a field, which is UTF-8, to a text.
 #[inline(always)]
 fn copy_text<const N: usize>(copy: &mut ArrayString<N>, field: &[u8])
@@ -272,16 +286,15 @@ impl Body {
         body
     }
 
-    /// Whether this calendar's name and this date stand in the body. The length of the name is compared first: it differs
-    /// in most registers of many calendars.
+    /// Whether this calendar's name and this date stand in the body.
     #[inline(always)]
     pub(crate) fn has_date(&self, name: &[u8], text: &[u8]) -> bool
         ensures { result ≡ true → HasDate name.now text.now (body_seen self.now) }
     {
-        let Body::Fields { calendar, date, .. } = self else {
-            return false;
-        };
-        calendar.len() == name.len() && is_same(date, text) && is_same(calendar, name)
+        match self {
+            Body::Fields { calendar, date, .. } => have_date(calendar, date, name, text),
+            Body::Refused(_) => false,
+        }
     }
 
     /// Makes this body that of a record, which may be known to be plain. Returns true only where its calendar and its
@@ -312,8 +325,8 @@ impl Body {
         ensures held { IsTrue (may_hold self.new) }
         ensures same_date { result ≡ true → HaveOneDate (body_seen self.old) (body_seen self.new) }
     {
-        let same_date = self.has_date(fields.calendar, fields.date);
-        if let Body::Refused(_) = self {
+        let was_refused = matches!(self, Body::Refused(_));
+        if was_refused {
             *self = Body::blank();
         }
         let Body::Fields {
@@ -331,10 +344,11 @@ impl Body {
         if !fields.note.is_empty() {
             copy_text(note, fields.note);
         }
-        if !same_date {
-            copy_text(calendar, fields.calendar);
-            copy_text(date, fields.date);
+        if have_date(calendar, date, fields.calendar, fields.date) {
+            return !was_refused;
         }
-        same_date
+        copy_text(calendar, fields.calendar);
+        copy_text(date, fields.date);
+        false
     }
 }

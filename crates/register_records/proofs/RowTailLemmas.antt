@@ -234,17 +234,10 @@ whole_tail ts o tail is =
     }
 
 -- what is only said of its cells is known of them, since they are the only ones
-known_cells : OneCell → (ts : List Target) (o : Result ℤ Refusal) (cells : List (List ℕ)) → ∥ AreCells ts o cells ∥₁
+pub known_cells : OneCell → (ts : List Target) (o : Result ℤ Refusal) (cells : List (List ℕ)) → ∥ AreCells ts o cells ∥₁
     → AreCells ts o cells
 known_cells law ts o cells said =
     let (known, are) = has_cells ts o in
     let same : known ≡ cells =
     ∥∥₁_elim said (Prim.hlevel props) (λ is. one_cells law o ts known cells are is) in
     subst (λ (xs : List (List ℕ)). AreCells ts o xs) same are
-
--- a tail of an outcome for some targets is that of the same outcome for the same targets
-pub stands : OneCell → (ts us : List Target) (o p : Result Day Refusal) (tail : RowTail)
-    → ∥ AreCells ts (outcome_seen o) (cells_of ts o tail) ∥₁
-    → fields_of tail ≡ tail_texts ts (outcome_seen o) (cells_of ts o tail)
-    → ts ≡ us → outcome_seen o ≡ outcome_seen p → AreWhole us p tail
-stands law ts us o p tail said written targets same = search (rules, known_cells)

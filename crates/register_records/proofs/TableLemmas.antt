@@ -205,9 +205,6 @@ ends_so (end.Broken c) IsSo is = tt
 pub other_cause : (f : Option Cause) (c d : Cause) → f ≡ Some c → (c ≡ d → ⊥) → f ≢ Some d
 other_cause f c d e other is = other (cc)
 
-pub sink_alone : (f : Option Cause) → IfSome f (λ c. c ≡ cause.SinkFault) → f ≢ Some cause.Unconfirmed
-sink_alone f h e = search rules
-
 pub no_thread : (f : Option Cause) (c : Cause) → f ≡ Some c → IfSome f (λ c. is_of_table c ≡ true) → c ≢ cause.NoThread
 no_thread f c e of is = search rules
 
@@ -220,12 +217,6 @@ pub faultless : (s : TableState) → fault_of s ≡ None → lost_output s ≡ f
 faultless state.Open e = refl
 faultless (state.Halted c) e = refl
 faultless (state.OutputFailed c) e = absurd (cc)
-
-pub lost_fault : (s : TableState) → lost_output s ≡ true → IfSome (fault_of s) (λ c. c ≡ cause.SinkFault)
-    → fault_of s ≡ Some cause.SinkFault
-lost_fault state.Open e h = absurd (cc)
-lost_fault (state.Halted c) e h = absurd (cc)
-lost_fault (state.OutputFailed c) e h = ap Some h
 
 pub fault_cases : (f : Option Cause) → (f ≡ None) ⊎ (f ≢ None)
 fault_cases None = inl refl

@@ -5,9 +5,9 @@ ghost use Rattle.std.specs.List.{list_all};
 ghost use Rattle.std.specs.Str.{is_utf8};
 ghost use Rattle.csv.specs.Records.{fields_of, text_of};
 ghost use Rattle.register_records.specs.BareTexts.{IsPlain, has_special, is_plain_byte};
-ghost use Rattle.register_records.specs.Entries.{HaveOneDate, are_fit, body_of, body_seen, may_hold, record_limit};
+ghost use Rattle.register_records.specs.Entries.{HasDate, HaveOneDate, are_fit, body_of, body_seen, may_hold, record_limit};
 
-use crate::record_fields::{RecordFields, is_text};
+use crate::record_fields::RecordFields;
 use crate::setups::Form;
 use arrayvec::ArrayString;
 use csv::ByteRecord;
@@ -225,6 +225,20 @@ fn is_same<const N: usize>(text: &ArrayString<N>, field: &[u8]) -> bool
     text.as_str().as_bytes() == field
 }
 
+/// Whether a calendar's name and a date are these. The length of the name is compared first: it differs in most registers
+/// of many calendars.
+#[inline(always)]
+fn have_date(
+    calendar: &ArrayString<CALENDAR_LIMIT>,
+    date: &ArrayString<DATE_LIMIT>,
+    name: &[u8],
+    text: &[u8],
+) -> bool
+    ensures { result ≡ true → (calendar.now.bytes ≡ name.now) × (date.now.bytes ≡ text.now) }
+{
+    calendar.len() == name.len() && is_same(date, text) && is_same(calendar, name)
+}
+
 /// Copies a field, which is UTF-8, to a text.
 #[inline(always)]
 fn copy_text<const N: usize>(copy: &mut ArrayString<N>, field: &[u8])
@@ -236,18 +250,9 @@ fn copy_text<const N: usize>(copy: &mut ArrayString<N>, field: &[u8])
     copy.push_str(unsafe { str::from_utf8_unchecked(field) });
 }
 
-/// A text that is a field, which is UTF-8.
-fn text_of_field<const N: usize>(field: &[u8]) -> ArrayString<N>
-    requires fits { length field.now ≤ N }
-    requires is_text { is_utf8 field.now ≡ true }
-    ensures { result.bytes ≡ field.now }
-{
-    let mut text = ArrayString::new();
-    copy_text(&mut text, field);
-    text
-}
-
 impl Body {
+    ghost use Rattle.register_records.specs.Seen.{fields_seen};
+
     /// A body of empty texts.
     fn blank() -> Body
         ensures texts { body_seen result ≡ Ok (record { id = []; calendar = []; date = []; note = [] }) }
@@ -267,23 +272,33 @@ impl Body {
         ensures value { body_seen result ≡ body_of Form.Plain (id.now ∷ calendar.now ∷ date.now ∷ []) }
         ensures held { IsTrue (may_hold result) }
     {
-        if id.len() > ID_LIMIT || calendar.len() > CALENDAR_LIMIT || date.len() > DATE_LIMIT {
-            return Body::Refused(Refusal::FieldTooLong);
+        let fields = RecordFields {
+            id,
+            calendar,
+            date,
+            note: b"",
+        };
+        if let Some(refusal) = fields.refusal(false) {
+            return Body::Refused(refusal);
         }
-        if !is_text(id) || !is_text(calendar) || !is_text(date) {
-            return Body::Refused(Refusal::NotUtf8);
-        }
-        Body::Fields {
-            id: text_of_field(id),
-            calendar: text_of_field(calendar),
-            date: text_of_field(date),
-            note: ArrayString::new(),
+        let mut body = Body::blank();
+        body.set_texts(&fields);
+        body
+    }
+
+    /// Whether this calendar's name and this date stand in the body.
+    #[inline(always)]
+    pub(crate) fn has_date(&self, name: &[u8], text: &[u8]) -> bool
+        ensures { result ≡ true → HasDate name.now text.now (body_seen self.now) }
+    {
+        match self {
+            Body::Fields { calendar, date, .. } => have_date(calendar, date, name, text),
+            Body::Refused(_) => false,
         }
     }
 
     /// Makes this body that of a record, which may be known to be plain. Returns true only where its calendar and its
-    /// date are those of the body before it. The length of the calendar's name is compared first: it differs in most
-    /// registers of many calendars.
+    /// date are those of the body before it.
     #[inline(always)]
     fn set(&mut self, csv_record: &ByteRecord, form: Form, plain: bool) -> bool
         requires { plain ≡ true → IsPlain (text_of csv_record.now) }
@@ -295,18 +310,21 @@ impl Body {
             *self = Body::Refused(Refusal::FieldCount);
             return false;
         };
-        if fields.id.len() > ID_LIMIT
-            || fields.calendar.len() > CALENDAR_LIMIT
-            || fields.date.len() > DATE_LIMIT
-            || fields.note.len() > NOTE_LIMIT
-        {
-            *self = Body::Refused(Refusal::FieldTooLong);
+        if let Some(refusal) = fields.refusal(plain) {
+            *self = Body::Refused(refusal);
             return false;
         }
-        if !fields.are_texts(plain) {
-            *self = Body::Refused(Refusal::NotUtf8);
-            return false;
-        }
+        self.set_texts(&fields)
+    }
+
+    /// Makes this the body of these fields, to which no refusal applies. Returns what [`Body::set`] does.
+    #[inline(always)]
+    fn set_texts(&mut self, fields: &RecordFields) -> bool
+        requires { are_fit (Ok (fields_seen fields.now)) ≡ true }
+        ensures value { body_seen self.new ≡ Ok (fields_seen fields.now) }
+        ensures held { IsTrue (may_hold self.new) }
+        ensures same_date { result ≡ true → HaveOneDate (body_seen self.old) (body_seen self.new) }
+    {
         let was_refused = matches!(self, Body::Refused(_));
         if was_refused {
             *self = Body::blank();
@@ -326,10 +344,7 @@ impl Body {
         if !fields.note.is_empty() {
             copy_text(note, fields.note);
         }
-        if calendar.len() == fields.calendar.len()
-            && is_same(date, fields.date)
-            && is_same(calendar, fields.calendar)
-        {
+        if have_date(calendar, date, fields.calendar, fields.date) {
             return !was_refused;
         }
         copy_text(calendar, fields.calendar);

@@ -1,16 +1,18 @@
 //! The fields of a record by what they hold.
 
-ghost use Rattle.std.specs.Prelude.{◌≡◌, MatchOption, None, Some, true};
+ghost use Rattle.std.specs.Prelude.{◌≡◌, Err, IfSome, IsTrue, MatchOption, None, Ok, Some, true};
 ghost use Rattle.std.specs.Str.{is_utf8};
 ghost use Rattle.csv.specs.Records.{fields_of};
 ghost use Rattle.register_records.specs.Records.{texts_of};
 
+use crate::entries::{CALENDAR_LIMIT, DATE_LIMIT, ID_LIMIT, NOTE_LIMIT};
 use crate::setups::Form;
 use csv::ByteRecord;
+use date_texts::Refusal;
 use std::str;
 
 /// Whether a field is UTF-8.
-pub(crate) fn is_text(field: &[u8]) -> bool
+fn is_text(field: &[u8]) -> bool
     ensures { result ≡ is_utf8 field.now }
 {
     str::from_utf8(field).is_ok()
@@ -26,8 +28,9 @@ pub(crate) struct RecordFields<'a> {
 }
 
 impl<'a> RecordFields<'a> {
-    ghost use Rattle.register_records.specs.Entries.{are_utf8};
+    ghost use Rattle.register_records.specs.Entries.{are_fit, are_utf8, body_of_texts, may_hold};
     ghost use Rattle.register_records.specs.Seen.{fields_seen};
+    ghost use Rattle.register_records.specs.declared.entries.Body.TheVariants as body;
 
     /// The fields of a record that has as many as the form wants.
     #[tactic(auto, using(crate::proofs::FieldLemmas::missing_field))]
@@ -52,7 +55,7 @@ impl<'a> RecordFields<'a> {
 
     /// Whether all are UTF-8. Those of a plain record, which are ASCII, are not looked at.
     #[inline(always)]
-    pub(crate) fn are_texts(&self, plain: bool) -> bool
+    fn are_texts(&self, plain: bool) -> bool
         requires { plain ≡ true → are_utf8 (fields_seen self.now) ≡ true }
         ensures { result ≡ are_utf8 (fields_seen self.now) }
     {
@@ -61,5 +64,26 @@ impl<'a> RecordFields<'a> {
                 && is_text(self.calendar)
                 && is_text(self.date)
                 && is_text(self.note)
+    }
+
+    /// The first refusal that applies before a calendar is looked for, of fields that may be known to be plain.
+    #[inline(always)]
+    pub(crate) fn refusal(&self, plain: bool) -> Option<Refusal>
+        requires { plain ≡ true → are_utf8 (fields_seen self.now) ≡ true }
+        ensures value { MatchOption result (are_fit (Ok (fields_seen self.now)) ≡ true)
+            (λ r. body_of_texts (fields_seen self.now) ≡ Err r) }
+        ensures held { IfSome result (λ r. IsTrue (may_hold (body.Refused r))) }
+    {
+        if self.id.len() > ID_LIMIT
+            || self.calendar.len() > CALENDAR_LIMIT
+            || self.date.len() > DATE_LIMIT
+            || self.note.len() > NOTE_LIMIT
+        {
+            return Some(Refusal::FieldTooLong);
+        }
+        if !self.are_texts(plain) {
+            return Some(Refusal::NotUtf8);
+        }
+        None
     }
 }

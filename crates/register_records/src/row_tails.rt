@@ -247,33 +247,21 @@ impl RowTail {
         self.push_column(TailColumn::Refusal, targets, outcome);
     }
 
-    /// Turns this tail, of an outcome for some targets, into that of the next outcome for the setup's. It stays where
-    /// these and the delimiter are the same, as for a second entry on a day in a register in order of time.
+    /// Whether this tail, of an outcome for some targets, is that of the next outcome for the setup's too: these and the
+    /// delimiter are the same, as for a second entry on a day in a register in order of time.
     #[inline(always)]
-    #[tactic(auto, using(crate::proofs::RowTailLemmas::stands))]
-    pub fn renew(
-        &mut self,
+    pub fn stands(
+        &self,
         targets: &TargetList,
         outcome: Result<Day, Refusal>,
         setup: &Setup,
         next: Result<Day, Refusal>,
-    )
-        requires cells { ∥ AreCells (items_in targets.now.items) (outcome_seen outcome)
-            (cells_of (items_in targets.now.items) outcome self.old) ∥₁ }
-        requires written { fields_of self.old ≡ tail_texts (items_in targets.now.items) (outcome_seen outcome)
-            (cells_of (items_in targets.now.items) outcome self.old) }
-        ensures cells { AreCells (targets_of setup.now) (outcome_seen next)
-            (cells_of (targets_of setup.now) next self.new) }
-        ensures written { fields_of self.new ≡ tail_texts (targets_of setup.now) (outcome_seen next)
-            (cells_of (targets_of setup.now) next self.new) }
+    ) -> bool
+        ensures outcome { result ≡ true → outcome_seen outcome ≡ outcome_seen next }
+        ensures targets { result ≡ true → items_in targets.now.items ≡ targets_of setup.now }
     {
-        one_cell();
-        if is_same_outcome(outcome, next)
+        is_same_outcome(outcome, next)
             && self.delimiter == setup.delimiter()
             && targets.is_same(&setup.target_list())
-        {
-            return;
-        }
-        self.set(setup.targets(), next, setup.delimiter());
     }
 }

@@ -57,27 +57,17 @@ fn day_of_body(body: &Body) -> Result<Day, Refusal>
     }
 }
 
-/// Whether two bodies have the same calendar and date, as they stand in them. The lengths come first, which differ in
-/// most registers of many calendars.
+/// Whether two bodies have the same calendar and date, as they stand in them.
 #[inline(always)]
 fn have_one_date(body: &Body, other: &Body) -> bool
     ensures { result ≡ true → HaveOneDate (body_seen body.now) (body_seen other.now) }
 {
-    let Body::Fields { calendar, date, .. } = body else {
-        return false;
-    };
-    let Body::Fields {
-        calendar: other_calendar,
-        date: other_date,
-        ..
-    } = other
-    else {
-        return false;
-    };
-    calendar.len() == other_calendar.len()
-        && date.len() == other_date.len()
-        && date.as_str() == other_date.as_str()
-        && calendar.as_str() == other_calendar.as_str()
+    match other {
+        Body::Fields { calendar, date, .. } => {
+            body.has_date(calendar.as_str().as_bytes(), date.as_str().as_bytes())
+        }
+        Body::Refused(_) => false,
+    }
 }
 
 /// The outcome of a body: that of the body before where both are known to have the same calendar and date, as in a
@@ -105,6 +95,7 @@ fn next_outcome(
 /// Turns the outcome, the targets and the tail of a row into those of an entry with the next outcome, for the setup's
 /// targets.
 #[inline(always)]
+#[tactic(auto, using(crate::proofs::RowTailLemmas::known_cells))]
 fn reconvert(
     entry: &Entry,
     next: Result<Day, Refusal>,
@@ -124,7 +115,11 @@ fn reconvert(
     ensures written { fields_of tail.new ≡ tail_texts (items_in targets.new.items) (outcome_seen outcome.new)
         (cells_of (items_in targets.new.items) outcome.new tail.new) }
 {
-    tail.renew(targets, *outcome, setup, next);
+    one_cell();
+    if tail.stands(targets, *outcome, setup, next) {
+        return;
+    }
+    tail.set(setup.targets(), next, setup.delimiter());
     *outcome = next;
     *targets = setup.target_list();
 }
@@ -192,20 +187,21 @@ impl Row {
             → IsRowOf (targets_of setup.now) (entry_seen self.new.entry) (row_seen self.new) }
     {
         let before = Snapshot::of(self.entry.body());
-        let found = entries.read_next(&mut self.entry);
-        if let Ok(true) = found {
-            let same_date = entries.same_date();
-            let next = next_outcome(before, self.outcome, self.entry.body(), same_date);
-            reconvert(
-                &self.entry,
-                next,
-                &mut self.outcome,
-                &mut self.targets,
-                &mut self.tail,
-                setup,
-            );
+        match entries.read_next(&mut self.entry) {
+            Ok(true) => (),
+            other => return other,
         }
-        found
+        let same_date = entries.same_date();
+        let next = next_outcome(before, self.outcome, self.entry.body(), same_date);
+        reconvert(
+            &self.entry,
+            next,
+            &mut self.outcome,
+            &mut self.targets,
+            &mut self.tail,
+            setup,
+        );
+        Ok(true)
     }
 
     /// The entry.

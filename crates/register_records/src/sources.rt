@@ -75,22 +75,22 @@ pub fn convert_source<R: Read + Drop, W: Output>(
     let mut entries = match EntryReader::open(alloc, reader, setup) {
         Ok(entries) => entries,
         Err(fault) => {
-            return SourceEnd::Broken {
-                cause: Cause::from(fault),
-            };
+            let cause = Cause::from(fault);
+            return SourceEnd::Broken { cause };
         }
     };
     let mut table = Table::new(alloc, output, setup);
     table.write_heading(output);
+    if let Some(cause) = table.fault() {
+        return SourceEnd::Broken { cause };
+    }
     let mut row = Row::blank();
     'entries: loop {
-        if let Some(cause) = table.fault() {
-            return SourceEnd::Broken { cause };
-        }
         match row.read_next(&mut entries, setup) {
             Ok(true) => {
-                table.add(&row);
-                table.send(output);
+                if let Err(cause) = table.put_next(output, &row) {
+                    return SourceEnd::Broken { cause };
+                }
             }
             Ok(false) => return table.end(),
             Err(fault) => {

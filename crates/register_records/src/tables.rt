@@ -148,20 +148,76 @@ impl<W: Output> Table<W> {
         ensures waiting { (table_fault self.new ≢ None) → waiting_of self.new ≡ waiting_of self.old }
         ensures short { length (waiting_of self.new) ≤ length (waiting_of self.old) + 1024 }
     {
-        let TableState::Open = self.state else {
+        if self.fault().is_some() {
             return;
-        };
+        }
         if !self.is_next(row) {
             self.state = TableState::Halted(Cause::Unconfirmed);
             return;
         }
+        let _ = self.add_next(row);
+    }
+
+    /// Adds the next row of a table that goes on: its line waits to be sent, and its refusal is noted.
+    ///
+    /// # Errors
+    ///
+    /// `NoMemory` where memory ran out for the line or the note. Then nothing is added.
+    #[inline(always)]
+    fn add_next(&mut self, row: &Row) -> Result<(), Cause>
+        requires open { table_fault self.old ≡ None }
+        requires next { IsNextRow self.old row.now }
+        ensures same { IsSameTable self.old self.new }
+        ensures added { OnOk result ((output : W) (rows : List Row)
+            → Holds W.Output self.old output rows → Holds W.Output self.new output (rows ++ row.now ∷ [])) }
+        ensures refused { OnErr result ((output : W) (rows : List Row)
+            → Holds W.Output self.old output rows → Holds W.Output self.new output rows) }
+        ensures open { OnOk result (table_fault self.new ≡ None) }
+        ensures memory { IfErr result (λ c. (c ≡ cause.NoMemory) × (table_fault self.new ≡ Some c)) }
+        ensures roomy { length (waiting_of self.old) ≤ 16384
+            → refusal_notes (row_seen row.now).number (row_seen row.now).outcome ≡ [] → IsOk result }
+        ensures lost { has_lost_output self.new ≡ has_lost_output self.old }
+        ensures heading { is_headed self.new ≡ is_headed self.old }
+        ensures waiting { OnErr result (waiting_of self.new ≡ waiting_of self.old) }
+        ensures short { length (waiting_of self.new) ≤ length (waiting_of self.old) + 1024 }
+    {
         let Some(writer) = &mut self.writer else {
             unreachable!();
         };
-        match append(writer, &mut self.journal, row) {
-            Ok(()) => self.rows += 1,
-            Err(fault) => self.state = TableState::Halted(Cause::from(fault)),
+        if let Err(fault) = append(writer, &mut self.journal, row) {
+            let cause = Cause::from(fault);
+            self.state = TableState::Halted(cause);
+            return Err(cause);
         }
+        self.rows += 1;
+        Ok(())
+    }
+
+    /// Adds the next row of a table that goes on, and writes the lines that wait with that of the row and flushes them.
+    ///
+    /// # Errors
+    ///
+    /// `NoMemory` where memory ran out for the line or the note: then nothing is added and nothing written. `SinkFault`
+    /// where the output has failed.
+    #[inline(always)]
+    pub(crate) fn put_next(&mut self, output: &mut W, row: &Row) -> Result<(), Cause>
+        requires open { table_fault self.old ≡ None }
+        requires next { IsNextRow self.old row.now }
+        ensures same { IsSameTable self.old self.new }
+        ensures put { OnOk result ((rows : List Row) → Holds W.Output self.old output.old rows
+            → Holds W.Output self.new output.new (rows ++ row.now ∷ [])) }
+        ensures sent { OnOk result ((table_fault self.new ≡ None) × (waiting_of self.new ≡ [])) }
+        ensures heading { is_headed self.new ≡ is_headed self.old }
+        ensures fault { IfErr result (λ c. ((c ≡ cause.NoMemory) ⊎ (c ≡ cause.SinkFault))
+            × (table_fault self.new ≡ Some c)) }
+        ensures memory { IfErr result (λ c. c ≡ cause.NoMemory → (output.new ≡ output.old)
+            × (has_lost_output self.new ≡ false) × (waiting_of self.new ≡ waiting_of self.old)
+            × ((rows : List Row) → Holds W.Output self.old output.old rows → Holds W.Output self.new output.new rows)) }
+        ensures sink { IfErr result (λ c. c ≡ cause.SinkFault → W.has_failed output.new ≡ true) }
+        ensures mark { W.own_mark output.new ≡ W.own_mark output.old }
+    {
+        self.add_next(row)?;
+        self.send_lines(output)
     }
 
     /// Whether the heading was written, and the row has the next number and the setup's targets.
@@ -188,11 +244,37 @@ impl<W: Output> Table<W> {
         if self.pending_len() == 0 {
             return;
         }
-        if let Some(writer) = &mut self.writer {
-            if let Err(fault) = writer.send(output) {
-                self.state = self.state.after(fault);
-            }
+        let _ = self.send_lines(output);
+    }
+
+    /// Writes the lines that wait of a table whose output has not failed, and flushes them.
+    ///
+    /// # Errors
+    ///
+    /// `SinkFault` where the output has failed. A fault that was met before stays that of the table.
+    #[inline(always)]
+    fn send_lines(&mut self, output: &mut W) -> Result<(), Cause>
+        requires { has_lost_output self.old ≡ false }
+        ensures same { IsSameTable self.old self.new }
+        ensures rows { (rows : List Row) → Holds W.Output self.old output.old rows
+            → Holds W.Output self.new output.new rows }
+        ensures sent { waiting_of self.new ≡ [] }
+        ensures goes { OnOk result (table_fault self.new ≡ table_fault self.old) }
+        ensures first { IfSome (table_fault self.old) (λ c. table_fault self.new ≡ Some c) }
+        ensures fault { table_fault self.old ≡ None → IfErr result (λ c. table_fault self.new ≡ Some c) }
+        ensures sink { IfErr result (λ c. (c ≡ cause.SinkFault) × (W.has_failed output.new ≡ true)) }
+        ensures heading { is_headed self.new ≡ is_headed self.old }
+        ensures untouched { is_headed self.old ≡ false → output.new ≡ output.old }
+        ensures mark { W.own_mark output.new ≡ W.own_mark output.old }
+    {
+        let Some(writer) = &mut self.writer else {
+            return Ok(());
+        };
+        if let Err(fault) = writer.send_lines(output) {
+            self.state = self.state.after(fault);
+            return Err(Cause::from(fault));
         }
+        Ok(())
     }
 
     /// How many bytes of lines wait; where the output has failed, none.
@@ -254,8 +336,10 @@ impl<W: Output> Table<W> {
 ///
 /// # Errors
 ///
-/// The fault of the writer, and `OutOfMemory` where the journal is refused its memory; then the same lines wait as before.
+/// `OutOfMemory` where the lines or the journal are refused their memory; then the same lines wait as before.
+#[inline(always)]
 fn append(writer: &mut RowWriter, journal: &mut Vec<Note>, row: &Row) -> Result<(), RowFault>
+    requires { writer_failed writer.old ≡ false }
     ensures line { OnOk result (waiting_in writer.new ≡ waiting_in writer.old ++ line_of writer.old row.now) }
     ensures noted { OnOk result (journal.new.items
         ≡ journal.old.items ++ refusal_notes (row_seen row.now).number (row_seen row.now).outcome) }
@@ -266,15 +350,15 @@ fn append(writer: &mut RowWriter, journal: &mut Vec<Note>, row: &Row) -> Result<
     ensures by { writes_by writer.new ≡ writes_by writer.old }
     ensures failed { OnOk result (writer_failed writer.new ≡ false) }
     ensures output { has_output_failed writer.new ≡ has_output_failed writer.old }
-    ensures memory { writer_failed writer.old ≡ false → IfErr result (λ e. e ≡ RowFault.OutOfMemory) }
-    ensures roomy { writer_failed writer.old ≡ false → length (waiting_in writer.old) ≤ 16384
+    ensures memory { IfErr result (λ e. e ≡ RowFault.OutOfMemory) }
+    ensures roomy { length (waiting_in writer.old) ≤ 16384
         → refusal_notes (row_seen row.now).number (row_seen row.now).outcome ≡ [] → IsOk result }
 {
     let note = row.refusal_note();
     if note.is_some() {
         journal.reserve(1)?;
     }
-    writer.add(row)?;
+    writer.add_line(row)?;
     if let Some(note) = note {
         journal.push_reserved(note);
     }

@@ -1,7 +1,7 @@
 //! Rows as lines, each completed before its first byte goes out.
 
 ghost use Rattle.std.specs.Prelude.{◌≡◌, ◌≢◌, ◌≤◌, ◌+◌, ◌++◌, ◌||◌, [], true, false, length, OnOk, OnErr, IfOk, IfErr};
-ghost use Rattle.std.specs.Prelude.{Ok, Err, if◌then◌else◌, is_err};
+ghost use Rattle.std.specs.Prelude.{Ok, Err, IsOk, if◌then◌else◌, is_err};
 ghost use Rattle.std.specs.Io.KnownBytes.{Appends};
 ghost use Rattle.register_records.specs.LineViews.{line_capacity};
 ghost use Rattle.register_records.specs.declared.writing.TheConstants.{ROOM};
@@ -125,6 +125,26 @@ impl RowWriter {
         let WriterState::Open = self.state else {
             return Err(RowFault::Failed);
         };
+        self.add_line(row)
+    }
+
+    /// The same for a writer of which no call returned a fault.
+    ///
+    /// # Errors
+    ///
+    /// `OutOfMemory` as there.
+    #[inline(always)]
+    pub(crate) fn add_line(&mut self, row: &Row) -> Result<(), RowFault>
+        requires { writer_failed self.old ≡ false }
+        ensures ok { OnOk result (waiting_in self.new ≡ waiting_in self.old ++ line_of self.old row.now) }
+        ensures short { OnOk result (length (waiting_in self.new) ≤ length (waiting_in self.old) + 1024) }
+        ensures kept { OnErr result (waiting_in self.new ≡ waiting_in self.old) }
+        ensures by { writes_by self.new ≡ writes_by self.old }
+        ensures output_failed { has_output_failed self.new ≡ has_output_failed self.old }
+        ensures fails { writer_failed self.new ≡ is_err result }
+        ensures memory { IfErr result (λ e. e ≡ RowFault.OutOfMemory) }
+        ensures roomy { length (waiting_in self.old) ≤ 16384 → IsOk result }
+    {
         if self.lines.reserve(LINE_ROOM).is_err() {
             self.state = WriterState::OutOfMemory;
             return Err(RowFault::OutOfMemory);
@@ -162,6 +182,27 @@ impl RowWriter {
         if let WriterState::OutputFailed = self.state {
             return Err(RowFault::Failed);
         }
+        self.send_lines(output)
+    }
+
+    /// The same for a writer whose output has not failed.
+    ///
+    /// # Errors
+    ///
+    /// `WriteFault` where the output has failed.
+    #[inline(always)]
+    pub(crate) fn send_lines<W: Output>(&mut self, output: &mut W) -> Result<(), RowFault>
+        requires { has_output_failed self.old ≡ false }
+        ensures ok { OnOk result (Appends (W.contents output.old) (W.contents output.new) (waiting_in self.old)) }
+        ensures sent { OnOk result (waiting_in self.new ≡ []) }
+        ensures flushed { OnOk result (W.is_flushed output.new ≡ true) }
+        ensures by { writes_by self.new ≡ writes_by self.old }
+        ensures goes { OnOk result (W.has_failed output.new ≡ W.has_failed output.old) }
+        ensures fails { writer_failed self.new ≡ (writer_failed self.old || is_err result) }
+        ensures output_failed { has_output_failed self.new ≡ is_err result }
+        ensures fault { IfErr result (λ e. (e ≡ RowFault.WriteFault) × (W.has_failed output.new ≡ true)) }
+        ensures mark { W.own_mark output.new ≡ W.own_mark output.old }
+    {
         if send(output, self.lines.as_slice()).is_err() {
             self.state = WriterState::OutputFailed;
             return Err(RowFault::WriteFault);

@@ -1,5 +1,6 @@
-use Rattle.std.proofs.Common.{◌≡◌, ◌-◌, false, length}
+use Rattle.std.proofs.Common.{◌≡◌, ◌-◌, None, false, length}
 use Rattle.register_records.specs.Entries.{record_limit}
+use Rattle.register_records.specs.TablesWritten.{table_fault}
 use Rattle.register_records.specs.Views.{given_of, reader_failed, reading_of, reads_by, text_of}
 use Rattle.register_records.proofs.TableLemmas.{Follows}
 use Rattle.register_records.proofs.sources.convert_source.Given as goal
@@ -10,6 +11,7 @@ invariant-entries g l =
       text : text_of l.entries ≡ g.R.Read.remaining l.fn.reader;
       by : reads_by l.entries ≡ reading_of l.setup;
       failed : reader_failed l.entries ≡ false;
+      open_ : table_fault l.table ≡ None;
       follows : Follows g.W.Output l.fn.output l.setup (g.R.Read.remaining l.fn.reader) (given_of l.entries) l.table
           l.output;
     }

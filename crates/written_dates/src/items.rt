@@ -152,7 +152,7 @@ pub(crate) fn item_in_front<'a>(
     ensures known { IfSome result (λ front. first_unknown (names_in calendar names.now.listed.now) 0 (parts text.now)
         ≡ first_unknown (names_in calendar names.now.listed.now) 0 (parts front.1.now)) }
     ensures unknown { IfNone result
-        (first_unknown (names_in calendar names.now.listed.now) 0 (parts text.now) ≡ Some (piece part)) }
+        (first_unknown (names_in calendar names.now.listed.now) 0 (parts text.now) ≡ Some (piece part.entry)) }
 {
     let (count, meaning, rest) = longest(text, part.text, names, calendar);
     if count > 0 {

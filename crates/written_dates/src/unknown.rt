@@ -26,7 +26,7 @@ fn is_never_read(form: Form) -> bool
 
 /// The bytes of a word; nothing for digits.
 fn word_of<'a>(part: Token<'a>) -> Option<&'a [u8]>
-    ensures { seen_text result ≡ if_letters part.kind part.text.now }
+    ensures { seen_text result ≡ if_letters part.entry.kind part.entry.text.now }
 {
     match part.kind {
         Kind::Letter => Some(part.text),

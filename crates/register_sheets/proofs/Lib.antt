@@ -13,3 +13,5 @@ pub mod RowLemmas
 pub mod WidthLemmas
 pub mod AskedLemmas
 pub mod ConvertLemmas
+pub mod HeadingLemmas
+pub mod RegisterLemmas

@@ -1,6 +1,7 @@
 -- What heads the columns that come behind a sheet.
 use Rattle.std.specs.Prelude.{◌≡◌, ◌<◌, ◌+◌, ◌==◌, ◌++◌, ⊤, ⊥, ℕ, zero, suc, Bool, true, false, List, [], ◌∷◌, codes}
-use Rattle.std.specs.Prelude.{get_or, length, map, if◌then◌else◌, nat_lt}
+use Rattle.std.specs.Prelude.{get_or, length, map, if◌then◌else◌, nat_lt, Vec}
+use Rattle.std.specs.declared.alloc.Global.{Global}
 use Rattle.std.specs.Fmt.{decimal}
 use Rattle.std.specs.List.{flat_map, list_any}
 use Rattle.std.specs.Str.{bytes_eq}

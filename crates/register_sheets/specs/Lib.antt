@@ -11,3 +11,4 @@ pub mod Sending
 pub mod RowViews
 pub mod Headings
 pub mod HeadingViews
+pub mod Registers

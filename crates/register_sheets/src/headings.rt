@@ -123,17 +123,31 @@ impl Headings {
         Ok(())
     }
 
-    /// Names a column of a column of dates, whose own name stands before it where there are several.
+    /// The name that a column of a column of dates is to have: of several, the own name of that stands before it.
+    fn wanted(
+        &self,
+        date: &DateColumn,
+        several: bool,
+        name: &[u8],
+    ) -> Result<Vec<u8>, AllocError>
+        ensures { IfOk result (λ wanted. wanted.items
+            ≡ wanted_heading several (get_or (fields_of self.now.own) date.now.date []) name.now) }
+    {
+        if !several {
+            return Ok(name.to_vec(self.alloc)?);
+        }
+        let mut wanted = field_at(&self.own, date.date as usize).to_vec(self.alloc)?;
+        wanted.push(b' ')?;
+        wanted.extend_from_slice(name)?;
+        Ok(wanted)
+    }
+
+    /// Names a column of a column of dates.
     fn push_for(&mut self, date: &DateColumn, several: bool, name: &[u8]) -> Result<(), AllocError>
         ensures { OnOk result (NamesMore
             (wanted_heading several (get_or (fields_of self.old.own) date.now.date []) name.now ∷ []) self.old self.new) }
     {
-        let mut wanted = Vec::new(self.alloc);
-        if several {
-            wanted.extend_from_slice(field_at(&self.own, date.date as usize))?;
-            wanted.push(b' ')?;
-        }
-        wanted.extend_from_slice(name)?;
+        let wanted = self.wanted(date, several, name)?;
         self.push(wanted.as_slice())
     }
 
@@ -151,6 +165,22 @@ impl Headings {
             self.push_for(date, several, asked_name(*column))?;
         }
         self.push_for(date, several, b"refusal")
+    }
+
+    /// Names the columns of all columns of dates.
+    fn push_dates(
+        &mut self,
+        dates: &[DateColumn],
+        columns: &[AskedColumn],
+    ) -> Result<(), AllocError>
+        ensures { OnOk result
+            (NamesMore (wanted_headings dates.now columns.now (fields_of self.old.own)) self.old self.new) }
+    {
+        let several = dates.len() > 1;
+        'dates: for date in dates {
+            self.push_all(date, several, columns)?;
+        }
+        Ok(())
     }
 }
 
@@ -174,9 +204,6 @@ pub fn headings(
         own: record_below(alloc, sheet, delimiter, above)?,
         made: Vec::new(alloc),
     };
-    let several = dates.len() > 1;
-    'dates: for date in dates {
-        headings.push_all(date, several, columns)?;
-    }
+    headings.push_dates(dates, columns)?;
     Ok(headings.made)
 }

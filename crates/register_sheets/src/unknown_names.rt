@@ -95,13 +95,15 @@ fn stop_of<'a>(
 }
 
 impl Unknown {
+    ghost use Rattle.register_sheets.specs.Reading.{IsReading};
+
     /// Counts a stop where its name is there, and says whether it is.
     fn count(&mut self, stop: &Stop) -> bool {
         'names: for place in 0..self.names.len() {
             if is_same_calendar(self.names[place].calendar, stop.calendar)
                 && self.names[place].name.as_slice().eq_ignore_ascii_case(stop.name)
             {
-                self.names[place].count += 1;
+                self.names[place].count = self.names[place].count.saturating_add(1);
                 return true;
             }
         }
@@ -114,7 +116,7 @@ impl Unknown {
             return Ok(());
         }
         if self.names.len() >= most {
-            self.more += 1;
+            self.more = self.more.saturating_add(1);
             return Ok(());
         }
         self.names.push(UnknownName {
@@ -145,10 +147,10 @@ impl Unknown {
             return Ok(());
         }
         if date.is_empty() {
-            self.short += 1;
+            self.short = self.short.saturating_add(1);
         } else if let Some(calendar) = called {
             if date.as_slice() == field && !is_register_date(calendar, field) {
-                self.kept += 1;
+                self.kept = self.kept.saturating_add(1);
             }
         }
         Ok(())
@@ -162,7 +164,9 @@ impl Unknown {
         records: &mut Reader<&[u8]>,
         record: &mut ByteRecord,
         most: usize,
-    ) -> Result<(), SheetCause> {
+    ) -> Result<(), SheetCause>
+        requires { IsReading records.old }
+    {
         let mut date = Vec::new(alloc);
         'records: for number in 0..u32::MAX {
             if !read_next(records, record)? {

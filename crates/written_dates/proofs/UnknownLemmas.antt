@@ -39,3 +39,7 @@ known_name names text behind part found e f some =
     let after : drop found.0 (part ∷ behind) ≡ drop (found.0 - 1) behind
     = ap (λ (n : ℕ). drop n (part ∷ behind)) more in
     rw (e, start, there, after, unknown_skipped names (found.0 - 1) behind) refl
+
+pub none_unknown : (names : List Name) (text : List Piece) → text ≡ [] → first_unknown names 0 text ≡ None
+unfolding first_unknown
+none_unknown names text e = rw e refl

@@ -1,5 +1,11 @@
 //! What a page chooses of a sheet, in numbers.
 
+ghost use Rattle.std.specs.Prelude.{◌≡◌, ◌++◌, IfOk};
+ghost use Rattle.register_page_exports.specs.AskedViews.{asked_seen, columns_seen, dates_seen};
+ghost use Rattle.register_page_exports.specs.SheetChoices.{asked_by, calendar_by, column_by, columns_by, date_by, dates_by};
+ghost use Rattle.register_page_exports.specs.SheetChoices.{flag_by, id_by, order_in, reading_by, short_by, short_hebrew_by};
+
+use date_texts::laws::{all_calendars, all_targets};
 use date_texts::{Calendar, Target};
 use register_sheets::{AskedColumn, CalendarField, DateColumn, IdField};
 use std::alloc::{AllocError, Global};
@@ -26,7 +32,9 @@ pub(crate) struct Asked {
     pub columns: Vec<AskedColumn>,
 }
 
-fn id_of(place: u32) -> IdField {
+fn id_of(place: u32) -> IdField
+    ensures { result ≡ id_by place }
+{
     if place == NO_PLACE {
         IdField::Number
     } else {
@@ -34,7 +42,9 @@ fn id_of(place: u32) -> IdField {
     }
 }
 
-fn order_of(number: u32) -> Option<Order> {
+fn order_of(number: u32) -> Option<Order>
+    ensures { result ≡ order_in number }
+{
     match number {
         0 => Some(Order::YearFirst),
         1 => Some(Order::DayFirst),
@@ -44,7 +54,9 @@ fn order_of(number: u32) -> Option<Order> {
 }
 
 /// What is done with short years: they are refused, kept, or a century of 100 to 2000 is added.
-fn short_of(number: u32) -> Option<Short> {
+fn short_of(number: u32) -> Option<Short>
+    ensures { result ≡ short_by number }
+{
     match number {
         0 => Some(Short::Refuse),
         1 => Some(Short::Keep),
@@ -54,7 +66,9 @@ fn short_of(number: u32) -> Option<Short> {
 }
 
 /// What is done with short Hebrew years: they are refused, kept, or 5000 is added.
-fn short_hebrew_of(number: u32) -> Option<Short> {
+fn short_hebrew_of(number: u32) -> Option<Short>
+    ensures { result ≡ short_hebrew_by number }
+{
     match number {
         0 => Some(Short::Refuse),
         1 => Some(Short::Keep),
@@ -63,7 +77,9 @@ fn short_hebrew_of(number: u32) -> Option<Short> {
     }
 }
 
-fn flag_of(number: u32) -> Option<bool> {
+fn flag_of(number: u32) -> Option<bool>
+    ensures { result ≡ flag_by number }
+{
     match number {
         0 => Some(false),
         1 => Some(true),
@@ -72,7 +88,9 @@ fn flag_of(number: u32) -> Option<bool> {
 }
 
 /// How dates are read.
-fn reading_of(order: u32, years: u32, hebrew: u32, charters: u32) -> Option<Choice> {
+fn reading_of(order: u32, years: u32, hebrew: u32, charters: u32) -> Option<Choice>
+    ensures { result ≡ reading_by order years hebrew charters }
+{
     Some(Choice {
         order: order_of(order)?,
         short_years: short_of(years)?,
@@ -82,8 +100,11 @@ fn reading_of(order: u32, years: u32, hebrew: u32, charters: u32) -> Option<Choi
 }
 
 /// Where the calendar of a date is: at a place, or it is that of a number.
-fn calendar_of(place: u32, calendar: u32) -> Option<CalendarField> {
+fn calendar_of(place: u32, calendar: u32) -> Option<CalendarField>
+    ensures { result ≡ calendar_by place calendar }
+{
     if place == NO_PLACE {
+        all_calendars();
         let calendar = Calendar::ALL.get(calendar as usize)?;
         Some(CalendarField::All(*calendar))
     } else {
@@ -91,8 +112,9 @@ fn calendar_of(place: u32, calendar: u32) -> Option<CalendarField> {
     }
 }
 
-fn date_of(numbers: &[u32; DATE]) -> Option<DateColumn> {
-    let [date, place, calendar] = *numbers;
+fn date_of(date: u32, place: u32, calendar: u32) -> Option<DateColumn>
+    ensures { result ≡ date_by date place calendar }
+{
     Some(DateColumn {
         date,
         calendar: calendar_of(place, calendar)?,
@@ -100,27 +122,33 @@ fn date_of(numbers: &[u32; DATE]) -> Option<DateColumn> {
 }
 
 /// The columns of dates of these numbers, three for each.
-fn dates_of(alloc: Global, numbers: &[u32]) -> Result<Option<Vec<DateColumn>>, AllocError> {
-    let (groups, rest) = numbers.as_chunks::<DATE>();
-    if !rest.is_empty() {
-        return Ok(None);
-    }
+fn dates_of(alloc: Global, numbers: &[u32]) -> Result<Option<Vec<DateColumn>>, AllocError>
+    ensures { IfOk result (λ dates. dates_seen dates ≡ dates_by numbers.now) }
+{
     let mut dates = Vec::new(alloc);
-    'groups: for group in groups {
-        let Some(date) = date_of(group) else {
+    let mut rest = numbers;
+    'dates: while let Some((group, others)) = rest.split_first_chunk::<DATE>() {
+        let Some(date) = date_of(group[0], group[1], group[2]) else {
             return Ok(None);
         };
         dates.push(date)?;
+        rest = others;
     }
-    Ok(Some(dates))
+    if rest.is_empty() {
+        return Ok(Some(dates));
+    }
+    Ok(None)
 }
 
 /// The column asked of a number: the day, the weekday, or a target.
-fn column_of(number: u8) -> Option<AskedColumn> {
+fn column_of(number: u8) -> Option<AskedColumn>
+    ensures { result ≡ column_by number }
+{
     match number {
         0 => Some(AskedColumn::DayNumber),
         1 => Some(AskedColumn::Weekday),
         _ => {
+            all_targets();
             let target = Target::ALL.get(number as usize - 2)?;
             Some(AskedColumn::Cells(*target))
         }
@@ -128,7 +156,9 @@ fn column_of(number: u8) -> Option<AskedColumn> {
 }
 
 /// The columns asked of these numbers.
-fn columns_of(alloc: Global, numbers: &[u8]) -> Result<Option<Vec<AskedColumn>>, AllocError> {
+fn columns_of(alloc: Global, numbers: &[u8]) -> Result<Option<Vec<AskedColumn>>, AllocError>
+    ensures { IfOk result (λ columns. columns_seen columns ≡ columns_by numbers.now) }
+{
     let mut columns = Vec::new(alloc);
     'numbers: for number in numbers {
         let Some(column) = column_of(*number) else {
@@ -139,36 +169,52 @@ fn columns_of(alloc: Global, numbers: &[u8]) -> Result<Option<Vec<AskedColumn>>,
     Ok(Some(columns))
 }
 
+/// What is asked by these numbers in front, of which those of the columns of dates follow.
+fn asked_of(
+    alloc: Global,
+    head: &[u32; HEAD],
+    dates: &[u32],
+    columns: &[u8],
+) -> Result<Option<Asked>, AllocError>
+    ensures { IfOk result (λ asked. asked_seen asked ≡ asked_by (head.now ++ dates.now) columns.now) }
+{
+    let Ok(delimiter) = u8::try_from(head[0]) else {
+        return Ok(None);
+    };
+    let Some(reading) = reading_of(head[3], head[4], head[5], head[6]) else {
+        return Ok(None);
+    };
+    let Some(dates) = dates_of(alloc, dates)? else {
+        return Ok(None);
+    };
+    let Some(columns) = columns_of(alloc, columns)? else {
+        return Ok(None);
+    };
+    Ok(Some(Asked {
+        delimiter,
+        above: head[1],
+        id: id_of(head[2]),
+        reading,
+        dates,
+        columns,
+    }))
+}
+
 impl Asked {
+    ghost use Rattle.register_page_exports.specs.AskedViews.{asked_seen};
+    ghost use Rattle.register_page_exports.specs.SheetChoices.{asked_by};
+
     /// What these numbers ask; nothing where they are no choice.
     pub fn by(
         alloc: Global,
         numbers: &[u32],
         columns: &[u8],
-    ) -> Result<Option<Asked>, AllocError> {
-        let Some((head, dates)) = numbers.split_first_chunk::<HEAD>() else {
-            return Ok(None);
-        };
-        let [delimiter, above, id, order, years, hebrew, charters] = *head;
-        let Ok(delimiter) = u8::try_from(delimiter) else {
-            return Ok(None);
-        };
-        let Some(reading) = reading_of(order, years, hebrew, charters) else {
-            return Ok(None);
-        };
-        let Some(dates) = dates_of(alloc, dates)? else {
-            return Ok(None);
-        };
-        let Some(columns) = columns_of(alloc, columns)? else {
-            return Ok(None);
-        };
-        Ok(Some(Asked {
-            delimiter,
-            above,
-            id: id_of(id),
-            reading,
-            dates,
-            columns,
-        }))
+    ) -> Result<Option<Asked>, AllocError>
+        ensures { IfOk result (λ asked. asked_seen asked ≡ asked_by numbers.now columns.now) }
+    {
+        match numbers.split_first_chunk::<HEAD>() {
+            Some((head, dates)) => asked_of(alloc, head, dates, columns),
+            None => Ok(None),
+        }
     }
 }

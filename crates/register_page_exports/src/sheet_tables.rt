@@ -1,5 +1,18 @@
 //! Sheets with their tables, for a page.
 
+ghost use Rattle.std.specs.Prelude.{◌≡◌, ◌≢◌, [], IfOk, List, Some, ℕ, map, slice_get};
+ghost use Rattle.register_records.specs.Entries.{text_records};
+ghost use Rattle.register_sheets.specs.Converted.{IsWholeSheet};
+ghost use Rattle.register_sheets.specs.Headings.{items_of};
+ghost use Rattle.register_sheets.specs.NameLists.{IsListOf};
+ghost use Rattle.register_sheets.specs.Registers.{IsRegister};
+ghost use Rattle.register_sheets.specs.declared.choices.DateColumn.{DateColumn as DateColumnValue};
+ghost use Rattle.written_dates.specs.Fields.{bare_name, entries};
+ghost use Rattle.register_page_exports.specs.AskedViews.{seen};
+ghost use Rattle.register_page_exports.specs.SheetChoices.{asked_by};
+ghost use Rattle.register_page_exports.specs.SheetReports.{PutsText};
+ghost use Rattle.register_page_exports.specs.SheetTables.{HasHeadings, IsAskedRegister, IsAskedSheet, IsChoiceOf};
+
 use crate::choices::Asked;
 use crate::sheets::{TextReport, put_text};
 use register_page::{bytes_for, put};
@@ -9,7 +22,7 @@ use register_sheets::{
     convert_sheet, headings, unknown_names, write_register,
 };
 use std::alloc::{AllocError, Global};
-use written_dates::{CalendarNames, Names};
+use written_dates::{CalendarName, CalendarNames, Name, Names};
 
 /// Why a page gets nothing of a sheet.
 #[derive(Clone, Copy, PartialEq, Eq, Debug)]
@@ -27,8 +40,14 @@ enum SheetEnding {
 }
 
 impl SheetEnding {
+    ghost use Rattle.std.specs.Prelude.{◌≡◌, ◌≢◌};
+    ghost use Rattle.register_page_exports.specs.SheetTables.{ending_number};
+
     /// The number of the ending, from 1 for `NoMemory` to 5 for `TooManyRecords`.
-    fn number(self) -> usize {
+    fn number(self) -> usize
+        ensures value { result ≡ ending_number self }
+        ensures some { result ≢ 0 }
+    {
         match self {
             SheetEnding::NoMemory => 1,
             SheetEnding::NameList => 2,
@@ -60,7 +79,9 @@ fn ending_of(cause: SheetCause) -> SheetEnding {
 }
 
 /// The list of names of a text.
-fn list_of(alloc: Global, names: &[u8]) -> Result<NameList, SheetEnding> {
+fn list_of(alloc: Global, names: &[u8]) -> Result<NameList, SheetEnding>
+    ensures { IfOk result (λ list. IsListOf (text_records 44 names.now) list.lines.items) }
+{
     match NameList::read(alloc, names) {
         Ok(list) => Ok(list),
         Err(NameListFault::OutOfMemory) => Err(SheetEnding::NoMemory),
@@ -69,7 +90,9 @@ fn list_of(alloc: Global, names: &[u8]) -> Result<NameList, SheetEnding> {
 }
 
 /// What these numbers ask of a sheet.
-fn asked_by(alloc: Global, choice: &[u32], columns: &[u8]) -> Result<Asked, SheetEnding> {
+fn asked_of(alloc: Global, choice: &[u32], columns: &[u8]) -> Result<Asked, SheetEnding>
+    ensures { IfOk result (λ asked. asked_by choice.now columns.now ≡ Some (seen asked)) }
+{
     match Asked::by(alloc, choice, columns)? {
         Some(asked) => Ok(asked),
         None => Err(SheetEnding::Choice),
@@ -77,7 +100,9 @@ fn asked_by(alloc: Global, choice: &[u32], columns: &[u8]) -> Result<Asked, Shee
 }
 
 /// The bytes of texts.
-fn slices_of(alloc: Global, texts: &[Vec<u8>]) -> Result<Vec<&[u8]>, AllocError> {
+fn slices_of(alloc: Global, texts: &[Vec<u8>]) -> Result<Vec<&[u8]>, AllocError>
+    ensures { IfOk result (λ slices. map (λ slice. slice.now) slices.items ≡ items_of texts.now) }
+{
     let mut slices = Vec::new(alloc);
     'texts: for text in texts {
         slices.push(text.as_slice())?;
@@ -93,8 +118,43 @@ struct Known<'a> {
     headings: Vec<&'a [u8]>,
 }
 
+/// What a sheet is read by, by these names and headings.
+fn known_by<'a>(
+    alloc: Global,
+    names: &'a [Name<'a>],
+    calendars: &'a [CalendarName<'a>],
+    headings: &'a [Vec<u8>],
+) -> Result<Known<'a>, AllocError>
+    ensures names { IfOk result (λ known. known.names.listed.now ≡ names.now) }
+    ensures calendars { IfOk result (λ known. entries known.calendars ≡ map bare_name calendars.now) }
+    ensures headings { IfOk result (λ known. map (λ heading. heading.now) known.headings.items ≡ items_of headings.now) }
+{
+    Ok(Known {
+        names: Names::layered(alloc, names)?,
+        calendars: CalendarNames::layered(alloc, calendars)?,
+        headings: slices_of(alloc, headings)?,
+    })
+}
+
+/// What heads the columns asked of a sheet.
+fn headings_of(alloc: Global, sheet: &[u8], asked: &Asked) -> Result<Vec<Vec<u8>>, AllocError>
+    ensures { IfOk result (λ headings. HasHeadings (seen asked.now) sheet.now (items_of headings.items)) }
+{
+    headings(
+        alloc,
+        sheet,
+        asked.delimiter,
+        asked.above,
+        asked.dates.as_slice(),
+        asked.columns.as_slice(),
+    )
+}
+
 /// The setup of what is asked of a sheet.
-fn setup_of<'a>(asked: &'a Asked, known: &'a Known<'a>) -> Result<SheetSetup<'a>, SheetEnding> {
+fn setup_of<'a>(asked: &'a Asked, known: &'a Known<'a>) -> Result<SheetSetup<'a>, SheetEnding>
+    ensures { IfOk result (λ setup. IsChoiceOf (seen asked.now) known.now.names.listed.now (entries known.now.calendars)
+        (map (λ heading. heading.now) known.now.headings.items) setup.choice) }
+{
     let setup = SheetSetup::new(SheetChoice {
         delimiter: asked.delimiter,
         above: asked.above,
@@ -126,7 +186,10 @@ fn converted_by(
     sheet: &[u8],
     setup: &SheetSetup,
     expected: usize,
-) -> Result<SheetMade, SheetEnding> {
+) -> Result<SheetMade, SheetEnding>
+    ensures { IfOk result (λ made. IsWholeSheet setup.now.choice (text_records setup.now.choice.delimiter sheet.now)
+        made.rows made.refused made.text.items) }
+{
     let mut output = PlainOutput::new(bytes_for(alloc, expected), 0);
     let end = convert_sheet(alloc, sheet, setup, &mut output);
     let text = output.into_inner();
@@ -147,7 +210,11 @@ fn register_by(
     setup: &SheetSetup,
     column: usize,
     expected: usize,
-) -> Result<Vec<u8>, SheetEnding> {
+) -> Result<Vec<u8>, SheetEnding>
+    ensures { IfOk result (λ text. (found : DateColumnValue) × (count : ℕ)
+        × (slice_get setup.now.choice.dates.now column ≡ Some found)
+        × IsRegister setup.now.choice found (text_records setup.now.choice.delimiter sheet.now) count text.items) }
+{
     let Some(column) = setup.choice().dates.get(column) else {
         return Err(SheetEnding::Choice);
     };
@@ -184,24 +251,21 @@ fn converted(
     columns: &[u8],
     names: &[u8],
     expected: usize,
-) -> Result<SheetMade, SheetEnding> {
-    let asked = asked_by(alloc, choice, columns)?;
+) -> Result<SheetMade, SheetEnding>
+    ensures { IfOk result (λ made.
+        IsAskedSheet choice.now columns.now names.now sheet.now made.rows made.refused made.text.items) }
+{
+    let asked = asked_of(alloc, choice, columns)?;
     let list = list_of(alloc, names)?;
     let names = list.names(alloc)?;
     let calendars = list.calendar_names(alloc)?;
-    let headings = headings(
+    let headings = headings_of(alloc, sheet, &asked)?;
+    let known = known_by(
         alloc,
-        sheet,
-        asked.delimiter,
-        asked.above,
-        asked.dates.as_slice(),
-        asked.columns.as_slice(),
+        names.as_slice(),
+        calendars.as_slice(),
+        headings.as_slice(),
     )?;
-    let known = Known {
-        names: Names::layered(alloc, names.as_slice())?,
-        calendars: CalendarNames::layered(alloc, calendars.as_slice())?,
-        headings: slices_of(alloc, headings.as_slice())?,
-    };
     let setup = setup_of(&asked, &known)?;
     converted_by(alloc, sheet, &setup, expected)
 }
@@ -214,24 +278,20 @@ fn register_made(
     column: usize,
     names: &[u8],
     expected: usize,
-) -> Result<Vec<u8>, SheetEnding> {
-    let asked = asked_by(alloc, choice, &[])?;
+) -> Result<Vec<u8>, SheetEnding>
+    ensures { IfOk result (λ text. IsAskedRegister choice.now names.now sheet.now column text.items) }
+{
+    let asked = asked_of(alloc, choice, &[])?;
     let list = list_of(alloc, names)?;
     let names = list.names(alloc)?;
     let calendars = list.calendar_names(alloc)?;
-    let headings = headings(
+    let headings = headings_of(alloc, sheet, &asked)?;
+    let known = known_by(
         alloc,
-        sheet,
-        asked.delimiter,
-        asked.above,
-        asked.dates.as_slice(),
-        asked.columns.as_slice(),
+        names.as_slice(),
+        calendars.as_slice(),
+        headings.as_slice(),
     )?;
-    let known = Known {
-        names: Names::layered(alloc, names.as_slice())?,
-        calendars: CalendarNames::layered(alloc, calendars.as_slice())?,
-        headings: slices_of(alloc, headings.as_slice())?,
-    };
     let setup = setup_of(&asked, &known)?;
     register_by(alloc, sheet, &setup, column, expected)
 }
@@ -244,23 +304,17 @@ fn unknown_found(
     names: &[u8],
     most: usize,
 ) -> Result<(Unknown, Vec<u8>), SheetEnding> {
-    let asked = asked_by(alloc, choice, &[])?;
+    let asked = asked_of(alloc, choice, &[])?;
     let list = list_of(alloc, names)?;
     let names = list.names(alloc)?;
     let calendars = list.calendar_names(alloc)?;
-    let headings = headings(
+    let headings = headings_of(alloc, sheet, &asked)?;
+    let known = known_by(
         alloc,
-        sheet,
-        asked.delimiter,
-        asked.above,
-        asked.dates.as_slice(),
-        asked.columns.as_slice(),
+        names.as_slice(),
+        calendars.as_slice(),
+        headings.as_slice(),
     )?;
-    let known = Known {
-        names: Names::layered(alloc, names.as_slice())?,
-        calendars: CalendarNames::layered(alloc, calendars.as_slice())?,
-        headings: slices_of(alloc, headings.as_slice())?,
-    };
     let setup = setup_of(&asked, &known)?;
     unknown_by(alloc, sheet, &setup, most)
 }
@@ -296,7 +350,9 @@ pub struct UnknownReport {
 }
 
 /// The same numbers as words.
-fn words_of(numbers: [u32; MAX_DATES]) -> [usize; MAX_DATES] {
+fn words_of(numbers: [u32; MAX_DATES]) -> [usize; MAX_DATES]
+    ensures { result ≡ numbers }
+{
     let mut words = [0; MAX_DATES];
     'numbers: for i in 0..MAX_DATES {
         words[i] = numbers[i] as usize;
@@ -314,7 +370,12 @@ pub extern "C" fn sheet_convert(
     names: &[u8],
     room: &mut [u8],
     report: &mut SheetReport,
-) {
+)
+    ensures whole { report.new.ending ≡ 0 → (text : List ℕ)
+        × IsAskedSheet choice.now columns.now names.now sheet.now report.new.rows report.new.refused text
+        × PutsText text room.old room.new report.new.length }
+    ensures none { report.new.ending ≢ 0 → (report.new.length ≡ 0) × (report.new.rows ≡ 0) × (room.new ≡ room.old) }
+{
     *report = match converted(alloc, sheet, choice, columns, names, room.len()) {
         Ok(made) => SheetReport {
             ending: 0,
@@ -341,7 +402,12 @@ pub extern "C" fn sheet_register(
     names: &[u8],
     room: &mut [u8],
     report: &mut TextReport,
-) {
+)
+    ensures whole { report.new.ending ≡ 0 → (text : List ℕ)
+        × IsAskedRegister choice.now names.now sheet.now column text
+        × PutsText text room.old room.new report.new.length }
+    ensures none { report.new.ending ≢ 0 → (report.new.length ≡ 0) × (room.new ≡ room.old) }
+{
     *report = match register_made(alloc, sheet, choice, column, names, room.len()) {
         Ok(text) => put_text(text.as_slice(), room),
         Err(ending) => TextReport {
@@ -361,7 +427,9 @@ pub extern "C" fn sheet_unknown(
     most: usize,
     room: &mut [u8],
     report: &mut UnknownReport,
-) {
+)
+    ensures none { report.new.ending ≢ 0 → (report.new.length ≡ 0) × (room.new ≡ room.old) }
+{
     *report = match unknown_found(alloc, sheet, choice, names, most) {
         Ok((unknown, text)) => UnknownReport {
             ending: 0,

@@ -5,7 +5,7 @@ use Rattle.std.specs.Fmt.{decimal}
 use Rattle.register_records.specs.Entries.{Fields}
 use Rattle.register_sheets.specs.HeadingViews.{NamesMore, taken_by}
 use Rattle.register_sheets.specs.Headings.{AreHeadings, IsHeading, is_taken, items_of, numbered}
-use Rattle.register_sheets.specs.declared.headings.Headings.{Headings}
+use Rattle.register_sheets.specs.declared.new_headings.NewNames.{NewNames}
 
 -- the name with this number is free, and those before it are not
 pub first_free : (taken : Fields) (wanted name : List ℕ) (n : ℕ) → 2 ≤ n → name ≡ wanted ++ 32 ∷ decimal n
@@ -32,7 +32,7 @@ one_tried taken wanted name n (suc k) low e used before lt =
     elim (nat_split (suc k) n) [
       | inl few ↦ before (suc k) few
       | inr same ↦ subst (λ (it : List ℕ). is_taken taken it ≡ true)
-      (e ∙ ap (λ (m : ℕ). wanted ++ 32 ∷ decimal m) (omega arith)) used
+          (e ∙ ap (λ (m : ℕ). wanted ++ 32 ∷ decimal m) (omega arith)) used
     ]
 
 -- behind headings come more
@@ -47,10 +47,10 @@ more_headings taken (w ∷ wanted) more (x ∷ headings) others h both = (
       (subst (λ (all : Fields). AreHeadings all more others) (sym (append_assoc taken (x ∷ []) headings)) both),
 )
 
-pub none_named : (headings : Headings) → NamesMore [] headings headings
+pub none_named : (headings : NewNames) → NamesMore [] headings headings
 none_named headings = record { more = []; own = refl; made = sym (append-nil (items_of headings.made.items)); named = tt }
 
-pub both_named : (wanted more : Fields) (old mid new : Headings) → NamesMore wanted old mid → NamesMore more mid new
+pub both_named : (wanted more : Fields) (old mid new : NewNames) → NamesMore wanted old mid → NamesMore more mid new
     → NamesMore (wanted ++ more) old new
 both_named wanted more old mid new h i =
     let taken : taken_by mid ≡ taken_by old ++ h.more

@@ -15,3 +15,4 @@ pub mod AskedLemmas
 pub mod ConvertLemmas
 pub mod HeadingLemmas
 pub mod RegisterLemmas
+pub mod UnknownNameLemmas

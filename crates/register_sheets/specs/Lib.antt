@@ -12,3 +12,4 @@ pub mod RowViews
 pub mod Headings
 pub mod HeadingViews
 pub mod Registers
+pub mod UnknownNames

@@ -8,12 +8,12 @@ mod asked;
 mod choices;
 mod converting;
 mod field_lists;
-mod headings;
 mod joining;
 mod lines;
 mod name_calendars;
 mod name_lists;
 mod name_meanings;
+mod new_headings;
 mod picking;
 mod reading;
 mod register_fields;
@@ -22,7 +22,7 @@ mod registers;
 mod sending;
 mod sheet_ends;
 mod sheet_rows;
-mod unknown_names;
+mod stopped_dates;
 mod writing;
 
 pub use choices::{
@@ -30,13 +30,13 @@ pub use choices::{
     SheetChoice, SheetSetup,
 };
 pub use converting::convert_sheet;
-pub use headings::headings;
 pub use joining::join;
 pub use name_lists::{NameLine, NameList, NameListFault};
 pub use name_meanings::Means;
+pub use new_headings::headings;
 pub use picking::{Picked, pick};
 pub use reading::SheetFault;
 pub use registers::write_register;
 pub use sheet_ends::{SheetCause, SheetEnd};
-pub use unknown_names::{Unknown, UnknownName, unknown_names};
+pub use stopped_dates::{Unknown, UnknownName, unknown_names};
 pub use writing::write;

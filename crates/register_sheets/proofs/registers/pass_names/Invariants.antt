@@ -4,4 +4,4 @@ use Rattle.register_sheets.proofs.registers.pass_names.Given as goal
 
 abbrev pub invariant-records : goal.invariant-records
 invariant-records l =
-    record { reading : IsReading l.records; left : left_of l.records ≡ drop l.counter (left_of l.fn.records); }
+    record { reading : IsReading l.records; left : left_of l.records ≡ drop l.counter (left_of l.fn.records) }

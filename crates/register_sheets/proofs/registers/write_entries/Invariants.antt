@@ -12,6 +12,7 @@ invariant-records g l =
       left : left_of l.records ≡ drop l.number (left_of l.fn.records);
       delimiter : l.sender.delimiter ≡ l.fn.sender.delimiter;
       limited : l.number ≤ record_limit;
+      within : l.number ≤ length (left_of l.fn.records);
       made : (begun : Option (List ℕ)) (head : List Fields)
           → HasMade l.fn.sender.delimiter begun (g.W.Output.contents l.fn.output) l.fn.sender.lines head []
           → HasMade l.fn.sender.delimiter begun (g.W.Output.contents l.output) l.sender.lines

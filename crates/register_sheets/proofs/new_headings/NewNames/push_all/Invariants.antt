@@ -2,7 +2,7 @@ use Rattle.std.proofs.Common.{[], get_or, map, take}
 use Rattle.csv.specs.Records.{fields_of}
 use Rattle.register_sheets.specs.HeadingViews.{NamesMore}
 use Rattle.register_sheets.specs.Headings.{asked_name, wanted_heading}
-use Rattle.register_sheets.proofs.headings.Headings.push_all.Given as goal
+use Rattle.register_sheets.proofs.new_headings.NewNames.push_all.Given as goal
 
 abbrev pub invariant-columns : goal.invariant-columns
 invariant-columns l =

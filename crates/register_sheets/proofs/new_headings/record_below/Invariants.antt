@@ -1,7 +1,7 @@
 use Rattle.std.proofs.Common.{◌≡◌, drop}
 use Rattle.register_records.specs.Entries.{text_records}
 use Rattle.register_sheets.specs.Reading.{IsReading, left_of}
-use Rattle.register_sheets.proofs.headings.record_below.Given as goal
+use Rattle.register_sheets.proofs.new_headings.record_below.Given as goal
 
 abbrev pub invariant-records : goal.invariant-records
 invariant-records l =

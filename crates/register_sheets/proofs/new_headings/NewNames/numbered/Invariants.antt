@@ -1,7 +1,7 @@
 use Rattle.std.proofs.Common.{◌≡◌, ◌<◌, ◌+◌, ℕ, true}
 use Rattle.register_sheets.specs.HeadingViews.{taken_by}
 use Rattle.register_sheets.specs.Headings.{is_taken, numbered}
-use Rattle.register_sheets.proofs.headings.Headings.numbered.Given as goal
+use Rattle.register_sheets.proofs.new_headings.NewNames.numbered.Given as goal
 
 -- each of these was tried
 abbrev pub invariant-numbers : goal.invariant-numbers

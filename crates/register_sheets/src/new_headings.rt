@@ -31,7 +31,7 @@ pub(crate) fn record_below(
     delimiter: u8,
     above: u32,
 ) -> Result<ByteRecord, AllocError>
-    ensures { IfOk result (λ record. fields_of record ≡ get_or (text_records delimiter sheet.now) above []) }
+    ensures { IfOk result (λ found. fields_of found ≡ get_or (text_records delimiter sheet.now) above []) }
 {
     let mut records = records_of(alloc, sheet, delimiter);
     let mut record = ByteRecord::new(alloc);
@@ -48,13 +48,13 @@ pub(crate) fn record_below(
 
 /// The names of a sheet, and those of the new columns so far.
 #[derive(Drop)]
-struct Headings {
+struct NewNames {
     alloc: Global,
     own: ByteRecord,
     made: Vec<Vec<u8>>,
 }
 
-impl Headings {
+impl NewNames {
     /// Whether a new column has this name.
     fn is_made(&self, name: &[u8]) -> bool
         ensures { result ≡ is_taken (items_of self.now.made.items) name.now }
@@ -199,11 +199,11 @@ pub fn headings(
         (wanted_headings dates.now columns.now (get_or (text_records delimiter sheet.now) above []))
         (items_of headings.items)) }
 {
-    let mut headings = Headings {
+    let mut names = NewNames {
         alloc,
         own: record_below(alloc, sheet, delimiter, above)?,
         made: Vec::new(alloc),
     };
-    headings.push_dates(dates, columns)?;
-    Ok(headings.made)
+    names.push_dates(dates, columns)?;
+    Ok(names.made)
 }

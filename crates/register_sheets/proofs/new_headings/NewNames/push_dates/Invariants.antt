@@ -3,7 +3,7 @@ use Rattle.std.specs.List.{flat_map}
 use Rattle.csv.specs.Records.{fields_of}
 use Rattle.register_sheets.specs.HeadingViews.{NamesMore}
 use Rattle.register_sheets.specs.Headings.{wanted_for}
-use Rattle.register_sheets.proofs.headings.Headings.push_dates.Given as goal
+use Rattle.register_sheets.proofs.new_headings.NewNames.push_dates.Given as goal
 
 abbrev pub invariant-dates : goal.invariant-dates
 invariant-dates l =

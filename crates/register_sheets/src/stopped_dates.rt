@@ -101,7 +101,10 @@ impl Unknown {
     fn count(&mut self, stop: &Stop) -> bool {
         'names: for place in 0..self.names.len() {
             if is_same_calendar(self.names[place].calendar, stop.calendar)
-                && self.names[place].name.as_slice().eq_ignore_ascii_case(stop.name)
+                && self.names[place]
+                    .name
+                    .as_slice()
+                    .eq_ignore_ascii_case(stop.name)
             {
                 self.names[place].count = self.names[place].count.saturating_add(1);
                 return true;

@@ -1,5 +1,5 @@
 use Rattle.register_sheets.specs.Reading.{IsReading}
-use Rattle.register_sheets.proofs.unknown_names.Unknown.add_records.Given as goal
+use Rattle.register_sheets.proofs.stopped_dates.Unknown.add_records.Given as goal
 
 abbrev pub invariant-records : goal.invariant-records
 invariant-records l = IsReading l.records

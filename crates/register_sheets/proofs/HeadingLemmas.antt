@@ -1,6 +1,7 @@
 -- Headings are named one after the other.
 use Rattle.std.proofs.Common.{◌≡◌, ◌<◌, ◌≤◌, ◌+◌, ◌∙◌, ◌++◌, ℕ, zero, suc, Bool, true, false, List, [], ◌∷◌, refl, sym, ap, subst}
-use Rattle.std.proofs.Common.{arith, append_assoc, append-nil}
+use Rattle.std.proofs.Common.{arith, append_assoc, append-nil, drop, get_or, length, ◌||◌}
+use Rattle.std.specs.Str.{bytes_eq}
 use Rattle.std.specs.Fmt.{decimal}
 use Rattle.register_records.specs.Entries.{Fields}
 use Rattle.register_sheets.specs.HeadingViews.{NamesMore, taken_by}
@@ -29,11 +30,7 @@ pub one_tried : (taken : Fields) (wanted name : List ℕ) (n fewer : ℕ) → 2 
     → fewer + 1 < n + 1 → is_taken taken (numbered wanted fewer) ≡ true
 one_tried taken wanted name n zero low e used before lt = before zero (omega arith)
 one_tried taken wanted name n (suc k) low e used before lt =
-    elim (nat_split (suc k) n) [
-      | inl few ↦ before (suc k) few
-      | inr same ↦ subst (λ (it : List ℕ). is_taken taken it ≡ true)
-          (e ∙ ap (λ (m : ℕ). wanted ++ 32 ∷ decimal m) (omega arith)) used
-    ]
+    grind (arith, before (suc k))
 
 -- behind headings come more
 pub more_headings : (taken wanted more headings others : Fields) → AreHeadings taken wanted headings
@@ -62,3 +59,10 @@ both_named wanted more old mid new h i =
       named = more_headings (taken_by old) wanted more h.more i.more h.named
           (subst (λ (all : Fields). AreHeadings all more i.more) taken i.named);
     }
+
+-- a name is that at this place, or stands behind it
+pub taken_next : (xs : Fields) (k : ℕ) (name : List ℕ) → k < length xs
+    → is_taken (drop k xs) name ≡ (bytes_eq name (get_or xs k []) || is_taken (drop (k + 1) xs) name)
+taken_next [] k name lt = absurd (omega arith)
+taken_next (x ∷ xs) zero name lt = refl
+taken_next (x ∷ xs) (suc k) name lt = taken_next xs k name (omega arith)

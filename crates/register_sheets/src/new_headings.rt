@@ -8,7 +8,7 @@ ghost use Rattle.register_sheets.specs.Headings.{items_of, wanted_for, wanted_he
 ghost use Rattle.register_sheets.specs.HeadingViews.{NamesMore, taken_by};
 
 use crate::choices::{AskedColumn, DateColumn};
-use crate::reading::{field_at, read_next, records_of};
+use crate::reading::{field_at, pass_names, records_of};
 use csv::ByteRecord;
 use itoa::Buffer;
 use std::alloc::{AllocError, Global};
@@ -35,12 +35,7 @@ pub(crate) fn record_below(
 {
     let mut records = records_of(alloc, sheet, delimiter);
     let mut record = ByteRecord::new(alloc);
-    'records: for _ in 0..above {
-        if !read_next(&mut records, &mut record)? {
-            return Ok(ByteRecord::new(alloc));
-        }
-    }
-    if !read_next(&mut records, &mut record)? {
+    if !pass_names(&mut records, &mut record, above)? {
         return Ok(ByteRecord::new(alloc));
     }
     Ok(record)
@@ -59,12 +54,7 @@ impl NewNames {
     fn is_made(&self, name: &[u8]) -> bool
         ensures { result ≡ is_taken (items_of self.now.made.items) name.now }
     {
-        'made: for made in &self.made {
-            if made.as_slice() == name {
-                return true;
-            }
-        }
-        false
+        self.made.iter().any(|made| made.as_slice() == name)
     }
 
     /// Whether a column of the sheet has this name.

@@ -13,7 +13,7 @@ ghost use Rattle.register_sheets.specs.Sending.{Ends, HasFront, HasMade};
 
 use crate::choices::{DateColumn, SheetChoice, SheetSetup};
 use crate::lines::SheetLines;
-use crate::reading::{read_next, records_of};
+use crate::reading::{pass_names, read_next, records_of};
 use crate::register_fields::{calendar_of, id_of, put_date};
 use crate::sending::SheetSender;
 use crate::sheet_ends::SheetCause;
@@ -21,26 +21,6 @@ use csv::{ByteRecord, Reader};
 use itoa::Buffer;
 use register_records::{MAX_RECORDS, Output};
 use std::alloc::{AllocError, Global};
-
-/// Reads the records of a sheet down to its names, and says whether there are such.
-pub(crate) fn pass_names(
-    records: &mut Reader<&[u8]>,
-    record: &mut ByteRecord,
-    above: u32,
-) -> Result<bool, AllocError>
-    requires { IsReading records.old }
-    ensures reading { result ≡ Ok true → IsReading records.new }
-    ensures named { result ≡ Ok true → above < length (left_of records.old) }
-    ensures left { result ≡ Ok true → left_of records.new ≡ drop (above + 1) (left_of records.old) }
-    ensures none { result ≡ Ok false → length (left_of records.old) ≤ above }
-{
-    'records: for _ in 0..above {
-        if !read_next(records, record)? {
-            return Ok(false);
-        }
-    }
-    read_next(records, record)
-}
 
 /// Appends the names of a register.
 fn push_names(lines: &mut SheetLines) -> Result<(), AllocError>

@@ -2,9 +2,8 @@
 
 use crate::choices::{CalendarField, DateColumn, SheetChoice, SheetSetup};
 use crate::lines::SheetLines;
-use crate::reading::{field_at, read_next, records_of};
+use crate::reading::{field_at, pass_names, read_next, records_of};
 use crate::register_fields::{calendar_of, put_date};
-use crate::registers::pass_names;
 use crate::sheet_ends::SheetCause;
 use csv::{ByteRecord, Reader};
 use date_texts::{Calendar, read_date};

@@ -1,6 +1,6 @@
 use Rattle.std.proofs.Common.{◌≡◌, drop}
 use Rattle.register_sheets.specs.Reading.{IsReading, left_of}
-use Rattle.register_sheets.proofs.registers.pass_names.Given as goal
+use Rattle.register_sheets.proofs.reading.pass_names.Given as goal
 
 abbrev pub invariant-records : goal.invariant-records
 invariant-records l =

@@ -1,3 +1,6 @@
 pub mod Reports
 pub mod SheetReports
 pub mod DateReports
+pub mod SheetChoices
+pub mod AskedViews
+pub mod SheetTables

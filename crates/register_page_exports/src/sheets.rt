@@ -9,7 +9,7 @@ ghost use Rattle.register_sheets.specs.Sheets.{HasLongField, all_chosen, groups,
 ghost use Rattle.register_page_exports.specs.SheetReports.{PutsFields, PutsNothing, PutsText};
 
 use register_page::put;
-use register_sheets::{Picked, SheetFault, join, pick, write};
+use register_sheets::{Picked, join, pick, write};
 use std::alloc::Global;
 
 /// What was picked. Where there are more bytes or fields than fit into the room for them, it is as it was.
@@ -76,7 +76,7 @@ pub extern "C" fn sheet_pick(
         Ok(picked) => *report = put_fields(&picked, bytes, lengths),
         Err(fault) => {
             *report = PickReport {
-                ending: if fault == SheetFault::LongField { 2 } else { 1 },
+                ending: fault.number() as usize,
                 length: 0,
                 fields: 0,
                 records: 0,
@@ -119,7 +119,7 @@ pub extern "C" fn sheet_write(
         Ok(text) => *report = put_text(text.as_slice(), room),
         Err(fault) => {
             *report = TextReport {
-                ending: if fault == SheetFault::NoWidth { 3 } else { 1 },
+                ending: fault.number() as usize,
                 length: 0,
             };
         }

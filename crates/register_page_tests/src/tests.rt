@@ -4,7 +4,7 @@
 use date_texts::Refusal;
 use register_page::{Converted, Fault, convert_text};
 use register_records::SourceEnd;
-use register_sheets::{SheetFault, pick, write};
+use register_sheets::{WriteFault, pick, write};
 use std::alloc::Global;
 use std::test::Fail;
 
@@ -146,6 +146,6 @@ fn records_without_a_byte_are_written_in_quotes(rt: HostRuntime) -> Result<(), F
     let text = write(rt.alloc(), b"a;", &[0, 1, 9], 1, b';')?;
     assert!(rt; text.as_slice() == b"\"\"\na\n\";\"\n".as_slice());
     let fault = write(rt.alloc(), b"", &[], 0, b';').err();
-    assert!(rt; fault == Some(SheetFault::NoWidth));
+    assert!(rt; fault == Some(WriteFault::NoWidth));
     Ok(())
 }

@@ -13,3 +13,6 @@ pub mod RowLemmas
 pub mod WidthLemmas
 pub mod AskedLemmas
 pub mod ConvertLemmas
+pub mod HeadingLemmas
+pub mod RegisterLemmas
+pub mod UnknownNameLemmas

@@ -1,6 +1,6 @@
 -- Lists that are taken from the front.
 use Rattle.std.proofs.Common.{◌≡◌, ◌≤◌, ◌+◌, ◌∙◌, ℕ, zero, suc, List, [], ◌∷◌, ◌++◌, take, drop, length, refl, sym, ap}
-use Rattle.std.proofs.Common.{arith}
+use Rattle.std.proofs.Common.{arith, get_or, ◌<◌}
 use Rattle.std.proofs.lemmas.List.{drop_all, length-drop, take_all}
 
 -- one more
@@ -18,3 +18,18 @@ pub all_taken : {T : Type 0} (all : List T) (k count : ℕ) → drop k all ≡ [
 all_taken all k count e low =
     let short : length all ≤ k = omega (arith, length-drop k all, ap length e) in
     (take_all count all (omega arith) ∙ sym (take_all k all short), drop_all count all (omega arith))
+
+-- what stands below so many
+pub stands_below : {T : Type 0} (all : List T) (k above : ℕ) (x other : T) (rest : List T) → k ≡ above
+    → drop k all ≡ x ∷ rest → (above < length all) × (drop (above + 1) all ≡ rest) × (get_or all above other ≡ x)
+stands_below [] zero above x other rest e h = absurd (cc)
+stands_below [] (suc k) above x other rest e h = absurd (cc)
+stands_below (y ∷ all) zero zero x other rest e h =
+    let same : y ≡ x = cc in let left : all ≡ rest = cc in (omega arith, left, same)
+stands_below (y ∷ all) zero (suc above) x other rest e h = absurd (omega arith)
+stands_below (y ∷ all) (suc k) zero x other rest e h = absurd (omega arith)
+stands_below (y ∷ all) (suc k) (suc above) x other rest e h =
+    let (lt, left, same) = stands_below all k above x other rest (omega arith) h in (omega arith, left, same)
+
+pub none_below : {T : Type 0} (all : List T) (k above : ℕ) → k ≤ above → drop k all ≡ [] → length all ≤ above
+none_below all k above low e = omega (arith, length-drop k all, ap length e)

@@ -9,3 +9,7 @@ pub mod Converted
 pub mod WidthViews
 pub mod Sending
 pub mod RowViews
+pub mod Headings
+pub mod HeadingViews
+pub mod Registers
+pub mod UnknownNames

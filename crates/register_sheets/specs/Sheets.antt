@@ -4,7 +4,11 @@ use Rattle.std.specs.Prelude.{get_or, replicate}
 use Rattle.std.specs.List.{concat, flat_map}
 use Rattle.register_records.specs.Entries.{Fields}
 use Rattle.register_records.specs.Lines.{line_text}
+use Rattle.register_sheets.specs.declared.picking.PickFault.{PickFault}
+use Rattle.register_sheets.specs.declared.picking.PickFault.TheVariants as pick_fault
 use Rattle.register_sheets.specs.declared.picking.Picked.{Picked}
+use Rattle.register_sheets.specs.declared.writing.WriteFault.{WriteFault}
+use Rattle.register_sheets.specs.declared.writing.WriteFault.TheVariants as write_fault
 
 -- the fields of a record at these places, from 0; one that it has not is empty
 abbrev pub chosen : List ℕ → Fields → Fields
@@ -48,3 +52,12 @@ joined fill width (own ∷ records) fields =
 -- the text of records
 abbrev pub records_text : ℕ → List Fields → List ℕ
 records_text delimiter records = flat_map (line_text delimiter) records
+
+-- the numbers of faults
+abbrev pub pick_fault_number : PickFault → ℕ
+pick_fault_number pick_fault.OutOfMemory = 1
+pick_fault_number pick_fault.LongField = 2
+
+abbrev pub write_fault_number : WriteFault → ℕ
+write_fault_number write_fault.OutOfMemory = 1
+write_fault_number write_fault.NoWidth = 3

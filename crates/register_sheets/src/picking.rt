@@ -6,9 +6,44 @@ ghost use Rattle.csv.specs.Records.{fields_of};
 ghost use Rattle.register_records.specs.Entries.{Fields, text_records};
 ghost use Rattle.register_sheets.specs.Sheets.{HasLongField, IsPicked, all_chosen, chosen};
 
-use crate::reading::{SheetFault, field_at, read_next, records_of};
+use crate::reading::{field_at, read_next, records_of};
 use csv::ByteRecord;
-use std::alloc::Global;
+use std::alloc::{AllocError, Global};
+
+/// Why no fields are picked.
+#[derive(Clone, Copy, PartialEq, Eq, Debug)]
+pub enum PickFault {
+    /// Memory ran out.
+    OutOfMemory,
+    /// A field that was to be picked has 4 GiB or more.
+    LongField,
+}
+
+impl PickFault {
+    ghost use Rattle.std.specs.Prelude.{◌≡◌};
+    ghost use Rattle.register_sheets.specs.Sheets.{pick_fault_number};
+
+    /// The number of the fault: 1 for `OutOfMemory` and 2 for `LongField`.
+    pub fn number(self) -> u8
+        ensures { result ≡ pick_fault_number self }
+    {
+        match self {
+            PickFault::OutOfMemory => 1,
+            PickFault::LongField => 2,
+        }
+    }
+}
+
+impl From<AllocError> for PickFault {
+    ghost use Rattle.std.specs.Prelude.{◌≡◌};
+    ghost use Rattle.register_sheets.specs.declared.picking.PickFault.TheVariants.{OutOfMemory};
+
+    ghost from_gives = { λ error fault. fault ≡ OutOfMemory };
+
+    fn from(_error: AllocError) -> Self {
+        PickFault::OutOfMemory
+    }
+}
 
 /// The fields that were picked, in order, and what else the records showed.
 #[derive(Drop)]
@@ -25,28 +60,28 @@ pub struct Picked {
 
 impl Picked {
     /// Appends a field.
-    fn push(&mut self, field: &[u8]) -> Result<(), SheetFault>
+    fn push(&mut self, field: &[u8]) -> Result<(), PickFault>
         ensures bytes { OnOk result (self.new.bytes.items ≡ self.old.bytes.items ++ field.now) }
         ensures lengths { OnOk result (self.new.lengths.items ≡ self.old.lengths.items ++ length field.now ∷ []) }
-        ensures long { IfErr result (λ e. e ≡ SheetFault.LongField → 2 ^ 32 ≤ length field.now) }
+        ensures long { IfErr result (λ e. e ≡ PickFault.LongField → 2 ^ 32 ≤ length field.now) }
         ensures kept { (self.new.records ≡ self.old.records) × (self.new.widest ≡ self.old.widest) }
     {
         let Ok(length) = u32::try_from(field.len()) else {
-            return Err(SheetFault::LongField);
+            return Err(PickFault::LongField);
         };
         if self.bytes.extend_from_slice(field).is_err() || self.lengths.push(length).is_err() {
-            return Err(SheetFault::OutOfMemory);
+            return Err(PickFault::OutOfMemory);
         }
         Ok(())
     }
 
     /// Appends the fields of a record at these places.
-    fn push_chosen(&mut self, record: &ByteRecord, places: &[u32]) -> Result<(), SheetFault>
+    fn push_chosen(&mut self, record: &ByteRecord, places: &[u32]) -> Result<(), PickFault>
         ensures bytes { OnOk result (self.new.bytes.items
             ≡ self.old.bytes.items ++ concat (chosen places.now (fields_of record.now))) }
         ensures lengths { OnOk result (self.new.lengths.items
             ≡ self.old.lengths.items ++ map length (chosen places.now (fields_of record.now))) }
-        ensures long { IfErr result (λ e. e ≡ SheetFault.LongField
+        ensures long { IfErr result (λ e. e ≡ PickFault.LongField
             → HasLongField (chosen places.now (fields_of record.now))) }
         ensures kept { (self.new.records ≡ self.old.records) × (self.new.widest ≡ self.old.widest) }
     {
@@ -57,11 +92,11 @@ impl Picked {
     }
 
     /// Appends the fields of a record at these places, and counts the record.
-    fn add(&mut self, record: &ByteRecord, places: &[u32]) -> Result<(), SheetFault>
+    fn add(&mut self, record: &ByteRecord, places: &[u32]) -> Result<(), PickFault>
         requires { self.old.records + 1 < 2 ^ 64 }
         ensures picked { OnOk result ((records : List Fields) → IsPicked places.now self.old records
             → IsPicked places.now self.new (records ++ fields_of record.now ∷ [])) }
-        ensures long { IfErr result (λ e. e ≡ SheetFault.LongField
+        ensures long { IfErr result (λ e. e ≡ PickFault.LongField
             → HasLongField (chosen places.now (fields_of record.now))) }
     {
         self.push_chosen(record, places)?;
@@ -93,10 +128,10 @@ pub fn pick(
     delimiter: u8,
     places: &[u32],
     most: usize,
-) -> Result<Picked, SheetFault>
+) -> Result<Picked, PickFault>
     ensures picked { IfOk result (λ picked.
         IsPicked places.now picked (take most (text_records delimiter sheet.now))) }
-    ensures long { IfErr result (λ e. e ≡ SheetFault.LongField
+    ensures long { IfErr result (λ e. e ≡ PickFault.LongField
         → HasLongField (all_chosen places.now (take most (text_records delimiter sheet.now)))) }
 {
     let mut records = records_of(alloc, sheet, delimiter);

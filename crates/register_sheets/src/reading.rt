@@ -1,34 +1,12 @@
 //! The records of a sheet, one after the other.
 
-ghost use Rattle.std.specs.Prelude.{◌≡◌, ◌∷◌, [], true, false, get_or, Ok};
+ghost use Rattle.std.specs.Prelude.{◌≡◌, ◌≤◌, ◌<◌, ◌+◌, ◌∷◌, [], true, false, drop, get_or, length, Ok};
 ghost use Rattle.csv.specs.Records.{fields_of};
 ghost use Rattle.register_records.specs.Entries.{text_records};
 ghost use Rattle.register_sheets.specs.Reading.{IsReading, left_of};
 
 use csv::{ByteRecord, Reader, ReaderBuilder};
 use std::alloc::{AllocError, Global};
-
-/// Why a call gives nothing.
-#[derive(Clone, Copy, PartialEq, Eq, Debug)]
-pub enum SheetFault {
-    /// Memory ran out.
-    OutOfMemory,
-    /// A field that was picked has 4 GiB or more.
-    LongField,
-    /// Records of no field were asked for.
-    NoWidth,
-}
-
-impl From<AllocError> for SheetFault {
-    ghost use Rattle.std.specs.Prelude.{◌≡◌};
-    ghost use Rattle.register_sheets.specs.declared.reading.SheetFault.TheVariants.{OutOfMemory};
-
-    ghost from_gives = { λ error fault. fault ≡ OutOfMemory };
-
-    fn from(_error: AllocError) -> Self {
-        SheetFault::OutOfMemory
-    }
-}
 
 /// The records of a sheet with this byte between two fields. They may have any number of fields, and the first is a
 /// record like any.
@@ -58,6 +36,27 @@ pub(crate) fn read_next(
         // Of a text in memory, records of any length and fields of any bytes no other error comes.
         Err(_) => Err(AllocError),
     }
+}
+
+/// Reads the records of a sheet down to its names, and says whether there are such.
+pub(crate) fn pass_names(
+    records: &mut Reader<&[u8]>,
+    record: &mut ByteRecord,
+    above: u32,
+) -> Result<bool, AllocError>
+    requires { IsReading records.old }
+    ensures reading { result ≡ Ok true → IsReading records.new }
+    ensures named { result ≡ Ok true → above < length (left_of records.old) }
+    ensures left { result ≡ Ok true → left_of records.new ≡ drop (above + 1) (left_of records.old) }
+    ensures found { result ≡ Ok true → fields_of record.new ≡ get_or (left_of records.old) above [] }
+    ensures none { result ≡ Ok false → length (left_of records.old) ≤ above }
+{
+    'records: for _ in 0..above {
+        if !read_next(records, record)? {
+            return Ok(false);
+        }
+    }
+    read_next(records, record)
 }
 
 /// The field of a record at a place, from 0, or an empty one where the record has none there.

@@ -7,8 +7,42 @@ ghost use Rattle.register_sheets.specs.Sheets.{groups, records_text};
 
 use crate::field_lists::FieldsLeft;
 use crate::lines::SheetLines;
-use crate::reading::SheetFault;
-use std::alloc::Global;
+use std::alloc::{AllocError, Global};
+
+/// Why no text is written.
+#[derive(Clone, Copy, PartialEq, Eq, Debug)]
+pub enum WriteFault {
+    /// Memory ran out.
+    OutOfMemory,
+    /// Records of no field were asked for.
+    NoWidth,
+}
+
+impl WriteFault {
+    ghost use Rattle.std.specs.Prelude.{◌≡◌};
+    ghost use Rattle.register_sheets.specs.Sheets.{write_fault_number};
+
+    /// The number of the fault: 1 for `OutOfMemory` and 3 for `NoWidth`.
+    pub fn number(self) -> u8
+        ensures { result ≡ write_fault_number self }
+    {
+        match self {
+            WriteFault::OutOfMemory => 1,
+            WriteFault::NoWidth => 3,
+        }
+    }
+}
+
+impl From<AllocError> for WriteFault {
+    ghost use Rattle.std.specs.Prelude.{◌≡◌};
+    ghost use Rattle.register_sheets.specs.declared.writing.WriteFault.TheVariants.{OutOfMemory};
+
+    ghost from_gives = { λ error fault. fault ≡ OutOfMemory };
+
+    fn from(_error: AllocError) -> Self {
+        WriteFault::OutOfMemory
+    }
+}
 
 /// The CSV text of records of `width` fields each: of the fields of these `lengths` in `bytes`, in order; the last record
 /// has what is left. `delimiter` stands between two fields, and each line ends with a line feed.
@@ -29,13 +63,13 @@ pub fn write(
     lengths: &[u32],
     width: usize,
     delimiter: u8,
-) -> Result<Vec<u8>, SheetFault>
+) -> Result<Vec<u8>, WriteFault>
     ensures text { IfOk result (λ text. (width ≢ 0) × (text.items ≡ records_text delimiter
         (groups (div_ceil (length lengths.now) width) width (fields_by lengths.now bytes.now)))) }
-    ensures width { (result ≡ Err SheetFault.NoWidth) ↔ (width ≡ 0) }
+    ensures width { (result ≡ Err WriteFault.NoWidth) ↔ (width ≡ 0) }
 {
     if width == 0 {
-        return Err(SheetFault::NoWidth);
+        return Err(WriteFault::NoWidth);
     }
     let mut fields = FieldsLeft::new(bytes, lengths);
     let mut lines = SheetLines::new(alloc, delimiter);

@@ -1,6 +1,8 @@
 //! Small sheets, and what comes back. The days are from Python's `datetime` (proleptic Gregorian ordinals) and from the
 //! tables of Reingold and Dershowitz.
 
+mod table;
+
 use date_texts::{Calendar, Target};
 use register_records::PlainOutput;
 use register_sheets::{

@@ -1,0 +1,5 @@
+use Rattle.std.proofs.Common.{◌≡◌, take}
+use Rattle.register_page_exports.proofs.sheet_tables.words_of.Given as goal
+
+abbrev pub invariant-numbers : goal.invariant-numbers
+invariant-numbers l = take l.i l.words ≡ take l.i l.numbers

@@ -1,0 +1,68 @@
+-- Headings are named one after the other.
+use Rattle.std.proofs.Common.{◌≡◌, ◌<◌, ◌≤◌, ◌+◌, ◌∙◌, ◌++◌, ℕ, zero, suc, Bool, true, false, List, [], ◌∷◌, refl, sym, ap, subst}
+use Rattle.std.proofs.Common.{arith, append_assoc, append-nil, drop, get_or, length, ◌||◌}
+use Rattle.std.specs.Str.{bytes_eq}
+use Rattle.std.specs.Fmt.{decimal}
+use Rattle.register_records.specs.Entries.{Fields}
+use Rattle.register_sheets.specs.HeadingViews.{NamesMore, taken_by}
+use Rattle.register_sheets.specs.Headings.{AreHeadings, IsHeading, is_taken, items_of, numbered}
+use Rattle.register_sheets.specs.declared.new_headings.NewNames.{NewNames}
+
+-- the name with this number is free, and those before it are not
+pub first_free : (taken : Fields) (wanted name : List ℕ) (n : ℕ) → 2 ≤ n → name ≡ wanted ++ 32 ∷ decimal n
+    → is_taken taken name ≡ false
+    → ((fewer : ℕ) → fewer + 1 < n → is_taken taken (numbered wanted fewer) ≡ true)
+    → IsHeading taken wanted name
+first_free taken wanted name zero low e free least = absurd (omega arith)
+first_free taken wanted name (suc zero) low e free least = absurd (omega arith)
+first_free taken wanted name (suc (suc k)) low e free least =
+    let is : suc (suc k) ≡ k + 2 = omega arith in
+    record {
+      count = suc k;
+      is = e ∙ ap (λ (m : ℕ). wanted ++ 32 ∷ decimal m) is;
+      free = free;
+      least = λ fewer lt. least fewer (omega arith);
+    }
+
+pub one_tried : (taken : Fields) (wanted name : List ℕ) (n fewer : ℕ) → 2 ≤ n → name ≡ wanted ++ 32 ∷ decimal n
+    → is_taken taken name ≡ true
+    → ((fewer : ℕ) → fewer + 1 < n → is_taken taken (numbered wanted fewer) ≡ true)
+    → fewer + 1 < n + 1 → is_taken taken (numbered wanted fewer) ≡ true
+one_tried taken wanted name n zero low e used before lt = before zero (omega arith)
+one_tried taken wanted name n (suc k) low e used before lt =
+    grind (arith, before (suc k))
+
+-- behind headings come more
+pub more_headings : (taken wanted more headings others : Fields) → AreHeadings taken wanted headings
+    → AreHeadings (taken ++ headings) more others → AreHeadings taken (wanted ++ more) (headings ++ others)
+more_headings taken [] more [] others h both = rw append-nil at both
+more_headings taken [] more (x ∷ headings) others h both = absurd h
+more_headings taken (w ∷ wanted) more [] others h both = absurd h
+more_headings taken (w ∷ wanted) more (x ∷ headings) others h both = (
+  h.0,
+  more_headings (taken ++ x ∷ []) wanted more headings others h.1
+      (subst (λ (all : Fields). AreHeadings all more others) (sym (append_assoc taken (x ∷ []) headings)) both),
+)
+
+pub none_named : (headings : NewNames) → NamesMore [] headings headings
+none_named headings = record { more = []; own = refl; made = sym (append-nil (items_of headings.made.items)); named = tt }
+
+pub both_named : (wanted more : Fields) (old mid new : NewNames) → NamesMore wanted old mid → NamesMore more mid new
+    → NamesMore (wanted ++ more) old new
+both_named wanted more old mid new h i =
+    let taken : taken_by mid ≡ taken_by old ++ h.more
+    = rw (h.own, h.made) (sym (append_assoc _ (items_of old.made.items) h.more)) in
+    record {
+      more = h.more ++ i.more;
+      own = i.own ∙ h.own;
+      made = i.made ∙ ap (λ (xs : Fields). xs ++ i.more) h.made ∙ append_assoc (items_of old.made.items) h.more i.more;
+      named = more_headings (taken_by old) wanted more h.more i.more h.named
+          (subst (λ (all : Fields). AreHeadings all more i.more) taken i.named);
+    }
+
+-- a name is that at this place, or stands behind it
+pub taken_next : (xs : Fields) (k : ℕ) (name : List ℕ) → k < length xs
+    → is_taken (drop k xs) name ≡ (bytes_eq name (get_or xs k []) || is_taken (drop (k + 1) xs) name)
+taken_next [] k name lt = absurd (omega arith)
+taken_next (x ∷ xs) zero name lt = refl
+taken_next (x ∷ xs) (suc k) name lt = taken_next xs k name (omega arith)

@@ -1,0 +1,128 @@
+-- The register of a column of dates is written record by record.
+use Rattle.std.proofs.Common.{◌≡◌, ◌≤◌, ◌<◌, ◌+◌, ◌∙◌, ◌++◌, ℕ, zero, suc, List, [], ◌∷◌, Option, refl, sym, ap, subst}
+use Rattle.std.proofs.Common.{append_assoc, arith, drop, length, take}
+use Rattle.std.proofs.lemmas.List.{length-drop, length-take, take-append-drop, take_all}
+use Rattle.register_records.specs.Entries.{Fields, record_limit}
+use Rattle.register_records.specs.Sources.{Gains}
+use Rattle.register_sheets.specs.Choices.{register_record}
+use Rattle.register_sheets.specs.Converted.{below}
+use Rattle.register_sheets.specs.Registers.{IsFrontOfRegister, IsFullRegister, IsRegister, register_head}
+use Rattle.register_sheets.specs.Registers.{register_records}
+use Rattle.register_sheets.specs.Sending.{HasFront, HasMade, IsSent}
+use Rattle.register_sheets.specs.Sheets.{records_text}
+use Rattle.register_sheets.specs.declared.choices.DateColumn.{DateColumn}
+use Rattle.register_sheets.specs.declared.choices.SheetChoice.{SheetChoice}
+use Rattle.register_sheets.specs.declared.lines.SheetLines.{SheetLines}
+use Rattle.register_sheets.proofs.ListLemmas.{one_taken}
+use Rattle.register_sheets.proofs.SendingLemmas.{front_made, front_more}
+
+pub register_both : (choice : SheetChoice) (column : DateColumn) (k : ℕ) (xs ys : List Fields)
+    → register_records choice column k (xs ++ ys)
+    ≡ register_records choice column k xs ++ register_records choice column (k + length xs) ys
+register_both choice column k [] ys = refl
+register_both choice column k (x ∷ xs) ys =
+    ap (λ (rest : List Fields). register_record choice column (k + 1) x ∷ rest)
+    (register_both choice column (k + 1) xs ys
+    ∙ ap (λ (n : ℕ). register_records choice column (k + 1) xs ++ register_records choice column n ys) (omega arith))
+
+-- where this record is the next one
+pub register_more : (choice : SheetChoice) (column : DateColumn) (all : List Fields) (k : ℕ) (x : Fields)
+    (rest head : List Fields) → drop k all ≡ x ∷ rest
+    → (head ++ register_records choice column 0 (take k all)) ++ register_record choice column (k + 1) x ∷ []
+    ≡ head ++ register_records choice column 0 (take (k + 1) all)
+register_more choice column all k x rest head e =
+    let (taken, left) = one_taken all k x rest e in
+    let long : length (take k all) ≡ k = omega (arith, ap length e, length-drop k all, length-take k all) in
+    append_assoc head (register_records choice column 0 (take k all)) (register_record choice column (k + 1) x ∷ [])
+    ∙ ap (λ (it : List Fields). head ++ it)
+    (sym (ap (register_records choice column 0) taken ∙ register_both choice column 0 (take k all) (x ∷ [])
+    ∙ ap (λ (n : ℕ). register_records choice column 0 (take k all) ++ register_record choice column (n + 1) x ∷ []) long))
+
+-- what was sent is a front of the register
+pub register_front : (choice : SheetChoice) (column : DateColumn) (all : List Fields) (k d : ℕ)
+    (begun now : Option (List ℕ)) (lines : SheetLines) (head : List Fields)
+    → HasMade d begun now lines (head ++ register_records choice column 0 (take k all)) []
+    → HasFront d begun now (head ++ register_records choice column 0 all)
+register_front choice column all k d begun now lines head h =
+    let first = register_records choice column 0 (take k all) in
+    let more = register_records choice column (0 + length (take k all)) (drop k all) in
+    subst (HasFront d begun now)
+    (append_assoc head first more
+    ∙ ap (λ (it : List Fields). head ++ it)
+    (sym (ap (register_records choice column 0) (sym (take-append-drop k all))
+    ∙ register_both choice column 0 (take k all) (drop k all))))
+    (front_more d begun now (head ++ first) more (front_made d begun now lines _ [] h))
+
+-- the first entries are those of the first records
+register_taken : (choice : SheetChoice) (column : DateColumn) (k n : ℕ) (xs : List Fields)
+    → register_records choice column k (take n xs) ≡ take n (register_records choice column k xs)
+register_taken choice column k zero xs = refl
+register_taken choice column k (suc n) [] = refl
+register_taken choice column k (suc n) (x ∷ xs) =
+    ap (λ (rest : List Fields). register_record choice column (k + 1) x ∷ rest)
+    (register_taken choice column (k + 1) n xs)
+
+head_taken : (n m : ℕ) (x : Fields) (xs : List Fields) → m ≡ n + 1 → take m (x ∷ xs) ≡ x ∷ take n xs
+head_taken n zero x xs e = absurd (omega arith)
+head_taken n (suc m) x xs e = ap (λ (k : ℕ). x ∷ take k xs) (omega arith)
+
+-- all of it was sent
+pub register_sent : (choice : SheetChoice) (column : DateColumn) (all rest : List Fields) (number : ℕ)
+    (begun now : Option (List ℕ)) (lines : SheetLines)
+    → choice.above < length all → rest ≡ below choice all → number ≡ length rest → number ≤ record_limit
+    → IsSent choice.delimiter begun now lines (register_head ∷ register_records choice column 0 (take number rest))
+    → Gains begun now (IsRegister choice column all number)
+register_sent choice column all rest number begun now lines named is counted few sent =
+    let whole : take number rest ≡ below choice all = take_all number rest (omega arith) ∙ is in
+    (
+      _,
+      record {
+        has_names = named;
+        counted = counted ∙ ap length is;
+        limited = few;
+        written = ap (λ (xs : List Fields). records_text choice.delimiter (register_head ∷ register_records choice column 0 xs))
+            whole;
+      },
+      sent.gained,
+    )
+
+-- all that it may have was sent
+pub register_full : (choice : SheetChoice) (column : DateColumn) (all rest : List Fields) (number : ℕ)
+    (begun now : Option (List ℕ)) (lines : SheetLines)
+    → rest ≡ below choice all → number ≡ record_limit → record_limit < length rest
+    → IsSent choice.delimiter begun now lines (register_head ∷ register_records choice column 0 (take number rest))
+    → Gains begun now (IsFullRegister choice column all)
+register_full choice column all rest number begun now lines is full more sent =
+    let first : register_records choice column 0 (take number rest)
+    ≡ take record_limit (register_records choice column 0 (below choice all))
+    = ap (λ (n : ℕ). register_records choice column 0 (take n rest)) full
+    ∙ ap (λ (xs : List Fields). register_records choice column 0 (take record_limit xs)) is
+    ∙ register_taken choice column 0 record_limit (below choice all) in
+    (
+      _,
+      record {
+        more = subst (λ (xs : List Fields). record_limit < length xs) is more;
+        written = ap (records_text choice.delimiter)
+            (ap (λ (xs : List Fields). register_head ∷ xs) first
+            ∙ sym (head_taken record_limit (record_limit + 1) register_head _ refl));
+      },
+      sent.gained,
+    )
+
+-- what was sent is a front of the register
+pub register_begun : (choice : SheetChoice) (column : DateColumn) (all rest : List Fields)
+    (begun now : Option (List ℕ)) → rest ≡ below choice all
+    → HasFront choice.delimiter begun now (register_head ∷ register_records choice column 0 rest)
+    → Gains begun now (IsFrontOfRegister choice column all)
+register_begun choice column all rest begun now is (count, sent) =
+    (
+      _,
+      (count, ap (λ (xs : List Fields). records_text choice.delimiter
+      (take count (register_head ∷ register_records choice column 0 xs))) is),
+      sent,
+    )
+
+-- nothing was sent yet
+pub none_sent : (d : ℕ) (begun now : Option (List ℕ)) (lines : SheetLines) (rest : List Fields)
+    → HasMade d begun now lines [] [] → HasFront d begun now rest
+none_sent d begun now lines rest h = front_more d begun now [] rest (front_made d begun now lines [] [] h)

@@ -1,0 +1,7 @@
+use Rattle.std.proofs.Common.{◌≡◌, drop}
+use Rattle.csv.specs.Records.{fields_of}
+use Rattle.register_sheets.specs.Headings.{is_taken}
+use Rattle.register_sheets.proofs.new_headings.NewNames.is_own.Given as goal
+
+abbrev pub invariant-own : goal.invariant-own
+invariant-own l = is_taken (drop l.place (fields_of l.self.own)) l.name ≡ is_taken (fields_of l.self.own) l.name

@@ -1,0 +1,11 @@
+use Rattle.std.proofs.Common.{take}
+use Rattle.std.specs.List.{flat_map}
+use Rattle.csv.specs.Records.{fields_of}
+use Rattle.register_sheets.specs.HeadingViews.{NamesMore}
+use Rattle.register_sheets.specs.Headings.{wanted_for}
+use Rattle.register_sheets.proofs.new_headings.NewNames.push_dates.Given as goal
+
+abbrev pub invariant-dates : goal.invariant-dates
+invariant-dates l =
+    NamesMore (flat_map (wanted_for l.several (fields_of l.fn.self.own) l.columns) (take l.date-index l.dates)) l.fn.self
+    l.self

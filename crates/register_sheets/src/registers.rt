@@ -1,0 +1,207 @@
+//! The register of a column of dates, as a text.
+
+ghost use Rattle.std.specs.Prelude.{◌≡◌, ◌≢◌, ◌≤◌, ◌<◌, ◌+◌, ◌++◌, ◌∷◌, [], ℕ, List, Option, drop, length, take, true, false};
+ghost use Rattle.std.specs.Prelude.{IfErr, IfOk, OnOk, Ok};
+ghost use Rattle.csv.specs.Records.{fields_of};
+ghost use Rattle.register_records.specs.Entries.{Fields, record_limit, text_records};
+ghost use Rattle.register_records.specs.Sources.{Gains};
+ghost use Rattle.register_sheets.specs.Choices.{register_record};
+ghost use Rattle.register_sheets.specs.LineViews.{GainsFields};
+ghost use Rattle.register_sheets.specs.Reading.{IsReading, left_of};
+ghost use Rattle.register_sheets.specs.Registers.{IsFrontOfRegister, IsFullRegister, IsRegister, register_head, register_records};
+ghost use Rattle.register_sheets.specs.Sending.{Ends, HasFront, HasMade};
+
+use crate::choices::{DateColumn, SheetChoice, SheetSetup};
+use crate::lines::SheetLines;
+use crate::reading::{pass_names, read_next, records_of};
+use crate::register_fields::{calendar_of, id_of, put_date};
+use crate::sending::SheetSender;
+use crate::sheet_ends::SheetCause;
+use csv::{ByteRecord, Reader};
+use itoa::Buffer;
+use register_records::{MAX_RECORDS, Output};
+use std::alloc::{AllocError, Global};
+
+/// Appends the names of a register.
+fn push_names(lines: &mut SheetLines) -> Result<(), AllocError>
+    ensures { OnOk result (GainsFields register_head lines.old lines.new) }
+{
+    lines.push(b"id")?;
+    lines.push(b"calendar")?;
+    lines.push(b"date")
+}
+
+/// Appends the id, the calendar and the date that a register has of a record with this number. `date` is used as memory.
+fn push_entry(
+    lines: &mut SheetLines,
+    choice: &SheetChoice,
+    column: &DateColumn,
+    number: u32,
+    record: &ByteRecord,
+    date: &mut Vec<u8>,
+) -> Result<(), AllocError>
+    ensures { OnOk result
+        (GainsFields (register_record choice.now column.now number (fields_of record.now)) lines.old lines.new) }
+{
+    let mut buffer = Buffer::new();
+    let id = id_of(choice.id, buffer.format(number).as_bytes(), record);
+    let (calendar, called) = calendar_of(choice.calendars, column.calendar, record);
+    put_date(date, choice, column, called, record)?;
+    lines.push(id)?;
+    lines.push(calendar)?;
+    lines.push(date.as_slice())
+}
+
+/// Writes what a register has of a record with this number.
+fn write_entry<W: Output>(
+    record: &ByteRecord,
+    number: u32,
+    choice: &SheetChoice,
+    column: &DateColumn,
+    date: &mut Vec<u8>,
+    sender: &mut SheetSender,
+    output: &mut W,
+) -> Result<(), SheetCause>
+    ensures kept { sender.new.delimiter ≡ sender.old.delimiter }
+    ensures made { OnOk result ((begun : Option (List ℕ)) (made : List Fields)
+        → HasMade sender.old.delimiter begun (W.contents output.old) sender.old.lines made []
+        → HasMade sender.old.delimiter begun (W.contents output.new) sender.new.lines
+        (made ++ register_record choice.now column.now number (fields_of record.now) ∷ []) []) }
+    ensures memory { IfErr result (λ c. c ≡ SheetCause.NoMemory → output.new ≡ output.old) }
+    ensures output { Ends result (W.has_failed output.old) (W.has_failed output.new) (W.own_mark output.old)
+        (W.own_mark output.new) }
+{
+    push_entry(&mut sender.lines, choice, column, number, record, date)?;
+    sender.end(output)?;
+    Ok(())
+}
+
+/// Writes what a register has of each record that is left, and returns how many they are, and whether there are more than
+/// it may have.
+fn write_entries<W: Output>(
+    records: &mut Reader<&[u8]>,
+    record: &mut ByteRecord,
+    choice: &SheetChoice,
+    column: &DateColumn,
+    date: &mut Vec<u8>,
+    sender: &mut SheetSender,
+    output: &mut W,
+) -> Result<(u32, bool), SheetCause>
+    requires reading { IsReading records.old }
+    ensures kept { sender.new.delimiter ≡ sender.old.delimiter }
+    ensures few { IfOk result (λ r. r.0 ≤ record_limit) }
+    ensures all { IfOk result (λ r. r.1 ≡ false → r.0 ≡ length (left_of records.old)) }
+    ensures more { IfOk result (λ r. r.1 ≡ true → (r.0 ≡ record_limit) × (record_limit < length (left_of records.old))) }
+    ensures made { IfOk result (λ r. (begun : Option (List ℕ)) (head : List Fields)
+        → HasMade sender.old.delimiter begun (W.contents output.old) sender.old.lines head []
+        → HasMade sender.old.delimiter begun (W.contents output.new) sender.new.lines
+        (head ++ register_records choice.now column.now 0 (take r.0 (left_of records.old))) []) }
+    ensures part { IfErr result (λ c. c ≡ SheetCause.NoMemory → (begun : Option (List ℕ)) (head : List Fields)
+        → HasMade sender.old.delimiter begun (W.contents output.old) sender.old.lines head []
+        → HasFront sender.old.delimiter begun (W.contents output.new)
+        (head ++ register_records choice.now column.now 0 (left_of records.old))) }
+    ensures output { Ends result (W.has_failed output.old) (W.has_failed output.new) (W.own_mark output.old)
+        (W.own_mark output.new) }
+{
+    let mut number = 0;
+    'records: loop {
+        if !read_next(records, record)? {
+            return Ok((number, false));
+        }
+        if number == MAX_RECORDS {
+            return Ok((number, true));
+        }
+        number += 1;
+        write_entry(record, number, choice, column, date, sender, output)?;
+    }
+}
+
+/// Writes the header of a register, and what it has of each record that is left; returns what `write_entries` does.
+fn write_lines<W: Output>(
+    records: &mut Reader<&[u8]>,
+    record: &mut ByteRecord,
+    choice: &SheetChoice,
+    column: &DateColumn,
+    date: &mut Vec<u8>,
+    sender: &mut SheetSender,
+    output: &mut W,
+) -> Result<(u32, bool), SheetCause>
+    requires reading { IsReading records.old }
+    ensures kept { sender.new.delimiter ≡ sender.old.delimiter }
+    ensures few { IfOk result (λ r. r.0 ≤ record_limit) }
+    ensures all { IfOk result (λ r. r.1 ≡ false → r.0 ≡ length (left_of records.old)) }
+    ensures more { IfOk result (λ r. r.1 ≡ true → (r.0 ≡ record_limit) × (record_limit < length (left_of records.old))) }
+    ensures made { IfOk result (λ r. (begun : Option (List ℕ))
+        → HasMade sender.old.delimiter begun (W.contents output.old) sender.old.lines [] []
+        → HasMade sender.old.delimiter begun (W.contents output.new) sender.new.lines
+        (register_head ∷ register_records choice.now column.now 0 (take r.0 (left_of records.old))) []) }
+    ensures part { IfErr result (λ c. c ≡ SheetCause.NoMemory → (begun : Option (List ℕ))
+        → HasMade sender.old.delimiter begun (W.contents output.old) sender.old.lines [] []
+        → HasFront sender.old.delimiter begun (W.contents output.new)
+        (register_head ∷ register_records choice.now column.now 0 (left_of records.old))) }
+    ensures output { Ends result (W.has_failed output.old) (W.has_failed output.new) (W.own_mark output.old)
+        (W.own_mark output.new) }
+{
+    push_names(&mut sender.lines)?;
+    sender.end(output)?;
+    write_entries(records, record, choice, column, date, sender, output)
+}
+
+/// Writes the register of a column of dates to an output: its header `id,calendar,date` and, for each record of the sheet
+/// below the names, the id, the calendar and the date that the choice gives, with the sheet's delimiter between them.
+/// Returns how many records these are. Lines are sent in blocks.
+///
+/// # Errors
+///
+/// `NoNames` where the sheet has no record with names, `TooManyRecords` where more than 1,000,000 stand below them,
+/// `SinkFault` where the output failed, and `NoMemory`.
+pub fn write_register<W: Output>(
+    alloc: Global,
+    sheet: &[u8],
+    setup: &SheetSetup,
+    column: &DateColumn,
+    output: &mut W,
+) -> Result<u32, SheetCause>
+    // The output has gained the register, and nothing else.
+    ensures whole { IfOk result (λ count. Gains (W.contents output.old) (W.contents output.new)
+        (IsRegister setup.now.choice column.now (text_records setup.now.choice.delimiter sheet.now) count)) }
+    ensures flushed { OnOk result (W.is_flushed output.new ≡ true) }
+    // Where memory ran out, it has gained the first lines of that register.
+    ensures part { IfErr result (λ c. c ≡ SheetCause.NoMemory → Gains (W.contents output.old) (W.contents output.new)
+        (IsFrontOfRegister setup.now.choice column.now (text_records setup.now.choice.delimiter sheet.now))) }
+    // No record stands below those that stand above the names.
+    ensures no_names { IfErr result (λ c. c ≡ SheetCause.NoNames → (output.new ≡ output.old)
+        × (length (text_records setup.now.choice.delimiter sheet.now) ≤ setup.now.choice.above)) }
+    // All the records that it may have were written, and there are more.
+    ensures too_many { IfErr result (λ c. c ≡ SheetCause.TooManyRecords
+        → Gains (W.contents output.old) (W.contents output.new)
+        (IsFullRegister setup.now.choice column.now (text_records setup.now.choice.delimiter sheet.now))) }
+    // The output has failed exactly where it had failed before or is the cause.
+    ensures good { OnOk result (W.has_failed output.new ≡ W.has_failed output.old) }
+    ensures kept { IfErr result (λ c. (c ≢ SheetCause.SinkFault) → W.has_failed output.new ≡ W.has_failed output.old) }
+    ensures sink { IfErr result (λ c. c ≡ SheetCause.SinkFault → W.has_failed output.new ≡ true) }
+    ensures mark { W.own_mark output.new ≡ W.own_mark output.old }
+{
+    let choice = setup.choice();
+    let mut records = records_of(alloc, sheet, choice.delimiter);
+    let mut record = ByteRecord::new(alloc);
+    if !pass_names(&mut records, &mut record, choice.above)? {
+        return Err(SheetCause::NoNames);
+    }
+    let mut date = Vec::new(alloc);
+    let mut sender = SheetSender::new(alloc, choice.delimiter);
+    let (number, more) = write_lines(
+        &mut records,
+        &mut record,
+        &choice,
+        column,
+        &mut date,
+        &mut sender,
+        output,
+    )?;
+    sender.send(output)?;
+    if more {
+        return Err(SheetCause::TooManyRecords);
+    }
+    Ok(number)
+}

@@ -281,7 +281,7 @@ export const keptWorkers = (state) => [workerOf(state)];
 // The conversion ended. Where the file was read anew, what is shown of the sheet is what was converted.
 function runReplied(state, reply) {
   const ended = { ...state, run: { ...state.run, status: /** @type {'ended'} */ ('ended'), reply }, notice: '' };
-  if (reply.fault === 'otherColumns') return { ...readAnew(state, state.source), notice: 'otherColumns' };
+  if (reply.fault === 'otherColumns') return { ...readAnew({ ...state, run: null }, state.source), notice: 'otherColumns' };
   if (reply.fault || !reply.answer.sheetBegins) return ended;
   const { sheetBegins } = reply.answer;
   const isSame = JSON.stringify(sheetBegins) === JSON.stringify(beginning(state));

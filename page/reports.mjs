@@ -218,7 +218,8 @@ function registerLinks({ registers }, names, stem) {
     const { answer } = reply;
     if (!answer || answer.ending !== 0) return { place, words: sheetFault(reply, ''), isMade: false };
     const file = `${stem}${names.length === 1 ? '' : `.${place + 1}`}${WORDS.registerSuffix}`;
-    return { place, words: WORDS.saveRegister(file, WORDS.bytes(answer.register.size)), blob: answer.register, name: file, isTable: false };
+    const words = WORDS.saveRegister(file, WORDS.bytes(answer.register.size));
+    return { place, words, blob: answer.register, name: file, isTable: false };
   });
 }
 
@@ -244,7 +245,8 @@ export function sheetReport(state) {
   if (!answer || answer.ending !== 0) return { title, ...brokenSheet(run.reply, encodingOf(state)) };
   const { rows, refused, first, table } = answer, names = dateNames(state);
   const stem = stemOf(title), name = `${stem}${WORDS.sheetSuffix}`;
-  const words = names.length === 1 ? WORDS.whole(rows, refused[0]) : WORDS.wholeSheet(rows, names.map((it, k) => [it, refused[k]]));
+  const ofEach = names.map((it, k) => [it, refused[k]]);
+  const words = names.length === 1 ? WORDS.whole(rows, refused[0]) : WORDS.wholeSheet(rows, ofEach);
   return {
     title, number: 0, kind: 'done', words, advice: [], counts: [],
     tables: [joinedTable(WORDS.sheetJoined(first.rows.length), first, names, run.columns.length + 1),
@@ -259,8 +261,8 @@ const stemOf = (name) => name.replace(/\.[^.]*$/, '');
 
 /** The choices, as a file to be kept: its name, and what stands in it. */
 export function keptChoices(state) {
-  const { source, picks, columns } = state;
-  return [`${stemOf(source.file.name)}${WORDS.choicesSuffix}`, choicesText(source, sheet.beginning(state).heading, picks, columns)];
+  const { source, picks, columns } = state, { heading } = sheet.beginning(state);
+  return [`${stemOf(source.file.name)}${WORDS.choicesSuffix}`, choicesText(source, heading, picks, columns)];
 }
 
 function readingWords(state) {

@@ -15,8 +15,9 @@ import {
 } from './sheet.mjs';
 import { WORDS } from './words.mjs';
 
-// What short years become.
+// What is added to short years, and what becomes of those of Hebrew dates.
 const CENTURIES = [...Array(20).keys()].map((i) => String(100 * (20 - i)));
+const YEAR_RULES = ['refuse', 'keep', '5000'];
 const MONTHS = [...Array(13).keys()].map((i) => i + 1);
 
 function group(words, options) {
@@ -41,7 +42,8 @@ function dateRow(heading, place, all) {
   const date = element('select', '', { id: `sheet-date-${place}`, autocomplete: 'off' });
   date.append(option(WORDS.choose, ''), ...columnOptions(heading));
   const calendar = element('select', '', { id: `sheet-calendar-${place}`, autocomplete: 'off' });
-  calendar.append(option(WORDS.choose, ''), group(WORDS.ofColumn, columnOptions(heading)), group(WORDS.ofAll, calendarOptions()));
+  calendar.append(option(WORDS.choose, ''), group(WORDS.ofColumn, columnOptions(heading)),
+    group(WORDS.ofAll, calendarOptions()));
   row.append(field(WORDS.dateColumn(place + 1, all), date.id, date),
     field(WORDS.calendarColumn(place + 1, all), calendar.id, calendar));
   if (all > 1) {
@@ -87,7 +89,8 @@ function meaningOptions(where) {
 function nameRow({ name, where }, i) {
   const select = element('select', '', { id: `sheet-name-${i}`, autocomplete: 'off' });
   select.append(option(WORDS.leave, ''), ...meaningOptions(where));
-  const number = element('input', '', { id: `sheet-number-${i}`, type: 'text', inputMode: 'numeric', autocomplete: 'off', hidden: true });
+  const typed = { id: `sheet-number-${i}`, type: 'text', inputMode: 'numeric', autocomplete: 'off', hidden: true };
+  const number = element('input', '', typed);
   number.setAttribute('aria-label', textOf(WORDS.numberOf(name)));
   const label = element('label', '', { htmlFor: select.id }), both = element('span');
   for (const control of [select, number]) Object.assign(control.dataset, { name, where });
@@ -153,10 +156,9 @@ function takeSource(step) {
 }
 
 function takeRules(step) {
-  byId('sheet-short').append(...Object.entries(WORDS.shortRules).map(([value, words]) => option(words, value)),
+  byId('sheet-short').append(...['refuse', 'keep'].map((value) => option(WORDS.shortRules[value], value)),
     ...CENTURIES.map((value) => option(WORDS.shortAdds(Number(value)), value)));
-  byId('sheet-hebrew').append(...Object.entries(WORDS.hebrewRules).map(([value, words]) => option(words, value)).sort(
-    (one, other) => Number(one.value > 'a') * -1 + Number(other.value > 'a')));
+  byId('sheet-hebrew').append(...YEAR_RULES.map((value) => option(WORDS.hebrewRules[value], value)));
   for (const name of ['id', 'short', 'hebrew']) {
     byId(`sheet-${name}`).addEventListener('change', ({ target }) => step(picked, { [name]: target.value }));
   }
@@ -218,6 +220,10 @@ export function sheetView(step) {
     check('sheet-order', order);
   }
 
+  function drawPreview(state) {
+    byId('sheet-register').replaceChildren(...previewTables(state).map((table) => tableBox(table)));
+  }
+
   function drawResult(state) {
     const report = sheetReport(state), box = byId('sheet-results');
     withFocus(box, () => {
@@ -244,7 +250,7 @@ export function sheetView(step) {
     drawMeanings(listed, picks.names);
     if (more !== drawn.more) setText(byId('sheet-more'), more ? WORDS.tooManyNames(more) : '').hidden = !more;
     drawCounts(sheetCounts(state));
-    if (preview !== drawn.preview) byId('sheet-register').replaceChildren(...previewTables(state).map((it) => tableBox(it)));
+    if (preview !== drawn.preview) drawPreview(state);
     if (run !== drawn.run) drawResult(state);
     drawn = { begins: first, count, listed, more, preview, run };
     drawColumns(columns);

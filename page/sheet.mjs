@@ -13,9 +13,9 @@ const TAB = 9;
 /**
  * An encoding, a delimiter or a number of records above the names that is null is proposed when the sheet is read;
  * `proposed` has what was for this file. `kept` has choices of an earlier sheet, and null in them until their file is
- * read, and `isFilled` once they were filled in; `fit` says what of them did not fit. `listed` has the names that are not known, and those that have a meaning of
- * the user's own; a count is null while it is not known. A result of `picks`, `columns` or `source` holds what it came
- * from.
+ * read, and `isFilled` once they were filled in; `fit` says what of them did not fit. `listed` has the names that are not
+ * known, and those that have a meaning of the user's own; a count is null while it is not known. A result of `picks`,
+ * `columns` or `source` holds what it came from.
  * @typedef {import('./choices.mjs').Picks} Picks
  * @typedef {{ encoding: string | null, delimiter: number | null, above: number | null }} Proposed
  * @typedef {{ file: File | null } & Proposed} Source
@@ -34,9 +34,9 @@ const NOTHING = { encoding: null, delimiter: null, above: null };
 /** @returns {SheetState} */
 export function initial() {
   return {
-    source: { file: null, encoding: 'utf-8', delimiter: 44, above: 0 }, proposed: NOTHING, kept: null, fit: null, reading: 0,
-    begins: null, picks: noPicks(), columns: ['weekday', 'gregorian'], unknown: null, listed: [], preview: null, run: null,
-    runs: 0, worker: 0, notice: '', folders: [],
+    source: { file: null, encoding: 'utf-8', delimiter: 44, above: 0 }, proposed: NOTHING, kept: null, fit: null,
+    reading: 0, begins: null, picks: noPicks(), columns: ['weekday', 'gregorian'], unknown: null, listed: [],
+    preview: null, run: null, runs: 0, worker: 0, notice: '', folders: [],
   };
 }
 
@@ -168,8 +168,8 @@ export const beginning = ({ begins }) => (begins !== null && begins.reply.answer
 
 /** The first choice that is missing, and of which column of dates; or null. */
 export function missing({ picks: { dates } }) {
-  const [first] = dates.flatMap((it, place) => ['date', 'calendar'].flatMap((which) => (it[which] === '' ? [{ which, place }] : [])));
-  return first || null;
+  const ofOne = (it, place) => ['date', 'calendar'].filter((which) => it[which] === '').map((which) => ({ which, place }));
+  return dates.flatMap(ofOne)[0] || null;
 }
 
 const isOfNow = (state, it) => it !== null && it.begins === state.begins && it.picks === state.picks;
@@ -310,10 +310,9 @@ function readingReplied(state, reply) {
   if (reply.fault) return { ...state, begins };
   const { encoding, delimiter, above, heading } = reply.answer;
   const found = { encoding, delimiter, above }, ofNow = { ...source, ...found };
-  const looks = Object.fromEntries(Object.keys(found).map((name) => [name, source[name] === null ? found[name] : proposed[name]]));
-  return {
-    ...columnsProposed(state, heading, encoding, delimiter), begins, source: ofNow, proposed: /** @type {Proposed} */ (looks),
-  };
+  const lookOf = (name) => (source[name] === null ? found[name] : proposed[name]);
+  const looks = { encoding: lookOf('encoding'), delimiter: lookOf('delimiter'), above: lookOf('above') };
+  return { ...columnsProposed(state, heading, encoding, delimiter), begins, source: ofNow, proposed: looks };
 }
 
 // The choices that were kept were read, or are none. An encoding that the page does not offer is none.

@@ -344,8 +344,10 @@ export const WORDS = {
   columnName: 'Column',
   written: 'As written',
   splitSheet: 'Split it, each part with the line of the names.',
-  wholeSheet: (rows, refused) => [`${WORDS.rows(rows)}. `, refused.map(([name, n], i) => [i === 0 ? '' : ', ', name, ': ', WORDS.refused(n)]), '.'],
-  refusedDates: (n, all) => (n < all ? `The first ${n} refused dates` : n === 1 ? 'The refused date' : `The ${n} refused dates`),
+  wholeSheet: (rows, refused) => [`${WORDS.rows(rows)}. `,
+    refused.map(([name, n], i) => [i === 0 ? '' : ', ', name, ': ', WORDS.refused(n)]), '.'],
+  refusedDates: (n, all) =>
+    (n < all ? `The first ${n} refused dates` : n === 1 ? 'The refused date' : `The ${n} refused dates`),
   makeRegister: (name) => ['Make the register of ', name],
   makingRegister: (name) => ['The register of ', name, ' is being made'],
   saveRegister: (name, size) => ['Save the register, ', own(name), `, ${size}`],

@@ -18,6 +18,7 @@ import { WORDS } from './words.mjs';
 // What is added to short years, and what becomes of those of Hebrew dates.
 const CENTURIES = [...Array(20).keys()].map((i) => String(100 * (20 - i)));
 const YEAR_RULES = ['refuse', 'keep', '5000'];
+const NO_RUN = { reply: null, registers: null };
 const MONTHS = [...Array(13).keys()].map((i) => i + 1);
 
 function group(words, options) {
@@ -188,7 +189,7 @@ export function sheetView(step) {
     (columns) => step(columnsChosen, columns)));
   const [drawStatus, drawChosen, drawFit, drawTitles, drawCounts] =
     ['said', 'chosen', 'fit', 'titles', 'counts'].map((name) => wordsIn(`sheet-${name}`));
-  let drawn = { begins: undefined, count: 0, listed: undefined, more: undefined, preview: undefined, run: undefined };
+  let drawn = { begins: undefined, count: 0, listed: undefined, more: undefined, preview: undefined, ...NO_RUN };
   let now = null;
   byId('sheet-keep').addEventListener('click', () => {
     const [name, text] = keptChoices(now);
@@ -237,7 +238,7 @@ export function sheetView(step) {
   return (state) => {
     now = state;
     const { source, picks, columns, listed } = state, first = beginning(state), unknown = shownUnknown(state);
-    const preview = shownPreview(state), run = shownRun(state), count = picks.dates.length;
+    const preview = shownPreview(state), { reply, registers } = shownRun(state) || NO_RUN, count = picks.dates.length;
     const more = unknown && unknown.answer ? unknown.answer.more : 0;
     drawSource(source);
     drawChosen(sheetChosen(state));
@@ -251,8 +252,9 @@ export function sheetView(step) {
     if (more !== drawn.more) setText(byId('sheet-more'), more ? WORDS.tooManyNames(more) : '').hidden = !more;
     drawCounts(sheetCounts(state));
     if (preview !== drawn.preview) drawPreview(state);
-    if (run !== drawn.run) drawResult(state);
-    drawn = { begins: first, count, listed, more, preview, run };
+    // A table that was saved is not drawn anew, or its link would end.
+    if (reply !== drawn.reply || registers !== drawn.registers) drawResult(state);
+    drawn = { begins: first, count, listed, more, preview, reply, registers };
     drawColumns(columns);
     drawRunning('sheet', isRunning(state));
     if (!isRunning(state)) byId('sheet-add').disabled = count >= MOST_DATES;

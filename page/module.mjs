@@ -1,4 +1,4 @@
-// What stands between the page, or Node, and the WebAssembly module: a heap, and the module's five calls.
+// What stands between the page, or Node, and the WebAssembly module: a heap, and the module's eight calls.
 
 const PAGE = 65536;
 // What the module's memory can have: pointers of 32 bits, without the last page.
@@ -247,9 +247,7 @@ export class Module {
    * @param {Part} text
    */
   pick(text, delimiter, columns, most) {
-    const numbers = this.malloc(4 * columns.length);
-    new Uint32Array(this.exports.memory.buffer, numbers.pointer, columns.length).set(columns);
-    numbers.items = columns.length;
+    const numbers = this.putNumbers(columns);
     let bytes = this.malloc(4096), lengths = this.malloc(4096);
     for (;;) {
       lengths.items = lengths.length / 4;
@@ -284,6 +282,63 @@ export class Module {
       this.free(buffer);
       buffer = this.malloc(length);
     }
+  }
+
+  // Numbers of 32 bits, as a part.
+  putNumbers(numbers) {
+    const part = this.malloc(4 * numbers.length);
+    new Uint32Array(this.exports.memory.buffer, part.pointer, numbers.length).set(numbers);
+    return { ...part, items: numbers.length };
+  }
+
+  // Calls the export `name` of a sheet, whose report begins with an ending and the length of a text, with `words` between
+  // the sheet and the room for that text; `guess` is how long it may be.
+  makeFrom(name, numbers, words, lent, guess) {
+    let buffer = this.malloc(guess);
+    for (;;) {
+      const [ending, length, ...others] = this.call(name, 2 + numbers, [...words, buffer]);
+      if (length <= buffer.length) {
+        this.free(...lent);
+        return { ending, others, text: { pointer: buffer.pointer, length } };
+      }
+      this.free(buffer);
+      buffer = this.malloc(length);
+    }
+  }
+
+  /**
+   * Converts a sheet by the numbers of a choice and of the columns asked; `names` is the text of a list of names, and
+   * `guess` how long the sheet that comes back may be.
+   * @param {Part} text
+   */
+  convertSheet(text, choice, columns, names, guess) {
+    const list = this.put(new TextEncoder().encode(names)), asked = this.put(Uint8Array.from(columns));
+    const numbers = this.putNumbers(choice);
+    const { ending, others: [rows, ...refused], text: table } = this.makeFrom('sheet_convert', 9,
+      [text, numbers, asked, list], [numbers, asked, list], guess);
+    return { ending, rows, refused, table };
+  }
+
+  /**
+   * The register of the column of dates of this place in the choice, from 0.
+   * @param {Part} text
+   */
+  sheetRegister(text, choice, column, names) {
+    const list = this.put(new TextEncoder().encode(names)), numbers = this.putNumbers(choice);
+    const { ending, text: table } = this.makeFrom('sheet_register', 0,
+      [text, numbers, BigInt(column), list], [numbers, list], text.length + PAGE);
+    return { ending, table };
+  }
+
+  /**
+   * The names that are not known, at most so many, as a list to fill in.
+   * @param {Part} text
+   */
+  unknownNames(text, choice, names, most) {
+    const list = this.put(new TextEncoder().encode(names)), numbers = this.putNumbers(choice);
+    const { ending, others: [more, short, kept], text: found } = this.makeFrom('sheet_unknown', 3,
+      [text, numbers, list, BigInt(most)], [numbers, list], PAGE);
+    return { ending, list: found, more, short, kept };
   }
 
   /** A CSV text of the fields, of which each `width` are a record. */

@@ -5,7 +5,7 @@ ghost use Rattle.register_records.specs.Views.{layout_of};
 ghost use Rattle.register_page.specs.Conversions.{IsConverted, IsReturned, sound_part};
 
 use crate::requests::{Fault, setup_for};
-use crate::rooms::put;
+use crate::rooms::{bytes_for, put};
 use date_texts::Refusal;
 use register_records::{Cause, PlainOutput, Setup, SourceEnd, convert_source};
 use std::alloc::Global;
@@ -32,16 +32,6 @@ impl Converted {
                 .count(),
             SourceEnd::Broken { .. } => 0,
         }
-    }
-}
-
-/// No bytes, and memory for so many, where there is as much.
-fn bytes_for(alloc: Global, count: usize) -> Vec<u8>
-    ensures { result.items ≡ [] }
-{
-    match Vec::with_capacity(alloc, count) {
-        Ok(bytes) => bytes,
-        Err(_) => Vec::new(alloc),
     }
 }
 

@@ -7,4 +7,4 @@ mod rooms;
 
 pub use converting::{Converted, convert_text};
 pub use requests::Fault;
-pub use rooms::put;
+pub use rooms::{bytes_for, put};

@@ -1,7 +1,19 @@
 //! Memory that a caller lends.
 
-ghost use Rattle.std.specs.Prelude.{◌≡◌, length};
+ghost use Rattle.std.specs.Prelude.{◌≡◌, [], length};
 ghost use Rattle.register_page.specs.Rooms.{with_front};
+
+use std::alloc::Global;
+
+/// No bytes, and memory for so many, where there is as much.
+pub fn bytes_for(alloc: Global, count: usize) -> Vec<u8>
+    ensures { result.items ≡ [] }
+{
+    match Vec::with_capacity(alloc, count) {
+        Ok(bytes) => bytes,
+        Err(_) => Vec::new(alloc),
+    }
+}
 
 /// Puts items to the front of `room`, and says how many they are; where the room is too small for them, it stays as it
 /// was.

@@ -7,7 +7,9 @@ ghost use Rattle.register_page.specs.declared.converting.Converted.{Converted};
 ghost use Rattle.register_page.specs.declared.requests.Fault.{Fault};
 ghost use Rattle.register_page_exports.specs.Reports.{AreCounts, Reports, ReportsEnd};
 
+mod choices;
 pub mod dates;
+pub mod sheet_tables;
 pub mod sheets;
 
 use date_texts::Refusal;

@@ -9,3 +9,5 @@ pub mod Converted
 pub mod WidthViews
 pub mod Sending
 pub mod RowViews
+pub mod Headings
+pub mod HeadingViews

@@ -8,6 +8,7 @@ mod asked;
 mod choices;
 mod converting;
 mod field_lists;
+mod headings;
 mod joining;
 mod lines;
 mod name_calendars;
@@ -17,9 +18,11 @@ mod picking;
 mod reading;
 mod register_fields;
 mod register_rows;
+mod registers;
 mod sending;
 mod sheet_ends;
 mod sheet_rows;
+mod unknown_names;
 mod writing;
 
 pub use choices::{
@@ -27,10 +30,13 @@ pub use choices::{
     SheetChoice, SheetSetup,
 };
 pub use converting::convert_sheet;
+pub use headings::headings;
 pub use joining::join;
 pub use name_lists::{NameLine, NameList, NameListFault};
 pub use name_meanings::Means;
 pub use picking::{Picked, pick};
 pub use reading::SheetFault;
+pub use registers::write_register;
 pub use sheet_ends::{SheetCause, SheetEnd};
+pub use unknown_names::{Unknown, UnknownName, unknown_names};
 pub use writing::write;

@@ -2,6 +2,7 @@ pub mod TokenLemmas
 pub mod RomanLemmas
 pub mod PartLemmas
 pub mod ItemLemmas
+pub mod UnknownLemmas
 pub mod KeyLemmas
 pub mod FieldLemmas
 pub mod RuleLemmas

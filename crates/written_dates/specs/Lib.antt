@@ -10,4 +10,5 @@ pub mod Keys
 pub mod SignViews
 pub mod Fields
 pub mod Written
+pub mod Unknown
 pub mod Laws

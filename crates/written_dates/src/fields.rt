@@ -47,7 +47,7 @@ fn is_blank(kind: Kind) -> bool
 }
 
 /// A text without the blanks at its ends.
-fn without_blanks(text: &[u8]) -> &[u8]
+pub fn without_blanks(text: &[u8]) -> &[u8]
     ensures { result.now ≡ without_spec text.now }
 {
     let front = bare(text);

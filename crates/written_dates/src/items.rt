@@ -8,6 +8,7 @@ ghost use Rattle.written_dates.specs.Names.{names_in};
 ghost use Rattle.written_dates.specs.Parts.{parts};
 ghost use Rattle.written_dates.specs.Items.{number_of_digits as digits_spec, number_of as number_spec};
 ghost use Rattle.written_dates.specs.Items.{longest as longest_spec, items, before, meant};
+ghost use Rattle.written_dates.specs.Unknown.{first_unknown};
 
 use crate::meanings::{Mark, Meaning, Name};
 use crate::names::{Names, key_of_word};
@@ -135,7 +136,7 @@ fn item_of(meaning: Meaning) -> Option<Item>
 }
 
 /// The item in front of a text, if it means one, and what follows; nothing where a word is not known.
-fn item_in_front<'a>(
+pub(crate) fn item_in_front<'a>(
     text: &'a [u8],
     part: Token,
     after: &'a [u8],
@@ -148,6 +149,10 @@ fn item_in_front<'a>(
         ≡ before (option_to_list front.0) (items (names_in calendar names.now.listed.now) 0 (parts front.1.now))) }
     ensures shorter { IfSome result (λ front. length front.1.now < length text.now) }
     ensures none { IfNone result (items (names_in calendar names.now.listed.now) 0 (parts text.now) ≡ None) }
+    ensures known { IfSome result (λ front. first_unknown (names_in calendar names.now.listed.now) 0 (parts text.now)
+        ≡ first_unknown (names_in calendar names.now.listed.now) 0 (parts front.1.now)) }
+    ensures unknown { IfNone result
+        (first_unknown (names_in calendar names.now.listed.now) 0 (parts text.now) ≡ Some (piece part.entry)) }
 {
     let (count, meaning, rest) = longest(text, part.text, names, calendar);
     if count > 0 {

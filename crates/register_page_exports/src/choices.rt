@@ -1,0 +1,174 @@
+//! What a page chooses of a sheet, in numbers.
+
+use date_texts::{Calendar, Target};
+use register_sheets::{AskedColumn, CalendarField, DateColumn, IdField};
+use std::alloc::{AllocError, Global};
+use written_dates::{Choice, Order, Short};
+
+/// Stands for the number of the record where the place of its id is wanted, and for one calendar for all where that of
+/// its calendar is.
+const NO_PLACE: u32 = 4_294_967_295;
+
+/// How many numbers stand before those of the columns of dates.
+const HEAD: usize = 7;
+
+/// How many numbers a column of dates has.
+const DATE: usize = 3;
+
+/// What is asked of a sheet.
+#[derive(Drop)]
+pub(crate) struct Asked {
+    pub delimiter: u8,
+    pub above: u32,
+    pub id: IdField,
+    pub reading: Choice,
+    pub dates: Vec<DateColumn>,
+    pub columns: Vec<AskedColumn>,
+}
+
+fn id_of(place: u32) -> IdField {
+    if place == NO_PLACE {
+        IdField::Number
+    } else {
+        IdField::Column(place)
+    }
+}
+
+fn order_of(number: u32) -> Option<Order> {
+    match number {
+        0 => Some(Order::YearFirst),
+        1 => Some(Order::DayFirst),
+        2 => Some(Order::MonthFirst),
+        _ => None,
+    }
+}
+
+/// What is done with short years: they are refused, kept, or a century of 100 to 2000 is added.
+fn short_of(number: u32) -> Option<Short> {
+    match number {
+        0 => Some(Short::Refuse),
+        1 => Some(Short::Keep),
+        100..=2000 if number % 100 == 0 => Some(Short::Add(number)),
+        _ => None,
+    }
+}
+
+/// What is done with short Hebrew years: they are refused, kept, or 5000 is added.
+fn short_hebrew_of(number: u32) -> Option<Short> {
+    match number {
+        0 => Some(Short::Refuse),
+        1 => Some(Short::Keep),
+        5000 => Some(Short::Add(5000)),
+        _ => None,
+    }
+}
+
+fn flag_of(number: u32) -> Option<bool> {
+    match number {
+        0 => Some(false),
+        1 => Some(true),
+        _ => None,
+    }
+}
+
+/// How dates are read.
+fn reading_of(order: u32, years: u32, hebrew: u32, charters: u32) -> Option<Choice> {
+    Some(Choice {
+        order: order_of(order)?,
+        short_years: short_of(years)?,
+        short_hebrew_years: short_hebrew_of(hebrew)?,
+        charters: flag_of(charters)?,
+    })
+}
+
+/// Where the calendar of a date is: at a place, or it is that of a number.
+fn calendar_of(place: u32, calendar: u32) -> Option<CalendarField> {
+    if place == NO_PLACE {
+        let calendar = Calendar::ALL.get(calendar as usize)?;
+        Some(CalendarField::All(*calendar))
+    } else {
+        Some(CalendarField::Column(place))
+    }
+}
+
+fn date_of(numbers: &[u32; DATE]) -> Option<DateColumn> {
+    let [date, place, calendar] = *numbers;
+    Some(DateColumn {
+        date,
+        calendar: calendar_of(place, calendar)?,
+    })
+}
+
+/// The columns of dates of these numbers, three for each.
+fn dates_of(alloc: Global, numbers: &[u32]) -> Result<Option<Vec<DateColumn>>, AllocError> {
+    let (groups, rest) = numbers.as_chunks::<DATE>();
+    if !rest.is_empty() {
+        return Ok(None);
+    }
+    let mut dates = Vec::new(alloc);
+    'groups: for group in groups {
+        let Some(date) = date_of(group) else {
+            return Ok(None);
+        };
+        dates.push(date)?;
+    }
+    Ok(Some(dates))
+}
+
+/// The column asked of a number: the day, the weekday, or a target.
+fn column_of(number: u8) -> Option<AskedColumn> {
+    match number {
+        0 => Some(AskedColumn::DayNumber),
+        1 => Some(AskedColumn::Weekday),
+        _ => {
+            let target = Target::ALL.get(number as usize - 2)?;
+            Some(AskedColumn::Cells(*target))
+        }
+    }
+}
+
+/// The columns asked of these numbers.
+fn columns_of(alloc: Global, numbers: &[u8]) -> Result<Option<Vec<AskedColumn>>, AllocError> {
+    let mut columns = Vec::new(alloc);
+    'numbers: for number in numbers {
+        let Some(column) = column_of(*number) else {
+            return Ok(None);
+        };
+        columns.push(column)?;
+    }
+    Ok(Some(columns))
+}
+
+impl Asked {
+    /// What these numbers ask; nothing where they are no choice.
+    pub fn by(
+        alloc: Global,
+        numbers: &[u32],
+        columns: &[u8],
+    ) -> Result<Option<Asked>, AllocError> {
+        let Some((head, dates)) = numbers.split_first_chunk::<HEAD>() else {
+            return Ok(None);
+        };
+        let [delimiter, above, id, order, years, hebrew, charters] = *head;
+        let Ok(delimiter) = u8::try_from(delimiter) else {
+            return Ok(None);
+        };
+        let Some(reading) = reading_of(order, years, hebrew, charters) else {
+            return Ok(None);
+        };
+        let Some(dates) = dates_of(alloc, dates)? else {
+            return Ok(None);
+        };
+        let Some(columns) = columns_of(alloc, columns)? else {
+            return Ok(None);
+        };
+        Ok(Some(Asked {
+            delimiter,
+            above,
+            id: id_of(id),
+            reading,
+            dates,
+            columns,
+        }))
+    }
+}

@@ -1,0 +1,381 @@
+//! Sheets with their tables, for a page.
+
+use crate::choices::Asked;
+use crate::sheets::{TextReport, put_text};
+use register_page::{bytes_for, put};
+use register_records::PlainOutput;
+use register_sheets::{
+    MAX_DATES, NameList, NameListFault, SheetCause, SheetChoice, SheetEnd, SheetSetup, Unknown,
+    convert_sheet, headings, unknown_names, write_register,
+};
+use std::alloc::{AllocError, Global};
+use written_dates::{CalendarNames, Names};
+
+/// Why a page gets nothing of a sheet.
+#[derive(Clone, Copy, PartialEq, Eq, Debug)]
+enum SheetEnding {
+    /// Memory ran out.
+    NoMemory,
+    /// The list of names is none.
+    NameList,
+    /// The choice is none.
+    Choice,
+    /// No record with names stands below those above them.
+    NoNames,
+    /// More than 1,000,000 records stand below the names.
+    TooManyRecords,
+}
+
+impl SheetEnding {
+    /// The number of the ending, from 1 for `NoMemory` to 5 for `TooManyRecords`.
+    fn number(self) -> usize {
+        match self {
+            SheetEnding::NoMemory => 1,
+            SheetEnding::NameList => 2,
+            SheetEnding::Choice => 3,
+            SheetEnding::NoNames => 4,
+            SheetEnding::TooManyRecords => 5,
+        }
+    }
+}
+
+impl From<AllocError> for SheetEnding {
+    ghost use Rattle.std.specs.Prelude.{◌≡◌};
+    ghost use Rattle.register_page_exports.specs.declared.sheet_tables.SheetEnding.TheVariants.{NoMemory};
+
+    ghost from_gives = { λ error ending. ending ≡ NoMemory };
+
+    fn from(_error: AllocError) -> Self {
+        SheetEnding::NoMemory
+    }
+}
+
+/// The ending for a cause. An output in memory fails where there is no more.
+fn ending_of(cause: SheetCause) -> SheetEnding {
+    match cause {
+        SheetCause::NoMemory | SheetCause::SinkFault => SheetEnding::NoMemory,
+        SheetCause::NoNames => SheetEnding::NoNames,
+        SheetCause::TooManyRecords => SheetEnding::TooManyRecords,
+    }
+}
+
+/// The list of names of a text.
+fn list_of(alloc: Global, names: &[u8]) -> Result<NameList, SheetEnding> {
+    match NameList::read(alloc, names) {
+        Ok(list) => Ok(list),
+        Err(NameListFault::OutOfMemory) => Err(SheetEnding::NoMemory),
+        Err(_) => Err(SheetEnding::NameList),
+    }
+}
+
+/// What these numbers ask of a sheet.
+fn asked_by(alloc: Global, choice: &[u32], columns: &[u8]) -> Result<Asked, SheetEnding> {
+    match Asked::by(alloc, choice, columns)? {
+        Some(asked) => Ok(asked),
+        None => Err(SheetEnding::Choice),
+    }
+}
+
+/// The bytes of texts.
+fn slices_of(alloc: Global, texts: &[Vec<u8>]) -> Result<Vec<&[u8]>, AllocError> {
+    let mut slices = Vec::new(alloc);
+    'texts: for text in texts {
+        slices.push(text.as_slice())?;
+    }
+    Ok(slices)
+}
+
+/// What a sheet is read by.
+#[derive(Drop)]
+struct Known<'a> {
+    names: Names<'a>,
+    calendars: CalendarNames<'a>,
+    headings: Vec<&'a [u8]>,
+}
+
+/// The setup of what is asked of a sheet.
+fn setup_of<'a>(asked: &'a Asked, known: &'a Known<'a>) -> Result<SheetSetup<'a>, SheetEnding> {
+    let setup = SheetSetup::new(SheetChoice {
+        delimiter: asked.delimiter,
+        above: asked.above,
+        id: asked.id,
+        dates: asked.dates.as_slice(),
+        columns: asked.columns.as_slice(),
+        headings: known.headings.as_slice(),
+        reading: asked.reading,
+        names: &known.names,
+        calendars: &known.calendars,
+    });
+    match setup {
+        Ok(setup) => Ok(setup),
+        Err(_) => Err(SheetEnding::Choice),
+    }
+}
+
+/// A sheet that came back, and how many records it has, and how many were refused for each column of dates.
+#[derive(Drop)]
+struct SheetMade {
+    text: Vec<u8>,
+    rows: u32,
+    refused: [u32; MAX_DATES],
+}
+
+/// The sheet that comes back by a setup.
+fn converted_by(
+    alloc: Global,
+    sheet: &[u8],
+    setup: &SheetSetup,
+    expected: usize,
+) -> Result<SheetMade, SheetEnding> {
+    let mut output = PlainOutput::new(bytes_for(alloc, expected), 0);
+    let end = convert_sheet(alloc, sheet, setup, &mut output);
+    let text = output.into_inner();
+    match end {
+        SheetEnd::Whole { rows, refused } => Ok(SheetMade {
+            text,
+            rows,
+            refused,
+        }),
+        SheetEnd::Broken { cause } => Err(ending_of(cause)),
+    }
+}
+
+/// The register of a column of dates by a setup.
+fn register_by(
+    alloc: Global,
+    sheet: &[u8],
+    setup: &SheetSetup,
+    column: usize,
+    expected: usize,
+) -> Result<Vec<u8>, SheetEnding> {
+    let Some(column) = setup.choice().dates.get(column) else {
+        return Err(SheetEnding::Choice);
+    };
+    let mut output = PlainOutput::new(bytes_for(alloc, expected), 0);
+    let end = write_register(alloc, sheet, setup, column, &mut output);
+    let text = output.into_inner();
+    match end {
+        Ok(_) => Ok(text),
+        Err(cause) => Err(ending_of(cause)),
+    }
+}
+
+/// The names that are not known by a setup, and a list of them.
+fn unknown_by(
+    alloc: Global,
+    sheet: &[u8],
+    setup: &SheetSetup,
+    most: usize,
+) -> Result<(Unknown, Vec<u8>), SheetEnding> {
+    match unknown_names(alloc, sheet, setup, most) {
+        Ok(unknown) => {
+            let text = unknown.text(alloc)?;
+            Ok((unknown, text))
+        }
+        Err(cause) => Err(ending_of(cause)),
+    }
+}
+
+/// The sheet that comes back for what is asked by these numbers and names.
+fn converted(
+    alloc: Global,
+    sheet: &[u8],
+    choice: &[u32],
+    columns: &[u8],
+    names: &[u8],
+    expected: usize,
+) -> Result<SheetMade, SheetEnding> {
+    let asked = asked_by(alloc, choice, columns)?;
+    let list = list_of(alloc, names)?;
+    let names = list.names(alloc)?;
+    let calendars = list.calendar_names(alloc)?;
+    let headings = headings(
+        alloc,
+        sheet,
+        asked.delimiter,
+        asked.above,
+        asked.dates.as_slice(),
+        asked.columns.as_slice(),
+    )?;
+    let known = Known {
+        names: Names::layered(alloc, names.as_slice())?,
+        calendars: CalendarNames::layered(alloc, calendars.as_slice())?,
+        headings: slices_of(alloc, headings.as_slice())?,
+    };
+    let setup = setup_of(&asked, &known)?;
+    converted_by(alloc, sheet, &setup, expected)
+}
+
+/// The register of a column of dates for what is asked.
+fn register_made(
+    alloc: Global,
+    sheet: &[u8],
+    choice: &[u32],
+    column: usize,
+    names: &[u8],
+    expected: usize,
+) -> Result<Vec<u8>, SheetEnding> {
+    let asked = asked_by(alloc, choice, &[])?;
+    let list = list_of(alloc, names)?;
+    let names = list.names(alloc)?;
+    let calendars = list.calendar_names(alloc)?;
+    let headings = headings(
+        alloc,
+        sheet,
+        asked.delimiter,
+        asked.above,
+        asked.dates.as_slice(),
+        asked.columns.as_slice(),
+    )?;
+    let known = Known {
+        names: Names::layered(alloc, names.as_slice())?,
+        calendars: CalendarNames::layered(alloc, calendars.as_slice())?,
+        headings: slices_of(alloc, headings.as_slice())?,
+    };
+    let setup = setup_of(&asked, &known)?;
+    register_by(alloc, sheet, &setup, column, expected)
+}
+
+/// The names that are not known for what is asked.
+fn unknown_found(
+    alloc: Global,
+    sheet: &[u8],
+    choice: &[u32],
+    names: &[u8],
+    most: usize,
+) -> Result<(Unknown, Vec<u8>), SheetEnding> {
+    let asked = asked_by(alloc, choice, &[])?;
+    let list = list_of(alloc, names)?;
+    let names = list.names(alloc)?;
+    let calendars = list.calendar_names(alloc)?;
+    let headings = headings(
+        alloc,
+        sheet,
+        asked.delimiter,
+        asked.above,
+        asked.dates.as_slice(),
+        asked.columns.as_slice(),
+    )?;
+    let known = Known {
+        names: Names::layered(alloc, names.as_slice())?,
+        calendars: CalendarNames::layered(alloc, calendars.as_slice())?,
+        headings: slices_of(alloc, headings.as_slice())?,
+    };
+    let setup = setup_of(&asked, &known)?;
+    unknown_by(alloc, sheet, &setup, most)
+}
+
+/// How a sheet came back. A number that says nothing is 0.
+#[repr(C)]
+#[derive(Clone, Copy)]
+pub struct SheetReport {
+    /// 0: the sheet is whole. 1: memory ran out. 2: the list of names is none. 3: the choice is none. 4: no record with
+    /// names stands below those above them. 5: more than 1,000,000 records stand below the names.
+    pub ending: usize,
+    /// How many bytes it has. Where they are more than the room, that is as it was.
+    pub length: usize,
+    /// How many records stand below the names, and how many of them were refused for each column of dates.
+    pub rows: usize,
+    pub refused: [usize; MAX_DATES],
+}
+
+/// What is not known in a sheet. A number that says nothing is 0.
+#[repr(C)]
+#[derive(Clone, Copy)]
+pub struct UnknownReport {
+    /// As of [`SheetReport`].
+    pub ending: usize,
+    /// How many bytes the list has. Where they are more than the room, that is as it was.
+    pub length: usize,
+    /// How many dates other names stopped than those of the list.
+    pub more: usize,
+    /// How many dates are left empty, as their year is short.
+    pub short: usize,
+    /// How many dates stay as they are written although they are in no register's form.
+    pub kept: usize,
+}
+
+/// The same numbers as words.
+fn words_of(numbers: [u32; MAX_DATES]) -> [usize; MAX_DATES] {
+    let mut words = [0; MAX_DATES];
+    'numbers: for i in 0..MAX_DATES {
+        words[i] = numbers[i] as usize;
+    }
+    words
+}
+
+/// Converts a sheet by the choice of these numbers, and puts it to the front of `room`.
+#[unsafe(no_mangle)]
+pub extern "C" fn sheet_convert(
+    alloc: Global,
+    sheet: &[u8],
+    choice: &[u32],
+    columns: &[u8],
+    names: &[u8],
+    room: &mut [u8],
+    report: &mut SheetReport,
+) {
+    *report = match converted(alloc, sheet, choice, columns, names, room.len()) {
+        Ok(made) => SheetReport {
+            ending: 0,
+            length: put(made.text.as_slice(), room),
+            rows: made.rows as usize,
+            refused: words_of(made.refused),
+        },
+        Err(ending) => SheetReport {
+            ending: ending.number(),
+            length: 0,
+            rows: 0,
+            refused: [0; MAX_DATES],
+        },
+    };
+}
+
+/// Puts the register of a column of dates to the front of `room`.
+#[unsafe(no_mangle)]
+pub extern "C" fn sheet_register(
+    alloc: Global,
+    sheet: &[u8],
+    choice: &[u32],
+    column: usize,
+    names: &[u8],
+    room: &mut [u8],
+    report: &mut TextReport,
+) {
+    *report = match register_made(alloc, sheet, choice, column, names, room.len()) {
+        Ok(text) => put_text(text.as_slice(), room),
+        Err(ending) => TextReport {
+            ending: ending.number(),
+            length: 0,
+        },
+    };
+}
+
+/// Puts a list of the names that are not known to the front of `room`.
+#[unsafe(no_mangle)]
+pub extern "C" fn sheet_unknown(
+    alloc: Global,
+    sheet: &[u8],
+    choice: &[u32],
+    names: &[u8],
+    most: usize,
+    room: &mut [u8],
+    report: &mut UnknownReport,
+) {
+    *report = match unknown_found(alloc, sheet, choice, names, most) {
+        Ok((unknown, text)) => UnknownReport {
+            ending: 0,
+            length: put(text.as_slice(), room),
+            more: unknown.more as usize,
+            short: unknown.short as usize,
+            kept: unknown.kept as usize,
+        },
+        Err(ending) => UnknownReport {
+            ending: ending.number(),
+            length: 0,
+            more: 0,
+            short: 0,
+            kept: 0,
+        },
+    };
+}

@@ -1,0 +1,63 @@
+//! The word for which a date stays as it is written.
+
+ghost use Rattle.std.specs.Prelude.{◌≡◌};
+ghost use Rattle.written_dates.specs.Tokens.{piece};
+ghost use Rattle.written_dates.specs.Names.{names_in};
+ghost use Rattle.written_dates.specs.Parts.{parts};
+ghost use Rattle.written_dates.specs.Unknown.{first_unknown, if_letters, is_never_read as never_spec, seen_text, unknown_word, word_in};
+
+use crate::calendars::{Form, form_of};
+use crate::items::item_in_front;
+use crate::names::Names;
+use crate::parts::next_part;
+use crate::signs::{begins_with_dash, signs_of};
+use crate::tokens::{Kind, Token};
+use date_texts::Calendar;
+
+/// Whether dates of this form are never read.
+fn is_never_read(form: Form) -> bool
+    ensures { result ≡ never_spec form }
+{
+    match form {
+        Form::Other => true,
+        _ => false,
+    }
+}
+
+/// The bytes of a word; nothing for digits.
+fn word_of<'a>(part: Token<'a>) -> Option<&'a [u8]>
+    ensures { seen_text result ≡ if_letters part.entry.kind part.entry.text.now }
+{
+    match part.kind {
+        Kind::Letter => Some(part.text),
+        _ => None,
+    }
+}
+
+/// The first word of a text that means nothing, if no digits before it do.
+fn stopping_word<'a>(text: &'a [u8], names: &Names, calendar: Calendar) -> Option<&'a [u8]>
+    ensures { seen_text result
+        ≡ word_in (first_unknown (names_in calendar names.now.listed.now) 0 (parts text.now)) }
+{
+    let mut rest = text;
+    'items: while let Some((part, after)) = next_part(rest) {
+        let Some((_, behind)) = item_in_front(rest, part, after, names, calendar) else {
+            return word_of(part);
+        };
+        rest = behind;
+    }
+    None
+}
+
+/// The first word of a date that is no name in its calendar and no Roman number, where the date stays as it is written
+/// because of this word.
+#[tactic(auto, unfolding(crate::specs::Unknown::unknown_word))]
+pub fn unknown_word<'a>(text: &'a [u8], names: &Names, calendar: Calendar) -> Option<&'a [u8]>
+    ensures { seen_text result ≡ unknown_word calendar names.now.listed.now text.now }
+{
+    let (other, _) = signs_of(text);
+    if is_never_read(form_of(calendar)) || other || begins_with_dash(text) {
+        return None;
+    }
+    stopping_word(text, names, calendar)
+}

@@ -119,7 +119,7 @@ function drawListed(listed) {
   const ofBox = { names: all.filter(([{ where }]) => where === ''), words: all.filter(([{ where }]) => where !== '') };
   for (const which of NAME_BOXES) {
     const rows = ofBox[which];
-    withFocus(byId(`sheet-${which}`), (box) => box.replaceChildren(...rows.flatMap(([, row]) => row)));
+    byId(`sheet-${which}`).replaceChildren(...rows.flatMap(([, row]) => row));
     byId(`sheet-${which}-box`).hidden = rows.length === 0;
   }
 }
@@ -189,8 +189,8 @@ export function sheetView(step) {
     (columns) => step(columnsChosen, columns)));
   const [drawStatus, drawChosen, drawFit, drawTitles, drawCounts] =
     ['said', 'chosen', 'fit', 'titles', 'counts'].map((name) => wordsIn(`sheet-${name}`));
-  let drawn = { begins: undefined, count: 0, listed: undefined, more: undefined, preview: undefined, ...NO_RUN };
-  let now = null;
+  let drawn = { begins: undefined, count: 0, more: undefined, preview: undefined, ...NO_RUN };
+  let now = null, drawnNames = '';
   byId('sheet-keep').addEventListener('click', () => {
     const [name, text] = keptChoices(now);
     saveBlob(new Blob([text], { type: 'application/json' }), name);
@@ -221,6 +221,17 @@ export function sheetView(step) {
     check('sheet-order', order);
   }
 
+  // The names are drawn anew only where they are others, and the keys stay where they are.
+  function drawNames(listed, names) {
+    const all = JSON.stringify(listed.map(({ name, where }) => [name, where]));
+    if (all === drawnNames) return drawMeanings(listed, names);
+    drawnNames = all;
+    return withFocus(byId('sheet-choices'), () => {
+      drawListed(listed);
+      drawMeanings(listed, names);
+    });
+  }
+
   function drawPreview(state) {
     byId('sheet-register').replaceChildren(...previewTables(state).map((table) => tableBox(table)));
   }
@@ -246,15 +257,14 @@ export function sheetView(step) {
     drawTitles(sheetTitles(state));
     if (first !== drawn.begins) drawBeginning(state);
     if (first !== null && (first !== drawn.begins || count !== drawn.count)) drawDates(first, picks.dates);
-    if (listed !== drawn.listed) drawListed(listed);
     if (first !== null) drawPicks(picks);
-    drawMeanings(listed, picks.names);
+    drawNames(listed, picks.names);
     if (more !== drawn.more) setText(byId('sheet-more'), more ? WORDS.tooManyNames(more) : '').hidden = !more;
     drawCounts(sheetCounts(state));
     if (preview !== drawn.preview) drawPreview(state);
     // A table that was saved is not drawn anew, or its link would end.
     if (reply !== drawn.reply || registers !== drawn.registers) drawResult(state);
-    drawn = { begins: first, count, listed, more, preview, reply, registers };
+    drawn = { begins: first, count, more, preview, reply, registers };
     drawColumns(columns);
     drawRunning('sheet', isRunning(state));
     if (!isRunning(state)) byId('sheet-add').disabled = count >= MOST_DATES;

@@ -216,7 +216,7 @@ const namesWith = (lines) => NAMES.replace('\n', () => `\n${lines}`);
 
 /**
  * The names that are not known, each with the calendar in whose dates it stands (none for a name of a calendar), and how
- * often; how many more there are; how many dates are left out as their year is short, and how many stay as they are.
+ * often; how often others stand there; how many dates are left out as their year is short, and how many stay as they are.
  */
 async function unknownNames({ choice, names, ...source }) {
   const { module, text } = await sheetOf(source);

@@ -120,9 +120,6 @@ def hebrew(year, month, day):
     return hebrew_start(year) + sum(days[it] for it in order[: order.index(month)]) + day - 1
 
 
-RULES = {"gregorian": gregorian, "julian": julian, "islamic": islamic, "republican": republican, "hebrew": hebrew}
-
-
 def sheet():
     """The lines of the sheet, with tabs between the fields."""
     yield from TITLE
@@ -138,7 +135,8 @@ def days():
         if rule is None:
             yield ""
             continue
-        day = datetime.date.fromordinal(RULES[rule](*parts))
+        # The rule of a calendar is the function of its name.
+        day = datetime.date.fromordinal(globals()[rule](*parts))
         yield f"{day:%A}\t{day.isoformat()}"
 
 

@@ -1,6 +1,7 @@
 """The trials of sheets, a part of page/try-page."""
 import os, re, time
 
+import church
 from browsers import wait_for
 
 HERE = os.path.dirname(os.path.abspath(__file__))
@@ -27,7 +28,8 @@ class SheetTrials:
         wait_for("the sheet", lambda: "under the names" in self.text("#sheet-said"))
 
     def wait_for_counts(self):
-        wait_for("what is not read", lambda: self.text("#sheet-register") and "looked through" not in self.text("#sheet-counts"))
+        wait_for("what is not read",
+            lambda: self.text("#sheet-register") and "looked through" not in self.text("#sheet-counts"))
 
     def sheet(self, file, encoding, delimiter, id, calendar, date, order="year", names=()):
         self.choose_sheet(file)
@@ -65,7 +67,8 @@ class SheetTrials:
     def save_with_register(self, place=0):
         """Makes the register of a column of dates, and saves all that there is."""
         self.click(f"#make-{place}")
-        wait_for("the register", lambda: self.page.run("return document.querySelector(`#make-${arguments[0]}`).href", place))
+        wait_for("the register", lambda: self.page.run("return document.querySelector(`#make-${arguments[0]}`).href",
+            place))
         links = self.page.run("return document.querySelectorAll('#sheet-results a.save').length")
         return self.save("#sheet-results", links)
 
@@ -73,12 +76,20 @@ class SheetTrials:
         self.sheet(f"{ROOT}/page/book.csv", "utf-8", 59, 0, 2, 3, names=[("Swedish", "gregorian")])
         wait_for("the register with the name", lambda: "KB-4\tgregorian\t1712-02-30" in self.text("#sheet-register"))
         back = self.text("#sheet-register").split("The sheet as it comes back")[1]
-        self.check("how the sheet will come back", re.compile("KB-1\tShaw, Anna\tJulian\t1699-11-30\tBristol\tThursday\t1699-12-10"), back)
+        self.check("how the sheet will come back",
+            re.compile("KB-1\tShaw, Anna\tJulian\t1699-11-30\tBristol\tThursday\t1699-12-10"), back)
         said = self.convert_sheet()
         self.shot("sheet")
         self.check("a sheet is converted", re.compile("4 rows, 2 refused"), said)
-        wanted = "The 2 refused dates\nRecord\tCalendar\tDate\trefused because\n3\tGregorian\t1700-02-29\t6: the calendar has no such date"
-        self.check("the refused dates", re.compile(wanted), said)
+        wanted = "Record\tCalendar\tDate\trefused because\n3\tGregorian\t1700-02-29\t6: the calendar has no such date"
+        self.check("the refused dates", re.compile(f"The 2 refused dates\n{wanted}"), said)
+        href = "return document.querySelector('#sheet-results a.save').href"
+        before = self.page.run(href)
+        self.page.run(
+            "const it = document.querySelector('#sheet-results a.save');"
+            "it.addEventListener('click', (event) => event.preventDefault(), { once: true }); it.click()"
+        )
+        self.check("a sheet's table stays when it is saved", before, self.page.run(href))
         files = self.save_with_register()
         wanted = (
             "\ufeffSignature;Name;Calendar;Date;Place;weekday;gregorian;refusal\n"
@@ -117,7 +128,8 @@ class SheetTrials:
         wide = [f"c{i}" for i in range(250)], ["1700-1-1"] + ["5"] * 249
         self.sheet(self.file("wide.csv", "\n".join(map(",".join, wide))), "utf-8", 44, -1, "julian", 0)
         said = self.convert_sheet()
-        self.check("a sheet of 250 columns", re.compile(r"1 row, none refused[\s\S]*weekday\tgregorian\trefusal"), said)
+        self.check("a sheet of 250 columns", re.compile(r"1 row, none refused[\s\S]*weekday\tgregorian\trefusal"),
+            said)
         self.check("its row is not refused", re.compile(r"5\tMonday\t1700-01-11"), said)
         self.choose_sheet(self.file("wide.csv", "\n".join(map(",".join, wide))))
         wait_for("columns that cannot be chosen", lambda: "Only the first 200 columns" in self.text("#sheet-said"))
@@ -140,6 +152,8 @@ class SheetTrials:
             text = it.read()
         with open(f"{HERE}/church.days", encoding="utf-8") as it:
             days = it.read().split("\n")[:-1]
+        self.check("the church book is that of page/church.py", [*church.sheet()], text.split("\n")[:-1])
+        self.check("and so are its days", [*church.days()], days)
         self.choose_sheet(self.file("church.txt", b"\xff\xfe" + text.replace("\n", "\r\n").encode("utf-16-le")))
         self.wait_for_sheet()
         looks = "Looks like tabs, UTF-16 (“Unicode text”), 2 lines above the names."
@@ -195,18 +209,21 @@ class SheetTrials:
         self.page.run("document.querySelector('#sheet-add').focus()")
         self.page.press("\ue007")
         focused = "return document.activeElement.id"
-        self.check("a column more, with the calendar of the last", ["0", "1", "2", "gregorian", "", "gregorian"], self.page.run(picks))
+        self.check("a column more, with the calendar of the last", ["0", "1", "2", "gregorian", "", "gregorian"],
+            self.page.run(picks))
         self.check("the keys are in it", "sheet-date-2", self.page.run(focused))
         self.click("#sheet-start")
         self.check("it has to be chosen", "Choose a column with dates, and its calendar.", self.text("#sheet-said"))
         self.check("and the keys are there", "sheet-date-2", self.page.run(focused))
         self.page.run("document.querySelector('[data-remove=\"2\"]').focus()")
         self.page.press("\ue007")
-        self.check("a column less", (["0", "1", "2", "gregorian"], "sheet-add"), (self.page.run(picks), self.page.run(focused)))
+        self.check("a column less", (["0", "1", "2", "gregorian"], "sheet-add"), (self.page.run(picks),
+            self.page.run(focused)))
         self.choose("#sheet-calendar-1", "3")
         self.wait_for_counts()
         register = self.text("#sheet-register").split("The register that is made of Died")[1]
-        self.check("the second has its calendars", re.compile("1\tgregorian\t1701-3-1\n2\tislamic\t1701-3-1"), register)
+        self.check("the second has its calendars", re.compile("1\tgregorian\t1701-3-1\n2\tislamic\t1701-3-1"),
+            register)
         self.choose("#sheet-calendar-1", "julian")
         self.wait_for_counts()
         said = self.convert_sheet()
@@ -228,17 +245,21 @@ class SheetTrials:
     def try_names(self):
         """Names and words that are not known are shown with what they can mean, and stay where they are."""
         self.page.go(self.address)
-        rows = ["Xyz,1.1.1700", "julian,früh 2. Mai 1700", "roman,Kalx. Mart. 1500", "julian,2.1.1700", "Xyz,3.1.1700"]
+        rows = ["Xyz,1.1.1700", "julian,früh 2. Mai 1700", "roman,Kalx. Mart. 1500", "julian,2.1.1700",
+            "Xyz,3.1.1700"]
         self.choose_sheet(self.file("names.csv", "\n".join(["Kalender,Datum", *rows])))
         self.wait_for_sheet()
         self.label_of("sheet-order", "day")
         self.wait_for_counts()
         self.check("a calendar that is not known", re.compile("^Xyz, in 2 dates"), self.text("#sheet-names"))
-        self.check("words that are not known", re.compile(r"früh, in 1 date \(Julian\)[\s\S]*Kalx, in 1 date \(Roman\)"), self.text("#sheet-words"))
-        self.check("what is not read", re.compile("2 dates cannot be read, and stay as they are written"), self.text("#sheet-counts"))
+        self.check("words that are not known",
+            re.compile(r"früh, in 1 date \(Julian\)[\s\S]*Kalx, in 1 date \(Roman\)"), self.text("#sheet-words"))
+        self.check("what is not read", re.compile("2 dates cannot be read, and stay as they are written"),
+            self.text("#sheet-counts"))
         options = "return [...document.querySelector(`select[data-name=${arguments[0]}]`).options].map((it) => it.textContent)"
         found = self.page.run(options, "früh")
-        self.check("what a word can mean", ["leave it", "nothing: pass it over", "month 1, January", 16], [*found[:3], len(found)])
+        self.check("what a word can mean", ["leave it", "nothing: pass it over", "month 1, January", 16],
+            [*found[:3], len(found)])
         self.check("and a Roman one", ["a number", "Kalends", "Nones", "Ides"], self.page.run(options, "Kalx")[-4:])
         self.page.run("document.querySelector('select[data-name=früh]').focus()")
         self.name("früh", "number")
@@ -259,7 +280,8 @@ class SheetTrials:
         self.choose_sheet(self.file("many.csv", f"Kalender,Datum\n{many}"))
         self.wait_for_sheet()
         self.wait_for_counts()
-        self.check("more names than are shown", "Others, in 50 dates, are not shown: are these the right columns?", self.text("#sheet-more"))
+        self.check("more names than are shown", "Others, in 50 dates, are not shown: are these the right columns?",
+            self.text("#sheet-more"))
 
     def try_kept_choices(self):
         """Choices that were saved are filled in for the next sheet."""
@@ -277,10 +299,13 @@ class SheetTrials:
         [(name, kept)] = self.saved_files(1).items()
         self.check("the name of the choices", "one.choices.json", name)
         self.page.go(self.address)
-        self.choose_sheet(self.file(name, kept), self.file("next.csv", "Book 2\nStil;Ort;Datum\nXyz;Bonn;früh 3.5.07\n"))
+        self.choose_sheet(self.file(name, kept), self.file("next.csv",
+            "Book 2\nStil;Ort;Datum\nXyz;Bonn;früh 3.5.07\n"))
         self.wait_for_sheet()
         self.wait_for_counts()
-        self.check("they are filled in", "The choices of one.choices.json are filled in, but for what does not fit: the column “Nr”.", self.text("#sheet-fit"))
+        self.check("they are filled in",
+            "The choices of one.choices.json are filled in, but for what does not fit: the column “Nr”.",
+            self.text("#sheet-fit"))
         self.check("the next sheet", re.compile("1\tjulian\t1707-5-3"), self.text("#sheet-register"))
         self.check("its columns", re.compile("weekday\tgregorian\thebrew\trefusal"), self.text("#sheet-register"))
         self.choose_sheet(self.file("none.json", "{}"))

@@ -107,10 +107,22 @@ function countsTable(rows) {
   return table;
 }
 
-// A link that saves, which looks like a button; the second and further ones are grey.
-function downloadLink({ words, blob, name, isTable }, isSecond, saved) {
+/** Saves what was made just now. */
+export function saveBlob(blob, name) {
   const href = URL.createObjectURL(blob);
-  const link = element('a', words, { href, download: name, className: isSecond ? 'save second' : 'save' });
+  element('a', '', { href, download: name }).click();
+  setTimeout(() => URL.revokeObjectURL(href), 60000);
+}
+
+// A link that saves, which looks like a button; the second and further ones are grey. What is not made yet is a button.
+function downloadLink({ words, blob, name, isTable, place, isMade = true }, isSecond, saved, make) {
+  const className = isSecond ? 'save second' : 'save', id = place === undefined ? '' : `make-${place}`;
+  if (!isMade) {
+    const button = element('button', words, { type: 'button', className: 'second', id });
+    button.addEventListener('click', () => make(place));
+    return button;
+  }
+  const link = element('a', words, { href: URL.createObjectURL(blob), download: name, className, id });
   if (isTable) link.addEventListener('click', saved);
   return link;
 }
@@ -121,8 +133,18 @@ export function clear(box) {
   box.replaceChildren();
 }
 
-/** Draws into an article what became of a register or a sheet; `saved` is told when its table is saved. */
-export function drawReport(article, id, report, saved) {
+/** Draws what is in a box anew, and leaves the keys where they were: at the element of the same name. */
+export function withFocus(box, draw) {
+  const { id } = box.contains(document.activeElement) ? document.activeElement : { id: '' };
+  draw(box);
+  if (id && byId(id)) byId(id).focus();
+}
+
+/**
+ * Draws into an article what became of a register or a sheet; `saved` is told when its table is saved, and `make` the
+ * place of what is to be made.
+ */
+export function drawReport(article, id, report, saved, make = (_) => {}) {
   clear(article);
   article.className = report.kind;
   article.setAttribute('aria-labelledby', id);
@@ -132,7 +154,7 @@ export function drawReport(article, id, report, saved) {
   if (report.counts.length) article.append(countsTable(report.counts));
   article.append(...report.tables.map((table) => tableBox(table, report.title)));
   if (report.links.length) {
-    const links = report.links.map((link, i) => downloadLink(link, i > 0, saved));
+    const links = report.links.map((link, i) => downloadLink(link, i > 0, saved, make));
     article.appendChild(element('p', '', { className: 'buttons' })).append(...links);
   }
   if (report.hint) article.append(element('p', report.hint, { className: 'hint' }));

@@ -94,6 +94,14 @@ class Heap {
     return next;
   }
 
+  // The last block keeps so many bytes.
+  shrink(pointer, bytes) {
+    const size = Math.ceil(bytes / 16) * 16;
+    if (pointer + this.sizeOf(pointer) !== this.top) return;
+    this.setSize(pointer, size);
+    this.top = pointer + size;
+  }
+
   // The answer is two words, an option of a pointer, put where the module wants it.
   answer(to, pointer) {
     const view = new DataView(this.memory.buffer);
@@ -150,6 +158,12 @@ export class Module {
     const part = this.malloc(bytes.length);
     this.bytes(part).set(bytes);
     return part;
+  }
+
+  /** The first so many bytes of a part; what stood behind them is given back where nothing was lent since. */
+  shrink({ pointer }, length) {
+    this.heap.shrink(pointer, length);
+    return { pointer, length };
   }
 
   // The fields of CSV go in and out as the bytes of all, and the length of each. Some hundred are turned into bytes at

@@ -1,4 +1,4 @@
-// What a file looks like by its bytes: its kind, its encoding, its delimiter.
+// What a file looks like by its bytes: its kind, its encoding, its delimiter, and the records above its names.
 
 // How files begin that are no texts, and texts in UTF-16.
 const KINDS = [['PK\x03\x04', 'workbook'], ['\xd0\xcf\x11\xe0', 'workbook'], ['SQLite format 3\0', 'database'],
@@ -34,10 +34,34 @@ function regularity(lines, delimiter) {
   return [most, most === 0 ? 0 : counts[withCount.indexOf(most)]];
 }
 
+// The first lines of a text, where `put` stands in place of what is in quotes.
+const firstLines = (text, put) =>
+  text.slice(0, LETTERS).replace(/"[^"]*("|$)/g, put).split(/[\r\n]+/).slice(0, LINES);
+
+/** Whether this byte stands in the first lines, outside quotes. */
+export const isDelimiterOf = (text, delimiter) =>
+  firstLines(text, '').some((line) => line.includes(String.fromCharCode(delimiter)));
+
 /** The byte of the delimiter that stands most regularly in the first lines, outside quotes; a comma where none does. */
 export function likelyDelimiter(text) {
-  const lines = text.slice(0, LETTERS).replace(/"[^"]*("|$)/g, '').split(/[\r\n]+/).slice(0, LINES);
+  const lines = firstLines(text, '');
   const found = DELIMITERS.map((delimiter) => ({ delimiter, of: regularity(lines, delimiter) }));
   const [first] = found.sort(({ of: one }, { of: other }) => other[0] - one[0] || other[1] - one[1]);
   return (first.of[0] === 0 ? ',' : first.delimiter).charCodeAt(0);
+}
+
+// The fields of a line up to the last one that is not empty.
+function widthOf(line, delimiter) {
+  const fields = line.split(delimiter);
+  while (fields.length && fields[fields.length - 1].trim() === '') fields.pop();
+  return fields.length;
+}
+
+/** How many records are likely to stand above the names: those before the first that is as wide as most are. */
+export function likelyAbove(text, delimiter) {
+  const lines = firstLines(text.replace(/^\ufeff/, ''), 'x').filter((line) => line !== '');
+  const widths = lines.map((line) => widthOf(line, String.fromCharCode(delimiter)));
+  const often = (width) => widths.filter((it) => it === width).length;
+  const [most] = widths.filter((width) => width > 0).sort((one, other) => often(other) - often(one) || other - one);
+  return Math.max(0, widths.findIndex((width) => width >= most));
 }

@@ -1,11 +1,13 @@
 // What is shown of registers and sheets, in words and rows, for the view to draw.
 
+import { choicesText, isColumn } from './choices.mjs';
+import { textOf } from './elements.mjs';
 import * as registers from './registers.mjs';
 import * as sheet from './sheet.mjs';
 import { WORDS } from './words.mjs';
 
-// The cause of a register that cannot be read.
-const READ_FAULT = 5;
+// The cause of a register that cannot be read, and that of one with too many records; how a sheet with too many ends.
+const READ_FAULT = 5, TOO_MANY_CAUSE = 7, TOO_MANY = 5;
 
 /** How many records were refused, by the reason, each with what to do. */
 export function countRows(counts) {
@@ -127,11 +129,24 @@ const encodingOf = ({ source }) => WORDS.encodings[source.encoding];
 
 /** The sheet that is chosen, and what was proposed for it: of one column no delimiter was. */
 export function sheetChosen(state) {
-  const { source: { file } } = state, { encoding, delimiter } = sheet.shownProposed(state);
+  const { source: { file } } = state, { encoding, delimiter, above } = sheet.shownProposed(state);
   const first = sheet.beginning(state), separator = first && first.widest > 1 && WORDS.delimiters[delimiter];
-  const looks = [separator, WORDS.encodings[encoding]].filter(Boolean);
+  const looks = [separator, WORDS.encodings[encoding], above && WORDS.aboveFound(above)].filter(Boolean);
   if (file === null) return '';
   return [WORDS.chosen(file.name, WORDS.bytes(file.size)), '.', looks.length ? ` ${WORDS.looksLike(looks)}` : ''];
+}
+
+/** What became of choices that were kept. */
+export function sheetFit({ kept, fit }) {
+  if (kept === null || fit === null) return '';
+  const what = [...fit.absent.map(WORDS.theColumn), ...fit.other.map((it) => WORDS.theOther[it])];
+  return what.length ? WORDS.notFitting(kept.file.name, what) : WORDS.filledIn(kept.file.name);
+}
+
+/** What stands above the names. */
+export function sheetTitles(state) {
+  const first = sheet.beginning(state);
+  return first === null || first.above === 0 ? '' : WORDS.titles(first.titles);
 }
 
 /** How the sheet begins. */
@@ -140,10 +155,86 @@ export function sheetTable(state) {
   return first === null ? null : plainTable(WORDS.sheetRows(first.rows.length), first);
 }
 
-/** How the register begins that would be made. */
-export function previewTable(state) {
+// What the columns of dates are called.
+function dateNames(state) {
+  const { heading } = sheet.beginning(state);
+  return state.picks.dates.map(({ date }) => WORDS.column(Number(date) + 1, heading[Number(date)]));
+}
+
+/** How many dates are not read, in words. */
+export function sheetCounts(state) {
+  const reply = sheet.shownUnknown(state);
+  if (sheet.beginning(state) === null || sheet.missing(state)) return '';
+  if (reply === null) return sheet.isRunning(state) ? '' : WORDS.counting;
+  if (!reply.answer || reply.answer.ending !== 0) return '';
+  const { kept, short, names } = reply.answer;
+  if (kept === 0 && short === 0) return names.length ? '' : `${WORDS.allRead}.`;
+  return `${[kept && WORDS.kept(kept), short && WORDS.shortLeft(short)].filter(Boolean).join('; ')}.`;
+}
+
+// The first rows of a sheet that came back. Of several columns of dates, the reasons stand behind all others.
+function joinedTable(caption, { heading, rows, from }, names, width) {
+  if (names.length === 1) return tableReport(caption, { heading, rows, from, refusal: heading.length - 1 });
+  const whyOf = (row) => names.flatMap((name, k) => {
+    const number = Number(row[from + (k + 1) * width - 1]);
+    return number === 0 ? [] : [[name, ' ', WORDS.reason(number, WORDS.refusals[number - 1])]];
+  });
+  const drawn = rows.map((row) => {
+    const why = whyOf(row).flatMap((it, i) => (i === 0 ? [it] : ['; ', it]));
+    return why.length ? { fields: row, reason: why, span: 1 } : { fields: [...row, ''], reason: '', span: 0 };
+  });
+  return { caption, heading: [...heading, WORDS.why], rows: drawn };
+}
+
+/** How the registers begin that would be made, and the sheet that would come back. */
+export function previewTables(state) {
   const reply = sheet.shownPreview(state);
-  return reply && reply.answer ? plainTable(WORDS.registerRows(reply.answer.rows.length), reply.answer) : null;
+  if (!reply || !reply.answer || reply.answer.ending !== 0) return [];
+  const { registers, first } = reply.answer, names = dateNames(state);
+  const made = registers.map((register, k) => plainTable(WORDS.registerRows(names[k], register.rows.length), register));
+  return [...made, joinedTable(WORDS.sheetBack(first.rows.length), first, names, state.columns.length + 1)];
+}
+
+// The first dates that were refused.
+function refusedDatesTable({ refused, refusedDates }, { dates }, names) {
+  if (refusedDates.length === 0) return [];
+  const all = refused.reduce((sum, n) => sum + n, 0), isOne = names.length === 1;
+  const front = [WORDS.record, ...(isOne ? [] : [WORDS.columnName])];
+  const rows = refusedDates.map(({ number, place, calendar, date, refusal }) => {
+    const own = [String(number), ...(isOne ? [] : [textOf(names[place])])];
+    const called = isColumn(dates[place].calendar) ? calendar : dates[place].calendar;
+    return { fields: [...own, called, date], reason: WORDS.reason(refusal, WORDS.refusals[refusal - 1]), span: 1 };
+  });
+  const heading = [...front, WORDS.calendar, WORDS.date, WORDS.why];
+  return [{ caption: WORDS.refusedDates(rows.length, all), heading, rows }];
+}
+
+// The register of each column of dates: it is made when it is wanted, and then saved.
+function registerLinks({ registers }, names, stem) {
+  return names.map((name, place) => {
+    const reply = registers[place] && registers[place].reply;
+    if (!registers[place]) return { place, words: WORDS.makeRegister(name), isMade: false };
+    if (reply === null) return { place, words: WORDS.makingRegister(name), isMade: false };
+    const { answer } = reply;
+    if (!answer || answer.ending !== 0) return { place, words: sheetFault(reply, ''), isMade: false };
+    const file = `${stem}${names.length === 1 ? '' : `.${place + 1}`}${WORDS.registerSuffix}`;
+    const words = WORDS.saveRegister(file, WORDS.bytes(answer.register.size));
+    return { place, words, blob: answer.register, name: file, isTable: false };
+  });
+}
+
+// Why something of a sheet was not made: a fault, or an ending of the module.
+function sheetFault(reply, encoding) {
+  const { answer } = reply;
+  if (!answer) return WORDS.notDone(faultWords(reply, sheet.MOST_BYTES, encoding));
+  if (answer.ending === TOO_MANY) return WORDS.brokeOff(TOO_MANY_CAUSE, WORDS.causes[TOO_MANY_CAUSE]);
+  return WORDS.notDone(WORDS.sheetFaults[answer.ending] || WORDS.noMemory);
+}
+
+function brokenSheet(reply, encoding) {
+  if (isUnread(reply)) return endingReport(reply, sheet.MOST_BYTES, encoding);
+  const isTooMany = reply.answer && reply.answer.ending === TOO_MANY;
+  return brokenReport(sheetFault(reply, encoding), isTooMany ? WORDS.splitSheet : '');
 }
 
 /** What is shown of a conversion that ended, or null. */
@@ -151,22 +242,27 @@ export function sheetReport(state) {
   const run = sheet.shownRun(state);
   if (run === null || run.status !== 'ended') return null;
   const title = run.source.file.name, { answer } = run.reply;
-  if (!answer || answer.ending !== 0) {
-    return { title, ...endingReport(run.reply, sheet.MOST_BYTES, encodingOf(state)) };
-  }
-  const { rows, refused, counts, first, table, register, shortYears } = answer;
-  const stem = title.replace(/\.[^.]*$/, '');
-  const [name, own] = [`${stem}${WORDS.sheetSuffix}`, `${stem}${WORDS.registerSuffix}`];
+  if (!answer || answer.ending !== 0) return { title, ...brokenSheet(run.reply, encodingOf(state)) };
+  const { rows, refused, first, table } = answer, names = dateNames(state);
+  const stem = stemOf(title), name = `${stem}${WORDS.sheetSuffix}`;
+  const ofEach = names.map((it, k) => [it, refused[k]]);
+  const words = names.length === 1 ? WORDS.whole(rows, refused[0]) : WORDS.wholeSheet(rows, ofEach);
   return {
-    title, number: 0, kind: 'done', words: WORDS.whole(rows, refused, shortYears), advice: [],
-    counts: countRows(counts),
-    tables: [tableReport(WORDS.sheetJoined(first.rows.length), first), ...refusedTable(answer)],
-    links: [
-      { words: WORDS.save(name, WORDS.bytes(table.size)), blob: table, name, isTable: true },
-      { words: WORDS.saveRegister(own), blob: register, name: own, isTable: false },
-    ],
+    title, number: 0, kind: 'done', words, advice: [], counts: [],
+    tables: [joinedTable(WORDS.sheetJoined(first.rows.length), first, names, run.columns.length + 1),
+      ...refusedDatesTable(answer, run.picks, names)],
+    links: [{ words: WORDS.save(name, WORDS.bytes(table.size)), blob: table, name, isTable: true },
+      ...registerLinks(run, names, stem)],
     hint: WORDS.sheetSaved,
   };
+}
+
+const stemOf = (name) => name.replace(/\.[^.]*$/, '');
+
+/** The choices, as a file to be kept: its name, and what stands in it. */
+export function keptChoices(state) {
+  const { source, picks, columns } = state, { heading } = sheet.beginning(state);
+  return [`${stemOf(source.file.name)}${WORDS.choicesSuffix}`, choicesText(source, heading, picks, columns)];
 }
 
 function readingWords(state) {
@@ -177,9 +273,10 @@ function readingWords(state) {
     }
     return WORDS.notDone(faultWords(reply, sheet.MOST_BYTES, encodingOf(state)));
   }
-  const { records, widest } = reply.answer;
-  if (records === 0) return WORDS.notDone(WORDS.emptySheet);
-  return [WORDS.sheetHas(records - 1, widest), widest === 1 ? ` ${WORDS.oneColumn}` : ''];
+  const { records, widest, above, heading } = reply.answer;
+  if (records === 0) return WORDS.notDone(above === 0 ? WORDS.emptySheet : WORDS.noNames);
+  return [WORDS.sheetHas(records - 1, widest), widest === 1 ? ` ${WORDS.oneColumn}` : '',
+    heading.length < widest ? ` ${WORDS.onlyFirst(heading.length)}` : ''];
 }
 
 function runWords(state, run) {
@@ -188,6 +285,8 @@ function runWords(state, run) {
   return WORDS.endedOne(run.source.file.name, sheetReport(state).words);
 }
 
+const isFault = (reply) => reply !== null && (Boolean(reply.fault) || reply.answer.ending !== 0);
+
 function sheetWords(state) {
   const run = sheet.shownRun(state);
   if (state.notice) return WORDS[state.notice];
@@ -195,9 +294,8 @@ function sheetWords(state) {
   if (sheet.isTooLarge(state)) return WORDS.notDone(WORDS.tooLarge(sheet.MOST_BYTES));
   if (state.begins === null) return WORDS.sheetReading;
   if (run !== null) return runWords(state, run);
-  const failed = [sheet.shownUnknown(state), sheet.shownPreview(state)].find((reply) => reply && reply.fault);
-  if (failed) return WORDS.notDone(faultWords(failed, sheet.MOST_BYTES, encodingOf(state)));
-  return readingWords(state);
+  const failed = [sheet.shownUnknown(state), sheet.shownPreview(state)].find(isFault);
+  return failed ? sheetFault(failed, encodingOf(state)) : readingWords(state);
 }
 
 /** The line below the form. */

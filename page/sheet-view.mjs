@@ -1,18 +1,25 @@
 // Draws the sheet, and takes what is chosen.
 
 import { BESIDE, CALENDARS } from './calendars.mjs';
+import { MOST_DATES } from './choices.mjs';
 import {
-  byId, check, clear, columnTicks, drawReport, drawRunning, element, onCheck, option, tableBox, takeFiles, takePaste,
-  whenChanged, wordsIn,
+  byId, check, clear, columnTicks, drawReport, drawRunning, element, onCheck, option, saveBlob, setText, tableBox,
+  takeFiles, takePaste, textOf, whenChanged, withFocus, wordsIn,
 } from './elements.mjs';
-import { previewTable, sheetChosen, sheetReport, sheetStatus, sheetTable } from './reports.mjs';
 import {
-  beginning, columnsChosen, isRunning, missing, pasted, picked, saved, shownPreview, shownRun, shownUnknown,
-  sourceChosen, started, stopped,
+  keptChoices, previewTables, sheetChosen, sheetCounts, sheetFit, sheetReport, sheetStatus, sheetTable, sheetTitles,
+} from './reports.mjs';
+import {
+  beginning, columnsChosen, dateAdded, datePicked, dateRemoved, filesChosen, isRunning, missing, namePicked, pasted,
+  picked, registerWanted, saved, shownPreview, shownRun, shownUnknown, sourceChosen, started, stopped,
 } from './sheet.mjs';
 import { WORDS } from './words.mjs';
 
-const PICKS = ['id', 'calendar', 'date'];
+// What is added to short years, and what becomes of those of Hebrew dates.
+const CENTURIES = [...Array(20).keys()].map((i) => String(100 * (20 - i)));
+const YEAR_RULES = ['refuse', 'keep', '5000'];
+const NO_RUN = { reply: null, registers: null };
+const MONTHS = [...Array(13).keys()].map((i) => i + 1);
 
 function group(words, options) {
   const made = Object.assign(document.createElement('optgroup'), { label: words });
@@ -20,108 +27,247 @@ function group(words, options) {
   return made;
 }
 
-function offerColumns(heading) {
-  const columns = () => heading.map((name, i) => option(WORDS.column(i + 1, name), String(i)));
-  const first = () => option(WORDS.choose, '');
-  byId('sheet-id').replaceChildren(first(), ...columns(), option(WORDS.rowNumber, '-1'));
-  byId('sheet-date').replaceChildren(first(), ...columns());
-  byId('sheet-calendar').replaceChildren(first(), group(WORDS.ofColumn, columns()),
-    group(WORDS.ofAll, CALENDARS.map((name) => option(WORDS.calendars[name], name))));
+const calendarOptions = () => CALENDARS.map((name) => option(WORDS.calendars[name], name));
+const columnOptions = (heading) => heading.map((name, i) => option(WORDS.column(i + 1, name), String(i)));
+
+function field(label, id, ...controls) {
+  const made = element('p', '', { className: 'field' });
+  made.append(element('label', label, { htmlFor: id }), ...controls);
+  return made;
 }
 
-// The names that no calendar has, each with a choice.
-function offerNames(reply) {
-  const box = byId('sheet-names'), names = reply && reply.answer ? reply.answer.names : [];
-  box.replaceChildren(...names.flatMap(([name, count], i) => {
-    const label = element('label', WORDS.unknownName(name, count), { htmlFor: `sheet-name-${i}` });
-    const select = element('select', '', { id: `sheet-name-${i}` });
-    select.dataset.name = name;
-    select.append(option(WORDS.leave, ''), ...CALENDARS.map((it) => option(WORDS.calendars[it], it)));
-    return [label, select];
-  }));
-  if (reply && reply.answer && reply.answer.more) box.append(element('p', WORDS.tooManyNames(reply.answer.more)));
-  byId('sheet-names-box').hidden = names.length === 0;
+// ---- Columns of dates ----
+
+function dateRow(heading, place, all) {
+  const row = element('div', '', { className: 'fields' });
+  const date = element('select', '', { id: `sheet-date-${place}`, autocomplete: 'off' });
+  date.append(option(WORDS.choose, ''), ...columnOptions(heading));
+  const calendar = element('select', '', { id: `sheet-calendar-${place}`, autocomplete: 'off' });
+  calendar.append(option(WORDS.choose, ''), group(WORDS.ofColumn, columnOptions(heading)),
+    group(WORDS.ofAll, calendarOptions()));
+  row.append(field(WORDS.dateColumn(place + 1, all), date.id, date),
+    field(WORDS.calendarColumn(place + 1, all), calendar.id, calendar));
+  if (all > 1) {
+    const remove = element('button', WORDS.removeDate(place + 1), { type: 'button', className: 'second small' });
+    remove.dataset.remove = String(place);
+    row.append(remove);
+  }
+  return row;
 }
 
-function takeChoices(step) {
+function takeDates(step) {
+  const box = byId('sheet-dates');
+  box.addEventListener('change', ({ target }) => {
+    const [, which, place] = target.id.split('-');
+    step(datePicked, Number(place), { [which]: target.value });
+  });
+  box.addEventListener('click', ({ target }) => {
+    if (target.dataset.remove === undefined) return;
+    step(dateRemoved, Number(target.dataset.remove));
+    byId('sheet-add').focus();
+  });
+  byId('sheet-add').addEventListener('click', () => {
+    const { picks } = step(dateAdded);
+    byId(`sheet-date-${picks.dates.length - 1}`).focus();
+  });
+}
+
+function drawDates(first, dates) {
+  const box = byId('sheet-dates');
+  box.replaceChildren(...dates.map((_, place) => dateRow(first.heading, place, dates.length)));
+  byId('sheet-add').disabled = dates.length >= MOST_DATES;
+}
+
+// ---- Names that are not known ----
+
+function meaningOptions(where) {
+  if (where === '') return calendarOptions();
+  const months = WORDS.months[where] || [], marks = where === 'roman' ? Object.entries(WORDS.marks) : [];
+  return [option(WORDS.passOver, 'nothing'), ...MONTHS.map((n) => option(WORDS.month(n, months[n - 1]), `month ${n}`)),
+    option(WORDS.aNumber, 'number'), ...marks.map(([means, words]) => option(words, means))];
+}
+
+function nameRow({ name, where }, i) {
+  const select = element('select', '', { id: `sheet-name-${i}`, autocomplete: 'off' });
+  select.append(option(WORDS.leave, ''), ...meaningOptions(where));
+  const typed = { id: `sheet-number-${i}`, type: 'text', inputMode: 'numeric', autocomplete: 'off', hidden: true };
+  const number = element('input', '', typed);
+  number.setAttribute('aria-label', textOf(WORDS.numberOf(name)));
+  const label = element('label', '', { htmlFor: select.id }), both = element('span');
+  for (const control of [select, number]) Object.assign(control.dataset, { name, where });
+  both.append(select, number);
+  return [label, both];
+}
+
+const NAME_BOXES = ['names', 'words'];
+const isNumber = (means) => /^number/.test(means);
+
+function takeNames(step) {
+  for (const which of NAME_BOXES) {
+    byId(`sheet-${which}`).addEventListener('change', ({ target }) => {
+      const { name, where } = target.dataset, isTyped = target.localName === 'input';
+      const typed = `number ${target.value.replace(/\D/g, '').slice(0, 9)}`.trim();
+      step(namePicked, name, where, isTyped ? typed : target.value);
+      if (target.value === 'number') target.nextElementSibling.focus();
+    });
+  }
+}
+
+// The names, in two boxes: those of calendars, and words in dates.
+function drawListed(listed) {
+  const all = listed.map((it, i) => [it, nameRow(it, i)]);
+  const ofBox = { names: all.filter(([{ where }]) => where === ''), words: all.filter(([{ where }]) => where !== '') };
+  for (const which of NAME_BOXES) {
+    const rows = ofBox[which];
+    byId(`sheet-${which}`).replaceChildren(...rows.flatMap(([, row]) => row));
+    byId(`sheet-${which}-box`).hidden = rows.length === 0;
+  }
+}
+
+// What each means, and how often it stands there.
+function drawMeanings(listed, names) {
+  listed.forEach(({ name, where, count }, i) => {
+    const found = names.find((it) => it.name === name && it.where === where), means = found ? found.means : '';
+    const select = byId(`sheet-name-${i}`), number = byId(`sheet-number-${i}`);
+    select.value = isNumber(means) ? 'number' : means;
+    number.hidden = !isNumber(means);
+    if (document.activeElement !== number) number.value = means.replace(/^\D*/, '');
+    setText(select.closest('.names').querySelector(`label[for=${select.id}]`),
+      where === '' ? WORDS.unknownName(name, count) : WORDS.unknownWord(name, where, count));
+  });
+}
+
+// ---- What is chosen ----
+
+function takeSource(step) {
   byId('sheet-encoding').append(...Object.entries(WORDS.encodings).map(([label, words]) => option(words, label)));
   byId('sheet-encoding').addEventListener('change', ({ target }) => step(sourceChosen, { encoding: target.value }));
   onCheck('sheet-delimiter', (value) => step(sourceChosen, { delimiter: Number(value) }));
+  byId('sheet-above').addEventListener('change', ({ target }) => {
+    if (target.validity.valid && target.value !== '') step(sourceChosen, { above: Number(target.value) });
+  });
   takeFiles(byId('sheet-file'), (target) => byId('sheet-part').contains(target), (files, folders) => {
     byId('sheet-box').open = true;
-    step(sourceChosen, { file: files[0] || null }, folders);
+    step(filesChosen, files, folders);
   });
   takePaste(byId('sheet-paste'), (text) => {
     byId('sheet-file').value = '';
     step(pasted, text);
   });
-  for (const name of PICKS) {
+}
+
+function takeRules(step) {
+  byId('sheet-short').append(...['refuse', 'keep'].map((value) => option(WORDS.shortRules[value], value)),
+    ...CENTURIES.map((value) => option(WORDS.shortAdds(Number(value)), value)));
+  byId('sheet-hebrew').append(...YEAR_RULES.map((value) => option(WORDS.hebrewRules[value], value)));
+  for (const name of ['id', 'short', 'hebrew']) {
     byId(`sheet-${name}`).addEventListener('change', ({ target }) => step(picked, { [name]: target.value }));
   }
+  byId('sheet-charters').addEventListener('change', ({ target }) => step(picked, { charters: target.checked }));
   onCheck('sheet-order', (order) => step(picked, { order }));
-  byId('sheet-names').addEventListener('change', () => {
-    const selects = [...byId('sheet-names').querySelectorAll('select')];
-    step(picked, { names: Object.fromEntries(selects.map((select) => [select.dataset.name, select.value])) });
-  });
+}
+
+function takeForm(step) {
   byId('sheet-form').addEventListener('submit', (event) => {
     event.preventDefault();
-    const state = step(started);
-    if (state.notice === 'chooseThree') byId(`sheet-${missing(state)}`).focus();
+    const state = step(started), first = missing(state);
+    if (state.notice === 'chooseDates') byId(`sheet-${first.which}-${first.place}`).focus();
   });
   byId('sheet-stop').addEventListener('click', () => step(stopped));
   const toSheet = document.querySelector('nav a[href="#sheet-part"]');
   toSheet.addEventListener('click', () => { byId('sheet-box').open = true; });
 }
 
-// A table of what is known, or nothing.
-const drawTable = (box, table) => box.replaceChildren(...(table === null ? [] : [tableBox(table)]));
-
 /** The answer draws the state. */
 export function sheetView(step) {
-  takeChoices(step);
+  takeSource(step);
+  takeDates(step);
+  takeRules(step);
+  takeNames(step);
+  takeForm(step);
   const drawColumns = whenChanged(columnTicks(byId('sheet-columns'), BESIDE, WORDS.noneBehind,
     (columns) => step(columnsChosen, columns)));
-  const drawStatus = wordsIn('sheet-said'), drawChosen = wordsIn('sheet-chosen');
-  const drawSource = whenChanged(({ encoding, delimiter }) => {
+  const [drawStatus, drawChosen, drawFit, drawTitles, drawCounts] =
+    ['said', 'chosen', 'fit', 'titles', 'counts'].map((name) => wordsIn(`sheet-${name}`));
+  let drawn = { begins: undefined, count: 0, more: undefined, preview: undefined, ...NO_RUN };
+  let now = null, drawnNames = '';
+  byId('sheet-keep').addEventListener('click', () => {
+    const [name, text] = keptChoices(now);
+    saveBlob(new Blob([text], { type: 'application/json' }), name);
+  });
+
+  const drawSource = whenChanged(({ encoding, delimiter, above }) => {
     if (encoding !== null) byId('sheet-encoding').value = encoding;
     if (delimiter !== null) check('sheet-delimiter', delimiter);
+    byId('sheet-above').value = above === null ? '' : String(above);
   });
-  let drawn = { begins: undefined, unknown: undefined, preview: undefined, reply: undefined };
 
-  function drawPicks(picks) {
-    for (const name of PICKS) byId(`sheet-${name}`).value = picks[name];
-    check('sheet-order', picks.order);
-    for (const select of byId('sheet-names').querySelectorAll('select')) {
-      select.value = picks.names[select.dataset.name] || '';
+  function drawBeginning(state) {
+    const first = beginning(state), table = sheetTable(state);
+    byId('sheet-rows').replaceChildren(...(table === null ? [] : [tableBox(table)]));
+    byId('sheet-choices').hidden = first === null;
+    if (first !== null) {
+      byId('sheet-id').replaceChildren(option(WORDS.rowNumber, '-1'), ...columnOptions(first.heading));
     }
   }
 
-  function drawBeginning(state) {
-    const first = beginning(state);
-    drawTable(byId('sheet-rows'), sheetTable(state));
-    byId('sheet-choices').hidden = first === null;
-    if (first !== null) offerColumns(first.heading);
+  function drawPicks({ id, dates, order, short, hebrew, charters }) {
+    dates.forEach(({ date, calendar }, place) => {
+      byId(`sheet-date-${place}`).value = date;
+      byId(`sheet-calendar-${place}`).value = calendar;
+    });
+    Object.entries({ id, short, hebrew }).forEach(([name, value]) => { byId(`sheet-${name}`).value = value; });
+    byId('sheet-charters').checked = charters;
+    check('sheet-order', order);
+  }
+
+  // The names are drawn anew only where they are others, and the keys stay where they are.
+  function drawNames(listed, names) {
+    const all = JSON.stringify(listed.map(({ name, where }) => [name, where]));
+    if (all === drawnNames) return drawMeanings(listed, names);
+    drawnNames = all;
+    return withFocus(byId('sheet-choices'), () => {
+      drawListed(listed);
+      drawMeanings(listed, names);
+    });
+  }
+
+  function drawPreview(state) {
+    byId('sheet-register').replaceChildren(...previewTables(state).map((table) => tableBox(table)));
   }
 
   function drawResult(state) {
     const report = sheetReport(state), box = byId('sheet-results');
-    clear(box);
-    if (report !== null) drawReport(box.appendChild(element('article')), 'sheet-result', report, () => step(saved));
+    withFocus(box, () => {
+      clear(box);
+      if (report === null) return;
+      const article = box.appendChild(element('article'));
+      drawReport(article, 'sheet-result', report, () => step(saved), (place) => step(registerWanted, place));
+    });
   }
 
   return (state) => {
-    const { source, picks, columns } = state, run = shownRun(state), reply = run && run.reply;
-    const now = { begins: beginning(state), unknown: shownUnknown(state), preview: shownPreview(state), reply };
+    now = state;
+    const { source, picks, columns, listed } = state, first = beginning(state), unknown = shownUnknown(state);
+    const preview = shownPreview(state), { reply, registers } = shownRun(state) || NO_RUN, count = picks.dates.length;
+    const more = unknown && unknown.answer ? unknown.answer.more : 0;
     drawSource(source);
     drawChosen(sheetChosen(state));
-    if (now.begins !== drawn.begins) drawBeginning(state);
-    if (now.unknown !== drawn.unknown) offerNames(now.unknown);
-    drawPicks(picks);
-    if (now.preview !== drawn.preview) drawTable(byId('sheet-register'), previewTable(state));
-    if (now.reply !== drawn.reply) drawResult(state);
-    drawn = now;
+    drawFit(sheetFit(state));
+    drawTitles(sheetTitles(state));
+    if (first !== drawn.begins) drawBeginning(state);
+    if (first !== null && (first !== drawn.begins || count !== drawn.count)) drawDates(first, picks.dates);
+    if (first !== null) drawPicks(picks);
+    drawNames(listed, picks.names);
+    if (more !== drawn.more) setText(byId('sheet-more'), more ? WORDS.tooManyNames(more) : '').hidden = !more;
+    drawCounts(sheetCounts(state));
+    if (preview !== drawn.preview) drawPreview(state);
+    // A table that was saved is not drawn anew, or its link would end.
+    if (reply !== drawn.reply || registers !== drawn.registers) drawResult(state);
+    drawn = { begins: first, count, more, preview, reply, registers };
     drawColumns(columns);
     drawRunning('sheet', isRunning(state));
+    if (!isRunning(state)) byId('sheet-add').disabled = count >= MOST_DATES;
     drawStatus(sheetStatus(state));
   };
 }

@@ -1,6 +1,8 @@
 // A sheet: which file is chosen and how it is to be read, what its columns are, what was found in it, and what came of
 // its conversion. Each step takes the state and gives the next.
 
+import { MOST_DATES, fitted, isColumn, namesText, noPicks, numbersOf } from './choices.mjs';
+import { likelyPicks } from './heads.mjs';
 import { WORDS } from './words.mjs';
 
 // A file that is larger is not read.
@@ -9,52 +11,74 @@ export const MOST_BYTES = 2 ** 28;
 const TAB = 9;
 
 /**
- * An encoding or a delimiter of null is proposed when the sheet is read; `proposed` has what was for this file.
- * `picks` says what the columns are; a calendar of -1 is that of `all`, an id of -1 the number of the record. `names`
- * has calendars for names that no calendar has. A result of `picks` or `source` holds what it came from.
- * @typedef {{ file: File | null, encoding: string | null, delimiter: number | null }} Source
- * @typedef {{ encoding: string | null, delimiter: number | null }} Proposed
- * @typedef {{ id: string, calendar: string, date: string, order: string, names: Record<string, string> }} Picks
+ * An encoding, a delimiter or a number of records above the names that is null is proposed when the sheet is read;
+ * `proposed` has what was for this file. `kept` has choices of an earlier sheet, and null in them until their file is
+ * read, and `isFilled` once they were filled in; `fit` says what of them did not fit. `listed` has the names that are not
+ * known, and those that have a meaning of the user's own; a count is null while it is not known. A result of `picks`,
+ * `columns` or `source` holds what it came from.
+ * @typedef {import('./choices.mjs').Picks} Picks
+ * @typedef {{ encoding: string | null, delimiter: number | null, above: number | null }} Proposed
+ * @typedef {{ file: File | null } & Proposed} Source
  * @typedef {{ source: Source, picks: Picks, columns: string[], status: 'runs' | 'ended' | 'stopped', key: string,
- *   reply: any, isSaved: boolean }} Run
- * @typedef {{ source: Source, proposed: Proposed, reading: number, begins: any, picks: Picks, columns: string[],
- *   unknown: any, preview: any, run: Run | null, runs: number, worker: number, notice: string,
+ *   reply: any, isSaved: boolean, registers: Record<number, { reply: any }> }} Run
+ * @typedef {{ name: string, where: string, count: number | null }} Listed
+ * @typedef {{ source: Source, proposed: Proposed, kept: { file: File, choices: any, isFilled: boolean } | null,
+ *   fit: { absent: string[], other: string[] } | null, reading: number, begins: any, picks: Picks, columns: string[],
+ *   unknown: any, listed: Listed[], preview: any, run: Run | null, runs: number, worker: number, notice: string,
  *   folders: string[] }} SheetState
  */
 
 /** @type {Proposed} */
-const NOTHING = { encoding: null, delimiter: null };
-
-const noPicks = () => ({ id: '', calendar: '', date: '', order: 'year', names: {} });
+const NOTHING = { encoding: null, delimiter: null, above: null };
 
 /** @returns {SheetState} */
 export function initial() {
   return {
-    source: { file: null, encoding: 'utf-8', delimiter: 44 }, proposed: NOTHING, reading: 0, begins: null,
-    picks: noPicks(), columns: ['weekday', 'gregorian'], unknown: null, preview: null, run: null, runs: 0, worker: 0,
-    notice: '', folders: [],
+    source: { file: null, encoding: 'utf-8', delimiter: 44, above: 0 }, proposed: NOTHING, kept: null, fit: null,
+    reading: 0, begins: null, picks: noPicks(), columns: ['weekday', 'gregorian'], unknown: null, listed: [],
+    preview: null, run: null, runs: 0, worker: 0, notice: '', folders: [],
   };
 }
 
 export const isRunning = ({ run }) => run !== null && run.status === 'runs';
 
-// ---- What is chosen ----
+// ---- What is chosen: the file, and how it is read ----
 
-const readAnew = (state, source) => ({
-  ...state, source, reading: state.reading + 1, worker: state.worker + 1, begins: null,
-  picks: { ...noPicks(), order: state.picks.order }, notice: '',
-});
+// What is chosen of the columns is proposed anew; what holds for the same file stays.
+function readAnew(state, source) {
+  return { ...state, source, reading: state.reading + 1, worker: state.worker + 1, begins: null, fit: null, notice: '' };
+}
 
 /**
- * A file, an encoding or a delimiter is chosen: the sheet is read anew, and its columns are to be chosen again. For
- * another file, encoding and delimiter are proposed anew, unless they come with it.
+ * An encoding, a delimiter or the number of records above the names is chosen: the columns are to be chosen again. For
+ * records above the names the file is not read again.
  * @param {SheetState} state
  * @returns {SheetState}
  */
-export function sourceChosen(state, change, folders = []) {
+export function sourceChosen(state, change) {
   if (isRunning(state)) return { ...state, notice: 'stopFirst' };
-  const isFile = 'file' in change, source = { ...state.source, ...(isFile ? NOTHING : {}), ...change };
-  return { ...readAnew(state, source), proposed: isFile ? NOTHING : state.proposed, folders };
+  const source = { ...state.source, ...change };
+  return 'above' in change ? { ...state, source, begins: null, fit: null, notice: '' } : readAnew(state, source);
+}
+
+const areChoices = ({ name }) => /\.json$/i.test(name);
+
+/**
+ * Files are chosen: a sheet, or choices that were kept, or both. For another file what it looks like is proposed anew,
+ * unless it comes with it. Choices alone are for the sheet that is there, or else for the next one.
+ * @param {SheetState} state
+ * @returns {SheetState}
+ */
+export function filesChosen(state, files, folders = [], looks = NOTHING) {
+  if (isRunning(state)) return { ...state, notice: 'stopFirst' };
+  const chosen = files.find(areChoices), [sheet, ...others] = files.filter((file) => !areChoices(file));
+  const { source, kept } = state, file = sheet || (chosen ? source.file : null);
+  const waiting = source.file === null ? kept : null;
+  const next = readAnew({ ...state, picks: noPicks(), listed: [] }, { file, ...looks });
+  return {
+    ...next, proposed: NOTHING, kept: chosen ? { file: chosen, choices: null, isFilled: false } : waiting, folders,
+    notice: others.length ? 'oneSheet' : '',
+  };
 }
 
 /**
@@ -63,18 +87,59 @@ export function sourceChosen(state, change, folders = []) {
  * @returns {SheetState}
  */
 export function pasted(state, text) {
-  return sourceChosen(state, { file: new File([text], WORDS.pasted), encoding: 'utf-8', delimiter: TAB });
+  return filesChosen(state, [new File([text], WORDS.pasted)], [], { encoding: 'utf-8', delimiter: TAB, above: null });
 }
 
+// ---- What is chosen: the columns and their dates ----
+
 /**
- * Columns, the order of dates, or a calendar for a name are chosen. Names belong to the column that they stand in.
+ * A choice is made. What was counted of names before it is counted anew, unless only a name was given a meaning.
  * @param {SheetState} state
  * @returns {SheetState}
  */
 export function picked(state, change) {
   if (isRunning(state)) return { ...state, notice: 'stopFirst' };
-  const names = 'calendar' in change ? {} : state.picks.names;
-  return { ...state, picks: { ...state.picks, names, ...change }, notice: '' };
+  const listed = 'names' in change ? state.listed : state.listed.map((it) => ({ ...it, count: null }));
+  return { ...state, picks: { ...state.picks, ...change }, listed, notice: '' };
+}
+
+/**
+ * A column of dates, or its calendar, is chosen.
+ * @param {SheetState} state
+ */
+export function datePicked(state, place, change) {
+  return picked(state, { dates: state.picks.dates.map((it, i) => (i === place ? { ...it, ...change } : it)) });
+}
+
+/**
+ * A further column of dates, with the calendars of the last one.
+ * @param {SheetState} state
+ */
+export function dateAdded(state) {
+  const { dates } = state.picks;
+  if (dates.length >= MOST_DATES) return state;
+  return picked(state, { dates: [...dates, { date: '', calendar: dates[dates.length - 1].calendar }] });
+}
+
+/**
+ * One column of dates less; one stays.
+ * @param {SheetState} state
+ */
+export function dateRemoved(state, place) {
+  const { dates } = state.picks;
+  return dates.length === 1 ? state : picked(state, { dates: dates.filter((_, i) => i !== place) });
+}
+
+const isName = (one) => (other) => one.name === other.name && one.where === other.where;
+
+/**
+ * A name is given a meaning, or '' leaves it as it is.
+ * @param {SheetState} state
+ */
+export function namePicked(state, name, where, means) {
+  const { names } = state.picks, made = { name, where, means }, isIt = isName(made);
+  const others = means === '' ? names.filter((it) => !isIt(it)) : names.map((it) => (isIt(it) ? made : it));
+  return picked(state, { names: means === '' || names.some(isIt) ? others : [...names, made] });
 }
 
 /**
@@ -92,33 +157,36 @@ export function columnsChosen(state, columns) {
 export const isTooLarge = ({ source }) => source.file !== null && source.file.size > MOST_BYTES;
 
 /** What was proposed, and not chosen otherwise. */
-export const shownProposed = ({ source, proposed }) => ({
-  encoding: proposed.encoding === source.encoding ? proposed.encoding : null,
-  delimiter: proposed.delimiter === source.delimiter ? proposed.delimiter : null,
-});
+export function shownProposed({ source, proposed }) {
+  const own = (name) => (proposed[name] === source[name] ? proposed[name] : null);
+  return { encoding: own('encoding'), delimiter: own('delimiter'), above: own('above') };
+}
 
 /** How the sheet begins, or null while that is not known. */
 export const beginning = ({ begins }) => (begins !== null && begins.reply.answer && begins.reply.answer.records > 0 ?
   begins.reply.answer : null);
 
-/** The first column choice that is missing, or null. */
-export const missing = ({ picks }) => ['id', 'calendar', 'date'].find((name) => picks[name] === '') || null;
-
-const isColumn = (calendar) => /^\d+$/.test(calendar);
-
-/** The names that no calendar has in the column that is chosen, or null. */
-export function shownUnknown({ begins, picks, unknown }) {
-  return unknown !== null && unknown.begins === begins && unknown.calendar === picks.calendar ? unknown.reply : null;
+/** The first choice that is missing, and of which column of dates; or null. */
+export function missing({ picks: { dates } }) {
+  const ofOne = (it, place) => ['date', 'calendar'].filter((which) => it[which] === '').map((which) => ({ which, place }));
+  return dates.flatMap(ofOne)[0] || null;
 }
 
-/** How the register begins that would be made, or null. */
-export function shownPreview({ begins, picks, preview }) {
-  return preview !== null && preview.begins === begins && preview.picks === picks ? preview.reply : null;
+const isOfNow = (state, it) => it !== null && it.begins === state.begins && it.picks === state.picks;
+
+/** What is not known in the columns that are chosen, or null. */
+export const shownUnknown = (state) => (isOfNow(state, state.unknown) ? state.unknown.reply : null);
+
+/** How the registers begin that would be made, and the sheet that would come back, or null. */
+export function shownPreview(state) {
+  const { columns, preview } = state;
+  return isOfNow(state, preview) && preview.columns === columns ? preview.reply : null;
 }
 
 /** The conversion that is shown: none whose choices are others than those of now. */
-export function shownRun({ picks, columns, run }) {
-  return run !== null && run.picks === picks && run.columns === columns ? run : null;
+export function shownRun({ source, picks, columns, run }) {
+  const isSame = run !== null && run.source === source && run.picks === picks && run.columns === columns;
+  return isSame ? run : null;
 }
 
 // ---- What runs ----
@@ -130,10 +198,11 @@ export function shownRun({ picks, columns, run }) {
  */
 export function started(state) {
   if (isRunning(state) || beginning(state) === null) return state;
-  if (missing(state)) return { ...state, notice: 'chooseThree' };
+  if (missing(state)) return { ...state, notice: 'chooseDates' };
   const { source, picks, columns } = state, runs = state.runs + 1;
   const run = {
     source, picks, columns, status: /** @type {'runs'} */ ('runs'), key: `sheet ${runs}`, reply: null, isSaved: false,
+    registers: {},
   };
   return { ...state, runs, run, notice: '' };
 }
@@ -149,43 +218,60 @@ export function stopped(state) {
   return { ...state, run, worker: state.worker + 1, notice: '' };
 }
 
-// The choices as a worker takes them, with the reading that they were made from.
-function wordsOf({ source, reading, picks }) {
-  const isOfAll = picks.calendar !== '' && !isColumn(picks.calendar);
-  return {
-    ...source, number: reading,
-    picks: {
-      id: Number(picks.id), calendar: isOfAll ? -1 : Number(picks.calendar), all: isOfAll ? picks.calendar : '',
-      date: Number(picks.date), order: picks.order, names: Object.entries(picks.names).filter(([, it]) => it !== ''),
-    },
-  };
+const isWhole = (run) => run !== null && run.status === 'ended' && Boolean(run.reply.answer && run.reply.answer.table);
+
+/**
+ * The register of a column of dates is wanted too.
+ * @param {SheetState} state
+ * @returns {SheetState}
+ */
+export function registerWanted(state, place) {
+  const run = shownRun(state);
+  if (!isWhole(run) || run.registers[place]) return state;
+  return { ...state, run: { ...run, registers: { ...run.registers, [place]: { reply: null } } } };
 }
 
+// The choices as a worker takes them, with the reading that they were made from.
+const wordsOf = ({ source, reading, picks }) =>
+  ({ ...source, number: reading, kept: null, choice: numbersOf(source, picks), names: namesText(picks.names) });
+
 const workerOf = ({ worker }) => `sheet ${worker}`;
-const readingKey = ({ reading }) => `sheet reading ${reading}`;
-const unknownKey = ({ reading, picks }) => `sheet names ${reading} ${picks.calendar}`;
-const previewKey = ({ reading, picks }) => `sheet preview ${reading} ${JSON.stringify(picks)}`;
+const choicesKey = ({ reading }) => `sheet choices ${reading}`;
+const readingKey = ({ reading, source }) => `sheet reading ${reading} ${source.above}`;
+const picksKey = (state) => `${readingKey(state)} ${JSON.stringify(state.picks)}`;
+const unknownKey = (state) => `names ${picksKey(state)}`;
+const previewKey = (state) => `preview ${picksKey(state)} ${state.columns}`;
+const registerKey = (run, place) => `${run.key} register ${place}`;
+
+function registerTasks(state, task) {
+  const run = shownRun(state);
+  return run === null ? [] : Object.entries(run.registers).filter(([, { reply }]) => reply === null).map(([place]) =>
+    task(registerKey(run, place), 'sheetRegister', { ...wordsOf(state), place: Number(place) }));
+}
 
 /** What the worker of the sheet is to be asked now. */
 export function tasks(state) {
-  const { source, reading, picks, run } = state;
-  if (source.file === null || isTooLarge(state)) return [];
+  const { source, kept, reading, picks, columns, run } = state, { dates } = picks;
   const task = (key, name, words) => ({ key, worker: workerOf(state), name, words });
-  if (state.begins === null) return [task(readingKey(state), 'beginning', { ...source, number: reading })];
+  if (kept !== null && kept.choices === null) return [task(choicesKey(state), 'choices', { file: kept.file })];
+  if (source.file === null || isTooLarge(state)) return [];
+  if (state.begins === null) {
+    const words = { ...source, number: reading, kept: kept && kept.choices };
+    return [task(readingKey(state), 'beginning', words)];
+  }
   const first = beginning(state);
   if (first === null) return [];
   if (isRunning(state)) {
-    const { heading, widest } = first;
-    return [task(run.key, 'convertSheet', { ...wordsOf(state), columns: run.columns, heading, widest })];
+    const { heading, records } = first;
+    const places = dates.map(({ date, calendar }) => [Number(date), isColumn(calendar) ? Number(calendar) : null]);
+    return [task(run.key, 'convertSheet', { ...wordsOf(state), columns, places, heading, records })];
   }
-  const wanted = [];
-  if (isColumn(picks.calendar) && shownUnknown(state) === null) {
-    const words = { ...source, number: reading, column: Number(picks.calendar) };
-    wanted.push(task(unknownKey(state), 'unknownNames', words));
+  if (missing(state)) return [];
+  const wanted = registerTasks(state, task);
+  if (shownPreview(state) === null) {
+    wanted.push(task(previewKey(state), 'preview', { ...wordsOf(state), dates: dates.length, columns }));
   }
-  if (!missing(state) && shownPreview(state) === null) {
-    wanted.push(task(previewKey(state), 'preview', wordsOf(state)));
-  }
+  if (shownUnknown(state) === null) wanted.push(task(unknownKey(state), 'unknownNames', wordsOf(state)));
   return wanted;
 }
 
@@ -195,24 +281,61 @@ export const keptWorkers = (state) => [workerOf(state)];
 // The conversion ended. Where the file was read anew, what is shown of the sheet is what was converted.
 function runReplied(state, reply) {
   const ended = { ...state, run: { ...state.run, status: /** @type {'ended'} */ ('ended'), reply }, notice: '' };
-  if (reply.fault === 'otherColumns') return { ...readAnew(state, state.source), notice: 'otherColumns' };
-  if (reply.fault) return ended;
+  if (reply.fault === 'otherColumns') return { ...readAnew({ ...state, run: null }, state.source), notice: 'otherColumns' };
+  if (reply.fault || !reply.answer.sheetBegins) return ended;
   const { sheetBegins } = reply.answer;
   const isSame = JSON.stringify(sheetBegins) === JSON.stringify(beginning(state));
   return isSame ? ended : { ...ended, begins: { reply: { answer: sheetBegins } } };
+}
+
+const listedNames = ({ names }) => names.map(({ name, where }) => ({ name, where, count: null }));
+
+// The columns, as they are proposed by their names or were kept. What was chosen for the dates of this file stays.
+function columnsProposed(state, heading, encoding, delimiter) {
+  const { kept, picks } = state, { order, short, hebrew, charters, names } = picks, proposed = likelyPicks(heading);
+  if (kept === null) {
+    const own = { ...proposed, order, short, hebrew, charters, names };
+    return { ...state, picks: own, listed: listedNames(own), fit: null };
+  }
+  const { picks: fit, absent } = fitted(kept.choices, heading, proposed);
+  const own = kept.isFilled ? { ...fit, order, short, hebrew, charters, names } : fit;
+  const isOther = (name, now) => (kept.choices[name] !== null && kept.choices[name] !== now ? [name] : []);
+  const other = [...isOther('encoding', encoding), ...isOther('delimiter', delimiter)];
+  return { ...state, picks: own, listed: listedNames(own), kept: { ...kept, isFilled: true }, fit: { absent, other } };
 }
 
 // The sheet was read, and what was not chosen is as it was proposed.
 function readingReplied(state, reply) {
   const { source, proposed } = state, begins = { reply };
   if (reply.fault) return { ...state, begins };
-  const { encoding, delimiter } = reply.answer;
-  return {
-    ...state, begins, source: { ...source, encoding, delimiter }, proposed: {
-      encoding: source.encoding === null ? encoding : proposed.encoding,
-      delimiter: source.delimiter === null ? delimiter : proposed.delimiter,
-    },
-  };
+  const { encoding, delimiter, above, heading } = reply.answer;
+  const found = { encoding, delimiter, above }, ofNow = { ...source, ...found };
+  const lookOf = (name) => (source[name] === null ? found[name] : proposed[name]);
+  const looks = { encoding: lookOf('encoding'), delimiter: lookOf('delimiter'), above: lookOf('above') };
+  return { ...columnsProposed(state, heading, encoding, delimiter), begins, source: ofNow, proposed: looks };
+}
+
+// The choices that were kept were read, or are none. An encoding that the page does not offer is none.
+function choicesReplied(state, { answer, fault }) {
+  if (fault) return { ...state, kept: null, notice: fault };
+  const encoding = answer.encoding in WORDS.encodings ? answer.encoding : null;
+  const notice = state.source.file === null ? 'choicesWait' : state.notice;
+  return { ...state, kept: { ...state.kept, choices: { ...answer, encoding } }, columns: answer.columns, notice };
+}
+
+// Names were looked for: those that are not known, behind those that were listed before and are known by the user now.
+function unknownReplied(state, reply) {
+  const { begins, picks, listed } = state, unknown = { begins, picks, reply };
+  if (reply.fault) return { ...state, unknown };
+  const found = reply.answer.names, isIn = (list, it) => list.some(isName(it));
+  const stays = listed.filter((it) => isIn(found, it) || isIn(picks.names, it)).map((it) => found.find(isName(it)) || it);
+  return { ...state, unknown, listed: [...stays, ...found.filter((it) => !isIn(stays, it))] };
+}
+
+function registerReplied(state, key, reply) {
+  const run = shownRun(state), place = run && Object.keys(run.registers).find((it) => registerKey(run, it) === key);
+  if (!place) return state;
+  return { ...state, run: { ...run, registers: { ...run.registers, [place]: { reply } } } };
 }
 
 /**
@@ -221,12 +344,13 @@ function readingReplied(state, reply) {
  * @returns {SheetState}
  */
 export function replied(state, key, reply) {
-  const { begins, picks } = state;
+  const { begins, picks, columns, kept } = state;
   if (isRunning(state)) return key === state.run.key ? runReplied(state, reply) : state;
+  if (kept !== null && kept.choices === null) return key === choicesKey(state) ? choicesReplied(state, reply) : state;
   if (begins === null) return key === readingKey(state) ? readingReplied(state, reply) : state;
-  if (key === unknownKey(state)) return { ...state, unknown: { begins, calendar: picks.calendar, reply } };
-  if (key === previewKey(state)) return { ...state, preview: { begins, picks, reply } };
-  return state;
+  if (key === unknownKey(state)) return unknownReplied(state, reply);
+  if (key === previewKey(state)) return { ...state, preview: { begins, picks, columns, reply } };
+  return registerReplied(state, key, reply);
 }
 
 /**
@@ -239,5 +363,5 @@ export const saved = (state) => ({ ...state, run: { ...state.run, isSaved: true 
 /** Whether a table is shown that was not saved. */
 export function isUnsaved(state) {
   const run = shownRun(state);
-  return run !== null && run.status === 'ended' && Boolean(run.reply.answer && run.reply.answer.table) && !run.isSaved;
+  return isWhole(run) && !run.isSaved;
 }

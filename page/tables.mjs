@@ -1,8 +1,9 @@
 // Tables in the module's memory, whose columns are found by the names in their heading.
 
-// Rows that are shown, and how far into a table refused ones are looked for.
+// Rows that are shown, refused ones too, and how far into a table these are looked for.
 export const SHOWN = 10;
-const REFUSED_SHOWN = 100, LOOKED_AT = 2 ** 24;
+export const REFUSED_SHOWN = 100;
+export const LOOKED_AT = 2 ** 24;
 // Every record.
 export const EVERY = 2 ** 53;
 

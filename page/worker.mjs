@@ -1,16 +1,20 @@
 // What a worker does: a task for each message, one after the other.
 
 import { CALENDARS, TARGETS } from './calendars.mjs';
+import { choicesOf, columnNumbers } from './choices.mjs';
 import { ChangedFile, NoReading, checkUnchanged, readFile } from './files.mjs';
 import { NoMemory, expectedLength, instantiate } from './module.mjs';
-import { kindOf, likelyDelimiter, likelyEncodings, markedEncoding } from './proposals.mjs';
-import { EVERY, SHOWN, Table, range, rowsOf } from './tables.mjs';
+import { isDelimiterOf, kindOf, likelyAbove, likelyDelimiter, likelyEncodings, markedEncoding } from './proposals.mjs';
+import { EVERY, LOOKED_AT, REFUSED_SHOWN, SHOWN, Table, range, rowsOf } from './tables.mjs';
 import { NAMES } from './unbuilt-names.mjs';
 
 const COMMA = 44;
 const PIECE = 2 ** 22;
 // More columns or names than these are not offered.
 const MOST_COLUMNS = 200, MOST_NAMES = 200;
+// Columns of the first records that are shown converted; more bytes than a file of choices has; how much of a text is
+// looked at for what is proposed.
+const MOST_CUT = 1000, MOST_CHOICES = 1e6, FRONT = 2 ** 16;
 
 class NotEncoded extends Error {}
 
@@ -22,6 +26,9 @@ const MARK = '\ufeff';
 
 // The sheet has other columns than those that were chosen from.
 class OtherColumns extends Error {}
+
+// The file has no choices of a sheet.
+class NoChoices extends Error {}
 
 /**
  * Copies a part of the memory out. The browser takes each piece over before the next one is made, which keeps memory
@@ -78,157 +85,247 @@ async function register({ compiled, file, delimiter, sealed, columns }) {
 // ---- Sheets ----
 
 /**
- * What a sheet is read from: `number` is that of the reading. An encoding or a delimiter of null is to be proposed.
+ * What a sheet is read from: `number` is that of the reading. An encoding, a delimiter or a number of records above the
+ * names that is null is to be proposed, by `kept` choices where they fit.
  * @typedef {{ compiled: WebAssembly.Module, number: number, file: File, encoding: string | null,
- *   delimiter: number | null }} Source
+ *   delimiter: number | null, above: number | null, kept: any }} Source
  */
 
 // The sheet that was read last, in the module's memory.
 let sheet = null;
 
-// The text that the bytes are in the first of these encodings that they are written in.
-function decodedBy(encodings, bytes) {
-  for (const encoding of encodings) {
+// Takes a file into the module's memory. The answer has its bytes, and whether these are UTF-8, or even ASCII alone.
+async function rawOf(module, file) {
+  const raw = module.malloc(file.size), decoder = new TextDecoder('utf-8', { fatal: true });
+  let isUtf8 = true, isAscii = true;
+  const look = (piece, isLast) => {
     try {
-      return { encoding, decoded: new TextDecoder(encoding, { fatal: true }).decode(bytes) };
+      if (decoder.decode(piece, { stream: !isLast }).length !== piece.length) isAscii = false;
     } catch (fault) {
       if (!(fault instanceof TypeError)) throw fault;
+      isUtf8 = false;
     }
+  };
+  const bytesAt = (at, length) => module.bytes({ pointer: raw.pointer + at, length });
+  await readFile(file, bytesAt, (piece) => isUtf8 && look(piece, false));
+  if (isUtf8) look(new Uint8Array(), true);
+  return { raw, bytesAt, isUtf8, isAscii: isUtf8 && isAscii };
+}
+
+// The text that bytes are in an encoding, in UTF-8, or null where they are not written in it.
+function decodedBy(module, raw, encoding) {
+  const decoder = new TextDecoder(encoding, { fatal: true }), encoder = new TextEncoder();
+  const room = module.malloc(3 * raw.length + 16);
+  let length = 0;
+  try {
+    for (let at = 0; at <= raw.length; at += PIECE) {
+      const piece = { pointer: raw.pointer + at, length: Math.min(PIECE, raw.length - at) };
+      const letters = decoder.decode(module.bytes(piece), { stream: at + PIECE <= raw.length });
+      const rest = { pointer: room.pointer + length, length: room.length - length };
+      length += encoder.encodeInto(letters, module.bytes(rest)).written;
+    }
+  } catch (fault) {
+    module.free(room);
+    if (fault instanceof TypeError) return null;
+    throw fault;
+  }
+  return module.shrink(room, length);
+}
+
+// The text of UTF-8 without its mark.
+function withoutMark(module, raw) {
+  const [one, two, three] = module.bytes(raw), isMarked = one === 0xef && two === 0xbb && three === 0xbf;
+  return isMarked ? { pointer: raw.pointer + 3, length: raw.length - 3 } : raw;
+}
+
+// The text, in the encoding that is chosen, or else in the first that is likely in which it is written.
+function textOf(module, { raw, bytesAt, isUtf8, isAscii }, chosen, kept) {
+  const ownKept = kept && kept.encoding, likely = likelyEncodings(bytesAt(0, raw.length));
+  const likelier = isAscii && ownKept ? [ownKept, ...likely] : [...likely.slice(0, -1), ownKept, ...likely.slice(-1)];
+  for (const encoding of chosen === null ? likelier.filter(Boolean) : [chosen]) {
+    if (encoding === 'utf-8' && !isUtf8) continue;
+    const text = encoding === 'utf-8' ? withoutMark(module, raw) : decodedBy(module, raw, encoding);
+    if (text !== null) return { encoding, text };
   }
   throw new NotEncoded();
 }
 
+// How the text begins, for what is proposed.
+function frontOf(module, text) {
+  return new TextDecoder().decode(module.bytes({ ...text, length: Math.min(FRONT, text.length) }));
+}
+
+// The delimiter that was chosen, or kept, or is likely.
+function delimiterOf(front, { delimiter, kept }) {
+  const isKept = kept && kept.delimiter !== null && isDelimiterOf(front, kept.delimiter);
+  return delimiter ?? (isKept ? kept.delimiter : likelyDelimiter(front));
+}
+
 /** @param {Source} source */
-async function readSheet({ compiled, number, file, ...chosen }) {
+async function readSheet({ compiled, number, file, encoding: chosen, ...source }) {
   sheet = null;
-  const bytes = new Uint8Array(file.size);
-  const bytesAt = (at, length) => bytes.subarray(at, at + length);
-  await readFile(file, bytesAt);
-  const kind = kindOf(bytes);
+  const module = await instantiate(compiled), read = await rawOf(module, file);
+  const kind = kindOf(read.bytesAt(0, read.raw.length));
   if (kind !== null) throw new OtherKind(kind);
-  const { encoding, decoded } = decodedBy(chosen.encoding === null ? likelyEncodings(bytes) : [chosen.encoding], bytes);
-  const delimiter = chosen.delimiter === null ? likelyDelimiter(decoded) : chosen.delimiter;
-  const module = await instantiate(compiled);
-  const text = module.put(new TextEncoder().encode(decoded));
-  const { records, widest } = module.pick(text, delimiter, [], EVERY);
-  sheet = { number, file, bytesAt, module, text, encoding, delimiter, records, widest };
+  const { encoding, text } = textOf(module, read, chosen, source.kept);
+  const front = frontOf(module, text), delimiter = delimiterOf(front, source);
+  sheet = { number, file, bytesAt: read.bytesAt, module, text, front, encoding, delimiter, counted: null };
   return sheet;
 }
 
 // The sheet of this reading, which a new worker reads again.
 const sheetOf = async (source) => (sheet && sheet.number === source.number ? sheet : readSheet(source));
 
-/** How a sheet begins: its first records and columns, and how it was read. */
-function beginningOf({ module, text, encoding, delimiter, records, widest }) {
-  const width = Math.min(widest, MOST_COLUMNS);
-  const { fields } = module.pick(text, delimiter, range(width), SHOWN + 1);
-  const [heading, ...rows] = records ? rowsOf(fields, width) : [[]];
-  return { encoding, delimiter, records, widest, heading, rows };
+// The first records and columns of a sheet under its names, and what stands above these.
+function begins({ module, text, encoding, delimiter }, above, records, widest) {
+  const width = Math.max(1, Math.min(widest, MOST_COLUMNS));
+  const first = rowsOf(module.pick(text, delimiter, range(width), above + SHOWN + 1).fields, width);
+  const titles = first.slice(0, Math.min(above, SHOWN)).map((fields) => fields.filter(Boolean).join(' '));
+  const [heading = [], ...rows] = first.slice(above);
+  return { encoding, delimiter, above, records, widest, heading, rows, titles };
 }
 
-async function beginning(source) {
-  return beginningOf(await sheetOf(source));
-}
-
-/**
- * The names of a column that no calendar has, with how often each stands there: those by which the module refuses a
- * record. A name that is longer than calendars' names may be is one of them.
- */
-async function unknownNames({ column, ...source }) {
-  const { module, text, delimiter } = await sheetOf(source);
-  const counts = new Map();
-  const [, ...found] = module.pick(text, delimiter, [column], EVERY).fields;
-  for (const name of found) counts.set(name, (counts.get(name) || 0) + 1);
-  const names = [...counts.keys()];
-  const fields = ['id', 'calendar', 'date', ...names.flatMap((name) => ['1', name, '1-1-1'])];
-  const asked = module.write(fields, 3, COMMA);
-  const setup = { columns: [], delimiter: COMMA, sealed: false };
-  const { table } = module.convert(asked, setup, expectedLength(asked.length, names.length, 0));
-  const refusals = new Table(module, table, COMMA).rows(['refusal'], EVERY);
-  module.free(table, asked);
-  const unknown = names.filter((_, i) => ['2', '3', '4'].includes(refusals[i][0]));
-  unknown.sort((one, other) => counts.get(other) - counts.get(one));
-  const more = Math.max(0, unknown.length - MOST_NAMES);
-  return { names: unknown.slice(0, MOST_NAMES).map((name) => [name, counts.get(name)]), more };
-}
-
-// A date of three numbers, with the year first and dashes between; any other text as it stands.
-function dateOf(text, order) {
-  const found = order === 'day' ? /^\s*(\d{1,2})([-./])(\d{1,2})\2(-?\d+)\s*$/.exec(text)
-    : /^\s*(-?\d+)([-./])(\d{1,2})\2(\d{1,2})\s*$/.exec(text);
-  if (found === null) return text;
-  const parts = [found[1], found[3], found[4]];
-  return (order === 'day' ? parts.reverse() : parts).join('-');
-}
-
-/** The fields of the register that is made of the sheet's first `most` records under the names. */
-function registerFields({ module, text, delimiter }, { id, calendar, all, date: dates, order, names }, most) {
-  const columns = [id, calendar, dates].map((column) => Math.max(column, 0));
-  const { fields, records } = module.pick(text, delimiter, columns, most === EVERY ? EVERY : most + 1);
-  const given = new Map(names);
-  const made = ['id', 'calendar', 'date'];
-  for (let i = 1; i < records; i += 1) {
-    const [own, name, day] = fields.slice(3 * i, 3 * i + 3);
-    made.push(id < 0 ? String(i) : own, calendar < 0 ? all : given.get(name) || name, dateOf(day, order));
+// The records above the names, so many as were chosen, or kept where a column that was kept has its name below, or are
+// likely.
+function aboveOf({ module, text, delimiter, front }, { above, kept }) {
+  if (above !== null) return above;
+  if (kept && kept.above !== null) {
+    const { heading } = begins({ module, text, encoding: '', delimiter }, kept.above, 0, MOST_COLUMNS);
+    if (kept.dates.some(({ column }) => heading.includes(column))) return kept.above;
   }
-  return made;
+  return likelyAbove(front, delimiter);
 }
 
-/** The first records of the register that is made of the sheet. */
-async function preview({ picks, ...source }) {
-  const [heading, ...rows] = rowsOf(registerFields(await sheetOf(source), picks, SHOWN), 3);
-  return { heading, rows };
+/** How a sheet begins, and how it was read. */
+async function beginning(source) {
+  const read = await sheetOf(source), above = aboveOf(read, source);
+  read.counted ??= read.module.pick(read.text, read.delimiter, [], EVERY);
+  const { records, widest } = read.counted;
+  return begins(read, above, Math.max(0, records - above), widest);
 }
 
-// How many dates of a register's fields have a year of one or two digits, in a calendar where that is more often a
-// short form of a later one, and were not refused.
-function shortYears(fields, refusals) {
-  let count = 0;
-  refusals.forEach((refusal, i) => {
-    const [, calendar, text] = fields.slice(3 * (i + 1), 3 * (i + 2));
-    const isCommon = ['gregorian', 'julian'].includes(calendar.trim().toLowerCase());
-    if (refusal === '' && isCommon && /^\s*\d{1,2}-/.test(text)) count += 1;
-  });
-  return count;
+/** The choices that were kept in a file. */
+async function choices({ file }) {
+  const kept = file.size > MOST_CHOICES ? null : choicesOf(await file.text().catch(() => ''));
+  if (kept === null) throw new NoChoices();
+  return kept;
 }
 
-// The first rows of the sheet with its dates. Its further columns are shown, however many the sheet has of its own.
-function firstJoined(read, joined, width) {
-  const own = Math.min(read.widest, MOST_COLUMNS);
-  const columns = [...range(own), ...range(width).map((i) => read.widest + i)];
-  const { fields } = read.module.pick(joined, read.delimiter, columns, SHOWN + 1);
-  const [heading, ...rows] = rowsOf(fields, columns.length);
-  return { heading, rows, from: own, refusal: columns.length - 1 };
+// The list of names, with lines of the user's own before all others.
+const namesWith = (lines) => NAMES.replace('\n', () => `\n${lines}`);
+
+/**
+ * The names that are not known, each with the calendar in whose dates it stands (none for a name of a calendar), and how
+ * often; how often others stand there; how many dates are left out as their year is short, and how many stay as they are.
+ */
+async function unknownNames({ choice, names, ...source }) {
+  const { module, text } = await sheetOf(source);
+  const { ending, list, more, short, kept } = module.unknownNames(text, choice, namesWith(names), MOST_NAMES);
+  const { fields } = ending === 0 ? module.pick(list, COMMA, [0, 2, 3], EVERY) : { fields: [] };
+  if (ending === 0) module.free(list);
+  const found = rowsOf(fields, 3).slice(1).map(([name, where, count]) => ({ name, where, count: Number(count) }));
+  return { ending, names: found, more, short, kept };
 }
 
 /**
- * The sheet's register, its table, and the sheet with columns of the table behind its own. The file is read anew, and
- * what was chosen has to fit to it still: `heading` and `widest` are those of the reading that it was chosen from.
+ * The first rows of a sheet that came back, with what was put behind its own columns for each of so many columns of dates.
  */
-async function convertSheet({ picks, columns, heading, widest, ...source }) {
-  const read = await readSheet(/** @type {Source} */ (source));
-  const { module, delimiter } = read, sheetBegins = beginningOf(read);
-  if (read.widest !== widest || sheetBegins.heading.join('\n') !== heading.join('\n')) throw new OtherColumns();
-  const fields = registerFields(read, picks, EVERY);
-  const made = module.write(fields, 3, delimiter);
-  const setup = { columns: numbersOf(columns.filter((name) => TARGETS.includes(name))), delimiter, sealed: false };
-  const answer = module.convert(made, setup, expectedLength(made.length, read.records, setup.columns.length));
-  const ownRegister = await blobOf(module, made);
-  await checkUnchanged(read.file, read.bytesAt);
-  if (answer.ending !== 0) return { ...answer, sheetBegins, table: null, register: ownRegister };
-  const table = new Table(module, answer.table, delimiter), width = columns.length + 1;
-  const numbers = [...columns, 'refusal'].map((name) => table.column(name));
-  const cells = module.pick(answer.table, delimiter, numbers, EVERY).fields;
-  const joined = module.join(read.text, delimiter, read.widest, cells, width);
-  const refusals = cells.filter((_, i) => i % width === width - 1).slice(1);
-  return {
-    ...answer, sheetBegins, first: firstJoined(read, joined, width),
-    refusedRows: answer.refused ? table.refusedRows() : null, shortYears: shortYears(fields, refusals),
-    register: ownRegister, table: await blobOf(module, joined, MARK),
-  };
+function firstJoined(module, table, delimiter, above, behind) {
+  const { widest } = module.pick(table, delimiter, [], above + 1);
+  // The last name is none that the records above the names could have.
+  const names = module.pick(table, delimiter, range(widest), above + 1).fields.slice(above * widest);
+  while (names.length && names[names.length - 1] === '') names.pop();
+  const width = names.length, own = width - behind, shown = Math.min(own, MOST_COLUMNS);
+  const columns = [...range(shown), ...range(behind).map((i) => own + i)];
+  const { fields } = module.pick(table, delimiter, columns, above + 1 + SHOWN);
+  const [heading, ...rows] = rowsOf(fields, columns.length).slice(above);
+  return { heading, rows, own, from: shown };
 }
 
-const TASKS = { date, register, beginning, unknownNames, preview, convertSheet };
+// The first records of the sheet, as a text of their own.
+function frontRecords({ module, text, delimiter }, above) {
+  const { widest } = module.pick(text, delimiter, [], above + 1 + SHOWN), width = Math.max(1, Math.min(widest, MOST_CUT));
+  return module.write(module.pick(text, delimiter, range(width), above + 1 + SHOWN).fields, width, delimiter);
+}
+
+const behindOf = (dates, columns) => dates * (columns.length + 1);
+
+/** How the registers of the columns of dates begin that would be made, and the sheet that would come back. */
+async function preview({ choice, dates, columns, names, ...source }) {
+  const read = await sheetOf(source), { module, delimiter } = read, list = namesWith(names);
+  const front = frontRecords(read, source.above);
+  const registers = range(dates).map((place) => {
+    const { ending, table } = module.sheetRegister(front, choice, place, list);
+    if (ending !== 0) return { heading: [], rows: [] };
+    const [heading, ...rows] = rowsOf(module.pick(table, delimiter, range(3), EVERY).fields, 3);
+    module.free(table);
+    return { heading, rows };
+  });
+  const behind = behindOf(dates, columns), guess = expectedLength(front.length, SHOWN, behind);
+  const { ending, table } = module.convertSheet(front, choice, columnNumbers(columns), list, guess);
+  if (ending !== 0) return { ending, registers, first: null };
+  const first = firstJoined(module, table, delimiter, source.above, behind);
+  module.free(table, front);
+  return { ending, registers, first };
+}
+
+/**
+ * The dates that were refused first: the number of the record, which column of dates, the calendar where the sheet has
+ * one, the date, and the refusal.
+ */
+function refusedDates(module, table, delimiter, { above, dates, places, own }, width) {
+  for (let most = LOOKED_AT / 16; ; most *= 4) {
+    const front = { ...table, length: Math.min(table.length, most) };
+    const columns = range(dates).flatMap((k) => [places[k][0], places[k][1] ?? places[k][0], own + (k + 1) * width - 1]);
+    const rows = rowsOf(module.pick(front, delimiter, columns, EVERY).fields, columns.length).slice(above + 1);
+    // The last record may be cut.
+    if (front.length < table.length) rows.pop();
+    const found = rows.flatMap((row, i) => rowsOf(row, 3).flatMap(([date, calendar, refusal], k) =>
+      (refusal === '' ? [] : [{ number: i + 1, place: k, calendar, date, refusal: Number(refusal) }])));
+    if (found.length || front.length === table.length || most >= LOOKED_AT) return found.slice(0, REFUSED_SHOWN);
+  }
+}
+
+// Whether the sheet has other names of columns than these.
+function hasOtherColumns({ module, text, delimiter }, above, heading) {
+  const width = heading.length < MOST_COLUMNS ? heading.length + 1 : MOST_COLUMNS;
+  const now = module.pick(text, delimiter, range(width), above + 1).fields.slice(above * width);
+  return range(width).some((i) => (now[i] || '') !== (heading[i] || ''));
+}
+
+/**
+ * The sheet with columns of the tables of its dates behind its own. The file is read anew, and what was chosen has to fit
+ * to it still: `heading` is that of the reading that it was chosen from, and `records` so many it had. `places` has the
+ * column of each date and that of its calendar, or null.
+ */
+async function convertSheet({ choice, places, columns, names, heading, records, ...source }) {
+  const read = await readSheet(/** @type {Source} */ (source)), { module, text, delimiter } = read, { above } = source;
+  if (hasOtherColumns(read, above, heading)) throw new OtherColumns();
+  const dates = places.length, behind = behindOf(dates, columns), guess = expectedLength(text.length, records, behind);
+  const { ending, rows, refused, table } =
+    module.convertSheet(text, choice, columnNumbers(columns), namesWith(names), guess);
+  await checkUnchanged(read.file, read.bytesAt);
+  const whole = { ending, rows, refused: refused.slice(0, dates), first: null, refusedDates: [], table: null };
+  if (ending !== 0) return whole;
+  const first = firstJoined(module, table, delimiter, above, behind), { own } = first;
+  const found = refused.some(Boolean) ?
+    refusedDates(module, table, delimiter, { above, dates, places, own }, columns.length + 1) : [];
+  const blob = await blobOf(module, table, MARK);
+  module.free(table);
+  return { ...whole, first, refusedDates: found, table: blob, sheetBegins: begins(read, above, rows + 1, own) };
+}
+
+/** The register of one column of dates of the sheet that was converted last. */
+async function sheetRegister({ choice, place, names, ...source }) {
+  const { module, text } = await sheetOf(source);
+  const { ending, table } = module.sheetRegister(text, choice, place, namesWith(names));
+  if (ending !== 0) return { ending, register: null };
+  const made = await blobOf(module, table);
+  module.free(table);
+  return { ending, register: made };
+}
+
+const TASKS = { date, register, choices, beginning, unknownNames, preview, convertSheet, sheetRegister };
 
 function faultOf(fault) {
   if (fault instanceof OtherKind) return fault.message;
@@ -236,6 +333,7 @@ function faultOf(fault) {
   if (fault instanceof ChangedFile) return 'changedFile';
   if (fault instanceof NotEncoded) return 'notEncoded';
   if (fault instanceof OtherColumns) return 'otherColumns';
+  if (fault instanceof NoChoices) return 'noChoices';
   return fault instanceof NoMemory || fault instanceof RangeError ? 'noMemory' : 'fault';
 }
 

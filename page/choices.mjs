@@ -1,0 +1,142 @@
+// What is chosen of a sheet: as the module takes it, and as a file that is kept for the next sheet.
+
+import { BESIDE, CALENDARS } from './calendars.mjs';
+
+export const MOST_DATES = 8;
+// It stands for no column.
+const NONE = 2 ** 32 - 1;
+const ORDERS = ['year', 'day', 'month'];
+const DELIMITERS = [['comma', 44], ['semicolon', 59], ['tab', 9]];
+// What the file of choices begins with.
+const KIND = 'choices of a sheet';
+
+/**
+ * Columns are places, from 0. `date` is '' where none is chosen yet, and `calendar` too, which is a column or the name of
+ * one calendar for all. An `id` of '-1' is the number of the record. Short years are `refuse`, `keep`, or what is added.
+ * A name says what it means: a calendar, `month 1` to `month 13`, `number N`, `K`, `N`, `I` or `nothing`; `where` is the
+ * calendar in whose dates it stands, or '' for a name of a calendar.
+ * @typedef {{ date: string, calendar: string }} DateColumn
+ * @typedef {{ name: string, where: string, means: string }} Name
+ * @typedef {{ id: string, dates: DateColumn[], order: string, short: string, hebrew: string, charters: boolean,
+ *   names: Name[] }} Picks
+ */
+
+/** @returns {Picks} */
+export const noPicks = () => ({
+  id: '-1', dates: [{ date: '', calendar: '' }], order: 'year', short: 'refuse', hebrew: 'refuse', charters: false,
+  names: [],
+});
+
+export const isColumn = (calendar) => /^\d+$/.test(calendar);
+
+// ---- For the module ----
+
+const yearRule = (rule) => ({ refuse: 0, keep: 1 })[rule] ?? Number(rule);
+
+/** The choice as the module takes it. */
+export function numbersOf({ delimiter, above }, { id, dates, order, short, hebrew, charters }) {
+  const triples = dates.flatMap(({ date, calendar }) => (isColumn(calendar) ? [Number(date), Number(calendar), 0]
+    : [Number(date), NONE, CALENDARS.indexOf(calendar)]));
+  return [delimiter, above, Number(id) < 0 ? NONE : Number(id), ORDERS.indexOf(order), yearRule(short), yearRule(hebrew),
+    charters ? 1 : 0, ...triples];
+}
+
+/** Columns that are put behind a sheet, as the module numbers them. */
+export const columnNumbers = (columns) => columns.map((name) => BESIDE.indexOf(name));
+
+const quoted = (field) => `"${field.replace(/"/g, '""')}"`;
+const inList = (means) => (means === 'nothing' ? '' : means.replace(/^number /, ''));
+
+/** Lines of a list of names. A number that is not typed yet makes none. */
+export function namesText(names) {
+  return names.filter(({ means }) => means !== 'number')
+    .map(({ name, where, means }) => `${quoted(name)},${inList(means)},${where}\n`).join('');
+}
+
+// ---- As a file ----
+
+// A column by its name, and which of that name it is, from 1, where others have it too.
+function columnCalled(heading, column) {
+  const place = Number(column), name = heading[place];
+  const number = heading.slice(0, place + 1).filter((it) => it === name).length;
+  return { column: name, ...(number > 1 ? { number } : {}) };
+}
+
+function calendarCalled(heading, calendar) {
+  if (calendar === '') return {};
+  return { calendar: isColumn(calendar) ? columnCalled(heading, calendar) : calendar };
+}
+
+/** The choices as a text that can be read and kept. */
+export function choicesText({ encoding, delimiter, above }, heading, picks, columns) {
+  const { id, dates, order, short, hebrew, charters, names } = picks;
+  return `${JSON.stringify({
+    what: KIND, encoding, delimiter: DELIMITERS.find(([, byte]) => byte === delimiter)[0], 'records above the names': above,
+    dates: dates.filter(({ date }) => date !== '').map(({ date, calendar }) =>
+      ({ ...columnCalled(heading, date), ...calendarCalled(heading, calendar) })),
+    id: Number(id) < 0 ? 'number of the record' : columnCalled(heading, id),
+    order, 'short years': short, 'short Hebrew years': hebrew, 'charter years': charters, columns,
+    names: names.map(({ name, where, means }) => ({ name, means, in: where })),
+  }, null, 2)}\n`;
+}
+
+const isText = (it) => typeof it === 'string';
+const isColumnCalled = (it) => Boolean(it) && isText(it.column);
+const isWhere = (it) => it === '' || CALENDARS.includes(it);
+const isMeaning = (it) => CALENDARS.includes(it) || /^(nothing|[KNI]|month ([1-9]|1[0-3])|number \d{0,9})$/.test(it);
+const isRule = (it) => /^(refuse|keep|[1-9]\d{2,3})$/.test(it);
+
+/** The choices that a text has, or null where it has none. What is no choice in it is left out. */
+export function choicesOf(text) {
+  let kept;
+  try {
+    kept = JSON.parse(text);
+  } catch {
+    return null;
+  }
+  if (!kept || kept.what !== KIND) return null;
+  const listOf = (it) => (Array.isArray(it) ? it : []);
+  const either = (it, isOne, other) => (isOne(it) ? it : other), own = noPicks();
+  const [, delimiter] = DELIMITERS.find(([name]) => name === kept.delimiter) || [null, null];
+  return {
+    encoding: either(kept.encoding, isText, null), delimiter,
+    above: either(kept['records above the names'], (it) => Number.isInteger(it) && it >= 0, null),
+    dates: listOf(kept.dates).filter(isColumnCalled).slice(0, MOST_DATES),
+    id: either(kept.id, isColumnCalled, null),
+    order: either(kept.order, (it) => ORDERS.includes(it), own.order),
+    short: either(kept['short years'], isRule, own.short),
+    hebrew: either(kept['short Hebrew years'], isRule, own.hebrew),
+    charters: kept['charter years'] === true,
+    columns: listOf(kept.columns).filter((it, i, all) => BESIDE.includes(it) && all.indexOf(it) === i),
+    names: listOf(kept.names).filter((it) => Boolean(it) && isText(it.name) && isWhere(it.in) && isMeaning(it.means))
+      .map(({ name, means, in: where }) => ({ name, where, means })),
+  };
+}
+
+// The place of a column by its name, or null.
+function placeOf(heading, { column, number = 1 }) {
+  const places = heading.flatMap((name, i) => (name === column ? [i] : []));
+  return places.length < number ? null : String(places[number - 1]);
+}
+
+/**
+ * Kept choices for a sheet with this heading, and the names of the columns that it does not have. Where it has none of
+ * the columns with dates, those that are proposed stand there.
+ * @param {Picks} proposed
+ * @returns {{ picks: Picks, absent: string[] }}
+ */
+export function fitted(kept, heading, proposed) {
+  const absent = [];
+  const fit = (it) => {
+    const place = placeOf(heading, it);
+    if (place === null && !absent.includes(it.column)) absent.push(it.column);
+    return place;
+  };
+  const dates = kept.dates.flatMap((it) => {
+    const date = fit(it), calendar = isColumnCalled(it.calendar) ? fit(it.calendar) || '' : it.calendar;
+    return date === null ? [] : [{ date, calendar: isColumn(calendar) || CALENDARS.includes(calendar) ? calendar : '' }];
+  });
+  const id = kept.id === null ? '-1' : fit(kept.id) || '-1';
+  const { order, short, hebrew, charters, names } = kept;
+  return { picks: { id, dates: dates.length ? dates : proposed.dates, order, short, hebrew, charters, names }, absent };
+}

@@ -1,0 +1,387 @@
+"""The trials of sheets, a part of page/try-page."""
+import os, re, time
+
+import church
+from browsers import wait_for
+
+HERE = os.path.dirname(os.path.abspath(__file__))
+ROOT = os.path.dirname(HERE)
+# What stands before a table that is saved, so that spreadsheets read it as UTF-8.
+MARK = b"\xef\xbb\xbf"
+
+
+class SheetTrials:
+    """What a trial does with sheets."""
+
+    def dropped_sheet(self):
+        return self.page.run(
+            "const it = document.querySelector('#sheet-file'), rows = document.querySelector('#sheet-rows table');"
+            "return [it.files.length ? it.files[0].name : null, Boolean(rows)]"
+        )
+
+    def choose_sheet(self, *files):
+        """Chooses files in the field of the sheet, with nothing else."""
+        self.page.run("document.querySelector('#sheet-box').open = true; document.querySelector('#sheet-file').value = ''")
+        self.page.keys("#sheet-file", "\n".join(files))
+
+    def wait_for_sheet(self):
+        wait_for("the sheet", lambda: "under the names" in self.text("#sheet-said"))
+
+    def wait_for_counts(self):
+        wait_for("what is not read",
+            lambda: self.text("#sheet-register") and "looked through" not in self.text("#sheet-counts"))
+
+    def sheet(self, file, encoding, delimiter, id, calendar, date, order="year", names=()):
+        self.choose_sheet(file)
+        self.choose("#sheet-encoding", encoding)
+        self.page.run(
+            "const it = document.querySelector(`input[name=sheet-delimiter][value='${arguments[0]}']`);"
+            "it.checked = true; it.dispatchEvent(new Event('change'))",
+            delimiter,
+        )
+        self.wait_for_sheet()
+        for which, value in (("id", id), ("date-0", date), ("calendar-0", calendar)):
+            self.choose(f"#sheet-{which}", str(value))
+        self.page.run(
+            "const it = document.querySelector(`input[name=sheet-order][value=${arguments[0]}]`);"
+            "it.checked = true; it.dispatchEvent(new Event('change'))",
+            order,
+        )
+        for name, value in names:
+            self.name(name, value)
+        wait_for("the register", lambda: self.text("#sheet-register"))
+
+    def name(self, name, value):
+        """Gives a name, or a word, its meaning."""
+        which = f'select[data-name="{name}"]'
+        wait_for(f"the name {name}", lambda: self.text(which) is not None)
+        self.choose(which, value)
+
+    def convert_sheet(self):
+        self.click("#sheet-start")
+        wait_for(
+            "the sheet's conversion", lambda: self.page.run("return document.querySelector('#sheet-stop').disabled")
+        )
+        return self.text("#sheet-results")
+
+    def save_with_register(self, place=0):
+        """Makes the register of a column of dates, and saves all that there is."""
+        self.click(f"#make-{place}")
+        wait_for("the register", lambda: self.page.run("return document.querySelector(`#make-${arguments[0]}`).href",
+            place))
+        links = self.page.run("return document.querySelectorAll('#sheet-results a.save').length")
+        return self.save("#sheet-results", links)
+
+    def try_sheets(self):
+        self.sheet(f"{ROOT}/page/book.csv", "utf-8", 59, 0, 2, 3, names=[("Swedish", "gregorian")])
+        wait_for("the register with the name", lambda: "KB-4\tgregorian\t1712-02-30" in self.text("#sheet-register"))
+        back = self.text("#sheet-register").split("The sheet as it comes back")[1]
+        self.check("how the sheet will come back",
+            re.compile("KB-1\tShaw, Anna\tJulian\t1699-11-30\tBristol\tThursday\t1699-12-10"), back)
+        said = self.convert_sheet()
+        self.shot("sheet")
+        self.check("a sheet is converted", re.compile("4 rows, 2 refused"), said)
+        wanted = "Record\tCalendar\tDate\trefused because\n3\tGregorian\t1700-02-29\t6: the calendar has no such date"
+        self.check("the refused dates", re.compile(f"The 2 refused dates\n{wanted}"), said)
+        href = "return document.querySelector('#sheet-results a.save').href"
+        before = self.page.run(href)
+        self.page.run(
+            "const it = document.querySelector('#sheet-results a.save');"
+            "it.addEventListener('click', (event) => event.preventDefault(), { once: true }); it.click()"
+        )
+        self.check("a sheet's table stays when it is saved", before, self.page.run(href))
+        files = self.save_with_register()
+        wanted = (
+            "\ufeffSignature;Name;Calendar;Date;Place;weekday;gregorian;refusal\n"
+            "KB-1;Shaw, Anna;Julian;1699-11-30;Bristol;Thursday;1699-12-10;\n"
+            "KB-2;Shaw, Peter;Julian;1700-02-29;Bristol;Thursday;1700-03-11;\n"
+            "KB-3;Vogel, Karin;Gregorian;1700-02-29;Lübeck;;;6\n"
+            "KB-4;Lund, Nils;Swedish;1712-02-30;Stockholm;;;6\n"
+        )
+        self.check("the sheet with its dates", wanted, files.get("book.dates.csv", b"").decode())
+        wanted = (
+            "id;calendar;date\nKB-1;julian;1699-11-30\nKB-2;julian;1700-02-29\n"
+            "KB-3;gregorian;1700-02-29\nKB-4;gregorian;1712-02-30\n"
+        )
+        self.check("the register of the sheet", wanted, files.get("book.register.csv", b"").decode())
+        text = 'Nr\tName\tDatum\n1\tMüller, "Hans"\t4.10.1582\n2\t"zwei\nZeilen"\t30/11/1699\n3\n'
+        self.sheet(
+            self.file("german.txt", text.encode("windows-1252")), "windows-1252", 9, -1, "julian", 2, order="day"
+        )
+        self.check("one calendar for all", re.compile("3 rows, 1 refused"), self.convert_sheet())
+        wanted = (
+            "\ufeffNr\tName\tDatum\tweekday\tgregorian\trefusal\n"
+            '1\t"Müller, ""Hans"""\t4.10.1582\tThursday\t1582-10-14\t\n'
+            '2\t"zwei\nZeilen"\t30/11/1699\tThursday\t1699-12-10\t\n3\t\t\t\t\t5\n'
+        )
+        saved = self.save("#sheet-results", 1).get("german.dates.csv", b"").decode()
+        self.check("a sheet of Windows-1252", wanted, saved)
+        self.sheet(self.file("short.csv", "d\n82-1-1\n1882-1-1\n"), "utf-8", 44, -1, "julian", 0)
+        self.wait_for_counts()
+        self.check("years of two digits", "1 date has a short year, and is left out.", self.text("#sheet-counts"))
+        self.check("they are refused", re.compile("2 rows, 1 refused"), self.convert_sheet())
+        self.choose("#sheet-short", "1800")
+        self.check("a sheet's table goes with another choice", "", self.text("#sheet-results"))
+        self.wait_for_counts()
+        self.check("a century that is added", re.compile("1\tjulian\t1882-1-1"), self.text("#sheet-register"))
+        self.check("they are converted", re.compile("2 rows, none refused"), self.convert_sheet())
+        wide = [f"c{i}" for i in range(250)], ["1700-1-1"] + ["5"] * 249
+        self.sheet(self.file("wide.csv", "\n".join(map(",".join, wide))), "utf-8", 44, -1, "julian", 0)
+        said = self.convert_sheet()
+        self.check("a sheet of 250 columns", re.compile(r"1 row, none refused[\s\S]*weekday\tgregorian\trefusal"),
+            said)
+        self.check("its row is not refused", re.compile(r"5\tMonday\t1700-01-11"), said)
+        self.choose_sheet(self.file("wide.csv", "\n".join(map(",".join, wide))))
+        wait_for("columns that cannot be chosen", lambda: "Only the first 200 columns" in self.text("#sheet-said"))
+        self.choose_sheet(self.file("empty.csv", ""))
+        wait_for("an empty sheet", lambda: "it is empty" in self.text("#sheet-said"))
+        self.choose_sheet(self.file("cell.csv", "Date,Calendar\n,julian\n1700-1-1,\n1700-1-1,julian\n"))
+        self.wait_for_sheet()
+        self.wait_for_counts()
+        self.check("empty cells", re.compile("3 rows, 2 refused"), self.convert_sheet())
+        self.choose_sheet(self.file("wrong.csv", "Id\nMüller\n".encode("windows-1252")))
+        self.choose("#sheet-encoding", "utf-8")
+        wait_for("the wrong encoding", lambda: "choose another encoding" in self.text("#sheet-said"))
+        is_hidden = self.page.run("return document.querySelector('#sheet-choices').hidden")
+        self.check("no choices of a sheet that cannot be read", True, is_hidden)
+
+    def try_church(self):
+        """A church book in UTF-16 with title lines, and an estate, as their owners wrote them; each date has its day."""
+        self.page.go(self.address)
+        with open(f"{ROOT}/examples/church.csv", encoding="utf-8") as it:
+            text = it.read()
+        with open(f"{HERE}/church.days", encoding="utf-8") as it:
+            days = it.read().split("\n")[:-1]
+        self.check("the church book is that of page/church.py", [*church.sheet()], text.split("\n")[:-1])
+        self.check("and so are its days", [*church.days()], days)
+        self.choose_sheet(self.file("church.txt", b"\xff\xfe" + text.replace("\n", "\r\n").encode("utf-16-le")))
+        self.wait_for_sheet()
+        looks = "Looks like tabs, UTF-16 (“Unicode text”), 2 lines above the names."
+        self.check("what a church book looks like", re.compile(re.escape(looks)), self.text("#sheet-chosen"))
+        self.check("its titles", re.compile("^Above the names: Kirchenbuch-Auszüge"), self.text("#sheet-titles"))
+        self.label_of("sheet-order", "day")
+        for name, value in (("Rosenmonat", "month 6"), ("früh", "nothing"), ("alter Kal.", "julian")):
+            self.name(name, value)
+        self.name("zwölften", "number")
+        self.page.keys("input[data-name=zwölften]", "12")
+        self.page.press("\ue004")
+        self.wait_for_counts()
+        self.check("60 dates are converted", re.compile("60 rows, 5 refused"), self.convert_sheet())
+        self.shot("church")
+        lines = self.save("#sheet-results", 1)["church.dates.csv"].decode("utf-8-sig").split("\n")
+        self.check("its title lines stay", text.split("\n")[:2], lines[:2])
+        came = ["\t".join(line.split("\t")[6:8]).strip() for line in lines[3:-1]]
+        wrong = [(line, day) for line, one, day in zip(lines[3:], came, days) if one != day]
+        self.check("each date of the church book has its day", (60, []), (len(came), wrong))
+        self.choose_sheet(f"{ROOT}/examples/estate.csv")
+        self.wait_for_sheet()
+        self.label_of("sheet-order", "day")
+        self.wait_for_counts()
+        self.check("an estate", re.compile("40 rows, 5 refused"), self.convert_sheet())
+        rows = self.save("#sheet-results", 1)["estate.dates.csv"].decode("utf-8-sig").split("\n")
+        found = {row.split(";")[0]: ";".join(row.split(";")[5:]) for row in rows[1:-1]}
+        for id, day in (
+            ("N-01", "Monday;1782-10-14;"),
+            ("N-15", "Sunday;1745-03-28;"),
+            ("N-16", "Monday;1798-03-05;"),
+            ("N-21", "Monday;1746-09-19;"),
+            ("N-31", "Tuesday;1582-11-09;"),
+            ("N-36", ";;4"),
+            ("N-39", ";;5"),
+        ):
+            self.check(f"{id} of the estate", day, found[id])
+
+    def label_of(self, name, value):
+        """Chooses a value among those of a name, as a click does."""
+        self.click(f"input[name={name}][value={value}]")
+
+    def try_two_dates(self):
+        """Columns of dates are added and removed by keys, and each has its own calendars."""
+        self.page.go(self.address)
+        lines = "Born,Style,Died,Kalender\n1700-2-29,julian,1701-3-1,gregorian\n1700-2-29,gregorian,1701-3-1,hijri\n"
+        self.choose_sheet(self.file("two.csv", lines))
+        self.wait_for_sheet()
+        picks = (
+            "return [...document.querySelectorAll('#sheet-dates select')].map((it) => it.value)"
+        )
+        self.check("what is proposed", ["0", "1", "2", "3"], self.page.run(picks))
+        self.choose("#sheet-calendar-1", "gregorian")
+        self.page.run("document.querySelector('#sheet-add').focus()")
+        self.page.press("\ue007")
+        focused = "return document.activeElement.id"
+        self.check("a column more, with the calendar of the last", ["0", "1", "2", "gregorian", "", "gregorian"],
+            self.page.run(picks))
+        self.check("the keys are in it", "sheet-date-2", self.page.run(focused))
+        self.click("#sheet-start")
+        self.check("it has to be chosen", "Choose a column with dates, and its calendar.", self.text("#sheet-said"))
+        self.check("and the keys are there", "sheet-date-2", self.page.run(focused))
+        self.page.run("document.querySelector('[data-remove=\"2\"]').focus()")
+        self.page.press("\ue007")
+        self.check("a column less", (["0", "1", "2", "gregorian"], "sheet-add"), (self.page.run(picks),
+            self.page.run(focused)))
+        self.choose("#sheet-calendar-1", "3")
+        self.wait_for_counts()
+        register = self.text("#sheet-register").split("The register that is made of Died")[1]
+        self.check("the second has its calendars", re.compile("1\tgregorian\t1701-3-1\n2\tislamic\t1701-3-1"),
+            register)
+        self.choose("#sheet-calendar-1", "julian")
+        self.wait_for_counts()
+        said = self.convert_sheet()
+        self.check("refused of each", re.compile("2 rows. Born: 1 refused, Died: none refused."), said)
+        self.check("the reason by its column", re.compile("Born 6: the calendar has no such date"), said)
+        saved = self.save_with_register(1)
+        wanted = (
+            "\ufeffBorn,Style,Died,Kalender,Born weekday,Born gregorian,Born refusal,Died weekday,Died gregorian,Died refusal\n"
+            "1700-2-29,julian,1701-3-1,gregorian,Thursday,1700-03-11,,Saturday,1701-03-12,\n"
+            "1700-2-29,gregorian,1701-3-1,hijri,,,6,Saturday,1701-03-12,\n"
+        )
+        self.check("the sheet with both", wanted, saved.get("two.dates.csv", b"").decode())
+        wanted = "id,calendar,date\n1,julian,1701-3-1\n2,julian,1701-3-1\n"
+        self.check("the register of the second", wanted, saved.get("two.2.register.csv", b"").decode())
+        self.page.run("for (let i = 0; i < 9; i += 1) document.querySelector('#sheet-add').click()")
+        shown = "return [document.querySelectorAll('[data-remove]').length, document.querySelector('#sheet-add').disabled]"
+        self.check("eight at most", [8, True], self.page.run(shown))
+
+    def try_names(self):
+        """Names and words that are not known are shown with what they can mean, and stay where they are."""
+        self.page.go(self.address)
+        rows = ["Xyz,1.1.1700", "julian,früh 2. Mai 1700", "roman,Kalx. Mart. 1500", "julian,2.1.1700",
+            "Xyz,3.1.1700"]
+        self.choose_sheet(self.file("names.csv", "\n".join(["Kalender,Datum", *rows])))
+        self.wait_for_sheet()
+        self.label_of("sheet-order", "day")
+        self.wait_for_counts()
+        self.check("a calendar that is not known", re.compile("^Xyz, in 2 dates"), self.text("#sheet-names"))
+        self.check("words that are not known",
+            re.compile(r"früh, in 1 date \(Julian\)[\s\S]*Kalx, in 1 date \(Roman\)"), self.text("#sheet-words"))
+        self.check("what is not read", re.compile("2 dates cannot be read, and stay as they are written"),
+            self.text("#sheet-counts"))
+        options = "return [...document.querySelector(`select[data-name=${arguments[0]}]`).options].map((it) => it.textContent)"
+        found = self.page.run(options, "früh")
+        self.check("what a word can mean", ["leave it", "nothing: pass it over", "month 1, January", 16],
+            [*found[:3], len(found)])
+        self.check("and a Roman one", ["a number", "Kalends", "Nones", "Ides"], self.page.run(options, "Kalx")[-4:])
+        self.page.run("document.querySelector('select[data-name=früh]').focus()")
+        self.name("früh", "number")
+        focused = "return [document.activeElement.localName, document.activeElement.dataset.name]"
+        self.check("a number is typed beside it", ["input", "früh"], self.page.run(focused))
+        self.name("früh", "nothing")
+        self.name("Kalx", "K")
+        self.name("Xyz", "julian")
+        self.wait_for_counts()
+        self.check("all is read", "All dates can be read.", self.text("#sheet-counts"))
+        chosen = "return [...document.querySelectorAll('.names select')].map((it) => [it.dataset.name, it.value])"
+        self.check("names stay shown", [["Xyz", "julian"], ["früh", "nothing"], ["Kalx", "K"]], self.page.run(chosen))
+        self.check("and are converted", re.compile("5 rows, none refused"), self.convert_sheet())
+        self.name("Xyz", "")
+        self.wait_for_counts()
+        self.check("a name that is left again", re.compile("^Xyz, in 2 dates"), self.text("#sheet-names"))
+        many = "\n".join(f"c{i:03},1700-1-1" for i in range(250))
+        self.choose_sheet(self.file("many.csv", f"Kalender,Datum\n{many}"))
+        self.wait_for_sheet()
+        self.wait_for_counts()
+        self.check("more names than are shown", "Others, in 50 dates, are not shown: are these the right columns?",
+            self.text("#sheet-more"))
+
+    def try_kept_choices(self):
+        """Choices that were saved are filled in for the next sheet."""
+        self.page.go(self.address)
+        self.choose_sheet(self.file("one.csv", "Book 1\nNr;Datum;Stil\n1;früh 2.5.06;Xyz\n"))
+        self.wait_for_sheet()
+        self.label_of("sheet-order", "day")
+        self.choose("#sheet-short", "1700")
+        for name, value in (("Xyz", "julian"), ("früh", "nothing")):
+            self.name(name, value)
+        self.click("#sheet-columns [value=hebrew]")
+        self.wait_for_counts()
+        self.check("the first sheet", re.compile("1\tjulian\t1706-5-2"), self.text("#sheet-register"))
+        self.click("#sheet-keep")
+        [(name, kept)] = self.saved_files(1).items()
+        self.check("the name of the choices", "one.choices.json", name)
+        self.page.go(self.address)
+        self.choose_sheet(self.file(name, kept), self.file("next.csv",
+            "Book 2\nStil;Ort;Datum\nXyz;Bonn;früh 3.5.07\n"))
+        self.wait_for_sheet()
+        self.wait_for_counts()
+        self.check("they are filled in",
+            "The choices of one.choices.json are filled in, but for what does not fit: the column “Nr”.",
+            self.text("#sheet-fit"))
+        self.check("the next sheet", re.compile("1\tjulian\t1707-5-3"), self.text("#sheet-register"))
+        self.check("its columns", re.compile("weekday\tgregorian\thebrew\trefusal"), self.text("#sheet-register"))
+        self.choose_sheet(self.file("none.json", "{}"))
+        wait_for("choices that are none", lambda: "is none that this page saved" in self.text("#sheet-said"))
+        self.check("the sheet stays", re.compile("^next.csv"), self.text("#sheet-chosen"))
+        self.page.go(self.address)
+
+    def try_proposals(self):
+        """What a sheet looks like is chosen and said; a choice of one's own stays."""
+        self.page.go(self.address)
+        self.page.run("document.querySelector('#sheet-box').open = true")
+        chosen = (
+            "return [document.querySelector('#sheet-encoding').value,"
+            "document.querySelector('input[name=sheet-delimiter]:checked').value]"
+        )
+        self.page.keys("#sheet-file", self.file("a.txt", "Nr;Müller\n1;2\n".encode("windows-1252")))
+        wait_for("the sheet", lambda: "1 record of 2 columns" in self.text("#sheet-said"))
+        self.check("what is proposed", ["windows-1252", "59"], self.page.run(chosen))
+        wanted = "a.txt, 14 bytes. Looks like semicolons, Western Europe (Windows-1252)."
+        self.check("what is said of it", wanted, self.text("#sheet-chosen"))
+        self.check("how it is read", re.compile("Nr\tMüller\n1\t2"), self.text("#sheet-rows"))
+        self.choose("#sheet-encoding", "windows-1250")
+        self.label("sheet-delimiter", "a tab")
+        wait_for("another delimiter", lambda: "1 record of 1 column " in self.text("#sheet-said"))
+        self.check("a choice of one's own", ["windows-1250", "9"], self.page.run(chosen))
+        self.check("nothing is said of it", "a.txt, 14 bytes.", self.text("#sheet-chosen"))
+        self.page.run("document.querySelector('#sheet-file').value = ''")
+        self.page.keys("#sheet-file", f"{ROOT}/page/book.csv")
+        wait_for("the next sheet", lambda: "4 records of 5 columns" in self.text("#sheet-said"))
+        self.check("what is proposed for the next", ["utf-8", "59"], self.page.run(chosen))
+        self.page.go(self.address)
+
+    def paste(self, text):
+        """Pastes by keys what was copied by keys."""
+        self.page.run(
+            "const it = document.body.appendChild(document.createElement('textarea')); it.id = 'copied';"
+            "it.value = arguments[0]; it.focus(); it.select()",
+            text,
+        )
+        self.page.press("\ue009", "c")
+        self.page.run("document.querySelector('#copied').remove(); document.querySelector('#sheet-paste').focus()")
+        self.page.press("\ue009", "v")
+
+    def try_paste(self):
+        """Cells of a spreadsheet are the sheet from when they are pasted."""
+        self.page.go(self.address)
+        self.sheet(f"{ROOT}/page/book.csv", "utf-8", 59, 0, 2, 3)
+        self.paste("Nr\tDatum\n1\t30.11.1699\n")
+        wait_for("the pasted cells", lambda: "1 record of 2 columns" in self.text("#sheet-said"))
+        self.check("what was pasted is chosen", "pasted.csv, 22 bytes.", self.text("#sheet-chosen"))
+        shown = self.page.run(
+            "const of = (id) => document.querySelector(`#sheet-${id}`);"
+            "return [of('paste').value, of('file').files.length, of('encoding').value,"
+            "document.querySelector('input[name=sheet-delimiter]:checked').value]"
+        )
+        self.check("the fields beside it", ["", 0, "utf-8", "9"], shown)
+        self.page.press("x")
+        self.page.press("\ue004")
+        wait_for("what is typed, when the field is left", lambda: self.text("#sheet-chosen") == "pasted.csv, 1 byte.")
+        self.page.run(
+            "const value = new DataTransfer(); value.setData('text/plain', arguments[0]);"
+            "const event = Object.defineProperty(new Event('paste', { cancelable: true }), 'clipboardData', { value });"
+            "document.querySelector('#sheet-paste').dispatchEvent(event)",
+            'Nr\tName\tDatum\r\n1\t"zwei\r\nZeilen"\t1699-11-30\r\n2\t"Müller, ""Hans"""\t1582-10-4\r\n',
+        )
+        wait_for("cells that are pasted again", lambda: "2 records of 3 columns" in self.text("#sheet-said"))
+        for which, value in (("id", -1), ("date-0", 2), ("calendar-0", "julian")):
+            self.choose(f"#sheet-{which}", str(value))
+        self.check("pasted cells are converted", re.compile("2 rows, none refused"), self.convert_sheet())
+        wanted = (
+            "\ufeffNr\tName\tDatum\tweekday\tgregorian\trefusal\n"
+            '1\t"zwei\r\nZeilen"\t1699-11-30\tThursday\t1699-12-10\t\n'
+            '2\t"Müller, ""Hans"""\t1582-10-4\tThursday\t1582-10-14\t\n'
+        )
+        saved = self.save("#sheet-results", 1).get("pasted.dates.csv", b"").decode()
+        self.check("nothing is lost of pasted cells", wanted, saved)
+        self.page.keys("#sheet-file", f"{ROOT}/page/book.csv")
+        wait_for("a file behind pasted cells", lambda: "book.csv" in self.text("#sheet-chosen"))
+        self.page.go(self.address)

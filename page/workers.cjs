@@ -1,0 +1,95 @@
+// What the trials of the state and of sheets share: workers as a browser has them, the page without a document, files, and
+// choices of a sheet as the module takes them.
+'use strict';
+const fs = require('fs'), path = require('path'), zlib = require('zlib');
+require('./read-files.cjs');
+const COMMA = 44, SEMICOLON = 59;
+// It stands for no column.
+const NONE = 2 ** 32 - 1;
+const load = (name) => import(path.join(__dirname, name));
+let compiled, calendars, instances = 0;
+
+/** Takes the module of the built page of this name. */
+async function useModule(built) {
+  const packed = /REGISTER_WASM = '([^']*)'/.exec(fs.readFileSync(built, 'utf8'))[1];
+  compiled = new WebAssembly.Module(zlib.gunzipSync(Buffer.from(packed, 'base64')));
+  calendars = (await load('calendars.mjs')).CALENDARS;
+  return compiled;
+}
+
+// A worker as a browser has it: with a memory of its own, and deaf once it was ended. `all` has those that were started.
+async function workerMaker() {
+  const all = [];
+  const bodies = await Promise.all([...Array(48)].map(() => load(`worker.mjs?${instances += 1}`)));
+  const newWorker = () => {
+    const worker = { isEnded: false, asked: [], onmessage: null, onerror: null };
+    const port = { postMessage: (data) => setTimeout(() => worker.isEnded || worker.onmessage({ data })) };
+    bodies[all.length].serve(port);
+    worker.postMessage = (data) => {
+      worker.asked.push(data.task);
+      setTimeout(() => worker.isEnded || port.onmessage({ data }));
+    };
+    worker.terminate = () => { worker.isEnded = true; };
+    all.push(worker);
+    return worker;
+  };
+  return { all, newWorker };
+}
+
+// Asks a worker's tasks one by one.
+async function asker() {
+  const { serve } = await load(`worker.mjs?${instances += 1}`);
+  let take;
+  const port = { postMessage: (reply) => take(reply) };
+  serve(port);
+  return (task, words) => new Promise((took) => {
+    take = took;
+    port.onmessage({ data: { number: 1, task, words: { compiled, ...words } } });
+  });
+}
+
+const file = (text, name = 'a.csv') => new File([text], name);
+
+// A file that says so many bytes, and has these texts at the first time it is read, at the second, and so on.
+function changing(size, ...texts) {
+  let times = 0;
+  return { name: 'changing.csv', size, stream: () => new Blob([texts[Math.min(times++, texts.length - 1)]]).stream() };
+}
+
+const broken = () => new ReadableStream({ pull: (it) => it.error(new Error('no')) });
+const unreadable = { name: 'folder', size: 10, stream: broken };
+
+// A choice of a sheet. Each column of dates is its place, the place of its calendars, and a calendar for all; without the
+// second all have the third.
+function choiceOf(dates, choices = {}) {
+  const { delimiter, above, id, order, short, hebrew, charters } = {
+    delimiter: COMMA, above: 0, id: NONE, order: 'year', short: 0, hebrew: 0, charters: 0, ...choices,
+  };
+  const triples = dates.flatMap(([date, column, all]) => [date, column ?? NONE, all ? calendars.indexOf(all) : 0]);
+  return [delimiter, above, id, ['year', 'day', 'month'].indexOf(order), short, hebrew, charters, ...triples];
+}
+
+// What a sheet is read from.
+const source = (it, more = {}) =>
+  ({ number: 1, file: it, encoding: 'utf-8', delimiter: COMMA, above: 0, kept: null, ...more });
+
+// The lines of a text that was saved, without its mark.
+const linesOf = async (blob) => (await blob.text()).replace(/^\ufeff/, '').split('\n').slice(0, -1);
+
+// The page without a document.
+async function page(processors = 4) {
+  const { Page } = await load('state.mjs'), { all, newWorker } = await workerMaker();
+  const it = new Page({ newWorker, compiled: Promise.resolve(compiled), processors, now: () => 0, draw() {} });
+  const until = async (what) => {
+    for (let i = 0; i < 2000; i += 1) {
+      if (what(it.state)) return true;
+      await new Promise((done) => { setTimeout(done, 2); });
+    }
+    return false;
+  };
+  return { it, all, until, running: () => all.filter(({ isEnded }) => !isEnded).length };
+}
+
+module.exports = {
+  COMMA, NONE, SEMICOLON, asker, changing, choiceOf, file, linesOf, load, page, source, unreadable, useModule,
+};

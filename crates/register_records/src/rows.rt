@@ -187,20 +187,21 @@ impl Row {
             → IsRowOf (targets_of setup.now) (entry_seen self.new.entry) (row_seen self.new) }
     {
         let before = Snapshot::of(self.entry.body());
-        let found = entries.read_next(&mut self.entry);
-        if let Ok(true) = found {
-            let same_date = entries.same_date();
-            let next = next_outcome(before, self.outcome, self.entry.body(), same_date);
-            reconvert(
-                &self.entry,
-                next,
-                &mut self.outcome,
-                &mut self.targets,
-                &mut self.tail,
-                setup,
-            );
+        match entries.read_next(&mut self.entry) {
+            Ok(true) => (),
+            other => return other,
         }
-        found
+        let same_date = entries.same_date();
+        let next = next_outcome(before, self.outcome, self.entry.body(), same_date);
+        reconvert(
+            &self.entry,
+            next,
+            &mut self.outcome,
+            &mut self.targets,
+            &mut self.tail,
+            setup,
+        );
+        Ok(true)
     }
 
     /// The entry.

@@ -185,10 +185,7 @@ plain_column d h number body plain bare Id = (unquoted d h body bare).0
 plain_column d h number body plain bare Calendar = (unquoted d h body bare).1
 plain_column d h number body plain bare Date = (unquoted d h body bare).2
 plain_column d h number body plain bare Note = (unquoted d h body bare).3
-plain_column d h number body plain bare DayNumber = refl
-plain_column d h number body plain bare Weekday = refl
-plain_column d h number body plain bare Cells = refl
-plain_column d h number body plain bare RefusalColumn = refl
+plain_column d h number body plain bare kind = refl
 
 -- equal fields
 pub same_body : (d : ℕ) (before : List ℕ) (fields wanted : List (List ℕ)) (bytes : List ℕ) → fields ≡ wanted

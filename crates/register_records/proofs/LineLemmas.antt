@@ -8,7 +8,6 @@ use Rattle.std.proofs.lemmas.Bool.{and_parts}
 use Rattle.std.proofs.lemmas.Bool.Decides.{nat_tests}
 use Rattle.std.proofs.lemmas.Fmt.{decimal_by_steps}
 use Rattle.std.proofs.lemmas.List.{at_drop_more, flat_map_more, map-append, take_more, take_more_set, take-append-le}
-use Rattle.std.proofs.lemmas.Simd.{map-map}
 use Rattle.std.proofs.Math.Seq.{take-append-add}
 use Rattle.std.proofs.lemmas.List.Folds.{list_any-append}
 use Rattle.std.specs.List.{flat_map, list_all}
@@ -23,15 +22,16 @@ use Rattle.date_texts.specs.Cells.{is_plain}
 use Rattle.date_texts.specs.Calendars.{target_name}
 use Rattle.date_texts.specs.declared.refusal.Refusal.{Refusal}
 use Rattle.date_texts.specs.declared.target.Target.{Target}
-use Rattle.register_records.specs.Columns.{Column, cell_columns, columns, entry_column, entry_order, tail_column}
+use Rattle.register_records.specs.Columns.{Column, cell_columns, columns, entry_order, kind_columns}
 use Rattle.register_records.specs.Columns.{tail_order}
-use Rattle.register_records.specs.TableColumns.{column_texts, entry_field, entry_name, field_shown, heading}
-use Rattle.register_records.specs.TableColumns.{laid_out, row_fields, row_with, tail_names, tail_texts}
+use Rattle.register_records.specs.TableColumns.{entry_field, field_shown, heading, kind_fields, kind_name}
+use Rattle.register_records.specs.TableColumns.{kind_names, laid_out, row_fields, row_with, tail_texts}
 use Rattle.register_records.specs.Outcomes.{TableRow}
-use Rattle.register_records.specs.declared.table_columns.EntryColumn.{EntryColumn}
-use Rattle.register_records.specs.declared.table_columns.EntryColumn.TheVariants.{Calendar, Date, Id, Note, Number}
+use Rattle.register_records.specs.declared.table_columns.ColumnKind.{ColumnKind}
+use Rattle.register_records.specs.declared.table_columns.ColumnKind.TheVariants.{Calendar, Cells, Date, DayNumber, Id}
+use Rattle.register_records.specs.declared.table_columns.ColumnKind.TheVariants.{Note, Number, Weekday}
+use Rattle.register_records.specs.declared.table_columns.ColumnKind.TheVariants.{Refusal as RefusalColumn}
 use Rattle.register_records.specs.Records.{Texts}
-use Rattle.register_records.specs.declared.table_columns.TailColumn.{TailColumn}
 use Rattle.register_records.specs.BareTexts.{has_special}
 use Rattle.register_records.proofs.BareLemmas.{unquoted}
 
@@ -78,14 +78,14 @@ one_item f d before first xs i e field new lt is n =
     (rw (take_more xs i e lt, map-append f (take i xs) (get_or xs i e ∷ []), is) (append_assoc first _ _))
 
 -- those of one more column
-pub one_more_column : {X : Type 0} (f : TailColumn → List X) (first : List X) (columns : List TailColumn) (i : ℕ)
-    (e : TailColumn) → i < length columns
+pub one_more_column : {X : Type 0} (f : ColumnKind → List X) (first : List X) (columns : List ColumnKind) (i : ℕ)
+    (e : ColumnKind) → i < length columns
     → (first ++ flat_map f (take i columns)) ++ f (get_or columns i e) ≡ first ++ flat_map f (take (i + 1) columns)
 one_more_column f first columns i e lt =
     grind (arith, ints, flat_map_more f first (take i columns) (get_or columns i e), take_more columns i e lt)
 
-pub one_column : (f : TailColumn → List (List ℕ)) (d : ℕ) (before : List ℕ) (first : List (List ℕ))
-    (columns : List TailColumn) (i : ℕ) (e : TailColumn) (new : List ℕ) → i < length columns
+pub one_column : (f : ColumnKind → List (List ℕ)) (d : ℕ) (before : List ℕ) (first : List (List ℕ))
+    (columns : List ColumnKind) (i : ℕ) (e : ColumnKind) (new : List ℕ) → i < length columns
     → new ≡ before ++ body d ((first ++ flat_map f (take i columns)) ++ f (get_or columns i e))
     → new ≡ before ++ body d (first ++ flat_map f (take (i + 1) columns))
 one_column f d before first columns i e new lt is =
@@ -159,13 +159,14 @@ map_of_all f g [] = refl
 map_of_all f g (x ∷ xs) =
     map-append f (g x) (flat_map g xs) ∙ ap (λ ys. map f (g x) ++ ys) (map_of_all f g xs)
 
-same_of_all : {X Y : Type 0} (f g : X → List Y) → ((x : X) → f x ≡ g x) → (xs : List X)
-    → flat_map f xs ≡ flat_map g xs
-same_of_all f g same [] = refl
-same_of_all f g same (x ∷ xs) = cc (same x, same_of_all f g same xs)
+flat_map_both : {X Y : Type 0} (f : X → List Y) (xs ys : List X)
+    → flat_map f (xs ++ ys) ≡ flat_map f xs ++ flat_map f ys
+flat_map_both f [] ys = refl
+flat_map_both f (x ∷ xs) ys =
+    ap (λ (zs : List _). f x ++ zs) (flat_map_both f xs ys) ∙ sym (append_assoc (f x) (flat_map f xs) (flat_map f ys))
 
 -- the columns of an entry: the first has its number, the others its texts
-pub first_field : (notes : Bool) (f : EntryColumn → List ℕ) (d : ℕ) (before field bytes : List ℕ)
+pub first_field : (notes : Bool) (f : ColumnKind → List ℕ) (d : ℕ) (before field bytes : List ℕ)
     → needs_quotes (writing d) field ≡ false → field ≡ f Number → bytes ≡ before ++ field
     → bytes ≡ before ++ body d (map f (take 1 (entry_order notes)))
 first_field notes f d before field bytes h is b = search (rules, only_field)
@@ -176,12 +177,13 @@ room_behind notes = search rules
 
 pub plain_column : (d : ℕ) → is_delimiter d ≡ true → (number : List ℕ) (body : Result Texts Refusal)
     → needs_quotes (writing d) number ≡ false → has_special body ≡ false
-    → (column : EntryColumn) → needs_quotes (writing d) (field_shown number body column) ≡ false
+    → (column : ColumnKind) → needs_quotes (writing d) (field_shown number body column) ≡ false
 plain_column d h number body plain bare Number = plain
 plain_column d h number body plain bare Id = (unquoted d h body bare).0
 plain_column d h number body plain bare Calendar = (unquoted d h body bare).1
 plain_column d h number body plain bare Date = (unquoted d h body bare).2
 plain_column d h number body plain bare Note = (unquoted d h body bare).3
+plain_column d h number body plain bare kind = refl
 
 -- equal fields
 pub same_body : (d : ℕ) (before : List ℕ) (fields wanted : List (List ℕ)) (bytes : List ℕ) → fields ≡ wanted
@@ -198,20 +200,33 @@ some_fields fields more some = rw (length-append fields more) (omega arith)
 pub two_of : (fields rest : List (List ℕ)) (a b : List ℕ) → 2 ≤ length (fields ++ (a ∷ b ∷ rest))
 two_of fields rest a b = rw (length-append fields (a ∷ b ∷ rest)) (omega arith)
 
--- what a function gives of the columns of a table: of those of an entry, and of those of a tail
-in_parts : {X : Type 0} (f : Column → X) (notes : Bool) (ts : List Target)
+-- what a function gives of the columns of a table: of those of an entry, of which each is one, and of those of a tail
+in_kinds : {X : Type 0} (f : Column → X) (notes : Bool) (ts : List Target)
     → map f (columns (laid_out notes ts))
-    ≡ map (λ c. f (entry_column c)) (entry_order notes) ++ flat_map (λ c. map f (tail_column ts c)) tail_order
-in_parts f notes ts = search (rules, map-append, map-map, map_of_all)
+    ≡ flat_map (λ c. map f (kind_columns ts c)) (entry_order notes) ++ flat_map (λ c. map f (kind_columns ts c)) tail_order
+in_kinds f notes ts =
+    map_of_all f (kind_columns ts) (entry_order notes ++ tail_order)
+    ∙ flat_map_both (λ c. map f (kind_columns ts c)) (entry_order notes) tail_order
 
 pub name_columns : (place : ℕ) (ts : List Target)
     → map (λ (c : Column). c.name) (cell_columns place ts) ≡ map target_name ts
 name_columns place [] = refl
 name_columns place (t ∷ ts) = ap (λ (names : List (List ℕ)). target_name t ∷ names) (name_columns (place + 1) ts)
 
+entry_names : (notes : Bool) (ts : List Target) → flat_map (kind_names ts) (entry_order notes) ≡ map kind_name (entry_order notes)
+entry_names false ts = refl
+entry_names true ts = refl
+
 pub heading_names : (notes : Bool) (ts : List Target)
-    → heading notes ts ≡ map entry_name (entry_order notes) ++ flat_map (tail_names ts) tail_order
-heading_names notes ts = in_parts (λ (c : Column). c.name) notes ts
+    → heading notes ts ≡ map kind_name (entry_order notes) ++ flat_map (kind_names ts) tail_order
+heading_names notes ts =
+    in_kinds (λ (c : Column). c.name) notes ts
+    ∙ ap (λ (names : List (List ℕ)). names ++ flat_map (kind_names ts) tail_order) (entry_names notes ts)
+
+-- each kind but the cells has one name
+pub one_name : (ts : List Target) (kind : ColumnKind) → (kind ≡ Cells → ⊥) → kind_names ts kind ≡ kind_name kind ∷ []
+one_name ts Cells other = absurd (other refl)
+one_name ts kind other = refl
 
 -- what stands in the columns of a tail does not depend on the entry
 cell_fields : (row : TableRow) (place : ℕ) (ts : List Target)
@@ -221,16 +236,21 @@ cell_fields row place [] = refl
 cell_fields row place (t ∷ ts) =
     ap (λ (fields : List (List ℕ)). get_or row.cells place [] ∷ fields) (cell_fields row (place + 1) ts)
 
-same_fields : (row : TableRow) (ts : List Target) (c : TailColumn)
-    → map (λ (column : Column). column.field row) (tail_column ts c) ≡ column_texts ts row.outcome row.cells c
-same_fields row ts c = search (rules, cell_fields)
+tail_same : (row : TableRow) (ts : List Target)
+    → flat_map (kind_fields ts row) tail_order ≡ tail_texts ts row.outcome row.cells
+tail_same row ts = rw (cell_fields row 0 ts) refl
+
+entry_fields : (notes : Bool) (ts : List Target) (row : TableRow)
+    → flat_map (kind_fields ts row) (entry_order notes) ≡ map (entry_field row) (entry_order notes)
+entry_fields false ts row = refl
+entry_fields true ts row = refl
 
 pub fields_in_parts : (notes : Bool) (ts : List Target) (row : TableRow)
     → row_fields notes ts row ≡ map (entry_field row) (entry_order notes) ++ tail_texts ts row.outcome row.cells
 fields_in_parts notes ts row =
-    in_parts (λ (c : Column). c.field row) notes ts
-    ∙ ap (λ (fields : List (List ℕ)). map (entry_field row) (entry_order notes) ++ fields)
-    (same_of_all _ (column_texts ts row.outcome row.cells) (same_fields row ts) tail_order)
+    in_kinds (λ (c : Column). c.field row) notes ts
+    ∙ ap (λ (fields : List (List ℕ)). fields ++ flat_map (kind_fields ts row) tail_order) (entry_fields notes ts row)
+    ∙ ap (λ (fields : List (List ℕ)). map (entry_field row) (entry_order notes) ++ fields) (tail_same row ts)
 
 -- the name of a target has room
 pub short_name : (t : Target) → length (target_name t) ≤ name_limit

@@ -33,7 +33,7 @@ use Rattle.register_records.specs.Outcomes.{AreCells}
 use Rattle.register_records.specs.Seen.{outcome_seen}
 use Rattle.register_records.specs.SetupRules.{is_delimiter}
 use Rattle.register_records.specs.declared.row_tails.RowTail.{RowTail}
-use Rattle.register_records.specs.declared.table_columns.TailColumn.TheVariants.{Cells, Refusal as RefusalColumn}
+use Rattle.register_records.specs.declared.table_columns.ColumnKind.TheVariants.{Cells, Refusal as RefusalColumn}
 use Rattle.register_records.proofs.EveryTableLemmas.{has_cells}
 use Rattle.register_records.proofs.LineLemmas.{more_fields_text, plain_bytes, plain_text, put_after, plain_day}
 use Rattle.register_records.proofs.LineLemmas.{plain_decimal}

@@ -18,7 +18,8 @@ use Rattle.register_records.specs.Records.{Fields, Texts, has_notes}
 use Rattle.register_records.specs.Seals.{before_seal, entry_records, is_seal}
 use Rattle.register_records.specs.Seen.{entry_seen}
 use Rattle.register_records.specs.Sources.{IsFrontOfTable}
-use Rattle.register_records.specs.TableColumns.{row_fields}
+use Rattle.register_records.specs.Columns.{entry_order}
+use Rattle.register_records.specs.TableColumns.{entry_field, row_fields, tail_texts}
 use Rattle.register_records.specs.Tables.{Layout, heading_line, lines_text, table_text}
 use Rattle.register_records.specs.Views.{row_seen}
 use Rattle.register_records.specs.declared.rows.Row.{Row}
@@ -131,9 +132,21 @@ rows_placed form targets (entry ∷ entries) (row ∷ rows) are = (
 rows_placed form targets entries rows are = search (rules, placed, of_form)
 
 -- and their fields and lines
+texts_placed : (form : Form) (number : ℕ) (body : Result Texts Refusal) (outcome : Result ℤ Refusal)
+    (cells : List (List ℕ)) (row : TableRow)
+    → row ≡ record { number = number; body = body; outcome = outcome; cells = cells }
+    → map (entry_field (placed_row form row)) (entry_order (has_notes form)) ≡ map (entry_field row) (entry_order (has_notes form))
+texts_placed Plain number (Ok t) outcome cells row is = rw is refl
+texts_placed Plain number (Err r) outcome cells row is = rw is refl
+texts_placed Sealed number body outcome cells row is = refl
+
 fields_placed : (form : Form) (targets : List Target) (row : TableRow)
     → row_fields (has_notes form) targets (placed_row form row) ≡ row_fields (has_notes form) targets row
-fields_placed form targets row = search (rules, fields_in_parts, placed_row)
+fields_placed form targets row =
+    fields_in_parts (has_notes form) targets (placed_row form row)
+    ∙ ap (λ (fields : List (List ℕ)). fields ++ tail_texts targets row.outcome row.cells)
+    (texts_placed form row.number row.body row.outcome row.cells row refl)
+    ∙ sym (fields_in_parts (has_notes form) targets row)
 
 lines_placed : (form : Form) (layout : Layout) → layout.writing.has_notes ≡ has_notes form → (rows : List TableRow)
     → lines_text layout (map (placed_row form) rows) ≡ lines_text layout rows

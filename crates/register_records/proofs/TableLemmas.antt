@@ -25,7 +25,6 @@ use Rattle.register_records.specs.TablesWritten.{made_by, made_for, rows_seen, t
 use Rattle.register_records.specs.Views.{layout_of, line_of, reading_of, row_seen, row_targets, waiting_in, writes_by}
 use Rattle.register_records.specs.declared.ends.Cause.{Cause}
 use Rattle.register_records.specs.declared.ends.Cause.TheVariants as cause
-use Rattle.register_records.specs.declared.ends.Note.{Note}
 use Rattle.register_records.specs.declared.ends.SourceEnd.{SourceEnd}
 use Rattle.register_records.specs.declared.ends.SourceEnd.TheVariants as end
 use Rattle.register_records.specs.declared.outputs.Output as outputs

@@ -2,15 +2,14 @@
 use Rattle.std.specs.Prelude.{◌≡◌, ◌≤◌, ◌+◌, ◌*◌, ◌++◌, true, ℕ, List, [], ◌∷◌, drop, length}
 use Rattle.csv.specs.Writing.{default_writer, row_body, with_delimiter}
 use Rattle.csv.specs.declared.writer.WriterBuilder.{WriterBuilder}
+use Rattle.date_texts.specs.declared.cells.TheConstants.{MAX_CELL}
 use Rattle.date_texts.specs.declared.target.TheConstants.{MAX_TARGETS}
 use Rattle.register_records.specs.Columns.{entry_order}
 use Rattle.register_records.specs.declared.entries.TheConstants.{CALENDAR_LIMIT, DATE_LIMIT, ID_LIMIT, NOTE_LIMIT}
-use Rattle.register_records.specs.declared.row_tails.TheConstants.{CELL_ROOM, DAY_NUMBER_LIMIT}
-use Rattle.register_records.specs.declared.row_tails.TheConstants.{REFUSAL_LIMIT, WEEKDAY_LIMIT}
-use Rattle.register_records.specs.declared.table_columns.EntryColumn.{EntryColumn}
-use Rattle.register_records.specs.declared.table_columns.EntryColumn.TheVariants.{Calendar, Date, Id, Note, Number}
-use Rattle.register_records.specs.declared.table_columns.TailColumn.{TailColumn}
-use Rattle.register_records.specs.declared.table_columns.TailColumn.TheVariants.{Cells, DayNumber, Refusal, Weekday}
+use Rattle.register_records.specs.declared.table_columns.TheConstants.{DAY_NUMBER_LIMIT, REFUSAL_LIMIT, WEEKDAY_LIMIT}
+use Rattle.register_records.specs.declared.table_columns.ColumnKind.{ColumnKind}
+use Rattle.register_records.specs.declared.table_columns.ColumnKind.TheVariants.{Calendar, Cells, Date, DayNumber, Id}
+use Rattle.register_records.specs.declared.table_columns.ColumnKind.TheVariants.{Note, Number, Refusal, Weekday}
 
 -- as csv writes by its defaults, with this delimiter
 abbrev pub writing : ℕ → WriterBuilder
@@ -34,23 +33,25 @@ field_room n = 2 + 2 * n
 abbrev pub number_room : ℕ
 number_room = 40
 
--- each text of a column of an entry; and behind a delimiter, quoted
-abbrev pub entry_limit : EntryColumn → ℕ
-entry_limit Number = number_room
-entry_limit Id = ID_LIMIT
-entry_limit Calendar = CALENDAR_LIMIT
-entry_limit Date = DATE_LIMIT
-entry_limit Note = NOTE_LIMIT
+-- the most bytes of each text of a column
+abbrev pub limit : ColumnKind → ℕ
+limit Number = number_room
+limit Id = ID_LIMIT
+limit Calendar = CALENDAR_LIMIT
+limit Date = DATE_LIMIT
+limit Note = NOTE_LIMIT
+limit DayNumber = DAY_NUMBER_LIMIT
+limit Weekday = WEEKDAY_LIMIT
+limit Cells = MAX_CELL
+limit Refusal = REFUSAL_LIMIT
 
-abbrev pub quoted_room : EntryColumn → ℕ
-quoted_room column = 1 + field_room (entry_limit column)
+-- room for those of a kind behind delimiters, quoted, and as they are
+abbrev pub quoted_room : ColumnKind → ℕ
+quoted_room kind = 1 + field_room (limit kind)
 
--- the fields of a column of a tail as they are, each behind a delimiter
-abbrev pub plain_room : TailColumn → ℕ
-plain_room DayNumber = 1 + DAY_NUMBER_LIMIT
-plain_room Weekday = 1 + WEEKDAY_LIMIT
-plain_room Cells = MAX_TARGETS * CELL_ROOM
-plain_room Refusal = 1 + REFUSAL_LIMIT
+abbrev pub plain_room : ColumnKind → ℕ
+plain_room Cells = MAX_TARGETS * (1 + MAX_CELL)
+plain_room kind = 1 + limit kind
 
 -- those of some columns
 abbrev pub columns_room : {C : Type 0} → (C → ℕ) → List C → ℕ
@@ -65,7 +66,7 @@ entry_room = number_room + columns_room quoted_room (drop 1 (entry_order true))
 abbrev pub name_limit : ℕ
 name_limit = 16
 
-abbrev pub name_room : TailColumn → ℕ
+abbrev pub name_room : ColumnKind → ℕ
 name_room Cells = MAX_TARGETS * (1 + field_room name_limit)
 name_room column = 1 + field_room name_limit
 

@@ -7,8 +7,8 @@ use Rattle.date_texts.specs.declared.refusal.Refusal.{Refusal}
 use Rattle.register_records.specs.Columns.{tail_order}
 use Rattle.register_records.specs.Lines.{fields_behind}
 use Rattle.register_records.specs.declared.row_tails.RowTail.{RowTail}
-use Rattle.register_records.specs.declared.table_columns.TailColumn.{TailColumn}
-use Rattle.register_records.specs.declared.table_columns.TailColumn.TheVariants.{Cells}
+use Rattle.register_records.specs.declared.table_columns.ColumnKind.{ColumnKind}
+use Rattle.register_records.specs.declared.table_columns.ColumnKind.TheVariants.{Calendar, Cells, Date, Id, Note, Number}
 
 -- its bytes, and its fields
 abbrev pub tail_bytes : RowTail → List ℕ
@@ -18,9 +18,18 @@ abbrev pub fields_of : RowTail → List (List ℕ)
 fields_of tail = fields_behind tail.delimiter (tail_bytes tail)
 
 -- the column of the cells
-abbrev pub is_cells : TailColumn → Bool
+abbrev pub is_cells : ColumnKind → Bool
 is_cells Cells = true
 is_cells other = false
+
+-- a column of an entry
+abbrev pub is_of_entry : ColumnKind → Bool
+is_of_entry Number = true
+is_of_entry Id = true
+is_of_entry Calendar = true
+is_of_entry Date = true
+is_of_entry Note = true
+is_of_entry other = false
 
 -- its cells: on a day one for each target, behind what stands in the columns before theirs; a refused row has none
 abbrev pub cells_of : List Target → Result Day Refusal → RowTail → List (List ℕ)

@@ -10,8 +10,8 @@ ghost use Rattle.register_records.specs.LineRoom.{Begins, GainsFields, entry_nam
 ghost use Rattle.register_records.specs.LineRoom.{number_room, writing};
 ghost use Rattle.register_records.specs.LineViews.{GrowsBy, line_bytes, line_capacity};
 ghost use Rattle.register_records.specs.Lines.{line_text};
-ghost use Rattle.register_records.specs.TableColumns.{entry_field, entry_name, field_shown, heading};
-ghost use Rattle.register_records.specs.TableColumns.{row_fields, tail_names};
+ghost use Rattle.register_records.specs.TableColumns.{entry_field, field_shown, heading, kind_name, kind_names};
+ghost use Rattle.register_records.specs.TableColumns.{row_fields};
 ghost use Rattle.register_records.specs.Views.{row_seen, row_targets, tail_fields};
 ghost use Rattle.register_records.specs.declared.row_tails.TheConstants.{TAIL_ROOM};
 ghost use Rattle.register_records.specs.declared.row_lines.TheConstants.{LINE_ROOM};
@@ -19,7 +19,7 @@ ghost use Rattle.register_records.specs.declared.row_lines.TheConstants.{LINE_RO
 use crate::entries::Body;
 use crate::lines::LineBuffer;
 use crate::rows::Row;
-use crate::table_columns::{TailColumn, entry_columns, tail_columns};
+use crate::table_columns::{ColumnKind, entry_columns, tail_columns};
 use date_texts::Target;
 use itoa::Buffer;
 
@@ -29,7 +29,7 @@ pub const LINE_ROOM: usize = 1024;
 /// Begins the line of the heading: the names of the columns that show an entry.
 fn put_entry_names(lines: &mut LineBuffer, has_notes: bool)
     requires { lines.old.len + entry_name_room ≤ line_capacity lines.old }
-    ensures value { Begins lines.old.delimiter (line_bytes lines.old) (map entry_name (entry_order has_notes))
+    ensures value { Begins lines.old.delimiter (line_bytes lines.old) (map kind_name (entry_order has_notes))
         (line_bytes lines.new) }
     ensures grows { GrowsBy entry_name_room lines.old lines.new }
 {
@@ -43,29 +43,28 @@ fn put_entry_names(lines: &mut LineBuffer, has_notes: bool)
 /// Puts the names of the targets, which head their columns.
 fn put_target_names(lines: &mut LineBuffer, targets: &[Target])
     requires few { length targets.now ≤ MAX_TARGETS }
-    requires room { lines.old.len + name_room TailColumn.Cells ≤ line_capacity lines.old }
-    ensures value { GainsFields lines.old.delimiter (tail_names targets.now TailColumn.Cells) (line_bytes lines.old)
+    requires room { lines.old.len + name_room ColumnKind.Cells ≤ line_capacity lines.old }
+    ensures value { GainsFields lines.old.delimiter (kind_names targets.now ColumnKind.Cells) (line_bytes lines.old)
         (line_bytes lines.new) }
-    ensures grows { GrowsBy (name_room TailColumn.Cells) lines.old lines.new }
+    ensures grows { GrowsBy (name_room ColumnKind.Cells) lines.old lines.new }
 {
     'targets: for target in targets {
         lines.field(target.name().as_bytes());
     }
 }
 
-/// Puts what heads a column of a tail: its name, or for the cells those of their targets.
-fn put_names(lines: &mut LineBuffer, column: TailColumn, targets: &[Target])
+/// Puts what heads a column: its name, or for the cells those of their targets.
+#[tactic(auto, using(crate::proofs::LineLemmas::one_name))]
+fn put_names(lines: &mut LineBuffer, column: ColumnKind, targets: &[Target])
     requires few { length targets.now ≤ MAX_TARGETS }
     requires room { lines.old.len + name_room column ≤ line_capacity lines.old }
-    ensures value { GainsFields lines.old.delimiter (tail_names targets.now column) (line_bytes lines.old)
+    ensures value { GainsFields lines.old.delimiter (kind_names targets.now column) (line_bytes lines.old)
         (line_bytes lines.new) }
     ensures grows { GrowsBy (name_room column) lines.old lines.new }
 {
     match column {
-        TailColumn::DayNumber => lines.field(b"rd"),
-        TailColumn::Weekday => lines.field(b"weekday"),
-        TailColumn::Cells => put_target_names(lines, targets),
-        TailColumn::Refusal => lines.field(b"refusal"),
+        ColumnKind::Cells => put_target_names(lines, targets),
+        _ => lines.field(column.name().as_bytes()),
     }
 }
 

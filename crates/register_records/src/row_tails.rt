@@ -16,22 +16,15 @@ ghost use Rattle.register_records.specs.declared.row_tails.TheConstants.{CELL_RO
 
 use crate::setups::Setup;
 use crate::short_lists::ShortList;
-use crate::table_columns::{CELLS_PLACE, TailColumn};
+use crate::table_columns::{
+    CELLS_PLACE, ColumnKind, DAY_NUMBER_LIMIT, REFUSAL_LIMIT, WEEKDAY_LIMIT,
+};
 use crate::target_lists::TargetList;
 use byte_copies::copy_to_front;
 use date_texts::laws::{cells_are_plain, one_cell};
 use date_texts::{MAX_CELL, MAX_TARGETS, Refusal, Target, write_cell_within};
 use day_numbers::Day;
 use itoa::Buffer;
-
-/// The most bytes of a day's number.
-const DAY_NUMBER_LIMIT: usize = 8;
-
-/// The most bytes of a weekday's name.
-const WEEKDAY_LIMIT: usize = 9;
-
-/// The digits of a refusal's number.
-const REFUSAL_LIMIT: usize = 1;
 
 /// Room for a cell behind its delimiter.
 const CELL_ROOM: usize = 1 + MAX_CELL;
@@ -107,7 +100,7 @@ impl RowTail {
     ghost use Rattle.std.specs.Prelude.{drop, map};
     ghost use Rattle.std.specs.List.{position_or_len};
     ghost use Rattle.register_records.specs.Columns.{tail_order};
-    ghost use Rattle.register_records.specs.RowTails.{cells_of, fields_of, is_cells};
+    ghost use Rattle.register_records.specs.RowTails.{cells_of, fields_of, is_cells, is_of_entry};
     ghost use Rattle.register_records.specs.ShortLists.{items_in};
     ghost use Rattle.register_records.specs.Views.{targets_of};
 
@@ -185,11 +178,11 @@ impl RowTail {
     /// Appends the cells, which a refused row has not.
     fn push_cells(&mut self, targets: &[Target], outcome: Result<Day, Refusal>)
         requires few { length targets.now ≤ MAX_TARGETS }
-        requires room { self.old.len + plain_room TailColumn.Cells ≤ TAIL_ROOM }
+        requires room { self.old.len + plain_room ColumnKind.Cells ≤ TAIL_ROOM }
         ensures value { (cells : List (List ℕ)) → AreCells targets.now (outcome_seen outcome) cells
             → fields_of self.new
-            ≡ fields_of self.old ++ column_texts targets.now (outcome_seen outcome) cells TailColumn.Cells }
-        ensures grows { self.new.len ≤ self.old.len + plain_room TailColumn.Cells }
+            ≡ fields_of self.old ++ column_texts targets.now (outcome_seen outcome) cells ColumnKind.Cells }
+        ensures grows { self.new.len ≤ self.old.len + plain_room ColumnKind.Cells }
         ensures delimiter { self.new.delimiter ≡ self.old.delimiter }
     {
         one_cell();
@@ -206,7 +199,8 @@ impl RowTail {
     /// Appends what stands in a column of a tail. A refused row has no day, and an accepted one no refusal.
     // Inlined, so that each call has the arm of its own column alone.
     #[inline(always)]
-    fn push_column(&mut self, column: TailColumn, targets: &[Target], outcome: Result<Day, Refusal>)
+    fn push_column(&mut self, column: ColumnKind, targets: &[Target], outcome: Result<Day, Refusal>)
+        requires tail { is_of_entry column ≡ false }
         requires few { length targets.now ≤ MAX_TARGETS }
         requires room { self.old.len + plain_room column ≤ TAIL_ROOM }
         ensures value { (cells : List (List ℕ)) → AreCells targets.now (outcome_seen outcome) cells
@@ -215,16 +209,17 @@ impl RowTail {
         ensures delimiter { self.new.delimiter ≡ self.old.delimiter }
     {
         match (column, outcome) {
-            (TailColumn::DayNumber, Ok(day)) => {
+            (ColumnKind::DayNumber, Ok(day)) => {
                 self.push(Buffer::new().format(day.number()).as_bytes());
             }
-            (TailColumn::Weekday, Ok(day)) => self.push(day.weekday().name().as_bytes()),
-            (TailColumn::Cells, _) => self.push_cells(targets, outcome),
-            (TailColumn::Refusal, Err(refusal)) => {
+            (ColumnKind::Weekday, Ok(day)) => self.push(day.weekday().name().as_bytes()),
+            (ColumnKind::Cells, _) => self.push_cells(targets, outcome),
+            (ColumnKind::Refusal, Err(refusal)) => {
                 self.push(Buffer::new().format(refusal.number()).as_bytes());
             }
-            (TailColumn::DayNumber | TailColumn::Weekday, Err(_)) | (TailColumn::Refusal, Ok(_)) =>
+            (ColumnKind::DayNumber | ColumnKind::Weekday, Err(_)) | (ColumnKind::Refusal, Ok(_)) =>
                 self.push(b""),
+            _ => unreachable!(),
         }
     }
 
@@ -241,10 +236,10 @@ impl RowTail {
     {
         self.clear(delimiter);
         // One by one, in the order of `tail_columns`: a loop over them would choose the arm again for each row.
-        self.push_column(TailColumn::DayNumber, targets, outcome);
-        self.push_column(TailColumn::Weekday, targets, outcome);
-        self.push_column(TailColumn::Cells, targets, outcome);
-        self.push_column(TailColumn::Refusal, targets, outcome);
+        self.push_column(ColumnKind::DayNumber, targets, outcome);
+        self.push_column(ColumnKind::Weekday, targets, outcome);
+        self.push_column(ColumnKind::Cells, targets, outcome);
+        self.push_column(ColumnKind::Refusal, targets, outcome);
     }
 
     /// Whether this tail, of an outcome for some targets, is that of the next outcome for the setup's too: these and the

@@ -1,102 +1,110 @@
 //! The columns of a table: their order, their names, and what stands in those of an entry. The heading, and what a row
-//! has of its entry, go through these lists. A tail is appended column by column in the same order, which is proved.
+//! has of its entry, go through this list. A tail is appended column by column in the same order, which is proved.
 
 ghost use Rattle.std.specs.Prelude.{◌≡◌, ◌≤◌, length};
 ghost use Rattle.register_records.specs.Columns.{entry_order, tail_order};
 ghost use Rattle.register_records.specs.Entries.{body_seen};
-ghost use Rattle.register_records.specs.LineRoom.{entry_limit, name_limit};
-ghost use Rattle.register_records.specs.TableColumns.{entry_name, field_shown};
+ghost use Rattle.register_records.specs.LineRoom.{limit, name_limit};
+ghost use Rattle.register_records.specs.TableColumns.{field_shown, kind_name};
 
 use crate::entries::Body;
 
-/// A column that a table has of an entry.
+/// A column of a table, or for the cells one for each target.
 #[derive(Clone, Copy)]
-pub(crate) enum EntryColumn {
+pub(crate) enum ColumnKind {
     Number,
     Id,
     Calendar,
     Date,
     Note,
-}
-
-/// A column that a table has of the tail of a row.
-#[derive(Clone, Copy)]
-pub(crate) enum TailColumn {
     DayNumber,
     Weekday,
-    /// One column for each target.
     Cells,
     Refusal,
 }
 
-/// The columns of an entry, in order. The last has the notes.
-const ENTRY_COLUMNS: [EntryColumn; 5] = [
-    EntryColumn::Number,
-    EntryColumn::Id,
-    EntryColumn::Calendar,
-    EntryColumn::Date,
-    EntryColumn::Note,
+/// The columns, in order.
+const COLUMNS: [ColumnKind; 9] = [
+    ColumnKind::Number,
+    ColumnKind::Id,
+    ColumnKind::Calendar,
+    ColumnKind::Date,
+    ColumnKind::Note,
+    ColumnKind::DayNumber,
+    ColumnKind::Weekday,
+    ColumnKind::Cells,
+    ColumnKind::Refusal,
 ];
 
-/// The columns of a tail, in order.
-const TAIL_COLUMNS: [TailColumn; 4] = [
-    TailColumn::DayNumber,
-    TailColumn::Weekday,
-    TailColumn::Cells,
-    TailColumn::Refusal,
-];
+/// How many of them a row has of its entry. The last of these has the notes.
+const ENTRY_COLUMNS: usize = 5;
 
-/// How many of them stand before the cells.
+/// The most bytes of a day's number.
+pub(crate) const DAY_NUMBER_LIMIT: usize = 8;
+
+/// The most bytes of a weekday's name.
+pub(crate) const WEEKDAY_LIMIT: usize = 9;
+
+/// The digits of a refusal's number.
+pub(crate) const REFUSAL_LIMIT: usize = 1;
+
+/// How many columns of a tail stand before the cells.
 pub(crate) const CELLS_PLACE: usize = 2;
 
 /// The columns that a table has of an entry, in order, with notes or without.
-pub(crate) fn entry_columns(has_notes: bool) -> &'static [EntryColumn]
+#[inline(always)]
+pub(crate) fn entry_columns(has_notes: bool) -> &'static [ColumnKind]
     ensures value { result.now ≡ entry_order has_notes }
     ensures some { 1 ≤ length result.now }
 {
     if has_notes {
-        &ENTRY_COLUMNS
+        &COLUMNS[..ENTRY_COLUMNS]
     } else {
-        &ENTRY_COLUMNS[..ENTRY_COLUMNS.len() - 1]
+        &COLUMNS[..ENTRY_COLUMNS - 1]
     }
 }
 
 /// The columns that a table has of a tail, in order.
-pub(crate) fn tail_columns() -> &'static [TailColumn]
+pub(crate) fn tail_columns() -> &'static [ColumnKind]
     ensures { result.now ≡ tail_order }
 {
-    &TAIL_COLUMNS
+    &COLUMNS[ENTRY_COLUMNS..]
 }
 
-impl EntryColumn {
-    /// The name, which heads the column.
+impl ColumnKind {
+    /// The name, which heads the column. The cells have those of their targets.
     pub fn name(self) -> &'static str
-        ensures value { result.now ≡ entry_name self }
+        ensures value { result.now ≡ kind_name self }
         ensures short { length result.now ≤ name_limit }
     {
         match self {
-            EntryColumn::Number => "row",
-            EntryColumn::Id => "id",
-            EntryColumn::Calendar => "calendar",
-            EntryColumn::Date => "date",
-            EntryColumn::Note => "note",
+            ColumnKind::Number => "row",
+            ColumnKind::Id => "id",
+            ColumnKind::Calendar => "calendar",
+            ColumnKind::Date => "date",
+            ColumnKind::Note => "note",
+            ColumnKind::DayNumber => "rd",
+            ColumnKind::Weekday => "weekday",
+            ColumnKind::Cells => "",
+            ColumnKind::Refusal => "refusal",
         }
     }
 
-    /// What the column shows of an entry with this number, in decimal, and this body. A refused body has no texts.
+    /// What the column shows of an entry with this number, in decimal, and this body: none of a refused body, and none
+    /// in those of a tail.
     #[inline(always)]
     pub fn field<'a>(self, number: &'a str, body: &'a Body) -> &'a str
-        requires { length number.now ≤ entry_limit EntryColumn.Number }
+        requires { length number.now ≤ limit ColumnKind.Number }
         ensures value { result.now ≡ field_shown number.now (body_seen body.now) self }
-        ensures short { length result.now ≤ entry_limit self }
+        ensures short { length result.now ≤ limit self }
     {
         match (self, body) {
-            (EntryColumn::Number, _) => number,
-            (EntryColumn::Id, Body::Fields { id, .. }) => id.as_str(),
-            (EntryColumn::Calendar, Body::Fields { calendar, .. }) => calendar.as_str(),
-            (EntryColumn::Date, Body::Fields { date, .. }) => date.as_str(),
-            (EntryColumn::Note, Body::Fields { note, .. }) => note.as_str(),
-            (_, Body::Refused(_)) => "",
+            (ColumnKind::Number, _) => number,
+            (ColumnKind::Id, Body::Fields { id, .. }) => id.as_str(),
+            (ColumnKind::Calendar, Body::Fields { calendar, .. }) => calendar.as_str(),
+            (ColumnKind::Date, Body::Fields { date, .. }) => date.as_str(),
+            (ColumnKind::Note, Body::Fields { note, .. }) => note.as_str(),
+            _ => "",
         }
     }
 }

@@ -1,9 +1,8 @@
-use Rattle.std.proofs.Common.{◌≡◌, ◌≢◌, ◌∙◌, ◌+◌, ◌++◌, ◌∷◌, [], None, Ok, Option, Some, IfSome, ap, false, inl, inr, length}
-use Rattle.std.proofs.Common.{refl, rules, sym, true, ℕ, List}
+use Rattle.std.proofs.Common.{◌≡◌, ◌≢◌, ◌∙◌, ◌+◌, ◌++◌, ◌∷◌, [], None, Ok, Some, IfSome, ap, false, inl, inr, length}
+use Rattle.std.proofs.Common.{refl, rules, sym, true, ℕ}
 use Rattle.std.proofs.lemmas.List.{length-map, map-append}
 use Rattle.csv.proofs.WriteFacts.{appends-none}
 use Rattle.register_records.specs.Entries.{HasAllEntries, HasEntries, HasFirstEntries, HasTooMany, IsNotSealed, Reading}
-use Rattle.register_records.specs.Entries.{Numbered}
 use Rattle.register_records.specs.Seen.{entry_seen}
 use Rattle.register_records.specs.TablesWritten.{IsNextRow, table_fault}
 use Rattle.register_records.specs.Views.{given_of, targets_of}

@@ -29,7 +29,9 @@ stands_below (y ∷ all) zero zero x other rest e h =
 stands_below (y ∷ all) zero (suc above) x other rest e h = absurd (omega arith)
 stands_below (y ∷ all) (suc k) zero x other rest e h = absurd (omega arith)
 stands_below (y ∷ all) (suc k) (suc above) x other rest e h =
-    let (lt, left, same) = stands_below all k above x other rest (omega arith) h in (omega arith, left, same)
+    let (lt, left, same) = stands_below all k above x other rest (omega arith) h in
+    let up : suc above + 1 ≡ suc (above + 1) = omega arith in
+    (omega arith, ap (λ (n : ℕ). drop n (y ∷ all)) up ∙ left, same)
 
 pub none_below : {T : Type 0} (all : List T) (k above : ℕ) → k ≤ above → drop k all ≡ [] → length all ≤ above
 none_below all k above low e = omega (arith, length-drop k all, ap length e)

@@ -19,7 +19,7 @@ use Rattle.register_sheets.proofs.SendingLemmas.{front_made, front_more}
 pub register_both : (choice : SheetChoice) (column : DateColumn) (k : ℕ) (xs ys : List Fields)
     → register_records choice column k (xs ++ ys)
     ≡ register_records choice column k xs ++ register_records choice column (k + length xs) ys
-register_both choice column k [] ys = refl
+register_both choice column k [] ys = ap (λ (n : ℕ). register_records choice column n ys) (omega arith)
 register_both choice column k (x ∷ xs) ys =
     ap (λ (rest : List Fields). register_record choice column (k + 1) x ∷ rest)
     (register_both choice column (k + 1) xs ys
@@ -32,11 +32,12 @@ pub register_more : (choice : SheetChoice) (column : DateColumn) (all : List Fie
     ≡ head ++ register_records choice column 0 (take (k + 1) all)
 register_more choice column all k x rest head e =
     let (taken, left) = one_taken all k x rest e in
-    let long : length (take k all) ≡ k = omega (arith, ap length e, length-drop k all, length-take k all) in
+    let long : 0 + length (take k all) + 1 ≡ k + 1
+    = omega (arith, ap length e, length-drop k all, length-take k all) in
     append_assoc head (register_records choice column 0 (take k all)) (register_record choice column (k + 1) x ∷ [])
     ∙ ap (λ (it : List Fields). head ++ it)
     (sym (ap (register_records choice column 0) taken ∙ register_both choice column 0 (take k all) (x ∷ [])
-    ∙ ap (λ (n : ℕ). register_records choice column 0 (take k all) ++ register_record choice column (n + 1) x ∷ []) long))
+    ∙ ap (λ (n : ℕ). register_records choice column 0 (take k all) ++ register_record choice column n x ∷ []) long))
 
 -- what was sent is a front of the register
 pub register_front : (choice : SheetChoice) (column : DateColumn) (all : List Fields) (k d : ℕ)

@@ -182,7 +182,7 @@ pub fn write_register<W: Output>(
     ensures sink { IfErr result (λ c. c ≡ SheetCause.SinkFault → W.has_failed output.new ≡ true) }
     ensures mark { W.own_mark output.new ≡ W.own_mark output.old }
 {
-    let choice = setup.choice();
+    let choice = setup.choice;
     let mut records = records_of(alloc, sheet, choice.delimiter);
     let mut record = ByteRecord::new(alloc);
     if !pass_names(&mut records, &mut record, choice.above)? {

@@ -13,7 +13,7 @@ use Rattle.register_sheets.proofs.registers.write_entries.Goals as goal
 pub records-init : goal.records-init
 records-init g c =
     record {
-      reading = c.requires;
+      reading = c.requires.reading;
       left = refl;
       delimiter = refl;
       limited = omega arith;

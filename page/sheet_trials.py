@@ -179,17 +179,10 @@ class SheetTrials:
         self.wait_for_counts()
         self.check("an estate", re.compile("40 rows, 5 refused"), self.convert_sheet())
         rows = self.save("#sheet-results", 1)["estate.dates.csv"].decode("utf-8-sig").split("\n")
-        found = {row.split(";")[0]: ";".join(row.split(";")[5:]) for row in rows[1:-1]}
-        for id, day in (
-            ("N-01", "Monday;1782-10-14;"),
-            ("N-15", "Sunday;1745-03-28;"),
-            ("N-16", "Monday;1798-03-05;"),
-            ("N-21", "Monday;1746-09-19;"),
-            ("N-31", "Tuesday;1582-11-09;"),
-            ("N-36", ";;4"),
-            ("N-39", ";;5"),
-        ):
-            self.check(f"{id} of the estate", day, found[id])
+        with open(f"{ROOT}/check/recipes", encoding="utf-8") as it:
+            known = re.search('ESTATE_DAYS = """([^"]*)"""', it.read()).group(1).split()
+        wanted = [f"{day};" for day in known] + [f";{refusal}" for refusal in (4, 6, 5, 5, 5)]
+        self.check("each date of the estate has its day", wanted, [";".join(row.split(";")[6:]) for row in rows[1:-1]])
 
     def label_of(self, name, value):
         """Chooses a value among those of a name, as a click does."""

@@ -1,5 +1,5 @@
 -- The columns of a table: their order, their names, and what stands in them.
-use Rattle.std.specs.Prelude.{◌+◌, ℕ, ℤ, List, [], ◌∷◌, ◌++◌, codes, get_or, Option}
+use Rattle.std.specs.Prelude.{◌+◌, Bool, true, false, ℕ, ℤ, List, [], ◌∷◌, ◌++◌, codes, get_or, Option}
 use Rattle.std.specs.Fmt.{decimal, signed_decimal}
 use Rattle.std.specs.List.{flat_map}
 use Rattle.std.specs.Option.{option_map_or}

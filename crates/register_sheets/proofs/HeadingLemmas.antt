@@ -69,7 +69,8 @@ pub taken_next : (xs : Fields) (k : ℕ) (name : List ℕ) → k < length xs
     → is_taken (drop k xs) name ≡ (bytes_eq name (get_or xs k []) || is_taken (drop (k + 1) xs) name)
 taken_next [] k name lt = absurd (omega arith)
 taken_next (x ∷ xs) zero name lt = refl
-taken_next (x ∷ xs) (suc k) name lt = taken_next xs k name (omega arith)
+taken_next (x ∷ xs) (suc k) name lt =
+    let up : suc k + 1 ≡ suc (k + 1) = omega arith in rw up (taken_next xs k name (omega arith))
 
 pub bytes_alike : (name : List ℕ) → bytes_eq name name ≡ true
 bytes_alike name = nat_list_eq_equiv.refl name

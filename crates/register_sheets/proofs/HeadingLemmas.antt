@@ -3,6 +3,10 @@ use Rattle.std.proofs.Common.{◌≡◌, ◌<◌, ◌≤◌, ◌+◌, ◌∙◌,
 use Rattle.std.proofs.Common.{arith, append_assoc, append-nil, drop, get_or, length, ◌||◌}
 use Rattle.std.specs.Str.{bytes_eq}
 use Rattle.std.specs.Fmt.{decimal}
+use Rattle.std.specs.Prelude.{Vec}
+use Rattle.std.specs.declared.alloc.Global.{Global}
+use Rattle.std.proofs.lemmas.Cmp.{nat_list_eq_equiv}
+use Rattle.std.proofs.lemmas.List.{map-append}
 use Rattle.register_records.specs.Entries.{Fields}
 use Rattle.register_sheets.specs.HeadingViews.{NamesMore, taken_by}
 use Rattle.register_sheets.specs.Headings.{AreHeadings, IsHeading, is_taken, items_of, numbered}
@@ -65,4 +69,19 @@ pub taken_next : (xs : Fields) (k : ℕ) (name : List ℕ) → k < length xs
     → is_taken (drop k xs) name ≡ (bytes_eq name (get_or xs k []) || is_taken (drop (k + 1) xs) name)
 taken_next [] k name lt = absurd (omega arith)
 taken_next (x ∷ xs) zero name lt = refl
-taken_next (x ∷ xs) (suc k) name lt = taken_next xs k name (omega arith)
+taken_next (x ∷ xs) (suc k) name lt =
+    let up : suc k + 1 ≡ suc (k + 1) = omega arith in rw up (taken_next xs k name (omega arith))
+
+pub bytes_alike : (name : List ℕ) → bytes_eq name name ≡ true
+bytes_alike name = nat_list_eq_equiv.refl name
+
+-- the new names, each by its bytes
+pub made_named : (made : List (Vec ℕ Global)) (text : Vec ℕ Global)
+    → items_of (made ++ text ∷ []) ≡ items_of made ++ text.items ∷ []
+made_named made text = map-append (λ (it : Vec ℕ Global). it.items) made (text ∷ [])
+
+pub one_named : (wanted : List ℕ) (old new : NewNames) (name : List ℕ) → new.own ≡ old.own
+    → items_of new.made.items ≡ items_of old.made.items ++ name ∷ [] → IsHeading (taken_by old) wanted name
+    → NamesMore (wanted ∷ []) old new
+one_named wanted old new name own made heading =
+    record { more = name ∷ []; own = own; made = made; named = (heading, tt) }

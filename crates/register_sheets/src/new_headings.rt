@@ -54,7 +54,12 @@ impl NewNames {
     fn is_made(&self, name: &[u8]) -> bool
         ensures { result ≡ is_taken (items_of self.now.made.items) name.now }
     {
-        self.made.iter().any(|made| made.as_slice() == name)
+        'made: for made in &self.made {
+            if made.as_slice() == name {
+                return true;
+            }
+        }
+        false
     }
 
     /// Whether a column of the sheet has this name.

@@ -22,13 +22,13 @@ returns-then-not-branch-clause-none c _ =
     (sym c.records.invariant.left ∙ none)
 
 pub returns-clause-left : goal.returns-clause-left
-returns-clause-left c yes =
-    let next = sym c.records.invariant.left ∙ c.read_next-2.ensures.found yes in
+returns-clause-left c there =
+    let next = sym c.records.invariant.left ∙ c.read_next-2.ensures.found there in
     let (lt, left, same) = stands_below (left_of c.args.records.now) c.records.counter c.args.above
     (fields_of c.read_next-2.new.record) [] _ (omega arith) next in
     sym left
 
 pub returns-clause-none : goal.returns-clause-none
-returns-clause-none c no =
+returns-clause-none c end =
     none_below (left_of c.args.records.now) c.records.counter c.args.above (omega arith)
-    (sym c.records.invariant.left ∙ c.read_next-2.ensures.none no)
+    (sym c.records.invariant.left ∙ c.read_next-2.ensures.none end)

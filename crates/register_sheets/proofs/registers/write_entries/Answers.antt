@@ -1,4 +1,4 @@
-use Rattle.std.proofs.Common.{◌≡◌, ◌∙◌, ◌++◌, [], List, append-nil, ap, arith, length, length-drop, refl, rules, subst, sym, take, true}
+use Rattle.std.proofs.Common.{◌≡◌, ◌∙◌, ◌++◌, [], List, append-nil, ap, arith, length, length-drop, refl, rules, subst, sym, take, true, false}
 use Rattle.std.specs.Prelude.{Ok}
 use Rattle.csv.specs.Records.{fields_of}
 use Rattle.register_records.specs.Entries.{Fields}
@@ -64,3 +64,11 @@ returns-in_err-write_entry-clause-part g c =
     rw (c.in_err-write_entry.ensures.memory is)
     (register_front c.args.choice.now c.args.column.now (left_of c.args.records.now) c.records.number _ begun _ _ head
     (c.records.invariant.made begun head h)))
+
+pub returns-then-not-branch-clause-all : goal.returns-then-not-branch-clause-all
+returns-then-not-branch-clause-all g c _ =
+    let inv = c.records.invariant in
+    let all = left_of c.args.records.now in
+    let no : c.in_ok-read_next.field-0 ≡ false = search rules in
+    let none = c.read_next.ensures.none (c.in_ok-read_next.was ∙ ap Ok no) in
+    omega (arith, inv.within, length-drop c.records.number all, ap length (sym inv.left ∙ none))

@@ -2,7 +2,7 @@
 //! day numbers.
 
 mod breaking;
-mod command_lines;
+mod commands;
 mod disk_files;
 mod files;
 pub mod helpers;

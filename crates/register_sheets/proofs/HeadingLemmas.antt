@@ -1,15 +1,18 @@
 -- Headings are named one after the other.
 use Rattle.std.proofs.Common.{◌≡◌, ◌<◌, ◌≤◌, ◌+◌, ◌∙◌, ◌++◌, ℕ, zero, suc, Bool, true, false, List, [], ◌∷◌, refl, sym, ap, subst}
-use Rattle.std.proofs.Common.{arith, append_assoc, append-nil, drop, get_or, length, ◌||◌}
+use Rattle.std.proofs.Common.{arith, append_assoc, append-nil, drop, get_or, length, map, take, ◌||◌}
 use Rattle.std.specs.Str.{bytes_eq}
 use Rattle.std.specs.Fmt.{decimal}
 use Rattle.std.specs.Prelude.{Vec}
 use Rattle.std.specs.declared.alloc.Global.{Global}
 use Rattle.std.proofs.lemmas.Cmp.{nat_list_eq_equiv}
-use Rattle.std.proofs.lemmas.List.{map-append}
+use Rattle.std.proofs.lemmas.List.{at_drop_more, map-append, take_more}
+use Rattle.csv.specs.Records.{fields_of}
 use Rattle.register_records.specs.Entries.{Fields}
 use Rattle.register_sheets.specs.HeadingViews.{NamesMore, taken_by}
-use Rattle.register_sheets.specs.Headings.{AreHeadings, IsHeading, is_taken, items_of, numbered}
+use Rattle.register_sheets.specs.Headings.{AreHeadings, IsHeading, asked_name, is_taken, items_of, numbered}
+use Rattle.register_sheets.specs.Headings.{wanted_heading}
+use Rattle.register_sheets.specs.declared.choices.AskedColumn.{AskedColumn}
 use Rattle.register_sheets.specs.declared.new_headings.NewNames.{NewNames}
 
 -- the name with this number is free, and those before it are not
@@ -64,6 +67,13 @@ both_named wanted more old mid new h i =
           (subst (λ (all : Fields). AreHeadings all more i.more) taken i.named);
     }
 
+-- the same where what is wanted next depends on the sheet's names
+pub then_named : (wanted : Fields) (next : Fields → Fields) (old mid new : NewNames) → NamesMore wanted old mid
+    → NamesMore (next (fields_of mid.own)) mid new → NamesMore (wanted ++ next (fields_of old.own)) old new
+then_named wanted next old mid new h i =
+    both_named wanted (next (fields_of old.own)) old mid new h
+    (subst (λ (own : Fields). NamesMore (next own) mid new) (ap fields_of h.own) i)
+
 -- a name is that at this place, or stands behind it
 pub taken_next : (xs : Fields) (k : ℕ) (name : List ℕ) → k < length xs
     → is_taken (drop k xs) name ≡ (bytes_eq name (get_or xs k []) || is_taken (drop (k + 1) xs) name)
@@ -71,6 +81,26 @@ taken_next [] k name lt = absurd (omega arith)
 taken_next (x ∷ xs) zero name lt = refl
 taken_next (x ∷ xs) (suc k) name lt =
     let up : suc k + 1 ≡ suc (k + 1) = omega arith in rw up (taken_next xs k name (omega arith))
+
+-- a new name is that at this place, or stands behind it
+pub made_next : (made : List (Vec ℕ Global)) (k : ℕ) (text : Vec ℕ Global) (name : List ℕ) → k < length made
+    → text ≡ get_or made k text
+    → is_taken (items_of (drop k made)) name
+    ≡ (bytes_eq name text.items || is_taken (items_of (drop (k + 1) made)) name)
+made_next made k text name lt is =
+    at_drop_more (λ (xs : List (Vec ℕ Global)). is_taken (items_of xs) name) made k text lt
+    ∙ ap (λ (it : Vec ℕ Global). bytes_eq name it.items || is_taken (items_of (drop (k + 1) made)) name) (sym is)
+
+-- one more column asked
+pub one_column : (several : Bool) (own : List ℕ) (columns : List AskedColumn) (k : ℕ) (d : AskedColumn)
+    → k < length columns
+    → map (wanted_heading several own) (map asked_name (take (k + 1) columns))
+    ≡ map (wanted_heading several own) (map asked_name (take k columns))
+    ++ wanted_heading several own (asked_name (get_or columns k d)) ∷ []
+one_column several own columns k d lt =
+    ap (λ (xs : List AskedColumn). map (wanted_heading several own) (map asked_name xs)) (take_more columns k d lt)
+    ∙ ap (map (wanted_heading several own)) (map-append asked_name (take k columns) (get_or columns k d ∷ []))
+    ∙ map-append (wanted_heading several own) (map asked_name (take k columns)) (asked_name (get_or columns k d) ∷ [])
 
 pub bytes_alike : (name : List ℕ) → bytes_eq name name ≡ true
 bytes_alike name = nat_list_eq_equiv.refl name

@@ -1,0 +1,22 @@
+use Rattle.std.proofs.Common.{◌+◌, get_or, length, nat_lt, subst, sym, take}
+use Rattle.std.proofs.lemmas.List.{take_more}
+use Rattle.register_records.specs.Entries.{Fields}
+use Rattle.register_sheets.specs.HeadingViews.{NamesMore}
+use Rattle.register_sheets.specs.Headings.{wanted_for}
+use Rattle.csv.specs.Records.{fields_of}
+use Rattle.register_sheets.specs.declared.choices.CalendarField.TheVariants as calendar
+use Rattle.register_sheets.specs.declared.choices.DateColumn.{DateColumn}
+use Rattle.register_sheets.proofs.HeadingLemmas.{then_named}
+use Rattle.register_sheets.proofs.RowLemmas.{flat_more}
+use Rattle.register_sheets.proofs.new_headings.NewNames.push_dates.Goals as goal
+
+pub dates-preserved : goal.dates-preserved
+dates-preserved c =
+    let none : DateColumn = record { date = 0; calendar = calendar.Column 0 } in
+    let wanted = wanted_for (nat_lt 1 (length c.args.dates.now)) (fields_of c.args.self.now.own) c.args.columns.now in
+    subst (λ (names : Fields). NamesMore names c.args.self.now c.push_all.new.self)
+    (sym (flat_more wanted (take (c.dates.date-index + 1) c.args.dates.now) (take c.dates.date-index c.args.dates.now) _
+    (take_more c.args.dates.now c.dates.date-index none c.dates-test.true)))
+    (then_named _ (λ (own : Fields). wanted_for (nat_lt 1 (length c.args.dates.now)) own c.args.columns.now
+    (get_or c.args.dates.now c.dates.date-index none)) c.args.self.now c.dates.self c.push_all.new.self c.dates.invariant
+    c.in_ok-push_all.ensures)

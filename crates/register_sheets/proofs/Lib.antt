@@ -2,7 +2,8 @@
 --   LineLemmas: that lines are the text of their fields, for `write` and `join`. ListLemmas: what is left of a list of
 --     fields, for both.
 --   SheetLemmas: `pick`, and that records come one after the other, for `join`.
---   NameListLemmas: `NameList::read`. The others, and ConvertLemmas above them: `convert_sheet`.
+--   NameListLemmas: `NameList::read`. HeadingLemmas: `headings`. RegisterLemmas: `write_register`.
+--   The others, and ConvertLemmas above them: `convert_sheet`.
 pub mod ListLemmas
 pub mod LineLemmas
 pub mod SheetLemmas
@@ -15,4 +16,3 @@ pub mod AskedLemmas
 pub mod ConvertLemmas
 pub mod HeadingLemmas
 pub mod RegisterLemmas
-pub mod UnknownNameLemmas

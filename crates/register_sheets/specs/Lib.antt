@@ -12,4 +12,3 @@ pub mod RowViews
 pub mod Headings
 pub mod HeadingViews
 pub mod Registers
-pub mod UnknownNames

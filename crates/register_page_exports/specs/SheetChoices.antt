@@ -54,7 +54,7 @@ reading_by order years hebrew charters = do
 -- the calendar of a date is at this place, or that of this number
 abbrev pub calendar_by : ℕ → ℕ → Option CalendarField
 calendar_by place number =
-    if place == no_place then slice_get all_calendars number >>= λ c. Some (calendar.All c)
+    if place == no_place then (slice_get all_calendars number >>= λ c. Some (calendar.All c))
     else Some (calendar.Column place)
 
 abbrev pub date_by : ℕ → ℕ → ℕ → Option DateColumn
@@ -90,19 +90,19 @@ pub record SheetAsked : Type 0 where
   pub dates : List DateColumn
   pub columns : List AskedColumn
 
+-- the delimiter is a byte
+abbrev pub if_byte : {A : Type 0} → ℕ → Option A → Option A
+if_byte delimiter asked = if nat_lt delimiter 256 then asked else None
+
 abbrev pub asked_by : List ℕ → List ℕ → Option SheetAsked
 asked_by (delimiter ∷ above ∷ id ∷ order ∷ years ∷ hebrew ∷ charters ∷ numbers) columns =
-    if nat_lt delimiter 256 then do
-      reading ← reading_by order years hebrew charters
-      dates ← dates_by numbers
-      asked ← columns_by columns
-      Some (record {
-        delimiter = delimiter;
-        above = above;
-        id = id_by id;
-        reading = reading;
-        dates = dates;
-        columns = asked;
-      })
-    else None
+    if_byte delimiter (reading_by order years hebrew charters >>= λ reading. dates_by numbers >>= λ dates.
+    columns_by columns >>= λ asked. Some (record {
+      delimiter = delimiter;
+      above = above;
+      id = id_by id;
+      reading = reading;
+      dates = dates;
+      columns = asked;
+    }))
 asked_by numbers columns = None

@@ -1,8 +1,7 @@
 //! The work of a thread that converts.
 
-ghost use Rattle.std.specs.Prelude.{◌≡◌, [], IfSome};
+ghost use Rattle.std.specs.Prelude.{◌≡◌, []};
 ghost use Rattle.lane_rings.specs.Lane.{receiver_lane, sender_lane, sent, taken};
-ghost use Rattle.register_run.specs.Carried.{AreOfAllTaken, AreOfTaken};
 ghost use Rattle.register_run.specs.JoinedThreads.{IsConverting};
 
 use crate::gates::Gate;
@@ -14,37 +13,39 @@ use std::time::{Clock, CpuClock};
 /// What a converter hands back: its end of the lane from the reader, and what is left of its end of the lane to the
 /// writer.
 #[derive(Drop)]
-pub(crate) struct ConverterResult {
+pub(crate) struct Converting {
     pub(crate) entries: Receiver<Entry>,
     pub(crate) closed: Closed<Row>,
 }
 
 /// Sends the row of each entry that it takes, and ends the second lane as the first one ended.
 ///
-/// Each row is made where the one before it lay, since each move would copy it. Where the writer is gone it goes on
-/// taking, so that the reader never waits for it, and ends with a stop.
+/// Where the writer is gone it goes on taking, so that the reader never waits for it, and ends with a stop.
 pub(crate) fn convert_entries<T: Wait + Clock + CpuClock, G: Gate>(
     rt: &T,
     gate: &G,
     setup: &Setup,
     entries: Receiver<Entry>,
     rows: Sender<Row>,
-) -> ConverterResult
+) -> Converting
     requires none_sent { sent rows ≡ [] }
     requires none_taken { taken entries ≡ [] }
     ensures { IsConverting (receiver_lane entries) (sender_lane rows) result }
 {
-    let (mut entries, mut rows) = (entries, rows);
+    let mut entries = entries;
+    let mut rows = rows;
     let mut row = Row::blank();
     let mut gone = false;
     for _ in rt.forever() {
         if entries.wait(rt).is_err() {
-            return end_rows(rt, entries, rows, None);
+            let closed = rows.stop(rt);
+            return Converting { entries, closed };
         }
         match entries.next() {
             Some(Item::Entry(entry)) => {
                 let entry = *entry;
                 entries.pass();
+                // The row is made where the one before it lay, since each move would copy it.
                 row.renew(&entry, setup);
                 if !gone {
                     gate.pass(rt, entry.number());
@@ -52,34 +53,22 @@ pub(crate) fn convert_entries<T: Wait + Clock + CpuClock, G: Gate>(
                 }
             }
             Some(Item::End(count)) => {
-                let count = if gone { None } else { Some(*count) };
+                let count = *count;
                 entries.pass();
-                return end_rows(rt, entries, rows, count);
+                if gone {
+                    let closed = rows.stop(rt);
+                    return Converting { entries, closed };
+                }
+                let closed = rows.close(rt, count);
+                return Converting { entries, closed };
             }
             Some(Item::Stop) => {
                 entries.pass();
-                return end_rows(rt, entries, rows, None);
+                let closed = rows.stop(rt);
+                return Converting { entries, closed };
             }
             None => unreachable!(),
         }
     }
     unreachable!()
-}
-
-/// Ends the lane of rows: with this count, or with a stop where there is none.
-fn end_rows(
-    rt: &(impl Wait + Clock + CpuClock),
-    entries: Receiver<Entry>,
-    rows: Sender<Row>,
-    count: Option<u64>,
-) -> ConverterResult
-    requires first { AreOfTaken (taken entries) (sent rows) }
-    requires all { IfSome count (λ _. AreOfAllTaken (taken entries) (sent rows)) }
-    ensures { IsConverting (receiver_lane entries) (sender_lane rows) result }
-{
-    let closed = match count {
-        Some(count) => rows.close(rt, count),
-        None => rows.stop(rt),
-    };
-    ConverterResult { entries, closed }
 }

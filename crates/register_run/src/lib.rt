@@ -14,6 +14,8 @@ mod reading;
 mod reports;
 mod running;
 mod running_sources;
+mod source_threads;
+mod stripe_lists;
 mod stripes;
 mod turns;
 

@@ -1,0 +1,57 @@
+-- The numbers in front of those of the columns of dates, one by one.
+use Rattle.std.proofs.Common.{◌≡◌, ◌+◌, ◌++◌, ◌∷◌, [], ℕ, suc, List, Option, Some, None, length, refl, ap, sym}
+use Rattle.std.proofs.Common.{append_assoc, arith, drop, slice_get, slice_index_or, take, true}
+use Rattle.std.specs.Prelude.{nat_lt}
+use Rattle.date_texts.specs.Calendars.{all_targets}
+use Rattle.date_texts.specs.declared.target.Target.{Target}
+use Rattle.written_dates.specs.declared.written.Choice.{Choice}
+use Rattle.register_sheets.specs.declared.choices.AskedColumn.{AskedColumn}
+use Rattle.register_sheets.specs.declared.choices.AskedColumn.TheVariants.{Cells}
+use Rattle.register_sheets.specs.declared.choices.DateColumn.{DateColumn}
+use Rattle.register_page_exports.specs.AskedViews.{all_before}
+use Rattle.register_page_exports.specs.SheetChoices.{asked_by, before, column_by, columns_by, date_by, dates_by, id_by}
+use Rattle.register_page_exports.specs.SheetChoices.{reading_by}
+
+-- what is asked by seven numbers in front and the others
+pub asked_made : (head dates columns : List ℕ) (delimiter : ℕ) (reading : Choice) (ds : List DateColumn)
+    (cs : List AskedColumn) → length head ≡ 7 → delimiter ≡ slice_index_or head 0 0 → nat_lt delimiter 256 ≡ true
+    → reading_by (slice_index_or head 3 0) (slice_index_or head 4 0) (slice_index_or head 5 0) (slice_index_or head 6 0)
+    ≡ Some reading
+    → dates_by dates ≡ Some ds → columns_by columns ≡ Some cs
+    → asked_by (head ++ dates) columns ≡ Some (record {
+      delimiter = delimiter;
+      above = slice_index_or head 1 0;
+      id = id_by (slice_index_or head 2 0);
+      reading = reading;
+      dates = ds;
+      columns = cs;
+    })
+asked_made (a ∷ b ∷ c ∷ d ∷ e ∷ f ∷ g ∷ []) dates columns delimiter reading ds cs seven is byte read dated asked =
+    let low = rw is at byte in rw (is, low, read, dated, asked) refl
+asked_made head dates columns delimiter reading ds cs seven is byte read dated asked = absurd (omega (arith, seven))
+
+pub no_dates : (head dates columns : List ℕ) (reading : Choice) → length head ≡ 7
+    → reading_by (slice_index_or head 3 0) (slice_index_or head 4 0) (slice_index_or head 5 0) (slice_index_or head 6 0)
+    ≡ Some reading
+    → nat_lt (slice_index_or head 0 0) 256 ≡ true → dates_by dates ≡ None → asked_by (head ++ dates) columns ≡ None
+no_dates (a ∷ b ∷ c ∷ d ∷ e ∷ f ∷ g ∷ []) dates columns reading seven read byte none = rw (byte, read, none) refl
+no_dates head dates columns reading seven read byte none = absurd (omega (arith, seven))
+
+-- a column asked by a number from 2 on is that of a target
+pub column_at : (n k : ℕ) (target : Target) → n ≡ suc (suc k) → slice_get all_targets k ≡ Some target
+    → Some (Cells target) ≡ column_by n
+column_at n k target e is = rw (e, is) refl
+
+-- one more column of dates
+push_before : (items : List DateColumn) (d : DateColumn) (more : Option (List DateColumn))
+    → all_before items (before d more) ≡ all_before (items ++ d ∷ []) more
+push_before items d None = refl
+push_before items d (Some ds) = ap (λ (xs : List DateColumn). Some xs) (sym (append_assoc items (d ∷ []) ds))
+
+pub next_date : (rest group others : List ℕ) (items : List DateColumn) (d : DateColumn) → group ≡ take 3 rest
+    → others ≡ drop 3 rest → length others + 3 ≡ length rest
+    → date_by (slice_index_or group 0 0) (slice_index_or group 1 0) (slice_index_or group 2 0) ≡ Some d
+    → all_before items (dates_by rest) ≡ all_before (items ++ d ∷ []) (dates_by others)
+next_date (a ∷ b ∷ c ∷ rest) group others items d front behind count is =
+    let named = rw front at is in rw (behind, named) (push_before items d (dates_by rest))
+next_date rest group others items d front behind count is = absurd (omega (arith, count))

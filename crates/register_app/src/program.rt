@@ -244,9 +244,10 @@ fn convert_input<
     ensures mark { W.own_mark result.output ≡ W.own_mark output }
     ensures errors_mark { E.own_mark errors.new ≡ E.own_mark errors.old }
 {
-    let (Ok(mut sources), Ok(mut outputs)) =
-        (Vec::with_capacity(alloc, 1), Vec::with_capacity(alloc, 1))
-    else {
+    let (Ok(mut sources), Ok(mut outputs)) = (
+        Vec::with_capacity(alloc, 1),
+        Vec::with_capacity(alloc, 1),
+    ) else {
         let why = ProgramFault::Arguments(RequestFault::OutOfMemory);
         return refuse(alloc, output, errors, &why);
     };

@@ -37,7 +37,11 @@ impl ProgramFault<'_> {
     {
         match self {
             ProgramFault::Arguments(fault) => fault.text(alloc),
-            ProgramFault::Files(FileFault::CannotOpen(file)) => own_line(alloc, "cannot open ", file),
+            ProgramFault::Files(FileFault::CannotOpen(file)) => own_line(
+                alloc,
+                "cannot open ",
+                file,
+            ),
             ProgramFault::Files(FileFault::CannotMake(file)) => {
                 own_line(alloc, "cannot make ", output_name(alloc, file)?.as_str())
             }

@@ -4,3 +4,4 @@ pub mod DateReports
 pub mod SheetChoices
 pub mod AskedViews
 pub mod SheetTables
+pub mod KnownViews

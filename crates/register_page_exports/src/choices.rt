@@ -205,11 +205,7 @@ impl Asked {
     ghost use Rattle.register_page_exports.specs.SheetChoices.{asked_by};
 
     /// What these numbers ask; nothing where they are no choice.
-    pub fn by(
-        alloc: Global,
-        numbers: &[u32],
-        columns: &[u8],
-    ) -> Result<Option<Asked>, AllocError>
+    pub fn by(alloc: Global, numbers: &[u32], columns: &[u8]) -> Result<Option<Asked>, AllocError>
         ensures { IfOk result (λ asked. asked_seen asked ≡ asked_by numbers.now columns.now) }
     {
         match numbers.split_first_chunk::<HEAD>() {

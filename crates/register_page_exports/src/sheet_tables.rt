@@ -7,8 +7,10 @@ ghost use Rattle.register_sheets.specs.Headings.{items_of};
 ghost use Rattle.register_sheets.specs.NameLists.{IsListOf};
 ghost use Rattle.register_sheets.specs.Registers.{IsRegister};
 ghost use Rattle.register_sheets.specs.declared.choices.DateColumn.{DateColumn as DateColumnValue};
+ghost use Rattle.register_sheets.specs.declared.choices.SheetChoice.{SheetChoice as SheetChoiceValue};
 ghost use Rattle.written_dates.specs.Fields.{bare_name, entries};
 ghost use Rattle.register_page_exports.specs.AskedViews.{seen};
+ghost use Rattle.register_page_exports.specs.KnownViews.{IsChoiceOfKnown};
 ghost use Rattle.register_page_exports.specs.SheetChoices.{asked_by};
 ghost use Rattle.register_page_exports.specs.SheetReports.{PutsText};
 ghost use Rattle.register_page_exports.specs.SheetTables.{HasHeadings, IsAskedRegister, IsAskedSheet, IsChoiceOf};
@@ -110,26 +112,31 @@ fn slices_of(alloc: Global, texts: &[Vec<u8>]) -> Result<Vec<&[u8]>, AllocError>
     Ok(slices)
 }
 
-/// What a sheet is read by.
+/// What is asked of a sheet, and what it is read by.
+// In one struct, since the borrow checker has one reference to what a setup is made of.
 #[derive(Drop)]
 struct Known<'a> {
+    asked: Asked,
     names: Names<'a>,
     calendars: CalendarNames<'a>,
     headings: Vec<&'a [u8]>,
 }
 
-/// What a sheet is read by, by these names and headings.
+/// What is asked of a sheet, with what it is read by: these names and headings.
 fn known_by<'a>(
     alloc: Global,
+    asked: Asked,
     names: &'a [Name<'a>],
     calendars: &'a [CalendarName<'a>],
     headings: &'a [Vec<u8>],
 ) -> Result<Known<'a>, AllocError>
+    ensures asked { IfOk result (λ known. known.asked ≡ asked) }
     ensures names { IfOk result (λ known. known.names.listed.now ≡ names.now) }
     ensures calendars { IfOk result (λ known. entries known.calendars ≡ map bare_name calendars.now) }
     ensures headings { IfOk result (λ known. map (λ heading. heading.now) known.headings.items ≡ items_of headings.now) }
 {
     Ok(Known {
+        asked,
         names: Names::layered(alloc, names)?,
         calendars: CalendarNames::layered(alloc, calendars)?,
         headings: slices_of(alloc, headings)?,
@@ -151,18 +158,17 @@ fn headings_of(alloc: Global, sheet: &[u8], asked: &Asked) -> Result<Vec<Vec<u8>
 }
 
 /// The setup of what is asked of a sheet.
-fn setup_of<'a>(asked: &'a Asked, known: &'a Known<'a>) -> Result<SheetSetup<'a>, SheetEnding>
-    ensures { IfOk result (λ setup. IsChoiceOf (seen asked.now) known.now.names.listed.now (entries known.now.calendars)
-        (map (λ heading. heading.now) known.now.headings.items) setup.choice) }
+fn setup_of<'a>(known: &'a Known<'a>) -> Result<SheetSetup<'a>, SheetEnding>
+    ensures { IfOk result (λ setup. IsChoiceOfKnown known.now setup.choice) }
 {
     let setup = SheetSetup::new(SheetChoice {
-        delimiter: asked.delimiter,
-        above: asked.above,
-        id: asked.id,
-        dates: asked.dates.as_slice(),
-        columns: asked.columns.as_slice(),
+        delimiter: known.asked.delimiter,
+        above: known.asked.above,
+        id: known.asked.id,
+        dates: known.asked.dates.as_slice(),
+        columns: known.asked.columns.as_slice(),
         headings: known.headings.as_slice(),
-        reading: asked.reading,
+        reading: known.asked.reading,
         names: &known.names,
         calendars: &known.calendars,
     });
@@ -180,18 +186,19 @@ struct SheetMade {
     refused: [u32; MAX_DATES],
 }
 
-/// The sheet that comes back by a setup.
+/// The sheet that comes back by what is known.
 fn converted_by(
     alloc: Global,
     sheet: &[u8],
-    setup: &SheetSetup,
+    known: &Known,
     expected: usize,
 ) -> Result<SheetMade, SheetEnding>
-    ensures { IfOk result (λ made. IsWholeSheet setup.now.choice (text_records setup.now.choice.delimiter sheet.now)
-        made.rows made.refused made.text.items) }
+    ensures { IfOk result (λ made. (choice : SheetChoiceValue) × IsChoiceOfKnown known.now choice
+        × IsWholeSheet choice (text_records choice.delimiter sheet.now) made.rows made.refused made.text.items) }
 {
+    let setup = setup_of(known)?;
     let mut output = PlainOutput::new(bytes_for(alloc, expected), 0);
-    let end = convert_sheet(alloc, sheet, setup, &mut output);
+    let end = convert_sheet(alloc, sheet, &setup, &mut output);
     let text = output.into_inner();
     match end {
         SheetEnd::Whole { rows, refused } => Ok(SheetMade {
@@ -203,23 +210,24 @@ fn converted_by(
     }
 }
 
-/// The register of a column of dates by a setup.
+/// The register of a column of dates by what is known.
 fn register_by(
     alloc: Global,
     sheet: &[u8],
-    setup: &SheetSetup,
+    known: &Known,
     column: usize,
     expected: usize,
 ) -> Result<Vec<u8>, SheetEnding>
-    ensures { IfOk result (λ text. (found : DateColumnValue) × (count : ℕ)
-        × (slice_get setup.now.choice.dates.now column ≡ Some found)
-        × IsRegister setup.now.choice found (text_records setup.now.choice.delimiter sheet.now) count text.items) }
+    ensures { IfOk result (λ text. (choice : SheetChoiceValue) × IsChoiceOfKnown known.now choice
+        × (found : DateColumnValue) × (count : ℕ) × (slice_get choice.dates.now column ≡ Some found)
+        × IsRegister choice found (text_records choice.delimiter sheet.now) count text.items) }
 {
+    let setup = setup_of(known)?;
     let Some(column) = setup.choice().dates.get(column) else {
         return Err(SheetEnding::Choice);
     };
     let mut output = PlainOutput::new(bytes_for(alloc, expected), 0);
-    let end = write_register(alloc, sheet, setup, column, &mut output);
+    let end = write_register(alloc, sheet, &setup, column, &mut output);
     let text = output.into_inner();
     match end {
         Ok(_) => Ok(text),
@@ -227,14 +235,15 @@ fn register_by(
     }
 }
 
-/// The names that are not known by a setup, and a list of them.
+/// The names that are not known, and a list of them.
 fn unknown_by(
     alloc: Global,
     sheet: &[u8],
-    setup: &SheetSetup,
+    known: &Known,
     most: usize,
 ) -> Result<(Unknown, Vec<u8>), SheetEnding> {
-    match unknown_names(alloc, sheet, setup, most) {
+    let setup = setup_of(known)?;
+    match unknown_names(alloc, sheet, &setup, most) {
         Ok(unknown) => {
             let text = unknown.text(alloc)?;
             Ok((unknown, text))
@@ -262,12 +271,12 @@ fn converted(
     let headings = headings_of(alloc, sheet, &asked)?;
     let known = known_by(
         alloc,
+        asked,
         names.as_slice(),
         calendars.as_slice(),
         headings.as_slice(),
     )?;
-    let setup = setup_of(&asked, &known)?;
-    converted_by(alloc, sheet, &setup, expected)
+    converted_by(alloc, sheet, &known, expected)
 }
 
 /// The register of a column of dates for what is asked.
@@ -288,12 +297,12 @@ fn register_made(
     let headings = headings_of(alloc, sheet, &asked)?;
     let known = known_by(
         alloc,
+        asked,
         names.as_slice(),
         calendars.as_slice(),
         headings.as_slice(),
     )?;
-    let setup = setup_of(&asked, &known)?;
-    register_by(alloc, sheet, &setup, column, expected)
+    register_by(alloc, sheet, &known, column, expected)
 }
 
 /// The names that are not known for what is asked.
@@ -311,12 +320,12 @@ fn unknown_found(
     let headings = headings_of(alloc, sheet, &asked)?;
     let known = known_by(
         alloc,
+        asked,
         names.as_slice(),
         calendars.as_slice(),
         headings.as_slice(),
     )?;
-    let setup = setup_of(&asked, &known)?;
-    unknown_by(alloc, sheet, &setup, most)
+    unknown_by(alloc, sheet, &known, most)
 }
 
 /// How a sheet came back. A number that says nothing is 0.

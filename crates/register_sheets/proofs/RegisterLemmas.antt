@@ -74,8 +74,7 @@ pub register_sent : (choice : SheetChoice) (column : DateColumn) (all rest : Lis
     → IsSent choice.delimiter begun now lines (register_head ∷ register_records choice column 0 (take number rest))
     → Gains begun now (IsRegister choice column all number)
 register_sent choice column all rest number begun now lines named is counted few sent =
-    let whole : take number rest ≡ below choice all = take_all number rest (omega arith) ∙ is in
-    (
+    let whole : take number rest ≡ below choice all = take_all number rest (omega arith) ∙ is in (
       _,
       record {
         has_names = named;
@@ -98,8 +97,7 @@ register_full choice column all rest number begun now lines is full more sent =
     ≡ take record_limit (register_records choice column 0 (below choice all))
     = ap (λ (n : ℕ). register_records choice column 0 (take n rest)) full
     ∙ ap (λ (xs : List Fields). register_records choice column 0 (take record_limit xs)) is
-    ∙ register_taken choice column 0 record_limit (below choice all) in
-    (
+    ∙ register_taken choice column 0 record_limit (below choice all) in (
       _,
       record {
         more = subst (λ (xs : List Fields). record_limit < length xs) is more;
@@ -115,13 +113,15 @@ pub register_begun : (choice : SheetChoice) (column : DateColumn) (all rest : Li
     (begun now : Option (List ℕ)) → rest ≡ below choice all
     → HasFront choice.delimiter begun now (register_head ∷ register_records choice column 0 rest)
     → Gains begun now (IsFrontOfRegister choice column all)
-register_begun choice column all rest begun now is (count, sent) =
-    (
-      _,
-      (count, ap (λ (xs : List Fields). records_text choice.delimiter
-      (take count (register_head ∷ register_records choice column 0 xs))) is),
-      sent,
-    )
+register_begun choice column all rest begun now is (count, sent) = (
+  _,
+  (
+    count,
+    ap (λ (xs : List Fields). records_text choice.delimiter
+        (take count (register_head ∷ register_records choice column 0 xs))) is,
+  ),
+  sent,
+)
 
 -- nothing was sent yet
 pub none_sent : (d : ℕ) (begun now : Option (List ℕ)) (lines : SheetLines) (rest : List Fields)

@@ -119,12 +119,7 @@ impl NewNames {
     }
 
     /// The name that a column of a column of dates is to have: of several, the own name of that stands before it.
-    fn wanted(
-        &self,
-        date: &DateColumn,
-        several: bool,
-        name: &[u8],
-    ) -> Result<Vec<u8>, AllocError>
+    fn wanted(&self, date: &DateColumn, several: bool, name: &[u8]) -> Result<Vec<u8>, AllocError>
         ensures { IfOk result (λ wanted. wanted.items
             ≡ wanted_heading several (get_or (fields_of self.now.own) date.now.date []) name.now) }
     {

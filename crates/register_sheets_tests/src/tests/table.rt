@@ -48,26 +48,20 @@ struct Case {
     refused: &'static [u32],
 }
 
-const DATE_0_IN_1: [DateColumn; 1] = [
-    DateColumn {
-        date: 0,
-        calendar: CalendarField::Column(1),
-    },
-];
+const DATE_0_IN_1: [DateColumn; 1] = [DateColumn {
+    date: 0,
+    calendar: CalendarField::Column(1),
+}];
 
-const DATE_1_IN_2: [DateColumn; 1] = [
-    DateColumn {
-        date: 1,
-        calendar: CalendarField::Column(2),
-    },
-];
+const DATE_1_IN_2: [DateColumn; 1] = [DateColumn {
+    date: 1,
+    calendar: CalendarField::Column(2),
+}];
 
-const DATE_0_GREGORIAN: [DateColumn; 1] = [
-    DateColumn {
-        date: 0,
-        calendar: CalendarField::All(Calendar::Gregorian),
-    },
-];
+const DATE_0_GREGORIAN: [DateColumn; 1] = [DateColumn {
+    date: 0,
+    calendar: CalendarField::All(Calendar::Gregorian),
+}];
 
 const DATE_1_JULIAN_AND_2_GREGORIAN: [DateColumn; 2] = [
     DateColumn {
@@ -106,13 +100,27 @@ const DATE_0_GREGORIAN_AND_1_GREGORIAN: [DateColumn; 2] = [
     },
 ];
 
-const DAY_AND_GREGORIAN: [AskedColumn; 2] = [AskedColumn::DayNumber, AskedColumn::Cells(Target::Date(Calendar::Gregorian))];
+const DAY_AND_GREGORIAN: [AskedColumn; 2] = [
+    AskedColumn::DayNumber,
+    AskedColumn::Cells(Target::Date(Calendar::Gregorian)),
+];
 
-const WEEKDAY_AND_JULIAN_AND_DAY: [AskedColumn; 3] = [AskedColumn::Weekday, AskedColumn::Cells(Target::Date(Calendar::Julian)), AskedColumn::DayNumber];
+const WEEKDAY_AND_JULIAN_AND_DAY: [AskedColumn; 3] = [
+    AskedColumn::Weekday,
+    AskedColumn::Cells(Target::Date(Calendar::Julian)),
+    AskedColumn::DayNumber,
+];
 
-const WEEKDAY_AND_GREGORIAN_AND_JULIAN: [AskedColumn; 3] = [AskedColumn::Weekday, AskedColumn::Cells(Target::Date(Calendar::Gregorian)), AskedColumn::Cells(Target::Date(Calendar::Julian))];
+const WEEKDAY_AND_GREGORIAN_AND_JULIAN: [AskedColumn; 3] = [
+    AskedColumn::Weekday,
+    AskedColumn::Cells(Target::Date(Calendar::Gregorian)),
+    AskedColumn::Cells(Target::Date(Calendar::Julian)),
+];
 
-const JULIAN_AND_GREGORIAN: [AskedColumn; 2] = [AskedColumn::Cells(Target::Date(Calendar::Julian)), AskedColumn::Cells(Target::Date(Calendar::Gregorian))];
+const JULIAN_AND_GREGORIAN: [AskedColumn; 2] = [
+    AskedColumn::Cells(Target::Date(Calendar::Julian)),
+    AskedColumn::Cells(Target::Date(Calendar::Gregorian)),
+];
 
 const NO_COLUMNS: [AskedColumn; 0] = [];
 

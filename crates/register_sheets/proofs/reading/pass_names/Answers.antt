@@ -12,7 +12,7 @@ records-preserved c =
     let yes : c.in_ok-read_next.field-0 ≡ true = search rules in
     let found = c.read_next.ensures.found (c.in_ok-read_next.was ∙ ap Ok yes) in
     let (taken, left) = one_taken all c.records.counter (fields_of c.read_next.new.record) _ (sym inv.left ∙ found) in
-    record { reading = c.read_next.ensures.reading (c.in_ok-read_next.was ∙ ap Ok yes); left = sym left; }
+    record { reading = c.read_next.ensures.reading (c.in_ok-read_next.was ∙ ap Ok yes); left = sym left }
 
 pub returns-then-not-branch-clause-none : goal.returns-then-not-branch-clause-none
 returns-then-not-branch-clause-none c _ =

@@ -21,6 +21,13 @@ returns-in-Ok-Help-clause-refused g c =
     (λ two. elim c.print_page.ensures.statuses
     [ inl zero ↦ absurd (omega (arith, two)) | inr one ↦ absurd (omega (arith, two, one)) ])
 
+pub returns-in-Ok-Version-clause-answered : goal.returns-in-Ok-Version-clause-answered
+returns-in-Ok-Version-clause-answered g c = λ low.
+    let just : MeanJust (map string_bytes c.args.arguments.now) version
+    = search (rules, c.in-Ok-Version.ensures.asked) in
+    inl (_, inr (just, c.version_line_text.ensures), c.print_page-in-Ok-Version.ensures.printed,
+    c.print_page-in-Ok-Version.ensures.none)
+
 pub returns-in-Ok-Version-clause-refused : goal.returns-in-Ok-Version-clause-refused
 returns-in-Ok-Version-clause-refused g c =
     let arguments = map string_bytes c.args.arguments.now in

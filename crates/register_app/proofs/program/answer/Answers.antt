@@ -5,6 +5,7 @@ use Rattle.std.specs.String.{string_bytes}
 use Rattle.command_lines.specs.Meanings.{help, version, work}
 use Rattle.register_arguments.specs.Requests.{MeanJust, task_of}
 use Rattle.register_arguments.specs.Faults.{fault_of_error}
+use Rattle.register_app.specs.Answers.{version_line}
 use Rattle.register_app.proofs.RefusedLemmas.{is_refused, is_wrong, never_refused}
 use Rattle.register_app.proofs.program.answer.Goals as goal
 
@@ -25,8 +26,13 @@ pub returns-in-Ok-Version-clause-answered : goal.returns-in-Ok-Version-clause-an
 returns-in-Ok-Version-clause-answered g c = λ low.
     let just : MeanJust (map string_bytes c.args.arguments.now) version
     = search (rules, c.in-Ok-Version.ensures.asked) in
-    inl (_, inr (just, c.version_line_text.ensures), c.print_page-in-Ok-Version.ensures.printed,
-    c.print_page-in-Ok-Version.ensures.none)
+    let is : c.as_str.result.now ≡ version_line = search rules in
+    inl (
+      c.as_str.result.now,
+      inr (just, is),
+      c.print_page-in-Ok-Version.ensures.printed,
+      c.print_page-in-Ok-Version.ensures.none,
+    )
 
 pub returns-in-Ok-Version-clause-refused : goal.returns-in-Ok-Version-clause-refused
 returns-in-Ok-Version-clause-refused g c =

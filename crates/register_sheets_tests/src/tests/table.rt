@@ -800,12 +800,22 @@ fn slices_of(alloc: Global, texts: &[Vec<u8>]) -> Result<Vec<&[u8]>, Fail> {
     Ok(slices)
 }
 
-/// The sheet of a case as it comes back, with how it ended.
-fn converted_by<'a>(
+/// These names and headings.
+fn known_by<'a>(
     alloc: Global,
-    case: &'a Case,
-    known: &'a Known<'a>,
-) -> Result<(Vec<u8>, SheetEnd), Fail> {
+    names: &'a [Name<'a>],
+    calendars: &'a [CalendarName<'a>],
+    headings: &'a [Vec<u8>],
+) -> Result<Known<'a>, Fail> {
+    Ok(Known {
+        names: Names::layered(alloc, names)?,
+        calendars: CalendarNames::layered(alloc, calendars)?,
+        headings: slices_of(alloc, headings)?,
+    })
+}
+
+/// The sheet of a case as it comes back, with how it ended.
+fn converted_by(alloc: Global, case: &Case, known: &Known) -> Result<(Vec<u8>, SheetEnd), Fail> {
     let setup = SheetSetup::new(SheetChoice {
         delimiter: case.delimiter,
         above: case.above,
@@ -822,13 +832,11 @@ fn converted_by<'a>(
     Ok((output.into_inner(), end))
 }
 
-/// The same, by names.
-fn converted(
-    alloc: Global,
-    case: &Case,
-    names: &[Name],
-    calendars: &[CalendarName],
-) -> Result<(Vec<u8>, SheetEnd), Fail> {
+/// The same, by the list of names.
+fn converted(alloc: Global, case: &Case) -> Result<(Vec<u8>, SheetEnd), Fail> {
+    let list = NameList::read(alloc, NAMES.as_bytes())?;
+    let names = list.names(alloc)?;
+    let calendars = list.calendar_names(alloc)?;
     let headings = headings(
         alloc,
         case.sheet.as_bytes(),
@@ -837,11 +845,12 @@ fn converted(
         case.dates,
         case.columns,
     )?;
-    let known = Known {
-        names: Names::layered(alloc, names)?,
-        calendars: CalendarNames::layered(alloc, calendars)?,
-        headings: slices_of(alloc, headings.as_slice())?,
-    };
+    let known = known_by(
+        alloc,
+        names.as_slice(),
+        calendars.as_slice(),
+        headings.as_slice(),
+    )?;
     converted_by(alloc, case, &known)
 }
 
@@ -849,7 +858,7 @@ fn converted(
 fn is_whole(end: SheetEnd, case: &Case) -> bool {
     match end {
         SheetEnd::Whole { rows, refused } => {
-            rows == case.rows && &refused[..case.refused.len()] == case.refused
+            rows == case.rows && refused.starts_with(case.refused)
         }
         SheetEnd::Broken { .. } => false,
     }
@@ -857,11 +866,8 @@ fn is_whole(end: SheetEnd, case: &Case) -> bool {
 
 #[test]
 fn sheets_come_back_as_python_has_their_days(rt: HostRuntime) -> Result<(), Fail> {
-    let list = NameList::read(rt.alloc(), NAMES.as_bytes())?;
-    let names = list.names(rt.alloc())?;
-    let calendars = list.calendar_names(rt.alloc())?;
     for case in &CASES {
-        let (text, end) = converted(rt.alloc(), case, names.as_slice(), calendars.as_slice())?;
+        let (text, end) = converted(rt.alloc(), case)?;
         assert_eq!(rt; text.as_slice(), case.wanted.as_bytes());
         assert!(rt; is_whole(end, case));
     }

@@ -1,0 +1,61 @@
+//! The program `register-sheet`: converts the dates in sheets.
+//!
+//! It reads CSV texts with columns of their own, from files or from standard input, and writes each with further columns
+//! behind: the days of its dates in the calendars that the arguments ask for.
+#![tactic(auto)]
+
+mod built_names;
+
+use built_names::BUILT_NAMES;
+use register_files::{Destination, Disk, LoggedWriter, Source, lines_to};
+use register_records::PlainOutput;
+use sheet_app::answer;
+use sheet_arguments::MEMORY_FAULT;
+use std::fs::OpenOptions;
+use std::process::ExitCode;
+use std::rt::{Env, Files};
+use std::{env, io};
+
+/// The arguments after the name of the program.
+fn arguments_of<R: Env + AllocGlobal>(rt: &R) -> io::Result<Vec<String>> {
+    let arguments = env::args(rt)?.skip(1).collect(rt.alloc())?;
+    Ok(arguments)
+}
+
+/// Reports why the arguments could not be read: memory ran out, status 3, or one is not UTF-8, status 2.
+fn unread_arguments(rt: &impl Eprint, error: &io::Error) -> ExitCode {
+    if error.kind() == io::ErrorKind::OutOfMemory {
+        let _ = eprint!(rt; "{MEMORY_FAULT}");
+        return ExitCode::from(3);
+    }
+    let _ = eprintln!(rt; "register-sheet: an argument is not UTF-8");
+    ExitCode::from(2)
+}
+
+/// Opens a file that has no bytes. The system gives it the first free number.
+fn open_nothing<R: Files>(rt: &R) -> Option<R::File> {
+    OpenOptions::new().read(true).open(rt, "/dev/null").ok()
+}
+
+fn main(rt: HostRuntime) -> ExitCode {
+    // A standard stream that is closed leaves its number, 0, 1 or 2, free. It is taken here, so that no file that the
+    // arguments name gets it: else what is meant for standard error could be written into a table.
+    let _streams = [open_nothing(&rt), open_nothing(&rt), open_nothing(&rt)];
+    let arguments = match arguments_of(&rt) {
+        Ok(arguments) => arguments,
+        Err(error) => return unread_arguments(&rt, &error),
+    };
+    let input = Source::Input(rt.stdin());
+    let output = PlainOutput::new(LoggedWriter::new(Destination::Output(rt.stdout())), 1);
+    let mut errors = PlainOutput::new(LoggedWriter::new(lines_to(rt.stderr())), 0);
+    let outcome = answer(
+        rt.alloc(),
+        BUILT_NAMES.as_bytes(),
+        arguments.as_slice(),
+        input,
+        output,
+        &Disk::new(&rt),
+        &mut errors,
+    );
+    ExitCode::from(outcome.status)
+}

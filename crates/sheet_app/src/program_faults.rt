@@ -1,0 +1,69 @@
+//! Why nothing is done.
+
+use crate::file_sheets::FileFault;
+use itoa::Buffer;
+use register_sheets::NameListFault;
+use sheet_arguments::{MEMORY_FAULT, RequestFault, own_line};
+use std::alloc::{AllocError, Global};
+
+/// Why nothing is done: what is wrong with the arguments, with the files that they name, or with the list of names.
+#[derive(Drop)]
+pub enum ProgramFault<'a> {
+    Arguments(RequestFault<'a>),
+    Files(FileFault<'a>),
+    /// The list of names could not be read.
+    UnreadList(&'a str),
+    /// The file is no list of names.
+    NoList(&'a str, NameListFault),
+    /// Memory ran out.
+    OutOfMemory,
+}
+
+/// The line on a list of names that is none.
+fn list_line(alloc: Global, file: &str, fault: NameListFault) -> Result<String, AllocError> {
+    let (number, why) = match fault {
+        NameListFault::OutOfMemory => return String::from_str(alloc, MEMORY_FAULT),
+        NameListFault::Header => return own_line(alloc, "not name,means,in at the head of ", file),
+        NameListFault::Means(number) => (number, ": means of record "),
+        NameListFault::In(number) => (number, ": in of record "),
+    };
+    let mut word = String::from_str(alloc, file)?;
+    word.push_str(why)?;
+    word.push_str(Buffer::new().format(number))?;
+    own_line(alloc, "bad list of names ", word.as_str())
+}
+
+impl ProgramFault<'_> {
+    /// The exit status: 2 for what is wrong with the arguments, and 3 for files, for a list of names, and where memory ran
+    /// out.
+    pub fn status(&self) -> u8 {
+        match self {
+            ProgramFault::Arguments(fault) => fault.status(),
+            _ => 3,
+        }
+    }
+
+    /// What standard error gets: a line that begins with the program's name, or the text of clap.
+    ///
+    /// # Errors
+    ///
+    /// Memory ran out.
+    pub fn text(&self, alloc: Global) -> Result<String, AllocError> {
+        match self {
+            ProgramFault::Arguments(fault) => fault.text(alloc),
+            ProgramFault::Files(FileFault::CannotOpen(file)) => own_line(
+                alloc,
+                "cannot open ",
+                file,
+            ),
+            ProgramFault::Files(FileFault::CannotMake(name)) => {
+                own_line(alloc, "cannot make ", name.as_str())
+            }
+            ProgramFault::UnreadList(file) => own_line(alloc, "cannot read ", file),
+            ProgramFault::NoList(file, fault) => list_line(alloc, file, *fault),
+            ProgramFault::Files(FileFault::OutOfMemory) | ProgramFault::OutOfMemory => {
+                String::from_str(alloc, MEMORY_FAULT)
+            }
+        }
+    }
+}

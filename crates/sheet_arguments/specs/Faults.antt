@@ -1,0 +1,90 @@
+-- What can be wrong with the arguments.
+use Rattle.std.specs.Prelude.{◌++◌, ◌∷◌, ℕ, List, [], codes, Option, Some, None}
+use Rattle.std.specs.Option.{option_map_or}
+use Rattle.clap.specs.Values.{kind_of}
+use Rattle.clap.specs.declared.error.kind.ErrorKind.{ErrorKind}
+use Rattle.command_lines.specs.declared.files.FilesFault.{FilesFault}
+use Rattle.command_lines.specs.declared.files.FilesFault.TheVariants as files_fault
+use Rattle.register_sheets.specs.Headings.{asked_name}
+use Rattle.register_sheets.specs.declared.choices.AskedColumn.{AskedColumn}
+use Rattle.sheet_arguments.specs.declared.request_faults.RequestFault.{RequestFault}
+use Rattle.sheet_arguments.specs.declared.request_faults.RequestFault.TheVariants as request_fault
+
+-- what is wrong: the options are not written as they are taken, no column of dates is named or more than eight, the
+-- calendars are not as many, a word names no calendar, no order, no rule of short years, no number or no delimiter, a
+-- name names no column or one twice, registers of standard input are asked for, there are more than 32 files, or a file
+-- is named twice
+pub data Fault : Type 0 where
+  usage : ErrorKind → Fault
+  no_date : Fault
+  too_many_dates : Fault
+  calendar_count : Fault
+  unknown_calendar : List ℕ → Fault
+  unknown_order : List ℕ → Fault
+  bad_short_years : List ℕ → Fault
+  bad_short_hebrew_years : List ℕ → Fault
+  bad_skip : List ℕ → Fault
+  unknown_delimiter : List ℕ → Fault
+  unknown_column : List ℕ → Fault
+  column_twice : AskedColumn → Fault
+  register_of_input : Fault
+  too_many_files : Fault
+  file_twice : List ℕ → Fault
+
+-- the fault that an error is; running out of memory is none
+abbrev pub fault_of_error : RequestFault → Option Fault
+fault_of_error request_fault.OutOfMemory = None
+fault_of_error (request_fault.Usage error) = Some (usage (kind_of error))
+fault_of_error request_fault.NoDate = Some no_date
+fault_of_error request_fault.TooManyDates = Some too_many_dates
+fault_of_error request_fault.CalendarCount = Some calendar_count
+fault_of_error (request_fault.UnknownCalendar word) = Some (unknown_calendar word.now)
+fault_of_error (request_fault.UnknownOrder word) = Some (unknown_order word.now)
+fault_of_error (request_fault.BadShortYears word) = Some (bad_short_years word.now)
+fault_of_error (request_fault.BadShortHebrewYears word) = Some (bad_short_hebrew_years word.now)
+fault_of_error (request_fault.BadSkip word) = Some (bad_skip word.now)
+fault_of_error (request_fault.UnknownDelimiter word) = Some (unknown_delimiter word.now)
+fault_of_error (request_fault.UnknownColumn name) = Some (unknown_column name.now)
+fault_of_error (request_fault.ColumnTwice column) = Some (column_twice column)
+fault_of_error request_fault.RegisterOfInput = Some register_of_input
+fault_of_error request_fault.TooManyFiles = Some too_many_files
+fault_of_error (request_fault.FileTwice file) = Some (file_twice file.now)
+
+-- the error that a fault of files is
+abbrev pub fault_of_files : FilesFault → RequestFault
+fault_of_files files_fault.TooMany = request_fault.TooManyFiles
+fault_of_files (files_fault.Twice file) = request_fault.FileTwice file
+
+-- 2 for what is wrong with the arguments, and 3 where memory ran out
+abbrev pub status_of_fault : RequestFault → ℕ
+status_of_fault error = option_map_or (λ fault. 2) (fault_of_error error) 3
+
+-- a line of the program's own
+abbrev pub program_line : List ℕ → List ℕ
+program_line text = codes "register-sheet: " ++ (text ++ 10 ∷ [])
+
+-- that memory ran out
+abbrev pub memory_line : List ℕ
+memory_line = program_line (codes "out of memory")
+
+-- the line on standard error; on arguments that are not taken, clap says more
+abbrev pub error_line : RequestFault → Option (List ℕ)
+error_line request_fault.OutOfMemory = Some memory_line
+error_line (request_fault.Usage error) = None
+error_line request_fault.NoDate = Some (program_line (codes "no column of dates: give --date COLUMN"))
+error_line request_fault.TooManyDates = Some (program_line (codes "more than 8 columns of dates"))
+error_line request_fault.CalendarCount =
+    Some (program_line (codes "give --calendar COLUMN or --all CALENDAR, once or once for each --date"))
+error_line (request_fault.UnknownCalendar word) = Some (program_line (codes "unknown calendar: " ++ word.now))
+error_line (request_fault.UnknownOrder word) = Some (program_line (codes "unknown order: " ++ word.now))
+error_line (request_fault.BadShortYears word) = Some (program_line (codes "bad short years: " ++ word.now))
+error_line (request_fault.BadShortHebrewYears word) =
+    Some (program_line (codes "bad short Hebrew years: " ++ word.now))
+error_line (request_fault.BadSkip word) = Some (program_line (codes "bad number of records to skip: " ++ word.now))
+error_line (request_fault.UnknownDelimiter word) = Some (program_line (codes "unknown delimiter: " ++ word.now))
+error_line (request_fault.UnknownColumn name) = Some (program_line (codes "unknown column: " ++ name.now))
+error_line (request_fault.ColumnTwice column) =
+    Some (program_line (codes "column named twice: " ++ asked_name column))
+error_line request_fault.RegisterOfInput = Some (program_line (codes "--register is for files"))
+error_line request_fault.TooManyFiles = Some (program_line (codes "more than 32 files"))
+error_line (request_fault.FileTwice file) = Some (program_line (codes "file named twice: " ++ file.now))

@@ -1,0 +1,5 @@
+pub mod Faults
+pub mod OptionValues
+pub mod WordLists
+pub mod CommandLine
+pub mod Requests

@@ -1,0 +1,185 @@
+-- What the arguments ask for.
+use Rattle.std.specs.Prelude.{◌≡◌, ◌==◌, ◌||◌, ◌&&◌, ℕ, Bool, true, false, List, [], ◌∷◌, length, map, nat_lt, not}
+use Rattle.std.specs.Prelude.{if◌then◌else◌, Option, Some, None, option_map, Result, Ok, Err}
+use Rattle.clap.specs.Words.{Text}
+use Rattle.date_texts.specs.declared.calendar.Calendar.{Calendar}
+use Rattle.command_lines.specs.FileLists.{AreFilesToConvert}
+use Rattle.command_lines.specs.Meanings as lines
+use Rattle.command_lines.specs.Meanings.{Check, CommandLine, Meaning, file_check, help, option_check, version, work}
+use Rattle.command_lines.specs.Values.{IsValueOf, delimiter_option}
+use Rattle.register_sheets.specs.Choices.{date_limit}
+use Rattle.register_sheets.specs.declared.choices.AskedColumn.{AskedColumn}
+use Rattle.written_dates.specs.declared.written.Choice.{Choice}
+use Rattle.sheet_arguments.specs.CommandLine.{Values, command_line, values_of}
+use Rattle.sheet_arguments.specs.Faults.{Fault, bad_short_hebrew_years, bad_short_years, bad_skip, calendar_count}
+use Rattle.sheet_arguments.specs.Faults.{file_twice, no_date, register_of_input, too_many_dates, too_many_files}
+use Rattle.sheet_arguments.specs.Faults.{unknown_delimiter, unknown_order, usage}
+use Rattle.sheet_arguments.specs.OptionValues.{order_number, order_option, short_hebrew_option, short_number}
+use Rattle.sheet_arguments.specs.OptionValues.{short_option, skip_option}
+use Rattle.sheet_arguments.specs.WordLists.{columns_asked, with_calendars}
+use Rattle.sheet_arguments.specs.declared.requests.CalendarsAsked.{CalendarsAsked}
+use Rattle.sheet_arguments.specs.declared.requests.CalendarsAsked.TheVariants as asked
+use Rattle.sheet_arguments.specs.declared.requests.Job.{Job}
+use Rattle.sheet_arguments.specs.declared.requests.Options.{Options}
+use Rattle.sheet_arguments.specs.declared.requests.Request.{Request}
+use Rattle.sheet_arguments.specs.declared.requests.Request.TheVariants as request
+
+-- where the calendars of the dates are: in these columns, or all dates of a column have one; one for all columns of
+-- dates, or one for each
+pub data CalendarsWanted : Type 0 where
+  in_columns : List Text → CalendarsWanted
+  all_have : List Calendar → CalendarsWanted
+
+-- what arguments can ask for
+pub record Task : Type 0 where
+  pub dates : List Text
+  pub calendars : CalendarsWanted
+  pub id : Option Text
+  pub columns : List AskedColumn
+  pub reading : Choice
+  pub names : Option Text
+  pub skip : ℕ
+  pub delimiter : ℕ
+  pub register : Bool
+  pub unknown : Bool
+  pub summary : Bool
+  pub files : List Text
+
+-- so many are neither one nor as many as there are columns of dates
+abbrev pub is_misfit : ℕ → ℕ → Bool
+is_misfit dates count = not (count == 1) && not (count == dates)
+
+-- there are neither words for columns of calendars nor for calendars, or both, or not as many as wanted
+abbrev pub are_misfits : ℕ → ℕ → ℕ → Bool
+are_misfits dates columns calendars =
+    if columns == 0 then is_misfit dates calendars else (not (calendars == 0) || is_misfit dates columns)
+
+-- the calendars that words ask for: those in columns, or without such, those that the others name
+abbrev pub to_all : Result (List Calendar) Fault → Result CalendarsWanted Fault
+to_all (Ok calendars) = Ok (all_have calendars)
+to_all (Err fault) = Err fault
+
+abbrev pub calendars_wanted : List Text → List Text → Result CalendarsWanted Fault
+calendars_wanted [] all = to_all (with_calendars [] all)
+calendars_wanted (word ∷ words) all = Ok (in_columns (word ∷ words))
+
+-- registers are asked for, and no file
+abbrev pub asks_for_registers_of_input : Values → Bool
+asks_for_registers_of_input values = values.register && (length values.files == 0)
+
+-- the values ask for this task
+pub record Ask (values : Values) (task : Task) : Type 0 where
+  pub dates : task.dates ≡ values.dates
+  pub some_dates : (length values.dates == 0) ≡ false
+  pub few_dates : nat_lt date_limit (length values.dates) ≡ false
+  pub as_many : are_misfits (length values.dates) (length values.calendars) (length values.all) ≡ false
+  pub calendars : calendars_wanted values.calendars values.all ≡ Ok task.calendars
+  pub id : task.id ≡ values.id
+  pub order : IsValueOf order_option values.order (order_number task.reading.order)
+  pub short_years : IsValueOf short_option values.short_years (short_number task.reading.short_years)
+  pub short_hebrew_years : IsValueOf short_hebrew_option values.short_hebrew_years
+      (short_number task.reading.short_hebrew_years)
+  pub charters : task.reading.charters ≡ values.charter_years
+  pub skip : IsValueOf skip_option values.skip task.skip
+  pub delimiter : IsValueOf delimiter_option values.delimiter task.delimiter
+  pub columns : columns_asked values.to ≡ Ok task.columns
+  pub names : task.names ≡ values.names
+  pub register : task.register ≡ values.register
+  pub for_files : asks_for_registers_of_input values ≡ false
+  pub unknown : task.unknown ≡ values.unknown
+  pub summary : task.summary ≡ values.summary
+  pub files : task.files ≡ values.files
+  pub files_fit : AreFilesToConvert values.files
+
+-- the check of what is wrong where this holds
+abbrev pub false_check : Bool → Fault → Check Fault
+false_check holds fault = record { fails = λ f. (f ≡ fault) × (holds ≡ true); passes = holds ≡ false }
+
+-- the check of what comes of words
+abbrev pub result_check : {A : Type 0} → Result A Fault → Check Fault
+result_check {A} result = record { fails = λ f. result ≡ Err f; passes = (a : A) × (result ≡ Ok a) }
+
+-- the checks of values, in order
+abbrev pub value_checks : Values → List (Check Fault)
+value_checks values =
+    false_check (length values.dates == 0) no_date
+    ∷ false_check (nat_lt date_limit (length values.dates)) too_many_dates
+    ∷ false_check (are_misfits (length values.dates) (length values.calendars) (length values.all)) calendar_count
+    ∷ result_check (calendars_wanted values.calendars values.all)
+    ∷ option_check order_option unknown_order values.order
+    ∷ option_check short_option bad_short_years values.short_years
+    ∷ option_check short_hebrew_option bad_short_hebrew_years values.short_hebrew_years
+    ∷ option_check skip_option bad_skip values.skip
+    ∷ option_check delimiter_option unknown_delimiter values.delimiter
+    ∷ result_check (columns_asked values.to)
+    ∷ false_check (asks_for_registers_of_input values) register_of_input
+    ∷ file_check too_many_files file_twice values.files
+    ∷ []
+
+-- the command line, and what is asked by it
+abbrev pub sheet_line : CommandLine Task Fault
+sheet_line = record {
+  command = command_line;
+  asks = λ found task. Ask (values_of found) task;
+  checks = λ found. value_checks (values_of found);
+  usage = usage;
+}
+
+-- what the arguments mean and nothing else, what is wrong with them, and that something is
+abbrev pub MeanJust : List Text → Meaning Task Fault → Type 0
+MeanJust = lines.MeanJust sheet_line
+
+abbrev pub IsFaultOf : List Text → Fault → Type 0
+IsFaultOf = lines.IsFaultOf sheet_line
+
+abbrev pub AreWrong : List Text → Type 0
+AreWrong = lines.AreWrong sheet_line
+
+-- where a job takes the calendars from
+abbrev pub wanted_by : CalendarsAsked → CalendarsWanted
+wanted_by (asked.Columns words) = in_columns (map (λ word. word.now) words.items)
+wanted_by (asked.All calendars) = all_have calendars.items
+
+-- what a job asks for
+abbrev pub task_of : Job → Task
+task_of job = record {
+  dates = map (λ date. date.now) job.dates.items;
+  calendars = wanted_by job.calendars;
+  id = option_map (λ id. id.now) job.id;
+  columns = job.columns.items;
+  reading = job.reading;
+  names = option_map (λ file. file.now) job.names;
+  skip = job.skip;
+  delimiter = job.delimiter;
+  register = job.register;
+  unknown = job.unknown;
+  summary = job.summary;
+  files = map (λ file. file.now) job.files.items;
+}
+
+-- what a request stands for
+abbrev pub meaning_of : Request → Meaning Task Fault
+meaning_of request.Help = help
+meaning_of request.Version = version
+meaning_of (request.Convert job) = work (task_of job)
+
+-- the values that the options hold
+abbrev pub values_by : Options → Values
+values_by options = record {
+  dates = map (λ v. v.now) options.dates.items;
+  calendars = map (λ v. v.now) options.calendars.items;
+  all = map (λ v. v.now) options.all.items;
+  id = option_map (λ v. v.now) options.id;
+  order = option_map (λ v. v.now) options.order;
+  names = option_map (λ v. v.now) options.names;
+  short_years = option_map (λ v. v.now) options.short_years;
+  short_hebrew_years = option_map (λ v. v.now) options.short_hebrew_years;
+  charter_years = options.charter_years;
+  skip = option_map (λ v. v.now) options.skip;
+  delimiter = option_map (λ v. v.now) options.delimiter;
+  to = option_map (λ v. v.now) options.to;
+  register = options.register;
+  unknown = options.unknown;
+  summary = options.summary;
+  files = map (λ f. f.now) options.files.items;
+}

@@ -1,0 +1,71 @@
+//! The page of help.
+
+/// What `--help` prints: what goes in, what comes out, the options, and how a run ends.
+pub const HELP: &str = "register-sheet converts the dates in sheets.
+
+Usage: register-sheet --date COLUMN --calendar COLUMN [OPTIONS] [FILE..]
+
+It reads a CSV text with columns of its own, turns the dates of one to eight
+columns into those that registers have, converts them, and writes the same
+CSV with further columns behind. Each FILE, up to 32, is a sheet; what comes
+of it is FILE with .dates.csv at the end, and replaces a file of that name.
+Without FILE it reads standard input and writes standard output.
+
+A COLUMN is the name of a column, as it stands in the record of names, with
+or without the blanks at its ends; or, where no column has that name, the
+number of a column from 1.
+
+Options:
+
+    --date COLUMN     where the dates are; once to eight times.
+    --calendar COLUMN where their calendars are; or
+    --all CALENDAR    the calendar that they all have. One of both, once for
+                      all columns of dates or once for each, in order.
+    --id COLUMN       where the ids of a register are. Without it: the number
+                      of the record.
+    --order WORD      in which order three numbers stand: year (year, month,
+                      day), day (day, month, year) or month (month, day,
+                      year). Without it: year.
+    --names FILE      a list of names, a CSV text with the columns name, means
+                      and in; its names stand before the built-in ones.
+    --short-years R   what is done with Gregorian and Julian years of one or
+                      two digits: refuse, keep, or a century that is added,
+                      100, 200 and so on to 2000. Without it: refuse, and the
+                      date is left empty.
+    --short-hebrew-years R
+                      the same of Hebrew years of one to three digits: refuse,
+                      keep or 5000.
+    --charter-years   the year of a Roman date is that of its day.
+    --skip N          how many records stand above the names. Without it: 0.
+    --delimiter WORD  what stands between two fields: comma, semicolon or
+                      tab. Without it: comma.
+    --to LIST         the columns for each column of dates, in the order
+                      wanted, separated by commas: rd, weekday, calendars,
+                      haab, tzolkin. Without it: weekday,gregorian.
+    --register        write the register of each column of dates too, which
+                      the program register takes: FILE.register.csv, and of
+                      several FILE.register.1.csv, FILE.register.2.csv ..
+    --unknown         write only a list of the names that are not known, up to
+                      1000: FILE.unknown.csv. Fill it in, and give it back by
+                      --names.
+    --summary         report on standard error, for each whole sheet, its
+                      records and how many dates were refused in each column.
+    -h, --help        print this page and read nothing.
+    -V, --version     print the version and read nothing.
+
+Exit status:
+
+    0  every sheet was converted to its end, refused dates included
+    1  a sheet broke off: standard error says which FILE and why; or this
+       page could not be printed
+    2  the command line was refused; standard error says why
+    3  a file could not be opened or made, the list of names is none, or out
+       of memory at the start
+
+A sheet breaks off where it has no names, a column that it lacks is asked for,
+more than 1,000,000 records stand below the names, memory runs out, or it can
+be read or written no further. The other sheets are still converted.
+";
+
+/// The line on standard error where a page could not be printed.
+pub const PRINT_FAULT: &str = "register-sheet: cannot write to standard output\n";

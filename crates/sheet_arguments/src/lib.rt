@@ -1,0 +1,13 @@
+//! What the arguments of the program `register-sheet` ask for, and what is wrong with them.
+#![tactic(auto)]
+
+mod column_lists;
+mod help;
+mod named_calendars;
+mod option_values;
+mod request_faults;
+mod requests;
+
+pub use help::{HELP, PRINT_FAULT};
+pub use request_faults::{MEMORY_FAULT, RequestFault, own_line};
+pub use requests::{CalendarsAsked, Job, Request, VERSION, command, read_request};

@@ -1,0 +1,229 @@
+//! The values of the options.
+
+ghost use Rattle.std.specs.Prelude.{◌≡◌, IfErr, IfOk, IsSomeAnd, option_map};
+ghost use Rattle.command_lines.specs.Meanings.{option_check};
+ghost use Rattle.command_lines.specs.Values.{IsValueOf, byte_of, delimiter_option};
+ghost use Rattle.sheet_arguments.specs.Faults.{bad_short_hebrew_years, bad_short_years, bad_skip, fault_of_error};
+ghost use Rattle.sheet_arguments.specs.Faults.{unknown_delimiter, unknown_order};
+ghost use Rattle.sheet_arguments.specs.OptionValues.{order_number, order_option, short_hebrew_option, short_number};
+ghost use Rattle.sheet_arguments.specs.OptionValues.{short_option, skip_option};
+
+use crate::request_faults::RequestFault;
+use command_lines::{Delimiter, OptionValue, chosen, number_named};
+use written_dates::{Order, Short};
+
+/// The last century that may be added to short years.
+const LAST_CENTURY: usize = 2000;
+
+/// How many years a century has.
+const CENTURY: usize = 100;
+
+/// The most records above the names.
+const MOST_ABOVE: usize = 99_999;
+
+/// In which order three numbers stand, by `--order`.
+#[derive(Clone, Copy)]
+pub struct OrderValue {
+    pub order: Order,
+}
+
+impl OptionValue for OrderValue {
+    ghost option = { order_option };
+
+    ghost number = { λ value. order_number value.order };
+
+    fn default() -> OrderValue {
+        OrderValue {
+            order: Order::YearFirst,
+        }
+    }
+
+    fn named(word: &str) -> Option<OrderValue> {
+        let order = match word {
+            "year" => Order::YearFirst,
+            "day" => Order::DayFirst,
+            "month" => Order::MonthFirst,
+            _ => return None,
+        };
+        Some(OrderValue { order })
+    }
+}
+
+/// What is done with short years, by `--short-years`.
+#[derive(Clone, Copy)]
+pub struct ShortYears {
+    pub rule: Short,
+}
+
+/// The century that a word names: 100, 200 and so on to 2000.
+fn century_named(word: &str) -> Option<u32> {
+    match number_named(word, LAST_CENTURY) {
+        Some(years) if years % CENTURY == 0 => Some(years as u32),
+        _ => None,
+    }
+}
+
+impl OptionValue for ShortYears {
+    ghost option = { short_option };
+
+    ghost number = { λ value. short_number value.rule };
+
+    fn default() -> ShortYears {
+        ShortYears {
+            rule: Short::Refuse,
+        }
+    }
+
+    fn named(word: &str) -> Option<ShortYears> {
+        let rule = match word {
+            "refuse" => Short::Refuse,
+            "keep" => Short::Keep,
+            _ => match century_named(word) {
+                Some(years) => Short::Add(years),
+                None => return None,
+            },
+        };
+        Some(ShortYears { rule })
+    }
+}
+
+/// What is done with short Hebrew years, by `--short-hebrew-years`.
+#[derive(Clone, Copy)]
+pub struct ShortHebrewYears {
+    pub rule: Short,
+}
+
+impl OptionValue for ShortHebrewYears {
+    ghost option = { short_hebrew_option };
+
+    ghost number = { λ value. short_number value.rule };
+
+    fn default() -> ShortHebrewYears {
+        ShortHebrewYears {
+            rule: Short::Refuse,
+        }
+    }
+
+    fn named(word: &str) -> Option<ShortHebrewYears> {
+        let rule = match word {
+            "refuse" => Short::Refuse,
+            "keep" => Short::Keep,
+            "5000" => Short::Add(5000),
+            _ => return None,
+        };
+        Some(ShortHebrewYears { rule })
+    }
+}
+
+/// How many records stand above the names, by `--skip`.
+#[derive(Clone, Copy)]
+pub struct Skip {
+    pub count: u32,
+}
+
+impl OptionValue for Skip {
+    ghost option = { skip_option };
+
+    ghost number = { λ skip. skip.count };
+
+    fn default() -> Skip {
+        Skip { count: 0 }
+    }
+
+    fn named(word: &str) -> Option<Skip> {
+        if word == "0" {
+            return Some(Skip { count: 0 });
+        }
+        match number_named(word, MOST_ABOVE) {
+            Some(count) => Some(Skip {
+                count: count as u32,
+            }),
+            None => None,
+        }
+    }
+}
+
+/// The order that `--order` asks for.
+///
+/// # Errors
+///
+/// `UnknownOrder` for a word that names none.
+pub fn chosen_order<'a>(word: Option<&'a str>) -> Result<OrderValue, RequestFault<'a>>
+    ensures value { IfOk result (λ value. IsValueOf order_option (option_map (λ w. w.now) word.entry)
+        (order_number value.order)) }
+    ensures fault { IfErr result (λ error. IsSomeAnd (fault_of_error error)
+        ((option_check order_option unknown_order (option_map (λ w. w.now) word.entry)).fails)) }
+{
+    match chosen::<OrderValue>(word) {
+        Ok(order) => Ok(order),
+        Err(word) => Err(RequestFault::UnknownOrder(word)),
+    }
+}
+
+/// What `--short-years` asks for.
+///
+/// # Errors
+///
+/// `BadShortYears` for a word that says nothing.
+pub fn chosen_short_years<'a>(word: Option<&'a str>) -> Result<ShortYears, RequestFault<'a>>
+    ensures value { IfOk result (λ value. IsValueOf short_option (option_map (λ w. w.now) word.entry)
+        (short_number value.rule)) }
+    ensures fault { IfErr result (λ error. IsSomeAnd (fault_of_error error)
+        ((option_check short_option bad_short_years (option_map (λ w. w.now) word.entry)).fails)) }
+{
+    match chosen::<ShortYears>(word) {
+        Ok(years) => Ok(years),
+        Err(word) => Err(RequestFault::BadShortYears(word)),
+    }
+}
+
+/// What `--short-hebrew-years` asks for.
+///
+/// # Errors
+///
+/// `BadShortHebrewYears` for a word that says nothing.
+pub fn chosen_short_hebrew_years<'a>(
+    word: Option<&'a str>,
+) -> Result<ShortHebrewYears, RequestFault<'a>>
+    ensures value { IfOk result (λ value. IsValueOf short_hebrew_option (option_map (λ w. w.now) word.entry)
+        (short_number value.rule)) }
+    ensures fault { IfErr result (λ error. IsSomeAnd (fault_of_error error)
+        ((option_check short_hebrew_option bad_short_hebrew_years (option_map (λ w. w.now) word.entry)).fails)) }
+{
+    match chosen::<ShortHebrewYears>(word) {
+        Ok(years) => Ok(years),
+        Err(word) => Err(RequestFault::BadShortHebrewYears(word)),
+    }
+}
+
+/// How many records `--skip` asks to pass over.
+///
+/// # Errors
+///
+/// `BadSkip` for a word that is no such number.
+pub fn chosen_skip<'a>(word: Option<&'a str>) -> Result<Skip, RequestFault<'a>>
+    ensures value { IfOk result (λ value. IsValueOf skip_option (option_map (λ w. w.now) word.entry) (value.count)) }
+    ensures fault { IfErr result (λ error. IsSomeAnd (fault_of_error error)
+        ((option_check skip_option bad_skip (option_map (λ w. w.now) word.entry)).fails)) }
+{
+    match chosen::<Skip>(word) {
+        Ok(skip) => Ok(skip),
+        Err(word) => Err(RequestFault::BadSkip(word)),
+    }
+}
+
+/// The delimiter that `--delimiter` asks for.
+///
+/// # Errors
+///
+/// `UnknownDelimiter` for a word that names none.
+pub fn chosen_delimiter<'a>(word: Option<&'a str>) -> Result<Delimiter, RequestFault<'a>>
+    ensures value { IfOk result (λ value. IsValueOf delimiter_option (option_map (λ w. w.now) word.entry) (byte_of value)) }
+    ensures fault { IfErr result (λ error. IsSomeAnd (fault_of_error error)
+        ((option_check delimiter_option unknown_delimiter (option_map (λ w. w.now) word.entry)).fails)) }
+{
+    match chosen::<Delimiter>(word) {
+        Ok(delimiter) => Ok(delimiter),
+        Err(word) => Err(RequestFault::UnknownDelimiter(word)),
+    }
+}

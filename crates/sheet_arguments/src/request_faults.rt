@@ -1,0 +1,137 @@
+//! What is wrong with the arguments.
+
+ghost use Rattle.std.specs.Prelude.{◌≡◌, ◌++◌, IfOk, IfSome};
+ghost use Rattle.std.specs.String.{string_bytes};
+ghost use Rattle.register_sheets.specs.Headings.{asked_name};
+ghost use Rattle.sheet_arguments.specs.Faults.{program_line};
+
+use command_lines::FilesFault;
+use register_sheets::AskedColumn;
+use std::alloc::{AllocError, Global};
+
+/// The line on standard error where memory ran out.
+pub const MEMORY_FAULT: &str = "register-sheet: out of memory\n";
+
+/// Why the arguments ask for nothing: what is wrong with them, or that memory ran out.
+#[derive(Debug, Drop)]
+pub enum RequestFault<'a> {
+    /// Memory ran out.
+    OutOfMemory,
+    /// The options are not written as they are taken. The text says how, and ends its last line.
+    Usage(clap::Error),
+    /// No column of dates is named.
+    NoDate,
+    /// More than eight columns of dates are named.
+    TooManyDates,
+    /// There is neither `--calendar` nor `--all`, or both, or one of them is there neither once nor once for each
+    /// column of dates.
+    CalendarCount,
+    /// A word that names no calendar, as it was given.
+    UnknownCalendar(&'a str),
+    /// An order that is none of the three words, as it was given.
+    UnknownOrder(&'a str),
+    /// A rule of short years that is none of the two words and no century from 100 to 2000, as it was given.
+    BadShortYears(&'a str),
+    /// A rule of short Hebrew years that is none of the three words, as it was given.
+    BadShortHebrewYears(&'a str),
+    /// A count of records to skip that is no number from 0 to 99999 in one to five digits, as it was given.
+    BadSkip(&'a str),
+    /// A delimiter that is none of the three words, as it was given.
+    UnknownDelimiter(&'a str),
+    /// A name in the list of columns that names none, as it was given.
+    UnknownColumn(&'a str),
+    /// A column that is named at two places of the list.
+    ColumnTwice(AskedColumn),
+    /// Registers are asked for, and no file is named.
+    RegisterOfInput,
+    /// More than 32 files are named.
+    TooManyFiles,
+    /// A file that is named at two places.
+    FileTwice(&'a str),
+}
+
+impl<'a> From<FilesFault<'a>> for RequestFault<'a> {
+    ghost use Rattle.sheet_arguments.specs.Faults.{fault_of_files};
+
+    ghost from_gives = { λ fault error. error ≡ fault_of_files fault };
+
+    fn from(fault: FilesFault<'a>) -> RequestFault<'a> {
+        match fault {
+            FilesFault::TooMany => RequestFault::TooManyFiles,
+            FilesFault::Twice(file) => RequestFault::FileTwice(file),
+        }
+    }
+}
+
+/// The name of a column asked.
+pub(crate) fn column_name(column: AskedColumn) -> &'static str
+    ensures { result.now ≡ asked_name column }
+{
+    match column {
+        AskedColumn::DayNumber => "rd",
+        AskedColumn::Weekday => "weekday",
+        AskedColumn::Cells(target) => target.name(),
+    }
+}
+
+impl RequestFault<'_> {
+    ghost use Rattle.sheet_arguments.specs.Faults.{error_line, status_of_fault};
+
+    /// The exit status: 3 where memory ran out, and 2 for what is wrong with the arguments.
+    pub fn status(&self) -> u8
+        ensures { result ≡ status_of_fault self.now }
+    {
+        match self {
+            RequestFault::OutOfMemory => 3,
+            _ => 2,
+        }
+    }
+
+    /// What standard error gets: a line that begins with the program's name, or the text of clap.
+    ///
+    /// # Errors
+    ///
+    /// Memory ran out.
+    pub fn text(&self, alloc: Global) -> Result<String, AllocError>
+        ensures { IfOk result (λ text. IfSome (error_line self.now) (λ line. string_bytes text ≡ line)) }
+    {
+        let (message, word) = match self {
+            RequestFault::OutOfMemory => return String::from_str(alloc, MEMORY_FAULT),
+            RequestFault::Usage(error) => {
+                return match format!(in alloc; "{error}") {
+                    Ok(text) => Ok(text),
+                    Err(_) => Err(AllocError),
+                };
+            }
+            RequestFault::NoDate => ("no column of dates: give --date COLUMN", ""),
+            RequestFault::TooManyDates => ("more than 8 columns of dates", ""),
+            RequestFault::CalendarCount => (
+                "give --calendar COLUMN or --all CALENDAR, once or once for each --date",
+                "",
+            ),
+            RequestFault::UnknownCalendar(word) => ("unknown calendar: ", *word),
+            RequestFault::UnknownOrder(word) => ("unknown order: ", *word),
+            RequestFault::BadShortYears(word) => ("bad short years: ", *word),
+            RequestFault::BadShortHebrewYears(word) => ("bad short Hebrew years: ", *word),
+            RequestFault::BadSkip(word) => ("bad number of records to skip: ", *word),
+            RequestFault::UnknownDelimiter(word) => ("unknown delimiter: ", *word),
+            RequestFault::UnknownColumn(name) => ("unknown column: ", *name),
+            RequestFault::ColumnTwice(column) => ("column named twice: ", column_name(*column)),
+            RequestFault::RegisterOfInput => ("--register is for files", ""),
+            RequestFault::TooManyFiles => ("more than 32 files", ""),
+            RequestFault::FileTwice(file) => ("file named twice: ", *file),
+        };
+        own_line(alloc, message, word)
+    }
+}
+
+/// A line of the program's own: its name, what is wrong, and the word with which it is wrong.
+pub fn own_line(alloc: Global, message: &str, word: &str) -> Result<String, AllocError>
+    ensures { IfOk result (λ line. string_bytes line ≡ program_line (message.now ++ word.now)) }
+{
+    let mut line = String::from_str(alloc, "register-sheet: ")?;
+    line.push_str(message)?;
+    line.push_str(word)?;
+    line.push_str("\n")?;
+    Ok(line)
+}

@@ -1,5 +1,12 @@
 //! The columns of a sheet that the arguments name.
 
+ghost use Rattle.std.specs.Prelude.{◌≡◌, ◌+◌, IfNone, IfOk, IfSome, length, map, option_map};
+ghost use Rattle.csv.specs.Records.{fields_of};
+ghost use Rattle.command_lines.specs.Values.{IsNumberWord};
+ghost use Rattle.sheet_arguments.specs.Requests.{task_of};
+ghost use Rattle.sheet_app.specs.Columns.{AreDateColumns, HoldsOfNone, IsBareWord, IsCalendarField, IsColumn, IsFirst};
+ghost use Rattle.sheet_app.specs.Columns.{IsIdField, IsItsOwn, IsWord};
+
 use crate::head_records::field_at;
 use command_lines::number_named;
 use csv::ByteRecord;
@@ -30,7 +37,10 @@ impl From<AllocError> for ColumnFault<'_> {
 }
 
 /// The place of the first name that is this text.
-fn place_of(names: &ByteRecord, text: &[u8]) -> Option<usize> {
+fn place_of(names: &ByteRecord, text: &[u8]) -> Option<usize>
+    ensures some { IfSome result (λ place. IsFirst (IsWord text.now) (fields_of names.now) place) }
+    ensures none { IfNone result (HoldsOfNone (IsWord text.now) (fields_of names.now)) }
+{
     'names: for place in 0..names.len() {
         if field_at(names, place) == text {
             return Some(place);
@@ -40,7 +50,10 @@ fn place_of(names: &ByteRecord, text: &[u8]) -> Option<usize> {
 }
 
 /// The place of the first name that is this text, without the blanks at the ends of both.
-fn bare_place_of(names: &ByteRecord, text: &[u8]) -> Option<usize> {
+fn bare_place_of(names: &ByteRecord, text: &[u8]) -> Option<usize>
+    ensures some { IfSome result (λ place. IsFirst (IsBareWord text.now) (fields_of names.now) place) }
+    ensures none { IfNone result (HoldsOfNone (IsBareWord text.now) (fields_of names.now)) }
+{
     let bare = without_blanks(text);
     'names: for place in 0..names.len() {
         if without_blanks(field_at(names, place)) == bare {
@@ -51,31 +64,43 @@ fn bare_place_of(names: &ByteRecord, text: &[u8]) -> Option<usize> {
 }
 
 /// The place of the column with the number that a word is.
-fn numbered_place_of(names: &ByteRecord, word: &str) -> Option<usize> {
+fn numbered_place_of(names: &ByteRecord, word: &str) -> Option<usize>
+    ensures { IfSome result (λ place. IsNumberWord (length (fields_of names.now)) word.now (place + 1)) }
+{
     match number_named(word, names.len()) {
         Some(number) => Some(number - 1),
         None => None,
     }
 }
 
+/// The place of the column that a word names, as [`column_named`] has it.
+fn column_found(names: &ByteRecord, word: &str) -> Option<usize>
+    ensures { IfSome result (λ place. IsColumn (fields_of names.now) word.now place) }
+{
+    if let Some(place) = place_of(names, word.as_bytes()) {
+        return Some(place);
+    }
+    if let Some(place) = bare_place_of(names, word.as_bytes()) {
+        return Some(place);
+    }
+    numbered_place_of(names, word)
+}
+
 /// The place, from 0, of the column that a word names: the first with this name, or else the first with this name
 /// without the blanks at the ends of both, or else the one with this number from 1. `None` where there is none.
-pub fn column_named(names: &ByteRecord, word: &str) -> Option<u32> {
-    let found = match place_of(names, word.as_bytes()) {
-        Some(place) => Some(place),
-        None => match bare_place_of(names, word.as_bytes()) {
-            Some(place) => Some(place),
-            None => numbered_place_of(names, word),
-        },
-    };
-    match found {
+pub fn column_named(names: &ByteRecord, word: &str) -> Option<u32>
+    ensures { IfSome result (λ place. IsColumn (fields_of names.now) word.now place) }
+{
+    match column_found(names, word) {
         Some(place) => u32::try_from(place).ok(),
         None => None,
     }
 }
 
 /// Where the ids are.
-pub fn id_named<'a>(names: &ByteRecord, id: Option<&'a str>) -> Result<IdField, ColumnFault<'a>> {
+pub fn id_named<'a>(names: &ByteRecord, id: Option<&'a str>) -> Result<IdField, ColumnFault<'a>>
+    ensures { IfOk result (λ field. IsIdField (fields_of names.now) (option_map (λ w. w.now) id.entry) field) }
+{
     match id {
         Some(word) => match column_named(names, word) {
             Some(place) => Ok(IdField::Column(place)),
@@ -86,7 +111,9 @@ pub fn id_named<'a>(names: &ByteRecord, id: Option<&'a str>) -> Result<IdField, 
 }
 
 /// The calendar at a place of a list, or its only one.
-fn calendar_at(calendars: &[Calendar], place: usize) -> Option<Calendar> {
+fn calendar_at(calendars: &[Calendar], place: usize) -> Option<Calendar>
+    ensures { IfSome result (λ calendar. IsItsOwn calendars.now place calendar) }
+{
     if calendars.len() == 1 {
         return Some(calendars[0]);
     }
@@ -94,7 +121,9 @@ fn calendar_at(calendars: &[Calendar], place: usize) -> Option<Calendar> {
 }
 
 /// The word at a place of a list, or its only one.
-fn word_at<'a>(words: &[&'a str], place: usize) -> Option<&'a str> {
+fn word_at<'a>(words: &[&'a str], place: usize) -> Option<&'a str>
+    ensures { IfSome result (λ word. IsItsOwn (map (λ w. w.now) words.now) place word.now) }
+{
     if words.len() == 1 {
         return Some(words[0]);
     }
@@ -106,7 +135,9 @@ fn calendar_named<'a>(
     names: &ByteRecord,
     job: &Job<'a>,
     place: usize,
-) -> Result<CalendarField, ColumnFault<'a>> {
+) -> Result<CalendarField, ColumnFault<'a>>
+    ensures { IfOk result (λ field. IsCalendarField (fields_of names.now) (task_of job.now).calendars place field) }
+{
     match &job.calendars {
         CalendarsAsked::Columns(words) => {
             let Some(word) = word_at(words.as_slice(), place) else {
@@ -129,7 +160,9 @@ pub fn dates_named<'a>(
     alloc: Global,
     names: &ByteRecord,
     job: &Job<'a>,
-) -> Result<Vec<DateColumn>, ColumnFault<'a>> {
+) -> Result<Vec<DateColumn>, ColumnFault<'a>>
+    ensures { IfOk result (λ dates. AreDateColumns (fields_of names.now) (task_of job.now) dates.items) }
+{
     let mut dates = Vec::new(alloc);
     'dates: for place in 0..job.dates.len() {
         let word = job.dates[place];

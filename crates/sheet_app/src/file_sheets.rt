@@ -1,10 +1,16 @@
 //! The sheets of a command line: opens the files, and makes the outputs of each.
 
+ghost use Rattle.std.specs.Prelude.{◌≡◌, ◌++◌, ℕ, All, IfOk, map, true};
+ghost use Rattle.std.specs.String.{string_bytes};
+ghost use Rattle.register_files.specs.Openings.{IsNewlyMade};
+ghost use Rattle.sheet_arguments.specs.Requests.{task_of};
+ghost use Rattle.sheet_app.specs.FileSheets.{IsNewSheet, ending_of, sheet_name, source_name};
+
+use itoa::Buffer;
 use register_files::FileStore;
 use register_records::Output;
 use sheet_arguments::Job;
 use std::alloc::{AllocError, Global};
-use itoa::Buffer;
 
 /// Why the files of a command line are not opened.
 #[derive(Drop)]
@@ -28,6 +34,13 @@ impl From<AllocError> for FileFault<'_> {
     }
 }
 
+/// A file that was opened.
+#[derive(Drop)]
+pub struct OpenedFile<'a, R> {
+    pub name: &'a str,
+    pub source: R,
+}
+
 /// A sheet with what it goes to.
 #[derive(Drop)]
 pub struct FileSheet<'a, R, W> {
@@ -43,15 +56,29 @@ pub struct FileSheet<'a, R, W> {
     pub is_whole: bool,
 }
 
-/// What the names of the files are that come of each sheet, behind its own name.
-fn endings(alloc: Global, job: &Job) -> Result<Vec<String>, AllocError> {
-    let mut endings = Vec::new(alloc);
+/// What the name of a sheet's output ends with, behind the name of the sheet.
+fn ending(job: &Job) -> &'static str
+    ensures { result.now ≡ ending_of (task_of job.now) }
+{
     if job.unknown {
-        endings.push(String::from_str(alloc, ".unknown.csv")?)?;
-        return Ok(endings);
+        ".unknown.csv"
+    } else {
+        ".dates.csv"
     }
-    endings.push(String::from_str(alloc, ".dates.csv")?)?;
-    if !job.register {
+}
+
+/// What the name of the register of a column of dates ends with, where there are several.
+fn numbered_ending(alloc: Global, number: usize) -> Result<String, AllocError> {
+    let mut ending = String::from_str(alloc, ".register.")?;
+    ending.push_str(Buffer::new().format(number))?;
+    ending.push_str(".csv")?;
+    Ok(ending)
+}
+
+/// What the names of a sheet's registers end with.
+fn register_endings(alloc: Global, job: &Job) -> Result<Vec<String>, AllocError> {
+    let mut endings = Vec::new(alloc);
+    if !job.register || job.unknown {
         return Ok(endings);
     }
     if job.dates.len() == 1 {
@@ -59,40 +86,18 @@ fn endings(alloc: Global, job: &Job) -> Result<Vec<String>, AllocError> {
         return Ok(endings);
     }
     'dates: for place in 0..job.dates.len() {
-        let mut ending = String::from_str(alloc, ".register.")?;
-        ending.push_str(Buffer::new().format(place + 1))?;
-        ending.push_str(".csv")?;
-        endings.push(ending)?;
+        endings.push(numbered_ending(alloc, place + 1)?)?;
     }
     Ok(endings)
 }
 
 /// The name of a file that comes of a sheet.
-fn output_name(alloc: Global, file: &str, ending: &str) -> Result<String, AllocError> {
+fn output_name(alloc: Global, file: &str, ending: &str) -> Result<String, AllocError>
+    ensures { IfOk result (λ name. string_bytes name ≡ file.now ++ ending.now) }
+{
     let mut name = String::from_str(alloc, file)?;
     name.push_str(ending)?;
     Ok(name)
-}
-
-/// The inputs of a command line, and what the names of the outputs end with.
-pub struct Inputs<R> {
-    pub list: Option<R>,
-    pub sources: Vec<R>,
-    pub endings: Vec<String>,
-}
-
-/// Opens the list of names, where one is asked for.
-fn open_list<'a, R, W: Output, P: FileStore<R, W>>(
-    store: &P,
-    job: &Job<'a>,
-) -> Result<Option<R>, FileFault<'a>> {
-    let Some(file) = job.names else {
-        return Ok(None);
-    };
-    match store.open(file) {
-        Ok(source) => Ok(Some(source)),
-        Err(_) => Err(FileFault::CannotOpen(file)),
-    }
 }
 
 /// Opens each file.
@@ -100,13 +105,17 @@ fn open_sources<'a, R: Drop, W: Output, P: FileStore<R, W>>(
     alloc: Global,
     store: &P,
     files: &[&'a str],
-) -> Result<Vec<R>, FileFault<'a>> {
+) -> Result<Vec<OpenedFile<'a, R>>, FileFault<'a>>
+    ensures named { IfOk result (λ sources. map source_name sources.items ≡ map (λ file. file.now) files.now) }
+    ensures opened { IfOk result (λ sources. All (λ opened. P.is_opened store.now opened.name.now opened.source)
+        sources.items) }
+{
     let mut sources = Vec::new(alloc);
-    'files: for &file in files {
-        let Ok(source) = store.open(file) else {
-            return Err(FileFault::CannotOpen(file));
+    'files: for &name in files {
+        let Ok(source) = store.open(name) else {
+            return Err(FileFault::CannotOpen(name));
         };
-        if sources.push(source).is_err() {
+        if sources.push(OpenedFile { name, source }).is_err() {
             return Err(FileFault::OutOfMemory);
         }
     }
@@ -128,6 +137,21 @@ fn is_input<R, W: Output, P: FileStore<R, W>>(store: &P, job: &Job, name: &str) 
     false
 }
 
+/// Refuses an output that would go to an input and empty it.
+fn check_kept<'a, R, W: Output, P: FileStore<R, W>>(
+    alloc: Global,
+    store: &P,
+    job: &Job<'a>,
+    file: &str,
+    ending: &str,
+) -> Result<(), FileFault<'a>> {
+    let name = output_name(alloc, file, ending)?;
+    if is_input(store, job, name.as_str()) {
+        return Err(FileFault::CannotMake(name));
+    }
+    Ok(())
+}
+
 /// Refuses the first output that would go to an input and empty it.
 fn check_inputs_kept<'a, R, W: Output, P: FileStore<R, W>>(
     alloc: Global,
@@ -136,36 +160,12 @@ fn check_inputs_kept<'a, R, W: Output, P: FileStore<R, W>>(
     endings: &[String],
 ) -> Result<(), FileFault<'a>> {
     'files: for &file in &job.files {
+        check_kept(alloc, store, job, file, ending(job))?;
         'endings: for ending in endings {
-            let name = output_name(alloc, file, ending.as_str())?;
-            if is_input(store, job, name.as_str()) {
-                return Err(FileFault::CannotMake(name));
-            }
+            check_kept(alloc, store, job, file, ending.as_str())?;
         }
     }
     Ok(())
-}
-
-/// Opens the list of names and all files, and looks whether an output would go to one of them.
-///
-/// # Errors
-///
-/// `CannotOpen` for the first file that cannot be opened, `CannotMake` for the first output that would go to an input,
-/// and `OutOfMemory`.
-pub fn open_inputs<'a, R: Drop, W: Output, P: FileStore<R, W>>(
-    alloc: Global,
-    store: &P,
-    job: &Job<'a>,
-) -> Result<Inputs<R>, FileFault<'a>> {
-    let endings = endings(alloc, job)?;
-    let list = open_list(store, job)?;
-    let sources = open_sources(alloc, store, job.files.as_slice())?;
-    check_inputs_kept(alloc, store, job, endings.as_slice())?;
-    Ok(Inputs {
-        list,
-        sources,
-        endings,
-    })
 }
 
 /// Whether an output's name is that of a file that another output goes to.
@@ -185,7 +185,10 @@ fn make_output<'a, R, W: Output + Drop, P: FileStore<R, W>>(
     names: &mut Vec<String>,
     file: &str,
     ending: &str,
-) -> Result<W, FileFault<'a>> {
+) -> Result<W, FileFault<'a>>
+    ensures { IfOk result (λ output. (mark : ℕ)
+        × IsNewlyMade W.Output (P.is_made store.now) (file.now ++ ending.now) mark output) }
+{
     let name = output_name(alloc, file, ending)?;
     let mark = (names.len() as u32).wrapping_add(1);
     let Ok(output) = store.make(name.as_str(), mark) else {
@@ -200,8 +203,8 @@ fn make_output<'a, R, W: Output + Drop, P: FileStore<R, W>>(
     Ok(output)
 }
 
-/// Makes the outputs of a file.
-fn make_all<'a, R, W: Output + Drop, P: FileStore<R, W>>(
+/// Makes the outputs of a file for its registers.
+fn make_registers<'a, R, W: Output + Drop, P: FileStore<R, W>>(
     alloc: Global,
     store: &P,
     names: &mut Vec<String>,
@@ -218,40 +221,72 @@ fn make_all<'a, R, W: Output + Drop, P: FileStore<R, W>>(
     Ok(outputs)
 }
 
-/// Makes the outputs of each file.
-///
-/// # Errors
-///
-/// `CannotMake` for the first output that cannot be made or goes to the file of an earlier one, and `OutOfMemory`.
-pub fn make_sheets<'a, R: Drop, W: Output + Drop, P: FileStore<R, W>>(
+/// Makes the outputs of a file.
+fn make_sheet<'a, R: Drop, W: Output + Drop, P: FileStore<R, W>>(
     alloc: Global,
     store: &P,
-    files: &[&'a str],
-    sources: Vec<R>,
+    job: &Job<'a>,
+    names: &mut Vec<String>,
+    opened: OpenedFile<'a, R>,
     endings: &[String],
-) -> Result<Vec<FileSheet<'a, R, W>>, FileFault<'a>> {
+) -> Result<FileSheet<'a, R, W>, FileFault<'a>>
+    ensures named { IfOk result (λ sheet. sheet_name sheet ≡ source_name opened) }
+    ensures made { P.is_opened store.now opened.name.now opened.source
+        → IfOk result (IsNewSheet W.Output (P.is_opened store.now) (P.is_made store.now) (task_of job.now)) }
+{
+    let output = make_output(alloc, store, names, opened.name, ending(job))?;
+    let registers = make_registers(alloc, store, names, opened.name, endings)?;
+    Ok(FileSheet {
+        name: opened.name,
+        source: opened.source,
+        output,
+        registers,
+        is_whole: false,
+    })
+}
+
+/// Makes the outputs of each file.
+fn make_sheets<'a, R: Drop, W: Output + Drop, P: FileStore<R, W>>(
+    alloc: Global,
+    store: &P,
+    job: &Job<'a>,
+    sources: Vec<OpenedFile<'a, R>>,
+    endings: &[String],
+) -> Result<Vec<FileSheet<'a, R, W>>, FileFault<'a>>
+    requires opened { All (λ opened. P.is_opened store.now opened.name.now opened.source) sources.items }
+    ensures named { IfOk result (λ sheets. map sheet_name sheets.items ≡ map source_name sources.items) }
+    ensures made { IfOk result (λ sheets.
+        All (IsNewSheet W.Output (P.is_opened store.now) (P.is_made store.now) (task_of job.now)) sheets.items) }
+{
     let mut sheets = Vec::new(alloc);
     let mut names = Vec::new(alloc);
-    let mut rest = sources.into_iter();
-    let Some((ending, others)) = endings.split_first() else {
-        return Ok(sheets);
-    };
-    'files: for &file in files {
-        let Some(source) = rest.next() else {
-            return Ok(sheets);
-        };
-        let output = make_output(alloc, store, &mut names, file, ending.as_str())?;
-        let registers = make_all(alloc, store, &mut names, file, others)?;
-        let sheet = FileSheet {
-            name: file,
-            source,
-            output,
-            registers,
-            is_whole: false,
-        };
+    'sources: for opened in sources {
+        let sheet = make_sheet(alloc, store, job, &mut names, opened, endings)?;
         if sheets.push(sheet).is_err() {
             return Err(FileFault::OutOfMemory);
         }
     }
     Ok(sheets)
+}
+
+/// Opens all files, looks whether an output would go to one of them or to the list of names, and then makes the outputs.
+///
+/// # Errors
+///
+/// `CannotOpen` for the first file that cannot be opened; `CannotMake` for the first output that would go to an input, or
+/// else for the first that cannot be made or goes to the file of an earlier one; and `OutOfMemory`. No output is made
+/// before all files are opened.
+pub fn open_sheets<'a, R: Drop, W: Output + Drop, P: FileStore<R, W>>(
+    alloc: Global,
+    store: &P,
+    job: &Job<'a>,
+) -> Result<Vec<FileSheet<'a, R, W>>, FileFault<'a>>
+    ensures named { IfOk result (λ sheets. map sheet_name sheets.items ≡ (task_of job.now).files) }
+    ensures made { IfOk result (λ sheets.
+        All (IsNewSheet W.Output (P.is_opened store.now) (P.is_made store.now) (task_of job.now)) sheets.items) }
+{
+    let endings = register_endings(alloc, job)?;
+    let sources = open_sources(alloc, store, job.files.as_slice())?;
+    check_inputs_kept(alloc, store, job, endings.as_slice())?;
+    make_sheets(alloc, store, job, sources, endings.as_slice())
 }

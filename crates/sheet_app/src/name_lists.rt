@@ -1,22 +1,41 @@
 //! The lists of names: that of the user, and the built-in one.
 
+ghost use Rattle.std.specs.Prelude.{◌≡◌, IfOk, map, option_map};
+ghost use Rattle.register_sheets.specs.NameLists.{name_seen, names_in_dates};
+ghost use Rattle.sheet_app.specs.Sheets.{AreBothLists, AreKnown, IsOwnList};
+
 use register_sheets::{NameList, NameListFault};
 use std::alloc::{AllocError, Global};
 use written_dates::{CalendarNames, Name, Names};
 
+/// The names of the list of the user; without one there are none.
+fn own_list(alloc: Global, own: Option<&[u8]>) -> Result<NameList, NameListFault>
+    ensures { IfOk result (λ list. IsOwnList (option_map (λ text. text.now) own.entry) list.lines.items) }
+{
+    match own {
+        Some(text) => NameList::read(alloc, text),
+        None => Ok(NameList {
+            lines: Vec::new(alloc),
+        }),
+    }
+}
+
 /// The names of a list of the user, if there is one, and behind them those of the built-in list.
+///
+/// # Errors
+///
+/// The fault of the user's list, and `OutOfMemory`, also where the built-in list were none.
 pub fn list_of(
     alloc: Global,
     own: Option<&[u8]>,
     built: &[u8],
-) -> Result<NameList, NameListFault> {
-    let mut list = match own {
-        Some(text) => NameList::read(alloc, text)?,
-        None => NameList {
-            lines: Vec::new(alloc),
-        },
+) -> Result<NameList, NameListFault>
+    ensures { IfOk result (λ list. AreBothLists (option_map (λ text. text.now) own.entry) built.now list.lines.items) }
+{
+    let mut list = own_list(alloc, own)?;
+    let Ok(mut behind) = NameList::read(alloc, built) else {
+        return Err(NameListFault::OutOfMemory);
     };
-    let mut behind = NameList::read(alloc, built)?;
     match list.lines.append(&mut behind.lines) {
         Ok(()) => Ok(list),
         Err(_) => Err(NameListFault::OutOfMemory),
@@ -35,7 +54,10 @@ pub fn known_by<'a>(
     alloc: Global,
     list: &'a NameList,
     names: &'a [Name<'a>],
-) -> Result<Known<'a>, AllocError> {
+) -> Result<Known<'a>, AllocError>
+    requires listed { map name_seen names.now ≡ names_in_dates list.now.lines.items }
+    ensures { IfOk result (λ known. AreKnown list.now.lines.items known) }
+{
     let calendars = list.calendar_names(alloc)?;
     Ok(Known {
         names: Names::layered(alloc, names)?,

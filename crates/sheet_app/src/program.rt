@@ -1,6 +1,22 @@
 //! What the program does with its arguments: it prints a page, or converts, and returns how that ended.
 
-use crate::file_sheets::{FileSheet, Inputs, make_sheets, open_inputs};
+ghost use Rattle.std.specs.Prelude.{◌≡◌, ◌≢◌, ◌≤◌, ◌⊎◌, ◌↔◌, ℕ, List, [], All, IfErr, IfOk, IfSome, map, true, false, vec_len};
+ghost use Rattle.std.specs.Prelude.{None, Option, vec_capacity};
+ghost use Rattle.std.specs.Io.KnownBytes.{Appends};
+ghost use Rattle.std.specs.String.{string_bytes};
+ghost use Rattle.register_sheets.specs.declared.name_lists.NameLine.{NameLine as NameLineValue};
+ghost use Rattle.register_files.specs.Openings.{IsFresh};
+ghost use Rattle.sheet_arguments.specs.Faults.{memory_line};
+ghost use Rattle.sheet_arguments.specs.Requests.{AreWrong, IsFaultOf, Task, task_of};
+ghost use Rattle.sheet_app.specs.Answers.{AreFilesAnswered, AreNamesOf, Gives, IsConverted, IsEndedSheet, IsInputAnswered};
+ghost use Rattle.sheet_app.specs.Answers.{IsOwnText, IsPageAnswered, IsPrinted, IsReported, version_line};
+ghost use Rattle.sheet_app.specs.FileSheets.{IsNewSheet, sheet_name};
+ghost use Rattle.sheet_app.specs.ProgramFaults.{fault_status, request_fault_in};
+ghost use Rattle.sheet_app.specs.Sheets.{AreBothLists, AreKnown, IsAskedSheet};
+ghost use Rattle.sheet_app.specs.SheetViews.{IfListed, IfWholeDone, is_whole_done};
+ghost use Rattle.sheet_app.specs.declared.name_lists.Known.{Known as KnownValue};
+
+use crate::file_sheets::{FileFault, FileSheet, open_sheets};
 use crate::name_lists::{Known, known_by, list_of};
 use crate::program_faults::ProgramFault;
 use crate::reports::report_sheet;
@@ -40,7 +56,9 @@ pub struct Outcome<'a, R, W> {
 }
 
 /// The line on the version.
-fn version_line_text() -> ArrayString<32> {
+fn version_line_text() -> ArrayString<32>
+    ensures { result.bytes ≡ version_line }
+{
     let mut line = ArrayString::new();
     line.push_str("register-sheet ");
     line.push_str(VERSION);
@@ -48,16 +66,30 @@ fn version_line_text() -> ArrayString<32> {
     line
 }
 
-/// Reports why nothing is done, and returns the exit status. A fault of `errors` is let go: there is nowhere else to
-/// report it.
-fn report_fault<E: Output>(alloc: Global, errors: &mut E, why: &ProgramFault<'_>) -> u8 {
+/// Reports that memory ran out. A fault of `errors` is let go: there is nowhere else to report it.
+fn report_out_of_memory<E: Output>(errors: &mut E)
+    ensures line { E.has_failed errors.new ≡ false
+        → Appends (E.contents errors.old) (E.contents errors.new) memory_line }
+    ensures mark { E.own_mark errors.new ≡ E.own_mark errors.old }
+{
+    let _ = send(errors, MEMORY_FAULT.as_bytes());
+}
+
+/// Reports why nothing is done, and returns the exit status. A fault of `errors` is let go, as above.
+fn report_fault<E: Output>(alloc: Global, errors: &mut E, why: &ProgramFault<'_>) -> u8
+    ensures status { (result ≡ 3) ⊎ (result ≡ fault_status why.now) }
+    ensures reported { (arguments : List (List ℕ)) → IfSome (request_fault_in why.now) (IsFaultOf arguments)
+        → E.has_failed errors.new ≡ false
+        → IsReported arguments result (E.contents errors.old) (E.contents errors.new) }
+    ensures mark { E.own_mark errors.new ≡ E.own_mark errors.old }
+{
     match why.text(alloc) {
         Ok(text) => {
             let _ = send(errors, text.as_bytes());
             why.status()
         }
         Err(_) => {
-            let _ = send(errors, MEMORY_FAULT.as_bytes());
+            report_out_of_memory(errors);
             OUT_OF_MEMORY
         }
     }
@@ -69,7 +101,15 @@ fn refuse<'a, R, W: Output, E: Output>(
     output: W,
     errors: &mut E,
     why: &ProgramFault<'_>,
-) -> Outcome<'a, R, W> {
+) -> Outcome<'a, R, W>
+    ensures status { (result.status ≡ 3) ⊎ (result.status ≡ fault_status why.now) }
+    ensures reported { (arguments : List (List ℕ)) → IfSome (request_fault_in why.now) (IsFaultOf arguments)
+        → E.has_failed errors.new ≡ false
+        → IsReported arguments result.status (E.contents errors.old) (E.contents errors.new) }
+    ensures untouched { result.output ≡ output }
+    ensures none { result.sheets.items ≡ [] }
+    ensures mark { E.own_mark errors.new ≡ E.own_mark errors.old }
+{
     Outcome {
         status: report_fault(alloc, errors, why),
         output,
@@ -83,7 +123,14 @@ fn print_page<'a, R, W: Output, E: Output>(
     page: &str,
     output: W,
     errors: &mut E,
-) -> Outcome<'a, R, W> {
+) -> Outcome<'a, R, W>
+    ensures printed { IsPrinted W.Output E.Output page.now result.status
+        output result.output errors.old errors.new }
+    ensures statuses { (result.status ≡ 0) ⊎ (result.status ≡ 1) }
+    ensures none { result.sheets.items ≡ [] }
+    ensures mark { W.own_mark result.output ≡ W.own_mark output }
+    ensures errors_mark { E.own_mark errors.new ≡ E.own_mark errors.old }
+{
     let mut output = output;
     let status = if send(&mut output, page.as_bytes()).is_ok() {
         COMPLETE
@@ -99,32 +146,56 @@ fn print_page<'a, R, W: Output, E: Output>(
 }
 
 /// The fault of a list of names in this file.
-fn fault_of_list<'a>(file: &'a str, fault: NameListFault) -> ProgramFault<'a> {
+fn fault_of_list<'a>(file: &'a str, fault: NameListFault) -> ProgramFault<'a>
+    ensures status { fault_status result ≡ 3 }
+    ensures none { request_fault_in result ≡ None }
+{
     match fault {
         NameListFault::OutOfMemory => ProgramFault::OutOfMemory,
         _ => ProgramFault::NoList(file, fault),
     }
 }
 
-/// The names that dates are read by: those of the list that a job asks for, which this gives, and behind them the
-/// built-in ones.
-fn read_list<'a, R: Read + Drop>(
+/// Reads the file of a list of names.
+fn read_file<'a, R: Read + Drop, W: Output, P: FileStore<R, W>>(
+    alloc: Global,
+    store: &P,
+    file: &'a str,
+) -> Result<Vec<u8>, ProgramFault<'a>>
+    ensures text { IfOk result (λ text. (source : R) × P.is_opened store.now file.now source × Gives R.Read source text.items) }
+    ensures status { IfErr result (λ why. fault_status why ≡ 3) }
+    ensures none { IfErr result (λ why. request_fault_in why ≡ None) }
+{
+    let Ok(mut source) = store.open(file) else {
+        return Err(ProgramFault::Files(FileFault::CannotOpen(file)));
+    };
+    let mut text = Vec::new(alloc);
+    match source.read_to_end(&mut text) {
+        Ok(_) => Ok(text),
+        Err(_) => Err(ProgramFault::UnreadList(file)),
+    }
+}
+
+/// The names that dates are read by: those of the list that a job asks for, and behind them the built-in ones.
+fn read_list<'a, R: Read + Drop, W: Output, P: FileStore<R, W>>(
     alloc: Global,
     built: &[u8],
+    store: &P,
     job: &Job<'a>,
-    source: Option<R>,
-) -> Result<NameList, ProgramFault<'a>> {
-    let (Some(source), Some(file)) = (source, job.names) else {
+) -> Result<NameList, ProgramFault<'a>>
+    ensures lists { IfOk result (λ list. (own : Option (List ℕ))
+        × IsOwnText R.Read (P.is_opened store.now) (task_of job.now).names own
+        × AreBothLists own built.now list.lines.items) }
+    ensures status { IfErr result (λ why. fault_status why ≡ 3) }
+    ensures none { IfErr result (λ why. request_fault_in why ≡ None) }
+{
+    let Some(file) = job.names else {
         return match list_of(alloc, None, built) {
             Ok(list) => Ok(list),
             Err(_) => Err(ProgramFault::OutOfMemory),
         };
     };
-    let mut source = source;
-    let mut text = Vec::new(alloc);
-    if source.read_to_end(&mut text).is_err() {
-        return Err(ProgramFault::UnreadList(file));
-    }
+    let text = read_file(alloc, store, file)?;
     match list_of(alloc, Some(text.as_slice()), built) {
         Ok(list) => Ok(list),
         Err(fault) => Err(fault_of_list(file, fault)),
@@ -136,28 +207,28 @@ fn convert_source<'b, R: Read, W: Output>(
     alloc: Global,
     known: &Known,
     job: &Job<'b>,
-    sheet: &mut FileSheet<'_, R, W>,
-) -> SheetDone<'b> {
+    source: &mut R,
+    output: &mut W,
+    registers: &mut [W],
+) -> SheetDone<'b>
+    ensures whole { IfWholeDone result (λ whole.
+        IsConverted R.Read W.Output (task_of job.now) known.now source.old output.old output.new) }
+    ensures listed { IfListed result (job.now.unknown ≡ true) }
+{
     let mut text = Vec::new(alloc);
-    if sheet.source.read_to_end(&mut text).is_err() {
+    if source.read_to_end(&mut text).is_err() {
         return SheetDone::Broken(SheetFault::Unread);
     }
-    let done = convert_text(
-        alloc,
-        text.as_slice(),
-        known,
-        job,
-        &mut sheet.output,
-        sheet.registers.as_mut_slice(),
-    );
-    match done {
+    match convert_text(alloc, text.as_slice(), known, job, output, registers) {
         Ok(done) => done,
         Err(fault) => SheetDone::Broken(fault),
     }
 }
 
 /// Whether what was asked of a sheet is there.
-fn is_whole(done: &SheetDone<'_>) -> bool {
+fn is_whole(done: &SheetDone<'_>) -> bool
+    ensures { result ≡ is_whole_done done.now }
+{
     match done {
         SheetDone::Broken(_) => false,
         _ => true,
@@ -165,46 +236,69 @@ fn is_whole(done: &SheetDone<'_>) -> bool {
 }
 
 /// Converts a sheet, and reports how it has ended.
-fn convert_one<R: Read, W: Output, E: Output>(
+fn convert_one<'a, R: Read + Drop, W: Output + Drop, E: Output>(
     alloc: Global,
     known: &Known,
     job: &Job<'_>,
-    sheet: &mut FileSheet<'_, R, W>,
+    sheet: FileSheet<'a, R, W>,
     errors: &mut E,
-) {
-    let done = convert_source(alloc, known, job, sheet);
-    sheet.is_whole = is_whole(&done);
-    report_sheet(
+) -> FileSheet<'a, R, W>
+    ensures name { sheet_name result ≡ sheet_name sheet }
+    ensures converted { result.is_whole ≡ true → (task_of job.now).unknown ≡ false
+        → IsConverted R.Read W.Output (task_of job.now) known.now sheet.source sheet.output result.output }
+    ensures errors_mark { E.own_mark errors.new ≡ E.own_mark errors.old }
+{
+    let mut sheet = sheet;
+    let done = convert_source(
         alloc,
-        errors,
-        sheet.name,
-        job.dates.len(),
-        job.summary,
-        &done,
+        known,
+        job,
+        &mut sheet.source,
+        &mut sheet.output,
+        sheet.registers.as_mut_slice(),
     );
+    sheet.is_whole = is_whole(&done);
+    let dates = job.dates.len();
+    report_sheet(alloc, errors, sheet.name, dates, job.summary, &done);
+    sheet
 }
 
-/// Converts each sheet, and returns whether all are whole.
-fn convert_all<R: Read, W: Output, E: Output>(
+/// Converts each sheet. There is room for the converted ones.
+fn convert_all<'a, R: Read + Drop, W: Output + Drop, E: Output>(
     alloc: Global,
     known: &Known,
     job: &Job<'_>,
-    sheets: &mut Vec<FileSheet<'_, R, W>>,
+    sheets: Vec<FileSheet<'a, R, W>>,
+    room: Vec<FileSheet<'a, R, W>>,
     errors: &mut E,
-) -> bool {
-    let mut are_whole = true;
-    'sheets: for place in 0..sheets.len() {
-        let sheet = &mut sheets[place];
-        convert_one(alloc, known, job, sheet, errors);
-        if !sheet.is_whole {
-            are_whole = false;
-        }
+) -> Vec<FileSheet<'a, R, W>>
+    requires none { room.items ≡ [] }
+    requires room { vec_len sheets ≤ vec_capacity room }
+    ensures named { map sheet_name result.items ≡ map sheet_name sheets.items }
+    ensures ended { (IsOpened : List ℕ → R → Type 0) (IsMade : List ℕ → ℕ → W → Type 0)
+        → All (IsNewSheet W.Output IsOpened IsMade (task_of job.now)) sheets.items
+        → All (IsEndedSheet R.Read W.Output IsOpened IsMade (task_of job.now) known.now) result.items }
+    ensures errors_mark { E.own_mark errors.new ≡ E.own_mark errors.old }
+{
+    let mut ended = room;
+    'sheets: for sheet in sheets {
+        ended.push_reserved(convert_one(alloc, known, job, sheet, errors));
     }
-    are_whole
+    ended
+}
+
+/// Whether all sheets are whole.
+fn are_whole<R, W>(sheets: &[FileSheet<'_, R, W>]) -> bool
+    ensures { (result ≡ true) ↔ All (λ sheet. sheet.is_whole ≡ true) sheets.now }
+{
+    sheets.iter().all(|sheet| sheet.is_whole)
 }
 
 /// The status of a run of which all sheets are whole, or not.
-fn status_of(are_whole: bool) -> u8 {
+fn status_of(are_whole: bool) -> u8
+    ensures whole { (result ≡ 0) ↔ (are_whole ≡ true) }
+    ensures statuses { (result ≡ 0) ⊎ (result ≡ 1) }
+{
     if are_whole { COMPLETE } else { INCOMPLETE }
 }
 
@@ -216,67 +310,99 @@ fn convert_input<'a, R: Read + Drop, W: Output + Drop, E: Output>(
     input: R,
     output: W,
     errors: &mut E,
-) -> Outcome<'a, R, W> {
-    let mut sheet = FileSheet {
+) -> Outcome<'a, R, W>
+    ensures converted { result.status ≡ 0 → (task_of job.now).unknown ≡ false
+        → IsConverted R.Read W.Output (task_of job.now) known.now input output result.output }
+    ensures none { result.sheets.items ≡ [] }
+    ensures statuses { (result.status ≡ 0) ⊎ (result.status ≡ 1) }
+    ensures errors_mark { E.own_mark errors.new ≡ E.own_mark errors.old }
+{
+    let sheet = FileSheet {
         name: INPUT,
         source: input,
         output,
         registers: Vec::new(alloc),
         is_whole: false,
     };
-    convert_one(alloc, known, job, &mut sheet, errors);
+    let ended = convert_one(alloc, known, job, sheet, errors);
     Outcome {
-        status: status_of(sheet.is_whole),
-        output: sheet.output,
+        status: status_of(ended.is_whole),
+        output: ended.output,
         sheets: Vec::new(alloc),
     }
 }
 
-/// Converts the sheets of files.
-fn convert_files<'a, R: Read + Drop, W: Output + Drop, E: Output>(
-    alloc: Global,
-    known: &Known,
-    job: &Job<'a>,
-    sheets: Vec<FileSheet<'a, R, W>>,
-    output: W,
-    errors: &mut E,
-) -> Outcome<'a, R, W> {
-    let mut sheets = sheets;
-    let are_whole = convert_all(alloc, known, job, &mut sheets, errors);
-    Outcome {
-        status: status_of(are_whole),
-        output,
-        sheets,
-    }
-}
-
-/// What a job needs before its first sheet is read.
+/// What a job needs before its first sheet is read: the names, the sheets of its files, and room for these.
 #[derive(Drop)]
 struct Prepared<'a, R, W> {
     list: NameList,
     sheets: Vec<FileSheet<'a, R, W>>,
+    room: Vec<FileSheet<'a, R, W>>,
 }
 
-/// Opens all files, reads the lists of names, and then makes the outputs.
+/// Reads the lists of names, opens all files, and then makes the outputs.
 fn prepare<'a, R: Read + Drop, W: Output + Drop, P: FileStore<R, W>>(
     alloc: Global,
     built: &[u8],
     store: &P,
     job: &Job<'a>,
-) -> Result<Prepared<'a, R, W>, ProgramFault<'a>> {
-    let Inputs {
-        list,
-        sources,
-        endings,
-    } = match open_inputs(alloc, store, job) {
-        Ok(inputs) => inputs,
+) -> Result<Prepared<'a, R, W>, ProgramFault<'a>>
+    ensures lists { IfOk result (λ prepared. (own : Option (List ℕ))
+        × IsOwnText R.Read (P.is_opened store.now) (task_of job.now).names own
+        × AreBothLists own built.now prepared.list.lines.items) }
+    ensures named { IfOk result (λ prepared. map sheet_name prepared.sheets.items ≡ (task_of job.now).files) }
+    ensures made { IfOk result (λ prepared. All (IsNewSheet W.Output (P.is_opened store.now) (P.is_made store.now)
+        (task_of job.now)) prepared.sheets.items) }
+    ensures room { IfOk result (λ prepared. (prepared.room.items ≡ [])
+        × (vec_len prepared.sheets ≤ vec_capacity prepared.room)) }
+    ensures status { IfErr result (λ why. fault_status why ≡ 3) }
+    ensures none { IfErr result (λ why. request_fault_in why ≡ None) }
+{
+    let list = read_list(alloc, built, store, job)?;
+    let sheets = match open_sheets(alloc, store, job) {
+        Ok(sheets) => sheets,
         Err(fault) => return Err(ProgramFault::Files(fault)),
     };
-    let list = read_list(alloc, built, job, list)?;
-    let files = job.files.as_slice();
-    match make_sheets(alloc, store, files, sources, endings.as_slice()) {
-        Ok(sheets) => Ok(Prepared { list, sheets }),
-        Err(fault) => Err(ProgramFault::Files(fault)),
+    match Vec::with_capacity(alloc, sheets.len()) {
+        Ok(room) => Ok(Prepared { list, sheets, room }),
+        Err(_) => Err(ProgramFault::OutOfMemory),
+    }
+}
+
+/// Does what a job asks for by what is known of names.
+fn run_known<'a, R: Read + Drop, W: Output + Drop, E: Output>(
+    alloc: Global,
+    known: &Known,
+    job: &Job<'a>,
+    input: R,
+    output: W,
+    sheets: Vec<FileSheet<'a, R, W>>,
+    room: Vec<FileSheet<'a, R, W>>,
+    errors: &mut E,
+) -> Outcome<'a, R, W>
+    requires none { room.items ≡ [] }
+    requires room { vec_len sheets ≤ vec_capacity room }
+    ensures input { (task_of job.now).files ≡ [] → (result.sheets.items ≡ [])
+        × (result.status ≡ 0 → (task_of job.now).unknown ≡ false
+        → IsConverted R.Read W.Output (task_of job.now) known.now input output result.output) }
+    ensures files { (task_of job.now).files ≢ [] → (result.output ≡ output)
+        × (map sheet_name result.sheets.items ≡ map sheet_name sheets.items)
+        × ((result.status ≡ 0) ↔ All (λ sheet. sheet.is_whole ≡ true) result.sheets.items) }
+    ensures ended { (IsOpened : List ℕ → R → Type 0) (IsMade : List ℕ → ℕ → W → Type 0)
+        → (task_of job.now).files ≢ []
+        → All (IsNewSheet W.Output IsOpened IsMade (task_of job.now)) sheets.items
+        → All (IsEndedSheet R.Read W.Output IsOpened IsMade (task_of job.now) known.now) result.sheets.items }
+    ensures statuses { (result.status ≡ 0) ⊎ (result.status ≡ 1) }
+    ensures errors_mark { E.own_mark errors.new ≡ E.own_mark errors.old }
+{
+    if job.files.is_empty() {
+        return convert_input(alloc, known, job, input, output, errors);
+    }
+    let ended = convert_all(alloc, known, job, sheets, room, errors);
+    Outcome {
+        status: status_of(are_whole(ended.as_slice())),
+        output,
+        sheets: ended,
     }
 }
 
@@ -289,8 +415,26 @@ fn run_job<'a, R: Read + Drop, W: Output + Drop, P: FileStore<R, W>, E: Output>(
     output: W,
     store: &P,
     errors: &mut E,
-) -> Outcome<'a, R, W> {
-    let Prepared { list, sheets } = match prepare(alloc, built, store, job) {
+) -> Outcome<'a, R, W>
+    ensures input { result.status ≤ 1 → (task_of job.now).files ≡ [] → (known : KnownValue)
+        × AreNamesOf R.Read (P.is_opened store.now) (task_of job.now) built.now known
+        × (result.sheets.items ≡ [])
+        × (result.status ≡ 0 → (task_of job.now).unknown ≡ false
+        → IsConverted R.Read W.Output (task_of job.now) known input output result.output) }
+    ensures files { result.status ≤ 1 → (task_of job.now).files ≢ [] → (known : KnownValue)
+        × AreNamesOf R.Read (P.is_opened store.now) (task_of job.now) built.now known
+        × (result.output ≡ output)
+        × (map sheet_name result.sheets.items ≡ (task_of job.now).files)
+        × All (IsEndedSheet R.Read W.Output (P.is_opened store.now) (P.is_made store.now) (task_of job.now) known)
+        result.sheets.items
+        × ((result.status ≡ 0) ↔ All (λ sheet. sheet.is_whole ≡ true) result.sheets.items) }
+    ensures statuses { (result.status ≡ 0) ⊎ (result.status ≡ 1) ⊎ (result.status ≡ 3) }
+    ensures untouched { result.status ≡ 3 → result.output ≡ output }
+    ensures reported { result.status ≡ 3 → E.has_failed errors.new ≡ false → (arguments : List (List ℕ))
+        → IsReported arguments result.status (E.contents errors.old) (E.contents errors.new) }
+    ensures errors_mark { E.own_mark errors.new ≡ E.own_mark errors.old }
+{
+    let Prepared { list, sheets, room } = match prepare(alloc, built, store, job) {
         Ok(prepared) => prepared,
         Err(why) => return refuse(alloc, output, errors, &why),
     };
@@ -300,11 +444,7 @@ fn run_job<'a, R: Read + Drop, W: Output + Drop, P: FileStore<R, W>, E: Output>(
     let Ok(known) = known_by(alloc, &list, names.as_slice()) else {
         return refuse(alloc, output, errors, &ProgramFault::OutOfMemory);
     };
-    if job.files.is_empty() {
-        convert_input(alloc, &known, job, input, output, errors)
-    } else {
-        convert_files(alloc, &known, job, sheets, output, errors)
-    }
+    run_known(alloc, &known, job, input, output, sheets, room, errors)
 }
 
 /// Does what the program's arguments ask for: prints a page, or converts the sheet that `input` gives to `output`, or
@@ -329,7 +469,30 @@ pub fn answer<'a, R: Read + Drop, W: Output + Drop, P: FileStore<R, W>, E: Outpu
     output: W,
     store: &P,
     errors: &mut E,
-) -> Outcome<'a, R, W> {
+) -> Outcome<'a, R, W>
+    // The bytes of what is written to are known, so that no clause on them is empty; there are none yet, and nothing has
+    // failed.
+    requires fresh { IsFresh W.Output output }
+    requires fresh_errors { IsFresh E.Output errors.old }
+
+    // The arguments ask for a page, which was printed; or for the sheet of standard input; or for those of files.
+    ensures answered { result.status ≤ 1
+        → IsPageAnswered W.Output E.Output (map string_bytes arguments.entry.now) result.status
+        output result.output result.sheets.items errors.old errors.new
+        ⊎ IsInputAnswered R.Read W.Output (P.is_opened store.now) (map string_bytes arguments.entry.now) built.now
+        result.status input output result.output result.sheets.items
+        ⊎ AreFilesAnswered R.Read W.Output (P.is_opened store.now) (P.is_made store.now)
+        (map string_bytes arguments.entry.now) built.now result.status output result.output result.sheets.items }
+
+    // Unless the status is 3, arguments are refused exactly where something is wrong with them.
+    ensures refused { result.status ≢ 3 → (result.status ≡ 2) ↔ AreWrong (map string_bytes arguments.entry.now) }
+    // And then standard error has gained the line on that, unless it failed.
+    ensures reported { 2 ≤ result.status → E.has_failed errors.new ≡ false
+        → IsReported (map string_bytes arguments.entry.now) result.status (E.contents errors.old) (E.contents errors.new) }
+    ensures untouched { 2 ≤ result.status → result.output ≡ output }
+    ensures statuses { result.status ≤ 3 }
+    ensures errors_mark { E.own_mark errors.new ≡ E.own_mark errors.old }
+{
     match read_request(alloc, arguments) {
         Ok(Request::Help) => print_page(alloc, HELP, output, errors),
         Ok(Request::Version) => print_page(alloc, version_line_text().as_str(), output, errors),

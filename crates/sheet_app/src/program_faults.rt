@@ -1,5 +1,9 @@
 //! Why nothing is done.
 
+ghost use Rattle.std.specs.Prelude.{◌≡◌, IfOk, IfSome};
+ghost use Rattle.std.specs.String.{string_bytes};
+ghost use Rattle.sheet_app.specs.ProgramFaults.{list_line as list_line_spec};
+
 use crate::file_sheets::FileFault;
 use itoa::Buffer;
 use register_sheets::NameListFault;
@@ -20,7 +24,9 @@ pub enum ProgramFault<'a> {
 }
 
 /// The line on a list of names that is none.
-fn list_line(alloc: Global, file: &str, fault: NameListFault) -> Result<String, AllocError> {
+fn list_line(alloc: Global, file: &str, fault: NameListFault) -> Result<String, AllocError>
+    ensures { IfOk result (λ text. string_bytes text ≡ list_line_spec file.now fault) }
+{
     let (number, why) = match fault {
         NameListFault::OutOfMemory => return String::from_str(alloc, MEMORY_FAULT),
         NameListFault::Header => return own_line(alloc, "not name,means,in at the head of ", file),
@@ -34,9 +40,13 @@ fn list_line(alloc: Global, file: &str, fault: NameListFault) -> Result<String, 
 }
 
 impl ProgramFault<'_> {
+    ghost use Rattle.sheet_app.specs.ProgramFaults.{fault_line, fault_status};
+
     /// The exit status: 2 for what is wrong with the arguments, and 3 for files, for a list of names, and where memory ran
     /// out.
-    pub fn status(&self) -> u8 {
+    pub fn status(&self) -> u8
+        ensures { result ≡ fault_status self.now }
+    {
         match self {
             ProgramFault::Arguments(fault) => fault.status(),
             _ => 3,
@@ -48,7 +58,9 @@ impl ProgramFault<'_> {
     /// # Errors
     ///
     /// Memory ran out.
-    pub fn text(&self, alloc: Global) -> Result<String, AllocError> {
+    pub fn text(&self, alloc: Global) -> Result<String, AllocError>
+        ensures { IfOk result (λ text. IfSome (fault_line self.now) (λ line. string_bytes text ≡ line)) }
+    {
         match self {
             ProgramFault::Arguments(fault) => fault.text(alloc),
             ProgramFault::Files(FileFault::CannotOpen(file)) => own_line(

@@ -1,5 +1,16 @@
 //! What comes of a sheet.
 
+ghost use Rattle.std.specs.Prelude.{◌≡◌, IfErr, IfOk, map, get_or, true};
+ghost use Rattle.csv.specs.Records.{fields_of};
+ghost use Rattle.register_records.specs.Entries.{text_records};
+ghost use Rattle.register_records.specs.Sources.{Gains};
+ghost use Rattle.register_sheets.specs.Converted.{IsWholeSheet};
+ghost use Rattle.register_sheets.specs.Headings.{items_of};
+ghost use Rattle.register_sheets.specs.declared.choices.SheetChoice.{SheetChoice as SheetChoiceValue};
+ghost use Rattle.sheet_arguments.specs.Requests.{task_of};
+ghost use Rattle.sheet_app.specs.Sheets.{IsAskedSheet, head_of};
+ghost use Rattle.sheet_app.specs.SheetViews.{ArePlaces, IfListed, IfWholeDone, IsAskedOf, IsChoiceOf};
+
 use crate::columns::{dates_named, id_named};
 use crate::head_records::head_record;
 use crate::name_lists::Known;
@@ -52,7 +63,9 @@ fn places_in<'a>(
     alloc: Global,
     names: ByteRecord,
     job: &Job<'a>,
-) -> Result<Places, SheetFault<'a>> {
+) -> Result<Places, SheetFault<'a>>
+    ensures { IfOk result (λ places. ArePlaces (fields_of names.entry) (task_of job.now) places) }
+{
     let id = match id_named(&names, job.id) {
         Ok(id) => id,
         Err(fault) => return Err(fault_of_columns(fault, names)),
@@ -64,7 +77,10 @@ fn places_in<'a>(
 }
 
 /// Where the columns are in a sheet.
-fn places_of<'a>(alloc: Global, sheet: &[u8], job: &Job<'a>) -> Result<Places, SheetFault<'a>> {
+fn places_of<'a>(alloc: Global, sheet: &[u8], job: &Job<'a>) -> Result<Places, SheetFault<'a>>
+    ensures { IfOk result (λ places. ArePlaces (head_of (task_of job.now) (text_records job.now.delimiter sheet.now))
+        (task_of job.now) places) }
+{
     match head_record(alloc, sheet, job.delimiter, job.skip)? {
         Some(names) => places_in(alloc, names, job),
         None => Err(SheetFault::NoNames),
@@ -72,7 +88,9 @@ fn places_of<'a>(alloc: Global, sheet: &[u8], job: &Job<'a>) -> Result<Places, S
 }
 
 /// The bytes of texts.
-fn slices_of(alloc: Global, texts: &[Vec<u8>]) -> Result<Vec<&[u8]>, AllocError> {
+fn slices_of(alloc: Global, texts: &[Vec<u8>]) -> Result<Vec<&[u8]>, AllocError>
+    ensures { IfOk result (λ slices. map (λ slice. slice.now) slices.items ≡ items_of texts.now) }
+{
     let mut slices = Vec::new(alloc);
     'texts: for text in texts {
         slices.push(text.as_slice())?;
@@ -91,7 +109,9 @@ struct Asked<'a, 'b> {
 }
 
 /// The setup of what is asked of a sheet.
-fn setup_of<'a, 'b>(asked: &'a Asked<'a, 'b>) -> Result<SheetSetup<'a>, SheetFault<'b>> {
+fn setup_of<'a, 'b>(asked: &'a Asked<'a, 'b>) -> Result<SheetSetup<'a>, SheetFault<'b>>
+    ensures { IfOk result (λ setup. IsChoiceOf asked.now setup.choice) }
+{
     let setup = SheetSetup::new(SheetChoice {
         delimiter: asked.job.delimiter,
         above: asked.job.skip,
@@ -164,7 +184,12 @@ fn write_sheet<'b, W: Output>(
     sheet: &[u8],
     asked: &Asked<'_, 'b>,
     output: &mut W,
-) -> Result<WholeSheet, SheetFault<'b>> {
+) -> Result<WholeSheet, SheetFault<'b>>
+    ensures whole { IfOk result (λ whole. (choice : SheetChoiceValue) × IsChoiceOf asked.now choice
+        × Gains (W.contents output.old) (W.contents output.new)
+        (IsWholeSheet choice (text_records choice.delimiter sheet.now) whole.records whole.refused)) }
+    ensures flushed { IfOk result (λ whole. W.is_flushed output.new ≡ true) }
+{
     let setup = setup_of(asked)?;
     let (records, refused) = match convert_sheet(alloc, sheet, &setup, output) {
         SheetEnd::Whole { rows, refused } => (rows, refused),
@@ -188,7 +213,13 @@ fn write_asked<'b, W: Output>(
     asked: &Asked<'_, 'b>,
     output: &mut W,
     registers: &mut [W],
-) -> Result<SheetDone<'b>, SheetFault<'b>> {
+) -> Result<SheetDone<'b>, SheetFault<'b>>
+    ensures whole { IfOk result (λ done. IfWholeDone done (λ whole. (choice : SheetChoiceValue)
+        × IsChoiceOf asked.now choice × Gains (W.contents output.old) (W.contents output.new)
+        (IsWholeSheet choice (text_records choice.delimiter sheet.now) whole.records whole.refused))) }
+    ensures flushed { IfOk result (λ done. IfWholeDone done (λ whole. W.is_flushed output.new ≡ true)) }
+    ensures listed { IfOk result (λ done. IfListed done (asked.now.job.now.unknown ≡ true)) }
+{
     if asked.job.unknown {
         list_unknown(alloc, sheet, asked, output)?;
         return Ok(SheetDone::Listed);
@@ -210,7 +241,12 @@ pub fn convert_text<'b, W: Output>(
     job: &Job<'b>,
     output: &mut W,
     registers: &mut [W],
-) -> Result<SheetDone<'b>, SheetFault<'b>> {
+) -> Result<SheetDone<'b>, SheetFault<'b>>
+    ensures whole { IfOk result (λ done. IfWholeDone done (λ whole. Gains (W.contents output.old) (W.contents output.new)
+        (IsAskedSheet (task_of job.now) known.now sheet.now whole.records whole.refused))) }
+    ensures flushed { IfOk result (λ done. IfWholeDone done (λ whole. W.is_flushed output.new ≡ true)) }
+    ensures listed { IfOk result (λ done. IfListed done (job.now.unknown ≡ true)) }
+{
     let places = places_of(alloc, sheet, job)?;
     let headings = headings(
         alloc,

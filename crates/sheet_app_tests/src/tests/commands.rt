@@ -30,9 +30,10 @@ const CASES: [Case; 9] = [
             "--skip", "1", "--date", "a", "--date", "b", "--all", "julian", "--all", "gregorian",
             "--delimiter", "semicolon", "--to", "rd", "--summary",
         ],
-        input: b"title\n a ;b\n1-1-1;1-1-1\nx;1-1-1\n",
+        input: b"title\n a ;b\n1001-1-1;1001-1-1\nx;1001-1-1\n",
         status: 0,
-        output: b"title\n a ;b; a  rd; a  refusal;b rd;b refusal\n1-1-1;1-1-1;-1;;1;\nx;1-1-1;;5;1;\n",
+        output: b"title\n a ;b; a  rd; a  refusal;b rd;b refusal\n\
+            1001-1-1;1001-1-1;365249;;365243;\nx;1001-1-1;;5;365243;\n",
         outputs: &[],
         errors: "register-sheet: standard input: 2 records, refused: 1, 0\n",
     },

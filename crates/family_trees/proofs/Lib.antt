@@ -1,0 +1,6 @@
+-- LineLemmas serve `lines_of`, TreeLemmas what stands beside and over a line, MarkLemmas
+-- `dated`.
+mod LineLemmas
+pub mod TreeLemmas
+pub mod MarkLemmas
+pub mod DateLemmas

@@ -1,0 +1,32 @@
+-- What a clause sees of the dates of a tree.
+use Rattle.std.specs.Prelude.{ℕ, List, Option, map, option_map}
+use Rattle.std.specs.Borrow.{Bor}
+use Rattle.family_trees.specs.Lines.{TreeLine}
+use Rattle.family_trees.specs.LineViews.{line_seen}
+use Rattle.family_trees.specs.Trees.{DateOfTree}
+use Rattle.family_trees.specs.declared.trees.Tree.{Tree}
+use Rattle.family_trees.specs.declared.dates.TreeDate.{TreeDate}
+use Rattle.family_trees.specs.declared.lines.Line.{Line}
+
+abbrev pub lines_in : Tree → List TreeLine
+lines_in tree = map line_seen tree.lines.items
+
+abbrev pub over_seen : Option Line → Option TreeLine
+over_seen over = option_map line_seen over
+
+abbrev pub mark_seen : Bor (List ℕ) × Bor (List ℕ) → List ℕ × List ℕ
+mark_seen mark = (mark.0.now, mark.1.now)
+
+abbrev pub date_seen : TreeDate → DateOfTree
+date_seen it =
+    record {
+      number = it.number.now;
+      name = it.name.now;
+      partner = it.partner.now;
+      event = it.event.now;
+      part = it.part.now;
+      kind = it.kind.now;
+      place = it.place.now;
+      calendar = it.calendar.now;
+      date = it.date.now;
+    }

@@ -1,0 +1,5 @@
+pub mod Lines
+pub mod LineViews
+pub mod Trees
+pub mod TreeViews
+pub mod DateViews

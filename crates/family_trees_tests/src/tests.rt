@@ -1,0 +1,117 @@
+//! A small tree of each version, and the dates in it, found by hand.
+
+use family_trees::{TreeDate, dates_of};
+use std::alloc::{AllocError, Global};
+use std::test::Fail;
+
+/// A tree, and a line for each date: number, name, partner, event, part, type, place, calendar and date, with bars
+/// between them.
+struct Case {
+    tree: &'static str,
+    dates: &'static str,
+}
+
+static CASES: [Case; 4] = [
+    Case {
+        tree: "\
+0 HEAD
+1 SOUR a program
+1 DATE 3 MAR 2020
+2 TIME 12:00
+0 @F1@ FAM
+1 HUSB @I1@
+1 WIFE @I2@
+1 MARR
+2 PLAC Mainz
+2 DATE @#DFRENCH R@ 15 VENT 6
+1 CHIL @I3@
+0 @I1@ INDI
+1 NAME Karl /Vogel/
+2 GIVN Karl
+1 NAME Carl /Vogel/
+1 BIRT
+2 DATE @#DJULIAN@ 10 FEB 1699
+2 PLAC Riga
+2 SOUR @S1@
+3 DATA
+4 DATE 5 MAY 1901
+1 EVEN
+2 TYPE Auswanderung
+2 DATE FROM 1720 TO 1722
+1 NOTE The line
+2 CONT 1 DATE 3 MAR 1700
+2 CONC  goes on
+0 @I2@ INDI
+1 NAME Anna /Böhm/
+1 DEAT
+2 DATE (an Ostern)
+0 @I2@ INDI
+1 NAME Another
+0 TRLR
+",
+        dates: "\
+|||||||gregorian|3 MAR 2020
+@F1@|Karl /Vogel/|Anna /Böhm/|MARR|||Mainz|republican|15 VENT 6
+@I1@|Karl /Vogel/||BIRT|||Riga|julian|10 FEB 1699
+@I1@|Karl /Vogel/||BIRT|DATA|||gregorian|5 MAY 1901
+@I1@|Karl /Vogel/||EVEN||Auswanderung||gregorian|FROM 1720 TO 1722
+@I2@|Anna /Böhm/||DEAT||||gregorian|(an Ostern)
+",
+    },
+    Case {
+        tree: "0 @X@ INDI\r\n1 BIRT\r\n2 DATE HEBREW 5 TSH 5507\r\n1 DEAT\r\n2 DATE JULIAN 1 JAN 1800\r\
+2 DATE  FRENCH_R 1 COMP 3\r\n\r\n  2 DATE 1 \u{c4}pril 1800\n\n1 BAPM\n2 PLAC Graz",
+        dates: "\
+@X@|||BIRT||||hebrew|5 TSH 5507
+@X@|||DEAT||||julian|1 JAN 1800
+@X@|||DEAT||||republican|1 COMP 3
+@X@|||DEAT||||gregorian|1 \u{c4}pril 1800
+",
+    },
+    Case {
+        tree: "0 DATE 1 JAN 1700\nDATE\n1 DATED x\n100 DATE y\nx1 DATE z\n1DATE\n\n2 DATE",
+        dates: "|||DATED||||gregorian|\n",
+    },
+    Case {
+        tree: "",
+        dates: "",
+    },
+];
+
+/// Appends a date as a line.
+fn push_line(lines: &mut Vec<u8>, it: &TreeDate) -> Result<(), AllocError> {
+    let front = [
+        it.number,
+        it.name,
+        it.partner,
+        it.event,
+        it.part,
+        it.kind,
+        it.place,
+        it.calendar,
+    ];
+    for field in front {
+        lines.extend_from_slice(field)?;
+        lines.push(b'|')?;
+    }
+    lines.extend_from_slice(it.date)?;
+    lines.push(b'\n')?;
+    Ok(())
+}
+
+/// Whether the dates of a tree are these.
+fn has_dates(alloc: Global, case: &Case) -> Result<bool, AllocError> {
+    let mut lines = Vec::new(alloc);
+    for date in &dates_of(alloc, case.tree.as_bytes())? {
+        push_line(&mut lines, date)?;
+    }
+    Ok(lines.as_slice() == case.dates.as_bytes())
+}
+
+#[test]
+fn trees_have_their_dates(rt: HostRuntime) -> Result<(), Fail> {
+    for case in &CASES {
+        assert!(rt; has_dates(rt.alloc(), case)?, "at {:?}", case.tree);
+    }
+    Ok(())
+}

@@ -346,12 +346,6 @@ export class Module {
     return this.makeText('sheet_write', fields, (bytes, lengths) => [bytes, lengths, BigInt(width), delimiter]);
   }
 
-  /** The sheet, each record in its line, filled up to `fill` fields, and then with `width` of the further fields. */
-  join(text, delimiter, fill, fields, width) {
-    return this.makeText('sheet_join', fields,
-      (bytes, lengths) => [text, delimiter, BigInt(fill), bytes, lengths, BigInt(width)]);
-  }
-
   makeText(name, fields, words) {
     const { bytes, lengths } = this.putFields(fields);
     let buffer = this.malloc(4096);

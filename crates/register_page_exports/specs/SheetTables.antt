@@ -1,14 +1,20 @@
 -- What becomes of a sheet for a page.
-use Rattle.std.specs.Prelude.{◌≡◌, ℕ, List, [], Some, get_or, map, slice_get}
+use Rattle.std.specs.Prelude.{◌≡◌, ◌≢◌, ◌⊎◌, ◌≤◌, ◌<◌, ⊤, ℕ, true, List, [], IsSome, None, Some, get_or, length, map, slice_get}
 use Rattle.date_texts.specs.declared.calendar.Calendar.{Calendar}
-use Rattle.register_records.specs.Entries.{Fields, text_records}
-use Rattle.register_sheets.specs.Converted.{IsWholeSheet}
+use Rattle.register_records.specs.Entries.{Fields, record_limit, text_records}
+use Rattle.register_records.specs.SetupRules.{is_delimiter}
+use Rattle.register_sheets.specs.Choices.{AsksOnce, HasDates, added}
+use Rattle.register_sheets.specs.Converted.{IsWholeSheet, below}
 use Rattle.register_sheets.specs.Headings.{AreHeadings, wanted_headings}
-use Rattle.register_sheets.specs.NameLists.{IsListOf, calendar_names_in, calendar_seen, name_seen, names_in_dates}
+use Rattle.register_sheets.specs.NameLists.{IsFaultOf, IsListOf, calendar_names_in, calendar_seen, name_seen}
+use Rattle.register_sheets.specs.NameLists.{names_in_dates}
 use Rattle.register_sheets.specs.Registers.{IsRegister}
+use Rattle.register_sheets.specs.UnknownNames.{IsUnknown, NameCount, list_text}
 use Rattle.register_sheets.specs.declared.choices.DateColumn.{DateColumn}
 use Rattle.register_sheets.specs.declared.choices.SheetChoice.{SheetChoice}
 use Rattle.register_sheets.specs.declared.name_lists.NameLine.{NameLine}
+use Rattle.register_sheets.specs.declared.name_lists.NameListFault.{NameListFault}
+use Rattle.register_sheets.specs.declared.name_lists.NameListFault.TheVariants as fault
 use Rattle.written_dates.specs.Fields.{bare_name, entries}
 use Rattle.written_dates.specs.declared.fields.CalendarName.{CalendarName}
 use Rattle.written_dates.specs.declared.meanings.Name.{Name}
@@ -57,10 +63,22 @@ pub record IsAsked (numbers columns names sheet : List ℕ) (choice : SheetChoic
   pub headed : HasHeadings asked sheet headings
   pub chosen : IsChoiceOf asked in_dates (map bare_name of_calendars) headings choice
 
+-- nothing is wrong with a choice
+pub record IsChoice (choice : SheetChoice) : Type 0 where
+  pub dated : HasDates choice
+  pub once : AsksOnce choice
+  pub delimited : is_delimiter choice.delimiter ≡ true
+  pub headed : length choice.headings.now ≡ added choice
+
+-- nor with the place of one of its columns of dates
+abbrev pub IsChoiceAt : ℕ → SheetChoice → Type 0
+IsChoiceAt place choice = IsChoice choice × (place < length choice.dates.now)
+
 -- the sheet that comes back for what is asked
 pub record IsAskedSheet (numbers columns names sheet : List ℕ) (count : ℕ) (refused bytes : List ℕ) : Type 0 where
   pub choice : SheetChoice
   pub asked : IsAsked numbers columns names sheet choice
+  pub is_choice : IsChoice choice
   pub whole : IsWholeSheet choice (text_records choice.delimiter sheet) count refused bytes
 
 -- the register of a column of dates for what is asked
@@ -69,5 +87,41 @@ pub record IsAskedRegister (numbers names sheet : List ℕ) (place : ℕ) (bytes
   pub column : DateColumn
   pub count : ℕ
   pub asked : IsAsked numbers [] names sheet choice
+  pub is_choice : IsChoice choice
   pub at_place : slice_get choice.dates.now place ≡ Some column
   pub whole : IsRegister choice column (text_records choice.delimiter sheet) count bytes
+
+-- the list of the first names that are not known for what is asked, at most so many, with the counts of what else is not
+pub record IsAskedUnknown (numbers names sheet : List ℕ) (most : ℕ) (bytes : List ℕ) (more short kept : ℕ)
+    : Type 0 where
+  pub choice : SheetChoice
+  pub found : List NameCount
+  pub asked : IsAsked numbers [] names sheet choice
+  pub is_choice : IsChoice choice
+  pub unknown : IsUnknown choice (text_records choice.delimiter sheet) most found more short kept
+  pub written : bytes ≡ list_text found
+
+-- why nothing comes of a sheet by a choice that Is asked and must be one that P holds of
+abbrev pub EndsBy : (SheetChoice → Type 0) → (SheetChoice → Type 0) → List ℕ → SheetEnding → Type 0
+EndsBy Is P sheet ending.NoMemory = ⊤
+EndsBy Is P sheet ending.NameList = ⊥
+EndsBy Is P sheet ending.Choice = (choice : SheetChoice) × Is choice × ¬ (P choice)
+EndsBy Is P sheet ending.NoNames =
+    (choice : SheetChoice) × Is choice × P choice × (length (text_records choice.delimiter sheet) ≤ choice.above)
+EndsBy Is P sheet ending.TooManyRecords =
+    (choice : SheetChoice) × Is choice × P choice × (record_limit < length (below choice (text_records choice.delimiter sheet)))
+
+-- the text is no list of names
+abbrev pub HasFault : List ℕ → Type 0
+HasFault names = (fault : NameListFault) × (fault ≢ fault.OutOfMemory) × IsFaultOf (text_records 44 names) fault
+
+-- why nothing comes of a sheet for these numbers and names, whose choice must be one that P holds of
+abbrev pub EndsFor : (SheetChoice → Type 0) → List ℕ → List ℕ → List ℕ → List ℕ → SheetEnding → Type 0
+EndsFor P numbers columns names sheet ending.NameList = IsSome (asked_by numbers columns) × HasFault names
+EndsFor P numbers columns names sheet ending.Choice =
+    (asked_by numbers columns ≡ None) ⊎ EndsBy (IsAsked numbers columns names sheet) P sheet ending.Choice
+EndsFor P numbers columns names sheet other = EndsBy (IsAsked numbers columns names sheet) P sheet other
+
+-- the number is that of an ending for which this is so
+abbrev pub IsEndingOf : (SheetEnding → Type 0) → ℕ → Type 0
+IsEndingOf P number = (why : SheetEnding) × (number ≡ ending_number why) × P why

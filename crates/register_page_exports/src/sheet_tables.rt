@@ -1,19 +1,23 @@
 //! Sheets with their tables, for a page.
 
-ghost use Rattle.std.specs.Prelude.{◌≡◌, ◌≢◌, [], IfOk, List, Some, ℕ, map, slice_get};
+ghost use Rattle.std.specs.Prelude.{◌≡◌, ◌≢◌, ◌⊎◌, [], IfErr, IfOk, IsErrAnd, List, None, Some, ℕ, map, slice_get};
+ghost use Rattle.std.specs.Fn.{FnOnceReturnsAt};
 ghost use Rattle.register_records.specs.Entries.{text_records};
 ghost use Rattle.register_sheets.specs.Converted.{IsWholeSheet};
 ghost use Rattle.register_sheets.specs.Headings.{items_of};
 ghost use Rattle.register_sheets.specs.NameLists.{IsListOf};
 ghost use Rattle.register_sheets.specs.Registers.{IsRegister};
+ghost use Rattle.register_sheets.specs.UnknownNames.{IsUnknown, list_text, name_seen};
 ghost use Rattle.register_sheets.specs.declared.choices.DateColumn.{DateColumn as DateColumnValue};
 ghost use Rattle.register_sheets.specs.declared.choices.SheetChoice.{SheetChoice as SheetChoiceValue};
 ghost use Rattle.written_dates.specs.Fields.{bare_name, entries};
 ghost use Rattle.register_page_exports.specs.AskedViews.{seen};
-ghost use Rattle.register_page_exports.specs.KnownViews.{IsChoiceOfKnown};
+ghost use Rattle.register_page_exports.specs.KnownViews.{EndsEarly, IsChoiceOfKnown, KnowsAsked, ending_by};
 ghost use Rattle.register_page_exports.specs.SheetChoices.{asked_by};
 ghost use Rattle.register_page_exports.specs.SheetReports.{PutsText};
-ghost use Rattle.register_page_exports.specs.SheetTables.{HasHeadings, IsAskedRegister, IsAskedSheet, IsChoiceOf};
+ghost use Rattle.register_page_exports.specs.SheetTables.{EndsBy, EndsFor, HasFault, HasHeadings, IsAskedRegister, IsAskedSheet};
+ghost use Rattle.register_page_exports.specs.SheetTables.{IsAskedUnknown, IsChoice, IsChoiceAt, IsEndingOf};
+ghost use Rattle.register_page_exports.specs.declared.sheet_tables.Known.{Known as KnownValue};
 
 use crate::choices::Asked;
 use crate::sheets::{TextReport, put_text};
@@ -72,7 +76,9 @@ impl From<AllocError> for SheetEnding {
 }
 
 /// The ending for a cause. An output in memory fails where there is no more.
-fn ending_of(cause: SheetCause) -> SheetEnding {
+fn ending_of(cause: SheetCause) -> SheetEnding
+    ensures { result ≡ ending_by cause }
+{
     match cause {
         SheetCause::NoMemory | SheetCause::SinkFault => SheetEnding::NoMemory,
         SheetCause::NoNames => SheetEnding::NoNames,
@@ -82,7 +88,8 @@ fn ending_of(cause: SheetCause) -> SheetEnding {
 
 /// The list of names of a text.
 fn list_of(alloc: Global, names: &[u8]) -> Result<NameList, SheetEnding>
-    ensures { IfOk result (λ list. IsListOf (text_records 44 names.now) list.lines.items) }
+    ensures list { IfOk result (λ list. IsListOf (text_records 44 names.now) list.lines.items) }
+    ensures fault { IfErr result (λ e. (e ≡ SheetEnding.NoMemory) ⊎ ((e ≡ SheetEnding.NameList) × HasFault names.now)) }
 {
     match NameList::read(alloc, names) {
         Ok(list) => Ok(list),
@@ -93,7 +100,9 @@ fn list_of(alloc: Global, names: &[u8]) -> Result<NameList, SheetEnding>
 
 /// What these numbers ask of a sheet.
 fn asked_of(alloc: Global, choice: &[u32], columns: &[u8]) -> Result<Asked, SheetEnding>
-    ensures { IfOk result (λ asked. asked_by choice.now columns.now ≡ Some (seen asked)) }
+    ensures asked { IfOk result (λ asked. asked_by choice.now columns.now ≡ Some (seen asked)) }
+    ensures none { IfErr result (λ e. (e ≡ SheetEnding.NoMemory)
+        ⊎ ((e ≡ SheetEnding.Choice) × (asked_by choice.now columns.now ≡ None))) }
 {
     match Asked::by(alloc, choice, columns)? {
         Some(asked) => Ok(asked),
@@ -159,7 +168,9 @@ fn headings_of(alloc: Global, sheet: &[u8], asked: &Asked) -> Result<Vec<Vec<u8>
 
 /// The setup of what is asked of a sheet.
 fn setup_of<'a>(known: &'a Known<'a>) -> Result<SheetSetup<'a>, SheetEnding>
-    ensures { IfOk result (λ setup. IsChoiceOfKnown known.now setup.choice) }
+    ensures choice { IfOk result (λ setup. IsChoiceOfKnown known.now setup.choice × IsChoice setup.choice) }
+    ensures none { IfErr result (λ e. (e ≡ SheetEnding.Choice)
+        × ((choice : SheetChoiceValue) × IsChoiceOfKnown known.now choice × ¬ (IsChoice choice))) }
 {
     let setup = SheetSetup::new(SheetChoice {
         delimiter: known.asked.delimiter,
@@ -193,8 +204,9 @@ fn converted_by(
     known: &Known,
     expected: usize,
 ) -> Result<SheetMade, SheetEnding>
-    ensures { IfOk result (λ made. (choice : SheetChoiceValue) × IsChoiceOfKnown known.now choice
+    ensures whole { IfOk result (λ made. (choice : SheetChoiceValue) × IsChoiceOfKnown known.now choice × IsChoice choice
         × IsWholeSheet choice (text_records choice.delimiter sheet.now) made.rows made.refused made.text.items) }
+    ensures ends { IfErr result (EndsBy (IsChoiceOfKnown known.now) IsChoice sheet.now) }
 {
     let setup = setup_of(known)?;
     let mut output = PlainOutput::new(bytes_for(alloc, expected), 0);
@@ -218,9 +230,10 @@ fn register_by(
     column: usize,
     expected: usize,
 ) -> Result<Vec<u8>, SheetEnding>
-    ensures { IfOk result (λ text. (choice : SheetChoiceValue) × IsChoiceOfKnown known.now choice
+    ensures whole { IfOk result (λ text. (choice : SheetChoiceValue) × IsChoiceOfKnown known.now choice × IsChoice choice
         × (found : DateColumnValue) × (count : ℕ) × (slice_get choice.dates.now column ≡ Some found)
         × IsRegister choice found (text_records choice.delimiter sheet.now) count text.items) }
+    ensures ends { IfErr result (EndsBy (IsChoiceOfKnown known.now) (IsChoiceAt column) sheet.now) }
 {
     let setup = setup_of(known)?;
     let Some(column) = setup.choice().dates.get(column) else {
@@ -241,7 +254,12 @@ fn unknown_by(
     sheet: &[u8],
     known: &Known,
     most: usize,
-) -> Result<(Unknown, Vec<u8>), SheetEnding> {
+) -> Result<(Unknown, Vec<u8>), SheetEnding>
+    ensures whole { IfOk result (λ r. (choice : SheetChoiceValue) × IsChoiceOfKnown known.now choice × IsChoice choice
+        × IsUnknown choice (text_records choice.delimiter sheet.now) most (map name_seen r.0.names.items) r.0.more r.0.short
+        r.0.kept × (r.1.items ≡ list_text (map name_seen r.0.names.items))) }
+    ensures ends { IfErr result (EndsBy (IsChoiceOfKnown known.now) IsChoice sheet.now) }
+{
     let setup = setup_of(known)?;
     match unknown_names(alloc, sheet, &setup, most) {
         Ok(unknown) => {
@@ -252,17 +270,19 @@ fn unknown_by(
     }
 }
 
-/// The sheet that comes back for what is asked by these numbers and names.
-fn converted(
+/// What is made of a sheet by what these numbers and names ask of it.
+fn made_by<T, F: FnOnce(&Known) -> Result<T, SheetEnding>>(
     alloc: Global,
     sheet: &[u8],
     choice: &[u32],
     columns: &[u8],
     names: &[u8],
-    expected: usize,
-) -> Result<SheetMade, SheetEnding>
-    ensures { IfOk result (λ made.
-        IsAskedSheet choice.now columns.now names.now sheet.now made.rows made.refused made.text.items) }
+    make: F,
+) -> Result<T, SheetEnding>
+    requires { F.IsAlwaysCallable make }
+    ensures { IsErrAnd result (EndsEarly choice.now columns.now names.now)
+        ⊎ ((known : KnownValue) × KnowsAsked choice.now columns.now names.now sheet.now known
+        × FnOnceReturnsAt F.FnOnce make known result) }
 {
     let asked = asked_of(alloc, choice, columns)?;
     let list = list_of(alloc, names)?;
@@ -276,7 +296,25 @@ fn converted(
         calendars.as_slice(),
         headings.as_slice(),
     )?;
-    converted_by(alloc, sheet, &known, expected)
+    make(&known)
+}
+
+/// The sheet that comes back for what is asked by these numbers and names.
+fn converted(
+    alloc: Global,
+    sheet: &[u8],
+    choice: &[u32],
+    columns: &[u8],
+    names: &[u8],
+    expected: usize,
+) -> Result<SheetMade, SheetEnding>
+    ensures whole { IfOk result (λ made.
+        IsAskedSheet choice.now columns.now names.now sheet.now made.rows made.refused made.text.items) }
+    ensures ends { IfErr result (EndsFor IsChoice choice.now columns.now names.now sheet.now) }
+{
+    made_by(alloc, sheet, choice, columns, names, |known| {
+        converted_by(alloc, sheet, known, expected)
+    })
 }
 
 /// The register of a column of dates for what is asked.
@@ -288,44 +326,29 @@ fn register_made(
     names: &[u8],
     expected: usize,
 ) -> Result<Vec<u8>, SheetEnding>
-    ensures { IfOk result (λ text. IsAskedRegister choice.now names.now sheet.now column text.items) }
+    ensures whole { IfOk result (λ text. IsAskedRegister choice.now names.now sheet.now column text.items) }
+    ensures ends { IfErr result (EndsFor (IsChoiceAt column) choice.now [] names.now sheet.now) }
 {
-    let asked = asked_of(alloc, choice, &[])?;
-    let list = list_of(alloc, names)?;
-    let names = list.names(alloc)?;
-    let calendars = list.calendar_names(alloc)?;
-    let headings = headings_of(alloc, sheet, &asked)?;
-    let known = known_by(
-        alloc,
-        asked,
-        names.as_slice(),
-        calendars.as_slice(),
-        headings.as_slice(),
-    )?;
-    register_by(alloc, sheet, &known, column, expected)
+    made_by(alloc, sheet, choice, &[], names, |known| {
+        register_by(alloc, sheet, known, column, expected)
+    })
 }
 
-/// The names that are not known for what is asked.
+/// The names that are not known for what is asked, and a list of them.
 fn unknown_found(
     alloc: Global,
     sheet: &[u8],
     choice: &[u32],
     names: &[u8],
     most: usize,
-) -> Result<(Unknown, Vec<u8>), SheetEnding> {
-    let asked = asked_of(alloc, choice, &[])?;
-    let list = list_of(alloc, names)?;
-    let names = list.names(alloc)?;
-    let calendars = list.calendar_names(alloc)?;
-    let headings = headings_of(alloc, sheet, &asked)?;
-    let known = known_by(
-        alloc,
-        asked,
-        names.as_slice(),
-        calendars.as_slice(),
-        headings.as_slice(),
-    )?;
-    unknown_by(alloc, sheet, &known, most)
+) -> Result<(Unknown, Vec<u8>), SheetEnding>
+    ensures whole { IfOk result (λ r.
+        IsAskedUnknown choice.now names.now sheet.now most r.1.items r.0.more r.0.short r.0.kept) }
+    ensures ends { IfErr result (EndsFor IsChoice choice.now [] names.now sheet.now) }
+{
+    made_by(alloc, sheet, choice, &[], names, |known| {
+        unknown_by(alloc, sheet, known, most)
+    })
 }
 
 /// How a sheet came back. A number that says nothing is 0.
@@ -384,6 +407,8 @@ pub extern "C" fn sheet_convert(
         × IsAskedSheet choice.now columns.now names.now sheet.now report.new.rows report.new.refused text
         × PutsText text room.old room.new report.new.length }
     ensures none { report.new.ending ≢ 0 → (report.new.length ≡ 0) × (report.new.rows ≡ 0) × (room.new ≡ room.old) }
+    ensures why { report.new.ending ≢ 0
+        → IsEndingOf (EndsFor IsChoice choice.now columns.now names.now sheet.now) report.new.ending }
 {
     *report = match converted(alloc, sheet, choice, columns, names, room.len()) {
         Ok(made) => SheetReport {
@@ -416,6 +441,8 @@ pub extern "C" fn sheet_register(
         × IsAskedRegister choice.now names.now sheet.now column text
         × PutsText text room.old room.new report.new.length }
     ensures none { report.new.ending ≢ 0 → (report.new.length ≡ 0) × (room.new ≡ room.old) }
+    ensures why { report.new.ending ≢ 0
+        → IsEndingOf (EndsFor (IsChoiceAt column) choice.now [] names.now sheet.now) report.new.ending }
 {
     *report = match register_made(alloc, sheet, choice, column, names, room.len()) {
         Ok(text) => put_text(text.as_slice(), room),
@@ -437,7 +464,12 @@ pub extern "C" fn sheet_unknown(
     room: &mut [u8],
     report: &mut UnknownReport,
 )
+    ensures whole { report.new.ending ≡ 0 → (text : List ℕ)
+        × IsAskedUnknown choice.now names.now sheet.now most text report.new.more report.new.short report.new.kept
+        × PutsText text room.old room.new report.new.length }
     ensures none { report.new.ending ≢ 0 → (report.new.length ≡ 0) × (room.new ≡ room.old) }
+    ensures why { report.new.ending ≢ 0
+        → IsEndingOf (EndsFor IsChoice choice.now [] names.now sheet.now) report.new.ending }
 {
     *report = match unknown_found(alloc, sheet, choice, names, most) {
         Ok((unknown, text)) => UnknownReport {

@@ -5,11 +5,11 @@ ghost use Rattle.std.specs.Int.{div_ceil};
 ghost use Rattle.register_records.specs.Entries.{text_records};
 ghost use Rattle.register_page.specs.Rooms.{with_front};
 ghost use Rattle.register_sheets.specs.Fields.{fields_by};
-ghost use Rattle.register_sheets.specs.Sheets.{HasLongField, all_chosen, groups, joined, records_text};
+ghost use Rattle.register_sheets.specs.Sheets.{HasLongField, all_chosen, groups, records_text};
 ghost use Rattle.register_page_exports.specs.SheetReports.{PutsFields, PutsNothing, PutsText};
 
 use register_page::put;
-use register_sheets::{Picked, join, pick, write};
+use register_sheets::{Picked, pick, write};
 use std::alloc::Global;
 
 /// What was picked. Where there are more bytes or fields than fit into the room for them, it is as it was.
@@ -120,36 +120,6 @@ pub extern "C" fn sheet_write(
         Err(fault) => {
             *report = TextReport {
                 ending: fault.number() as usize,
-                length: 0,
-            };
-        }
-    }
-}
-
-/// [`join`], into a room for the text.
-#[unsafe(no_mangle)]
-pub extern "C" fn sheet_join(
-    alloc: Global,
-    sheet: &[u8],
-    delimiter: u8,
-    fill: usize,
-    bytes: &[u8],
-    lengths: &[u32],
-    width: usize,
-    room: &mut [u8],
-    report: &mut TextReport,
-)
-    ensures text { report.new.ending ≡ 0 → PutsText (records_text delimiter
-        (joined fill width (text_records delimiter sheet.now) (fields_by lengths.now bytes.now)))
-        room.old room.new report.new.length }
-    ensures none { report.new.ending ≢ 0
-        → (report.new.length ≡ 0) × (room.new ≡ room.old) × (report.new.ending ≡ 1) }
-{
-    match join(alloc, sheet, delimiter, fill, bytes, lengths, width) {
-        Ok(text) => *report = put_text(text.as_slice(), room),
-        Err(_) => {
-            *report = TextReport {
-                ending: 1,
                 length: 0,
             };
         }

@@ -1,8 +1,8 @@
 -- Which file serves which public clause:
---   LineLemmas: that lines are the text of their fields, for `write` and `join`. ListLemmas: what is left of a list of
---     fields, for both.
---   SheetLemmas: `pick`, and that records come one after the other, for `join`.
---   NameListLemmas: `NameList::read`. HeadingLemmas: `headings`. RegisterLemmas: `write_register`.
+--   LineLemmas: that lines are the text of their fields, for `write`. ListLemmas: what is left of a list of fields.
+--   SheetLemmas: `pick`, and that records come one after the other.
+--   NameListLemmas: `NameList::read`. HeadingLemmas: `headings`. RegisterLemmas: `write_register`. StopLemmas:
+--     `unknown_names`.
 --   The others, and ConvertLemmas above them: `convert_sheet`.
 pub mod ListLemmas
 pub mod LineLemmas
@@ -16,3 +16,5 @@ pub mod AskedLemmas
 pub mod ConvertLemmas
 pub mod HeadingLemmas
 pub mod RegisterLemmas
+pub mod StopLemmas
+pub mod FoundLemmas

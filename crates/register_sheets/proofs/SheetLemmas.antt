@@ -1,4 +1,4 @@
--- Records that are picked, grouped and joined, one after the other.
+-- Records that are picked and grouped, one after the other.
 use Rattle.std.proofs.Common.{◌≡◌, ◌<◌, ◌+◌, ◌∙◌, ℕ, suc, List, [], ◌∷◌, ◌++◌, take, map, length, get_or, sym, arith}
 use Rattle.std.proofs.Common.{append_assoc, append-nil, max, subst, Option, None, IsSome, IfSome}
 use Rattle.std.specs.List.{concat}

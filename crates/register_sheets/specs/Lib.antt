@@ -12,3 +12,6 @@ pub mod RowViews
 pub mod Headings
 pub mod HeadingViews
 pub mod Registers
+pub mod UnknownNames
+pub mod UnknownViews
+pub mod FoundViews

@@ -43,12 +43,6 @@ groups (suc count) width fields = take width fields ∷ groups count width (drop
 abbrev pub filled : ℕ → Fields → Fields
 filled count fields = fields ++ replicate (count - length fields) []
 
--- the records, and behind each the next so many of the fields
-abbrev pub joined : ℕ → ℕ → List Fields → List (List ℕ) → List Fields
-joined fill width [] fields = []
-joined fill width (own ∷ records) fields =
-    (filled fill own ++ take width fields) ∷ joined fill width records (drop width fields)
-
 -- the text of records
 abbrev pub records_text : ℕ → List Fields → List ℕ
 records_text delimiter records = flat_map (line_text delimiter) records

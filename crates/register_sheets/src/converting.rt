@@ -16,8 +16,8 @@ ghost use Rattle.register_sheets.specs.Sending.{CountsAll, Ends, HasBody, HasFro
 ghost use Rattle.register_sheets.specs.Sheets.{filled, widest};
 
 use crate::choices::SheetSetup;
-use crate::joining::push_own;
 use crate::lines::SheetLines;
+use crate::own_fields::push_own;
 use crate::reading::{read_next, records_of};
 use crate::sending::SheetSender;
 use crate::sheet_ends::{SheetCause, SheetEnd};

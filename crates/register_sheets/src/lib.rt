@@ -1,19 +1,20 @@
-//! Sheets: the fields of their records, texts of records, and records with more fields behind their own. All CSV is read
-//! and written by `csv`; what a caller gives and gets are values.
+//! Sheets: the fields of their records, and texts of records. All CSV is read and written by `csv`; what a caller gives
+//! and gets are values.
 //!
-//! [`convert_sheet`] writes a sheet with the columns of its dates' rows behind it.
+//! [`convert_sheet`] writes a sheet with the columns of its dates' rows behind it, [`write_register`] the register of a
+//! column of dates, and [`unknown_names`] finds the names that are not known.
 #![tactic(auto)]
 
 mod asked;
 mod choices;
 mod converting;
 mod field_lists;
-mod joining;
 mod lines;
 mod name_calendars;
 mod name_lists;
 mod name_meanings;
 mod new_headings;
+mod own_fields;
 mod picking;
 mod reading;
 mod register_fields;
@@ -23,6 +24,8 @@ mod sending;
 mod sheet_ends;
 mod sheet_rows;
 mod stopped_dates;
+mod stopped_names;
+mod stops;
 mod writing;
 
 pub use choices::{
@@ -30,12 +33,12 @@ pub use choices::{
     SheetChoice, SheetSetup,
 };
 pub use converting::convert_sheet;
-pub use joining::join;
 pub use name_lists::{NameLine, NameList, NameListFault};
 pub use name_meanings::Means;
 pub use new_headings::headings;
 pub use picking::{PickFault, Picked, pick};
 pub use registers::write_register;
 pub use sheet_ends::{SheetCause, SheetEnd};
-pub use stopped_dates::{Unknown, UnknownName, unknown_names};
+pub use stopped_dates::{Unknown, unknown_names};
+pub use stopped_names::UnknownName;
 pub use writing::{WriteFault, write};

@@ -1,37 +1,30 @@
 //! The names in a sheet that are not known.
 
-use crate::choices::{CalendarField, DateColumn, SheetChoice, SheetSetup};
+ghost use Rattle.std.specs.Prelude.{◌≡◌, ◌≢◌, ◌≤◌, ◌<◌, ◌+◌, ◌++◌, ◌⊎◌, ◌∷◌, ◌^◌, ◌↔◌, [], Bool, IfErr, IfOk, List, OnOk, Some};
+ghost use Rattle.std.specs.Prelude.{false, if◌then◌else◌, length, map, true};
+ghost use Rattle.csv.specs.Records.{fields_of};
+ghost use Rattle.register_records.specs.Entries.{record_limit, text_records};
+ghost use Rattle.register_sheets.specs.Choices.{date_limit};
+ghost use Rattle.register_sheets.specs.Converted.{below};
+ghost use Rattle.register_sheets.specs.FoundViews.{HasFound, HasSpace};
+ghost use Rattle.register_sheets.specs.LineViews.{GainsFields};
+ghost use Rattle.register_sheets.specs.Reading.{IsReading, left_of};
+ghost use Rattle.register_sheets.specs.UnknownNames.{IsNoDate, IsUnknown, SheetDate, StaysWritten, all_dates, dates_of};
+ghost use Rattle.register_sheets.specs.UnknownNames.{is_emptied, list_head, list_text, name_record, name_seen};
+
+use crate::choices::{DateColumn, SheetChoice, SheetSetup};
 use crate::lines::SheetLines;
 use crate::reading::{field_at, pass_names, read_next, records_of};
 use crate::register_fields::{calendar_of, put_date};
 use crate::sheet_ends::SheetCause;
+use crate::stopped_names::{StoppedNames, UnknownName};
+use crate::stops::stop_of;
 use csv::{ByteRecord, Reader};
 use date_texts::{Calendar, read_date};
 use itoa::Buffer;
 use register_records::MAX_RECORDS;
 use std::alloc::{AllocError, Global};
 use std::str;
-use written_dates::{unknown_word, without_blanks};
-
-/// A name that stopped a date: a name of a calendar that is not known, or the first word that is none in the date's
-/// calendar.
-#[derive(Clone, Copy)]
-struct Stop<'a> {
-    name: &'a [u8],
-    /// The calendar in which the word is not known; none for a name of a calendar.
-    calendar: Option<Calendar>,
-}
-
-/// A name that is not known.
-#[derive(Drop)]
-pub struct UnknownName {
-    /// The name, as the first date has it that it stopped.
-    pub name: Vec<u8>,
-    /// The calendar of the dates in which this word stands; none where it stands for a calendar.
-    pub calendar: Option<Calendar>,
-    /// How many dates it stopped.
-    pub count: u64,
-}
 
 /// What is not known in a sheet.
 #[derive(Drop)]
@@ -46,90 +39,74 @@ pub struct Unknown {
     pub kept: u64,
 }
 
-/// Whether a text is a date as registers have it.
-fn is_register_date(calendar: Calendar, text: &[u8]) -> bool {
+/// How many dates were left otherwise than as a register's.
+#[derive(Clone, Copy)]
+struct DateCounts {
+    short: u64,
+    kept: u64,
+}
+
+/// What is not known in the dates so far.
+#[derive(Drop)]
+struct Found {
+    names: StoppedNames,
+    dates: DateCounts,
+}
+
+/// Whether a text is no date as registers have it.
+fn is_no_date(calendar: Calendar, text: &[u8]) -> bool
+    ensures { (result ≡ true) ↔ IsNoDate calendar text.now }
+{
     match str::from_utf8(text) {
-        Ok(text) => read_date(calendar, text).is_ok(),
-        Err(_) => false,
+        Ok(text) => read_date(calendar, text).is_err(),
+        Err(_) => true,
     }
 }
 
-fn is_same_calendar(a: Option<Calendar>, b: Option<Calendar>) -> bool {
-    match (a, b) {
-        (None, None) => true,
-        (Some(a), Some(b)) => a as usize == b as usize,
-        _ => false,
-    }
+/// Whether nothing is written for a field that is not empty.
+fn is_emptied(field: &[u8], date: &[u8]) -> bool
+    ensures { result ≡ is_emptied field.now date.now }
+{
+    !field.is_empty() && date.is_empty()
 }
 
-/// What stopped the date of a record in a column, if something did.
-fn stop_of<'a>(
-    choice: &SheetChoice,
-    column: &DateColumn,
-    called: Option<Calendar>,
-    record: &'a ByteRecord,
-) -> Option<Stop<'a>> {
+/// Whether a field that is not empty stays as it is.
+fn stays(field: &[u8], date: &[u8]) -> bool
+    ensures { (result ≡ true) ↔ ((field.now ≢ []) × (date.now ≡ field.now)) }
+{
+    !field.is_empty() && date == field
+}
+
+/// Whether a field of a known calendar, for which this date is written, stays as it is although it is no date.
+fn stays_written(called: Option<Calendar>, field: &[u8], date: &[u8]) -> bool
+    ensures { (result ≡ true) ↔ StaysWritten called field.now date.now }
+{
     match called {
-        Some(calendar) => {
-            let field = field_at(record, column.date as usize);
-            Some(Stop {
-                name: unknown_word(field, choice.names, calendar)?,
-                calendar: Some(calendar),
-            })
-        }
-        None => match column.calendar {
-            CalendarField::All(_) => None,
-            CalendarField::Column(place) => {
-                let name = without_blanks(field_at(record, place as usize));
-                if name.is_empty() {
-                    return None;
-                }
-                Some(Stop {
-                    name,
-                    calendar: None,
-                })
-            }
-        },
+        Some(calendar) => stays(field, date) && is_no_date(calendar, field),
+        None => false,
     }
 }
 
-impl Unknown {
-    ghost use Rattle.register_sheets.specs.Reading.{IsReading};
-
-    /// Counts a stop where its name is there, and says whether it is.
-    fn count(&mut self, stop: &Stop) -> bool {
-        'names: for place in 0..self.names.len() {
-            if is_same_calendar(self.names[place].calendar, stop.calendar)
-                && self.names[place]
-                    .name
-                    .as_slice()
-                    .eq_ignore_ascii_case(stop.name)
-            {
-                self.names[place].count = self.names[place].count.saturating_add(1);
-                return true;
-            }
+impl DateCounts {
+    /// Counts one more date: this is written for a field whose calendar is the one called.
+    fn add(&mut self, called: Option<Calendar>, field: &[u8], date: &[u8])
+        requires short { self.old.short < 2 ^ 32 }
+        requires kept { self.old.kept < 2 ^ 32 }
+        ensures short { self.new.short ≡ self.old.short + (if is_emptied field.now date.now then 1 else 0) }
+        ensures kept { (mark : Bool) × ((mark ≡ true) ↔ StaysWritten called field.now date.now)
+            × (self.new.kept ≡ self.old.kept + (if mark then 1 else 0)) }
+    {
+        if is_emptied(field, date) {
+            self.short += 1;
         }
-        false
+        if stays_written(called, field, date) {
+            self.kept += 1;
+        }
     }
+}
 
-    /// Adds a stop.
-    fn add(&mut self, alloc: Global, stop: &Stop, most: usize) -> Result<(), AllocError> {
-        if self.count(stop) {
-            return Ok(());
-        }
-        if self.names.len() >= most {
-            self.more = self.more.saturating_add(1);
-            return Ok(());
-        }
-        self.names.push(UnknownName {
-            name: stop.name.to_vec(alloc)?,
-            calendar: stop.calendar,
-            count: 1,
-        })?;
-        Ok(())
-    }
-
-    /// Adds what is to be said of the date of a record in a column.
+impl Found {
+    /// Adds what is to be said of the date of a record in a column. `date` is used as memory.
     fn add_date(
         &mut self,
         alloc: Global,
@@ -138,22 +115,35 @@ impl Unknown {
         record: &ByteRecord,
         most: usize,
         date: &mut Vec<u8>,
-    ) -> Result<(), AllocError> {
+    ) -> Result<(), AllocError>
+        requires { HasSpace choice.now most 1 self.old }
+        ensures { OnOk result ((dates : List SheetDate) → HasFound choice.now dates most self.old
+            → HasFound choice.now (dates ++ (column.now, fields_of record.now) ∷ []) most self.new) }
+    {
         let (_, called) = calendar_of(choice.calendars, column.calendar, record);
         put_date(date, choice, column, called, record)?;
+        let stop = stop_of(choice, column, called, record);
+        self.names.add(alloc, stop, most)?;
         let field = field_at(record, column.date as usize);
-        if let Some(stop) = stop_of(choice, column, called, record) {
-            self.add(alloc, &stop, most)?;
-        }
-        if field.is_empty() {
-            return Ok(());
-        }
-        if date.is_empty() {
-            self.short = self.short.saturating_add(1);
-        } else if let Some(calendar) = called {
-            if date.as_slice() == field && !is_register_date(calendar, field) {
-                self.kept = self.kept.saturating_add(1);
-            }
+        self.dates.add(called, field, date.as_slice());
+        Ok(())
+    }
+
+    /// Adds what is to be said of the dates of a record. `date` is used as memory.
+    fn add_record(
+        &mut self,
+        alloc: Global,
+        choice: &SheetChoice,
+        record: &ByteRecord,
+        most: usize,
+        date: &mut Vec<u8>,
+    ) -> Result<(), AllocError>
+        requires { HasSpace choice.now most (length choice.now.dates.now) self.old }
+        ensures { OnOk result ((dates : List SheetDate) → HasFound choice.now dates most self.old
+            → HasFound choice.now (dates ++ dates_of choice.now (fields_of record.now)) most self.new) }
+    {
+        'dates: for column in choice.dates {
+            self.add_date(alloc, choice, column, record, most, date)?;
         }
         Ok(())
     }
@@ -167,70 +157,114 @@ impl Unknown {
         record: &mut ByteRecord,
         most: usize,
     ) -> Result<(), SheetCause>
-        requires { IsReading records.old }
+        requires reading { IsReading records.old }
+        requires few { length choice.now.dates.now ≤ date_limit }
+        requires none { HasFound choice.now [] most self.old }
+        ensures found { OnOk result (HasFound choice.now (all_dates choice.now (left_of records.old)) most self.new) }
+        ensures limited { OnOk result (length (left_of records.old) ≤ record_limit) }
+        ensures causes { IfErr result (λ c. (c ≡ SheetCause.NoMemory)
+            ⊎ ((c ≡ SheetCause.TooManyRecords) × (record_limit < length (left_of records.old)))) }
     {
         let mut date = Vec::new(alloc);
-        'records: for number in 0..u32::MAX {
+        let mut number = 0;
+        'records: loop {
             if !read_next(records, record)? {
                 return Ok(());
             }
             if number == MAX_RECORDS {
                 return Err(SheetCause::TooManyRecords);
             }
-            'dates: for column in choice.dates {
-                self.add_date(alloc, choice, column, record, most, &mut date)?;
-            }
+            number += 1;
+            self.add_record(alloc, choice, record, most, &mut date)?;
         }
-        Ok(())
     }
+}
 
+/// Appends the names of the columns of a list of names.
+fn push_list_head(lines: &mut SheetLines) -> Result<(), AllocError>
+    ensures { OnOk result (GainsFields list_head lines.old lines.new) }
+{
+    lines.push(b"name")?;
+    lines.push(b"means")?;
+    lines.push(b"in")?;
+    lines.push(b"count")
+}
+
+/// Appends a name, `?`, its calendar, and how many dates it stopped.
+fn push_name(lines: &mut SheetLines, name: &UnknownName) -> Result<(), AllocError>
+    ensures { OnOk result (GainsFields (name_record (name_seen name.now)) lines.old lines.new) }
+{
+    let calendar = match name.calendar {
+        Some(calendar) => calendar.name().as_bytes(),
+        None => b"",
+    };
+    lines.push(name.name.as_slice())?;
+    lines.push(b"?")?;
+    lines.push(calendar)?;
+    lines.push(Buffer::new().format(name.count).as_bytes())
+}
+
+impl Unknown {
     /// The text of a list of the names to fill in: a header `name,means,in,count`, and for each name the name, `?`, its
     /// calendar, and how many dates it stopped.
-    pub fn text(&self, alloc: Global) -> Result<Vec<u8>, AllocError> {
+    ///
+    /// # Errors
+    ///
+    /// Where memory ran out.
+    pub fn text(&self, alloc: Global) -> Result<Vec<u8>, AllocError>
+        ensures { IfOk result (λ text. text.items ≡ list_text (map name_seen self.now.names.items)) }
+    {
         let mut lines = SheetLines::new(alloc, b',');
-        lines.push(b"name")?;
-        lines.push(b"means")?;
-        lines.push(b"in")?;
-        lines.push(b"count")?;
+        push_list_head(&mut lines)?;
         lines.end()?;
         'names: for name in &self.names {
-            lines.push(name.name.as_slice())?;
-            lines.push(b"?")?;
-            match name.calendar {
-                Some(calendar) => lines.push(calendar.name().as_bytes())?,
-                None => lines.push(b"")?,
-            }
-            lines.push(Buffer::new().format(name.count).as_bytes())?;
+            push_name(&mut lines, name)?;
             lines.end()?;
         }
         lines.into_text()
     }
 }
 
-/// The first names in a sheet that are not known, at most so many, and how many dates each stopped.
+/// The first names in a sheet that are not known, at most so many, and how many dates each stopped. Two names are one
+/// where they stopped dates of one calendar, or stand for a calendar, and are the same but for the case of A to Z.
 ///
 /// # Errors
 ///
-/// `NoNames` where the sheet has no record with names, `TooManyRecords` where more than 1,000,000 stand below them, and
-/// `NoMemory`.
+/// `NoNames` exactly where the sheet has no record with names, `TooManyRecords` where more than 1,000,000 stand below
+/// them, and `NoMemory`.
 pub fn unknown_names(
     alloc: Global,
     sheet: &[u8],
     setup: &SheetSetup,
     most: usize,
-) -> Result<Unknown, SheetCause> {
-    let choice = setup.choice();
+) -> Result<Unknown, SheetCause>
+    ensures found { IfOk result (λ unknown.
+        IsUnknown setup.now.choice (text_records setup.now.choice.delimiter sheet.now) most
+        (map name_seen unknown.names.items) unknown.more unknown.short unknown.kept) }
+    ensures no_names { IfErr result (λ c. c ≡ SheetCause.NoNames
+        → length (text_records setup.now.choice.delimiter sheet.now) ≤ setup.now.choice.above) }
+    ensures too_many { IfErr result (λ c. c ≡ SheetCause.TooManyRecords
+        → record_limit < length (below setup.now.choice (text_records setup.now.choice.delimiter sheet.now))) }
+    ensures no_sink { IfErr result (λ c. c ≢ SheetCause.SinkFault) }
+{
+    let choice = setup.choice;
     let mut records = records_of(alloc, sheet, choice.delimiter);
     let mut record = ByteRecord::new(alloc);
     if !pass_names(&mut records, &mut record, choice.above)? {
         return Err(SheetCause::NoNames);
     }
-    let mut unknown = Unknown {
-        names: Vec::new(alloc),
-        more: 0,
-        short: 0,
-        kept: 0,
+    let mut found = Found {
+        names: StoppedNames {
+            listed: Vec::new(alloc),
+            more: 0,
+        },
+        dates: DateCounts { short: 0, kept: 0 },
     };
-    unknown.add_records(alloc, &choice, &mut records, &mut record, most)?;
-    Ok(unknown)
+    found.add_records(alloc, &choice, &mut records, &mut record, most)?;
+    Ok(Unknown {
+        names: found.names.listed,
+        more: found.names.more,
+        short: found.dates.short,
+        kept: found.dates.kept,
+    })
 }

@@ -1,13 +1,14 @@
 //! Small sheets, and what comes back. The days are from Python's `datetime` (proleptic Gregorian ordinals) and from the
 //! tables of Reingold and Dershowitz.
 
+mod dates;
 mod table;
 
 use date_texts::{Calendar, Target};
 use register_records::PlainOutput;
 use register_sheets::{
     AskedColumn, CalendarField, DateColumn, IdField, SheetCause, SheetChoice, SheetEnd, SheetSetup,
-    convert_sheet,
+    Unknown, convert_sheet, unknown_names,
 };
 use std::alloc::Global;
 use std::test::Fail;
@@ -113,5 +114,37 @@ fn no_record_with_names(rt: HostRuntime) -> Result<(), Fail> {
             cause: SheetCause::NoNames
         }
     );
+    Ok(())
+}
+
+/// What is not known in a sheet by these names.
+fn unknown_by(alloc: Global, sheet: &[u8], known: &Known<'static>) -> Result<Unknown, Fail> {
+    let setup = SheetSetup::new(SheetChoice {
+        delimiter: b';',
+        above: 0,
+        id: IdField::Number,
+        dates: &ONE_DATE,
+        columns: &COLUMNS,
+        headings: &HEADINGS,
+        reading: READING,
+        names: &known.names,
+        calendars: &known.calendars,
+    })?;
+    Ok(unknown_names(alloc, sheet, &setup, 3)?)
+}
+
+#[test]
+fn names_that_are_not_known(rt: HostRuntime) -> Result<(), Fail> {
+    let known = Known {
+        names: Names::layered(rt.alloc(), &NAMES)?,
+        calendars: CalendarNames::layered(rt.alloc(), &CALENDARS)?,
+    };
+    let sheet = b"N;D;C\nA;12 Foo 1806;gregorian\nB;1 FOO 1807;gregorian\nC;2 Foo 1700;a. St.\nD;3 Mai 1700; odd\n\
+        E;4 Bar 1700;julian\nF;12.5.06;gregorian\n";
+    let unknown = unknown_by(rt.alloc(), sheet, &known)?;
+    let text = unknown.text(rt.alloc())?;
+    let wanted = b"name,means,in,count\nFoo,?,gregorian,2\nFoo,?,julian,1\nodd,?,,1\n";
+    assert!(rt; text.as_slice() == wanted.as_slice());
+    assert!(rt; unknown.more == 1 && unknown.short == 1 && unknown.kept == 4);
     Ok(())
 }

@@ -2,7 +2,7 @@
 //! are the same in both places.
 
 use register_page::convert_text;
-use register_sheets::{join, pick, write};
+use register_sheets::{pick, write};
 use std::test::Fail;
 
 /// `convert_text`
@@ -32,14 +32,5 @@ fn fields_are_picked(rt: HostRuntime) -> Result<(), Fail> {
 fn fields_are_written(rt: HostRuntime) -> Result<(), Fail> {
     let text = write(rt.alloc(), b"a,bc\"d", &[3, 0, 3], 2, b',')?;
     assert!(rt; text.as_slice() == b"\"a,b\",\n\"c\"\"d\"\n".as_slice());
-    Ok(())
-}
-
-/// `join`
-#[test]
-fn fields_are_joined(rt: HostRuntime) -> Result<(), Fail> {
-    let sheet = b"Name;Date\nLund\n";
-    let text = join(rt.alloc(), sheet, b';', 2, b"rd625242", &[2, 6], 1)?;
-    assert!(rt; text.as_slice() == b"Name;Date;rd\nLund;;625242\n".as_slice());
     Ok(())
 }

@@ -1,5 +1,5 @@
-//! A table of sheets, and what comes back. Days, weekdays and Gregorian dates are those of Python's `datetime`, Julian ones
-//! those of the formula for Julian day numbers; what is read of each date was worked out by hand.
+//! Sheets, what is chosen of them, and what comes back. Days, weekdays and Gregorian dates are those of Python's
+//! `datetime`, Julian ones those of the formula for Julian day numbers; what is read of each date was worked out by hand.
 
 use date_texts::{Calendar, Target};
 use register_records::PlainOutput;
@@ -36,19 +36,19 @@ a. St.,julian,
 ";
 
 /// A sheet, what is chosen of it, and what comes back.
-struct Case {
-    delimiter: u8,
-    above: u32,
-    dates: &'static [DateColumn],
-    columns: &'static [AskedColumn],
-    reading: Choice,
-    sheet: &'static str,
-    wanted: &'static str,
-    rows: u32,
-    refused: &'static [u32],
+pub(super) struct Case {
+    pub delimiter: u8,
+    pub above: u32,
+    pub dates: &'static [DateColumn],
+    pub columns: &'static [AskedColumn],
+    pub reading: Choice,
+    pub sheet: &'static str,
+    pub wanted: &'static str,
+    pub rows: u32,
+    pub refused: &'static [u32],
 }
 
-const DATE_0_IN_1: [DateColumn; 1] = [DateColumn {
+pub(super) const DATE_0_IN_1: [DateColumn; 1] = [DateColumn {
     date: 0,
     calendar: CalendarField::Column(1),
 }];
@@ -100,7 +100,7 @@ const DATE_0_GREGORIAN_AND_1_GREGORIAN: [DateColumn; 2] = [
     },
 ];
 
-const DAY_AND_GREGORIAN: [AskedColumn; 2] = [
+pub(super) const DAY_AND_GREGORIAN: [AskedColumn; 2] = [
     AskedColumn::DayNumber,
     AskedColumn::Cells(Target::Date(Calendar::Gregorian)),
 ];
@@ -130,393 +130,14 @@ const DAY: [AskedColumn; 1] = [AskedColumn::DayNumber];
 
 const GREGORIAN: [AskedColumn; 1] = [AskedColumn::Cells(Target::Date(Calendar::Gregorian))];
 
-const DAY_FIRST: Choice = Choice {
+pub(super) const DAY_FIRST: Choice = Choice {
     order: Order::DayFirst,
     short_years: Short::Refuse,
     short_hebrew_years: Short::Refuse,
     charters: false,
 };
 
-const YEAR_FIRST: Choice = Choice {
-    order: Order::YearFirst,
-    short_years: Short::Refuse,
-    short_hebrew_years: Short::Refuse,
-    charters: false,
-};
-
-const MONTH_FIRST: Choice = Choice {
-    order: Order::MonthFirst,
-    short_years: Short::Refuse,
-    short_hebrew_years: Short::Refuse,
-    charters: false,
-};
-
-const DAY_FIRST_KEPT: Choice = Choice {
-    order: Order::DayFirst,
-    short_years: Short::Keep,
-    short_hebrew_years: Short::Refuse,
-    charters: false,
-};
-
-const DAY_FIRST_ADD_1800: Choice = Choice {
-    order: Order::DayFirst,
-    short_years: Short::Add(1800),
-    short_hebrew_years: Short::Refuse,
-    charters: false,
-};
-
-const DAY_FIRST_ADD_1900: Choice = Choice {
-    order: Order::DayFirst,
-    short_years: Short::Add(1900),
-    short_hebrew_years: Short::Refuse,
-    charters: false,
-};
-
-const DAY_FIRST_CHARTERS: Choice = Choice {
-    order: Order::DayFirst,
-    short_years: Short::Refuse,
-    short_hebrew_years: Short::Refuse,
-    charters: true,
-};
-
-const DAY_FIRST_HEBREW_5000: Choice = Choice {
-    order: Order::DayFirst,
-    short_years: Short::Refuse,
-    short_hebrew_years: Short::Add(5000),
-    charters: false,
-};
-
-const CASES: [Case; 54] = [
-    Case {
-        delimiter: b';',
-        above: 0,
-        dates: &DATE_0_IN_1,
-        columns: &DAY_AND_GREGORIAN,
-        reading: DAY_FIRST,
-        sheet: "D;C\n12. Mai 1806;gregorian\n",
-        wanted: "D;C;rd;gregorian;refusal\n12. Mai 1806;gregorian;659394;1806-05-12;\n",
-        rows: 1,
-        refused: &[0],
-    },
-    Case {
-        delimiter: b';',
-        above: 0,
-        dates: &DATE_0_IN_1,
-        columns: &DAY_AND_GREGORIAN,
-        reading: DAY_FIRST,
-        sheet: "D;C\n1806 Mai 12;gregorian\n",
-        wanted: "D;C;rd;gregorian;refusal\n1806 Mai 12;gregorian;659394;1806-05-12;\n",
-        rows: 1,
-        refused: &[0],
-    },
-    Case {
-        delimiter: b';',
-        above: 0,
-        dates: &DATE_0_IN_1,
-        columns: &DAY_AND_GREGORIAN,
-        reading: DAY_FIRST,
-        sheet: "D;C\nMay 12, 1806;gregorian\n",
-        wanted: "D;C;rd;gregorian;refusal\nMay 12, 1806;gregorian;659394;1806-05-12;\n",
-        rows: 1,
-        refused: &[0],
-    },
-    Case {
-        delimiter: b';',
-        above: 0,
-        dates: &DATE_0_IN_1,
-        columns: &DAY_AND_GREGORIAN,
-        reading: DAY_FIRST,
-        sheet: "D;C\n12.V.1806;gregorian\n",
-        wanted: "D;C;rd;gregorian;refusal\n12.V.1806;gregorian;659394;1806-05-12;\n",
-        rows: 1,
-        refused: &[0],
-    },
-    Case {
-        delimiter: b';',
-        above: 0,
-        dates: &DATE_0_IN_1,
-        columns: &DAY_AND_GREGORIAN,
-        reading: DAY_FIRST,
-        sheet: "D;C\n1806/5/12;gregorian\n",
-        wanted: "D;C;rd;gregorian;refusal\n1806/5/12;gregorian;659394;1806-05-12;\n",
-        rows: 1,
-        refused: &[0],
-    },
-    Case {
-        delimiter: b';',
-        above: 0,
-        dates: &DATE_0_IN_1,
-        columns: &DAY_AND_GREGORIAN,
-        reading: DAY_FIRST,
-        sheet: "D;C\n1806–5–12;gregorian\n",
-        wanted: "D;C;rd;gregorian;refusal\n1806–5–12;gregorian;659394;1806-05-12;\n",
-        rows: 1,
-        refused: &[0],
-    },
-    Case {
-        delimiter: b';',
-        above: 0,
-        dates: &DATE_0_IN_1,
-        columns: &DAY_AND_GREGORIAN,
-        reading: YEAR_FIRST,
-        sheet: "D;C\n12. 5. 1806;gregorian\n",
-        wanted: "D;C;rd;gregorian;refusal\n12. 5. 1806;gregorian;;;5\n",
-        rows: 1,
-        refused: &[1],
-    },
-    Case {
-        delimiter: b';',
-        above: 0,
-        dates: &DATE_0_IN_1,
-        columns: &DAY_AND_GREGORIAN,
-        reading: MONTH_FIRST,
-        sheet: "D;C\n5/12/1806;gregorian\n",
-        wanted: "D;C;rd;gregorian;refusal\n5/12/1806;gregorian;659394;1806-05-12;\n",
-        rows: 1,
-        refused: &[0],
-    },
-    Case {
-        delimiter: b';',
-        above: 0,
-        dates: &DATE_0_IN_1,
-        columns: &DAY_AND_GREGORIAN,
-        reading: DAY_FIRST,
-        sheet: "D;C\n30-11-1699;julian\n",
-        wanted: "D;C;rd;gregorian;refusal\n30-11-1699;julian;620526;1699-12-10;\n",
-        rows: 1,
-        refused: &[0],
-    },
-    Case {
-        delimiter: b';',
-        above: 0,
-        dates: &DATE_0_IN_1,
-        columns: &DAY_AND_GREGORIAN,
-        reading: DAY_FIRST,
-        sheet: "D;C\n29. Februar 1700;julian\n",
-        wanted: "D;C;rd;gregorian;refusal\n29. Februar 1700;julian;620617;1700-03-11;\n",
-        rows: 1,
-        refused: &[0],
-    },
-    Case {
-        delimiter: b';',
-        above: 0,
-        dates: &DATE_0_IN_1,
-        columns: &DAY_AND_GREGORIAN,
-        reading: DAY_FIRST,
-        sheet: "D;C\n29. Februar 1700;gregorian\n",
-        wanted: "D;C;rd;gregorian;refusal\n29. Februar 1700;gregorian;;;6\n",
-        rows: 1,
-        refused: &[1],
-    },
-    Case {
-        delimiter: b';',
-        above: 0,
-        dates: &DATE_0_IN_1,
-        columns: &DAY_AND_GREGORIAN,
-        reading: DAY_FIRST,
-        sheet: "D;C\n3 März 1850;GREGORIAN\n",
-        wanted: "D;C;rd;gregorian;refusal\n3 März 1850;GREGORIAN;675395;1850-03-03;\n",
-        rows: 1,
-        refused: &[0],
-    },
-    Case {
-        delimiter: b';',
-        above: 0,
-        dates: &DATE_0_IN_1,
-        columns: &DAY_AND_GREGORIAN,
-        reading: DAY_FIRST,
-        sheet: "D;C\n3 MÄRZ 1850;gregorian\n",
-        wanted: "D;C;rd;gregorian;refusal\n3 MÄRZ 1850;gregorian;;;5\n",
-        rows: 1,
-        refused: &[1],
-    },
-    Case {
-        delimiter: b';',
-        above: 0,
-        dates: &DATE_0_IN_1,
-        columns: &DAY_AND_GREGORIAN,
-        reading: DAY_FIRST,
-        sheet: "D;C\n17 février 1789;grégorien\n",
-        wanted: "D;C;rd;gregorian;refusal\n17 février 1789;grégorien;653102;1789-02-17;\n",
-        rows: 1,
-        refused: &[0],
-    },
-    Case {
-        delimiter: b';',
-        above: 0,
-        dates: &DATE_0_IN_1,
-        columns: &DAY_AND_GREGORIAN,
-        reading: DAY_FIRST,
-        sheet: "D;C\n1er août 1914;n. St.\n",
-        wanted: "D;C;rd;gregorian;refusal\n1er août 1914;n. St.;698921;1914-08-01;\n",
-        rows: 1,
-        refused: &[0],
-    },
-    Case {
-        delimiter: b';',
-        above: 0,
-        dates: &DATE_0_IN_1,
-        columns: &DAY_AND_GREGORIAN,
-        reading: DAY_FIRST,
-        sheet: "D;C\n7. května 1620;a. St.\n",
-        wanted: "D;C;rd;gregorian;refusal\n7. května 1620;a. St.;591465;1620-05-17;\n",
-        rows: 1,
-        refused: &[0],
-    },
-    Case {
-        delimiter: b';',
-        above: 0,
-        dates: &DATE_0_IN_1,
-        columns: &DAY_AND_GREGORIAN,
-        reading: DAY_FIRST,
-        sheet: "D;C\n25 października 1917;a. st.\n",
-        wanted: "D;C;rd;gregorian;refusal\n25 października 1917;a. st.;700115;1917-11-07;\n",
-        rows: 1,
-        refused: &[0],
-    },
-    Case {
-        delimiter: b';',
-        above: 0,
-        dates: &DATE_0_IN_1,
-        columns: &DAY_AND_GREGORIAN,
-        reading: DAY_FIRST,
-        sheet: "D;C\n4 luglio 1776;mondisch\n",
-        wanted: "D;C;rd;gregorian;refusal\n4 luglio 1776;mondisch;;;4\n",
-        rows: 1,
-        refused: &[1],
-    },
-    Case {
-        delimiter: b';',
-        above: 0,
-        dates: &DATE_0_IN_1,
-        columns: &DAY_AND_GREGORIAN,
-        reading: DAY_FIRST,
-        sheet: "D;C\n4 Juli 1776;\n",
-        wanted: "D;C;rd;gregorian;refusal\n4 Juli 1776;;;;4\n",
-        rows: 1,
-        refused: &[1],
-    },
-    Case {
-        delimiter: b';',
-        above: 0,
-        dates: &DATE_0_IN_1,
-        columns: &DAY_AND_GREGORIAN,
-        reading: DAY_FIRST,
-        sheet: "D;C\n;gregorian\n",
-        wanted: "D;C;rd;gregorian;refusal\n;gregorian;;;5\n",
-        rows: 1,
-        refused: &[1],
-    },
-    Case {
-        delimiter: b';',
-        above: 0,
-        dates: &DATE_0_IN_1,
-        columns: &DAY_AND_GREGORIAN,
-        reading: DAY_FIRST,
-        sheet: "D;C\nca. 1750;julian\n",
-        wanted: "D;C;rd;gregorian;refusal\nca. 1750;julian;;;5\n",
-        rows: 1,
-        refused: &[1],
-    },
-    Case {
-        delimiter: b';',
-        above: 0,
-        dates: &DATE_0_IN_1,
-        columns: &DAY_AND_GREGORIAN,
-        reading: DAY_FIRST,
-        sheet: "D;C\nMai 1806;julian\n",
-        wanted: "D;C;rd;gregorian;refusal\nMai 1806;julian;;;5\n",
-        rows: 1,
-        refused: &[1],
-    },
-    Case {
-        delimiter: b';',
-        above: 0,
-        dates: &DATE_0_IN_1,
-        columns: &DAY_AND_GREGORIAN,
-        reading: DAY_FIRST,
-        sheet: "D;C\n12 Mai 1806?;julian\n",
-        wanted: "D;C;rd;gregorian;refusal\n12 Mai 1806?;julian;;;5\n",
-        rows: 1,
-        refused: &[1],
-    },
-    Case {
-        delimiter: b';',
-        above: 0,
-        dates: &DATE_0_IN_1,
-        columns: &DAY_AND_GREGORIAN,
-        reading: DAY_FIRST,
-        sheet: "D;C\n12.5.06;gregorian\n",
-        wanted: "D;C;rd;gregorian;refusal\n12.5.06;gregorian;;;5\n",
-        rows: 1,
-        refused: &[1],
-    },
-    Case {
-        delimiter: b';',
-        above: 0,
-        dates: &DATE_0_IN_1,
-        columns: &DAY_AND_GREGORIAN,
-        reading: DAY_FIRST_KEPT,
-        sheet: "D;C\n12.5.06;gregorian\n",
-        wanted: "D;C;rd;gregorian;refusal\n12.5.06;gregorian;1958;0006-05-12;\n",
-        rows: 1,
-        refused: &[0],
-    },
-    Case {
-        delimiter: b';',
-        above: 0,
-        dates: &DATE_0_IN_1,
-        columns: &DAY_AND_GREGORIAN,
-        reading: DAY_FIRST_ADD_1800,
-        sheet: "D;C\n12.5.06;gregorian\n",
-        wanted: "D;C;rd;gregorian;refusal\n12.5.06;gregorian;659394;1806-05-12;\n",
-        rows: 1,
-        refused: &[0],
-    },
-    Case {
-        delimiter: b';',
-        above: 0,
-        dates: &DATE_0_IN_1,
-        columns: &DAY_AND_GREGORIAN,
-        reading: DAY_FIRST_ADD_1800,
-        sheet: "D;C\n12-05-06;gregorian\n",
-        wanted: "D;C;rd;gregorian;refusal\n12-05-06;gregorian;661580;1812-05-06;\n",
-        rows: 1,
-        refused: &[0],
-    },
-    Case {
-        delimiter: b';',
-        above: 0,
-        dates: &DATE_0_IN_1,
-        columns: &DAY_AND_GREGORIAN,
-        reading: DAY_FIRST,
-        sheet: "D;C\n0035-05-12;gregorian\n",
-        wanted: "D;C;rd;gregorian;refusal\n0035-05-12;gregorian;12550;0035-05-12;\n",
-        rows: 1,
-        refused: &[0],
-    },
-    Case {
-        delimiter: b';',
-        above: 0,
-        dates: &DATE_0_IN_1,
-        columns: &DAY_AND_GREGORIAN,
-        reading: DAY_FIRST,
-        sheet: "D;C\n8-2-18;julian\n",
-        wanted: "D;C;rd;gregorian;refusal\n8-2-18;julian;;;5\n",
-        rows: 1,
-        refused: &[1],
-    },
-    Case {
-        delimiter: b';',
-        above: 0,
-        dates: &DATE_0_IN_1,
-        columns: &DAY_AND_GREGORIAN,
-        reading: DAY_FIRST_ADD_1900,
-        sheet: "D;C\n8-2-18;julian\n",
-        wanted: "D;C;rd;gregorian;refusal\n8-2-18;julian;696578;1908-03-02;\n",
-        rows: 1,
-        refused: &[0],
-    },
+const CASES: [Case; 15] = [
     Case {
         delimiter: b';',
         above: 0,
@@ -682,105 +303,6 @@ const CASES: [Case; 54] = [
         rows: 1,
         refused: &[0, 0],
     },
-    Case {
-        delimiter: b';',
-        above: 0,
-        dates: &DATE_0_IN_1,
-        columns: &DAY_AND_GREGORIAN,
-        reading: DAY_FIRST_CHARTERS,
-        sheet: "D;C\nXVI. Kal. Ian. 1499;roman\n",
-        wanted: "D;C;rd;gregorian;refusal\nXVI. Kal. Ian. 1499;roman;547493;1499-12-26;\n",
-        rows: 1,
-        refused: &[0],
-    },
-    Case {
-        delimiter: b';',
-        above: 0,
-        dates: &DATE_0_IN_1,
-        columns: &DAY_AND_GREGORIAN,
-        reading: DAY_FIRST,
-        sheet: "D;C\nXVI. Kal. Ian. 1499;roman\n",
-        wanted: "D;C;rd;gregorian;refusal\nXVI. Kal. Ian. 1499;roman;547128;1498-12-26;\n",
-        rows: 1,
-        refused: &[0],
-    },
-    Case {
-        delimiter: b';',
-        above: 0,
-        dates: &DATE_0_IN_1,
-        columns: &DAY_AND_GREGORIAN,
-        reading: DAY_FIRST_CHARTERS,
-        sheet: "D;C\nKal. Ian. 1499;roman\n",
-        wanted: "D;C;rd;gregorian;refusal\nKal. Ian. 1499;roman;547143;1499-01-10;\n",
-        rows: 1,
-        refused: &[0],
-    },
-    Case {
-        delimiter: b';',
-        above: 0,
-        dates: &DATE_0_IN_1,
-        columns: &DAY_AND_GREGORIAN,
-        reading: DAY_FIRST,
-        sheet: "D;C\n15 Ventôse an VI;french\n",
-        wanted: "D;C;rd;gregorian;refusal\n15 Ventôse an VI;french;656405;1798-03-05;\n",
-        rows: 1,
-        refused: &[0],
-    },
-    Case {
-        delimiter: b';',
-        above: 0,
-        dates: &DATE_0_IN_1,
-        columns: &DAY_AND_GREGORIAN,
-        reading: DAY_FIRST,
-        sheet: "D;C\n5 Tischri 5507;hebrew\n",
-        wanted: "D;C;rd;gregorian;refusal\n5 Tischri 5507;hebrew;637610;1746-09-19;\n",
-        rows: 1,
-        refused: &[0],
-    },
-    Case {
-        delimiter: b';',
-        above: 0,
-        dates: &DATE_0_IN_1,
-        columns: &DAY_AND_GREGORIAN,
-        reading: DAY_FIRST,
-        sheet: "D;C\n5 Tischri 507;hebrew\n",
-        wanted: "D;C;rd;gregorian;refusal\n5 Tischri 507;hebrew;;;5\n",
-        rows: 1,
-        refused: &[1],
-    },
-    Case {
-        delimiter: b';',
-        above: 0,
-        dates: &DATE_0_IN_1,
-        columns: &DAY_AND_GREGORIAN,
-        reading: DAY_FIRST_HEBREW_5000,
-        sheet: "D;C\n5 Tischri 507;hebrew\n",
-        wanted: "D;C;rd;gregorian;refusal\n5 Tischri 507;hebrew;637610;1746-09-19;\n",
-        rows: 1,
-        refused: &[0],
-    },
-    Case {
-        delimiter: b';',
-        above: 0,
-        dates: &DATE_0_IN_1,
-        columns: &DAY_AND_GREGORIAN,
-        reading: DAY_FIRST,
-        sheet: "D;C\n1970-W01-4;iso\n",
-        wanted: "D;C;rd;gregorian;refusal\n1970-W01-4;iso;719163;1970-01-01;\n",
-        rows: 1,
-        refused: &[0],
-    },
-    Case {
-        delimiter: b';',
-        above: 0,
-        dates: &DATE_0_IN_1,
-        columns: &DAY_AND_GREGORIAN,
-        reading: DAY_FIRST_KEPT,
-        sheet: "D;C\n9-12-31;gregorian\n",
-        wanted: "D;C;rd;gregorian;refusal\n9-12-31;gregorian;3287;0009-12-31;\n",
-        rows: 1,
-        refused: &[0],
-    },
 ];
 
 /// The names of a list, and the headings of a sheet.
@@ -833,7 +355,7 @@ fn converted_by(alloc: Global, case: &Case, known: &Known) -> Result<(Vec<u8>, S
 }
 
 /// The same, by the list of names.
-fn converted(alloc: Global, case: &Case) -> Result<(Vec<u8>, SheetEnd), Fail> {
+pub(super) fn converted(alloc: Global, case: &Case) -> Result<(Vec<u8>, SheetEnd), Fail> {
     let list = NameList::read(alloc, NAMES.as_bytes())?;
     let names = list.names(alloc)?;
     let calendars = list.calendar_names(alloc)?;
@@ -855,7 +377,7 @@ fn converted(alloc: Global, case: &Case) -> Result<(Vec<u8>, SheetEnd), Fail> {
 }
 
 /// Whether a sheet ended whole, with so many records, and so many of them refused for each column of dates.
-fn is_whole(end: SheetEnd, case: &Case) -> bool {
+pub(super) fn is_whole(end: SheetEnd, case: &Case) -> bool {
     match end {
         SheetEnd::Whole { rows, refused } => {
             rows == case.rows && refused.starts_with(case.refused)
@@ -865,7 +387,7 @@ fn is_whole(end: SheetEnd, case: &Case) -> bool {
 }
 
 #[test]
-fn sheets_come_back_as_python_has_their_days(rt: HostRuntime) -> Result<(), Fail> {
+fn sheets_come_back_with_the_columns_asked(rt: HostRuntime) -> Result<(), Fail> {
     for case in &CASES {
         let (text, end) = converted(rt.alloc(), case)?;
         assert_eq!(rt; text.as_slice(), case.wanted.as_bytes());

@@ -1,7 +1,7 @@
 use Rattle.std.proofs.Common.{take}
 use Rattle.csv.specs.Records.{fields_of}
 use Rattle.register_sheets.specs.LineViews.{GainsFields}
-use Rattle.register_sheets.proofs.joining.push_own.Given as goal
+use Rattle.register_sheets.proofs.own_fields.push_own.Given as goal
 
 abbrev pub invariant-own : goal.invariant-own
 invariant-own l = GainsFields (take l.place (fields_of l.record)) l.fn.lines l.lines

@@ -1,0 +1,42 @@
+use Rattle.std.proofs.Common.{◌≡◌, ◌<◌, ◌≤◌, ◌∙◌, ◌++◌, ◌∷◌, [], ℕ, List, ap, arith, false, length, map, rules, set, subst, sym, take}
+use Rattle.std.specs.List.{list_any}
+use Rattle.std.proofs.lemmas.List.{get_or-map, length-map, map-set}
+use Rattle.std.proofs.lemmas.Option.{slice_get_within}
+use Rattle.std.proofs.lemmas.Result.{on_ok_weaker}
+use Rattle.register_sheets.specs.UnknownNames.{AreNames, NameCount, NameStop, firsts, is_alike, name_seen}
+use Rattle.register_sheets.specs.UnknownViews.{named, stop_seen}
+use Rattle.register_sheets.proofs.StopLemmas.{has, name_counted, named_are, names_full, names_new, one_more}
+use Rattle.register_sheets.proofs.stopped_names.StoppedNames.count.Goals as goal
+
+pub returns-in-Some : goal.returns-in-Some
+returns-in-Some c = λ stops are.
+    let items = c.args.self.now.listed.items in
+    let x = c.index_mut.result.now in
+    let k = c.in-Some.place in
+    let (name, found, alike) = c.in-Some.ensures.some in
+    let lt : k < length items = omega (arith, slice_get_within _ k name found, length-map items named) in
+    let at = get_or-map name_seen items k x (name_seen x) lt ∙ ap name_seen (sym c.index_mut.ensures.value) in
+    name_counted c.args.most stops (stop_seen c.args.stop) items _ c.args.self.now.more k name (name_seen x) are found alike
+    (map-set name_seen items k _
+    ∙ ap (λ (n : NameCount). set (map name_seen items) k (one_more n)) (sym at))
+
+pub returns-then-len-most : goal.returns-then-len-most
+returns-then-len-most c = λ stops are.
+    let items = c.args.self.now.listed.items in
+    let stop = stop_seen c.args.stop in
+    let none : has (map named items) stop ≡ false = search rules in
+    let full : c.args.most ≤ length (map name_seen items) = omega (arith, length-map items name_seen) in
+    names_full c.args.most stops stop (map name_seen items) c.args.self.now.more are full
+    (ap (λ (names : List NameStop). has names stop) (sym (named_are stops items _ are.names_are)) ∙ none)
+
+pub returns : goal.returns
+returns c =
+    let items = c.args.self.now.listed.items in
+    let stop = stop_seen c.args.stop in
+    let none : has (map named items) stop ≡ false = search rules in
+    let few : length (map name_seen items) < c.args.most = omega (arith, length-map items name_seen) in
+    on_ok_weaker c.list.result (λ made stops are.
+    subst (AreNames c.args.most (stops ++ stop ∷ []) (map name_seen c.list.new.self.listed.items)) (sym c.list.ensures.more)
+    (names_new c.args.most stops stop (map name_seen items) _ c.args.self.now.more are few
+    (ap (λ (names : List NameStop). has names stop) (sym (named_are stops items _ are.names_are)) ∙ none) made))
+    c.list.ensures.listed

@@ -18,7 +18,7 @@ use Rattle.lane_rings.specs.declared.item.Item.TheVariants as item
 use Rattle.lane_rings.specs.declared.item.Mark.TheVariants.{Counted, Stopped}
 use Rattle.register_run.specs.Stripes.{StartWithRow}
 use Rattle.register_run.specs.Carried.{HasEnd}
-use Rattle.register_run.specs.declared.converting.Converting.{Converting}
+use Rattle.register_run.specs.declared.converting.ConverterResult.{ConverterResult}
 use Rattle.register_run.proofs.ItemLemmas.{same_seen, took_next}
 
 module _ {T : Type 0} where
@@ -129,7 +129,7 @@ pub ruleset passing = (same_seen, row_taken)
 
 -- with both lanes of a converter confirmed, its rows are those of the first entries that were sent, and of all of them
 -- where they end with an end
-module _ (from into : Lane) (stripe : Stripe) (fed : Closed Entry) (converting : Converting)
+module _ (from into : Lane) (stripe : Stripe) (fed : Closed Entry) (converting : ConverterResult)
     (keeps : IsConverting from into converting) (first : IsWhole fed converting.entries)
     (second : IsWhole converting.closed stripe.rows) (none : waiting stripe.rows ≡ []) where
   all_passed : HasEnd (taken stripe.rows) → rows_carried (taken stripe.rows) ≡ carried (all_sent fed)

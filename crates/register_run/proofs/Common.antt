@@ -31,11 +31,10 @@ pub use Rattle.register_run.specs.Headline.{IsSourceEnd}
 pub use Rattle.register_run.specs.Histories.{Carries, IsMachineWithTable}
 pub use Rattle.register_run.specs.JoinedThreads.{AreOfLanes, HasPassed, IsConverting, IsGiven, IsOfGiven}
 pub use Rattle.register_run.specs.Popped.{popped}
-pub use Rattle.register_run.specs.SourceThreads.{AreStaffed, Passed, started_by}
-pub use Rattle.register_run.specs.Stripes.{AnyTook, HasPassedOn, HavePassedOn, feeding_lane, stripe_setup}
+pub use Rattle.register_run.specs.Stripes.{AnyTook, AreStaffed, HasPassedOn, HavePassedOn, feeding_lane, stripe_setup}
 pub use Rattle.register_run.specs.Threads.{AreThreadsOf}
 pub use Rattle.register_run.specs.Worlds.{World}
-pub use Rattle.register_run.specs.declared.ended_sources.Met.{Met}
+pub use Rattle.register_run.specs.declared.ended_sources.Findings.{Findings}
 pub use Rattle.register_run.specs.declared.reading.Sent.{Sent}
 pub use Rattle.register_run.specs.declared.reports.Ran.{Ran}
 pub use Rattle.register_run.specs.declared.stripes.Stripe.{Stripe}

@@ -8,7 +8,7 @@ use Rattle.std.proofs.Props.{props}
 use Rattle.std.proofs.Math.Logic.{∥∥₁_elim, ∥∥₁_map, ∥∥₁_prop}
 use Rattle.register_run.proofs.Common.{Row, Cause, SourceEnd, HasAllEntries, HasEntries, HasFirstEntries, Numbered}
 use Rattle.register_run.proofs.Common.{record_limit, AreRowsOf, entry_seen, IfBroken, IfWhole, cause_number, Layout}
-use Rattle.register_run.proofs.Common.{Reading, layout_of, reading_of, Stripe, Sent, Met, Table, HasMetNone, IsLowest, IsMet}
+use Rattle.register_run.proofs.Common.{Reading, layout_of, reading_of, Stripe, Sent, Findings, Table, HasMetNone, IsLowest, IsMet}
 use Rattle.register_run.proofs.Common.{is_of_table, IsSourceEnd, Carries, IsMachineWithTable, HasPassed, IsGiven}
 use Rattle.register_run.proofs.Common.{IsOfGiven, Holds, entries_seen, rows_seen}
 use Rattle.register_records.specs.Tables.{table_text}
@@ -38,12 +38,12 @@ low c e = grind arith
 
 -- the threads gave up for this cause of reading; the table has the rows of all entries that were read, and no heading
 -- without a row
-abbrev IsReadingMet : Met → Cause → Type 0
+abbrev IsReadingMet : Findings → Cause → Type 0
 IsReadingMet met c =
     (met.sent.outcome ≡ Err c) × (met.fault ≡ None) × (met.headed ≡ true → met.rows ≢ 0)
     × (met.rows ≡ met.sent.count)
 
-module _ (met : Met) (c : Cause) (of_table : IfSome met.fault (λ f. is_of_table f ≡ true)) where
+module _ (met : Findings) (c : Cause) (of_table : IfSome met.fault (λ f. is_of_table f ≡ true)) where
   -- a cause that no table gives is the outcome of the threads
   met_by_threads : is_of_table c ≡ false → IsMet met c → met.sent.outcome ≡ Err c
   met_by_threads other (inl speaks) = speaks
@@ -81,12 +81,12 @@ module _ (met : Met) (c : Cause) (of_table : IfSome met.fault (λ f. is_of_table
     reading_met = (read_outcome, none_broke met.fault refl, λ head zero. unmet (inr (head, zero)), all_written)
 
 -- cause 2 is the outcome of the threads
-pub thread_outcome : (met : Met) → IfSome met.fault (λ f. is_of_table f ≡ true) → (e : SourceEnd)
+pub thread_outcome : (met : Findings) → IfSome met.fault (λ f. is_of_table f ≡ true) → (e : SourceEnd)
     → IfBroken e (IsLowest (IsMet met)) → e ≡ end.Broken cause.NoThread → met.sent.outcome ≡ Err cause.NoThread
 thread_outcome met of_table e lowest is = search (rules, met_by_threads, met)
 
 -- where nothing was met, a source ends as its table does
-pub met_none : {W : Type 0} (e : SourceEnd) (met : Met) (table : Table W) → met.sent.outcome ≡ Ok met.rows
+pub met_none : {W : Type 0} (e : SourceEnd) (met : Findings) (table : Table W) → met.sent.outcome ≡ Ok met.rows
     → met.fault ≡ None → met.headed ≡ true → met.rows ≡ table.rows
     → IfWhole e (HasEnded table) → IfWhole e (HasMetNone met table.journal.items)
 met_none (end.Whole count refused journal) met table outcome fault headed rows is =
@@ -103,7 +103,7 @@ module _ {W : Type 0} (o : outputs.Ghosts W) (text : Option (List ℕ)) (table :
     (has : HasPassed text (reading_of table.setup) passed (λ row. Contains rows row)) (headed : Bool)
     (same_head : headed ≡ is_headed table) where
   -- what was met of the source
-  abbrev met : Met
+  abbrev met : Findings
   met = record { sent = passed; fault = table_fault table; headed = headed; rows = table.rows }
 
   abbrev by : Reading

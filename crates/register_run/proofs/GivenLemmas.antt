@@ -1,5 +1,5 @@
 -- What a reader gave of a text, by how it ended.
-use Rattle.std.proofs.Common.{rules, ◌≡◌, sym, refl, ℕ, List, [], length, Option}
+use Rattle.std.proofs.Common.{rules, ◌≡◌, ◌∙◌, sym, refl, ℕ, List, [], length, Option}
 use Rattle.std.proofs.Common.{inr, Err, IfSome, Ok}
 use Rattle.std.proofs.Math.Logic.{∥∥₁_elim, ∥∥₁_map, ∥∥₁_prop}
 use Rattle.register_run.proofs.Common.{AreNumberedFrom, Reading, HasAllEntries, HasEntries, HasFirstEntries, Numbered}
@@ -74,17 +74,17 @@ module _ (text : Option (List ℕ)) (reading : Reading) where
   })
 
   -- these are all
-  pub given_all : (n : ℕ) (given : List Numbered) → n ≡ length given → AreNumberedFrom 1 given
-      → ∥ HasFirstEntries reading text given ∥₁ → ∥ HasEntries reading text given ∥₁
-      → ∥ IsGiven text reading (record { count = n; outcome = Ok n }) given ∥₁
-  given_all n given count numbered first all = ∥∥₁_elim first ∥∥₁_prop (λ f. ∥∥₁_map all (λ a. record {
-    counted = λ speaks. sym count;
+  pub given_all : (given : List Numbered) → AreNumberedFrom 1 given
+      → ∥ HasFirstEntries reading text given ∥₁ → ∥ HasEntries reading text given ∥₁ → (sent : Sent) (n : ℕ)
+      → n ≡ length given → sent.count ≡ n → sent.outcome ≡ Ok n → ∥ IsGiven text reading sent given ∥₁
+  given_all given numbered first all sent n count counted is = ∥∥₁_elim first ∥∥₁_prop (λ f. ∥∥₁_map all (λ a. record {
+    counted = λ speaks. sym (counted ∙ count);
     numbered = numbered;
     first = inr f;
-    all = (count, a);
-    bad_header = tt;
-    too_many = tt;
-    not_sealed = tt;
+    all = rw is (count, a);
+    bad_header = rw is tt;
+    too_many = rw is tt;
+    not_sealed = rw is tt;
   }))
 
 module _ (text text' : Option (List ℕ)) (d d' : Reading) (same : text' ≡ text) (by : d' ≡ d) (given old : List Numbered)
@@ -94,10 +94,11 @@ module _ (text text' : Option (List ℕ)) (d d' : Reading) (same : text' ≡ tex
   first' : ∥ HasFirstEntries d text old ∥₁
   first' = rw (same, by, kept) at first
 
-  pub sends_all : (n : ℕ) → n ≡ length old → ∥ HasEntries d' text' given ∥₁
-      → ∥ Sends text d (record { count = n; outcome = Ok n }) senders ∥₁
-  sends_all n count all =
-      ∥∥₁_map (given_all text d n old count numbered first' (rw (same, by, kept) at all)) (λ is. (old, is, deals))
+  pub sends_all : ∥ HasEntries d' text' given ∥₁ → (sent : Sent) (n : ℕ) → n ≡ length old → sent.count ≡ n
+      → sent.outcome ≡ Ok n → ∥ Sends text d sent senders ∥₁
+  sends_all all sent n count counted is =
+      ∥∥₁_map (given_all text d old numbered first' (rw (same, by, kept) at all) sent n count counted is)
+      (λ is'. (old, is', deals))
 
   pub sends_stopped : (f : EntryFault) (c : Cause) → c ≡ entry_fault_cause f → (f ≡ fault.BadHeader → ⊥)
       → (f ≡ fault.TooManyRecords → (length old ≡ record_limit) × ∥ IfSome text' (λ t. HasTooMany d' t) ∥₁)

@@ -60,7 +60,7 @@ abbrev stripes_in : Ran → List Stripe
 stripes_in ran = ran.stripes.value.items
 
 module _ {R W : Type 0} {r : reads.Ghosts R} {o : outputs.Ghosts W} (setup : Setup) where
-  -- what is known of all sources, place by place
+  -- what is known of all sources, one by one
   record AreKnown (all : List (EndedSource R W r o)) (sources : List R) (given : List W) : Type 0 where
     places : AtEachPlace (Known r o setup) sources given (map output_of all) (map end_of all)
     marks : map o.own_mark (map output_of all) ≡ map o.own_mark given

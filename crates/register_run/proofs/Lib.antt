@@ -1,5 +1,5 @@
 -- Which file serves which public clause:
---   StripeLemmas, SourceThreadsLemmas, ItemLemmas, GivenLemmas, FrontLemmas, MoveLemmas: that the rows that were taken
+--   StripeLemmas, ItemLemmas, GivenLemmas, FrontLemmas, MoveLemmas: that the rows that were taken
 --     from a source's lanes are those of its entries; the fields `table` and `part` of `report`.
 --   CarriedLemmas, ConvertingLemmas, DealtLemmas, PoppedLemmas: that each lane carries what the machine deals to its
 --     stripe, in order, and that the writer goes by the machine's turns. HistoryLemmas, upon these: that some schedule
@@ -17,7 +17,6 @@ pub mod CarriedLemmas
 pub mod ConvertingLemmas
 pub mod DealtLemmas
 pub mod PoppedLemmas
-pub mod SourceThreadsLemmas
 pub mod FrontLemmas
 pub mod GivenLemmas
 pub mod MoveLemmas

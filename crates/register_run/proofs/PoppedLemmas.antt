@@ -44,6 +44,12 @@ module _ (stripes : List Stripe) (at : ℕ) (new old : Stripe) (within : at < le
     none = (let none = looked.none in let more = popped_more 0 (omega (arith, none)) in omega (arith, more));
   }
 
+  -- which leaves the turn where it is
+  pub in_turn_looked : (found : Look) → HasLooked old new found → IsInTurn stripes at → IsInTurn (set stripes at new) at
+  in_turn_looked found looked turns all w many =
+      let is = looked_at found looked in
+      turns (is.still all) w (many ∙ length-set stripes at new) ∙ ap (turn w) (sym is.none)
+
   -- the stripe gave a row
   pub popped_at : new.«open» ≡ old.«open» → popped_from new ≡ popped_from old + 1
       → HasPopped stripes (set stripes at new)
@@ -52,6 +58,10 @@ module _ (stripes : List Stripe) (at : ℕ) (new old : Stripe) (within : at < le
 one_of : (stripes : List Stripe) → 0 < length stripes → Stripe
 one_of [] some = absurd (omega arith)
 one_of (stripe ∷ rest) some = stripe
+
+-- once a lane has ended, any may be next
+pub in_turn_ended : (stripes : List Stripe) (at : ℕ) → (AreOpen stripes → ⊥) → IsInTurn stripes at
+in_turn_ended stripes at ended all w many = absurd (ended all)
 
 -- after a row the turn goes on
 pub in_turn_popped : (old new : List Stripe) (at next : ℕ) → HasPopped old new → length new ≡ length old

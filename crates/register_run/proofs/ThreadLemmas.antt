@@ -5,7 +5,7 @@ use Rattle.std.proofs.lemmas.Bool.{and_parts}
 use Rattle.std.proofs.lemmas.List.Elements.{All-cons}
 use Rattle.register_run.proofs.Common.{IfBroken, IfWhole, cause_number, Setup, Cause, Note, SourceEnd, stripe_setup}
 use Rattle.register_run.proofs.Common.{HasMetNone, IsLowest, IsMet, is_of_table, AreStaffed, AreThreadsOf, Stripe, Ran}
-use Rattle.register_run.proofs.Common.{Met}
+use Rattle.register_run.proofs.Common.{Findings}
 use Rattle.register_records.specs.SetupRules.{most_stripes}
 use Rattle.register_records.specs.declared.ends.Cause.TheVariants as cause
 use Rattle.register_records.specs.declared.ends.SourceEnd.TheVariants as end
@@ -36,7 +36,7 @@ lowest_two cause.NoMemory low = inl refl
 lowest_two cause.NoThread low = inr refl
 lowest_two c low = absurd (omega (arith, low))
 
-module _ (setup : Setup) (met : Met) (journal : List Note) (of_table : IfSome met.fault (λ f. is_of_table f ≡ true))
+module _ (setup : Setup) (met : Findings) (journal : List Note) (of_table : IfSome met.fault (λ f. is_of_table f ≡ true))
   where
     low_end : (e : SourceEnd) (c : Cause) → cause_number c ≤ 2 → met.sent.outcome ≡ Err c
         → IfWhole e (HasMetNone met journal) → IfBroken e (IsLowest (IsMet met))
@@ -49,7 +49,7 @@ module _ (setup : Setup) (met : Met) (journal : List Note) (of_table : IfSome me
           | inr e ↦ inr (ap (λ x. end.Broken x) e)
         ]
 
-    pub threads_of : (ran : Ran) (e : SourceEnd) → ran.met.value ≡ met
+    pub threads_of : (ran : Ran) (e : SourceEnd) → ran.findings.value ≡ met
         → AreStaffed setup met.sent.outcome ran.stripes.value.items
         → IfWhole e (HasMetNone met journal) → IfBroken e (IsLowest (IsMet met)) → AreThreadsOf setup e ran
     threads_of ran e is_met (inl (staffed, started)) whole lowest =

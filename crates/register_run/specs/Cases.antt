@@ -8,7 +8,6 @@ use Rattle.register_records.specs.declared.ends.SourceEnd.{SourceEnd}
 use Rattle.register_run.specs.declared.reports.Ran.{Ran}
 use Rattle.register_run.specs.declared.ended_sources.EndedSource.{EndedSource}
 use Rattle.register_run.specs.declared.running_sources.RunningSource.{RunningSource}
-use Rattle.register_run.specs.SourceThreads.{started_on}
 
 pub record Case (R W : Type 0) : Type 0 where
   pub source : R
@@ -26,7 +25,7 @@ cases setup (source ∷ sources) (output ∷ outputs) = case source output setup
 
 -- what a source that runs was started with
 abbrev pub case_of : {R W : Type 0} {o : outputs.Ghosts W} → RunningSource R W o → Case R W
-case_of s = case (started_on s.threads) (made_for s.table) (made_by s.table)
+case_of s = case s.source.value (made_for s.table) (made_by s.table)
 
 module _ {R W : Type 0} {r : reads.Ghosts R} {o : outputs.Ghosts W} where
   -- what a source that has ended was made of

@@ -17,7 +17,7 @@ use Rattle.register_run.specs.Carried.{AreDealt, AreOfAllTaken, AreOfTaken, HasE
 use Rattle.register_run.specs.Worlds.{World}
 use Rattle.register_run.specs.declared.reading.ReaderResult.{ReaderResult}
 use Rattle.register_run.specs.declared.reading.Sent.{Sent}
-use Rattle.register_run.specs.declared.converting.Converting.{Converting}
+use Rattle.register_run.specs.declared.converting.ConverterResult.{ConverterResult}
 
 -- what is left of a sender is that of this lane
 abbrev pub IsOfLane : {T : Type 0} → Lane → Closed T → Type 0
@@ -86,7 +86,7 @@ pub record IsReading (text : Option (List ℕ)) (reading : Reading) (lanes : Lis
 
 -- a converter which was given these two lanes may return this: its rows are those of the first entries that it took,
 -- and of all of them where it ended their lane with an `End`
-pub record IsConverting (from into : Lane) (r : Converting) : Type 0 where
+pub record IsConverting (from into : Lane) (r : ConverterResult) : Type 0 where
   pub handed : receiver_lane r.entries ≡ from
   pub closed : IsOfLane into r.closed
   pub rows : HasConfirmation r.closed → AreOfTaken (taken r.entries) (all_sent r.closed)

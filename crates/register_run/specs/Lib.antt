@@ -2,7 +2,6 @@ pub mod Carried
 pub mod JoinedThreads
 pub mod Stripes
 pub mod Popped
-pub mod SourceThreads
 pub mod MetCauses
 pub mod Written
 pub mod Headline

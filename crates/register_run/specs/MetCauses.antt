@@ -5,7 +5,7 @@ use Rattle.register_records.specs.Sources.{cause_number}
 use Rattle.register_records.specs.declared.ends.Cause.{Cause}
 use Rattle.register_records.specs.declared.ends.Cause.TheVariants as cause
 use Rattle.register_records.specs.declared.ends.Note.{Note}
-use Rattle.register_run.specs.declared.ended_sources.Met.{Met}
+use Rattle.register_run.specs.declared.ended_sources.Findings.{Findings}
 
 -- what was written is not what the threads ended with: not all rows with the heading; or where they gave up, not the
 -- rows of all entries that were read until then, or the heading without a row
@@ -14,16 +14,17 @@ Differs (Ok count) read headed rows = (headed ≡ true) × (rows ≡ count) → 
 Differs (Err c) read headed rows = (rows ≢ read) ⊎ ((headed ≡ true) × (rows ≡ 0))
 
 -- a source has met this cause: its threads ended with it, its table broke off for it, or the table did not and differs
-abbrev pub IsMet : Met → Cause → Type 0
-IsMet met c =
-    (met.sent.outcome ≡ Err c) ⊎ (met.fault ≡ Some c)
-    ⊎ ((c ≡ cause.Unconfirmed) × (met.fault ≡ None) × Differs met.sent.outcome met.sent.count met.headed met.rows)
+abbrev pub IsMet : Findings → Cause → Type 0
+IsMet found c =
+    (found.sent.outcome ≡ Err c) ⊎ (found.fault ≡ Some c)
+    ⊎ ((c ≡ cause.Unconfirmed) × (found.fault ≡ None)
+    × Differs found.sent.outcome found.sent.count found.headed found.rows)
 
 -- a source has met no cause: its threads ended with a count, its table did not break off, and has the heading and so
 -- many rows; so many were refused, by this journal
-abbrev pub HasMetNone : Met → List Note → ℕ → ℕ → List Note → Type 0
-HasMetNone met journal count refused notes =
-    (met.sent.outcome ≡ Ok count) × (met.fault ≡ None) × (met.headed ≡ true) × (count ≡ met.rows)
+abbrev pub HasMetNone : Findings → List Note → ℕ → ℕ → List Note → Type 0
+HasMetNone found journal count refused notes =
+    (found.sent.outcome ≡ Ok count) × (found.fault ≡ None) × (found.headed ≡ true) × (count ≡ found.rows)
     × (refused ≡ length notes) × (notes ≡ journal)
 
 -- the lowest of these causes

@@ -1,5 +1,5 @@
 -- What is known of the stripes of a source.
-use Rattle.std.specs.Prelude.{◌≡◌, ◌⊎◌, ⊤, List, [], ◌∷◌, ◌++◌, Bool, map, replicate, true}
+use Rattle.std.specs.Prelude.{◌≡◌, ◌⊎◌, ⊤, ℕ, List, [], ◌∷◌, ◌++◌, Bool, Err, Result, map, replicate, true}
 use Rattle.std.specs.List.{AllZip, Contains}
 use mathlib.Core.List.{IsPrefix}
 use Rattle.lane_rings.specs.declared.item.Item.{Item}
@@ -12,6 +12,7 @@ use Rattle.register_records.specs.declared.setups.Setup.{Setup}
 use Rattle.register_records.specs.declared.ends.Cause.{Cause}
 use Rattle.register_records.specs.declared.ends.Cause.TheVariants as cause
 use Rattle.register_run.specs.Carried.{carried, rows_carried}
+use Rattle.register_run.specs.JoinedThreads.{HasStarted}
 use Rattle.register_run.specs.declared.stripes.Stripe.{Stripe}
 use Rattle.register_run.specs.declared.stripes.StartFault.{StartFault}
 use Rattle.register_run.specs.declared.stripes.StartFault.TheVariants as fault
@@ -37,6 +38,13 @@ IsReaderOf source setup stripes task =
     (task.source.value ≡ source) × (task.setup.value ≡ setup)
     × (map feeding_lane stripes ≡ map sender_lane task.senders.value.items)
     × (map stripe_setup stripes ≡ replicate setup.stripes setup)
+
+-- the stripes of a source whose threads ended so: as many as the setup has stripes, each started by it; or none, where
+-- the threads did not start
+abbrev pub AreStaffed : Setup → Result ℕ Cause → List Stripe → Type 0
+AreStaffed setup outcome stripes =
+    ((map stripe_setup stripes ≡ replicate setup.stripes setup) × HasStarted outcome)
+    ⊎ ((stripes ≡ []) × ((outcome ≡ Err cause.NoMemory) ⊎ (outcome ≡ Err cause.NoThread)))
 
 -- the row was taken from this stripe, or was seen to be next
 unfoldable pub StripeTook : Stripe → Row → Type 0

@@ -24,7 +24,7 @@ pub record AreThreadsOf (setup : Setup) (end : SourceEnd) (ran : Ran) : Type 0 w
   pub rings : All (HasRing setup.ring) ran.stripes.value.items
   pub none : ran.stripes.value.items ≡ [] → (end ≡ ended.Broken cause.NoMemory) ⊎ (end ≡ ended.Broken cause.NoThread)
   pub unstarted : end ≡ ended.Broken cause.NoThread → ran.stripes.value.items ≡ []
-  pub lowest : IfBroken end (IsLowest (IsMet ran.met.value))
+  pub lowest : IfBroken end (IsLowest (IsMet ran.findings.value))
 
 -- the same of the threads of each source
 abbrev pub AreThreads : Setup → List SourceEnd → List Ran → Type 0

@@ -1,4 +1,4 @@
--- What a source's table holds, by the rows that were taken from its threads. No public contract cites this file.
+-- What a source's table holds, by the rows that were taken from its stripes. No public contract cites this file.
 use Rattle.std.specs.Prelude.{ℕ, IfOk, List, Option}
 use Rattle.std.specs.List.{Contains}
 use Rattle.register_records.specs.declared.outputs.Output as outputs
@@ -7,17 +7,16 @@ use Rattle.register_records.specs.declared.tables.Table.{Table}
 use Rattle.register_records.specs.TablesWritten.{Holds}
 use Rattle.register_records.specs.Views.{reading_of}
 use Rattle.register_run.specs.declared.stripes.Stripe.{Stripe}
-use Rattle.register_run.specs.declared.source_threads.SourceThreads.{SourceThreads}
 use Rattle.register_run.specs.declared.reading.Sent.{Sent}
 use Rattle.register_run.specs.Histories.{Carries}
-use Rattle.register_run.specs.SourceThreads.{Passed}
+use Rattle.register_run.specs.Stripes.{AnyTook}
 use Rattle.register_run.specs.JoinedThreads.{HasPassed}
 
 module _ {W : Type 0} (o : outputs.Ghosts W) where
-  -- the rows of the table were taken from the threads
-  abbrev pub Wrote : {R : Type 0} → SourceThreads R → Table W → W → Type 0
-  Wrote threads table output =
-      (rows : List Row) × Holds o table output rows × ((row : Row) → Contains rows row → Passed threads row)
+  -- the rows of the table were taken from the stripes, or were seen to be next
+  abbrev pub Wrote : List Stripe → Table W → W → Type 0
+  Wrote stripes table output =
+      (rows : List Row) × Holds o table output rows × ((row : Row) → Contains rows row → AnyTook stripes row)
 
   -- the threads of the source have ended with this outcome, and the rows of the table are those that were taken from
   -- these stripes

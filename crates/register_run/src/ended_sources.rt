@@ -1,6 +1,6 @@
 //! What is left of a source when its threads have been joined.
 
-ghost use Rattle.std.specs.Prelude.{◌≡◌, ◌≤◌, ◌↔◌, ◌⊎◌, [], None, Ok, IfSome, false, true};
+ghost use Rattle.std.specs.Prelude.{◌≡◌, ◌≤◌, ◌↔◌, ◌⊎◌, [], None, Ok, Some, IfSome, false, true};
 ghost use Rattle.register_records.specs.Sources.{IfBroken, IfWhole, cause_number};
 ghost use Rattle.register_records.specs.TablesWritten.{has_lost_output, is_headed, made_by, made_for, table_fault, waiting_of};
 ghost use Rattle.register_records.specs.Views.{layout_of, reading_of};
@@ -9,13 +9,13 @@ ghost use Rattle.register_records.specs.declared.ends.SourceEnd.TheVariants as e
 ghost use Rattle.register_run.specs.MetCauses.{Differs, HasMetNone, IsLowest, IsMet};
 ghost use Rattle.register_run.specs.Headline.{IsSourceEnd};
 ghost use Rattle.register_run.specs.Histories.{IsMachineWithTable};
-ghost use Rattle.register_run.specs.SourceThreads.{AreStaffed};
+ghost use Rattle.register_run.specs.Stripes.{AreStaffed};
 ghost use Rattle.register_run.specs.Threads.{AreThreadsOf};
 ghost use Rattle.register_run.specs.Written.{Concludes};
 
 use crate::reading::Sent;
 use crate::reports::Ran;
-use crate::source_threads::JoinedThreads;
+use crate::stripes::Stripe;
 use register_records::{Cause, Note, Output, SourceEnd, Table};
 use std::io::Read;
 use std::snapshot::Snapshot;
@@ -38,65 +38,75 @@ pub(crate) struct EndedSource<R: Read, W: Output> {
         (W.contents output) count ran.stripes.value.items) ∥₁ },
 }
 
-/// What was met of a source: what its threads have sent, and of its table why no more was added, whether the heading
+/// What the threads of a source leave: its stripes as they were joined, how many entries were read, and that number
+/// again where they are all, or why it is not known that all of them have passed.
+#[derive(Drop)]
+pub(crate) struct JoinedThreads<R> {
+    pub(crate) source: Snapshot<R>,
+    pub(crate) stripes: Snapshot<Vec<Stripe>>,
+    pub(crate) sent: Sent,
+}
+
+/// What was found of a source: what its threads have sent, and of its table why no more was added, whether the heading
 /// was written, and how many rows were.
 #[derive(Clone, Copy)]
-pub(crate) struct Met {
+pub(crate) struct Findings {
     pub(crate) sent: Sent,
     pub(crate) fault: Option<Cause>,
     pub(crate) headed: bool,
     pub(crate) rows: u32,
 }
 
-/// The lower of two causes, which is the one that is reported.
-pub(crate) fn lower(one: Cause, other: Cause) -> Cause
-    ensures one_of { (result ≡ one) ⊎ (result ≡ other) }
-    ensures lowest { (cause_number result ≤ cause_number one) × (cause_number result ≤ cause_number other) }
+/// The lower of two causes, of which the first may be missing. It is the one that is reported.
+pub(crate) fn lower(one: Option<Cause>, other: Cause) -> Cause
+    ensures one_of { (one ≡ Some result) ⊎ (result ≡ other) }
+    ensures below_one { IfSome one (λ c. cause_number result ≤ cause_number c) }
+    ensures below_other { cause_number result ≤ cause_number other }
 {
-    if one.number() <= other.number() {
-        one
-    } else {
-        other
+    match one {
+        Some(one) if one.number() <= other.number() => one,
+        _ => other,
     }
 }
 
 /// Whether what was written is not what the threads ended with.
-fn differs(met: Met) -> bool
-    ensures { (result ≡ true) ↔ Differs met.sent.outcome met.sent.count met.headed met.rows }
+fn differs(findings: Findings) -> bool
+    ensures { (result ≡ true) ↔ Differs findings.sent.outcome findings.sent.count findings.headed findings.rows }
 {
-    match met.sent.outcome {
-        Ok(count) => !met.headed || met.rows != count,
+    match findings.sent.outcome {
+        Ok(count) => !findings.headed || findings.rows != count,
         // A reader that gave up has sent no end, so no heading was written but before a row; and all that it had sent
         // by then is written.
-        Err(_) => met.rows != met.sent.count || (met.headed && met.rows == 0),
+        Err(_) => findings.rows != findings.sent.count || (findings.headed && findings.rows == 0),
     }
 }
 
 /// The lowest of the causes that were met, if there is one.
-fn lowest_met(met: Met) -> Option<Cause>
-    ensures some { IfSome result (IsLowest (IsMet met)) }
-    ensures none { result ≡ None → (met.sent.outcome ≡ Ok met.rows) × (met.fault ≡ None) × (met.headed ≡ true) }
+fn lowest_met(findings: Findings) -> Option<Cause>
+    ensures some { IfSome result (IsLowest (IsMet findings)) }
+    ensures none { result ≡ None → (findings.sent.outcome ≡ Ok findings.rows) × (findings.fault ≡ None)
+        × (findings.headed ≡ true) }
 {
-    let of_table = match met.fault {
-        None if differs(met) => Some(Cause::Unconfirmed),
+    let of_threads = findings.sent.outcome.err();
+    let of_table = match findings.fault {
+        None if differs(findings) => Some(Cause::Unconfirmed),
         fault => fault,
     };
-    match (met.sent.outcome, of_table) {
-        (Err(one), Some(other)) => Some(lower(one, other)),
-        (Err(one), None) => Some(one),
-        (Ok(_), of_table) => of_table,
+    match of_table {
+        Some(cause) => Some(lower(of_threads, cause)),
+        None => of_threads,
     }
 }
 
 /// How a source ended: by what was met of it, and as its table did where nothing was.
 #[tactic(auto, using(crate::proofs::EndedSourceLemmas::met_none, crate::proofs::EndedSourceLemmas::never_broken))]
-fn end_of_source<W: Output>(met: Met, table: Table<W>) -> SourceEnd
-    requires fault { met.fault ≡ table_fault table }
-    requires rows { met.rows ≡ table.rows }
-    ensures whole { IfWhole result (HasMetNone met table.journal.items) }
-    ensures broken { IfBroken result (IsLowest (IsMet met)) }
+fn end_of_source<W: Output>(findings: Findings, table: Table<W>) -> SourceEnd
+    requires fault { findings.fault ≡ table_fault table }
+    requires rows { findings.rows ≡ table.rows }
+    ensures whole { IfWhole result (HasMetNone findings table.journal.items) }
+    ensures broken { IfBroken result (IsLowest (IsMet findings)) }
 {
-    match lowest_met(met) {
+    match lowest_met(findings) {
         Some(cause) => SourceEnd::Broken { cause },
         None => table.end(),
     }
@@ -117,7 +127,7 @@ pub(crate) fn conclude<R: Read + Drop, W: Output + Drop>(
     ensures output { made_for result.table.value ≡ made_for table }
     ensures setup { result.ran.setup.value ≡ made_by table }
 {
-    let met = Met {
+    let findings = Findings {
         sent: joined.sent,
         fault: table.fault(),
         headed: table.has_heading(),
@@ -126,13 +136,13 @@ pub(crate) fn conclude<R: Read + Drop, W: Output + Drop>(
     let ran = Ran {
         setup: Snapshot::of(table.setup()),
         stripes: joined.stripes,
-        met: Snapshot::of(&met),
+        findings: Snapshot::of(&findings),
     };
     EndedSource {
         source: joined.source,
         table: Snapshot::of(&table),
         ran,
         output,
-        end: end_of_source(met, table),
+        end: end_of_source(findings, table),
     }
 }

@@ -14,8 +14,6 @@ mod reading;
 mod reports;
 mod running;
 mod running_sources;
-mod source_threads;
-mod stripe_lists;
 mod stripes;
 mod turns;
 

@@ -1,6 +1,6 @@
 //! The work of the thread that reads a source.
 
-ghost use Rattle.std.specs.Prelude.{◌≡◌, ◌<◌, ◌≤◌, ◌+◌, ◌/◌, ◌%◌, [], All, Err, map, vec_capacity, vec_len};
+ghost use Rattle.std.specs.Prelude.{◌≡◌, ◌<◌, ◌≤◌, ◌+◌, ◌/◌, ◌%◌, [], All, Err, Ok, map, vec_capacity, vec_len};
 ghost use Rattle.std.specs.List.{AllZip};
 ghost use Rattle.lane_rings.specs.Lane.{sender_lane, sent};
 ghost use Rattle.register_records.specs.Views.{reading_of};
@@ -65,6 +65,16 @@ pub(crate) fn read_source<R: Read + Drop>(
     ReaderResult { closed, sent }
 }
 
+/// A reader that has sent all entries, which are so many.
+fn sent_all(count: u32) -> Sent
+    ensures { (result.count ≡ count) × (result.outcome ≡ Ok count) }
+{
+    Sent {
+        count,
+        outcome: Ok(count),
+    }
+}
+
 /// A reader that stopped after so many entries for this cause.
 pub(crate) fn stopped_after(count: u32, cause: Cause) -> Sent
     ensures { (result.count ≡ count) × (result.outcome ≡ Err cause) }
@@ -100,12 +110,7 @@ fn send_entries<R: Read + Drop>(
     for _ in rt.forever() {
         match entries.read_next(&mut entry) {
             Ok(true) => (),
-            Ok(false) => {
-                return Sent {
-                    count,
-                    outcome: Ok(count),
-                };
-            }
+            Ok(false) => return sent_all(count),
             Err(fault) => return stopped_after(count, Cause::from(fault)),
         }
         count = entry.number();

@@ -2,7 +2,7 @@
 
 ghost use Rattle.std.specs.Prelude.{◌≡◌};
 
-use crate::ended_sources::Met;
+use crate::ended_sources::Findings;
 use crate::stripes::Stripe;
 use register_records::{Setup, SourceEnd};
 use std::snapshot::Snapshot;
@@ -33,8 +33,8 @@ pub struct Report<W> {
 pub struct Ran {
     pub(crate) setup: Snapshot<Setup>,
     pub(crate) stripes: Snapshot<Vec<Stripe>>,
-    // What its threads and its table met.
-    pub(crate) met: Snapshot<Met>,
+    // What was found of its threads and its table.
+    pub(crate) findings: Snapshot<Findings>,
 }
 
 /// Why a run did not begin: the first of these that applies.

@@ -232,6 +232,26 @@ fn hand_back<R, W>(kind: RunFaultKind, sources: Vec<R>, outputs: Vec<W>) -> RunF
     }
 }
 
+/// Starts all sources, takes from them and writes until each has ended, joins their threads and reports.
+fn run_all<'s, 'e, T: Host, R: Read + Send + Drop + 'e, W: Output + Drop, G: Gate + Sync>(
+    context: &RunContext<'s, 'e, T, G>,
+    sources: Vec<R>,
+    outputs: Vec<W>,
+    lists: Lists<R, W>,
+) -> Report<W>
+    requires { (vec_len sources ≡ lists.count) × (vec_len outputs ≡ lists.count) }
+    ensures report { IsReport R.Read W.Output context.now.setup.now sources.items outputs.items result }
+    ensures machine { IsReportOfMachine R.Read W.Output context.now.setup.now sources.items outputs.items result }
+    ensures threads { IsReportOfThreads context.now.setup.now result }
+{
+    let mut running_sources = start_all(context, sources, outputs, lists.running_sources);
+    // This thread is two lanes downstream of the readers.
+    let patience = context.patience.one_lane_downstream().one_lane_downstream();
+    visit_until_ended(context.rt, patience, &mut running_sources);
+    let ended_sources = finish_all(context.rt, running_sources, lists.ended_sources);
+    report(ended_sources, lists.outputs, lists.ends, lists.ran)
+}
+
 /// The run, with threads that end before it returns.
 fn run_in_scope<T: Host, R: Read + Send + Drop, W: Output + Drop, G: Gate + Sync>(
     rt: &T,
@@ -257,8 +277,6 @@ fn run_in_scope<T: Host, R: Read + Send + Drop, W: Output + Drop, G: Gate + Sync
                 × IsReportOfMachine R.Read W.Output setup.entry.now sources.items outputs.items result
                 × IsReportOfThreads setup.entry.now result }
         {
-            // Taken whole, since their room is known of them together.
-            let lists = lists;
             let context = RunContext {
                 scope,
                 rt,
@@ -267,18 +285,13 @@ fn run_in_scope<T: Host, R: Read + Send + Drop, W: Output + Drop, G: Gate + Sync
                 patience,
                 setup,
             };
-            let mut running_sources = start_all(&context, sources, outputs, lists.running_sources);
-            // This thread is two lanes downstream of the readers.
-            let patience = patience.one_lane_downstream().one_lane_downstream();
-            visit_until_ended(rt, patience, &mut running_sources);
-            let ended_sources = finish_all(rt, running_sources, lists.ended_sources);
-            report(ended_sources, lists.outputs, lists.ends, lists.ran)
+            run_all(&context, sources, outputs, lists)
         },
     )
 }
 
 /// Converts many sources at once: each source is read on a thread of its own and converted on further ones, and this
-/// thread writes the table of each source to the output at its place. `setup` says for which targets, with which
+/// thread writes the table of each source to the output with its number. `setup` says for which targets, with which
 /// delimiter, in which form, and with how many converters and how large rings for each source. Before the row of an
 /// entry is sent, its converter passes `gate`. What is promised is the same for every gate, and what [`run`] promises.
 ///

@@ -2,8 +2,9 @@
 
 ghost use Rattle.std.specs.Prelude.{◌≡◌, ◌<◌, ◌+◌, [], Err, IfErr, IfOk, IfSome, Ok, map, vec_len};
 ghost use Rattle.lane_rings.specs.Lane.{lane_capacity, receiver_lane, sender_lane, sent, taken};
+ghost use Rattle.register_run.specs.JoinedThreads.{IsConverting};
 
-use crate::converting::{Converting, convert_entries};
+use crate::converting::{ConverterResult, convert_entries};
 use crate::gates::Gate;
 use crate::running::{Host, RunContext};
 use lane_rings::{Closed, Item, Receiver, Sender, Unconfirmed, patient_lane};
@@ -19,9 +20,7 @@ pub(crate) struct ConverterLanes {
     pub(crate) rows: Snapshot<Sender<Row>>,
 }
 
-impl Promise<Converting> for ConverterLanes {
-    ghost use Rattle.register_run.specs.JoinedThreads.{IsConverting};
-
+impl Promise<ConverterResult> for ConverterLanes {
     ghost kept_by = { λ p r. IsConverting (receiver_lane p.entries.value) (sender_lane p.rows.value) r };
 }
 
@@ -85,10 +84,39 @@ pub(crate) fn started<H: Drop, E: Drop>(thread: Result<H, E>) -> Result<H, Start
     }
 }
 
+/// Starts the thread of a converter, over the lane that feeds it and the one that it feeds.
+///
+/// # Errors
+///
+/// `NoThread` where it does not start. The two ends of the lanes are dropped with it.
+fn start_converter<'s, 'e, T: Host, G: Gate + Sync>(
+    context: &RunContext<'s, 'e, T, G>,
+    entries: Receiver<Entry>,
+    rows: Sender<Row>,
+) -> Result<PromisedHandle<ConverterResult, ConverterLanes>, StartFault>
+    requires none_taken { taken entries ≡ [] }
+    requires none_sent { sent rows ≡ [] }
+    ensures lanes { IfOk result (λ worker. (worker.promise.entries.value ≡ entries) × (worker.promise.rows.value ≡ rows)) }
+{
+    let (rt, gate, setup) = (context.rt, context.gate, context.setup);
+    let lanes = ConverterLanes {
+        entries: Snapshot::of(&entries),
+        rows: Snapshot::of(&rows),
+    };
+    let worker = context.scope.spawn_with(
+        lanes,
+        move || -> ConverterResult
+            requires { (sent rows ≡ []) × (taken entries ≡ []) }
+            ensures { IsConverting (receiver_lane entries) (sender_lane rows) result }
+        { convert_entries(rt, gate, setup, entries, rows) },
+    );
+    started(worker)
+}
+
 /// A converter, the lane that it feeds and the one that feeds it.
 #[derive(Drop)]
 pub(crate) struct Stripe {
-    worker: PromisedHandle<Converting, ConverterLanes>,
+    worker: PromisedHandle<ConverterResult, ConverterLanes>,
     rows: Receiver<Row>,
     feeding: Snapshot<Sender<Entry>>,
     // What the converter was started by.
@@ -107,7 +135,7 @@ pub(crate) struct Stripe {
 impl Stripe {
     ghost use Rattle.register_run.specs.Stripes.{HasPassedOn, IsRowNext, IsSameStripe, StripeTook, feeding_lane};
     ghost use Rattle.register_run.specs.Stripes.{stripe_setup};
-    ghost use Rattle.register_run.specs.JoinedThreads.{IsConverting, IsOfLane};
+    ghost use Rattle.register_run.specs.JoinedThreads.{IsOfLane};
     ghost use Rattle.register_run.specs.Popped.{HasLooked, popped_from};
 
     /// Starts a converter, and gives the sender that feeds it.
@@ -123,7 +151,7 @@ impl Stripe {
         ensures untaken { IfOk result (λ r. taken r.1.rows ≡ []) }
         ensures setup { IfOk result (λ r. stripe_setup r.1 ≡ context.now.setup.now) }
     {
-        let (rt, gate, setup) = (context.rt, context.gate, context.setup);
+        let setup = context.setup;
         let (sender, entries) = patient_lane::<Entry>(
             context.alloc,
             setup.ring(),
@@ -132,18 +160,7 @@ impl Stripe {
         let downstream = context.patience.one_lane_downstream();
         let (row_sender, rows) = patient_lane::<Row>(context.alloc, setup.ring(), downstream)?;
         let feeding = Snapshot::of(&sender);
-        let lanes = ConverterLanes {
-            entries: Snapshot::of(&entries),
-            rows: Snapshot::of(&row_sender),
-        };
-        let worker = context.scope.spawn_with(
-            lanes,
-            move || -> Converting
-                requires { (sent row_sender ≡ []) × (taken entries ≡ []) }
-                ensures { IsConverting (receiver_lane entries) (sender_lane row_sender) result }
-            { convert_entries(rt, gate, setup, entries, row_sender) },
-        );
-        let worker = started(worker)?;
+        let worker = start_converter(context, entries, row_sender)?;
         let stripe = Stripe {
             worker,
             rows,
@@ -243,7 +260,7 @@ impl Stripe {
             count,
             ..
         } = self;
-        let Converting {
+        let ConverterResult {
             entries,
             closed: rows_closed,
         } = worker.join(rt);

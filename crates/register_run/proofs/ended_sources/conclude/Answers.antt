@@ -2,7 +2,7 @@ use Rattle.std.proofs.Common.{◌∙◌, Option, ap, subst, sym, ℕ}
 use Rattle.std.proofs.Props.{props}
 use Rattle.std.proofs.Math.Logic.{∥∥₁_elim, ∥∥₁_prop}
 use Rattle.register_records.specs.TablesWritten.{table_fault}
-use Rattle.register_run.proofs.Common.{Cause, AreThreadsOf, Met, Ran}
+use Rattle.register_run.proofs.Common.{Cause, AreThreadsOf, Findings, Ran}
 use Rattle.register_run.proofs.EndedSourceLemmas.{headless, source_end, with_table}
 use Rattle.register_run.proofs.ThreadLemmas.{threads_of}
 use Rattle.register_run.proofs.ended_sources.conclude.Goals as goal
@@ -14,9 +14,9 @@ invariant_of-result g c =
     let sent = c.args.joined.sent in
     let headed = c.has_heading.result in
     let end = c.end_of_source.result in
-    let met_of : Option Cause → ℕ → Met = λ f rows.
+    let met_of : Option Cause → ℕ → Findings = λ f rows.
     record { sent = sent; fault = f; headed = headed; rows = rows } in
-    let ran : Ran = record { setup = c.of.result; stripes = c.args.joined.stripes; met = c.of-2.result } in
+    let ran : Ran = record { setup = c.of.result; stripes = c.args.joined.stripes; findings = c.of-2.result } in
     let setup = c.of.ensures ∙ c.setup.ensures in
     let whole = rw (c.fault.ensures, c.rows.ensures) at c.end_of_source.ensures.whole in
     let broken = rw (c.fault.ensures, c.rows.ensures) at c.end_of_source.ensures.broken in record {

@@ -1,6 +1,6 @@
 use Rattle.std.proofs.Common.{rules, arith}
 use Rattle.register_run.proofs.StripeLemmas.{end_passed}
-use Rattle.register_run.proofs.stripe_lists.join_stripes.Goals as goal
+use Rattle.register_run.proofs.running_sources.join_stripes.Goals as goal
 
 pub loop-stripe-init : goal.loop-stripe-init
 loop-stripe-init g c =

@@ -3,7 +3,7 @@ use Rattle.std.proofs.Math.Logic.{∥∥₁_map}
 use Rattle.register_run.proofs.Common.{AreOfLanes}
 use Rattle.register_run.proofs.StripeLemmas.{took_dealt}
 use Rattle.register_run.proofs.HistoryLemmas.{joined_of_machine}
-use Rattle.register_run.proofs.source_threads.join_threads.Goals as goal
+use Rattle.register_run.proofs.running_sources.join_threads.Goals as goal
 
 pub returns-in-Ok-clause-passed : goal.returns-in-Ok-clause-passed
 returns-in-Ok-clause-passed g c = record {

@@ -1,5 +1,5 @@
 use Rattle.std.proofs.Common.{◌<◌, length}
-use Rattle.register_run.proofs.source_threads.next_open.Given as goal
+use Rattle.register_run.proofs.running_sources.next_open.Given as goal
 
 abbrev pub invariant-loop : goal.invariant-loop
 invariant-loop l = l.next < length l.stripes

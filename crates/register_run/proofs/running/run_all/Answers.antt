@@ -1,0 +1,19 @@
+use Rattle.std.proofs.Common.{◌≡◌, ◌∙◌, arith, length}
+use Rattle.register_run.proofs.HeadlineLemmas.{report_of, report_of_machine, report_of_threads}
+use Rattle.register_run.proofs.running.run_all.Goals as goal
+
+pub returns : goal.returns
+returns g c =
+    let setup = c.args.context.now.setup.now in let ended_sources = c.finish_all-ended_sources.result.items in
+    let sources = c.args.sources.items in let outputs = c.args.outputs.items in
+    let same : length sources ≡ length outputs =
+    (let a = c.args.sources.ok.0 in let b = c.args.outputs.ok.0 in let p = c.requires.0 in
+    let q = c.requires.1 in omega arith) in
+    let is = c.finish_all-ended_sources.ensures.cases ∙ c.visit_until_ended.ensures.cases ∙ c.start_all-running_sources.ensures.cases in
+    let reported = c.report.ensures in record {
+      report = report_of setup ended_sources sources outputs same is c.report.result reported.ends reported.ran
+          reported.outputs reported.verdict;
+      machine = report_of_machine setup ended_sources sources outputs same is c.report.result reported.ends reported.ran
+          reported.outputs;
+      threads = report_of_threads setup ended_sources sources outputs same is c.report.result reported.ends reported.ran;
+    }

@@ -1,0 +1,24 @@
+use Rattle.std.proofs.Common.{◌≡◌, [], IfErr, ap, arith, subst, sym}
+use Rattle.register_run.proofs.Common.{popped}
+use Rattle.register_run.proofs.running_sources.RunningSource.start.Goals as goal
+use Rattle.register_run.proofs.running_sources.RunningSource.start.Goals.{in-Err, in-Ok}
+
+pub invariant_of-result-clause-reads : goal.invariant_of-result-clause-reads
+invariant_of-result-clause-reads g c = elim c.match-start_threads.branch [
+  | in-Ok w ↦ rw (w.reader-is, c.of-given.ensures, c.new-table.ensures.setup) w.in-Ok.ensures.reads
+  | in-Err w ↦ rw w.reader-is tt
+]
+
+pub invariant_of-result-clause-unstarted : goal.invariant_of-result-clause-unstarted
+invariant_of-result-clause-unstarted g c = elim c.match-start_threads.branch [
+  | in-Ok w ↦ subst (λ x. IfErr x.0 (λ _. x.1.items ≡ [])) (sym w.reader-is) tt
+  | in-Err w ↦ subst (λ x. IfErr x.0 (λ _. x.1.items ≡ [])) (sym w.reader-is) w.new.ensures.items
+]
+
+pub invariant_of-result-clause-by_turns : goal.invariant_of-result-clause-by_turns
+invariant_of-result-clause-by_turns g c all w many =
+    let none : popped c.match-start_threads.reader.1.items ≡ 0 = elim c.match-start_threads.branch [
+      | in-Ok v ↦ subst (λ x. popped x.1.items ≡ 0) (sym v.reader-is) v.in-Ok.ensures.unpopped
+      | in-Err v ↦ subst (λ x. popped x.1.items ≡ 0) (sym v.reader-is) (ap popped v.new.ensures.items)
+    ] in
+    grind (arith, none)

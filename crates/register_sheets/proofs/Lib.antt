@@ -18,3 +18,4 @@ pub mod HeadingLemmas
 pub mod RegisterLemmas
 pub mod StopLemmas
 pub mod FoundLemmas
+pub mod TreeSheetLemmas

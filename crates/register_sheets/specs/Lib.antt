@@ -15,3 +15,4 @@ pub mod Registers
 pub mod UnknownNames
 pub mod UnknownViews
 pub mod FoundViews
+pub mod TreeSheets

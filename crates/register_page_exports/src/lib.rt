@@ -11,6 +11,7 @@ mod choices;
 pub mod dates;
 pub mod sheet_tables;
 pub mod sheets;
+pub mod trees;
 
 use date_texts::Refusal;
 use register_page::{Converted, Fault, convert_text};

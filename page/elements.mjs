@@ -115,7 +115,7 @@ export function saveBlob(blob, name) {
 }
 
 // A link that saves, which looks like a button; the second and further ones are grey. What is not made yet is a button.
-function downloadLink({ words, blob, name, isTable, place, isMade = true }, isSecond, saved, make) {
+export function downloadLink({ words, blob, name, isTable, place, isMade = true }, isSecond, saved, make) {
   const className = isSecond ? 'save second' : 'save', id = place === undefined ? '' : `make-${place}`;
   if (!isMade) {
     const button = element('button', words, { type: 'button', className: 'second', id });
@@ -205,7 +205,8 @@ export function onCheck(name, choose) {
   }
 }
 
-function listOf(files) {
+/** Files, as a field has them. */
+export function listOf(files) {
   const data = new DataTransfer();
   for (const file of files) data.items.add(file);
   return data.files;

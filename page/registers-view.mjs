@@ -2,12 +2,103 @@
 
 import { TARGETS } from './calendars.mjs';
 import {
-  byId, check, checkedOf, clear, columnTicks, drawReport, drawRunning, element, onCheck, takeFiles, textOf,
-  whenChanged, wordsIn,
+  byId, check, checkedOf, clear, columnTicks, downloadLink, drawReport, drawRunning, element, listOf, onCheck, takeFiles,
+  textOf, whenChanged, withFocus, wordsIn,
 } from './elements.mjs';
-import { chosen, hasTable, isRunning, saved, shownRun, started, stopped } from './registers.mjs';
-import { registerReport, registersStatus } from './reports.mjs';
+import { registersTable } from './list-view.mjs';
+import {
+  archiveSaved, archiveWanted, chosen, hasTable, isRunning, opened, repeated, saved, shownRun, started, stopped,
+} from './registers.mjs';
+import { archiveReport, chosenFiles, registerReport, registersList, registersStatus } from './reports.mjs';
 import { WORDS } from './words.mjs';
+
+// An article in a box, in which the answer draws a register, if there is something else to be drawn; none for null.
+function articleOf(box, id, step, now) {
+  let article = null, before = { text: '', reply: null };
+  return (job) => {
+    if (job === null) {
+      clear(box);
+      article = null;
+      return;
+    }
+    const report = registerReport(job, now()), text = textOf([report.title, report.words]);
+    if (article !== null && text === before.text && job.reply === before.reply) return;
+    article ??= box.appendChild(element('article'));
+    before = { text, reply: job.reply };
+    drawReport(article, id, report, () => step(saved, job.number));
+  };
+}
+
+// What is done with one register of a list. A file in place of another stands in the field too.
+const stepsOf = (step, now) => ({
+  saved: (number) => step(saved, number),
+  opened: (number) => {
+    if (step(opened, number).run.opened !== null) byId('register-opened').scrollIntoView({ block: 'nearest' });
+  },
+  repeated: (number, file) => {
+    const { choice } = step(repeated, number, file, now());
+    byId('register-files').files = listOf(choice.files);
+  },
+});
+
+// A button that makes the archive, or a link that saves it.
+function archiveOf(box, step) {
+  let before = null;
+  return (report) => {
+    const text = report === null ? '' : textOf(report.words);
+    if (before !== null && before.text === text && before.blob === (report && report.blob)) return;
+    before = { text, blob: report && report.blob };
+    withFocus(box, () => {
+      clear(box);
+      if (report) box.append(downloadLink(report, false, () => step(archiveSaved), () => step(archiveWanted)));
+    });
+  };
+}
+
+/** A list of registers in a box, with an archive of their tables and the one that is opened; the answer draws a run. */
+function listOfRun(box, run, step, now) {
+  const drawTable = registersTable(box, run.jobs.length, stepsOf(step, now));
+  const drawArchive = archiveOf(box.appendChild(element('p', '', { className: 'buttons' })), step);
+  const drawOpened = articleOf(box.appendChild(element('div', '', { id: 'register-opened' })), 'register-result', step, now);
+  return (it) => {
+    drawTable(registersList(it, now()), it.opened);
+    drawArchive(archiveReport(it));
+    drawOpened(it.opened === null ? null : it.jobs[it.opened]);
+  };
+}
+
+/** One register alone is an article, and several are a list; the answer draws a run, or nothing for null. */
+function resultsView(box, step, now) {
+  let drawnRun = 0, drawRun = null;
+  return (run) => {
+    const number = run === null ? 0 : run.number;
+    if (number !== drawnRun) {
+      clear(box);
+      drawnRun = number;
+      const drawOne = articleOf(box, 'register-result', step, now);
+      drawRun = run === null || run.jobs.length > 1 ? null : (it) => drawOne(it.jobs[0]);
+      if (run !== null && run.jobs.length > 1) drawRun = listOfRun(box, run, step, now);
+    }
+    if (run !== null) drawRun(run);
+  };
+}
+
+// While several registers run, what came of them is drawn so often, in milliseconds: to draw takes longer than they do.
+const REST = 500;
+
+// Draws a state by `draw`, but one that has nothing more than answers to a run that goes on only after a rest.
+function rested(draw, now) {
+  let at = -Infinity, before = '';
+  return (state) => {
+    const { run, choice, notice } = state, jobs = run === null ? [] : run.jobs;
+    const byHand = JSON.stringify([run && run.number, run && run.opened, choice.files.length, notice,
+      jobs.filter(({ isSaved }) => isSaved).length, jobs.map(({ tries }) => tries)]);
+    if (jobs.length > 1 && isRunning(state) && byHand === before && now() - at < REST) return;
+    before = byHand;
+    at = now();
+    draw(state);
+  };
+}
 
 /** The answer draws the state. `now` gives the time in milliseconds. */
 export function registersView(step, now) {
@@ -30,32 +121,13 @@ export function registersView(step, now) {
   byId('register-stop').addEventListener('click', () => step(stopped));
 
   const drawFiles = whenChanged((files) => {
-    const lines = files.map((file) => element('li', WORDS.chosen(file.name, WORDS.bytes(file.size))));
+    const lines = chosenFiles(files).map((words) => element('li', words));
     byId('register-chosen').replaceChildren(...lines);
   });
   const drawDelimiter = whenChanged((delimiter) => check('register-delimiter', delimiter));
   const drawSealed = whenChanged((sealed) => { byId('register-sealed').checked = sealed; });
   const drawStatus = wordsIn('register-said');
-  // The run whose articles stand there, one for each register, with what was drawn into it.
-  let drawnRun = 0, drawn = [];
-
-  function drawJobs(run) {
-    const number = run === null ? 0 : run.number, box = byId('register-results');
-    if (number !== drawnRun) {
-      clear(box);
-      drawnRun = number;
-      drawn = (run === null ? [] : run.jobs).map(() => ({ article: box.appendChild(element('article')), text: '' }));
-    }
-    drawn.forEach((before, i) => {
-      const job = run.jobs[i];
-      if (before.job === job && job.status !== 'runs') return;
-      const report = registerReport(job, now()), text = textOf(report.words), isSame = before.text === text;
-      const isDrawn = isSame && before.job.reply === job.reply;
-      Object.assign(before, { text, job });
-      if (isDrawn) return;
-      drawReport(before.article, `register-result-${i}`, report, () => step(saved, job.number));
-    });
-  }
+  const drawResults = resultsView(byId('register-results'), step, now);
 
   function drawProgress(run) {
     const bar = byId('register-progress');
@@ -68,7 +140,7 @@ export function registersView(step, now) {
     bar.value = sizeOf(run.jobs.filter(({ status }) => status === 'ended'));
   }
 
-  return (state) => {
+  return rested((state) => {
     const { choice } = state, run = shownRun(state);
     drawFiles(choice.files);
     drawDelimiter(choice.delimiter);
@@ -76,8 +148,8 @@ export function registersView(step, now) {
     drawColumns(choice.columns);
     drawRunning('register', isRunning(state));
     drawProgress(run);
-    drawJobs(run);
+    drawResults(run);
     byId('register-saved').hidden = run === null || !run.jobs.some(hasTable);
     drawStatus(registersStatus(state, now()));
-  };
+  }, now);
 }

@@ -7,12 +7,18 @@ import { DEFAULT_TARGETS } from './calendars.mjs';
 export const MOST_BYTES = 1e9;
 // Registers of so many bytes in all are converted at the same time; a larger one goes alone.
 const BYTES_AT_ONCE = 2 ** 24;
+// Smaller registers share a worker, each so many of them: to start one takes longer than to convert them.
+const SMALL = 2 ** 20, SHARE = 64;
 
 /**
+ * A job is a register, by its number among those that were chosen; `slot` is its place among those that run, and `tries`
+ * says how often it was converted before. Of a run, `opened` is the number of the register whose details are shown, and
+ * `archive` holds the archive of all whole tables, once it was wanted.
  * @typedef {{ files: File[], delimiter: number, sealed: boolean, columns: string[] }} RegistersChoice
- * @typedef {{ number: number, file: File, status: 'waits' | 'runs' | 'ended' | 'stopped', begun: number, reply: any,
- *   isSaved: boolean }} Job
- * @typedef {{ number: number, choice: RegistersChoice, begun: number, jobs: Job[] }} Run
+ * @typedef {{ number: number, file: File, tries: number, slot: number, status: 'waits' | 'runs' | 'ended' | 'stopped',
+ *   begun: number, reply: any, isSaved: boolean }} Job
+ * @typedef {{ number: number, choice: RegistersChoice, begun: number, jobs: Job[], opened: number | null,
+ *   archive: { reply: any } | null }} Run
  * @typedef {{ choice: RegistersChoice, atOnce: number, runs: number, run: Run | null, notice: string,
  *   folders: string[] }} RegistersState
  */
@@ -49,7 +55,8 @@ const endedJob = (job, reply) => ({ ...job, status: 'ended', reply });
 const stoppedJob = (job) => ({ ...job, status: 'stopped' });
 
 /** @returns {Job} */
-const waitingJob = (file, number) => ({ number, file, status: 'waits', begun: 0, reply: null, isSaved: false });
+const waitingJob = (file, number, tries = 0) =>
+  ({ number, file, tries, slot: 0, status: 'waits', begun: 0, reply: null, isSaved: false });
 
 // Starts what can be started now. A file that is too large has its answer at once.
 function scheduled(state, now) {
@@ -60,7 +67,8 @@ function scheduled(state, now) {
     const running = jobs.filter(({ status }) => status === 'runs');
     const bytes = running.reduce((sum, { file }) => sum + file.size, job.file.size);
     if (running.length && (running.length >= state.atOnce || bytes > BYTES_AT_ONCE)) break;
-    jobs[i] = { ...job, status: 'runs', begun: now };
+    const slot = [...Array(state.atOnce).keys()].find((it) => running.every((other) => other.slot !== it));
+    jobs[i] = { ...job, status: 'runs', begun: now, slot };
   }
   return { ...state, run: { ...state.run, jobs } };
 }
@@ -74,7 +82,8 @@ export function started(state, now) {
   if (isRunning(state)) return state;
   const { choice } = state, number = state.runs + 1;
   if (choice.files.length === 0) return { ...state, notice: 'nothingChosen' };
-  const run = { number, choice, begun: now, jobs: choice.files.map(waitingJob) };
+  const jobs = choice.files.map((file, i) => waitingJob(file, i));
+  const run = { number, choice, begun: now, jobs, opened: null, archive: null };
   return scheduled({ ...state, runs: number, run, notice: '' }, now);
 }
 
@@ -89,39 +98,96 @@ export function stopped(state) {
   return { ...state, run: { ...state.run, jobs }, notice: '' };
 }
 
-const keyOf = (run, job) => `register ${run.number} ${job.number}`;
-
-/** What workers are to be asked now: one for each register that runs. */
-export function tasks({ run }) {
-  if (run === null) return [];
-  return run.jobs.filter(({ status }) => status === 'runs').map((job) => {
-    const { delimiter, sealed, columns } = run.choice, words = { file: job.file, delimiter, sealed, columns };
-    const key = keyOf(run, job);
-    return { key, worker: key, name: 'register', words };
-  });
+/**
+ * A register is converted again alone, as it is now, or another file in its place.
+ * @param {RegistersState} state
+ * @param {File | null} file
+ * @returns {RegistersState}
+ */
+export function repeated(state, number, file, now) {
+  const run = shownRun(state), job = run && run.jobs.find((it) => it.number === number);
+  if (!job || ['waits', 'runs'].includes(job.status)) return state;
+  const next = waitingJob(file || job.file, number, job.tries + 1);
+  const jobs = run.jobs.map((it) => (it === job ? next : it)), begun = isRunning(state) ? run.begun : now;
+  const choice = { ...state.choice, files: jobs.map((it) => it.file) };
+  return scheduled({ ...state, choice, run: { ...run, choice, begun, jobs, archive: null }, notice: '' }, now);
 }
 
 /**
- * An answer came. One that no running register waits for is dropped.
+ * The details of a register are shown, or no more.
+ * @param {RegistersState} state
+ * @returns {RegistersState}
+ */
+export function opened(state, number) {
+  return { ...state, run: { ...state.run, opened: state.run.opened === number ? null : number } };
+}
+
+/** What the table of a register is called. */
+export const tableName = ({ file }) => `${file.name}.out.csv`;
+
+/**
+ * An archive of all whole tables is wanted.
+ * @param {RegistersState} state
+ * @returns {RegistersState}
+ */
+export function archiveWanted(state) {
+  const run = shownRun(state);
+  if (run === null || isRunning(state) || !run.jobs.some(isWhole)) return state;
+  return { ...state, run: { ...run, archive: { reply: null } } };
+}
+
+const keyOf = (run, job) => `register ${run.number} ${job.number} ${job.tries}`;
+const archiveKey = (run) => `archive ${run.number} ${run.jobs.map(({ tries }) => tries)}`;
+
+function archiveTasks(run) {
+  if (run.archive === null || run.archive.reply !== null) return [];
+  const whole = run.jobs.filter(isWhole), key = archiveKey(run);
+  const files = whole.map((job) => ({ name: tableName(job), blob: job.reply.answer.table }));
+  return [{ key, worker: key, name: 'archive', words: { files, all: run.jobs.length } }];
+}
+
+/** What workers are to be asked now: one for each register that runs, and one for the archive. */
+export function tasks({ run }) {
+  if (run === null) return [];
+  const { delimiter, sealed, columns } = run.choice;
+  return [...run.jobs.filter(({ status }) => status === 'runs').map((job) => {
+    const { file, number, slot, tries } = job, key = keyOf(run, job), share = Math.floor(number / SHARE);
+    const worker = file.size > SMALL ? key : `registers ${run.number} ${slot} ${share} ${tries}`;
+    return { key, worker, name: 'register', words: { file, delimiter, sealed, columns } };
+  }), ...archiveTasks(run)];
+}
+
+/**
+ * An answer came. One that nothing waits for is dropped.
  * @param {RegistersState} state
  * @returns {RegistersState}
  */
 export function replied(state, key, reply, now) {
-  const job = state.run && state.run.jobs.find((it) => it.status === 'runs' && keyOf(state.run, it) === key);
+  const { run } = state;
+  if (run === null) return state;
+  if (archiveTasks(run).some((it) => it.key === key)) return { ...state, run: { ...run, archive: { reply } } };
+  const job = run.jobs.find((it) => it.status === 'runs' && keyOf(run, it) === key);
   if (!job) return state;
-  const jobs = state.run.jobs.map((it) => (it === job ? endedJob(job, reply) : it));
-  return scheduled({ ...state, run: { ...state.run, jobs }, notice: '' }, now);
+  const jobs = run.jobs.map((it) => (it === job ? endedJob(job, reply) : it));
+  return scheduled({ ...state, run: { ...run, jobs }, notice: '' }, now);
 }
+
+const savedIf = (state, isIt) =>
+  ({ ...state, run: { ...state.run, jobs: state.run.jobs.map((job) => (isIt(job) ? { ...job, isSaved: true } : job)) } });
 
 /**
  * The table of a register was saved.
  * @param {RegistersState} state
  * @returns {RegistersState}
  */
-export function saved(state, number) {
-  const jobs = state.run.jobs.map((job) => (job.number === number ? { ...job, isSaved: true } : job));
-  return { ...state, run: { ...state.run, jobs } };
-}
+export const saved = (state, number) => savedIf(state, (job) => job.number === number);
+
+/**
+ * The archive was saved, and with it all whole tables.
+ * @param {RegistersState} state
+ * @returns {RegistersState}
+ */
+export const archiveSaved = (state) => savedIf(state, isWhole);
 
 /** Whether a register has a table, or a part of one, that can be saved. */
 export const hasTable = ({ reply }) => reply !== null && Boolean(reply.answer && reply.answer.table);

@@ -6,8 +6,9 @@ import * as registers from './registers.mjs';
 import * as sheet from './sheet.mjs';
 import { WORDS } from './words.mjs';
 
-// The cause of a register that cannot be read, and that of one with too many records; how a sheet with too many ends.
-const READ_FAULT = 5, TOO_MANY_CAUSE = 7, TOO_MANY = 5;
+// The causes of a register that cannot be read, of one without its header, and of one with too many records; how a sheet
+// with too many ends.
+const READ_FAULT = 5, NO_HEADER = 6, TOO_MANY_CAUSE = 7, TOO_MANY = 5;
 
 /** How many records were refused, by the reason, each with what to do. */
 export function countRows(counts) {
@@ -60,6 +61,15 @@ function endingReport(reply, most, encoding) {
 
 // ---- Registers ----
 
+// More registers than these are told by their number.
+const NAMED = 10;
+
+/** The registers that are chosen. */
+export function chosenFiles(files) {
+  if (files.length <= NAMED) return files.map(({ name, size }) => WORDS.chosen(name, WORDS.bytes(size)));
+  return [WORDS.chosenFiles(files.length, WORDS.bytes(files.reduce((sum, { size }) => sum + size, 0)))];
+}
+
 function jobWords({ status, begun }, now) {
   if (status === 'stopped') return WORDS.stopped;
   return status === 'waits' ? WORDS.waiting : WORDS.running(Math.round((now - begun) / 1000));
@@ -75,10 +85,14 @@ function wholeRegister(answer, name) {
   };
 }
 
+// The first line of a register without its header says what it is.
+const firstLineWords = ({ answer }) => (answer && answer.ending === NO_HEADER ? [WORDS.beginsWith(answer.firstLine)] : []);
+
 function brokenRegister(reply, name) {
   const broken = endingReport(reply, registers.MOST_BYTES, '');
   const answer = reply.answer;
-  if (!answer || !answer.table) return { ...broken, advice: [...broken.advice, WORDS.hasNothing] };
+  const advice = [...firstLineWords(reply), ...broken.advice];
+  if (!answer || !answer.table) return { ...broken, advice: [...advice, WORDS.hasNothing] };
   return {
     ...broken, tables: [tableReport(WORDS.firstRows(answer.first.rows.length), answer.first), ...refusedTable(answer)],
     links: [{ words: WORDS.savePart(name, WORDS.bytes(answer.table.size)), blob: answer.table, name, isTable: true }],
@@ -90,13 +104,59 @@ function brokenRegister(reply, name) {
  * @param {import('./registers.mjs').Job} job
  */
 export function registerReport(job, now) {
-  const { file, number, status, reply } = job, name = `${file.name}.out.csv`;
+  const { file, number, status, reply } = job, name = registers.tableName(job);
   if (status !== 'ended') {
     const kind = status === 'stopped' ? 'stopped' : '';
     return { title: file.name, number, ...brokenReport(jobWords(job, now), ''), kind };
   }
   const report = registers.isWhole(job) ? wholeRegister(reply.answer, name) : brokenRegister(reply, name);
   return { title: file.name, ...report, number };
+}
+
+// What became of a register, in one sentence; for one without its header, with its first line.
+function stateWords(job, now) {
+  const { status, reply } = job;
+  if (status !== 'ended') return jobWords(job, now);
+  if (registers.isWhole(job)) return WORDS.isWhole;
+  const ending = isUnread(reply) ? READ_FAULT : reply.answer && reply.answer.ending;
+  const short = WORDS.shortCauses[ending];
+  const words = short ? WORDS.brokeOff(ending, short) : endingReport(reply, registers.MOST_BYTES, '').words;
+  return [words, ...firstLineWords(reply).flatMap((line) => [' ', line])];
+}
+
+function listRow(job, now) {
+  const { number, file, status, reply, isSaved } = job, has = registers.hasTable(job), isWhole = registers.isWhole(job);
+  const answer = has ? reply.answer : null, name = registers.tableName(job);
+  const size = has ? WORDS.bytes(answer.table.size) : '';
+  return {
+    number, name: file.name, state: stateWords(job, now), isSaved,
+    kind: status === 'ended' ? (isWhole ? 'whole' : 'broken') : status,
+    counts: has ? [answer.rows, answer.refused].map(WORDS.number) : ['', ''],
+    link: has ? {
+      words: isWhole ? WORDS.saveShort(size) : WORDS.savePartShort(size), blob: answer.table, name, isTable: true,
+      label: isWhole ? WORDS.save(name, size) : WORDS.savePart(name, size),
+    } : null,
+  };
+}
+
+// Those that broke off stand first, and then those that were stopped.
+const KINDS = ['broken', 'stopped'];
+const placeOf = ({ kind }) => (KINDS.includes(kind) ? KINDS.indexOf(kind) : KINDS.length);
+
+/** The registers of a run, each in a row. */
+export const registersList = ({ jobs }, now) =>
+  jobs.map((job) => listRow(job, now)).sort((one, other) => placeOf(one) - placeOf(other));
+
+/** The archive of all whole tables, as it can be made or saved; or null. */
+export function archiveReport({ jobs, archive }) {
+  const whole = jobs.filter(registers.isWhole).length, all = jobs.length;
+  if (whole === 0 || jobs.some(({ status }) => ['waits', 'runs'].includes(status))) return null;
+  if (archive === null) return { place: 'archive', words: WORDS.makeArchive(whole, all), isMade: false };
+  if (archive.reply === null) return { place: 'archive', words: WORDS.makingArchive, isMade: false };
+  const { answer } = archive.reply;
+  if (!answer) return { place: 'archive', words: WORDS.notDone(faultWords(archive.reply, 0, '')), isMade: false };
+  const words = WORDS.saveArchive(whole, all, WORDS.bytes(answer.archive.size));
+  return { place: 'archive', words, blob: answer.archive, name: WORDS.archiveName(whole, all), isTable: true };
 }
 
 function endedWords({ jobs }) {

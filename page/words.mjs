@@ -122,8 +122,27 @@ export const WORDS = {
   convert: 'Convert',
   stop: 'Stop',
   tables: 'Tables',
+  listCaption: (n) => `${WORDS.number(n)} registers`,
+  listHeads: { name: 'Register', rows: 'Rows', refused: 'Refused', state: 'State', table: 'Table' },
+  isWhole: 'whole',
+  beginsWith: (line) => (line === '' ? 'Its first line is empty.' : ['Its first line is “', own(line), '”.']),
+  saveShort: (size) => `Save, ${size}`,
+  savePartShort: (size) => `Save the part, ${size}`,
+  isSaved: 'saved',
+  repeat: 'Convert again',
+  repeatLabel: (name) => ['Convert again: ', own(name)],
+  chooseAgain: 'Choose it again',
+  chooseAgainLabel: (name) => ['Choose it again: ', own(name)],
+  makeArchive: (whole, all) => `Put ${WORDS.ofAllTables(whole, all)} into one archive`,
+  makingArchive: 'The archive is being made',
+  saveArchive: (whole, all, size) => `Save the archive: ${WORDS.ofAllTables(whole, all)}, ${size}`,
+  ofAllTables: (whole, all) => (whole === all ? `${WORDS.number(all)} tables, all whole`
+    : `the ${WORDS.number(whole)} whole ${whole === 1 ? 'one' : 'ones'} of ${WORDS.number(all)}`),
+  archiveName: (whole, all) => (whole < all ? `tables-${whole}-of-${all}.zip` : `tables-all-${all}.zip`),
+  archiveTooLarge: 'the tables are too large for an archive; save each alone',
   nothingChosen: 'Choose a register first.',
   chosen: (name, size) => [own(name), `, ${size}`],
+  chosenFiles: (n, size) => `${WORDS.number(n)} files, ${size} in all`,
   folders: (names) => ['A folder cannot be taken: ', own(names.join(', ')), '. Open it, and choose its files.'],
   stopFirst: 'A conversion goes on: stop it first.',
   bytes: (n) => {
@@ -192,6 +211,7 @@ export const WORDS = {
   // Why a register broke off, by the cause; what its table has; and what to do on this page.
   causes: Object.fromEntries(FACTS.causes.map(
     ({ number, sentence }) => [number, sentence + (OF_CAUSES[number] || '')])),
+  shortCauses: Object.fromEntries(FACTS.causes.map(({ number, sentence }) => [number, sentence])),
   causeAdvice: {
     1: 'Close other pages or programs and try again, or split the register.',
     4: 'The table needs more memory than there is: choose fewer columns, or split the register.',

@@ -1,5 +1,6 @@
 // What a worker does: a task for each message, one after the other.
 
+import { TooLarge, archiveOf } from './archive.mjs';
 import { CALENDARS, TARGETS } from './calendars.mjs';
 import { choicesOf, columnNumbers } from './choices.mjs';
 import { ChangedFile, NoReading, checkUnchanged, readFile } from './files.mjs';
@@ -15,6 +16,8 @@ const MOST_COLUMNS = 200, MOST_NAMES = 200;
 // Columns of the first records that are shown converted; more bytes than a file of choices has; how much of a text is
 // looked at for what is proposed.
 const MOST_CUT = 1000, MOST_CHOICES = 1e6, FRONT = 2 ** 16;
+// The cause of a register without its header; how much is shown of its first line, in letters.
+const NO_HEADER = 6, LINE_SHOWN = 100;
 
 class NotEncoded extends Error {}
 
@@ -63,6 +66,13 @@ async function date({ compiled, calendar, text }) {
 
 // ---- A register ----
 
+// A text's first line, as far as it is shown. What is no letter in it stands as the sign for that.
+function firstLineOf(module, text) {
+  const bytes = module.bytes({ ...text, length: Math.min(text.length, 4 * LINE_SHOWN) });
+  const [line] = new TextDecoder().decode(bytes).split(/[\r\n]/);
+  return line.slice(0, LINE_SHOWN).replace(/[\0-\x08\x0e-\x1f]/g, '\ufffd');
+}
+
 async function register({ compiled, file, delimiter, sealed, columns }) {
   const module = await instantiate(compiled);
   const text = module.malloc(file.size);
@@ -76,10 +86,17 @@ async function register({ compiled, file, delimiter, sealed, columns }) {
   const setup = { columns: numbersOf(columns), delimiter, sealed };
   const answer = module.convert(text, setup, expectedLength(text.length, lines, columns.length));
   await checkUnchanged(file, bytesAt);
+  if (answer.ending === NO_HEADER) return { ...answer, table: null, firstLine: firstLineOf(module, text) };
   if (answer.table.length === 0) return { ...answer, table: null };
   const table = new Table(module, answer.table, delimiter);
   const first = table.firstRows(), refused = answer.ending === 0 && answer.refused === 0 ? null : table.refusedRows();
   return { ...answer, first, refusedRows: refused, table: await blobOf(module, answer.table, MARK) };
+}
+
+/** An archive of the tables of whole registers, of which there are as many as `all` with those that broke off. */
+async function archive({ files, all }) {
+  const whole = files.length, said = whole === all ? `${whole} tables, all whole` : `the ${whole} whole tables of ${all}`;
+  return { archive: await archiveOf(files, said, new Date()) };
 }
 
 // ---- Sheets ----
@@ -325,7 +342,7 @@ async function sheetRegister({ choice, place, names, ...source }) {
   return { ending, register: made };
 }
 
-const TASKS = { date, register, choices, beginning, unknownNames, preview, convertSheet, sheetRegister };
+const TASKS = { date, register, archive, choices, beginning, unknownNames, preview, convertSheet, sheetRegister };
 
 function faultOf(fault) {
   if (fault instanceof OtherKind) return fault.message;
@@ -334,6 +351,7 @@ function faultOf(fault) {
   if (fault instanceof NotEncoded) return 'notEncoded';
   if (fault instanceof OtherColumns) return 'otherColumns';
   if (fault instanceof NoChoices) return 'noChoices';
+  if (fault instanceof TooLarge) return 'archiveTooLarge';
   return fault instanceof NoMemory || fault instanceof RangeError ? 'noMemory' : 'fault';
 }
 

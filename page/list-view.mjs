@@ -1,0 +1,100 @@
+// Draws registers as a list: each with its state, and its table or what can be done.
+
+import { clear, downloadLink, element, setText, textOf, withFocus } from './elements.mjs';
+import { WORDS } from './words.mjs';
+
+const HEADS = ['name', 'rows', 'refused', 'state', 'table'];
+
+function newTable(count) {
+  const table = element('table', '', { className: 'list' });
+  table.append(element('caption', WORDS.listCaption(count)));
+  const head = table.appendChild(element('thead')).appendChild(element('tr'));
+  for (const name of HEADS) {
+    head.append(element('th', WORDS.listHeads[name], { scope: 'col', className: `of-${name}` }));
+  }
+  return table;
+}
+
+// Two ways to convert a register again: as its file is now, or another file.
+function againButtons({ number, name }, { repeated }) {
+  const again = element('button', WORDS.repeat, { type: 'button', className: 'second small', id: `repeat-${number}` });
+  again.setAttribute('aria-label', textOf(WORDS.repeatLabel(name)));
+  again.addEventListener('click', () => repeated(number, null));
+  const label = element('label', '', { className: 'second small' });
+  const file = element('input', '', { type: 'file', className: 'unseen', id: `choose-${number}` });
+  file.setAttribute('aria-label', textOf(WORDS.chooseAgainLabel(name)));
+  file.addEventListener('click', () => { file.value = ''; });
+  file.addEventListener('change', () => file.files.length && repeated(number, file.files[0]));
+  label.append(file, WORDS.chooseAgain);
+  return [again, label];
+}
+
+const canRepeat = ({ kind }) => kind === 'broken' || kind === 'stopped';
+
+function saveLink(link, number, { saved }) {
+  const made = downloadLink(link, true, () => saved(number), () => {});
+  made.classList.add('small');
+  made.setAttribute('aria-label', textOf(link.label));
+  return made;
+}
+
+/** A row of the list, and what draws it. A table that was saved is not drawn anew, or its link would end. */
+function newRow(number, steps) {
+  const line = element('tr'), open = element('button', '', { type: 'button', className: 'plain', id: `open-${number}` });
+  const [rows, refused] = [0, 1].map(() => element('td', '', { className: 'number' }));
+  const state = element('td', '', { className: 'state' }), cell = element('td');
+  const table = cell.appendChild(element('div', '', { className: 'buttons' }));
+  const saved = element('span', WORDS.isSaved, { className: 'is-saved', hidden: true });
+  const name = element('th', '', { scope: 'row' });
+  name.append(open);
+  rows.dataset.name = WORDS.listHeads.rows;
+  refused.dataset.name = WORDS.listHeads.refused;
+  line.append(name, rows, refused, state, cell);
+  open.setAttribute('aria-controls', 'register-opened');
+  open.addEventListener('click', () => steps.opened(number));
+  let drawn = { text: '', kind: '', blob: null };
+  const drawTexts = (report, isOpen) => {
+    setText(open, { own: report.name }).setAttribute('aria-expanded', String(isOpen));
+    report.counts.forEach((count, i) => setText([rows, refused][i], count));
+    setText(state, report.state);
+    line.className = report.kind;
+    saved.hidden = !report.isSaved;
+  };
+  const drawTable = (report) => {
+    const hasKeys = table.contains(document.activeElement);
+    clear(table);
+    if (report.link) table.append(saveLink(report.link, number, steps), saved);
+    if (canRepeat(report)) table.append(...againButtons(report, steps));
+    if (hasKeys) open.focus();
+  };
+  return {
+    line,
+    draw(report, isOpen) {
+      const blob = report.link && report.link.blob, { name: title, kind, counts, state: words, isSaved } = report;
+      const text = textOf([{ own: title }, kind, ...counts, words, `${isSaved} ${isOpen}`]);
+      if (text !== drawn.text) drawTexts(report, isOpen);
+      if (kind !== drawn.kind || blob !== drawn.blob) drawTable(report);
+      drawn = { text, kind, blob };
+    },
+  };
+}
+
+/**
+ * A list of so many registers in a box; the answer draws the reports of their rows, in this order. `steps` are told what
+ * is to be done with the register of a number.
+ */
+export function registersTable(box, count, steps) {
+  const region = box.appendChild(element('div', '', { className: 'rows scroll', tabIndex: 0 }));
+  region.setAttribute('role', 'region');
+  region.setAttribute('aria-label', textOf(WORDS.listCaption(count)));
+  const body = region.appendChild(newTable(count)).appendChild(element('tbody'));
+  const rows = [...Array(count).keys()].map((number) => newRow(number, steps));
+  let order = '';
+  return (reports, opened) => {
+    for (const report of reports) rows[report.number].draw(report, report.number === opened);
+    const now = reports.map(({ number }) => number).join();
+    if (now === order) return;
+    order = now;
+    withFocus(body, () => body.append(...reports.map(({ number }) => rows[number].line)));
+  };
+}

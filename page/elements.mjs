@@ -90,12 +90,12 @@ export function tableBox({ caption, heading, rows }, title = '') {
   return box;
 }
 
-/** How many records were refused, by the reason, with what to do. */
-function countsTable(rows) {
+/** How many records or dates were refused, by the reason, with what to do. */
+function countsTable(rows, { caption, count: counted, reason: why, advice: what }) {
   const table = element('table', '', { className: 'counts' });
-  table.append(element('caption', WORDS.countsCaption));
+  table.append(element('caption', caption));
   const head = table.appendChild(element('thead')).appendChild(element('tr'));
-  for (const name of [WORDS.countsRecords, WORDS.countsReason, WORDS.countsAdvice]) {
+  for (const name of [counted, why, what]) {
     head.append(element('th', name, { scope: 'col' }));
   }
   const body = table.appendChild(element('tbody'));
@@ -151,12 +151,13 @@ export function drawReport(article, id, report, saved, make = (_) => {}) {
   const className = { broken: 'total wrong', done: 'total' }[report.kind] || '';
   const line = element('p', report.words, { className });
   article.append(textElement('h3', report.title, { id }), line, ...report.advice.map((words) => element('p', words)));
-  if (report.counts.length) article.append(countsTable(report.counts));
+  if (report.counts.length) article.append(countsTable(report.counts, WORDS.counts[report.countsOf || 'records']));
   article.append(...report.tables.map((table) => tableBox(table, report.title)));
   if (report.links.length) {
     const links = report.links.map((link, i) => downloadLink(link, i > 0, saved, make));
     article.appendChild(element('p', '', { className: 'buttons' })).append(...links);
   }
+  if (report.caution) article.append(element('p', report.caution, { className: 'caution' }));
   if (report.hint) article.append(element('p', report.hint, { className: 'hint' }));
 }
 

@@ -64,6 +64,7 @@ function newRow(number, steps) {
     const hasKeys = table.contains(document.activeElement);
     clear(table);
     if (report.link) table.append(saveLink(report.link, number, steps), saved);
+    if (report.caution) table.append(element('span', report.caution, { className: 'caution' }));
     if (canRepeat(report)) table.append(...againButtons(report, steps));
     if (hasKeys) open.focus();
   };

@@ -243,12 +243,16 @@ export class Module {
   }
 
   /**
-   * What stands in these columns, from 0, of the first `most` records.
+   * What `use` makes of the fields in these columns, from 0, of the first `most` records: it is given their bytes, and the
+   * length of each. `guess` says how many fields there may be, and bytes of them. How many records there are comes beside
+   * it, and how many fields the widest has.
    * @param {Part} text
+   * @param {{ fields: number, bytes: number }} guess
+   * @param {(bytes: Part, lengths: Part, count: number) => any} use
    */
-  pick(text, delimiter, columns, most) {
+  pickBytes(text, delimiter, columns, most, guess, use) {
     const numbers = this.putNumbers(columns);
-    let bytes = this.malloc(4096), lengths = this.malloc(4096);
+    let bytes = this.malloc(guess.bytes), lengths = this.malloc(4 * guess.fields);
     for (;;) {
       lengths.items = lengths.length / 4;
       const [ending, length, count, records, widest] = this.call('sheet_pick', 5,
@@ -256,14 +260,36 @@ export class Module {
       if (ending === 1) throw new NoMemory();
       if (ending !== 0) throw new Error(`sheet_pick: ${ending}`);
       if (length <= bytes.length && count <= lengths.items) {
-        const fields = this.fieldsOf(bytes, lengths, count);
+        const used = use({ ...bytes, length }, lengths, count);
         this.free(lengths, bytes, numbers);
-        return { records, widest, fields };
+        return { records, widest, used };
       }
       this.free(lengths, bytes);
       bytes = this.malloc(length);
       lengths = this.malloc(4 * count);
     }
+  }
+
+  /**
+   * What stands in these columns, from 0, of the first `most` records.
+   * @param {Part} text
+   */
+  pick(text, delimiter, columns, most) {
+    const { records, widest, used: fields } = this.pickBytes(text, delimiter, columns, most, { fields: 1024, bytes: 4096 },
+      (bytes, lengths, count) => this.fieldsOf(bytes, lengths, count));
+    return { records, widest, fields };
+  }
+
+  /**
+   * What `use` makes of the bytes of all fields in these columns, and of the length of each. It is fast where they are
+   * many.
+   * @param {Part} text
+   * @param {{ fields: number, bytes: number }} guess
+   * @param {(bytes: Uint8Array, lengths: Uint32Array) => any} use
+   */
+  pickAll(text, delimiter, columns, guess, use) {
+    return this.pickBytes(text, delimiter, columns, 2 ** 53, guess, (bytes, lengths, count) =>
+      use(this.bytes(bytes), new Uint32Array(this.exports.memory.buffer, lengths.pointer, count))).used;
   }
 
   /** A date, as it is typed in the calendar of this number, as registers have it; `names` is the text of a list of names. */

@@ -6,15 +6,25 @@ import * as registers from './registers.mjs';
 import * as sheet from './sheet.mjs';
 import { WORDS } from './words.mjs';
 
+// A field is shown so far, in letters.
+const SHORT = 40;
 // The causes of a register that cannot be read, of one without its header, and of one with too many records; how a sheet
 // with too many ends.
 const READ_FAULT = 5, NO_HEADER = 6, TOO_MANY_CAUSE = 7, TOO_MANY = 5;
 
 /** How many records were refused, by the reason, each with what to do. */
-export function countRows(counts) {
+export function countRows(counts, advice = WORDS.advice) {
   return counts.flatMap((count, i) =>
-    (count === 0 ? [] : [[WORDS.number(count), WORDS.reason(i + 1, WORDS.refusals[i]), `${WORDS.advice[i]}.`]]));
+    (count === 0 ? [] : [[WORDS.number(count), WORDS.reason(i + 1, WORDS.refusals[i]), `${advice[i]}.`]]));
 }
+
+// The same of dates; of several columns, each with its name before the reason.
+const dateCountRows = (counts, names) => counts.flatMap((ofColumn, k) => countRows(ofColumn, WORDS.sheetAdvice)
+  .map(([count, reason, advice]) => [count, names.length === 1 ? reason : [names[k], ' ', reason], advice]));
+
+// What a spreadsheet may do with fields of a table.
+const cautionOf = ({ formulas }) => (formulas.count === 0 ? '' : WORDS.formulas(formulas.count, shortened(formulas.example)));
+const shortened = (text) => (text.length > SHORT ? `${text.slice(0, SHORT)}…` : text);
 
 /**
  * Rows to be drawn: the fields of each, and for a refused one the reason, which stands in place of its last `span`.
@@ -82,6 +92,7 @@ function wholeRegister(answer, name) {
     kind: 'done', words: WORDS.whole(rows, refused), advice: [], counts: countRows(counts),
     tables: [tableReport(caption, first), ...refusedTable(answer)],
     links: [{ words: WORDS.save(name, WORDS.bytes(table.size)), blob: table, name, isTable: true }],
+    caution: cautionOf(answer),
   };
 }
 
@@ -96,6 +107,7 @@ function brokenRegister(reply, name) {
   return {
     ...broken, tables: [tableReport(WORDS.firstRows(answer.first.rows.length), answer.first), ...refusedTable(answer)],
     links: [{ words: WORDS.savePart(name, WORDS.bytes(answer.table.size)), blob: answer.table, name, isTable: true }],
+    caution: cautionOf(answer),
   };
 }
 
@@ -132,6 +144,7 @@ function listRow(job, now) {
     number, name: file.name, state: stateWords(job, now), isSaved,
     kind: status === 'ended' ? (isWhole ? 'whole' : 'broken') : status,
     counts: has ? [answer.rows, answer.refused].map(WORDS.number) : ['', ''],
+    caution: has && answer.formulas.count ? WORDS.formulasShort(answer.formulas.count) : '',
     link: has ? {
       words: isWhole ? WORDS.saveShort(size) : WORDS.savePartShort(size), blob: answer.table, name, isTable: true,
       label: isWhole ? WORDS.save(name, size) : WORDS.savePart(name, size),
@@ -303,17 +316,17 @@ export function sheetReport(state) {
   if (run === null || run.status !== 'ended') return null;
   const title = run.source.file.name, { answer } = run.reply;
   if (!answer || answer.ending !== 0) return { title, ...brokenSheet(run.reply, encodingOf(state)) };
-  const { rows, refused, first, table } = answer, names = dateNames(state);
+  const { rows, refused, counts, first, table } = answer, names = dateNames(state);
   const stem = stemOf(title), name = `${stem}${WORDS.sheetSuffix}`;
   const ofEach = names.map((it, k) => [it, refused[k]]);
   const words = names.length === 1 ? WORDS.whole(rows, refused[0]) : WORDS.wholeSheet(rows, ofEach);
   return {
-    title, number: 0, kind: 'done', words, advice: [], counts: [],
+    title, number: 0, kind: 'done', words, advice: [], counts: dateCountRows(counts, names), countsOf: 'dates',
     tables: [joinedTable(WORDS.sheetJoined(first.rows.length), first, names, run.columns.length + 1),
       ...refusedDatesTable(answer, run.picks, names)],
     links: [{ words: WORDS.save(name, WORDS.bytes(table.size)), blob: table, name, isTable: true },
       ...registerLinks(run, names, stem)],
-    hint: WORDS.sheetSaved,
+    caution: cautionOf(answer), hint: WORDS.sheetSaved,
   };
 }
 

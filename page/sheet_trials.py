@@ -222,6 +222,9 @@ class SheetTrials:
         said = self.convert_sheet()
         self.check("refused of each", re.compile("2 rows. Born: 1 refused, Died: none refused."), said)
         self.check("the reason by its column", re.compile("Born 6: the calendar has no such date"), said)
+        counts = self.text("#sheet-results .counts")
+        self.check("dates by the reason", re.compile("Refused dates, by the reason[\\s\\S]*1\tBorn 6: the calendar has no such date\tLook"),
+            counts)
         saved = self.save_with_register(1)
         wanted = (
             "\ufeffBorn,Style,Died,Kalender,Born weekday,Born gregorian,Born refusal,Died weekday,Died gregorian,Died refusal\n"

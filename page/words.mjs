@@ -31,12 +31,22 @@ export const WORDS = {
   name: 'register',
   about: 'Converts historical dates from calendar to calendar: one, or a whole register. Nothing that you type or ' +
     'choose leaves this machine.',
-  proved: 'What is proved: the table of a register is made by a program that was proved before it was compiled. ' +
-    'Trusted, and not proved: the compiler for another target, linker and lowering, the heap, the browser’s ' +
-    'engine, and the script of this page. What a sheet’s columns are is its user’s choice.',
   noScript: 'This page needs JavaScript and WebAssembly, which are switched off here.',
   noModule: (why) => ['The converter could not be started in this browser: ', own(why)],
   parts: 'Parts of this page',
+
+  // ---- What is proved ----
+  proved: 'What is proved',
+  provedOfRegisters: 'The program in this page was proved before the page was made. The table of a register has a row for ' +
+    'each record, in their order, with the day that its calendar gives, or the reason why there is none; and it has these ' +
+    'bytes and no others.',
+  provedOfSheets: 'The table of a sheet is proved too, from the choices and the list of names to its bytes: each record keeps ' +
+    'its fields, its dates are read as the rules say, and behind them stand their days, or the reason why there is none.',
+  trusted: 'Trusted, and not proved: what makes a program for browsers of the proved one (the compiler for another target, the ' +
+    'linker, the lowering), the memory that it gets, the browser, and the script of this page, which reads files, shows and ' +
+    'saves.',
+  notProved: 'Nobody can prove that the choices fit a sheet, that a name means what the list of names says, or that a date was ' +
+    'copied rightly. So look at what the page shows before you convert.',
 
   // ---- One date ----
   oneDate: 'One date',
@@ -164,10 +174,12 @@ export const WORDS = {
   rows: (n) => (n === 1 ? '1 row' : `${WORDS.number(n)} rows`),
   refused: (n) => (n === 0 ? 'none refused' : `${WORDS.number(n)} refused`),
   whole: (rows, refused) => `${WORDS.rows(rows)}, ${WORDS.refused(refused)}.`,
-  countsCaption: 'Refused records, by the reason',
-  countsRecords: 'Records',
-  countsReason: 'The record is refused because',
-  countsAdvice: 'What to do',
+  counts: {
+    records: {
+      caption: 'Refused records, by the reason', count: 'Records', reason: 'The record is refused because', advice: 'What to do',
+    },
+    dates: { caption: 'Refused dates, by the reason', count: 'Dates', reason: 'The date is refused because', advice: 'What to do' },
+  },
   firstRows: (n) => (n === 1 ? 'The first row' : `The first ${n} rows`),
   allRows: 'All rows',
   refusedRows: (n, all) => {
@@ -180,6 +192,11 @@ export const WORDS = {
   tablesSaved: 'Tables are saved in UTF-8 with a byte order mark, as spreadsheets want it. Behind the mark they are those ' +
     'of the program `register`.',
   savePart: (name, size) => ['Save the part that there is, ', own(name), `, ${size}`],
+  formulas: (n, example) => [n === 1 ? 'A field is like a formula: ' : `${WORDS.number(n)} fields are like formulas, first `,
+    '“', own(example), '”. A spreadsheet that opens the table may compute them, and show something else: let it take the ' +
+    'columns in as text. A field is like a formula that begins with `=`, `+`, `-` or `@`, has a letter or a digit, and is ' +
+    'no number and no date that registers have.'],
+  formulasShort: (n) => (n === 1 ? 'A field is like a formula' : `${WORDS.number(n)} fields are like formulas`),
   brokeOff: (cause, words) => `Broke off, cause ${cause}: ${words}.`,
   hasNothing: 'There is no table.',
   notDone: (words) => ['Not converted: ', words, '.'],
@@ -204,6 +221,17 @@ export const WORDS = {
     'Save the register as CSV UTF-8; or take it in as a sheet, in its encoding',
     'Write one of the calendars of “One date”; a sheet can give each name a calendar',
     'Write year, month and day, as `1700-02-29`; a sheet can have the day first',
+    'Look at the original: a slip, or a date of another calendar',
+    'Look at the original: a slip in the year',
+  ],
+
+  // What to do with a refused date of a sheet.
+  sheetAdvice: [
+    'Look at the record: it has other fields than the others',
+    'Choose the number of the record as its id; shorten a date or the name of a calendar in the sheet',
+    'Choose another encoding',
+    'Choose the calendar of the name above, or mend the name in the sheet',
+    'Give its words a meaning above, or choose how dates in numbers are written; or mend it in the sheet',
     'Look at the original: a slip, or a date of another calendar',
     'Look at the original: a slip in the year',
   ],

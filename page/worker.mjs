@@ -4,9 +4,11 @@ import { TooLarge, archiveOf } from './archive.mjs';
 import { CALENDARS, TARGETS } from './calendars.mjs';
 import { choicesOf, columnNumbers } from './choices.mjs';
 import { ChangedFile, NoReading, checkUnchanged, readFile } from './files.mjs';
+import { formulasAmong, mayHaveFormula } from './formulas.mjs';
 import { NoMemory, expectedLength, instantiate } from './module.mjs';
 import { isDelimiterOf, kindOf, likelyAbove, likelyDelimiter, likelyEncodings, markedEncoding } from './proposals.mjs';
 import { EVERY, LOOKED_AT, REFUSED_SHOWN, SHOWN, Table, range, rowsOf } from './tables.mjs';
+import { FACTS } from './unbuilt-facts.mjs';
 import { NAMES } from './unbuilt-names.mjs';
 
 const COMMA = 44;
@@ -18,6 +20,8 @@ const MOST_COLUMNS = 200, MOST_NAMES = 200;
 const MOST_CUT = 1000, MOST_CHOICES = 1e6, FRONT = 2 ** 16;
 // The cause of a register without its header; how much is shown of its first line, in letters.
 const NO_HEADER = 6, LINE_SHOWN = 100;
+// The byte of the digit 0; fields that are looked through at once.
+const DIGIT_0 = 48, FIELDS_AT_ONCE = 2 ** 22;
 
 class NotEncoded extends Error {}
 
@@ -66,6 +70,21 @@ async function date({ compiled, calendar, text }) {
 
 // ---- A register ----
 
+// What is like a formula in the first `width` columns of a table that was made of a text of so many records: some columns
+// at a time, so that it takes no more memory than they do.
+function formulasOf(module, text, table, delimiter, width, records) {
+  const all = { count: 0, example: '' }, most = Math.max(1, Math.floor(FIELDS_AT_ONCE / (records + 1)));
+  if (!mayHaveFormula(module.bytes(text))) return all;
+  for (let from = 0; from < width; from += most) {
+    const columns = range(Math.min(most, width - from)).map((i) => from + i), fields = (records + 1) * columns.length;
+    const guess = { fields, bytes: Math.min(text.length, 32 * fields) + 64 };
+    const { count, example } = module.pickAll(table, delimiter, columns, guess, formulasAmong);
+    if (all.count === 0) all.example = example;
+    all.count += count;
+  }
+  return all;
+}
+
 // A text's first line, as far as it is shown. What is no letter in it stands as the sign for that.
 function firstLineOf(module, text) {
   const bytes = module.bytes({ ...text, length: Math.min(text.length, 4 * LINE_SHOWN) });
@@ -90,7 +109,8 @@ async function register({ compiled, file, delimiter, sealed, columns }) {
   if (answer.table.length === 0) return { ...answer, table: null };
   const table = new Table(module, answer.table, delimiter);
   const first = table.firstRows(), refused = answer.ending === 0 && answer.refused === 0 ? null : table.refusedRows();
-  return { ...answer, first, refusedRows: refused, table: await blobOf(module, answer.table, MARK) };
+  const formulas = formulasOf(module, text, answer.table, delimiter, first.from, answer.rows);
+  return { ...answer, first, refusedRows: refused, formulas, table: await blobOf(module, answer.table, MARK) };
 }
 
 /** An archive of the tables of whole registers, of which there are as many as `all` with those that broke off. */
@@ -303,6 +323,21 @@ function refusedDates(module, table, delimiter, { above, dates, places, own }, w
   }
 }
 
+// How many dates were refused of each column of dates, by the reason.
+function refusalCounts(module, table, delimiter, { above, dates, own, rows }, width) {
+  const counts = range(dates).map(() => FACTS.refusals.map(() => 0));
+  const columns = range(dates).map((k) => own + (k + 1) * width - 1), names = (above + 1) * dates;
+  const fields = names + rows * dates;
+  module.pickAll(table, delimiter, columns, { fields, bytes: 4096 + 2 * fields }, (bytes, lengths) => {
+    let at = 0;
+    lengths.forEach((length, i) => {
+      if (length && i >= names) counts[i % dates][bytes[at] - DIGIT_0 - 1] += 1;
+      at += length;
+    });
+  });
+  return counts;
+}
+
 // Whether the sheet has other names of columns than these.
 function hasOtherColumns({ module, text, delimiter }, above, heading) {
   const width = heading.length < MOST_COLUMNS ? heading.length + 1 : MOST_COLUMNS;
@@ -322,14 +357,21 @@ async function convertSheet({ choice, places, columns, names, heading, records, 
   const { ending, rows, refused, table } =
     module.convertSheet(text, choice, columnNumbers(columns), namesWith(names), guess);
   await checkUnchanged(read.file, read.bytesAt);
-  const whole = { ending, rows, refused: refused.slice(0, dates), first: null, refusedDates: [], table: null };
+  const whole = { ending, rows, refused: refused.slice(0, dates), first: null, refusedDates: [], counts: [], table: null };
   if (ending !== 0) return whole;
   const first = firstJoined(module, table, delimiter, above, behind), { own } = first;
-  const found = refused.some(Boolean) ?
-    refusedDates(module, table, delimiter, { above, dates, places, own }, columns.length + 1) : [];
+  const found = foundOf(read, table, { above, dates, places, own, rows }, refused, columns.length + 1);
   const blob = await blobOf(module, table, MARK);
   module.free(table);
-  return { ...whole, first, refusedDates: found, table: blob, sheetBegins: begins(read, above, rows + 1, own) };
+  return { ...whole, ...found, first, table: blob, sheetBegins: begins(read, above, rows + 1, own) };
+}
+
+// What is found in a sheet that came back: the dates that were refused, and what is like a formula.
+function foundOf({ module, text, delimiter }, table, made, refused, width) {
+  const formulas = formulasOf(module, text, table, delimiter, made.own, made.above + made.rows);
+  if (!refused.some(Boolean)) return { formulas };
+  const counts = refusalCounts(module, table, delimiter, made, width);
+  return { formulas, counts, refusedDates: refusedDates(module, table, delimiter, made, width) };
 }
 
 /** The register of one column of dates of the sheet that was converted last. */

@@ -1,0 +1,48 @@
+// What spreadsheets take for a formula when they open a table.
+
+const BEGINS = /^[=+\-@]/, HAS_MORE = /[\p{L}\d]/u;
+const NUMBER = /^[+-][\d.,]+$/, DATE = /^-\d+-W?\d+-[KNI]?\d+B?$/;
+
+/**
+ * Whether a field is like a formula: it begins with `=`, `+`, `-` or `@`, has a letter or a digit, and is no number and
+ * no date that registers have.
+ */
+export const isFormula = (field) =>
+  BEGINS.test(field) && HAS_MORE.test(field) && !NUMBER.test(field) && !DATE.test(field);
+
+const markedBytes = (letters) => {
+  const marks = new Uint8Array(256);
+  for (const letter of letters) marks[letter.charCodeAt(0)] = 1;
+  return marks;
+};
+const IS_SIGN = markedBytes('=+-@'), IS_BEFORE = markedBytes(',;\t\n\r" \xbf');
+
+/**
+ * Whether a field of a text may begin like a formula: most texts have none, and are not read for it. Before a field stand
+ * a delimiter, the end of a line, a quote or blanks, or the mark of UTF-8.
+ */
+export function mayHaveFormula(bytes) {
+  for (let i = 0; i < bytes.length; i += 1) if (IS_SIGN[bytes[i]] && (i === 0 || IS_BEFORE[bytes[i - 1]])) return true;
+  return false;
+}
+
+// The text of bytes. Short ones of ASCII alone are many, and a decoder takes long for each.
+function textOfBytes(bytes, decoder) {
+  const isShort = bytes.length < 64 && bytes.every((byte) => byte < 128);
+  return isShort ? String.fromCharCode(...bytes) : decoder.decode(bytes);
+}
+
+/** How many fields are like formulas, of which `bytes` has all and `lengths` the length of each, and the first of them. */
+export function formulasAmong(bytes, lengths) {
+  const decoder = new TextDecoder();
+  let at = 0, count = 0, example = '';
+  for (const length of lengths) {
+    if (length && IS_SIGN[bytes[at]]) {
+      const field = textOfBytes(bytes.subarray(at, at + length), decoder), isOne = isFormula(field);
+      if (isOne && count === 0) example = field;
+      count += isOne ? 1 : 0;
+    }
+    at += length;
+  }
+  return { count, example };
+}

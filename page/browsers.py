@@ -57,6 +57,7 @@ class Chromium:
             "--disable-dev-shm-usage",
             "--window-size=1100,1400",
             "--hide-scrollbars",
+            "--accept-lang=en-US",
             f"--user-data-dir={self.work}",
         ]
         prefs = {
@@ -141,6 +142,7 @@ class Firefox:
             "browser.shell.checkDefaultBrowser": False,
             "datareporting.policy.dataSubmissionEnabled": False,
             "app.update.auto": False,
+            "intl.accept_languages": "en-US, en",
         }
         with open(f"{self.work}/user.js", "w", encoding="utf-8") as it:
             it.writelines(f"user_pref({json.dumps(name)}, {json.dumps(value)});\n" for name, value in settings.items())

@@ -3,7 +3,7 @@
 import { CALENDARS } from './calendars.mjs';
 import { chosen, shown } from './date.mjs';
 import { byId, element, option, setText, textOf, whenChanged } from './elements.mjs';
-import { WORDS } from './words.mjs';
+import { WORDS } from './language.mjs';
 
 // What is read aloud, and what is wrong, waits until the typing rests.
 const REST = 700;
@@ -12,7 +12,6 @@ const REST = 700;
 export function dateView(step) {
   byId('date-calendar').append(...CALENDARS.map((name) => option(WORDS.calendars[name], name)));
   byId('date-form').addEventListener('submit', (event) => event.preventDefault());
-  byId('date-text').value = '';
   byId('date-text').addEventListener('input', ({ target }) => step(chosen, { text: target.value }));
   byId('date-calendar').addEventListener('change', ({ target }) => step(chosen, { calendar: target.value }));
 
@@ -34,6 +33,7 @@ export function dateView(step) {
 
   return whenChanged((state) => {
     drawCalendar(state.choice.calendar);
+    if (byId('date-text').value !== state.choice.text) byId('date-text').value = state.choice.text;
     const { line, kind, cells } = shown(state);
     clearTimeout(typing);
     drawLine(kind === 'wrong' ? '' : line, kind === 'wrong' ? 'empty' : kind);

@@ -1,7 +1,7 @@
 // One date: what is typed, what was asked, and what came of it. Each step takes the state and gives the next.
 
 import { NO_TARGETS } from './calendars.mjs';
-import { WORDS } from './words.mjs';
+import { WORDS } from './language.mjs';
 
 // The refusal of a field that is too long; here that can only be the date.
 const TOO_LONG = 2;

@@ -1,6 +1,6 @@
 // What the parts of the view share: elements with words in them, tables, links that save, files that are dropped.
 
-import { WORDS } from './words.mjs';
+import { WORDS } from './language.mjs';
 
 /**
  * Words: a text, a text of the user's own, or a list of such.
@@ -30,6 +30,16 @@ export function setText(element, words) {
     });
   }));
   return element;
+}
+
+/** Puts the words of now into all elements that name them. */
+export function putWords() {
+  for (const it of document.querySelectorAll('[data-words]')) {
+    setText(it, WORDS[/** @type {HTMLElement} */ (it).dataset.words]);
+  }
+  for (const it of document.querySelectorAll('[data-label]')) {
+    it.setAttribute('aria-label', WORDS[/** @type {HTMLElement} */ (it).dataset.label]);
+  }
 }
 
 /**
@@ -213,6 +223,17 @@ export function listOf(files) {
   return data.files;
 }
 
+// The names of folders among what is dropped, and the files.
+function droppedOf({ items }) {
+  const dropped = [...items].filter(({ kind }) => kind === 'file');
+  const entries = dropped.map((item) => (item.webkitGetAsEntry ? item.webkitGetAsEntry() : null));
+  const isFolder = (entry) => entry !== null && entry.isDirectory;
+  return {
+    folders: entries.filter(isFolder).map(({ name }) => name),
+    files: dropped.filter((_, i) => !isFolder(entries[i])).map((item) => item.getAsFile()),
+  };
+}
+
 /**
  * Files are chosen in a field, or dropped where `isHere` says so. The same file can be chosen again. Folders among what
  * is dropped are left out, and told by their names.
@@ -222,21 +243,20 @@ export function takeFiles(input, isHere, choose) {
   input.value = '';
   input.addEventListener('click', () => { input.value = ''; });
   input.addEventListener('change', () => choose([...input.files], []));
-  document.addEventListener('dragover', (event) => {
+  // A field that was drawn anew takes nothing any more.
+  const listen = (name, take) => document.addEventListener(name, (event) => { if (input.isConnected) take(event); });
+  listen('dragover', (event) => {
     event.preventDefault();
     box.classList.toggle('over', isHere(event.target));
   });
-  document.addEventListener('dragleave', () => box.classList.remove('over'));
-  document.addEventListener('drop', (event) => {
+  listen('dragleave', () => box.classList.remove('over'));
+  listen('drop', (event) => {
     event.preventDefault();
     box.classList.remove('over');
     if (!isHere(event.target)) return;
-    const items = [...event.dataTransfer.items].filter(({ kind }) => kind === 'file');
-    const entries = items.map((item) => (item.webkitGetAsEntry ? item.webkitGetAsEntry() : null));
-    const isFolder = (entry) => entry !== null && entry.isDirectory;
-    const files = items.filter((_, i) => !isFolder(entries[i])).map((item) => item.getAsFile());
+    const { folders, files } = droppedOf(event.dataTransfer);
     if (!input.disabled) input.files = listOf(files);
-    if (items.length) choose(files, entries.filter(isFolder).map(({ name }) => name));
+    if (folders.length || files.length) choose(files, folders);
   });
 }
 

@@ -1,7 +1,7 @@
 // Draws registers as a list: each with its state, and its table or what can be done.
 
 import { clear, downloadLink, element, setText, textOf, withFocus } from './elements.mjs';
-import { WORDS } from './words.mjs';
+import { WORDS } from './language.mjs';
 
 const HEADS = ['name', 'rows', 'refused', 'state', 'table'];
 

@@ -2,11 +2,11 @@
 
 import { newWorker, packedModule } from './unbuilt.mjs';
 import { dateView } from './date-view.mjs';
-import { byId, setText } from './elements.mjs';
+import { byId, clear, element, putWords, setText } from './elements.mjs';
+import { NAMES_OF_LANGUAGES, WORDS, likelyLanguage, speak } from './language.mjs';
 import { registersView } from './registers-view.mjs';
 import { sheetView } from './sheet-view.mjs';
 import { Page } from './state.mjs';
-import { WORDS } from './words.mjs';
 
 async function compile() {
   const packed = Uint8Array.from(atob(await packedModule()), (byte) => byte.charCodeAt(0));
@@ -17,18 +17,45 @@ async function compile() {
 
 const now = () => performance.now();
 const compiled = compile();
-compiled.catch((fault) => {
-  setText(byId('no-module'), WORDS.noModule(fault.message)).hidden = false;
-});
 
 const views = {};
 const draw = (state) => Object.entries(views).forEach(([part, drawPart]) => drawPart(state[part]));
 const page = new Page({ newWorker, compiled, processors: navigator.hardwareConcurrency || 2, now, draw });
 const stepOf = (part) => (step, ...words) => page.step(part, step, ...words);
-views.date = dateView(stepOf('date'));
-views.registers = registersView(stepOf('registers'), now);
-views.sheet = sheetView(stepOf('sheet'));
-page.settle();
+const main = document.querySelector('main'), undrawn = /** @type {HTMLElement} */ (main.cloneNode(true));
+
+let whyNoModule = '';
+function drawNoModule() {
+  if (whyNoModule) setText(byId('no-module'), WORDS.noModule(whyNoModule)).hidden = false;
+}
+compiled.catch((fault) => {
+  whyNoModule = fault.message;
+  drawNoModule();
+});
+
+// Draws the page anew in a language. What is known of it stays, and so does what is unfolded.
+function open(language) {
+  const isOpen = [...main.querySelectorAll('details')].map((it) => it.open);
+  speak(language);
+  document.documentElement.lang = language;
+  clear(main);
+  main.append(...undrawn.cloneNode(true).childNodes);
+  main.querySelectorAll('details').forEach((it, i) => { it.open = isOpen[i]; });
+  putWords();
+  drawNoModule();
+  for (const button of byId('languages').children) button.setAttribute('aria-pressed', String(button.lang === language));
+  views.date = dateView(stepOf('date'));
+  views.registers = registersView(stepOf('registers'), now);
+  views.sheet = sheetView(stepOf('sheet'));
+  page.settle();
+}
+
+byId('languages').append(...NAMES_OF_LANGUAGES.map(({ language, name }) => {
+  const button = element('button', name, { type: 'button', className: 'plain', lang: language });
+  button.addEventListener('click', () => open(language));
+  return button;
+}));
+open(likelyLanguage(navigator.languages));
 
 // The seconds of what runs go on.
 setInterval(() => draw(page.state), 1000);

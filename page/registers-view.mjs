@@ -10,7 +10,7 @@ import {
   archiveSaved, archiveWanted, chosen, hasTable, isRunning, opened, repeated, saved, shownRun, started, stopped,
 } from './registers.mjs';
 import { archiveReport, chosenFiles, registerReport, registersList, registersStatus } from './reports.mjs';
-import { WORDS } from './words.mjs';
+import { WORDS } from './language.mjs';
 
 // An article in a box, in which the answer draws a register, if there is something else to be drawn; none for null.
 function articleOf(box, id, step, now) {
@@ -123,6 +123,9 @@ export function registersView(step, now) {
   const drawFiles = whenChanged((files) => {
     const lines = chosenFiles(files).map((words) => element('li', words));
     byId('register-chosen').replaceChildren(...lines);
+    // A field that was drawn anew has none.
+    const field = byId('register-files');
+    if (files.length && !field.files.length) field.files = listOf(files);
   });
   const drawDelimiter = whenChanged((delimiter) => check('register-delimiter', delimiter));
   const drawSealed = whenChanged((sealed) => { byId('register-sealed').checked = sealed; });

@@ -2,6 +2,7 @@
 // state and gives the next.
 
 import { DEFAULT_TARGETS } from './calendars.mjs';
+import { WORDS } from './language.mjs';
 
 // A file that is larger is not read.
 export const MOST_BYTES = 1e9;
@@ -143,7 +144,7 @@ function archiveTasks(run) {
   if (run.archive === null || run.archive.reply !== null) return [];
   const whole = run.jobs.filter(isWhole), key = archiveKey(run);
   const files = whole.map((job) => ({ name: tableName(job), blob: job.reply.answer.table }));
-  return [{ key, worker: key, name: 'archive', words: { files, all: run.jobs.length } }];
+  return [{ key, worker: key, name: 'archive', words: { files, comment: WORDS.archiveSays(whole.length, run.jobs.length) } }];
 }
 
 /** What workers are to be asked now: one for each register that runs, and one for the archive. */

@@ -4,7 +4,7 @@ import { choicesText, isColumn } from './choices.mjs';
 import { textOf } from './elements.mjs';
 import * as registers from './registers.mjs';
 import * as sheet from './sheet.mjs';
-import { WORDS } from './words.mjs';
+import { WORDS } from './language.mjs';
 
 // A field is shown so far, in letters.
 const SHORT = 40;

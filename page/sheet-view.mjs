@@ -13,7 +13,7 @@ import {
   beginning, columnsChosen, dateAdded, datePicked, dateRemoved, filesChosen, isRunning, missing, namePicked, pasted,
   picked, registerWanted, saved, shownPreview, shownRun, shownUnknown, sourceChosen, started, stopped,
 } from './sheet.mjs';
-import { WORDS } from './words.mjs';
+import { WORDS } from './language.mjs';
 
 // What is added to short years, and what becomes of those of Hebrew dates.
 const CENTURIES = [...Array(20).keys()].map((i) => String(100 * (20 - i)));

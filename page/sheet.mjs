@@ -3,7 +3,7 @@
 
 import { MOST_DATES, fitted, isColumn, namesText, noPicks, numbersOf } from './choices.mjs';
 import { likelyPicks } from './heads.mjs';
-import { WORDS } from './words.mjs';
+import { WORDS } from './language.mjs';
 
 // A file that is larger is not read.
 export const MOST_BYTES = 2 ** 28;

@@ -1,6 +1,7 @@
-// All words of the page, in one language: for another, this file is the one to write anew. Words are a text, in which
-// words of a register, as they are typed, stand between `; or a list of such texts and of texts of a user's own, as
-// names of files are, in which a ` is a letter. The sentences of refusals and causes are those of the product's own list.
+// All words of the page in English. A file for another language, as words-de.mjs, has the same entries, of the same kinds,
+// and language.mjs names it. Words are a text, in which words of a register, as they are typed, stand between `; or a list
+// of such texts and of texts of a user's own, as names of files are, in which a ` is a letter. The sentences of refusals
+// and causes are here those of the product's own list; another language has its own, by their numbers.
 
 import { FACTS } from './unbuilt-facts.mjs';
 
@@ -26,7 +27,8 @@ const FRENCH_MONTHS = ['Vendémiaire', 'Brumaire', 'Frimaire', 'Nivôse', 'Pluvi
   'Prairial', 'Messidor', 'Thermidor', 'Fructidor', 'Complémentaire'];
 
 export const WORDS = {
-  lang: 'en',
+  language: 'English',
+  languages: 'Language',
   title: 'register: historical dates from calendar to calendar',
   name: 'register',
   about: 'Converts historical dates from calendar to calendar: one, or a whole register. Nothing that you type or ' +
@@ -53,8 +55,11 @@ export const WORDS = {
   calendar: 'Calendar',
   date: 'Date',
   waits: 'Type a date, and its day comes here in all calendars.',
-  weekday: 'Weekday',
-  isDay: (weekday, number, read = '') => `${weekday}, day number ${number}${WORDS.readAs(read)}`,
+  weekdays: {
+    Sunday: 'Sunday', Monday: 'Monday', Tuesday: 'Tuesday', Wednesday: 'Wednesday', Thursday: 'Thursday', Friday: 'Friday',
+    Saturday: 'Saturday',
+  },
+  isDay: (weekday, number, read = '') => `${WORDS.weekdays[weekday]}, day number ${number}${WORDS.readAs(read)}`,
   isNoDay: (reason, read = '') => `No day: ${reason}${WORDS.readAs(read)}.`,
   readAs: (read) => (read === '' ? '' : `; read as \`${read}\``),
   dateInWords: 'Dates in words are read too, and numbers with the day first: `30. November 1699`, `30.11.1699`, ' +
@@ -149,6 +154,8 @@ export const WORDS = {
   ofAllTables: (whole, all) => (whole === all ? `${WORDS.number(all)} tables, all whole`
     : `the ${WORDS.number(whole)} whole ${whole === 1 ? 'one' : 'ones'} of ${WORDS.number(all)}`),
   archiveName: (whole, all) => (whole < all ? `tables-${whole}-of-${all}.zip` : `tables-all-${all}.zip`),
+  // In ASCII.
+  archiveSays: (whole, all) => (whole === all ? `${all} tables, all whole` : `the ${whole} whole tables of ${all}`),
   archiveTooLarge: 'the tables are too large for an archive; save each alone',
   nothingChosen: 'Choose a register first.',
   chosen: (name, size) => [own(name), `, ${size}`],

@@ -113,10 +113,9 @@ async function register({ compiled, file, delimiter, sealed, columns }) {
   return { ...answer, first, refusedRows: refused, formulas, table: await blobOf(module, answer.table, MARK) };
 }
 
-/** An archive of the tables of whole registers, of which there are as many as `all` with those that broke off. */
-async function archive({ files, all }) {
-  const whole = files.length, said = whole === all ? `${whole} tables, all whole` : `the ${whole} whole tables of ${all}`;
-  return { archive: await archiveOf(files, said, new Date()) };
+/** An archive of files, with a comment. */
+async function archive({ files, comment }) {
+  return { archive: await archiveOf(files, comment, new Date()) };
 }
 
 // ---- Sheets ----

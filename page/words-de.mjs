@@ -1,0 +1,443 @@
+// All words of the page in German, with the entries of words.mjs, which says how they are built. What a table has stays as
+// it is: the names of columns and weekdays in it.
+
+import { FACTS } from './unbuilt-facts.mjs';
+
+// A text of a user's own.
+const own = (text) => ({ own: text });
+
+const { id, calendar, date, note } = FACTS.limits;
+const JULIAN_MONTHS = 'Januar Februar März April Mai Juni Juli August September Oktober November Dezember'.split(' ');
+const FRENCH_MONTHS = ['Vendémiaire', 'Brumaire', 'Frimaire', 'Nivôse', 'Pluviôse', 'Ventôse', 'Germinal', 'Floréal',
+  'Prairial', 'Messidor', 'Thermidor', 'Fructidor', 'Ergänzungstag'];
+
+const SHORT_CAUSES = {
+  1: 'der Speicher reicht nicht',
+  2: 'ein Arbeitsgang (Thread) konnte nicht gestartet werden',
+  3: 'nicht jede Zeile konnte bestätigt werden',
+  4: 'die Tabelle konnte nicht geschrieben werden',
+  5: 'das Register konnte nicht gelesen werden',
+  6: 'die Kopfzeile fehlt oder ist falsch',
+  7: 'es sind mehr als 1.000.000 Einträge',
+  8: 'das Siegel fehlt oder ist falsch',
+};
+const MORE_OF_CAUSES = {
+  4: ', etwa weil ein Datenträger voll ist',
+  6: ': nicht `id,calendar,date` (in einem versiegelten Register `id,calendar,date,note`), sondern andere Namen oder eine ' +
+    'andere Folge, mehr Spalten, ein anderes Trennzeichen, UTF-16 oder eine Titelzeile',
+  8: ': keine Zeile `END,N` mit dem eigenen Trennzeichen, oder nur eine wie `END,N,,` aus einer Tabellenkalkulation; oder die ' +
+    'erste hat eine andere Zahl, als es Einträge sind, oder ist nicht die letzte Zeile',
+};
+
+export const WORDS = {
+  language: 'Deutsch',
+  languages: 'Sprache',
+  title: 'register: historische Daten von Kalender zu Kalender',
+  name: 'register',
+  about: 'Rechnet historische Daten von Kalender zu Kalender um: eines oder ein ganzes Register. Nichts, was Sie eingeben ' +
+    'oder wählen, verlässt diesen Rechner.',
+  noScript: 'Diese Seite braucht JavaScript und WebAssembly, die hier abgeschaltet sind.',
+  noModule: (why) => ['Die Umrechnung ließ sich in diesem Browser nicht starten: ', own(why)],
+  parts: 'Teile dieser Seite',
+
+  // ---- What is proved ----
+  proved: 'Was bewiesen ist',
+  provedOfRegisters: 'Das Programm in dieser Seite wurde bewiesen, bevor die Seite gemacht wurde. Die Tabelle eines Registers ' +
+    'hat für jeden Eintrag eine Zeile, in ihrer Folge, mit dem Tag, den sein Kalender ergibt, oder mit dem Grund, warum es ' +
+    'keinen gibt; und sie hat genau diese Bytes.',
+  provedOfSheets: 'Auch die Tabelle eines Bogens ist bewiesen, von Ihrer Wahl und der Namensliste bis zu ihren Bytes: Jeder ' +
+    'Eintrag behält seine Felder, seine Daten werden gelesen, wie die Regeln es sagen, und dahinter stehen ihre Tage oder ' +
+    'der Grund, warum es keinen gibt.',
+  trusted: 'Nicht bewiesen, sondern vertraut wird dem, was aus dem bewiesenen Programm eines für Browser macht (dem ' +
+    'Übersetzer für ein anderes Ziel, dem Binder und der Umformung), dem Speicher, den es bekommt, dem Browser und dem ' +
+    'Skript dieser Seite, das Dateien liest, anzeigt und speichert.',
+  notProved: 'Niemand kann beweisen, dass die Wahl zu einem Bogen passt, dass ein Name bedeutet, was die Namensliste sagt, oder ' +
+    'dass ein Datum richtig abgeschrieben wurde. Sehen Sie sich darum vor dem Umrechnen an, was die Seite zeigt.',
+
+  // ---- One date ----
+  oneDate: 'Ein Datum',
+  calendar: 'Kalender',
+  date: 'Datum',
+  waits: 'Geben Sie ein Datum ein, und hier steht sein Tag in allen Kalendern.',
+  weekdays: {
+    Sunday: 'Sonntag', Monday: 'Montag', Tuesday: 'Dienstag', Wednesday: 'Mittwoch', Thursday: 'Donnerstag',
+    Friday: 'Freitag', Saturday: 'Samstag',
+  },
+  isDay: (weekday, number, read = '') => `${WORDS.weekdays[weekday]}, Tagesnummer ${number}${WORDS.readAs(read)}`,
+  isNoDay: (reason, read = '') => `Kein Tag: ${reason}${WORDS.readAs(read)}.`,
+  readAs: (read) => (read === '' ? '' : `; gelesen als \`${read}\``),
+  dateInWords: 'Auch Daten in Worten werden gelesen, und Zahlen mit dem Tag zuerst: `30. November 1699`, `30.11.1699`, ' +
+    '`15 Ventôse an VI`.',
+  isTooLong: `das Datum hat über ${date} Byte`,
+  noCell: 'vor seinem ersten Tag',
+  calendars: {
+    gregorian: 'Gregorianisch', iso: 'ISO-Woche', julian: 'Julianisch', coptic: 'Koptisch', ethiopic: 'Äthiopisch',
+    egyptian: 'Ägyptisch', armenian: 'Armenisch', islamic: 'Islamisch', hebrew: 'Hebräisch',
+    longcount: 'Lange Zählung der Maya', french: 'Französisch, nach der Rechnung', roman: 'Römisch',
+    republican: 'Französischer Revolutionskalender', haab: 'Haab', tzolkin: 'Tzolkin',
+  },
+  months: {
+    gregorian: JULIAN_MONTHS, julian: JULIAN_MONTHS, french: FRENCH_MONTHS, republican: FRENCH_MONTHS,
+    coptic: ['Thot', 'Paopi', 'Hathor', 'Choiak', 'Tobi', 'Meschir', 'Paremhat', 'Parmouti', 'Paschons', 'Paoni', 'Epip',
+      'Mesori', 'Nasie'],
+    ethiopic: ['Meskerem', 'Tekemt', 'Hedar', 'Tachsas', 'Ter', 'Yekatit', 'Megabit', 'Miazia', 'Genbot', 'Sene', 'Hamle',
+      'Nehasse', 'Pagumen'],
+    islamic: ['Muharram', 'Safar', 'Rabi al-awwal', 'Rabi ath-thani', 'Dschumada al-ula', 'Dschumada th-thaniya', 'Radschab',
+      'Schaban', 'Ramadan', 'Schawwal', 'Dhu l-Qada', 'Dhu l-hiddscha'],
+    hebrew: ['Nisan', 'Ijjar', 'Siwan', 'Tammus', 'Aw', 'Elul', 'Tischri', 'Marcheschwan', 'Kislew', 'Tewet', 'Schewat',
+      'Adar (im Schaltjahr Adar I)', 'Adar II'],
+  },
+  inWords: (calendar, date) => {
+    const [, year, month, day] = /^(\d+)-(\d+)-(\d+)$/.exec(date) || [];
+    const names = WORDS.months[calendar];
+    return names && Number(year) > 0 ? `${Number(day)}. ${names[Number(month) - 1]} ${Number(year)}` : '';
+  },
+  forms: {
+    gregorian: 'Jahr, Monat, Tag: `1699-11-30`. Das Jahr 0 ist 1 v. Chr.',
+    iso: 'Jahr, Woche, Wochentag ab 1 für Montag: `1945-W46-1`.',
+    julian: 'Jahr, Monat, Tag: `1699-11-30`. Jedes Jahr beginnt am 1. Januar; `-44-3-15` liegt in 44 v. Chr., und ein Jahr 0 ' +
+      'gibt es nicht.',
+    coptic: 'Jahr der Märtyrer, Monat, Tag: `1661-3-3`.',
+    ethiopic: 'Jahr, Monat, Tag: `1938-3-3`.',
+    egyptian: 'Jahr, Monat, Tag: `2694-7-10`.',
+    armenian: 'Jahr, Monat, Tag: `1395-4-5`.',
+    islamic: 'Jahr, Monat, Tag: `1364-12-6`. Monate: 1 Muharram, 2 Safar, 3 Rabi al-awwal, 4 Rabi ath-thani, ' +
+      '5 Dschumada al-ula, 6 Dschumada th-thaniya, 7 Radschab, 8 Schaban, 9 Ramadan, 10 Schawwal, 11 Dhu l-Qada, ' +
+      '12 Dhu l-hiddscha. Nach der Rechnung: Ein beobachteter Mond kann um ein bis zwei Tage abweichen.',
+    hebrew: 'Jahr, Monat, Tag: `5706-9-7`. Monate: 1 Nisan, 2 Ijjar, 3 Siwan, 4 Tammus, 5 Aw, 6 Elul, 7 Tischri, ' +
+      '8 Marcheschwan, 9 Kislew, 10 Tewet, 11 Schewat, 12 Adar; im Schaltjahr 12 Adar I, 13 Adar II. Das Jahr beginnt mit ' +
+      'dem Monat 7.',
+    longcount: 'Baktun, Katun, Tun, Uinal, Kin: `12.16.11.16.9`.',
+    french: 'Jahr, Monat, Tag: `8-2-18`, nach der Rechnung des Buches. Für ein Datum der Zeit wählen Sie den ' +
+      'Revolutionskalender: Hier kommen Tage der Jahre 4, 8 und 12 einen Tag zu früh heraus, da diese die Schaltjahre sind, ' +
+      'und die der Zeit waren 3, 7 und 11.',
+    republican: 'Jahr, Monat, Tag: `8-2-18`. Monate: 1 Vendémiaire, 2 Brumaire, 3 Frimaire, 4 Nivôse, 5 Pluviôse, ' +
+      '6 Ventôse, 7 Germinal, 8 Floréal, 9 Prairial, 10 Messidor, 11 Thermidor, 12 Fructidor, 13 die Ergänzungstage. Wie er ' +
+      'gebraucht wurde, bis zum 10. Nivôse XIV; spätere Tage gehen mit jedem vierten Jahr weiter.',
+    roman: 'Jahr und Monat der Kalenden (K), Nonen (N) oder Iden (I) und die Tage bis dahin, diesen mitgezählt: ' +
+      '`1945-11-K3` ist der 30. Oktober. `1944-3-K6B` ist der 25. Februar eines Schaltjahres. Beide sind julianisch.',
+  },
+
+  // ---- A register ----
+  register: 'Ein Register',
+  registerIs: 'Eine CSV-Datei in UTF-8 mit der Kopfzeile `id,calendar,date` und in jedem weiteren Eintrag einer eigenen ' +
+    'Kennung, dem Namen eines Kalenders und einem Datum. Jede andere Tabelle ist ein Bogen: siehe unten.',
+  chooseRegisters: 'Register',
+  dropRegisters: 'Wählen Sie eine oder mehrere Dateien, oder ziehen Sie sie auf diese Seite.',
+  delimiter: 'Zwischen zwei Feldern steht',
+  comma: 'ein Komma',
+  semicolon: 'ein Strichpunkt',
+  tab: 'ein Tabulator',
+  delimiters: { 44: 'Kommas', 59: 'Strichpunkte', 9: 'Tabulatoren' },
+  sealed: 'Die Register sind versiegelt',
+  sealedIs: 'Sie haben die Kopfzeile `id,calendar,date,note` und enden mit der Zeile `END,N` für ihre N Einträge. Eines, das ' +
+    'ganze Einträge verlor, bricht ab; nur eines, das in einem Eintrag mit der Kennung `END` abgeschnitten wurde, kann ganz ' +
+    'aussehen.',
+  columns: 'Spalten der Tabelle',
+  columnsIs: 'Sie kommen in der Folge, in der Sie sie ankreuzen.',
+  all: 'Alle',
+  none: 'Keine',
+  order: (names) => `In dieser Folge: ${names.join(', ')}.`,
+  noColumns: 'Keine Spalten außer Tagesnummer und Wochentag.',
+  convert: 'Umrechnen',
+  stop: 'Anhalten',
+  tables: 'Tabellen',
+  listCaption: (n) => `${WORDS.number(n)} Register`,
+  listHeads: { name: 'Register', rows: 'Zeilen', refused: 'Abgelehnt', state: 'Stand', table: 'Tabelle' },
+  isWhole: 'ganz',
+  beginsWith: (line) => (line === '' ? 'Die erste Zeile ist leer.' : ['Die erste Zeile ist „', own(line), '“.']),
+  saveShort: (size) => `Speichern, ${size}`,
+  savePartShort: (size) => `Teil speichern, ${size}`,
+  isSaved: 'gespeichert',
+  repeat: 'Noch einmal umrechnen',
+  repeatLabel: (name) => ['Noch einmal umrechnen: ', own(name)],
+  chooseAgain: 'Neu wählen',
+  chooseAgainLabel: (name) => ['Neu wählen: ', own(name)],
+  makeArchive: (whole, all) => `In ein Archiv packen: ${WORDS.ofAllTables(whole, all)}`,
+  makingArchive: 'Das Archiv wird gemacht',
+  saveArchive: (whole, all, size) => `Archiv speichern: ${WORDS.ofAllTables(whole, all)}, ${size}`,
+  ofAllTables: (whole, all) => {
+    if (whole === all) return `${WORDS.number(all)} Tabellen, alle ganz`;
+    return whole === 1 ? `die eine ganze von ${WORDS.number(all)}`
+      : `die ${WORDS.number(whole)} ganzen von ${WORDS.number(all)}`;
+  },
+  archiveName: (whole, all) => (whole < all ? `tabellen-${whole}-von-${all}.zip` : `tabellen-alle-${all}.zip`),
+  archiveSays: (whole, all) => (whole === all ? `${all} Tabellen, alle ganz` : `die ${whole} ganzen Tabellen von ${all}`),
+  archiveTooLarge: 'die Tabellen sind zu groß für ein Archiv; speichern Sie jede einzeln',
+  nothingChosen: 'Wählen Sie zuerst ein Register.',
+  chosen: (name, size) => [own(name), `, ${size}`],
+  chosenFiles: (n, size) => `${WORDS.number(n)} Dateien, zusammen ${size}`,
+  folders: (names) => ['Ein Ordner kann nicht genommen werden: ', own(names.join(', ')), '. Öffnen Sie ihn, und wählen Sie ' +
+    'seine Dateien.'],
+  stopFirst: 'Es wird gerade umgerechnet: Halten Sie das zuerst an.',
+  bytes: (n) => {
+    const units = [{ unit: 1, name: 'Byte' }, { unit: 1e3, name: 'KB' }, { unit: 1e6, name: 'MB' }, { unit: 1e9, name: 'GB' }];
+    const { unit, name } = units.filter((it) => n >= it.unit).pop() || units[0], count = n / unit;
+    return `${count < 10 && unit > 1 ? count.toFixed(1).replace('.', ',').replace(',0', '') : Math.round(count)} ${name}`;
+  },
+  number: (n) => n.toLocaleString('de'),
+  progress: 'Fortschritt',
+  converting: (done, all, seconds) => `${done} von ${all} umgerechnet, nach ${seconds} s.`,
+  waiting: 'Wartet, bis es an der Reihe ist.',
+  running: (seconds) => `Wird umgerechnet, bisher ${seconds} s.`,
+  stopped: 'Angehalten.',
+  stoppedAfter: (done) => `Angehalten. ${done === 0 ? 'Nichts wurde umgerechnet.' : `${done} vorher umgerechnet.`}`,
+  endedOne: (name, words) => [own(name), ': ', words],
+  ended: (whole, broken) => [whole && `${whole} ganz umgerechnet`, broken && `${broken} abgebrochen`]
+    .filter(Boolean).join(', ') + '.',
+  rows: (n) => (n === 1 ? '1 Zeile' : `${WORDS.number(n)} Zeilen`),
+  refused: (n) => (n === 0 ? 'keine abgelehnt' : `${WORDS.number(n)} abgelehnt`),
+  whole: (rows, refused) => `${WORDS.rows(rows)}, ${WORDS.refused(refused)}.`,
+  counts: {
+    records: {
+      caption: 'Abgelehnte Einträge nach dem Grund', count: 'Einträge', reason: 'Der Eintrag ist abgelehnt, denn',
+      advice: 'Was zu tun ist',
+    },
+    dates: {
+      caption: 'Abgelehnte Daten nach dem Grund', count: 'Daten', reason: 'Das Datum ist abgelehnt, denn',
+      advice: 'Was zu tun ist',
+    },
+  },
+  firstRows: (n) => (n === 1 ? 'Die erste Zeile' : `Die ersten ${n} Zeilen`),
+  allRows: 'Alle Zeilen',
+  refusedRows: (n, all) => {
+    if (n < all) return `Die ersten ${n} abgelehnten Zeilen`;
+    return n === 1 ? 'Die abgelehnte Zeile' : `Die ${n} abgelehnten Zeilen`;
+  },
+  captionOf: (title, caption) => [own(title), ': ', caption],
+  reason: (number, reason) => `${number}: ${reason}`,
+  save: (name, size) => [own(name), ` speichern, ${size}`],
+  tablesSaved: 'Tabellen werden in UTF-8 mit einer Marke (BOM) davor gespeichert, wie Tabellenkalkulationen es wollen. Hinter ' +
+    'der Marke sind sie die des Programms `register`.',
+  savePart: (name, size) => ['Den vorhandenen Teil speichern, ', own(name), `, ${size}`],
+  formulas: (n, example) => [n === 1 ? 'Ein Feld ist wie eine Formel: ' : `${WORDS.number(n)} Felder sind wie Formeln, zuerst `,
+    '„', own(example), '“. Eine Tabellenkalkulation, die die Tabelle öffnet, kann sie ausrechnen und etwas anderes zeigen: ' +
+    'Lassen Sie sie die Spalten als Text übernehmen. Wie eine Formel ist ein Feld, das mit `=`, `+`, `-` oder `@` beginnt, ' +
+    'einen Buchstaben oder eine Ziffer hat und weder eine Zahl noch ein Datum ist, wie es Register haben.'],
+  formulasShort: (n) => (n === 1 ? 'Ein Feld ist wie eine Formel' : `${WORDS.number(n)} Felder sind wie Formeln`),
+  brokeOff: (cause, words) => `Abgebrochen, Ursache ${cause}: ${words}.`,
+  hasNothing: 'Es gibt keine Tabelle.',
+  notDone: (words) => ['Nicht umgerechnet: ', words, '.'],
+  tooLarge: (most) => `die Datei hat über ${WORDS.bytes(most)}, mehr als die Seite nimmt; teilen Sie sie, oder nehmen Sie das ` +
+    'Programm `register`',
+  noMemory: 'der Speicher reicht nicht; schließen Sie andere Seiten oder Programme und versuchen Sie es noch einmal, oder teilen ' +
+    'Sie die Datei',
+  otherColumns: 'die Datei hat andere Spalten als bei der Wahl und ist neu gelesen: Wählen Sie sie noch einmal',
+  workbook: 'die Datei ist kein Text, sondern eine Arbeitsmappe oder gepackt (.xlsx, .ods, .xls, .docx, .zip); speichern Sie ' +
+    'ihre Tabelle als CSV UTF-8, oder kopieren Sie ihre Zellen und fügen Sie sie in „Aus einem Bogen“ ein',
+  database: 'die Datei ist kein Text, sondern eine Datenbank (SQLite); speichern Sie ihre Tabelle als CSV UTF-8, oder kopieren ' +
+    'Sie ihre Zellen und fügen Sie sie in „Aus einem Bogen“ ein',
+  pdf: 'die Datei ist kein Text, sondern ein PDF; kopieren Sie ihre Tabelle in eine Tabellenkalkulation und speichern Sie diese ' +
+    'als CSV UTF-8, oder kopieren Sie ihre Zellen und fügen Sie sie in „Aus einem Bogen“ ein',
+  utf16: 'die Datei ist in UTF-16 geschrieben und ein Register in UTF-8; nehmen Sie sie unten als Bogen, oder speichern Sie sie ' +
+    'als CSV UTF-8',
+  fault: (why) => ['die Seite versagte (', own(why), ')'],
+
+  // The reason of each refusal, from 1, and what to do on this page.
+  refusals: [
+    'der Eintrag hat nicht drei Felder; in einem versiegelten Register vier',
+    `ein Feld ist zu lang: die Kennung über ${id} Byte, der Kalender über ${calendar}, das Datum über ${date} oder die ` +
+      `Bemerkung über ${note}; \`é\` und ein hebräischer Buchstabe haben 2 Byte`,
+    'ein Feld ist nicht in UTF-8',
+    'kein Kalender hat diesen Namen',
+    'das Datum ist nicht geschrieben, wie sein Kalender es verlangt',
+    'der Kalender hat kein solches Datum',
+    'der Tag liegt außerhalb der gregorianischen Jahre -9999 bis 9999',
+  ],
+  advice: [
+    'Setzen Sie ein Feld mit einem Komma in Anführungszeichen; oder nehmen Sie die Datei als Bogen, und wählen Sie dessen ' +
+      'Spalten',
+    'Geben Sie kurze Kennungen, und lassen Sie Längeres im Bogen',
+    'Speichern Sie das Register als CSV UTF-8; oder nehmen Sie es als Bogen, in seiner Kodierung',
+    'Schreiben Sie einen der Kalender aus „Ein Datum“; ein Bogen kann jedem Namen einen Kalender geben',
+    'Schreiben Sie Jahr, Monat und Tag, wie `1700-02-29`; in einem Bogen kann der Tag zuerst stehen',
+    'Sehen Sie im Original nach: ein Schreibfehler oder ein Datum eines anderen Kalenders',
+    'Sehen Sie im Original nach: ein Schreibfehler im Jahr',
+  ],
+
+  // What to do with a refused date of a sheet.
+  sheetAdvice: [
+    'Sehen Sie den Eintrag an: er hat andere Felder als die übrigen',
+    'Wählen Sie die Nummer des Eintrags als Kennung; kürzen Sie ein Datum oder den Namen eines Kalenders im Bogen',
+    'Wählen Sie eine andere Kodierung',
+    'Wählen Sie oben den Kalender dieses Namens, oder bessern Sie den Namen im Bogen',
+    'Geben Sie oben seinen Wörtern eine Bedeutung, oder wählen Sie, wie Daten in Zahlen geschrieben sind; oder bessern Sie es im ' +
+      'Bogen',
+    'Sehen Sie im Original nach: ein Schreibfehler oder ein Datum eines anderen Kalenders',
+    'Sehen Sie im Original nach: ein Schreibfehler im Jahr',
+  ],
+
+  // Why a register broke off, by the cause; what its table has; and what to do on this page.
+  causes: Object.fromEntries(Object.entries(SHORT_CAUSES).map(
+    ([number, sentence]) => [number, sentence + (MORE_OF_CAUSES[number] || '')])),
+  shortCauses: SHORT_CAUSES,
+  causeAdvice: {
+    1: 'Schließen Sie andere Seiten oder Programme und versuchen Sie es noch einmal, oder teilen Sie das Register.',
+    4: 'Die Tabelle braucht mehr Speicher, als es gibt: Wählen Sie weniger Spalten, oder teilen Sie das Register.',
+    5: 'Es wurde seit der Wahl oder beim Lesen geändert, oder verschoben, oder ist ein Ordner: Wählen Sie es noch einmal.',
+    6: 'Steht ein anderes Zeichen zwischen seinen Feldern? Wählen Sie es oben. Hat es andere Spalten, eine Titelzeile oder eine ' +
+      'andere Kodierung? Nehmen Sie es unten als Bogen.',
+    7: 'Teilen Sie es, jeden Teil mit der Kopfzeile.',
+    8: 'Vergleichen Sie es mit dem Original: Einträge können fehlen. Fehlen keine, so schreiben Sie das Siegel neu als letzte ' +
+      'Zeile.',
+  },
+  // What was asked wrongly, which the form does not let happen.
+  faults: {
+    9: 'es gibt keine solche Spalte',
+    10: 'eine Spalte ist zweimal genannt',
+    11: 'das Trennzeichen ist kein Komma, Strichpunkt oder Tabulator',
+  },
+
+  // ---- From a sheet ----
+  sheet: 'Aus einem Bogen',
+  sheetIs: 'Eine Tabelle, wie Sie sie führen, als CSV oder Text gespeichert oder aus einer Tabellenkalkulation kopiert. Sagen ' +
+    'Sie, welche ihrer Spalten Daten haben, und Sie bekommen sie zurück, mit den gewünschten Spalten hinter den eigenen. Wie ' +
+    'Daten in Worten gelesen werden, ist bewiesen; ob Ihre Wahl passt, sehen Sie daran, was die Seite vor dem Umrechnen zeigt.',
+  chooseSheet: 'Bogen',
+  dropSheet: 'Wählen Sie eine Datei, oder ziehen Sie sie hierher; eine gespeicherte Auswahl kann mitkommen.',
+  pasteSheet: 'Oder Zellen einer Tabellenkalkulation',
+  pasteSheetIs: 'Kopieren Sie sie mit der Zeile der Namen, und fügen Sie sie hier ein.',
+  pasted: 'eingefuegt.csv',
+  encoding: 'Kodierung',
+  encodingIs: 'Sind Buchstaben mit Akzenten unten falsch? Wählen Sie eine andere.',
+  above: 'Zeilen über den Namen',
+  aboveIs: 'Titelzeilen, die bleiben, wie sie sind. Dann kommt die Zeile mit den Namen der Spalten.',
+  titles: (lines) => ['Über den Namen: ', own(lines.join(' / ')), '.'],
+  aboveFound: (n) => (n === 1 ? '1 Zeile über den Namen' : `${WORDS.number(n)} Zeilen über den Namen`),
+  looksLike: (what) => `Sieht aus wie ${what.join(', ')}.`,
+  encodings: {
+    'utf-8': 'UTF-8',
+    'windows-1252': 'Westeuropa (Windows-1252)',
+    'windows-1250': 'Mitteleuropa (Windows-1250)',
+    'iso-8859-2': 'Mitteleuropa (ISO 8859-2)',
+    'iso-8859-15': 'Westeuropa (ISO 8859-15)',
+    'macintosh': 'Westeuropa (Macintosh)',
+    'utf-16le': 'UTF-16 („Unicode-Text“)',
+    'utf-16be': 'UTF-16, höheres Byte zuerst',
+    'windows-1251': 'Kyrillisch (Windows-1251)',
+    'koi8-r': 'Kyrillisch (KOI8-R)',
+    'koi8-u': 'Kyrillisch (KOI8-U)',
+    'ibm866': 'Kyrillisch (DOS 866)',
+    'iso-8859-5': 'Kyrillisch (ISO 8859-5)',
+    'x-mac-cyrillic': 'Kyrillisch (Macintosh)',
+    'windows-1253': 'Griechisch (Windows-1253)',
+    'iso-8859-7': 'Griechisch (ISO 8859-7)',
+    'windows-1254': 'Türkisch (Windows-1254)',
+    'windows-1255': 'Hebräisch (Windows-1255)',
+    'iso-8859-8': 'Hebräisch (ISO 8859-8)',
+    'windows-1256': 'Arabisch (Windows-1256)',
+    'iso-8859-6': 'Arabisch (ISO 8859-6)',
+    'windows-1257': 'Baltisch (Windows-1257)',
+    'iso-8859-4': 'Baltisch (ISO 8859-4)',
+    'windows-1258': 'Vietnamesisch (Windows-1258)',
+    'iso-8859-3': 'Südeuropa (ISO 8859-3)',
+    'iso-8859-10': 'Nordisch (ISO 8859-10)',
+    'iso-8859-13': 'Baltisch (ISO 8859-13)',
+    'iso-8859-14': 'Keltisch (ISO 8859-14)',
+    'iso-8859-16': 'Rumänisch (ISO 8859-16)',
+    'windows-874': 'Thailändisch (Windows-874)',
+    'shift_jis': 'Japanisch (Shift JIS)',
+    'euc-jp': 'Japanisch (EUC-JP)',
+    'gb18030': 'Chinesisch (GB 18030)',
+    'big5': 'Chinesisch (Big5)',
+    'euc-kr': 'Koreanisch (EUC-KR)',
+  },
+  notEncoded: (name) => `die Datei ist nicht in ${name} geschrieben: Wählen Sie eine andere Kodierung`,
+  sheetRows: (n) => `Der Bogen, ${WORDS.first(n)}`,
+  sheetHas: (n, width) => `${WORDS.records(n)} mit ${width} ${width === 1 ? 'Spalte' : 'Spalten'} unter den Namen.`,
+  oneColumn: 'Steht ein anderes Zeichen zwischen den Feldern? Wählen Sie es oben.',
+  emptySheet: 'er ist leer',
+  noNames: 'für die Namen der Spalten bleibt keine Zeile: Lassen Sie weniger darüber stehen',
+  onlyFirst: (n) => `Nur die ersten ${n} Spalten können gewählt werden.`,
+  dates: 'Spalten mit Daten',
+  datesIs: 'Jede mit der Spalte, die ihre Kalender hat, oder mit einem Kalender für alle.',
+  dateColumn: (k, all) => (all === 1 ? 'Datum' : `Datum ${k}`),
+  calendarColumn: (k, all) => (all === 1 ? 'Kalender' : `Kalender ${k}`),
+  addDate: 'Noch eine Spalte mit Daten',
+  removeDate: (k) => `Datum ${k} entfernen`,
+  idColumn: 'Kennung',
+  idIs: 'Sie steht im Register, mit höchstens 40 Byte.',
+  column: (number, name) => (name === '' ? `Spalte ${number}` : own(name)),
+  choose: 'Wählen Sie',
+  rowNumber: 'die Nummer des Eintrags',
+  ofColumn: 'Wie die Spalte sagt',
+  ofAll: 'Einer für alle',
+  dayOrder: 'Daten in Zahlen sind geschrieben',
+  yearFirst: 'das Jahr zuerst, wie `1699-11-30` oder `1699/11/30`',
+  dayFirst: 'der Tag zuerst, wie `30.11.1699` oder `30/11/1699`',
+  monthFirst: 'der Monat zuerst, wie `11/30/1699`',
+  dayOrderIs: 'Ein Monat mit Namen wird in jeder Folge gelesen: `30. November 1699`, `Nov. 30, 1699`.',
+  short: 'Jahre mit ein oder zwei Ziffern',
+  shortIs: 'In gregorianischen und julianischen Daten, wie `12.5.82`.',
+  shortRules: { refuse: 'solche Daten weglassen', keep: 'wie geschrieben: 82 ist das Jahr 82' },
+  shortAdds: (n) => `${n} dazuzählen: 82 ist ${n + 82}`,
+  otherYears: 'Jahre hebräischer und römischer Daten',
+  hebrew: 'Kurze hebräische Jahre',
+  hebrewIs: 'Wie `5 Tischri 507`.',
+  hebrewRules: {
+    refuse: 'solche Daten weglassen', keep: 'wie geschrieben: 507 ist das Jahr 507', 5000: '5000 dazuzählen: 507 ist 5507',
+  },
+  charters: 'Das Jahr eines römischen Datums ist das seines Tages',
+  chartersIs: 'Dann ist `XVI. Kal. Ian. 1499` der 17. Dezember 1499. Sonst ist sein Jahr das der Kalenden, Nonen oder Iden, und ' +
+    'es liegt in 1498.',
+  unknownNames: 'Namen, die kein Kalender hat',
+  unknownNamesIs: 'Wählen Sie für jeden den Kalender, oder lassen Sie ihn, und seine Einträge werden abgelehnt.',
+  unknownWords: 'Wörter in Daten, die unbekannt sind',
+  unknownWordsIs: 'Sagen Sie, was jedes bedeutet, oder lassen Sie es, und seine Daten bleiben, wie sie geschrieben sind.',
+  records: (n) => `${WORDS.number(n)} ${n === 1 ? 'Eintrag' : 'Einträge'}`,
+  datesOf: (n) => `${WORDS.number(n)} ${n === 1 ? 'Datum' : 'Daten'}`,
+  unknownName: (name, n) => [own(name), n === null ? '' : `, in ${WORDS.datesOf(n)}`],
+  unknownWord: (name, where, n) => [WORDS.unknownName(name, n), ` (${WORDS.calendars[where]})`],
+  tooManyNames: (n) => `Weitere, in ${WORDS.datesOf(n)}, sind nicht gezeigt: Sind das die richtigen Spalten?`,
+  leave: 'lassen',
+  passOver: 'nichts: übergehen',
+  month: (n, name) => (name ? `Monat ${n}, ${name}` : `Monat ${n}`),
+  aNumber: 'eine Zahl',
+  numberOf: (name) => ['Die Zahl für ', own(name)],
+  marks: { K: 'Kalenden', N: 'Nonen', I: 'Iden' },
+  counting: 'Die Daten werden durchgesehen.',
+  kept: (n) => `${WORDS.datesOf(n)} nicht lesbar, ${n === 1 ? 'bleibt' : 'bleiben'} wie geschrieben`,
+  shortLeft: (n) => `${WORDS.datesOf(n)} mit kurzem Jahr, ${n === 1 ? 'wird' : 'werden'} weggelassen`,
+  allRead: 'Alle Daten sind lesbar',
+  behind: 'Spalten hinter denen des Bogens',
+  behindIs: 'Sie kommen in der Folge, in der Sie sie ankreuzen; dahinter die Ablehnung, die leer ist, wo das Datum umgerechnet ' +
+    'wurde.',
+  noneBehind: 'Keine Spalten außer der Ablehnung.',
+  first: (n) => (n === 1 ? 'erster Eintrag' : `erste ${n} Einträge`),
+  registerRows: (name, n) => ['Das Register, das aus ', name, ` wird, ${WORDS.first(n)}`],
+  chooseDates: 'Wählen Sie eine Spalte mit Daten und ihren Kalender.',
+  keepChoices: 'Die Auswahl speichern',
+  choicesSuffix: '.auswahl.json',
+  noChoices: 'Die Datei mit der Auswahl ist keine, die diese Seite gespeichert hat.',
+  choicesWait: 'Die Auswahl ist da. Wählen Sie den Bogen, für den sie ist.',
+  oneSheet: 'Ein Bogen auf einmal: der erste wurde genommen.',
+  filledIn: (name) => ['Die Auswahl von ', own(name), ' ist eingetragen.'],
+  notFitting: (name, what) => ['Die Auswahl von ', own(name), ' ist eingetragen, bis auf das, was nicht passt: ',
+    what.flatMap((it, i) => (i === 0 ? [it] : [', ', it])), '.'],
+  theColumn: (name) => ['die Spalte „', own(name), '“'],
+  theOther: { encoding: 'die Kodierung', delimiter: 'das Zeichen zwischen zwei Feldern' },
+  sheetReading: 'Der Bogen wird gelesen.',
+  sheetConverting: 'Der Bogen wird umgerechnet.',
+  sheetSaved: 'Jeder Eintrag steht in seiner Zeile, in UTF-8 mit einer Marke (BOM) davor, wie Tabellenkalkulationen es wollen.',
+  sheetJoined: (n) => `Der Bogen mit seinen Tagen, ${WORDS.first(n)}`,
+  sheetBack: (n) => `Der Bogen, wie er zurückkommt, ${WORDS.first(n)}`,
+  why: 'abgelehnt, denn',
+  record: 'Eintrag',
+  columnName: 'Spalte',
+  written: 'Wie geschrieben',
+  splitSheet: 'Teilen Sie ihn, jeden Teil mit der Zeile der Namen.',
+  wholeSheet: (rows, refused) => [`${WORDS.rows(rows)}. `,
+    refused.map(([name, n], i) => [i === 0 ? '' : ', ', name, ': ', WORDS.refused(n)]), '.'],
+  refusedDates: (n, all) =>
+    (n < all ? `Die ersten ${n} abgelehnten Daten` : n === 1 ? 'Das abgelehnte Datum' : `Die ${n} abgelehnten Daten`),
+  makeRegister: (name) => ['Das Register machen aus ', name],
+  makingRegister: (name) => ['Das Register aus ', name, ' wird gemacht'],
+  saveRegister: (name, size) => ['Das Register speichern, ', own(name), `, ${size}`],
+  sheetFaults: {
+    2: 'ein Name, der eine Bedeutung bekam, kann nicht in einer Namensliste stehen',
+    3: 'diese Wahl passt nicht zusammen',
+    4: 'für die Namen der Spalten bleibt keine Zeile: Lassen Sie weniger darüber stehen',
+  },
+  sheetSuffix: '.tage.csv',
+  registerSuffix: '.register.csv',
+};

@@ -76,8 +76,9 @@ export function wordsIn(id) {
   };
 }
 
-function bodyRow({ fields, reason, span }) {
-  const line = element('tr');
+// A row that something leads to has an id.
+function bodyRow({ fields, reason, span, id = '' }) {
+  const line = element('tr', '', id ? { id, tabIndex: -1 } : {});
   for (const field of fields) line.append(textElement('td', field, { title: field }));
   if (reason) {
     line.className = 'refused';

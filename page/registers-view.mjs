@@ -5,27 +5,32 @@ import {
   byId, check, checkedOf, clear, columnTicks, downloadLink, drawReport, drawRunning, element, listOf, onCheck, takeFiles,
   textOf, whenChanged, withFocus, wordsIn,
 } from './elements.mjs';
-import { registersTable } from './list-view.mjs';
-import {
-  archiveSaved, archiveWanted, chosen, hasTable, isRunning, opened, repeated, saved, shownRun, started, stopped,
-} from './registers.mjs';
-import { archiveReport, chosenFiles, registerReport, registersList, registersStatus } from './reports.mjs';
 import { WORDS } from './language.mjs';
+import { registersTable } from './list-view.mjs';
+import { pictureBox } from './picture-view.mjs';
+import {
+  archiveSaved, archiveWanted, chosen, hasTable, isRunning, opened, pictureWanted, repeated, saved, shownRun, started, stopped,
+} from './registers.mjs';
+import { archiveReport, chosenFiles, registerPicture, registerReport, registersList, registersStatus } from './reports.mjs';
 
 // An article in a box, in which the answer draws a register, if there is something else to be drawn; none for null.
 function articleOf(box, id, step, now) {
-  let article = null, before = { text: '', reply: null };
+  let article = null, drawPicture = null, before = { text: '', reply: null, number: 0 };
   return (job) => {
     if (job === null) {
       clear(box);
       article = null;
       return;
     }
-    const report = registerReport(job, now()), text = textOf([report.title, report.words]);
-    if (article !== null && text === before.text && job.reply === before.reply) return;
-    article ??= box.appendChild(element('article'));
-    before = { text, reply: job.reply };
-    drawReport(article, id, report, () => step(saved, job.number));
+    const report = registerReport(job, now()), text = textOf([{ own: report.title }, report.words]);
+    const isSame = article !== null && text === before.text && job.reply === before.reply;
+    if (article === null) {
+      article = box.appendChild(element('article'));
+      drawPicture = pictureBox(box.appendChild(element('div')), () => step(pictureWanted, before.number));
+    }
+    before = { text, reply: job.reply, number: job.number };
+    if (!isSame) drawReport(article, id, report, () => step(saved, job.number));
+    drawPicture(registerPicture(job), job.picture);
   };
 }
 

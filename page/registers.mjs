@@ -13,11 +13,11 @@ const SMALL = 2 ** 20, SHARE = 64;
 
 /**
  * A job is a register, by its number among those that were chosen; `slot` is its place among those that run, and `tries`
- * says how often it was converted before. Of a run, `opened` is the number of the register whose details are shown, and
+ * says how often it was converted before. `picture` holds what a picture of its table shows, once it was wanted. Of a run, `opened` is the number of the register whose details are shown, and
  * `archive` holds the archive of all whole tables, once it was wanted.
  * @typedef {{ files: File[], delimiter: number, sealed: boolean, columns: string[] }} RegistersChoice
  * @typedef {{ number: number, file: File, tries: number, slot: number, status: 'waits' | 'runs' | 'ended' | 'stopped',
- *   begun: number, reply: any, isSaved: boolean }} Job
+ *   begun: number, reply: any, isSaved: boolean, picture: { reply: any } | null }} Job
  * @typedef {{ number: number, choice: RegistersChoice, begun: number, jobs: Job[], opened: number | null,
  *   archive: { reply: any } | null }} Run
  * @typedef {{ choice: RegistersChoice, atOnce: number, runs: number, run: Run | null, notice: string,
@@ -57,7 +57,7 @@ const stoppedJob = (job) => ({ ...job, status: 'stopped' });
 
 /** @returns {Job} */
 const waitingJob = (file, number, tries = 0) =>
-  ({ number, file, tries, slot: 0, status: 'waits', begun: 0, reply: null, isSaved: false });
+  ({ number, file, tries, slot: 0, status: 'waits', begun: 0, reply: null, isSaved: false, picture: null });
 
 // Starts what can be started now. A file that is too large has its answer at once.
 function scheduled(state, now) {
@@ -137,6 +137,27 @@ export function archiveWanted(state) {
   return { ...state, run: { ...run, archive: { reply: null } } };
 }
 
+// The jobs, of which some are changed.
+const jobsWith = (state, isIt, change) =>
+  ({ ...state, run: { ...state.run, jobs: state.run.jobs.map((job) => (isIt(job) ? { ...job, ...change } : job)) } });
+
+/**
+ * A picture of the table of a register is wanted.
+ * @param {RegistersState} state
+ * @returns {RegistersState}
+ */
+export const pictureWanted = (state, number) =>
+  jobsWith(state, (job) => job.number === number && hasTable(job), { picture: { reply: null } });
+
+const pictureKey = (run, job) => `picture ${keyOf(run, job)}`;
+
+function pictureTasks(run) {
+  return run.jobs.filter(({ picture }) => picture !== null && picture.reply === null).map((job) => {
+    const { table, rows } = job.reply.answer, key = pictureKey(run, job);
+    return { key, worker: key, name: 'picture', words: { table, rows, delimiter: run.choice.delimiter } };
+  });
+}
+
 const keyOf = (run, job) => `register ${run.number} ${job.number} ${job.tries}`;
 const archiveKey = (run) => `archive ${run.number} ${run.jobs.map(({ tries }) => tries)}`;
 
@@ -155,7 +176,7 @@ export function tasks({ run }) {
     const { file, number, slot, tries } = job, key = keyOf(run, job), share = Math.floor(number / SHARE);
     const worker = file.size > SMALL ? key : `registers ${run.number} ${slot} ${share} ${tries}`;
     return { key, worker, name: 'register', words: { file, delimiter, sealed, columns } };
-  }), ...archiveTasks(run)];
+  }), ...archiveTasks(run), ...pictureTasks(run)];
 }
 
 /**
@@ -167,14 +188,16 @@ export function replied(state, key, reply, now) {
   const { run } = state;
   if (run === null) return state;
   if (archiveTasks(run).some((it) => it.key === key)) return { ...state, run: { ...run, archive: { reply } } };
+  if (pictureTasks(run).some((it) => it.key === key)) {
+    return jobsWith(state, (it) => pictureKey(run, it) === key, { picture: { reply } });
+  }
   const job = run.jobs.find((it) => it.status === 'runs' && keyOf(run, it) === key);
   if (!job) return state;
   const jobs = run.jobs.map((it) => (it === job ? endedJob(job, reply) : it));
   return scheduled({ ...state, run: { ...run, jobs }, notice: '' }, now);
 }
 
-const savedIf = (state, isIt) =>
-  ({ ...state, run: { ...state.run, jobs: state.run.jobs.map((job) => (isIt(job) ? { ...job, isSaved: true } : job)) } });
+const savedIf = (state, isIt) => jobsWith(state, isIt, { isSaved: true });
 
 /**
  * The table of a register was saved.

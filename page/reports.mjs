@@ -152,6 +152,59 @@ function listRow(job, now) {
   };
 }
 
+// ---- The picture of a table ----
+
+const rowId = (id, { row }) => `${id}-row-${row}`;
+
+function pictureRow(id, { name, bins, refused }, far, { from }) {
+  const own = far.filter(({ calendar }) => calendar.trim().toLowerCase() === name);
+  return {
+    label: WORDS.calendars[name] || { own: name }, bins, refused: refused === 0 ? '' : WORDS.refused(refused),
+    far: own.map((it) => ({ id: rowId(id, it), year: it.year, side: it.day < from ? 'before' : 'behind' })),
+  };
+}
+
+// What the picture shows, in words: each calendar, and each gap, which the picture leads to.
+function pictureLines({ rows, others }, gaps) {
+  const ofRows = rows.map(({ name, count, refused, years }) =>
+    ({ words: WORDS.entriesOf(WORDS.calendars[name] || { own: name }, count, years, refused) }));
+  return [...ofRows, ...(others ? [{ words: WORDS.otherEntries(others) }] : []), ...gaps];
+}
+
+function farTable(pictureId, far, allFar) {
+  if (far.length === 0) return [];
+  const { row, id, calendar, date, year } = WORDS.pictureHeads;
+  const rows = far.map((it) => ({
+    fields: [String(it.row), it.id, it.calendar, it.date, String(it.year)], reason: '', span: 0, id: rowId(pictureId, it),
+  }));
+  return [{ caption: WORDS.farEntries(far.length, allFar), heading: [row, id, calendar, date, year], rows }];
+}
+
+// A picture that is made, or how it can be: its title, its name as a file, and what its parts are called on the page.
+function pictureReport(picture, { id, make, title, name }) {
+  if (!picture) return { id, title: make, isMade: false };
+  if (picture.reply === null) return { id, title: WORDS.makingPicture, isMade: false };
+  const { answer } = picture.reply;
+  if (!answer) return { id, title: WORDS.notDone(faultWords(picture.reply, 0, '')), isMade: false };
+  const { from, to, marks, far, allFar } = answer;
+  const gaps = answer.gaps.map(([one, other], i) =>
+    ({ id: `${id}-gap-${i + 1}`, from: one.day, to: other.day, words: WORDS.gap(one, other) }));
+  return {
+    id, title, name, isMade: true, from, to, marks, gaps,
+    rows: answer.rows.map((row) => pictureRow(id, row, far, answer)), lines: pictureLines(answer, gaps),
+    tables: farTable(id, far, allFar),
+    hints: [WORDS.yearsAre, ...(gaps.length ? [WORDS.gapIs] : []), ...(far.length ? [WORDS.farIs] : [])],
+  };
+}
+
+/** A picture of the table of a register: how it is made, or what it shows; or null. */
+export function registerPicture(job) {
+  const { picture, file: { name } } = job;
+  if (!registers.hasTable(job)) return null;
+  return pictureReport(picture,
+    { id: 'register-picture', make: WORDS.makePicture, title: WORDS.pictureOf(name), name: `${name}.svg` });
+}
+
 // Those that broke off stand first, and then those that were stopped.
 const KINDS = ['broken', 'stopped'];
 const placeOf = ({ kind }) => (KINDS.includes(kind) ? KINDS.indexOf(kind) : KINDS.length);
@@ -328,6 +381,16 @@ export function sheetReport(state) {
       ...registerLinks(run, names, stem)],
     caution: cautionOf(answer), hint: WORDS.sheetSaved,
   };
+}
+
+/** A picture of each column of dates of a sheet that came back. */
+export function sheetPictures(state) {
+  const report = sheetReport(state), run = sheet.shownRun(state);
+  if (report === null || report.kind !== 'done') return [];
+  return dateNames(state).map((name, k) => pictureReport(run.pictures[k], {
+    id: `sheet-picture-${k}`, make: WORDS.makePictureOfDates(name), title: WORDS.pictureOfDates(name, report.title),
+    name: `${stemOf(report.title)}.${k + 1}.svg`,
+  }));
 }
 
 const stemOf = (name) => name.replace(/\.[^.]*$/, '');

@@ -6,12 +6,14 @@ import {
   byId, check, clear, columnTicks, drawReport, drawRunning, element, onCheck, option, saveBlob, setText, tableBox,
   takeFiles, takePaste, textOf, whenChanged, withFocus, wordsIn,
 } from './elements.mjs';
+import { pictureBox } from './picture-view.mjs';
 import {
-  keptChoices, previewTables, sheetChosen, sheetCounts, sheetFit, sheetReport, sheetStatus, sheetTable, sheetTitles,
+  keptChoices, previewTables, sheetChosen, sheetCounts, sheetFit, sheetPictures, sheetReport, sheetStatus, sheetTable,
+  sheetTitles,
 } from './reports.mjs';
 import {
   beginning, columnsChosen, dateAdded, datePicked, dateRemoved, filesChosen, isRunning, missing, namePicked, pasted,
-  picked, registerWanted, saved, shownPreview, shownRun, shownUnknown, sourceChosen, started, stopped,
+  picked, pictureWanted, registerWanted, saved, shownPreview, shownRun, shownUnknown, sourceChosen, started, stopped,
 } from './sheet.mjs';
 import { WORDS } from './language.mjs';
 
@@ -190,7 +192,7 @@ export function sheetView(step) {
   const [drawStatus, drawChosen, drawFit, drawTitles, drawCounts] =
     ['said', 'chosen', 'fit', 'titles', 'counts'].map((name) => wordsIn(`sheet-${name}`));
   let drawn = { begins: undefined, count: 0, more: undefined, preview: undefined, ...NO_RUN };
-  let now = null, drawnNames = '';
+  let now = null, drawnNames = '', pictureBoxes = [];
   byId('sheet-keep').addEventListener('click', () => {
     const [name, text] = keptChoices(now);
     saveBlob(new Blob([text], { type: 'application/json' }), name);
@@ -243,7 +245,14 @@ export function sheetView(step) {
       if (report === null) return;
       const article = box.appendChild(element('article'));
       drawReport(article, 'sheet-result', report, () => step(saved), (place) => step(registerWanted, place));
+      pictureBoxes = sheetPictures(state).map((_, place) =>
+        pictureBox(box.appendChild(element('div')), () => step(pictureWanted, place)));
     });
+  }
+
+  function drawPictures(state) {
+    const run = shownRun(state);
+    sheetPictures(state).forEach((picture, place) => pictureBoxes[place](picture, run.pictures[place]));
   }
 
   return (state) => {
@@ -264,6 +273,7 @@ export function sheetView(step) {
     if (preview !== drawn.preview) drawPreview(state);
     // A table that was saved is not drawn anew, or its link would end.
     if (reply !== drawn.reply || registers !== drawn.registers) drawResult(state);
+    drawPictures(state);
     drawn = { begins: first, count, more, preview, reply, registers };
     drawColumns(columns);
     drawRunning('sheet', isRunning(state));

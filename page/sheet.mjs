@@ -20,7 +20,7 @@ const TAB = 9;
  * @typedef {{ encoding: string | null, delimiter: number | null, above: number | null }} Proposed
  * @typedef {{ file: File | null } & Proposed} Source
  * @typedef {{ source: Source, picks: Picks, columns: string[], status: 'runs' | 'ended' | 'stopped', key: string,
- *   reply: any, isSaved: boolean, registers: Record<number, { reply: any }> }} Run
+ *   reply: any, isSaved: boolean, registers: Record<number, { reply: any }>, pictures: Record<number, { reply: any }> }} Run
  * @typedef {{ name: string, where: string, count: number | null }} Listed
  * @typedef {{ source: Source, proposed: Proposed, kept: { file: File, choices: any, isFilled: boolean } | null,
  *   fit: { absent: string[], other: string[] } | null, reading: number, begins: any, picks: Picks, columns: string[],
@@ -202,7 +202,7 @@ export function started(state) {
   const { source, picks, columns } = state, runs = state.runs + 1;
   const run = {
     source, picks, columns, status: /** @type {'runs'} */ ('runs'), key: `sheet ${runs}`, reply: null, isSaved: false,
-    registers: {},
+    registers: {}, pictures: {},
   };
   return { ...state, runs, run, notice: '' };
 }
@@ -220,16 +220,28 @@ export function stopped(state) {
 
 const isWhole = (run) => run !== null && run.status === 'ended' && Boolean(run.reply.answer && run.reply.answer.table);
 
+// What is made of a column of dates when it is wanted, by the task that makes it.
+const PARTS = { registers: 'sheetRegister', pictures: 'sheetPicture' };
+
+function partWanted(state, part, place) {
+  const run = shownRun(state);
+  if (!isWhole(run) || run[part][place]) return state;
+  return { ...state, run: { ...run, [part]: { ...run[part], [place]: { reply: null } } } };
+}
+
 /**
  * The register of a column of dates is wanted too.
  * @param {SheetState} state
  * @returns {SheetState}
  */
-export function registerWanted(state, place) {
-  const run = shownRun(state);
-  if (!isWhole(run) || run.registers[place]) return state;
-  return { ...state, run: { ...run, registers: { ...run.registers, [place]: { reply: null } } } };
-}
+export const registerWanted = (state, place) => partWanted(state, 'registers', place);
+
+/**
+ * A picture of a column of dates is wanted too.
+ * @param {SheetState} state
+ * @returns {SheetState}
+ */
+export const pictureWanted = (state, place) => partWanted(state, 'pictures', place);
 
 // The choices as a worker takes them, with the reading that they were made from.
 const wordsOf = ({ source, reading, picks }) =>
@@ -241,13 +253,17 @@ const readingKey = ({ reading, source }) => `sheet reading ${reading} ${source.a
 const picksKey = (state) => `${readingKey(state)} ${JSON.stringify(state.picks)}`;
 const unknownKey = (state) => `names ${picksKey(state)}`;
 const previewKey = (state) => `preview ${picksKey(state)} ${state.columns}`;
-const registerKey = (run, place) => `${run.key} register ${place}`;
 
-function registerTasks(state, task) {
+// What is wanted of columns of dates, and was not made yet, each with its key.
+function wantedParts(state) {
   const run = shownRun(state);
-  return run === null ? [] : Object.entries(run.registers).filter(([, { reply }]) => reply === null).map(([place]) =>
-    task(registerKey(run, place), 'sheetRegister', { ...wordsOf(state), place: Number(place) }));
+  if (run === null) return [];
+  return Object.keys(PARTS).flatMap((part) => Object.entries(run[part]).filter(([, { reply }]) => reply === null)
+    .map(([place]) => ({ part, place, key: `${run.key} ${part} ${place}` })));
 }
+
+const partTasks = (state, task) => wantedParts(state).map(({ part, place, key }) =>
+  task(key, PARTS[part], { ...wordsOf(state), place: Number(place) }));
 
 /** What the worker of the sheet is to be asked now. */
 export function tasks(state) {
@@ -267,7 +283,7 @@ export function tasks(state) {
     return [task(run.key, 'convertSheet', { ...wordsOf(state), columns, places, heading, records })];
   }
   if (missing(state)) return [];
-  const wanted = registerTasks(state, task);
+  const wanted = partTasks(state, task);
   if (shownPreview(state) === null) {
     wanted.push(task(previewKey(state), 'preview', { ...wordsOf(state), dates: dates.length, columns }));
   }
@@ -332,10 +348,10 @@ function unknownReplied(state, reply) {
   return { ...state, unknown, listed: [...stays, ...found.filter((it) => !isIn(stays, it))] };
 }
 
-function registerReplied(state, key, reply) {
-  const run = shownRun(state), place = run && Object.keys(run.registers).find((it) => registerKey(run, it) === key);
-  if (!place) return state;
-  return { ...state, run: { ...run, registers: { ...run.registers, [place]: { reply } } } };
+function partReplied(state, key, reply) {
+  const found = wantedParts(state).find((it) => it.key === key), run = shownRun(state);
+  if (!found) return state;
+  return { ...state, run: { ...run, [found.part]: { ...run[found.part], [found.place]: { reply } } } };
 }
 
 /**
@@ -350,7 +366,7 @@ export function replied(state, key, reply) {
   if (begins === null) return key === readingKey(state) ? readingReplied(state, reply) : state;
   if (key === unknownKey(state)) return unknownReplied(state, reply);
   if (key === previewKey(state)) return { ...state, preview: { begins, picks, columns, reply } };
-  return registerReplied(state, key, reply);
+  return partReplied(state, key, reply);
 }
 
 /**

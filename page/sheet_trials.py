@@ -225,7 +225,11 @@ class SheetTrials:
         counts = self.text("#sheet-results .counts")
         self.check("dates by the reason", re.compile("Refused dates, by the reason[\\s\\S]*1\tBorn 6: the calendar has no such date\tLook"),
             counts)
+        self.click("#sheet-picture-1-save")
+        wait_for("the picture", lambda: "Julian: 2 entries in 1701." in self.text("#sheet-results"))
         saved = self.save_with_register(1)
+        self.check("a picture stays beside a register", re.compile("The dates of Died in two.csv on a line of time"),
+            self.text("#sheet-results"))
         wanted = (
             "\ufeffBorn,Style,Died,Kalender,Born weekday,Born gregorian,Born refusal,Died weekday,Died gregorian,Died refusal\n"
             "1700-2-29,julian,1701-3-1,gregorian,Thursday,1700-03-11,,Saturday,1701-03-12,\n"

@@ -233,6 +233,30 @@ export const WORDS = {
     'als CSV UTF-8',
   fault: (why) => ['die Seite versagte (', own(why), ')'],
 
+  // ---- The picture of a table ----
+  makePicture: 'Die Einträge auf einer Zeitlinie zeigen',
+  makingPicture: 'Die Zeitlinie wird gezeichnet',
+  pictureOf: (name) => ['Die Einträge von ', own(name), ' auf einer Zeitlinie'],
+  makePictureOfDates: (column) => ['Die Daten aus ', column, ' auf einer Zeitlinie zeigen'],
+  pictureOfDates: (column, name) => ['Die Daten aus ', column, ' in ', own(name), ' auf einer Zeitlinie'],
+  savePicture: 'Das Bild speichern',
+  entries: (n) => (n === 1 ? '1 Eintrag' : `${WORDS.number(n)} Einträge`),
+  entriesOf: (name, n, years, refused) => [name, ': ', WORDS.entries(n),
+    n === 0 ? '' : years[0] === years[1] ? ` in ${years[0]}` : ` von ${years[0]} bis ${years[1]}`,
+    refused === 0 ? '' : `; ${WORDS.refused(refused)}`, '.'],
+  otherEntries: (n) => `Andere Namen von Kalendern: ${WORDS.entries(n)}.`,
+  gap: (one, other) => ['Kein Eintrag zwischen ', own(one.date), ` (Zeile ${WORDS.number(one.row)}) und `, own(other.date),
+    ` (Zeile ${WORDS.number(other.row)}), von ${one.year} bis ${other.year}.`],
+  farEntries: (n, all) => (n < all ? `Die ersten ${n} von ${WORDS.number(all)} Einträgen, die weit von den anderen liegen`
+    : n === 1 ? 'Der Eintrag, der weit von den anderen liegt' : `Die ${n} Einträge, die weit von den anderen liegen`),
+  pictureHeads: { row: 'Zeile', id: 'Kennung', calendar: 'Kalender', date: 'Datum', year: 'Jahr' },
+  yearsAre: 'Jahre sind gregorianisch; das Jahr 0 ist 1 v. Chr. Ein viermal so hoher Balken steht für sechzehnmal so viele ' +
+    'Einträge.',
+  gapIs: 'Eine Lücke ist länger als ein Jahr und fünfmal so lang, wie im Mittel zwischen zwei Einträgen liegt; höchstens fünf ' +
+    'sind gezeigt.',
+  farIs: 'Weit von den anderen liegt ein Eintrag, der von den mittleren vier Fünfteln weiter entfernt ist, als diese lang sind, ' +
+    'und als 50 Jahre. Er kann stimmen oder ein Schreibfehler sein.',
+
   // The reason of each refusal, from 1, and what to do on this page.
   refusals: [
     'der Eintrag hat nicht drei Felder; in einem versiegelten Register vier',

@@ -220,6 +220,28 @@ export const WORDS = {
   utf16: 'the file is written in UTF-16, and a register in UTF-8; take it in as a sheet, below, or save it as CSV UTF-8',
   fault: (why) => ['the page failed (', own(why), ')'],
 
+  // ---- The picture of a table ----
+  makePicture: 'Show the entries on a line of time',
+  makingPicture: 'The line of time is being drawn',
+  pictureOf: (name) => ['The entries of ', own(name), ' on a line of time'],
+  makePictureOfDates: (column) => ['Show the dates of ', column, ' on a line of time'],
+  pictureOfDates: (column, name) => ['The dates of ', column, ' in ', own(name), ' on a line of time'],
+  savePicture: 'Save the picture',
+  entries: (n) => (n === 1 ? '1 entry' : `${WORDS.number(n)} entries`),
+  entriesOf: (name, n, years, refused) => [name, ': ', WORDS.entries(n),
+    n === 0 ? '' : years[0] === years[1] ? ` in ${years[0]}` : ` from ${years[0]} to ${years[1]}`,
+    refused === 0 ? '' : `; ${WORDS.refused(refused)}`, '.'],
+  otherEntries: (n) => `Other names of calendars: ${WORDS.entries(n)}.`,
+  gap: (one, other) => ['No entry between ', own(one.date), ` (row ${WORDS.number(one.row)}) and `, own(other.date),
+    ` (row ${WORDS.number(other.row)}), from ${one.year} to ${other.year}.`],
+  farEntries: (n, all) => (n < all ? `The first ${n} of ${WORDS.number(all)} entries that are far from the others`
+    : n === 1 ? 'The entry that is far from the others' : `The ${n} entries that are far from the others`),
+  pictureHeads: { row: 'Row', id: 'Id', calendar: 'Calendar', date: 'Date', year: 'Year' },
+  yearsAre: 'Years are Gregorian; the year 0 is 1 BC. A bar four times as high stands for sixteen times as many entries.',
+  gapIs: 'A gap is longer than a year, and five times as long as lies between two entries on the average; at most five are shown.',
+  farIs: 'An entry is far from the others that is further from the middle four fifths of them than these are long, and than 50 ' +
+    'years. It may be right, or a slip.',
+
   // The reason of each refusal, from 1, and what to do on this page.
   refusals: FACTS.refusals.map(({ number, sentence }) => sentence + (OF_REFUSALS[number] || '')),
   advice: [

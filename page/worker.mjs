@@ -8,6 +8,7 @@ import { formulasAmong, mayHaveFormula } from './formulas.mjs';
 import { NoMemory, expectedLength, instantiate } from './module.mjs';
 import { isDelimiterOf, kindOf, likelyAbove, likelyDelimiter, likelyEncodings, markedEncoding } from './proposals.mjs';
 import { EVERY, LOOKED_AT, REFUSED_SHOWN, SHOWN, Table, range, rowsOf } from './tables.mjs';
+import { timelineOf } from './timeline.mjs';
 import { FACTS } from './unbuilt-facts.mjs';
 import { NAMES } from './unbuilt-names.mjs';
 
@@ -116,6 +117,13 @@ async function register({ compiled, file, delimiter, sealed, columns }) {
 /** An archive of files, with a comment. */
 async function archive({ files, comment }) {
   return { archive: await archiveOf(files, comment, new Date()) };
+}
+
+/** What a picture of a table with so many rows shows. */
+async function picture({ compiled, table, delimiter, rows }) {
+  const module = await instantiate(compiled), text = module.malloc(table.size);
+  await readFile(table, (at, length) => module.bytes({ pointer: text.pointer + at, length }));
+  return timelineOf(module, withoutMark(module, text), delimiter, rows);
 }
 
 // ---- Sheets ----
@@ -383,7 +391,19 @@ async function sheetRegister({ choice, place, names, ...source }) {
   return { ending, register: made };
 }
 
-const TASKS = { date, register, archive, choices, beginning, unknownNames, preview, convertSheet, sheetRegister };
+/** What a picture of one column of dates shows, by the register of it. */
+async function sheetPicture({ choice, place, names, ...source }) {
+  const { module, text, delimiter } = await sheetOf(source);
+  const { ending, table: register } = module.sheetRegister(text, choice, place, namesWith(names));
+  if (ending !== 0) throw new Error(`sheet_register: ${ending}`);
+  const setup = { columns: [], delimiter, sealed: false };
+  const { rows, table } = module.convert(register, setup, expectedLength(2 * register.length, 0, 0));
+  const found = timelineOf(module, table, delimiter, rows);
+  module.free(table, register);
+  return found;
+}
+
+const TASKS = { date, register, archive, picture, choices, beginning, unknownNames, preview, convertSheet, sheetRegister, sheetPicture };
 
 function faultOf(fault) {
   if (fault instanceof OtherKind) return fault.message;

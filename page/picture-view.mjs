@@ -1,0 +1,110 @@
+// Draws a picture of a table: its entries along one line of time, a row for each calendar.
+
+import { clear, element, saveBlob, tableBox, textOf, withFocus } from './elements.mjs';
+import { WORDS } from './language.mjs';
+
+const SPACE = 'http://www.w3.org/2000/svg';
+// What is drawn stands between names and what was refused; so high are a row, and in it the highest bar.
+const LINE_AT = 200, LINE = 600, WIDTH = 960, ROW = 36, BAR = 26, MARKS = 30;
+const FAR_COLOR = '#b3210d';
+
+function shape(name, attributes, ...children) {
+  const made = document.createElementNS(SPACE, name);
+  for (const [key, value] of Object.entries(attributes)) made.setAttribute(key, String(value));
+  made.append(...children);
+  return made;
+}
+
+const label = (x, y, text, more = {}) => shape('text', { x, y, fill: 'currentColor', ...more }, text);
+const placeOf = (day, { from, to }) => LINE_AT + LINE * (day - from) / (to - from);
+
+// One shape of all bars of a row, each as high as the root of its count.
+function bars(bins, bottom, most) {
+  const width = LINE / bins.length;
+  const path = bins.map((count, i) => {
+    const high = Math.max(2, BAR * Math.sqrt(count / most));
+    return count === 0 ? '' : `M${(LINE_AT + i * width).toFixed(1)} ${bottom}v${-high.toFixed(1)}h${width}v${high.toFixed(1)}z`;
+  });
+  return shape('path', { d: path.join(''), fill: 'currentColor' });
+}
+
+// A name of the row's entries that are far from the others, on the side where they are.
+function farMarks(row, bottom) {
+  return [['before', LINE_AT - 6, 'end'], ['behind', LINE_AT + LINE + 6, 'start']].flatMap(([side, x, anchor]) => {
+    const [first, ...others] = row.far.filter((it) => it.side === side);
+    if (!first) return [];
+    const text = `${side === 'before' ? '◀ ' : ''}${first.year}${others.length ? ` +${others.length}` : ''}${side === 'behind' ? ' ▶' : ''}`;
+    const mark = label(x, bottom - 4, text, { 'text-anchor': anchor, fill: FAR_COLOR, class: 'far', 'font-weight': 600 });
+    return [shape('a', { href: `#${first.id}` }, mark)];
+  });
+}
+
+function drawnRow(row, i, most) {
+  const bottom = ROW * (i + 1), [before] = farMarks(row, bottom);
+  const refused = label(WIDTH, bottom - 4, row.refused, { 'text-anchor': 'end', 'font-size': 13 });
+  const name = label(0, bottom - (before ? 16 : 4), textOf(row.label), { 'font-size': 14 });
+  const under = shape('path', { d: `M${LINE_AT} ${bottom}h${LINE}`, stroke: 'currentColor', 'stroke-opacity': 0.3 });
+  return [name, under, bars(row.bins, bottom, most), ...farMarks(row, bottom), refused];
+}
+
+/** The picture of what a report says. */
+export function pictureOf(report) {
+  const { rows, marks, gaps } = report, bottom = ROW * rows.length, high = bottom + MARKS;
+  const most = Math.max(1, ...rows.flatMap(({ bins }) => bins));
+  const lines = marks.flatMap(({ day, year }) => {
+    const x = placeOf(day, report);
+    return [shape('path', { d: `M${x} 0V${bottom + 6}`, stroke: 'currentColor', 'stroke-opacity': 0.3 }),
+      label(x, bottom + 22, String(year), { 'text-anchor': 'middle', 'font-size': 13 })];
+  });
+  const holes = gaps.map(({ id, from, to, words }) => {
+    const [x, end] = [from, to].map((day) => placeOf(day, report));
+    const hole = shape('rect', { x, y: 0, width: end - x, height: bottom, fill: FAR_COLOR, 'fill-opacity': 0.15, class: 'gap' });
+    return shape('a', { href: `#${id}`, 'aria-label': textOf(words) }, hole);
+  });
+  return shape('svg', {
+    xmlns: SPACE, viewBox: `0 0 ${WIDTH} ${high}`, width: WIDTH, height: high, 'font-family': 'sans-serif', 'font-size': 14,
+  }, shape('title', {}, textOf(report.title)), ...lines, ...holes, ...rows.flatMap((row, i) => drawnRow(row, i, most)));
+}
+
+// The picture as a file has it: black on white, with no links.
+function savedPicture(picture) {
+  const copy = picture.cloneNode(true);
+  for (const link of copy.querySelectorAll('a')) link.replaceWith(...link.childNodes);
+  copy.insertBefore(shape('rect', { width: '100%', height: '100%', fill: '#fff' }), copy.firstChild.nextSibling);
+  return new Blob([new XMLSerializer().serializeToString(copy)], { type: 'image/svg+xml' });
+}
+
+function drawPicture(box, report) {
+  const picture = pictureOf(report), region = element('div', '', { className: 'rows picture', tabIndex: 0 });
+  region.setAttribute('role', 'region');
+  region.setAttribute('aria-label', textOf(report.title));
+  region.append(picture);
+  const save = element('button', WORDS.savePicture, { type: 'button', className: 'second', id: `${report.id}-save` });
+  save.addEventListener('click', () => saveBlob(savedPicture(picture), report.name));
+  const lines = element('ul');
+  for (const { id = '', words } of report.lines) lines.append(element('li', words, id ? { id, tabIndex: -1 } : {}));
+  box.append(element('h4', report.title), region, lines, ...report.tables.map((table) => tableBox(table, report.name)));
+  box.append(...report.hints.map((words) => element('p', words, { className: 'hint' })));
+  box.appendChild(element('p', '', { className: 'buttons' })).append(save);
+}
+
+/** Draws into a box the picture of a report, or a button that tells `make`; nothing for null. */
+export function pictureBox(box, make) {
+  let before = null, isEmpty = true;
+  return (report, picture) => {
+    if (report === null ? isEmpty : before !== null && before.picture === picture && before.text === textOf(report.title)) return;
+    before = report === null ? null : { picture, text: textOf(report.title) };
+    isEmpty = report === null;
+    withFocus(box, () => {
+      clear(box);
+      if (report === null) return;
+      if (report.isMade) {
+        drawPicture(box, report);
+        return;
+      }
+      const button = element('button', report.title, { type: 'button', className: 'second', id: `${report.id}-save` });
+      button.addEventListener('click', make);
+      box.append(button);
+    });
+  };
+}

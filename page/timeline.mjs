@@ -81,14 +81,16 @@ function entriesOf(bytes, lengths, width) {
 
 // The fields of these entries, which are told one by one.
 function fieldsOf(bytes, lengths, width, entries) {
-  const wanted = new Set(entries), found = new Map(), decoder = new TextDecoder();
-  let at = 0;
-  for (let i = 0; i < lengths.length; i += 1) {
-    const entry = Math.floor(i / width) - 1;
-    if (wanted.has(entry)) {
-      found.set(entry, [...(found.get(entry) || []), decoder.decode(bytes.subarray(at, at + lengths[i]))]);
+  const wanted = [...new Set(entries)].sort((one, other) => one - other), found = new Map(), decoder = new TextDecoder();
+  let at = 0, next = 0;
+  for (let i = 0; i < lengths.length && next < wanted.length; i += width) {
+    const fields = [], isWanted = i / width - 1 === wanted[next];
+    for (let k = i; k < i + width; k += 1) {
+      if (isWanted) fields.push(decoder.decode(bytes.subarray(at, at + lengths[k])));
+      at += lengths[k];
     }
-    at += lengths[i];
+    if (isWanted) found.set(wanted[next], fields);
+    next += isWanted ? 1 : 0;
   }
   return found;
 }
@@ -149,7 +151,7 @@ function binned({ days, places, names }, [from, to]) {
 // The places of entries on these days, of each the first.
 function placesOfDays(days, wanted) {
   const found = new Map(wanted.map((day) => [day, -1]));
-  days.forEach((day, i) => { if (found.get(day) === -1) found.set(day, i); });
+  if (wanted.length) days.forEach((day, i) => { if (found.get(day) === -1) found.set(day, i); });
   return found;
 }
 

@@ -367,6 +367,16 @@ export class Module {
     return { ending, list: found, more, short, kept };
   }
 
+  /**
+   * The dates of a family tree in GEDCOM, as a sheet with commas.
+   * @param {Part} tree
+   */
+  treeDates(tree) {
+    const { ending, text } = this.makeFrom('tree_dates', 0, [tree], [], PAGE + Math.ceil(tree.length / 4));
+    if (ending !== 0) throw new NoMemory();
+    return text;
+  }
+
   /** A CSV text of the fields, of which each `width` are a record. */
   write(fields, width, delimiter) {
     return this.makeText('sheet_write', fields, (bytes, lengths) => [bytes, lengths, BigInt(width), delimiter]);

@@ -14,6 +14,12 @@ function found(beginnings, bytes) {
 /** The kind of file that begins with these bytes, or null for a text. */
 export const kindOf = (bytes) => found(KINDS, bytes);
 
+/** Whether a text begins as a family tree in GEDCOM does. */
+export const isTree = (text) => /^\ufeff?\s*0 +HEAD\s/.test(text);
+
+/** Whether a family tree says that it is written in ANSEL, which no browser reads. */
+export const isAnsel = (text) => /^\s*1 +CHAR +ANSEL\b/m.test(text);
+
 /** The encoding that these bytes begin with the mark of, but for UTF-8, or null. */
 export const markedEncoding = (bytes) => found(MARKS, bytes);
 

@@ -256,7 +256,8 @@ const encodingOf = ({ source }) => WORDS.encodings[source.encoding];
 /** The sheet that is chosen, and what was proposed for it: of one column no delimiter was. */
 export function sheetChosen(state) {
   const { source: { file } } = state, { encoding, delimiter, above } = sheet.shownProposed(state);
-  const first = sheet.beginning(state), separator = first && first.widest > 1 && WORDS.delimiters[delimiter];
+  const first = sheet.beginning(state), isOfTree = first && first.isOfTree;
+  const separator = isOfTree ? WORDS.aTree : first && first.widest > 1 && WORDS.delimiters[delimiter];
   const looks = [separator, WORDS.encodings[encoding], above && WORDS.aboveFound(above)].filter(Boolean);
   if (file === null) return '';
   return [WORDS.chosen(file.name, WORDS.bytes(file.size)), '.', looks.length ? ` ${WORDS.looksLike(looks)}` : ''];

@@ -231,6 +231,8 @@ export const WORDS = {
     'als CSV UTF-8, oder kopieren Sie ihre Zellen und fügen Sie sie in „Aus einem Bogen“ ein',
   utf16: 'die Datei ist in UTF-16 geschrieben und ein Register in UTF-8; nehmen Sie sie unten als Bogen, oder speichern Sie sie ' +
     'als CSV UTF-8',
+  tree: 'die Datei ist ein Stammbaum (GEDCOM); nehmen Sie sie unten als Bogen',
+  ansel: 'der Stammbaum ist in ANSEL geschrieben, was hier nicht gelesen wird; lassen Sie Ihr Programm ihn in UTF-8 speichern',
   fault: (why) => ['die Seite versagte (', own(why), ')'],
 
   // ---- The picture of a table ----
@@ -328,6 +330,7 @@ export const WORDS = {
   aboveIs: 'Titelzeilen, die bleiben, wie sie sind. Dann kommt die Zeile mit den Namen der Spalten.',
   titles: (lines) => ['Über den Namen: ', own(lines.join(' / ')), '.'],
   aboveFound: (n) => (n === 1 ? '1 Zeile über den Namen' : `${WORDS.number(n)} Zeilen über den Namen`),
+  aTree: 'ein Stammbaum',
   looksLike: (what) => `Sieht aus wie ${what.join(', ')}.`,
   encodings: {
     'utf-8': 'UTF-8',

@@ -218,6 +218,8 @@ export const WORDS = {
   pdf: 'the file is no text but a PDF; copy its table into a spreadsheet and save that as CSV UTF-8, or copy its cells ' +
     'and paste them in “From a sheet”',
   utf16: 'the file is written in UTF-16, and a register in UTF-8; take it in as a sheet, below, or save it as CSV UTF-8',
+  tree: 'the file is a family tree (GEDCOM); take it in as a sheet, below',
+  ansel: 'the family tree is written in ANSEL, which cannot be read here; let your program save it in UTF-8',
   fault: (why) => ['the page failed (', own(why), ')'],
 
   // ---- The picture of a table ----
@@ -301,6 +303,7 @@ export const WORDS = {
   aboveIs: 'Title lines, which stay as they are. Then comes the line with the names of the columns.',
   titles: (lines) => ['Above the names: ', own(lines.join(' / ')), '.'],
   aboveFound: (n) => (n === 1 ? '1 line above the names' : `${WORDS.number(n)} lines above the names`),
+  aTree: 'a family tree',
   looksLike: (what) => `Looks like ${what.join(', ')}.`,
   encodings: {
     'utf-8': 'UTF-8',

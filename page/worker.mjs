@@ -6,7 +6,9 @@ import { choicesOf, columnNumbers } from './choices.mjs';
 import { ChangedFile, NoReading, checkUnchanged, readFile } from './files.mjs';
 import { formulasAmong, mayHaveFormula } from './formulas.mjs';
 import { NoMemory, expectedLength, instantiate } from './module.mjs';
-import { isDelimiterOf, kindOf, likelyAbove, likelyDelimiter, likelyEncodings, markedEncoding } from './proposals.mjs';
+import {
+  isAnsel, isDelimiterOf, isTree, kindOf, likelyAbove, likelyDelimiter, likelyEncodings, markedEncoding,
+} from './proposals.mjs';
 import { EVERY, LOOKED_AT, REFUSED_SHOWN, SHOWN, Table, range, rowsOf } from './tables.mjs';
 import { timelineOf } from './timeline.mjs';
 import { FACTS } from './unbuilt-facts.mjs';
@@ -103,6 +105,7 @@ async function register({ compiled, file, delimiter, sealed, columns }) {
   });
   const bytes = bytesAt(0, text.length), kind = kindOf(bytes) || (markedEncoding(bytes) && 'utf16');
   if (kind !== null) throw new OtherKind(kind);
+  if (isTree(frontOf(module, text))) throw new OtherKind('tree');
   const setup = { columns: numbersOf(columns), delimiter, sealed };
   const answer = module.convert(text, setup, expectedLength(text.length, lines, columns.length));
   await checkUnchanged(file, bytesAt);
@@ -211,9 +214,12 @@ async function readSheet({ compiled, number, file, encoding: chosen, ...source }
   const module = await instantiate(compiled), read = await rawOf(module, file);
   const kind = kindOf(read.bytesAt(0, read.raw.length));
   if (kind !== null) throw new OtherKind(kind);
-  const { encoding, text } = textOf(module, read, chosen, source.kept);
-  const front = frontOf(module, text), delimiter = delimiterOf(front, source);
-  sheet = { number, file, bytesAt: read.bytesAt, module, text, front, encoding, delimiter, counted: null };
+  const { encoding, text: own } = textOf(module, read, chosen, source.kept), beginning = frontOf(module, own);
+  const isOfTree = isTree(beginning);
+  if (isOfTree && !read.isAscii && isAnsel(beginning)) throw new OtherKind('ansel');
+  const text = isOfTree ? module.treeDates(own) : own, front = isOfTree ? frontOf(module, text) : beginning;
+  const delimiter = isOfTree ? COMMA : delimiterOf(front, source);
+  sheet = { number, file, bytesAt: read.bytesAt, module, text, front, encoding, delimiter, isOfTree, counted: null };
   return sheet;
 }
 
@@ -221,20 +227,21 @@ async function readSheet({ compiled, number, file, encoding: chosen, ...source }
 const sheetOf = async (source) => (sheet && sheet.number === source.number ? sheet : readSheet(source));
 
 // The first records and columns of a sheet under its names, and what stands above these.
-function begins({ module, text, encoding, delimiter }, above, records, widest) {
+function begins({ module, text, encoding, delimiter, isOfTree }, above, records, widest) {
   const width = Math.max(1, Math.min(widest, MOST_COLUMNS));
   const first = rowsOf(module.pick(text, delimiter, range(width), above + SHOWN + 1).fields, width);
   const titles = first.slice(0, Math.min(above, SHOWN)).map((fields) => fields.filter(Boolean).join(' '));
   const [heading = [], ...rows] = first.slice(above);
-  return { encoding, delimiter, above, records, widest, heading, rows, titles };
+  return { encoding, delimiter, above, records, widest, heading, rows, titles, isOfTree };
 }
 
 // The records above the names, so many as were chosen, or kept where a column that was kept has its name below, or are
 // likely.
-function aboveOf({ module, text, delimiter, front }, { above, kept }) {
+function aboveOf({ module, text, delimiter, front, isOfTree }, { above, kept }) {
   if (above !== null) return above;
+  if (isOfTree) return 0;
   if (kept && kept.above !== null) {
-    const { heading } = begins({ module, text, encoding: '', delimiter }, kept.above, 0, MOST_COLUMNS);
+    const { heading } = begins({ module, text, encoding: '', delimiter, isOfTree }, kept.above, 0, MOST_COLUMNS);
     if (kept.dates.some(({ column }) => heading.includes(column))) return kept.above;
   }
   return likelyAbove(front, delimiter);

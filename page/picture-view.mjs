@@ -22,8 +22,9 @@ const placeOf = (day, { from, to }) => LINE_AT + LINE * (day - from) / (to - fro
 function bars(bins, bottom, most) {
   const width = LINE / bins.length;
   const path = bins.map((count, i) => {
-    const high = Math.max(2, BAR * Math.sqrt(count / most));
-    return count === 0 ? '' : `M${(LINE_AT + i * width).toFixed(1)} ${bottom}v${-high.toFixed(1)}h${width}v${high.toFixed(1)}z`;
+    if (count === 0) return '';
+    const high = Math.max(2, BAR * Math.sqrt(count / most)).toFixed(1), x = (LINE_AT + i * width).toFixed(1);
+    return `M${x} ${bottom}v-${high}h${width}v${high}z`;
   });
   return shape('path', { d: path.join(''), fill: 'currentColor' });
 }
@@ -33,7 +34,8 @@ function farMarks(row, bottom) {
   return [['before', LINE_AT - 6, 'end'], ['behind', LINE_AT + LINE + 6, 'start']].flatMap(([side, x, anchor]) => {
     const [first, ...others] = row.far.filter((it) => it.side === side);
     if (!first) return [];
-    const text = `${side === 'before' ? '◀ ' : ''}${first.year}${others.length ? ` +${others.length}` : ''}${side === 'behind' ? ' ▶' : ''}`;
+    const years = `${first.year}${others.length ? ` +${others.length}` : ''}`;
+    const text = side === 'before' ? `◀ ${years}` : `${years} ▶`;
     const mark = label(x, bottom - 4, text, { 'text-anchor': anchor, fill: FAR_COLOR, class: 'far', 'font-weight': 600 });
     return [shape('a', { href: `#${first.id}` }, mark)];
   });
@@ -58,7 +60,8 @@ export function pictureOf(report) {
   });
   const holes = gaps.map(({ id, from, to, words }) => {
     const [x, end] = [from, to].map((day) => placeOf(day, report));
-    const hole = shape('rect', { x, y: 0, width: end - x, height: bottom, fill: FAR_COLOR, 'fill-opacity': 0.15, class: 'gap' });
+    const hole = shape('rect',
+      { x, y: 0, width: end - x, height: bottom, fill: FAR_COLOR, 'fill-opacity': 0.15, class: 'gap' });
     return shape('a', { href: `#${id}`, 'aria-label': textOf(words) }, hole);
   });
   return shape('svg', {
@@ -90,11 +93,11 @@ function drawPicture(box, report) {
 
 /** Draws into a box the picture of a report, or a button that tells `make`; nothing for null. */
 export function pictureBox(box, make) {
-  let before = null, isEmpty = true;
+  let before = { picture: null, text: '' };
   return (report, picture) => {
-    if (report === null ? isEmpty : before !== null && before.picture === picture && before.text === textOf(report.title)) return;
-    before = report === null ? null : { picture, text: textOf(report.title) };
-    isEmpty = report === null;
+    const text = report === null ? '' : textOf(report.title);
+    if (text === before.text && picture === before.picture) return;
+    before = { picture, text };
     withFocus(box, () => {
       clear(box);
       if (report === null) return;

@@ -9,7 +9,8 @@ import { WORDS } from './language.mjs';
 import { registersTable } from './list-view.mjs';
 import { pictureBox } from './picture-view.mjs';
 import {
-  archiveSaved, archiveWanted, chosen, hasTable, isRunning, opened, pictureWanted, repeated, saved, shownRun, started, stopped,
+  archiveSaved, archiveWanted, chosen, hasTable, isRunning, opened, pictureWanted, repeated, saved, shownRun, started,
+  stopped,
 } from './registers.mjs';
 import { archiveReport, chosenFiles, registerPicture, registerReport, registersList, registersStatus } from './reports.mjs';
 
@@ -64,7 +65,8 @@ function archiveOf(box, step) {
 function listOfRun(box, run, step, now) {
   const drawTable = registersTable(box, run.jobs.length, stepsOf(step, now));
   const drawArchive = archiveOf(box.appendChild(element('p', '', { className: 'buttons' })), step);
-  const drawOpened = articleOf(box.appendChild(element('div', '', { id: 'register-opened' })), 'register-result', step, now);
+  const openedBox = box.appendChild(element('div', '', { id: 'register-opened' }));
+  const drawOpened = articleOf(openedBox, 'register-result', step, now);
   return (it) => {
     drawTable(registersList(it, now()), it.opened);
     drawArchive(archiveReport(it));
@@ -105,10 +107,7 @@ function rested(draw, now) {
   };
 }
 
-/** The answer draws the state. `now` gives the time in milliseconds. */
-export function registersView(step, now) {
-  const drawColumns = whenChanged(columnTicks(byId('register-columns'), TARGETS, WORDS.noColumns,
-    (columns) => step(chosen, { columns })));
+function takeForm(step, now) {
   onCheck('register-delimiter', (value) => step(chosen, { delimiter: Number(value) }));
   byId('register-sealed').addEventListener('change', ({ target }) => step(chosen, { sealed: target.checked }));
   takeFiles(byId('register-files'), (target) => !byId('sheet-part').contains(target),
@@ -124,33 +123,40 @@ export function registersView(step, now) {
     if (step(started, now()).notice === 'nothingChosen') byId('register-files').focus();
   });
   byId('register-stop').addEventListener('click', () => step(stopped));
+}
 
-  const drawFiles = whenChanged((files) => {
-    const lines = chosenFiles(files).map((words) => element('li', words));
-    byId('register-chosen').replaceChildren(...lines);
-    // A field that was drawn anew has none.
-    const field = byId('register-files');
-    if (files.length && !field.files.length) field.files = listOf(files);
-  });
+function drawFiles(files) {
+  byId('register-chosen').replaceChildren(...chosenFiles(files).map((words) => element('li', words)));
+  // A field that was drawn anew has none.
+  const field = byId('register-files');
+  if (files.length && !field.files.length) field.files = listOf(files);
+}
+
+function drawProgress(run) {
+  const bar = byId('register-progress');
+  if (run === null || run.jobs.length === 1) {
+    bar.removeAttribute('value');
+    return;
+  }
+  const sizeOf = (jobs) => jobs.reduce((sum, { file }) => sum + file.size, 0);
+  bar.max = sizeOf(run.jobs) + 1;
+  bar.value = sizeOf(run.jobs.filter(({ status }) => status === 'ended'));
+}
+
+/** The answer draws the state. `now` gives the time in milliseconds. */
+export function registersView(step, now) {
+  takeForm(step, now);
+  const drawColumns = whenChanged(columnTicks(byId('register-columns'), TARGETS, WORDS.noColumns,
+    (columns) => step(chosen, { columns })));
+  const drawChosen = whenChanged(drawFiles);
   const drawDelimiter = whenChanged((delimiter) => check('register-delimiter', delimiter));
   const drawSealed = whenChanged((sealed) => { byId('register-sealed').checked = sealed; });
   const drawStatus = wordsIn('register-said');
   const drawResults = resultsView(byId('register-results'), step, now);
 
-  function drawProgress(run) {
-    const bar = byId('register-progress');
-    if (run === null || run.jobs.length === 1) {
-      bar.removeAttribute('value');
-      return;
-    }
-    const sizeOf = (jobs) => jobs.reduce((sum, { file }) => sum + file.size, 0);
-    bar.max = sizeOf(run.jobs) + 1;
-    bar.value = sizeOf(run.jobs.filter(({ status }) => status === 'ended'));
-  }
-
   return rested((state) => {
     const { choice } = state, run = shownRun(state);
-    drawFiles(choice.files);
+    drawChosen(choice.files);
     drawDelimiter(choice.delimiter);
     drawSealed(choice.sealed);
     drawColumns(choice.columns);

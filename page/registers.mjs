@@ -13,8 +13,9 @@ const SMALL = 2 ** 20, SHARE = 64;
 
 /**
  * A job is a register, by its number among those that were chosen; `slot` is its place among those that run, and `tries`
- * says how often it was converted before. `picture` holds what a picture of its table shows, once it was wanted. Of a run, `opened` is the number of the register whose details are shown, and
- * `archive` holds the archive of all whole tables, once it was wanted.
+ * says how often it was converted before. `picture` holds what a picture of its table shows, once it was wanted. Of a run,
+ * `opened` is the number of the register whose details are shown, and `archive` holds the archive of all whole tables,
+ * once it was wanted.
  * @typedef {{ files: File[], delimiter: number, sealed: boolean, columns: string[] }} RegistersChoice
  * @typedef {{ number: number, file: File, tries: number, slot: number, status: 'waits' | 'runs' | 'ended' | 'stopped',
  *   begun: number, reply: any, isSaved: boolean, picture: { reply: any } | null }} Job
@@ -165,7 +166,8 @@ function archiveTasks(run) {
   if (run.archive === null || run.archive.reply !== null) return [];
   const whole = run.jobs.filter(isWhole), key = archiveKey(run);
   const files = whole.map((job) => ({ name: tableName(job), blob: job.reply.answer.table }));
-  return [{ key, worker: key, name: 'archive', words: { files, comment: WORDS.archiveSays(whole.length, run.jobs.length) } }];
+  const comment = WORDS.archiveSays(whole.length, run.jobs.length);
+  return [{ key, worker: key, name: 'archive', words: { files, comment } }];
 }
 
 /** What workers are to be asked now: one for each register that runs, and one for the archive. */

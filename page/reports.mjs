@@ -23,7 +23,7 @@ const dateCountRows = (counts, names) => counts.flatMap((ofColumn, k) => countRo
   .map(([count, reason, advice]) => [count, names.length === 1 ? reason : [names[k], ' ', reason], advice]));
 
 // What a spreadsheet may do with fields of a table.
-const cautionOf = ({ formulas }) => (formulas.count === 0 ? '' : WORDS.formulas(formulas.count, shortened(formulas.example)));
+const cautionOf = ({ formulas: { count, example } }) => (count === 0 ? '' : WORDS.formulas(count, shortened(example)));
 const shortened = (text) => (text.length > SHORT ? `${text.slice(0, SHORT)}…` : text);
 
 /**

@@ -126,7 +126,8 @@ function marksOf(years, from, to) {
 
 // The calendars that have a row: those of the product first, in its order, and then the others by how often they are there.
 function rowsOfNames(names, counts) {
-  const known = FACTS.calendars.map(({ name }) => name), rank = (name) => (known.includes(name) ? known.indexOf(name) : Infinity);
+  const known = FACTS.calendars.map(({ name }) => name);
+  const rank = (name) => (known.includes(name) ? known.indexOf(name) : known.length);
   return range(names.length).sort((one, other) =>
     (rank(names[one]) === rank(names[other]) ? counts[other] - counts[one] : rank(names[one]) - rank(names[other])));
 }
@@ -145,7 +146,8 @@ function binned({ days, places, names }, [from, to]) {
     }
   });
   const order = rowsOfNames(names, all.map(({ count, refused }) => count + refused)), rows = order.map((i) => all[i]);
-  return { rows: rows.slice(0, MOST_ROWS), others: rows.slice(MOST_ROWS).reduce((sum, it) => sum + it.count + it.refused, 0) };
+  const others = rows.slice(MOST_ROWS).reduce((sum, it) => sum + it.count + it.refused, 0);
+  return { rows: rows.slice(0, MOST_ROWS), others };
 }
 
 // The places of entries on these days, of each the first.
@@ -160,7 +162,8 @@ function drawn(bytes, lengths, width, years) {
   const sorted = days.filter((day) => day !== NO_DAY).sort();
   if (sorted.length === 0) return { ...binned(entries, [0, 1]), from: 0, to: 1, marks: [], far: [], allFar: 0, gaps: [] };
   const [low, high] = nearOf(sorted, years.start(1950) - years.start(1900));
-  const near = sorted.filter((day) => day >= low && day <= high), isFar = (day) => day !== NO_DAY && (day < low || day > high);
+  const near = sorted.filter((day) => day >= low && day <= high);
+  const isFar = (day) => day !== NO_DAY && (day < low || day > high);
   const [first, last] = [near[0], near[near.length - 1]].map(years.of), from = years.start(first);
   const to = last < LAST_YEAR ? years.start(last + 1) : near[near.length - 1] + 1;
   const farPlaces = [];

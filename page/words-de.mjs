@@ -23,10 +23,10 @@ const SHORT_CAUSES = {
 };
 const MORE_OF_CAUSES = {
   4: ', etwa weil ein Datenträger voll ist',
-  6: ': nicht `id,calendar,date` (in einem versiegelten Register `id,calendar,date,note`), sondern andere Namen oder eine ' +
-    'andere Folge, mehr Spalten, ein anderes Trennzeichen, UTF-16 oder eine Titelzeile',
-  8: ': keine Zeile `END,N` mit dem eigenen Trennzeichen, oder nur eine wie `END,N,,` aus einer Tabellenkalkulation; oder die ' +
-    'erste hat eine andere Zahl, als es Einträge sind, oder ist nicht die letzte Zeile',
+  6: ': nicht `id,calendar,date` (in einem versiegelten Register `id,calendar,date,note`), sondern andere Namen oder ' +
+    'eine andere Folge, mehr Spalten, ein anderes Trennzeichen, UTF-16 oder eine Titelzeile',
+  8: ': keine Zeile `END,N` mit dem eigenen Trennzeichen, oder nur eine wie `END,N,,` aus einer Tabellenkalkulation; ' +
+    'oder die erste hat eine andere Zahl, als es Einträge sind, oder ist nicht die letzte Zeile',
 };
 
 export const WORDS = {
@@ -34,25 +34,26 @@ export const WORDS = {
   languages: 'Sprache',
   title: 'register: historische Daten von Kalender zu Kalender',
   name: 'register',
-  about: 'Rechnet historische Daten von Kalender zu Kalender um: eines oder ein ganzes Register. Nichts, was Sie eingeben ' +
-    'oder wählen, verlässt diesen Rechner.',
+  about: 'Rechnet historische Daten von Kalender zu Kalender um: eines oder ein ganzes Register. Nichts, was Sie ' +
+    'eingeben oder wählen, verlässt diesen Rechner.',
   noScript: 'Diese Seite braucht JavaScript und WebAssembly, die hier abgeschaltet sind.',
   noModule: (why) => ['Die Umrechnung ließ sich in diesem Browser nicht starten: ', own(why)],
   parts: 'Teile dieser Seite',
 
   // ---- What is proved ----
   proved: 'Was bewiesen ist',
-  provedOfRegisters: 'Das Programm in dieser Seite wurde bewiesen, bevor die Seite gemacht wurde. Die Tabelle eines Registers ' +
-    'hat für jeden Eintrag eine Zeile, in ihrer Folge, mit dem Tag, den sein Kalender ergibt, oder mit dem Grund, warum es ' +
-    'keinen gibt; und sie hat genau diese Bytes.',
-  provedOfSheets: 'Auch die Tabelle eines Bogens ist bewiesen, von Ihrer Wahl und der Namensliste bis zu ihren Bytes: Jeder ' +
-    'Eintrag behält seine Felder, seine Daten werden gelesen, wie die Regeln es sagen, und dahinter stehen ihre Tage oder ' +
-    'der Grund, warum es keinen gibt.',
+  provedOfRegisters: 'Das Programm in dieser Seite wurde bewiesen, bevor die Seite gemacht wurde. Die Tabelle eines ' +
+    'Registers hat für jeden Eintrag eine Zeile, in ihrer Folge, mit dem Tag, den sein Kalender ergibt, oder mit dem ' +
+    'Grund, warum es keinen gibt; und sie hat genau diese Bytes.',
+  provedOfSheets: 'Auch die Tabelle eines Bogens ist bewiesen, von Ihrer Wahl und der Namensliste bis zu ihren ' +
+    'Bytes: Jeder Eintrag behält seine Felder, seine Daten werden gelesen, wie die Regeln es sagen, und dahinter ' +
+    'stehen ihre Tage oder der Grund, warum es keinen gibt.',
   trusted: 'Nicht bewiesen, sondern vertraut wird dem, was aus dem bewiesenen Programm eines für Browser macht (dem ' +
-    'Übersetzer für ein anderes Ziel, dem Binder und der Umformung), dem Speicher, den es bekommt, dem Browser und dem ' +
-    'Skript dieser Seite, das Dateien liest, anzeigt und speichert.',
-  notProved: 'Niemand kann beweisen, dass die Wahl zu einem Bogen passt, dass ein Name bedeutet, was die Namensliste sagt, oder ' +
-    'dass ein Datum richtig abgeschrieben wurde. Sehen Sie sich darum vor dem Umrechnen an, was die Seite zeigt.',
+    'Übersetzer für ein anderes Ziel, dem Binder und der Umformung), dem Speicher, den es bekommt, dem Browser und ' +
+    'dem Skript dieser Seite, das Dateien liest, anzeigt und speichert.',
+  notProved: 'Niemand kann beweisen, dass die Wahl zu einem Bogen passt, dass ein Name bedeutet, was die Namensliste ' +
+    'sagt, oder dass ein Datum richtig abgeschrieben wurde. Sehen Sie sich darum vor dem Umrechnen an, was die Seite ' +
+    'zeigt.',
 
   // ---- One date ----
   oneDate: 'Ein Datum',
@@ -66,8 +67,8 @@ export const WORDS = {
   isDay: (weekday, number, read = '') => `${WORDS.weekdays[weekday]}, Tagesnummer ${number}${WORDS.readAs(read)}`,
   isNoDay: (reason, read = '') => `Kein Tag: ${reason}${WORDS.readAs(read)}.`,
   readAs: (read) => (read === '' ? '' : `; gelesen als \`${read}\``),
-  dateInWords: 'Auch Daten in Worten werden gelesen, und Zahlen mit dem Tag zuerst: `30. November 1699`, `30.11.1699`, ' +
-    '`15 Ventôse an VI`.',
+  dateInWords: 'Auch Daten in Worten werden gelesen, und Zahlen mit dem Tag zuerst: `30. November 1699`, ' +
+    '`30.11.1699`, `15 Ventôse an VI`.',
   isTooLong: `das Datum hat über ${date} Byte`,
   noCell: 'vor seinem ersten Tag',
   calendars: {
@@ -95,8 +96,8 @@ export const WORDS = {
   forms: {
     gregorian: 'Jahr, Monat, Tag: `1699-11-30`. Das Jahr 0 ist 1 v. Chr.',
     iso: 'Jahr, Woche, Wochentag ab 1 für Montag: `1945-W46-1`.',
-    julian: 'Jahr, Monat, Tag: `1699-11-30`. Jedes Jahr beginnt am 1. Januar; `-44-3-15` liegt in 44 v. Chr., und ein Jahr 0 ' +
-      'gibt es nicht.',
+    julian: 'Jahr, Monat, Tag: `1699-11-30`. Jedes Jahr beginnt am 1. Januar; `-44-3-15` liegt in 44 v. Chr., und ' +
+      'ein Jahr 0 gibt es nicht.',
     coptic: 'Jahr der Märtyrer, Monat, Tag: `1661-3-3`.',
     ethiopic: 'Jahr, Monat, Tag: `1938-3-3`.',
     egyptian: 'Jahr, Monat, Tag: `2694-7-10`.',
@@ -104,24 +105,24 @@ export const WORDS = {
     islamic: 'Jahr, Monat, Tag: `1364-12-6`. Monate: 1 Muharram, 2 Safar, 3 Rabi al-awwal, 4 Rabi ath-thani, ' +
       '5 Dschumada al-ula, 6 Dschumada th-thaniya, 7 Radschab, 8 Schaban, 9 Ramadan, 10 Schawwal, 11 Dhu l-Qada, ' +
       '12 Dhu l-hiddscha. Nach der Rechnung: Ein beobachteter Mond kann um ein bis zwei Tage abweichen.',
-    hebrew: 'Jahr, Monat, Tag: `5706-9-7`. Monate: 1 Nisan, 2 Ijjar, 3 Siwan, 4 Tammus, 5 Aw, 6 Elul, 7 Tischri, ' +
-      '8 Marcheschwan, 9 Kislew, 10 Tewet, 11 Schewat, 12 Adar; im Schaltjahr 12 Adar I, 13 Adar II. Das Jahr beginnt mit ' +
-      'dem Monat 7.',
+    hebrew: 'Jahr, Monat, Tag: `5706-9-7`. Monate: 1 Nisan, 2 Ijjar, 3 Siwan, 4 Tammus, 5 Aw, 6 Elul, 7 Tischri, 8 ' +
+      'Marcheschwan, 9 Kislew, 10 Tewet, 11 Schewat, 12 Adar; im Schaltjahr 12 Adar I, 13 Adar II. Das Jahr beginnt ' +
+      'mit dem Monat 7.',
     longcount: 'Baktun, Katun, Tun, Uinal, Kin: `12.16.11.16.9`.',
     french: 'Jahr, Monat, Tag: `8-2-18`, nach der Rechnung des Buches. Für ein Datum der Zeit wählen Sie den ' +
-      'Revolutionskalender: Hier kommen Tage der Jahre 4, 8 und 12 einen Tag zu früh heraus, da diese die Schaltjahre sind, ' +
-      'und die der Zeit waren 3, 7 und 11.',
-    republican: 'Jahr, Monat, Tag: `8-2-18`. Monate: 1 Vendémiaire, 2 Brumaire, 3 Frimaire, 4 Nivôse, 5 Pluviôse, ' +
-      '6 Ventôse, 7 Germinal, 8 Floréal, 9 Prairial, 10 Messidor, 11 Thermidor, 12 Fructidor, 13 die Ergänzungstage. Wie er ' +
-      'gebraucht wurde, bis zum 10. Nivôse XIV; spätere Tage gehen mit jedem vierten Jahr weiter.',
+      'Revolutionskalender: Hier kommen Tage der Jahre 4, 8 und 12 einen Tag zu früh heraus, da diese die ' +
+      'Schaltjahre sind, und die der Zeit waren 3, 7 und 11.',
+    republican: 'Jahr, Monat, Tag: `8-2-18`. Monate: 1 Vendémiaire, 2 Brumaire, 3 Frimaire, 4 Nivôse, 5 Pluviôse, 6 ' +
+      'Ventôse, 7 Germinal, 8 Floréal, 9 Prairial, 10 Messidor, 11 Thermidor, 12 Fructidor, 13 die Ergänzungstage. ' +
+      'Wie er gebraucht wurde, bis zum 10. Nivôse XIV; spätere Tage gehen mit jedem vierten Jahr weiter.',
     roman: 'Jahr und Monat der Kalenden (K), Nonen (N) oder Iden (I) und die Tage bis dahin, diesen mitgezählt: ' +
       '`1945-11-K3` ist der 30. Oktober. `1944-3-K6B` ist der 25. Februar eines Schaltjahres. Beide sind julianisch.',
   },
 
   // ---- A register ----
   register: 'Ein Register',
-  registerIs: 'Eine CSV-Datei in UTF-8 mit der Kopfzeile `id,calendar,date` und in jedem weiteren Eintrag einer eigenen ' +
-    'Kennung, dem Namen eines Kalenders und einem Datum. Jede andere Tabelle ist ein Bogen: siehe unten.',
+  registerIs: 'Eine CSV-Datei in UTF-8 mit der Kopfzeile `id,calendar,date` und in jedem weiteren Eintrag einer ' +
+    'eigenen Kennung, dem Namen eines Kalenders und einem Datum. Jede andere Tabelle ist ein Bogen: siehe unten.',
   chooseRegisters: 'Register',
   dropRegisters: 'Wählen Sie eine oder mehrere Dateien, oder ziehen Sie sie auf diese Seite.',
   delimiter: 'Zwischen zwei Feldern steht',
@@ -130,9 +131,9 @@ export const WORDS = {
   tab: 'ein Tabulator',
   delimiters: { 44: 'Kommas', 59: 'Strichpunkte', 9: 'Tabulatoren' },
   sealed: 'Die Register sind versiegelt',
-  sealedIs: 'Sie haben die Kopfzeile `id,calendar,date,note` und enden mit der Zeile `END,N` für ihre N Einträge. Eines, das ' +
-    'ganze Einträge verlor, bricht ab; nur eines, das in einem Eintrag mit der Kennung `END` abgeschnitten wurde, kann ganz ' +
-    'aussehen.',
+  sealedIs: 'Sie haben die Kopfzeile `id,calendar,date,note` und enden mit der Zeile `END,N` für ihre N Einträge. ' +
+    'Eines, das ganze Einträge verlor, bricht ab; nur eines, das in einem Eintrag mit der Kennung `END` ' +
+    'abgeschnitten wurde, kann ganz aussehen.',
   columns: 'Spalten der Tabelle',
   columnsIs: 'Sie kommen in der Folge, in der Sie sie ankreuzen.',
   all: 'Alle',
@@ -171,7 +172,8 @@ export const WORDS = {
     'seine Dateien.'],
   stopFirst: 'Es wird gerade umgerechnet: Halten Sie das zuerst an.',
   bytes: (n) => {
-    const units = [{ unit: 1, name: 'Byte' }, { unit: 1e3, name: 'KB' }, { unit: 1e6, name: 'MB' }, { unit: 1e9, name: 'GB' }];
+    const units = [{ unit: 1, name: 'Byte' }, { unit: 1e3, name: 'KB' }, { unit: 1e6, name: 'MB' },
+      { unit: 1e9, name: 'GB' }];
     const { unit, name } = units.filter((it) => n >= it.unit).pop() || units[0], count = n / unit;
     return `${count < 10 && unit > 1 ? count.toFixed(1).replace('.', ',').replace(',0', '') : Math.round(count)} ${name}`;
   },
@@ -207,32 +209,34 @@ export const WORDS = {
   captionOf: (title, caption) => [own(title), ': ', caption],
   reason: (number, reason) => `${number}: ${reason}`,
   save: (name, size) => [own(name), ` speichern, ${size}`],
-  tablesSaved: 'Tabellen werden in UTF-8 mit einer Marke (BOM) davor gespeichert, wie Tabellenkalkulationen es wollen. Hinter ' +
-    'der Marke sind sie die des Programms `register`.',
+  tablesSaved: 'Tabellen werden in UTF-8 mit einer Marke (BOM) davor gespeichert, wie Tabellenkalkulationen es ' +
+    'wollen. Hinter der Marke sind sie die des Programms `register`.',
   savePart: (name, size) => ['Den vorhandenen Teil speichern, ', own(name), `, ${size}`],
   formulas: (n, example) => [n === 1 ? 'Ein Feld ist wie eine Formel: ' : `${WORDS.number(n)} Felder sind wie Formeln, zuerst `,
     '„', own(example), '“. Eine Tabellenkalkulation, die die Tabelle öffnet, kann sie ausrechnen und etwas anderes zeigen: ' +
-    'Lassen Sie sie die Spalten als Text übernehmen. Wie eine Formel ist ein Feld, das mit `=`, `+`, `-` oder `@` beginnt, ' +
-    'einen Buchstaben oder eine Ziffer hat und weder eine Zahl noch ein Datum ist, wie es Register haben.'],
+    'Lassen Sie sie die Spalten als Text übernehmen. Wie eine Formel ist ein Feld, das mit `=`, `+`, `-` oder `@` ' +
+    'beginnt, einen Buchstaben oder eine Ziffer hat und weder eine Zahl noch ein Datum ist, wie es Register haben.'],
   formulasShort: (n) => (n === 1 ? 'Ein Feld ist wie eine Formel' : `${WORDS.number(n)} Felder sind wie Formeln`),
   brokeOff: (cause, words) => `Abgebrochen, Ursache ${cause}: ${words}.`,
   hasNothing: 'Es gibt keine Tabelle.',
   notDone: (words) => ['Nicht umgerechnet: ', words, '.'],
   tooLarge: (most) => `die Datei hat über ${WORDS.bytes(most)}, mehr als die Seite nimmt; teilen Sie sie, oder nehmen Sie das ` +
     'Programm `register`',
-  noMemory: 'der Speicher reicht nicht; schließen Sie andere Seiten oder Programme und versuchen Sie es noch einmal, oder teilen ' +
-    'Sie die Datei',
+  noMemory: 'der Speicher reicht nicht; schließen Sie andere Seiten oder Programme und versuchen Sie es noch einmal, ' +
+    'oder teilen Sie die Datei',
   otherColumns: 'die Datei hat andere Spalten als bei der Wahl und ist neu gelesen: Wählen Sie sie noch einmal',
-  workbook: 'die Datei ist kein Text, sondern eine Arbeitsmappe oder gepackt (.xlsx, .ods, .xls, .docx, .zip); speichern Sie ' +
-    'ihre Tabelle als CSV UTF-8, oder kopieren Sie ihre Zellen und fügen Sie sie in „Aus einem Bogen“ ein',
-  database: 'die Datei ist kein Text, sondern eine Datenbank (SQLite); speichern Sie ihre Tabelle als CSV UTF-8, oder kopieren ' +
-    'Sie ihre Zellen und fügen Sie sie in „Aus einem Bogen“ ein',
-  pdf: 'die Datei ist kein Text, sondern ein PDF; kopieren Sie ihre Tabelle in eine Tabellenkalkulation und speichern Sie diese ' +
-    'als CSV UTF-8, oder kopieren Sie ihre Zellen und fügen Sie sie in „Aus einem Bogen“ ein',
-  utf16: 'die Datei ist in UTF-16 geschrieben und ein Register in UTF-8; nehmen Sie sie unten als Bogen, oder speichern Sie sie ' +
-    'als CSV UTF-8',
+  workbook: 'die Datei ist kein Text, sondern eine Arbeitsmappe oder gepackt (.xlsx, .ods, .xls, .docx, .zip); ' +
+    'speichern Sie ihre Tabelle als CSV UTF-8, oder kopieren Sie ihre Zellen und fügen Sie sie in „Aus einem Bogen“ ' +
+    'ein',
+  database: 'die Datei ist kein Text, sondern eine Datenbank (SQLite); speichern Sie ihre Tabelle als CSV UTF-8, ' +
+    'oder kopieren Sie ihre Zellen und fügen Sie sie in „Aus einem Bogen“ ein',
+  pdf: 'die Datei ist kein Text, sondern ein PDF; kopieren Sie ihre Tabelle in eine Tabellenkalkulation und ' +
+    'speichern Sie diese als CSV UTF-8, oder kopieren Sie ihre Zellen und fügen Sie sie in „Aus einem Bogen“ ein',
+  utf16: 'die Datei ist in UTF-16 geschrieben und ein Register in UTF-8; nehmen Sie sie unten als Bogen, oder ' +
+    'speichern Sie sie als CSV UTF-8',
   tree: 'die Datei ist ein Stammbaum (GEDCOM); nehmen Sie sie unten als Bogen',
-  ansel: 'der Stammbaum ist in ANSEL geschrieben, was hier nicht gelesen wird; lassen Sie Ihr Programm ihn in UTF-8 speichern',
+  ansel: 'der Stammbaum ist in ANSEL geschrieben, was hier nicht gelesen wird; lassen Sie Ihr Programm ihn in UTF-8 ' +
+    'speichern',
   fault: (why) => ['die Seite versagte (', own(why), ')'],
 
   // ---- The picture of a table ----
@@ -252,12 +256,12 @@ export const WORDS = {
   farEntries: (n, all) => (n < all ? `Die ersten ${n} von ${WORDS.number(all)} Einträgen, die weit von den anderen liegen`
     : n === 1 ? 'Der Eintrag, der weit von den anderen liegt' : `Die ${n} Einträge, die weit von den anderen liegen`),
   pictureHeads: { row: 'Zeile', id: 'Kennung', calendar: 'Kalender', date: 'Datum', year: 'Jahr' },
-  yearsAre: 'Jahre sind gregorianisch; das Jahr 0 ist 1 v. Chr. Ein viermal so hoher Balken steht für sechzehnmal so viele ' +
-    'Einträge.',
-  gapIs: 'Eine Lücke ist länger als ein Jahr und fünfmal so lang, wie im Mittel zwischen zwei Einträgen liegt; höchstens fünf ' +
-    'sind gezeigt.',
-  farIs: 'Weit von den anderen liegt ein Eintrag, der von den mittleren vier Fünfteln weiter entfernt ist, als diese lang sind, ' +
-    'und als 50 Jahre. Er kann stimmen oder ein Schreibfehler sein.',
+  yearsAre: 'Jahre sind gregorianisch; das Jahr 0 ist 1 v. Chr. Ein viermal so hoher Balken steht für sechzehnmal so ' +
+    'viele Einträge.',
+  gapIs: 'Eine Lücke ist länger als ein Jahr und fünfmal so lang, wie im Mittel zwischen zwei Einträgen liegt; ' +
+    'höchstens fünf sind gezeigt.',
+  farIs: 'Weit von den anderen liegt ein Eintrag, der von den mittleren vier Fünfteln weiter entfernt ist, als diese ' +
+    'lang sind, und als 50 Jahre. Er kann stimmen oder ein Schreibfehler sein.',
 
   // The reason of each refusal, from 1, and what to do on this page.
   refusals: [
@@ -271,8 +275,8 @@ export const WORDS = {
     'der Tag liegt außerhalb der gregorianischen Jahre -9999 bis 9999',
   ],
   advice: [
-    'Setzen Sie ein Feld mit einem Komma in Anführungszeichen; oder nehmen Sie die Datei als Bogen, und wählen Sie dessen ' +
-      'Spalten',
+    'Setzen Sie ein Feld mit einem Komma in Anführungszeichen; oder nehmen Sie die Datei als Bogen, und wählen Sie ' +
+      'dessen Spalten',
     'Geben Sie kurze Kennungen, und lassen Sie Längeres im Bogen',
     'Speichern Sie das Register als CSV UTF-8; oder nehmen Sie es als Bogen, in seiner Kodierung',
     'Schreiben Sie einen der Kalender aus „Ein Datum“; ein Bogen kann jedem Namen einen Kalender geben',
@@ -287,8 +291,8 @@ export const WORDS = {
     'Wählen Sie die Nummer des Eintrags als Kennung; kürzen Sie ein Datum oder den Namen eines Kalenders im Bogen',
     'Wählen Sie eine andere Kodierung',
     'Wählen Sie oben den Kalender dieses Namens, oder bessern Sie den Namen im Bogen',
-    'Geben Sie oben seinen Wörtern eine Bedeutung, oder wählen Sie, wie Daten in Zahlen geschrieben sind; oder bessern Sie es im ' +
-      'Bogen',
+    'Geben Sie oben seinen Wörtern eine Bedeutung, oder wählen Sie, wie Daten in Zahlen geschrieben sind; oder ' +
+      'bessern Sie es im Bogen',
     'Sehen Sie im Original nach: ein Schreibfehler oder ein Datum eines anderen Kalenders',
     'Sehen Sie im Original nach: ein Schreibfehler im Jahr',
   ],
@@ -300,12 +304,13 @@ export const WORDS = {
   causeAdvice: {
     1: 'Schließen Sie andere Seiten oder Programme und versuchen Sie es noch einmal, oder teilen Sie das Register.',
     4: 'Die Tabelle braucht mehr Speicher, als es gibt: Wählen Sie weniger Spalten, oder teilen Sie das Register.',
-    5: 'Es wurde seit der Wahl oder beim Lesen geändert, oder verschoben, oder ist ein Ordner: Wählen Sie es noch einmal.',
-    6: 'Steht ein anderes Zeichen zwischen seinen Feldern? Wählen Sie es oben. Hat es andere Spalten, eine Titelzeile oder eine ' +
-      'andere Kodierung? Nehmen Sie es unten als Bogen.',
+    5: 'Es wurde seit der Wahl oder beim Lesen geändert, oder verschoben, oder ist ein Ordner: Wählen Sie es noch ' +
+      'einmal.',
+    6: 'Steht ein anderes Zeichen zwischen seinen Feldern? Wählen Sie es oben. Hat es andere Spalten, eine ' +
+      'Titelzeile oder eine andere Kodierung? Nehmen Sie es unten als Bogen.',
     7: 'Teilen Sie es, jeden Teil mit der Kopfzeile.',
-    8: 'Vergleichen Sie es mit dem Original: Einträge können fehlen. Fehlen keine, so schreiben Sie das Siegel neu als letzte ' +
-      'Zeile.',
+    8: 'Vergleichen Sie es mit dem Original: Einträge können fehlen. Fehlen keine, so schreiben Sie das Siegel neu ' +
+      'als letzte Zeile.',
   },
   // What was asked wrongly, which the form does not let happen.
   faults: {
@@ -316,9 +321,10 @@ export const WORDS = {
 
   // ---- From a sheet ----
   sheet: 'Aus einem Bogen',
-  sheetIs: 'Eine Tabelle, wie Sie sie führen, als CSV oder Text gespeichert oder aus einer Tabellenkalkulation kopiert. Sagen ' +
-    'Sie, welche ihrer Spalten Daten haben, und Sie bekommen sie zurück, mit den gewünschten Spalten hinter den eigenen. Wie ' +
-    'Daten in Worten gelesen werden, ist bewiesen; ob Ihre Wahl passt, sehen Sie daran, was die Seite vor dem Umrechnen zeigt.',
+  sheetIs: 'Eine Tabelle, wie Sie sie führen, als CSV oder Text gespeichert oder aus einer Tabellenkalkulation ' +
+    'kopiert. Sagen Sie, welche ihrer Spalten Daten haben, und Sie bekommen sie zurück, mit den gewünschten Spalten ' +
+    'hinter den eigenen. Wie Daten in Worten gelesen werden, ist bewiesen; ob Ihre Wahl passt, sehen Sie daran, was ' +
+    'die Seite vor dem Umrechnen zeigt.',
   chooseSheet: 'Bogen',
   dropSheet: 'Wählen Sie eine Datei, oder ziehen Sie sie hierher; eine gespeicherte Auswahl kann mitkommen.',
   pasteSheet: 'Oder Zellen einer Tabellenkalkulation',
@@ -405,12 +411,13 @@ export const WORDS = {
     refuse: 'solche Daten weglassen', keep: 'wie geschrieben: 507 ist das Jahr 507', 5000: '5000 dazuzählen: 507 ist 5507',
   },
   charters: 'Das Jahr eines römischen Datums ist das seines Tages',
-  chartersIs: 'Dann ist `XVI. Kal. Ian. 1499` der 17. Dezember 1499. Sonst ist sein Jahr das der Kalenden, Nonen oder Iden, und ' +
-    'es liegt in 1498.',
+  chartersIs: 'Dann ist `XVI. Kal. Ian. 1499` der 17. Dezember 1499. Sonst ist sein Jahr das der Kalenden, Nonen ' +
+    'oder Iden, und es liegt in 1498.',
   unknownNames: 'Namen, die kein Kalender hat',
   unknownNamesIs: 'Wählen Sie für jeden den Kalender, oder lassen Sie ihn, und seine Einträge werden abgelehnt.',
   unknownWords: 'Wörter in Daten, die unbekannt sind',
-  unknownWordsIs: 'Sagen Sie, was jedes bedeutet, oder lassen Sie es, und seine Daten bleiben, wie sie geschrieben sind.',
+  unknownWordsIs: 'Sagen Sie, was jedes bedeutet, oder lassen Sie es, und seine Daten bleiben, wie sie geschrieben ' +
+    'sind.',
   records: (n) => `${WORDS.number(n)} ${n === 1 ? 'Eintrag' : 'Einträge'}`,
   datesOf: (n) => `${WORDS.number(n)} ${n === 1 ? 'Datum' : 'Daten'}`,
   unknownName: (name, n) => [own(name), n === null ? '' : `, in ${WORDS.datesOf(n)}`],
@@ -427,8 +434,8 @@ export const WORDS = {
   shortLeft: (n) => `${WORDS.datesOf(n)} mit kurzem Jahr, ${n === 1 ? 'wird' : 'werden'} weggelassen`,
   allRead: 'Alle Daten sind lesbar',
   behind: 'Spalten hinter denen des Bogens',
-  behindIs: 'Sie kommen in der Folge, in der Sie sie ankreuzen; dahinter die Ablehnung, die leer ist, wo das Datum umgerechnet ' +
-    'wurde.',
+  behindIs: 'Sie kommen in der Folge, in der Sie sie ankreuzen; dahinter die Ablehnung, die leer ist, wo das Datum ' +
+    'umgerechnet wurde.',
   noneBehind: 'Keine Spalten außer der Ablehnung.',
   first: (n) => (n === 1 ? 'erster Eintrag' : `erste ${n} Einträge`),
   registerRows: (name, n) => ['Das Register, das aus ', name, ` wird, ${WORDS.first(n)}`],
@@ -445,7 +452,8 @@ export const WORDS = {
   theOther: { encoding: 'die Kodierung', delimiter: 'das Zeichen zwischen zwei Feldern' },
   sheetReading: 'Der Bogen wird gelesen.',
   sheetConverting: 'Der Bogen wird umgerechnet.',
-  sheetSaved: 'Jeder Eintrag steht in seiner Zeile, in UTF-8 mit einer Marke (BOM) davor, wie Tabellenkalkulationen es wollen.',
+  sheetSaved: 'Jeder Eintrag steht in seiner Zeile, in UTF-8 mit einer Marke (BOM) davor, wie Tabellenkalkulationen ' +
+    'es wollen.',
   sheetJoined: (n) => `Der Bogen mit seinen Tagen, ${WORDS.first(n)}`,
   sheetBack: (n) => `Der Bogen, wie er zurückkommt, ${WORDS.first(n)}`,
   why: 'abgelehnt, denn',

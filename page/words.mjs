@@ -39,16 +39,17 @@ export const WORDS = {
 
   // ---- What is proved ----
   proved: 'What is proved',
-  provedOfRegisters: 'The program in this page was proved before the page was made. The table of a register has a row for ' +
-    'each record, in their order, with the day that its calendar gives, or the reason why there is none; and it has these ' +
-    'bytes and no others.',
-  provedOfSheets: 'The table of a sheet is proved too, from the choices and the list of names to its bytes: each record keeps ' +
-    'its fields, its dates are read as the rules say, and behind them stand their days, or the reason why there is none.',
-  trusted: 'Trusted, and not proved: what makes a program for browsers of the proved one (the compiler for another target, the ' +
-    'linker, the lowering), the memory that it gets, the browser, and the script of this page, which reads files, shows and ' +
-    'saves.',
-  notProved: 'Nobody can prove that the choices fit a sheet, that a name means what the list of names says, or that a date was ' +
-    'copied rightly. So look at what the page shows before you convert.',
+  provedOfRegisters: 'The program in this page was proved before the page was made. The table of a register has a ' +
+    'row for each record, in their order, with the day that its calendar gives, or the reason why there is none; and ' +
+    'it has these bytes and no others.',
+  provedOfSheets: 'The table of a sheet is proved too, from the choices and the list of names to its bytes: each ' +
+    'record keeps its fields, its dates are read as the rules say, and behind them stand their days, or the reason ' +
+    'why there is none.',
+  trusted: 'Trusted, and not proved: what makes a program for browsers of the proved one (the compiler for another ' +
+    'target, the linker, the lowering), the memory that it gets, the browser, and the script of this page, which ' +
+    'reads files, shows and saves.',
+  notProved: 'Nobody can prove that the choices fit a sheet, that a name means what the list of names says, or that ' +
+    'a date was copied rightly. So look at what the page shows before you convert.',
 
   // ---- One date ----
   oneDate: 'One date',
@@ -105,10 +106,10 @@ export const WORDS = {
       'with month 7.',
     longcount: 'Baktun, katun, tun, uinal, kin: `12.16.11.16.9`.',
     french: 'Year, month, day: `8-2-18`, by the arithmetic of the book. For a date of the time choose French ' +
-      'Republican: here days of the years 4, 8 and 12 come out a day early, since the leap years are 4, 8 and 12, and ' +
-      'those of the time were 3, 7 and 11.',
-    republican: 'Year, month, day: `8-2-18`. Months: 1 Vendémiaire, 2 Brumaire, 3 Frimaire, 4 Nivôse, 5 Pluviôse, ' +
-      '6 Ventôse, 7 Germinal, 8 Floréal, 9 Prairial, 10 Messidor, 11 Thermidor, 12 Fructidor, 13 the extra days. As it ' +
+      'Republican: here days of the years 4, 8 and 12 come out a day early, since the leap years are 4, 8 and 12, ' +
+      'and those of the time were 3, 7 and 11.',
+    republican: 'Year, month, day: `8-2-18`. Months: 1 Vendémiaire, 2 Brumaire, 3 Frimaire, 4 Nivôse, 5 Pluviôse, 6 ' +
+      'Ventôse, 7 Germinal, 8 Floréal, 9 Prairial, 10 Messidor, 11 Thermidor, 12 Fructidor, 13 the extra days. As it ' +
       'was used, to 10 Nivôse XIV; later days go on by every fourth year.',
     roman: 'Year and month of the Kalends (K), Nones (N) or Ides (I), and the days up to it, it counted too: ' +
       '`1945-11-K3` is 30 October. `1944-3-K6B` is 25 February of a leap year. Both are Julian.',
@@ -183,9 +184,12 @@ export const WORDS = {
   whole: (rows, refused) => `${WORDS.rows(rows)}, ${WORDS.refused(refused)}.`,
   counts: {
     records: {
-      caption: 'Refused records, by the reason', count: 'Records', reason: 'The record is refused because', advice: 'What to do',
+      caption: 'Refused records, by the reason', count: 'Records', reason: 'The record is refused because',
+      advice: 'What to do',
     },
-    dates: { caption: 'Refused dates, by the reason', count: 'Dates', reason: 'The date is refused because', advice: 'What to do' },
+    dates: {
+      caption: 'Refused dates, by the reason', count: 'Dates', reason: 'The date is refused because', advice: 'What to do',
+    },
   },
   firstRows: (n) => (n === 1 ? 'The first row' : `The first ${n} rows`),
   allRows: 'All rows',
@@ -196,13 +200,13 @@ export const WORDS = {
   captionOf: (title, caption) => [own(title), ': ', caption],
   reason: (number, reason) => `${number}: ${reason}`,
   save: (name, size) => ['Save ', own(name), `, ${size}`],
-  tablesSaved: 'Tables are saved in UTF-8 with a byte order mark, as spreadsheets want it. Behind the mark they are those ' +
-    'of the program `register`.',
+  tablesSaved: 'Tables are saved in UTF-8 with a byte order mark, as spreadsheets want it. Behind the mark they are ' +
+    'those of the program `register`.',
   savePart: (name, size) => ['Save the part that there is, ', own(name), `, ${size}`],
   formulas: (n, example) => [n === 1 ? 'A field is like a formula: ' : `${WORDS.number(n)} fields are like formulas, first `,
     '“', own(example), '”. A spreadsheet that opens the table may compute them, and show something else: let it take the ' +
-    'columns in as text. A field is like a formula that begins with `=`, `+`, `-` or `@`, has a letter or a digit, and is ' +
-    'no number and no date that registers have.'],
+    'columns in as text. A field is like a formula that begins with `=`, `+`, `-` or `@`, has a letter or a digit, ' +
+    'and is no number and no date that registers have.'],
   formulasShort: (n) => (n === 1 ? 'A field is like a formula' : `${WORDS.number(n)} fields are like formulas`),
   brokeOff: (cause, words) => `Broke off, cause ${cause}: ${words}.`,
   hasNothing: 'There is no table.',
@@ -215,9 +219,10 @@ export const WORDS = {
     'CSV UTF-8, or copy its cells and paste them in “From a sheet”',
   database: 'the file is no text but a database (SQLite); save its table as CSV UTF-8, or copy its cells and paste ' +
     'them in “From a sheet”',
-  pdf: 'the file is no text but a PDF; copy its table into a spreadsheet and save that as CSV UTF-8, or copy its cells ' +
-    'and paste them in “From a sheet”',
-  utf16: 'the file is written in UTF-16, and a register in UTF-8; take it in as a sheet, below, or save it as CSV UTF-8',
+  pdf: 'the file is no text but a PDF; copy its table into a spreadsheet and save that as CSV UTF-8, or copy its ' +
+    'cells and paste them in “From a sheet”',
+  utf16: 'the file is written in UTF-16, and a register in UTF-8; take it in as a sheet, below, or save it as CSV ' +
+    'UTF-8',
   tree: 'the file is a family tree (GEDCOM); take it in as a sheet, below',
   ansel: 'the family tree is written in ANSEL, which cannot be read here; let your program save it in UTF-8',
   fault: (why) => ['the page failed (', own(why), ')'],
@@ -239,10 +244,12 @@ export const WORDS = {
   farEntries: (n, all) => (n < all ? `The first ${n} of ${WORDS.number(all)} entries that are far from the others`
     : n === 1 ? 'The entry that is far from the others' : `The ${n} entries that are far from the others`),
   pictureHeads: { row: 'Row', id: 'Id', calendar: 'Calendar', date: 'Date', year: 'Year' },
-  yearsAre: 'Years are Gregorian; the year 0 is 1 BC. A bar four times as high stands for sixteen times as many entries.',
-  gapIs: 'A gap is longer than a year, and five times as long as lies between two entries on the average; at most five are shown.',
-  farIs: 'An entry is far from the others that is further from the middle four fifths of them than these are long, and than 50 ' +
-    'years. It may be right, or a slip.',
+  yearsAre: 'Years are Gregorian; the year 0 is 1 BC. A bar four times as high stands for sixteen times as many ' +
+    'entries.',
+  gapIs: 'A gap is longer than a year, and five times as long as lies between two entries on the average; at most ' +
+    'five are shown.',
+  farIs: 'An entry is far from the others that is further from the middle four fifths of them than these are long, ' +
+    'and than 50 years. It may be right, or a slip.',
 
   // The reason of each refusal, from 1, and what to do on this page.
   refusals: FACTS.refusals.map(({ number, sentence }) => sentence + (OF_REFUSALS[number] || '')),
@@ -289,9 +296,9 @@ export const WORDS = {
 
   // ---- From a sheet ----
   sheet: 'From a sheet',
-  sheetIs: 'A table of your own, saved as CSV or text or copied from a spreadsheet. Say which of its columns have dates, ' +
-    'and you get it back with the columns that you want behind its own. How dates in words are read is proved; whether ' +
-    'your choices fit is for you to see, in what the page shows before you convert.',
+  sheetIs: 'A table of your own, saved as CSV or text or copied from a spreadsheet. Say which of its columns have ' +
+    'dates, and you get it back with the columns that you want behind its own. How dates in words are read is ' +
+    'proved; whether your choices fit is for you to see, in what the page shows before you convert.',
   chooseSheet: 'Sheet',
   dropSheet: 'Choose one file, or drop it here; choices that you saved can come with it.',
   pasteSheet: 'Or cells of a spreadsheet',
@@ -376,8 +383,8 @@ export const WORDS = {
   hebrewIs: 'As `5 Tischri 507`.',
   hebrewRules: { refuse: 'leave such dates out', keep: 'as written: 507 is the year 507', 5000: 'add 5000: 507 is 5507' },
   charters: 'The year of a Roman date is that of its day',
-  chartersIs: 'Then `XVI. Kal. Ian. 1499` is 17 December 1499. Else its year is that of the Kalends, Nones or Ides, and it ' +
-    'is in 1498.',
+  chartersIs: 'Then `XVI. Kal. Ian. 1499` is 17 December 1499. Else its year is that of the Kalends, Nones or Ides, ' +
+    'and it is in 1498.',
   unknownNames: 'Names that no calendar has',
   unknownNamesIs: 'Choose the calendar of each, or leave it, and its records are refused.',
   unknownWords: 'Words in dates that are not known',

@@ -388,20 +388,24 @@ function foundOf({ module, text, delimiter }, table, made, refused, width) {
   return { formulas, counts, refusedDates: refusedDates(module, table, delimiter, made, width) };
 }
 
+// The register of one column of dates of the sheet that was read last.
+async function registerOf({ choice, place, names, ...source }) {
+  const { module, text, delimiter } = await sheetOf(source);
+  return { module, delimiter, ...module.sheetRegister(text, choice, place, namesWith(names)) };
+}
+
 /** The register of one column of dates of the sheet that was converted last. */
-async function sheetRegister({ choice, place, names, ...source }) {
-  const { module, text } = await sheetOf(source);
-  const { ending, table } = module.sheetRegister(text, choice, place, namesWith(names));
+async function sheetRegister(words) {
+  const { module, ending, table } = await registerOf(words);
   if (ending !== 0) return { ending, register: null };
   const made = await blobOf(module, table);
   module.free(table);
   return { ending, register: made };
 }
 
-/** What a picture of one column of dates shows, by the register of it. */
-async function sheetPicture({ choice, place, names, ...source }) {
-  const { module, text, delimiter } = await sheetOf(source);
-  const { ending, table: register } = module.sheetRegister(text, choice, place, namesWith(names));
+/** What a picture of one column of dates shows, by the table of its register. */
+async function sheetPicture(words) {
+  const { module, delimiter, ending, table: register } = await registerOf(words);
   if (ending !== 0) throw new Error(`sheet_register: ${ending}`);
   const setup = { columns: [], delimiter, sealed: false };
   const { rows, table } = module.convert(register, setup, expectedLength(2 * register.length, 0, 0));
@@ -410,7 +414,9 @@ async function sheetPicture({ choice, place, names, ...source }) {
   return found;
 }
 
-const TASKS = { date, register, archive, picture, choices, beginning, unknownNames, preview, convertSheet, sheetRegister, sheetPicture };
+const TASKS = {
+  date, register, archive, picture, choices, beginning, unknownNames, preview, convertSheet, sheetRegister, sheetPicture,
+};
 
 function faultOf(fault) {
   if (fault instanceof OtherKind) return fault.message;

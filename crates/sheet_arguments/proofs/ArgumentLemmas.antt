@@ -1,13 +1,17 @@
 -- What the arguments of this program mean is one thing: what `MeaningLemmas` of `command_lines` wants to be shown.
-use Rattle.std.proofs.Common.{◌≡◌, ◌∙◌, ap, Bool, true, false, true≢false, List, sym, rules, Option, Result, Ok, Err}
+use Rattle.std.proofs.Common.{◌≡◌, ◌∙◌, Bool, true, false, true≢false, List, sym, rules, Result, Ok, Err}
 use Rattle.clap.specs.Words.{IsAmong, Text, fault_of}
 use Rattle.clap.specs.declared.error.kind.ErrorKind.{ErrorKind}
+use Rattle.command_lines.specs.Values.{delimiter_option}
 use Rattle.command_lines.proofs.KindLemmas.{lone_app, one_of}
 use Rattle.command_lines.proofs.MeaningLemmas.{AllPass, AreSound, IsClear, IsSound, one_asked, one_byte, sound_files}
 use Rattle.command_lines.proofs.MeaningLemmas.{sound_option}
 use Rattle.sheet_arguments.specs.CommandLine.{Values, command_line, values_of}
 use Rattle.sheet_arguments.specs.Faults.{Fault}
-use Rattle.sheet_arguments.specs.Requests.{Ask, Task, false_check, result_check, sheet_line, value_checks}
+use Rattle.sheet_arguments.specs.OptionValues.{order_option, short_hebrew_option, short_option, skip_option}
+use Rattle.sheet_arguments.specs.Requests.{Ask, Task, calendars_wanted, false_check, result_check, sheet_line, value_checks}
+use Rattle.sheet_arguments.specs.WordLists.{columns_asked}
+use Rattle.written_dates.specs.declared.written.Choice.{Choice}
 use Rattle.sheet_arguments.proofs.OptionLemmas.{one_order, one_short, one_short_hebrew, one_skip, same_order, same_short}
 
 -- arguments have one kind of fault at most
@@ -40,10 +44,41 @@ sound_checks values = search (rules, sound_false, sound_result, sound_option, so
 all_pass : (values : Values) (task : Task) → Ask values task → AllPass (value_checks values)
 all_pass values task asks = search rules
 
+same_reading : (a b : Choice) → a.order ≡ b.order → a.short_years ≡ b.short_years
+    → a.short_hebrew_years ≡ b.short_hebrew_years → a.charters ≡ b.charters → a ≡ b
+same_reading a b order years hebrew charters = search rules
+
+same_task : (a b : Task) → a.dates ≡ b.dates → a.calendars ≡ b.calendars → a.id ≡ b.id → a.columns ≡ b.columns
+    → a.reading ≡ b.reading → a.names ≡ b.names → a.skip ≡ b.skip → a.delimiter ≡ b.delimiter
+    → a.register ≡ b.register → a.unknown ≡ b.unknown → a.summary ≡ b.summary → a.files ≡ b.files → a ≡ b
+same_task a b dates calendars id columns reading names skip delimiter register unknown summary files = search rules
+
 -- values ask for one task at most
 one_task : (values : Values) (a b : Task) → Ask values a → Ask values b → a ≡ b
 one_task values a b asked same =
-    search (rules, one_asked, one_byte, one_order, one_short, one_short_hebrew, one_skip, same_order, same_short, same_value)
+    let dates : a.dates ≡ b.dates = asked.dates ∙ sym same.dates in
+    let calendars : a.calendars ≡ b.calendars
+    = same_value (calendars_wanted values.calendars values.all) _ _ asked.calendars same.calendars in
+    let id : a.id ≡ b.id = asked.id ∙ sym same.id in
+    let order : a.reading.order ≡ b.reading.order
+    = same_order _ _ (one_asked order_option one_order values.order _ _ asked.order same.order) in
+    let years : a.reading.short_years ≡ b.reading.short_years
+    = same_short _ _ (one_asked short_option one_short values.short_years _ _ asked.short_years same.short_years) in
+    let hebrew : a.reading.short_hebrew_years ≡ b.reading.short_hebrew_years
+    = same_short _ _ (one_asked short_hebrew_option one_short_hebrew values.short_hebrew_years _ _
+    asked.short_hebrew_years same.short_hebrew_years) in
+    let charters : a.reading.charters ≡ b.reading.charters = asked.charters ∙ sym same.charters in
+    let skip : a.skip ≡ b.skip = one_asked skip_option one_skip values.skip _ _ asked.skip same.skip in
+    let delimiter : a.delimiter ≡ b.delimiter
+    = one_asked delimiter_option one_byte values.delimiter _ _ asked.delimiter same.delimiter in
+    let columns : a.columns ≡ b.columns = same_value (columns_asked values.to) _ _ asked.columns same.columns in
+    let names : a.names ≡ b.names = asked.names ∙ sym same.names in
+    let register : a.register ≡ b.register = asked.register ∙ sym same.register in
+    let unknown : a.unknown ≡ b.unknown = asked.unknown ∙ sym same.unknown in
+    let summary : a.summary ≡ b.summary = asked.summary ∙ sym same.summary in
+    let files : a.files ≡ b.files = asked.files ∙ sym same.files in
+    same_task a b dates calendars id columns (same_reading a.reading b.reading order years hebrew charters) names skip
+    delimiter register unknown summary files
 
 -- so arguments mean one thing
 pub is_clear : IsClear sheet_line

@@ -1,15 +1,15 @@
 -- Words of options name one number each, and numbers stand for one rule each.
-use Rattle.std.proofs.Common.{rules, ◌≡◌, ◌∙◌, ◌+◌, ◌≤◌, ℕ, List, [], ◌∷◌, codes, arith, ap, inl, inr, refl, sym}
+use Rattle.std.proofs.Common.{rules, ◌≡◌, ◌≢◌, ◌↔◌, ◌∙◌, ◌+◌, ◌%◌, ℕ, codes, arith, ap, inl, inr, refl, subst, sym}
+use Rattle.std.proofs.Common.{Option, None, Some}
 use Rattle.clap.specs.Words.{Text}
-use Rattle.command_lines.specs.Values.{IsNumberWord}
+use Rattle.command_lines.specs.Values.{IsNumberWord, ValueOption}
 use Rattle.command_lines.proofs.MeaningLemmas.{NamesOne, one_number}
 use Rattle.std.specs.Str.Parse.{IsNumeral, digits_value}
 use Rattle.written_dates.specs.declared.rules.Order.{Order}
 use Rattle.written_dates.specs.declared.rules.Order.TheVariants.{YearFirst, DayFirst, MonthFirst}
-use Rattle.written_dates.specs.declared.written.Choice.{Choice}
 use Rattle.written_dates.specs.declared.written.Short.{Short}
 use Rattle.written_dates.specs.declared.written.Short.TheVariants.{Refuse, Keep, Add}
-use Rattle.sheet_arguments.specs.OptionValues.{IsBareShortWord, IsCenturyWord, IsShortHebrewWord, IsShortWord, IsSkipWord}
+use Rattle.sheet_arguments.specs.OptionValues.{IsBareShortWord, IsCenturyWord, IsShortWord, IsSkipWord}
 use Rattle.sheet_arguments.specs.OptionValues.{order_number, order_option, short_hebrew_option, short_number, short_option}
 use Rattle.sheet_arguments.specs.OptionValues.{skip_option}
 
@@ -62,3 +62,59 @@ same_short Refuse Refuse e = refl
 same_short Keep Keep e = refl
 same_short (Add x) (Add y) e = let same : x ≡ y = omega arith in ap (λ years. Add years) same
 same_short a b e = absurd (omega arith)
+
+-- ---- what a word names, and that it names nothing
+
+-- of an option whose words name one number each, a word that names this one names no other
+pub names_only : (option : ValueOption) → NamesOne option → (word : Text) (m : ℕ) → option.names word m
+    → (n : ℕ) → (Some m ≡ Some n) ↔ option.names word n
+names_only option one word m is n =
+    (λ e. let same : m ≡ n = cc in subst (option.names word) same is, λ said. ap (λ (k : ℕ). Some k) (one word m n is said))
+
+pub names_none : (option : ValueOption) (word : Text) → ((n : ℕ) → ¬ option.names word n)
+    → (n : ℕ) → (None ≡ Some n) ↔ option.names word n
+names_none option word never n = (λ e. absurd (none_some n e), λ said. absurd (never n said))
+  where
+    none_some : (k : ℕ) → None ≡ Some k → ⊥
+    none_some k e = cc
+
+pub no_short : (word : Text) → word ≢ codes "refuse" → word ≢ codes "keep"
+    → ((n : ℕ) → ¬ (IsNumberWord 2000 word n × (n % 100 ≡ 0))) → (n : ℕ) → ¬ IsShortWord word n
+no_short word refuse keep century n (inl (inl is)) = refuse is.0
+no_short word refuse keep century n (inl (inr is)) = keep is.0
+no_short word refuse keep century n (inr is) = century is.years (is.named, is.whole)
+
+pub no_skip : (word : Text) → word ≢ codes "0" → ((n : ℕ) → ¬ IsNumberWord 99_999 word n) → (n : ℕ)
+    → ¬ IsSkipWord word n
+no_skip word zero named n (inl is) = zero is.0
+no_skip word zero named n (inr is) = named n is
+
+-- a result that is none is that of no number
+pub never_some : (P : ℕ → Type 0) (result : Option ℕ) → result ≡ None → ((n : ℕ) → (result ≡ Some n) ↔ P n) → (n : ℕ)
+    → ¬ P n
+never_some P result none each n is = let bad = (each n).1 is in cc
+
+-- ---- centuries
+
+none_is_some : (k : ℕ) → None ≡ Some k → ⊥
+none_is_some k e = cc
+
+pub no_century : (word : Text) (result : Option ℕ) → result ≡ None
+    → ((n : ℕ) → (result ≡ Some n) ↔ IsNumberWord 2000 word n) → (n : ℕ)
+    → (None ≡ Some n) ↔ (IsNumberWord 2000 word n × (n % 100 ≡ 0))
+no_century word result none each n =
+    (λ e. absurd (none_is_some n e), λ is. absurd (never_some (IsNumberWord 2000 word) result none each n is.0))
+
+pub century_alone : (word : Text) (years : ℕ) → IsNumberWord 2000 word years → years % 100 ≡ 0 → (n : ℕ)
+    → (Some years ≡ Some n) ↔ (IsNumberWord 2000 word n × (n % 100 ≡ 0))
+century_alone word years named whole n = (
+  λ e. let same : years ≡ n = cc in subst (λ k. IsNumberWord 2000 word k × (k % 100 ≡ 0)) same (named, whole),
+  λ is. ap (λ (k : ℕ). Some k) (one_number 2000 word years n named is.0),
+)
+
+pub no_whole : (word : Text) (years : ℕ) → IsNumberWord 2000 word years → years % 100 ≢ 0 → (n : ℕ)
+    → (None ≡ Some n) ↔ (IsNumberWord 2000 word n × (n % 100 ≡ 0))
+no_whole word years named part n = (
+  λ e. absurd (none_is_some n e),
+  λ is. absurd (part (subst (λ k. k % 100 ≡ 0) (one_number 2000 word n years is.0 named) is.1)),
+)

@@ -1,16 +1,17 @@
 -- What words name, and lists of words.
-use Rattle.std.proofs.Common.{◌≡◌, ◌↔◌, ◌∙◌, ◌++◌, ◌∷◌, ℕ, Bool, true, false, true≢false, List, [], Option, None, Some}
-use Rattle.std.proofs.Common.{ap, inl, inr, lit<, map, refl, subst, sym, Result, Ok, Err}
+use Rattle.std.proofs.Common.{◌≡◌, ◌↔◌, ◌∙◌, ◌+◌, ◌<◌, ◌++◌, ◌∷◌, ℕ, zero, suc, Bool, true, false, List, [], Option, None}
+use Rattle.std.proofs.Common.{Some, true≢false, Bor, ap, ap₂, arith, drop, get_or, length, lit<, map, refl, sym, take, Result, Ok, Err}
 use Rattle.std.specs.List.{find}
 use Rattle.std.specs.Prelude.{if◌then◌else◌}
 use Rattle.std.specs.Str.{bytes_eq, str_to_ascii_lowercase}
+use Rattle.std.specs.Bool.{IsTrue}
 use Rattle.std.specs.Str.Iter.{split_has_more, split_pattern, split_steps, split_text}
 use Rattle.std.specs.Str.Pattern.{FindsChar}
 use Rattle.std.specs.declared.str.Split.{Split}
-use Rattle.std.proofs.lemmas.Bool.{cases_Bool}
 use Rattle.std.proofs.lemmas.Iterator.{YieldsList}
 use Rattle.std.proofs.lemmas.Iterator.Consumers.{YieldsList-at}
 use Rattle.std.proofs.lemmas.Iterator.Splits.{YieldsList-from_str_split}
+use Rattle.std.proofs.lemmas.List.{get_or-map, length-map, take_more}
 use Rattle.std.proofs.lemmas.Slice.Eq.{bytes_eq-Decides}
 use Rattle.clap.specs.Words.{Text}
 use Rattle.date_texts.specs.Calendars.{all_calendars, calendar_name, target_name}
@@ -37,6 +38,22 @@ not_true : (b : Bool) → (b ≡ true → ⊥) → b ≡ false
 not_true true h = absurd (h refl)
 not_true false h = refl
 
+no_value : {B : Type 0} (fault : Fault) (b : B) → Err fault ≡ Ok b → ⊥
+no_value fault b e = cc
+
+-- where what goes on has a value, what goes on further does too
+goes_on : {A B : Type 0} (fault : Fault) (named : Option A) (next after : A → Result B Fault) (b : B)
+    (all : Result B Fault) → ((a : A) → next a ≡ Ok b → after a ≡ all) → or_fault fault named next ≡ Ok b
+    → or_fault fault named after ≡ all
+goes_on fault None next after b all h e = absurd (no_value fault b e)
+goes_on fault (Some a) next after b all h e = h a e
+
+stays_new : {B : Type 0} (among : Bool) (fault : Fault) (next after : Result B Fault) (b : B) (all : Result B Fault)
+    → (next ≡ Ok b → after ≡ all) → (if among then Err fault else next) ≡ Ok b
+    → (if among then Err fault else after) ≡ all
+stays_new true fault next after b all h e = absurd (no_value fault b e)
+stays_new false fault next after b all h e = h e
+
 -- ---- calendars
 
 found_itself : (c : Calendar) → find (λ other. bytes_eq (calendar_name c) (calendar_name other)) all_calendars ≡ Some c
@@ -55,15 +72,11 @@ named_by text (Some c) h = rw ((h c).0 refl) (sym (found_itself c))
 pub calendars_go_on : (before : List Text) (words : List Text) (first calendars : List Calendar)
     → with_calendars first before ≡ Ok calendars
     → with_calendars first (before ++ words) ≡ with_calendars calendars words
-calendars_go_on [] words first calendars is = rw is refl
-calendars_go_on (w ∷ before) words first calendars is = calendars_behind (calendar_named w) is
-  where
-    calendars_behind : (named : Option Calendar)
-        → or_fault (unknown_calendar w) named (λ c. with_calendars (first ++ c ∷ []) before) ≡ Ok calendars
-        → or_fault (unknown_calendar w) named (λ c. with_calendars (first ++ c ∷ []) (before ++ words))
-        ≡ with_calendars calendars words
-    calendars_behind None e = absurd cc
-    calendars_behind (Some c) e = calendars_go_on before words (first ++ c ∷ []) calendars e
+calendars_go_on [] words first calendars is =
+    let same : first ≡ calendars = cc in ap (λ (cs : List Calendar). with_calendars cs words) same
+calendars_go_on (w ∷ before) words first calendars is =
+    goes_on (unknown_calendar w) (calendar_named w) _ _ calendars _
+    (λ c e. calendars_go_on before words (first ++ c ∷ []) calendars e) is
 
 -- ---- columns
 
@@ -95,23 +108,12 @@ no_column text targets day week =
 pub columns_go_on : (before : List Text) (names : List Text) (first columns : List AskedColumn)
     → with_columns first before ≡ Ok columns
     → with_columns first (before ++ names) ≡ with_columns columns names
-columns_go_on [] names first columns is = rw is refl
-columns_go_on (n ∷ before) names first columns is = columns_behind (column_named n) is
-  where
-    columns_new : (c : AskedColumn) (among : Bool)
-        → (if among then Err (column_twice c) else with_columns (first ++ c ∷ []) before) ≡ Ok columns
-        → (if among then Err (column_twice c) else with_columns (first ++ c ∷ []) (before ++ names))
-        ≡ with_columns columns names
-    columns_new c true e = absurd cc
-    columns_new c false e = columns_go_on before names (first ++ c ∷ []) columns e
-
-    columns_behind : (named : Option AskedColumn)
-        → or_fault (unknown_column n) named (λ c. if is_among first c then Err (column_twice c)
-        else with_columns (first ++ c ∷ []) before) ≡ Ok columns
-        → or_fault (unknown_column n) named (λ c. if is_among first c then Err (column_twice c)
-        else with_columns (first ++ c ∷ []) (before ++ names)) ≡ with_columns columns names
-    columns_behind None e = absurd cc
-    columns_behind (Some c) e = columns_new c (is_among first c) e
+columns_go_on [] names first columns is =
+    let same : first ≡ columns = cc in ap (λ (cs : List AskedColumn). with_columns cs names) same
+columns_go_on (n ∷ before) names first columns is =
+    goes_on (unknown_column n) (column_named n) _ _ columns _
+    (λ c e. stays_new (is_among first c) (column_twice c) _ _ columns _
+    (λ f. columns_go_on before names (first ++ c ∷ []) columns f) e) is
 
 -- the split at commas gives the names of the list
 pub names_of_split : (list : List ℕ) (s t : Split ℕ) → t ≡ s → split_text s ≡ list → split_has_more s ≡ true
@@ -119,3 +121,85 @@ pub names_of_split : (list : List ℕ) (s t : Split ℕ) → t ≡ s → split_t
     → YieldsList (split_steps FindsChar (λ a b. b ≡ a)) (λ name. name.now) t (names_in list)
 names_of_split list s t same text more pattern = YieldsList-at same
     (YieldsList-from_str_split 44 list (lit< tt) text more pattern)
+
+-- ---- one word after the other
+
+cut_at : {X : Type 0} (xs : List X) (i : ℕ) (d : X) → i < length xs → xs ≡ take i xs ++ get_or xs i d ∷ drop (suc i) xs
+cut_at [] i d lt = absurd (omega arith)
+cut_at (x ∷ xs) zero d lt = refl
+cut_at (x ∷ xs) (suc i) d lt = ap (λ (ys : List _). x ∷ ys) (cut_at xs i d (omega arith))
+
+module _ (words : List Text) (i : ℕ) (d : Text) (lt : i < length words) (calendars : List Calendar)
+    (so_far : with_calendars [] (take i words) ≡ Ok calendars) where
+  -- the next word names a calendar
+  pub calendar_more : (c : Calendar) → calendar_named (get_or words i d) ≡ Some c
+      → with_calendars [] (take (i + 1) words) ≡ Ok (calendars ++ c ∷ [])
+  calendar_more c is =
+      ap (with_calendars []) (take_more words i d lt)
+      ∙ calendars_go_on (take i words) (get_or words i d ∷ []) [] calendars so_far ∙ rw is refl
+
+  -- it names none
+  pub calendar_fault : calendar_named (get_or words i d) ≡ None
+      → with_calendars [] words ≡ Err (unknown_calendar (get_or words i d))
+  calendar_fault is =
+      ap (with_calendars []) (cut_at words i d lt)
+      ∙ calendars_go_on (take i words) (get_or words i d ∷ drop (suc i) words) [] calendars so_far ∙ rw is refl
+
+module _ (before : List Text) (name : Text) (columns : List AskedColumn)
+    (so_far : with_columns [] before ≡ Ok columns) where
+  -- the next name names a column that was not named before
+  pub column_more : (c : AskedColumn) → column_named name ≡ Some c → is_among columns c ≡ false
+      → with_columns [] (before ++ name ∷ []) ≡ Ok (columns ++ c ∷ [])
+  column_more c is new = columns_go_on before (name ∷ []) [] columns so_far ∙ rw (is, new) refl
+
+  -- it names none, or one that was named
+  pub column_fault : (after : List Text) → column_named name ≡ None
+      → with_columns [] (before ++ name ∷ after) ≡ Err (unknown_column name)
+  column_fault after is = columns_go_on before (name ∷ after) [] columns so_far ∙ rw is refl
+
+  pub column_again : (after : List Text) (c : AskedColumn) → column_named name ≡ Some c → is_among columns c ≡ true
+      → with_columns [] (before ++ name ∷ after) ≡ Err (column_twice c)
+  column_again after c is among = columns_go_on before (name ∷ after) [] columns so_far ∙ rw (is, among) refl
+
+-- ---- what a text is not called
+
+pub not_called : (bare name spelled : List ℕ) (found : Bool) → bare ≡ trimmed name → found ≡ false
+    → (str_to_ascii_lowercase bare ≡ spelled → IsTrue found) → ¬ IsNamed name spelled
+not_called bare name spelled found same other is named =
+    let so : found ≡ true = is (ap str_to_ascii_lowercase same ∙ named) in
+    true≢false (sym so ∙ other)
+
+pub never_called : (name : List ℕ) (found : Option Target) → found ≡ None
+    → ((t : Target) → (found ≡ Some t) ↔ IsNamed name (target_name t)) → (t : Target) → ¬ IsNamed name (target_name t)
+never_called name found none each t is = let bad : found ≡ Some t = (each t).1 is in no_target t (sym none ∙ bad)
+  where
+    no_target : (u : Target) → None ≡ Some u → ⊥
+    no_target u e = cc
+
+-- the name at place i of a list, before which these stand
+pub cut_behind : (names before : List Text) (i : ℕ) (name : Text) → (i < length names) × (name ≡ get_or names i name)
+    → before ≡ take i names → (after : List Text) × (names ≡ before ++ name ∷ after)
+cut_behind names before i name place front =
+    (drop (suc i) names, cut_at names i name place.0
+    ∙ ap₂ (λ (xs : List Text) (x : Text). xs ++ x ∷ drop (suc i) names) (sym front) (sym place.1))
+
+-- ---- words as a slice holds them
+
+module _ (words : List (Bor Text)) (i : ℕ) (d : Bor Text) (lt : i < length words) (calendars : List Calendar)
+    (so_far : with_calendars [] (take i (map (λ word. word.now) words)) ≡ Ok calendars) where
+  low : i < length (map (λ word. word.now) words)
+  low = omega (arith, lt, length-map words (λ word. word.now))
+
+  at : get_or (map (λ word. word.now) words) i [] ≡ (get_or words i d).now
+  at = get_or-map (λ word. word.now) words i d [] lt
+
+  pub calendar_more_at : (c : Calendar) → calendar_named (get_or words i d).now ≡ Some c
+      → with_calendars [] (take (i + 1) (map (λ word. word.now) words)) ≡ Ok (calendars ++ c ∷ [])
+  calendar_more_at c is =
+      calendar_more (map (λ word. word.now) words) i [] low calendars so_far c (ap calendar_named at ∙ is)
+
+  pub calendar_fault_at : calendar_named (get_or words i d).now ≡ None
+      → with_calendars [] (map (λ word. word.now) words) ≡ Err (unknown_calendar (get_or words i d).now)
+  calendar_fault_at is =
+      calendar_fault (map (λ word. word.now) words) i [] low calendars so_far (ap calendar_named at ∙ is)
+      ∙ ap (λ (t : Text). Err (unknown_calendar t)) at

@@ -38,12 +38,9 @@ fn column_named(name: &str) -> Option<AskedColumn>
 fn is_among(columns: &[AskedColumn], column: AskedColumn) -> bool
     ensures { result ≡ among_spec columns.now column }
 {
-    'columns: for other in columns {
-        if column_name(*other) == column_name(column) {
-            return true;
-        }
-    }
-    false
+    columns
+        .iter()
+        .any(|other| column_name(*other) == column_name(column))
 }
 
 /// The columns that a list names, in its order: names between commas.

@@ -1,8 +1,8 @@
 //! The values of the options.
 
-ghost use Rattle.std.specs.Prelude.{◌≡◌, IfErr, IfOk, IsSomeAnd, option_map};
+ghost use Rattle.std.specs.Prelude.{◌≡◌, ◌↔◌, ◌%◌, ℕ, IfErr, IfOk, IsSomeAnd, Some, option_map};
 ghost use Rattle.command_lines.specs.Meanings.{option_check};
-ghost use Rattle.command_lines.specs.Values.{IsValueOf, byte_of, delimiter_option};
+ghost use Rattle.command_lines.specs.Values.{IsNumberWord, IsValueOf, byte_of, delimiter_option};
 ghost use Rattle.sheet_arguments.specs.Faults.{bad_short_hebrew_years, bad_short_years, bad_skip, fault_of_error};
 ghost use Rattle.sheet_arguments.specs.Faults.{unknown_delimiter, unknown_order};
 ghost use Rattle.sheet_arguments.specs.OptionValues.{order_number, order_option, short_hebrew_option, short_number};
@@ -56,10 +56,16 @@ pub struct ShortYears {
 }
 
 /// The century that a word names: 100, 200 and so on to 2000.
-fn century_named(word: &str) -> Option<u32> {
-    match number_named(word, LAST_CENTURY) {
-        Some(years) if years % CENTURY == 0 => Some(years as u32),
-        _ => None,
+fn century_named(word: &str) -> Option<u32>
+    ensures { (n : ℕ) → (result ≡ Some n) ↔ (IsNumberWord 2000 word.now n × (n % 100 ≡ 0)) }
+{
+    let Some(years) = number_named(word, LAST_CENTURY) else {
+        return None;
+    };
+    if years % CENTURY == 0 {
+        Some(years as u32)
+    } else {
+        None
     }
 }
 
@@ -75,15 +81,20 @@ impl OptionValue for ShortYears {
     }
 
     fn named(word: &str) -> Option<ShortYears> {
-        let rule = match word {
-            "refuse" => Short::Refuse,
-            "keep" => Short::Keep,
-            _ => match century_named(word) {
-                Some(years) => Short::Add(years),
-                None => return None,
-            },
-        };
-        Some(ShortYears { rule })
+        if word == "refuse" {
+            return Some(ShortYears {
+                rule: Short::Refuse,
+            });
+        }
+        if word == "keep" {
+            return Some(ShortYears { rule: Short::Keep });
+        }
+        match century_named(word) {
+            Some(years) => Some(ShortYears {
+                rule: Short::Add(years),
+            }),
+            None => None,
+        }
     }
 }
 

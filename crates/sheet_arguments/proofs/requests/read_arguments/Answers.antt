@@ -1,8 +1,8 @@
 -- What clap says of its parse, at the command line that the definitions speak of.
-use Rattle.std.proofs.Common.{rules, ap, map, refl, true, ◌≡◌, ◌∙◌}
+use Rattle.std.proofs.Common.{ap, map, refl, subst, true, ◌≡◌, ◌∙◌}
 use Rattle.std.proofs.lemmas.Result.{IfOk-weaker}
 use Rattle.std.specs.String.{string_bytes}
-use Rattle.clap.specs.Words.{App, HasMatchesOf, app_of, found_of, is_simple, is_simple_and_free, matches_of, rows_of}
+use Rattle.clap.specs.Words.{App, FailsBy, HasMatchesOf, app_of, fault_of, found_of, is_simple, is_simple_and_free, matches_of, rows_of}
 use Rattle.clap.specs.declared.parser.matches.ArgMatches.{ArgMatches}
 use Rattle.clap.proofs.OnLiterals.{clap_on_literals}
 use Rattle.sheet_arguments.specs.CommandLine.{command_line}
@@ -26,4 +26,8 @@ returns-clause-found c =
     c.try_get_matches_from.ensures.matches
 
 pub returns-clause-fails : goal.returns-clause-fails
-returns-clause-fails c = search (rules, simple_and_free)
+returns-clause-fails c =
+    let is = c.in_ok-command.ensures in
+    let arguments = map string_bytes c.args.arguments.now in
+    subst (λ (a : App). FailsBy (fault_of a arguments) c.try_get_matches_from.result) is
+    (c.try_get_matches_from.ensures.kinds (ap is_simple_and_free is ∙ simple_and_free))

@@ -1,8 +1,8 @@
 -- What is not known is counted date by date.
 use Rattle.std.proofs.Common.{◌≡◌, ◌≤◌, ◌<◌, ◌+◌, ◌*◌, ◌^◌, ◌∙◌, ◌++◌, ◌↔◌, ℕ, zero, suc, Bool, true, List, [], ◌∷◌, Option, None, Some}
-use Rattle.std.proofs.Common.{ap, append-nil, append_assoc, arith, cond, count_by, get_or, length, map, refl, subst, sym, take}
+use Rattle.std.proofs.Common.{ap, append-nil, append_assoc, arith, cond, get_or, length, map, refl, subst, sym, take}
 use Rattle.std.specs.Prelude.{if◌then◌else◌, option_to_list}
-use Rattle.std.specs.List.{AllZip, flat_map}
+use Rattle.std.specs.List.{AllZip}
 use Rattle.std.proofs.Math.Seq.{take-nil}
 use Rattle.std.proofs.lemmas.List.{flat_map_more, length-append, length-map, map-append, take_more}
 use Rattle.std.proofs.lemmas.List.Concat.{flat_map-append}

@@ -1,6 +1,6 @@
 -- Stops that are alike, and the first of them.
 use Rattle.std.proofs.Common.{◌≡◌, ◌≤◌, ◌<◌, ◌+◌, ◌∙◌, ◌++◌, ◌||◌, ℕ, zero, suc, Bool, true, false, not, cond, List, [], ◌∷◌}
-use Rattle.std.proofs.Common.{ap, append-nil, append_assoc, arith, count_by, filter, get_or, inl, inr, length, map, refl, set, subst, sym, take}
+use Rattle.std.proofs.Common.{ap, append-nil, arith, count_by, filter, get_or, inl, inr, length, map, refl, set, sym, take}
 use Rattle.std.specs.Prelude.{⊤, Some, option_map, slice_get}
 use Rattle.std.specs.List.{list_any}
 use Rattle.std.specs.Str.{str_to_ascii_lowercase}

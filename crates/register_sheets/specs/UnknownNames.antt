@@ -1,5 +1,5 @@
 -- The names in a sheet that are not known.
-use Rattle.std.specs.Prelude.{◌≡◌, ◌≢◌, ◌≤◌, ◌<◌, ◌+◌, ◌==◌, ◌&&◌, ◌↔◌, ℕ, Bool, true, false, not, nat_lt, List, [], ◌∷◌}
+use Rattle.std.specs.Prelude.{◌≡◌, ◌≢◌, ◌≤◌, ◌<◌, ◌==◌, ◌&&◌, ◌↔◌, ℕ, Bool, true, not, nat_lt, List, [], ◌∷◌}
 use Rattle.std.specs.Prelude.{Option, None, Some, IsUtf8, codes, count_by, filter, get_or, length, map, option_map}
 use Rattle.std.specs.Prelude.{option_to_list, take}
 use Rattle.std.specs.Fmt.{decimal}

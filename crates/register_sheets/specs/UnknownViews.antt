@@ -1,5 +1,5 @@
 -- What a clause sees of names that stopped dates. No public contract cites this file.
-use Rattle.std.specs.Prelude.{◌^◌, ◌<◌, ℕ, All, Option, None, Some, List, [], map}
+use Rattle.std.specs.Prelude.{◌^◌, ◌<◌, ℕ, All, Option, None, Some, List, map}
 use Rattle.register_sheets.specs.UnknownNames.{AreNames, NameStop, name_seen}
 use Rattle.register_sheets.specs.declared.stopped_names.StoppedNames.{StoppedNames}
 use Rattle.register_sheets.specs.declared.stopped_names.UnknownName.{UnknownName}

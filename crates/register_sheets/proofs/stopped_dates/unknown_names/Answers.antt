@@ -1,4 +1,4 @@
-use Rattle.std.proofs.Common.{◌≡◌, ◌≤◌, ◌<◌, ◌+◌, ◌∙◌, List, ap, drop, length, map, rules, subst, true}
+use Rattle.std.proofs.Common.{◌≡◌, ◌≤◌, ◌<◌, ◌+◌, ◌∙◌, List, ap, drop, length, rules, subst, true}
 use Rattle.std.specs.Prelude.{Ok}
 use Rattle.register_records.specs.Entries.{Fields, record_limit}
 use Rattle.register_sheets.specs.FoundViews.{HasFound}

@@ -1,10 +1,9 @@
-use Rattle.std.proofs.Common.{◌≡◌, ◌∙◌, ◌++◌, arith, ap, List, Option, subst}
+use Rattle.std.proofs.Common.{◌∙◌, ◌++◌, arith, ap, Option, subst}
 use Rattle.std.specs.Prelude.{option_to_list}
 use Rattle.csv.specs.Records.{fields_of}
-use Rattle.date_texts.specs.declared.calendar.Calendar.{Calendar}
-use Rattle.register_sheets.specs.UnknownNames.{AreNames, NameStop, stop_by, stop_of, stops_in}
+use Rattle.register_sheets.specs.UnknownNames.{NameStop, stop_by, stops_in}
 use Rattle.register_sheets.specs.UnknownViews.{HasNames}
-use Rattle.register_sheets.proofs.FoundLemmas.{found_more, has_room, kept_few, short_few, stops_few}
+use Rattle.register_sheets.proofs.FoundLemmas.{found_more, has_room, kept_few, stops_few}
 use Rattle.register_sheets.proofs.stopped_dates.Found.add_date.Goals as goal
 
 pub add-requires : goal.add-requires

@@ -1,4 +1,4 @@
-use Rattle.std.proofs.Common.{◌≡◌, ◌∙◌, ◌++◌, ◌∷◌, [], ap, append-nil, arith, get_or, length, length-append, length-take, List, map, subst, sym, take, take_all}
+use Rattle.std.proofs.Common.{◌≡◌, ◌++◌, append-nil, arith, length-append, length-take, List, map, subst, sym, take, take_all}
 use Rattle.std.proofs.lemmas.List.{length-map}
 use Rattle.csv.specs.Records.{fields_of}
 use Rattle.register_sheets.specs.FoundViews.{HasFound}

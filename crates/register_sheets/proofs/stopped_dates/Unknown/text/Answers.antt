@@ -1,4 +1,4 @@
-use Rattle.std.proofs.Common.{◌≡◌, ◌<◌, ◌∙◌, ◌++◌, ◌∷◌, [], ℕ, List, get_or, ap, append-nil, arith, length, map, rules, subst, sym, take, take_all}
+use Rattle.std.proofs.Common.{◌≡◌, ◌<◌, ◌∙◌, [], ℕ, List, get_or, ap, append-nil, arith, length, map, subst, sym, take, take_all}
 use Rattle.std.specs.Prelude.{IfOk}
 use Rattle.register_records.specs.Lines.{line_text}
 use Rattle.register_sheets.specs.LineViews.{Begins}

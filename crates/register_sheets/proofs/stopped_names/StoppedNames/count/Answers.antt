@@ -1,9 +1,8 @@
-use Rattle.std.proofs.Common.{◌≡◌, ◌<◌, ◌≤◌, ◌∙◌, ◌++◌, ◌∷◌, [], ℕ, List, ap, arith, false, length, map, rules, set, subst, sym, take}
-use Rattle.std.specs.List.{list_any}
+use Rattle.std.proofs.Common.{◌≡◌, ◌<◌, ◌≤◌, ◌∙◌, ◌++◌, ◌∷◌, [], List, ap, arith, false, length, map, rules, set, subst, sym}
 use Rattle.std.proofs.lemmas.List.{get_or-map, length-map, map-set}
 use Rattle.std.proofs.lemmas.Option.{slice_get_within}
 use Rattle.std.proofs.lemmas.Result.{on_ok_weaker}
-use Rattle.register_sheets.specs.UnknownNames.{AreNames, NameCount, NameStop, firsts, is_alike, name_seen}
+use Rattle.register_sheets.specs.UnknownNames.{AreNames, NameCount, NameStop, name_seen}
 use Rattle.register_sheets.specs.UnknownViews.{named, stop_seen}
 use Rattle.register_sheets.proofs.StopLemmas.{has, name_counted, named_are, names_full, names_new, one_more}
 use Rattle.register_sheets.proofs.stopped_names.StoppedNames.count.Goals as goal

@@ -1,4 +1,4 @@
-use Rattle.std.proofs.Common.{◌≡◌, ◌<◌, ◌∙◌, ap, arith, false, length, sym, true}
+use Rattle.std.proofs.Common.{◌∙◌, ap, arith, sym}
 use Rattle.register_sheets.specs.UnknownNames.{NameStop, is_alike}
 use Rattle.register_sheets.specs.UnknownViews.{named, stop_seen}
 use Rattle.register_sheets.proofs.StopLemmas.{named_at, none_more}

@@ -33,9 +33,9 @@ class Trials:
         sys.exit(self.failed > 0)
 
 
-def program_of(path):
+def program_of(path, launcher="register"):
     """The program at this path, or the launcher; its first run, which may build it, has an end in six hours."""
-    program = os.path.realpath(path or ROOT / "register")
+    program = os.path.realpath(path or ROOT / launcher)
     try:
         how = {"stdin": subprocess.DEVNULL, "stdout": subprocess.DEVNULL, "timeout": 6 * 3600}
         subprocess.run([program, "--help"], check=True, **how)

@@ -8,7 +8,7 @@ mod options;
 mod tables;
 
 use calendars::{CalendarFacts, TargetFacts, calendar_facts, target_facts};
-use options::{OptionFacts, option_facts};
+use options::{OptionFacts, option_facts, sheet_option_facts};
 use register_app::{COMPLETE, INCOMPLETE};
 use register_arguments::{MAX_FILES, RequestFault, VERSION};
 use register_records::{CALENDAR_LIMIT, DATE_LIMIT, ID_LIMIT, MAX_RECORDS, NOTE_LIMIT};
@@ -49,6 +49,7 @@ struct Facts {
     causes: Vec<Sentence>,
     statuses: Statuses,
     options: Vec<OptionFacts>,
+    sheet_options: Vec<OptionFacts>,
     limits: Limits,
 }
 
@@ -83,6 +84,7 @@ fn all_facts(alloc: Global) -> io::Result<Facts> {
         causes: cause_sentences(alloc)?,
         statuses: known_statuses(),
         options: option_facts(alloc)?,
+        sheet_options: sheet_option_facts(alloc)?,
         limits: LIMITS,
     })
 }

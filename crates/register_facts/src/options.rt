@@ -1,7 +1,7 @@
 //! The options of the command line: what clap has of them, and what the program takes.
 
 use crate::calendars::names_of;
-use clap::Arg;
+use clap::{Arg, Command};
 use date_texts::Target;
 use register_arguments::{NO_TARGET, Request, command, read_request};
 use register_records::Setup;
@@ -166,19 +166,30 @@ impl OptionFacts {
     }
 }
 
-/// What is known of each option, in the order in which clap has them.
-pub fn option_facts(alloc: Global) -> io::Result<Vec<OptionFacts>> {
-    let without = setup_of(alloc, &[])?;
-    let mut command = command(alloc)?;
+/// The options of a command, in the order in which clap has them, of whose values nothing is known yet.
+fn options_of(alloc: Global, mut command: Command<'_>) -> io::Result<Vec<OptionFacts>> {
     // This adds those for help and version.
     command.render_help()?;
     let mut all = Vec::new(alloc);
     for argument in command.get_arguments() {
         if argument.get_long().is_some() {
-            let mut option = OptionFacts::new(alloc, argument)?;
-            option.try_values(alloc, &without)?;
-            all.push(option)?;
+            all.push(OptionFacts::new(alloc, argument)?)?;
         }
     }
     Ok(all)
+}
+
+/// What is known of each option.
+pub fn option_facts(alloc: Global) -> io::Result<Vec<OptionFacts>> {
+    let without = setup_of(alloc, &[])?;
+    let mut all = options_of(alloc, command(alloc)?)?;
+    for option in &mut all {
+        option.try_values(alloc, &without)?;
+    }
+    Ok(all)
+}
+
+/// The options of `register-sheet`, with what stands for their values.
+pub fn sheet_option_facts(alloc: Global) -> io::Result<Vec<OptionFacts>> {
+    options_of(alloc, sheet_arguments::command(alloc)?)
 }

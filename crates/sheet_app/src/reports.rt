@@ -24,12 +24,39 @@ fn push_count(line: &mut Vec<u8>, count: u64, counted: &[u8]) -> Result<(), Allo
     line.extend_from_slice(counted)
 }
 
-/// The line on the dates of a sheet that were stopped by names that are not known, and those that were left empty.
-fn line_of_doubts(alloc: Global, name: &str, whole: &WholeSheet) -> Result<Vec<u8>, AllocError> {
+/// The line on so many dates of a sheet, in words for one of them and for more.
+fn line_of_dates(
+    alloc: Global,
+    name: &str,
+    count: u64,
+    one: &[u8],
+    more: &[u8],
+) -> Result<Vec<u8>, AllocError> {
     let mut line = begin_line(alloc, name)?;
-    push_count(&mut line, whole.stopped, b" dates have names that are not known (--unknown lists them), ")?;
-    push_count(&mut line, whole.short, b" dates are left empty, as their year is short\n")?;
+    push_count(&mut line, count, if count == 1 { one } else { more })?;
     Ok(line)
+}
+
+/// The line on the dates of a sheet that were stopped by names that are not known.
+fn line_of_stopped(alloc: Global, name: &str, count: u64) -> Result<Vec<u8>, AllocError> {
+    line_of_dates(
+        alloc,
+        name,
+        count,
+        b" date has a name that is not known: --unknown lists it\n",
+        b" dates have names that are not known: --unknown lists them\n",
+    )
+}
+
+/// The line on the dates of a sheet that were left empty.
+fn line_of_short(alloc: Global, name: &str, count: u64) -> Result<Vec<u8>, AllocError> {
+    line_of_dates(
+        alloc,
+        name,
+        count,
+        b" date has a short year and is left empty: see --short-years\n",
+        b" dates have short years and are left empty: see --short-years\n",
+    )
 }
 
 /// The line of a summary: how many records a sheet has, and how many were refused for each of so many columns of dates.
@@ -67,11 +94,7 @@ fn send_line<E: Output>(errors: &mut E, line: Result<Vec<u8>, AllocError>)
 }
 
 /// The line on a sheet that broke off.
-fn line_of_fault(
-    alloc: Global,
-    name: &str,
-    fault: &SheetFault<'_>,
-) -> Result<Vec<u8>, AllocError> {
+fn line_of_fault(alloc: Global, name: &str, fault: &SheetFault<'_>) -> Result<Vec<u8>, AllocError> {
     let mut line = begin_line(alloc, name)?;
     fault.push_to(&mut line)?;
     line.push(b'\n')?;
@@ -94,8 +117,11 @@ pub fn report_sheet<E: Output>(
         SheetDone::Broken(fault) => send_line(errors, line_of_fault(alloc, name, fault)),
         SheetDone::Listed => {}
         SheetDone::Whole(whole) => {
-            if whole.stopped > 0 || whole.short > 0 {
-                send_line(errors, line_of_doubts(alloc, name, whole));
+            if whole.stopped > 0 {
+                send_line(errors, line_of_stopped(alloc, name, whole.stopped));
+            }
+            if whole.short > 0 {
+                send_line(errors, line_of_short(alloc, name, whole.short));
             }
             if summary {
                 send_line(errors, line_of_summary(alloc, name, dates, whole));

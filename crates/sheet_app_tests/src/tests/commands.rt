@@ -9,8 +9,7 @@ const CASES: [Case; 9] = [
         status: 0,
         output: CONVERTED,
         outputs: &[],
-        errors: "register-sheet: standard input: 1 dates have names that are not known (--unknown lists them), \
-            0 dates are left empty, as their year is short\n",
+        errors: "register-sheet: standard input: 1 date has a name that is not known: --unknown lists it\n",
     },
     // A column by its number, one calendar for all, the columns asked, and what the user's list adds.
     Case {
@@ -52,8 +51,7 @@ const CASES: [Case; 9] = [
         status: 0,
         output: b"d,julian,refusal\n06-5-12,,5\n",
         outputs: &[],
-        errors: "register-sheet: standard input: 0 dates have names that are not known (--unknown lists them), \
-            1 dates are left empty, as their year is short\n",
+        errors: "register-sheet: standard input: 1 date has a short year and is left empty: see --short-years\n",
     },
     // The names that are not known.
     Case {

@@ -17,8 +17,7 @@ const CASES: [Case; 7] = [
             b"",
             b"",
         ],
-        errors: "register-sheet: a.csv: 1 dates have names that are not known (--unknown lists them), \
-            0 dates are left empty, as their year is short\n\
+        errors: "register-sheet: a.csv: 1 date has a name that is not known: --unknown lists it\n\
             register-sheet: empty.csv: no record with names\n",
     },
     Case {

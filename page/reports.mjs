@@ -156,18 +156,21 @@ function listRow(job, now) {
 
 const rowId = (id, { row }) => `${id}-row-${row}`;
 
-function pictureRow(id, { name, bins, refused }, far, { from }) {
+const calendarWords = ({ name, written }) => WORDS.calendars[name] || { own: written };
+
+function pictureRow(id, row, far, { from }) {
+  const { name, bins, refused } = row;
   const own = far.filter(({ calendar }) => calendar.trim().toLowerCase() === name);
   return {
-    label: WORDS.calendars[name] || { own: name }, bins, refused: refused === 0 ? '' : WORDS.refused(refused),
+    label: calendarWords(row), bins, refused: refused === 0 ? '' : WORDS.refused(refused),
     far: own.map((it) => ({ id: rowId(id, it), year: it.year, side: it.day < from ? 'before' : 'behind' })),
   };
 }
 
 // What the picture shows, in words: each calendar, and each gap, which the picture leads to.
 function pictureLines({ rows, others }, gaps) {
-  const ofRows = rows.map(({ name, count, refused, years }) =>
-    ({ words: WORDS.entriesOf(WORDS.calendars[name] || { own: name }, count, years, refused) }));
+  const ofRows = rows.map((row) =>
+    ({ words: WORDS.entriesOf(calendarWords(row), row.count, row.years, row.refused) }));
   return [...ofRows, ...(others ? [{ words: WORDS.otherEntries(others) }] : []), ...gaps];
 }
 

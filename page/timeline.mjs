@@ -47,13 +47,15 @@ function numberOf(bytes, at, length) {
 // More letters of a name are not looked at; more names are one.
 const MOST_LETTERS = 40, MOST_NAMES = 1000;
 
-// Gives each name of a calendar its place among those that differ in more than capitals and blanks.
+// Gives each name of a calendar its place among those that differ in more than capitals and blanks; `written` is how it
+// was written first.
 function namesMet() {
   const met = new Map(), names = [], decoder = new TextDecoder();
   const placeOfNew = (bytes) => {
-    const name = decoder.decode(bytes).trim().toLowerCase();
-    if (!names.includes(name) && names.length < MOST_NAMES) names.push(name);
-    return names.includes(name) ? names.indexOf(name) : MOST_NAMES - 1;
+    const written = decoder.decode(bytes).trim(), name = written.toLowerCase();
+    const found = names.findIndex((it) => it.name === name);
+    if (found >= 0 || names.length === MOST_NAMES) return found >= 0 ? found : MOST_NAMES - 1;
+    return names.push({ name, written }) - 1;
   };
   const placeOfName = (bytes) => {
     const key = String.fromCharCode(...bytes);
@@ -127,14 +129,15 @@ function marksOf(years, from, to) {
 // The calendars that have a row: those of the product first, in its order, and then the others by how often they are there.
 function rowsOfNames(names, counts) {
   const known = FACTS.calendars.map(({ name }) => name);
-  const rank = (name) => (known.includes(name) ? known.indexOf(name) : known.length);
+  const rank = ({ name }) => (known.includes(name) ? known.indexOf(name) : known.length);
   return range(names.length).sort((one, other) =>
     (rank(names[one]) === rank(names[other]) ? counts[other] - counts[one] : rank(names[one]) - rank(names[other])));
 }
 
 // For each calendar how many entries it has, converted and refused, and how many in each part of the line.
 function binned({ days, places, names }, [from, to]) {
-  const all = names.map((name) => ({ name, count: 0, refused: 0, first: NO_DAY, last: -NO_DAY, bins: Array(BINS).fill(0) }));
+  const all = names.map((called) =>
+    ({ ...called, count: 0, refused: 0, first: NO_DAY, last: -NO_DAY, bins: Array(BINS).fill(0) }));
   days.forEach((day, i) => {
     const row = all[places[i]];
     if (day === NO_DAY) row.refused += 1;

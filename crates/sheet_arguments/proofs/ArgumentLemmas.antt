@@ -1,5 +1,5 @@
 -- What the arguments of this program mean is one thing: what `MeaningLemmas` of `command_lines` wants to be shown.
-use Rattle.std.proofs.Common.{◌≡◌, ◌∙◌, Bool, true, false, true≢false, List, sym, rules, Result, Ok, Err}
+use Rattle.std.proofs.Common.{◌≡◌, ◌∙◌, Bool, true≢false, List, sym, rules, Result, Ok, Err}
 use Rattle.clap.specs.Words.{IsAmong, Text, fault_of}
 use Rattle.clap.specs.declared.error.kind.ErrorKind.{ErrorKind}
 use Rattle.command_lines.specs.Values.{delimiter_option}

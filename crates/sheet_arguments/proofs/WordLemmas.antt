@@ -179,9 +179,11 @@ never_called name found none each t is = let bad : found ≡ Some t = (each t).1
 -- the name at place i of a list, before which these stand
 pub cut_behind : (names before : List Text) (i : ℕ) (name : Text) → (i < length names) × (name ≡ get_or names i name)
     → before ≡ take i names → (after : List Text) × (names ≡ before ++ name ∷ after)
-cut_behind names before i name place front =
-    (drop (suc i) names, cut_at names i name place.0
-    ∙ ap₂ (λ (xs : List Text) (x : Text). xs ++ x ∷ drop (suc i) names) (sym front) (sym place.1))
+cut_behind names before i name place front = (
+  drop (suc i) names,
+  cut_at names i name place.0
+      ∙ ap₂ (λ (xs : List Text) (x : Text). xs ++ x ∷ drop (suc i) names) (sym front) (sym place.1),
+)
 
 -- ---- words as a slice holds them
 

@@ -1,6 +1,6 @@
 -- What the arguments ask for.
 use Rattle.std.specs.Prelude.{◌≡◌, ◌==◌, ◌||◌, ◌&&◌, ℕ, Bool, true, false, List, [], ◌∷◌, length, map, nat_lt, not}
-use Rattle.std.specs.Prelude.{if◌then◌else◌, Option, Some, None, option_map, Result, Ok, Err}
+use Rattle.std.specs.Prelude.{if◌then◌else◌, Option, option_map, Result, Ok, Err}
 use Rattle.clap.specs.Words.{Text}
 use Rattle.date_texts.specs.declared.calendar.Calendar.{Calendar}
 use Rattle.command_lines.specs.FileLists.{AreFilesToConvert}

@@ -191,6 +191,13 @@ fn read_options<'a>(alloc: Global, arguments: &'a [String]) -> Result<Options<'a
     Ok(options)
 }
 
+/// How many words these are.
+fn count_of(words: &[&str]) -> usize
+    ensures { result ≡ length (map (λ w. w.now) words.now) }
+{
+    words.len()
+}
+
 /// Whether so many are neither one nor as many as there are columns of dates.
 fn is_misfit(dates: usize, count: usize) -> bool
     ensures { result ≡ misfit_spec dates count }
@@ -207,6 +214,13 @@ fn are_misfits(dates: usize, columns: usize, calendars: usize) -> bool
     } else {
         calendars != 0 || is_misfit(dates, columns)
     }
+}
+
+/// Whether registers are asked for, and none of so many files.
+fn is_of_input(register: bool, files: usize) -> bool
+    ensures { result ≡ (register && (files == 0)) }
+{
+    register && files == 0
 }
 
 /// Refuses the arguments with this fault, if so.
@@ -272,10 +286,12 @@ fn chosen_job<'a>(alloc: Global, options: Options<'a>) -> Result<Job<'a>, Reques
     ensures fault { IfErr result (λ error. IfSome (fault_of_error error)
         (FailFirst (value_checks (values_by options.entry)))) }
 {
-    let dates = options.dates.len();
+    let dates = count_of(options.dates.as_slice());
     refuse_if(dates == 0, RequestFault::NoDate)?;
     refuse_if(dates > MAX_DATES, RequestFault::TooManyDates)?;
-    let misfits = are_misfits(dates, options.calendars.len(), options.all.len());
+    let columns = count_of(options.calendars.as_slice());
+    let all = count_of(options.all.as_slice());
+    let misfits = are_misfits(dates, columns, all);
     refuse_if(misfits, RequestFault::CalendarCount)?;
     let calendars = chosen_calendars(alloc, options.calendars, options.all.as_slice())?;
     let order = chosen_order(options.order)?;
@@ -284,7 +300,8 @@ fn chosen_job<'a>(alloc: Global, options: Options<'a>) -> Result<Job<'a>, Reques
     let skip = chosen_skip(options.skip)?;
     let delimiter = chosen_delimiter(options.delimiter)?;
     let columns = chosen_columns(alloc, options.to)?;
-    let of_input = options.register && options.files.is_empty();
+    let files = count_of(options.files.as_slice());
+    let of_input = is_of_input(options.register, files);
     refuse_if(of_input, RequestFault::RegisterOfInput)?;
     files_fit(options.files.as_slice())?;
     Ok(Job {

@@ -1,7 +1,6 @@
 -- Each word read so far named a calendar.
 use Rattle.std.proofs.Common.{rules, ◌≡◌, ◌∙◌, [], ap, arith, is_ok, map, refl, sym, take_all, true}
 use Rattle.std.proofs.lemmas.List.{length-map}
-
 use Rattle.sheet_arguments.specs.WordLists.{with_calendars}
 use Rattle.sheet_arguments.proofs.WordLemmas.{calendar_fault_at, calendar_more_at}
 use Rattle.sheet_arguments.proofs.named_calendars.named_calendars.Goals as goal

@@ -181,7 +181,7 @@ fn report_run<W, E: Output>(errors: &mut E, summary: bool, report: &Report<W>) -
     }
 }
 
-/// Converts the sources, each to the output at its place, and reports how they have ended. There are no more sources
+/// Converts the sources, each to the output with its number, and reports how they have ended. There are no more sources
 /// than a run takes, and as many outputs, so that only running out of memory keeps a run from its beginning.
 fn run_job<
     T: Threads + Wait + Clock + CpuClock + Sync,
@@ -207,14 +207,11 @@ fn run_job<
     ensures mark { E.own_mark errors.new ≡ E.own_mark errors.old }
 {
     match run(rt, alloc, sources, outputs, &job.setup) {
-        Ok(report) => {
-            let status = report_run(errors, job.summary, &report);
-            JobEnd {
-                status,
-                outputs: report.outputs,
-                ran: report.ran,
-            }
-        }
+        Ok(report) => JobEnd {
+            status: report_run(errors, job.summary, &report),
+            outputs: report.outputs,
+            ran: report.ran,
+        },
         Err(fault) => {
             report_out_of_memory(errors);
             JobEnd {
@@ -253,19 +250,15 @@ fn convert_input<
     };
     sources.push_reserved(input);
     outputs.push_reserved(output);
-    let JobEnd {
-        status,
-        mut outputs,
-        ran,
-    } = run_job(rt, alloc, sources, outputs, errors, job);
-    let Some(output) = outputs.pop() else {
+    let mut end = run_job(rt, alloc, sources, outputs, errors, job);
+    let Some(output) = end.outputs.pop() else {
         unreachable!()
     };
     Outcome {
-        status,
+        status: end.status,
         output,
-        outputs,
-        ran,
+        outputs: end.outputs,
+        ran: end.ran,
     }
 }
 

@@ -33,8 +33,8 @@ converted r o e task status sources given before after setup report reports mach
 pub returns-in-Ok-clause-converted : goal.returns-in-Ok-clause-converted
 returns-in-Ok-clause-converted g c = λ begun.
     converted _ _ _ _ _ _ _ _ _ _ c.in-Ok.report c.in-Ok.ensures.report c.in-Ok.ensures.machine
-    c.in-Ok.ensures.threads (refl, refl, refl, refl) c.report_run-status.ensures.complete
-    c.report_run-status.ensures.lines c.report_run-status.ensures.quiet
+    c.in-Ok.ensures.threads (refl, refl, refl, refl) c.report_run.ensures.complete
+    c.report_run.ensures.lines c.report_run.ensures.quiet
 
 pub returns-in-Ok-clause-len : goal.returns-in-Ok-clause-len
 returns-in-Ok-clause-len g c = grind (arith, lengths_of)

@@ -16,8 +16,8 @@ use Rattle.register_records.specs.declared.ends.SourceEnd.TheVariants as end
 use Rattle.register_page.specs.Requests.{goes_beyond, layout_by, reading_by, targets_at}
 use Rattle.register_page.specs.Rooms.{Puts}
 use Rattle.register_page.specs.declared.converting.Converted.{Converted}
-use Rattle.register_page.specs.declared.requests.Fault.{Fault}
-use Rattle.register_page.specs.declared.requests.Fault.TheVariants as fault
+use Rattle.register_page.specs.declared.requests.RequestFault.{RequestFault}
+use Rattle.register_page.specs.declared.requests.RequestFault.TheVariants as fault
 
 -- how many of the refused rows have this refusal
 abbrev pub refused_with : List Note → Refusal → ℕ
@@ -55,7 +55,7 @@ pub record IsConverted (reading : Reading) (layout : Layout) (text old new : Lis
   pub never : IfBroken it.end (λ c. (c ≢ cause.NoThread) × (c ≢ cause.Unconfirmed))
 
 -- what is returned for what was asked: the first fault that it has, with the room as it was, or the conversion
-abbrev pub IsReturned : List ℕ → ℕ → Bool → List ℕ → List ℕ → List ℕ → Result Converted Fault → Type 0
+abbrev pub IsReturned : List ℕ → ℕ → Bool → List ℕ → List ℕ → List ℕ → Result Converted RequestFault → Type 0
 IsReturned columns delimiter sealed text old new (Err fault.NoSuchColumn) =
     (goes_beyond columns ≡ true) × (new ≡ old)
 IsReturned columns delimiter sealed text old new (Err fault.ColumnTwice) =

@@ -8,8 +8,8 @@ use Rattle.register_records.specs.Entries.{Reading}
 use Rattle.register_records.specs.Tables.{Layout}
 use Rattle.register_records.specs.declared.setups.Form.{Form}
 use Rattle.register_records.specs.declared.setups.Form.TheVariants.{Plain, Sealed}
-use Rattle.register_page.specs.declared.requests.Fault.{Fault}
-use Rattle.register_page.specs.declared.requests.Fault.TheVariants.{ColumnTwice, Delimiter, NoSuchColumn}
+use Rattle.register_page.specs.declared.requests.RequestFault.{RequestFault}
+use Rattle.register_page.specs.declared.requests.RequestFault.TheVariants.{ColumnTwice, Delimiter, NoSuchColumn}
 
 -- one of these places, from 0, is past the end of the list of all targets
 abbrev pub goes_beyond : List ℕ → Bool
@@ -32,7 +32,7 @@ layout_by columns delimiter sealed =
     record { writing = record { delimiter = delimiter; has_notes = sealed }; targets = targets_at columns }
 
 -- the number of a fault
-abbrev pub fault_number : Fault → ℕ
+abbrev pub fault_number : RequestFault → ℕ
 fault_number NoSuchColumn = 1
 fault_number ColumnTwice = 2
 fault_number Delimiter = 3

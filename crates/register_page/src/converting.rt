@@ -4,8 +4,8 @@ ghost use Rattle.std.specs.Prelude.{◌≡◌, []};
 ghost use Rattle.register_records.specs.Views.{layout_of, reading_of};
 ghost use Rattle.register_page.specs.Conversions.{IsConverted, IsReturned, sound_part};
 
-use crate::requests::{Fault, setup_for};
-use crate::rooms::{bytes_for, put};
+use crate::requests::{RequestFault, setup_for};
+use crate::rooms::{bytes_for, copy_if_fits};
 use date_texts::Refusal;
 use register_records::{Cause, PlainOutput, Setup, SourceEnd, convert_source};
 use std::alloc::Global;
@@ -54,7 +54,7 @@ fn convert_by(alloc: Global, text: &[u8], setup: &Setup, room: &mut [u8]) -> Con
     let mut output = PlainOutput::new(bytes_for(alloc, room.len()), 0);
     let end = convert_source(alloc, text, &mut output, setup);
     let made = output.into_inner();
-    let length = put(sound_part(&end, made.as_slice()), room);
+    let length = copy_if_fits(sound_part(&end, made.as_slice()), room);
     Converted { end, length }
 }
 
@@ -84,7 +84,7 @@ pub fn convert_text(
     delimiter: u8,
     sealed: bool,
     room: &mut [u8],
-) -> Result<Converted, Fault>
+) -> Result<Converted, RequestFault>
     ensures { IsReturned columns.now delimiter sealed text.now room.old room.new result }
 {
     let setup = setup_for(columns, delimiter, sealed)?;

@@ -6,5 +6,5 @@ mod requests;
 mod rooms;
 
 pub use converting::{Converted, convert_text};
-pub use requests::Fault;
-pub use rooms::{bytes_for, put};
+pub use requests::RequestFault;
+pub use rooms::{bytes_for, copy_if_fits};

@@ -14,7 +14,7 @@ use register_records::{Form, Setup, SetupFault};
 
 /// Why nothing is converted: the first of these that applies.
 #[derive(Clone, Copy, PartialEq, Eq, Debug)]
-pub enum Fault {
+pub enum RequestFault {
     /// A column has a place past the end of the list of all targets.
     NoSuchColumn,
     /// A column is named twice.
@@ -23,7 +23,7 @@ pub enum Fault {
     Delimiter,
 }
 
-impl Fault {
+impl RequestFault {
     ghost use Rattle.register_page.specs.Requests.{fault_number};
 
     /// The number of the fault, from 1 for `NoSuchColumn` to 3 for `Delimiter`.
@@ -31,9 +31,9 @@ impl Fault {
         ensures { result ≡ fault_number self.now }
     {
         match self {
-            Fault::NoSuchColumn => 1,
-            Fault::ColumnTwice => 2,
-            Fault::Delimiter => 3,
+            RequestFault::NoSuchColumn => 1,
+            RequestFault::ColumnTwice => 2,
+            RequestFault::Delimiter => 3,
         }
     }
 }
@@ -82,28 +82,28 @@ fn set_targets(targets: &mut [Target; TOO_MANY], columns: &[u8]) -> usize
 /// # Errors
 ///
 /// The first fault that applies.
-pub(crate) fn setup_for(columns: &[u8], delimiter: u8, sealed: bool) -> Result<Setup, Fault>
+pub(crate) fn setup_for(columns: &[u8], delimiter: u8, sealed: bool) -> Result<Setup, RequestFault>
     ensures value { IfOk result (λ s. (reading_of s ≡ reading_by delimiter sealed)
         × (layout_of s ≡ layout_by columns.now delimiter sealed)) }
     ensures good { IfOk result (λ s. (goes_beyond columns.now ≡ false) × (¬ (NamesTwice (targets_at columns.now)))
         × (is_delimiter delimiter ≡ true)) }
-    ensures none { IfErr result (λ f. f ≡ Fault.NoSuchColumn → goes_beyond columns.now ≡ true) }
-    ensures twice { IfErr result (λ f. f ≡ Fault.ColumnTwice
+    ensures none { IfErr result (λ f. f ≡ RequestFault.NoSuchColumn → goes_beyond columns.now ≡ true) }
+    ensures twice { IfErr result (λ f. f ≡ RequestFault.ColumnTwice
         → (goes_beyond columns.now ≡ false) × NamesTwice (targets_at columns.now)) }
-    ensures delimiter { IfErr result (λ f. f ≡ Fault.Delimiter
+    ensures delimiter { IfErr result (λ f. f ≡ RequestFault.Delimiter
         → (goes_beyond columns.now ≡ false) × (¬ (NamesTwice (targets_at columns.now)))
         × (is_delimiter delimiter ≡ false)) }
 {
     if goes_beyond_all(columns) {
-        return Err(Fault::NoSuchColumn);
+        return Err(RequestFault::NoSuchColumn);
     }
     few_targets();
     let mut targets = [Target::Tzolkin; TOO_MANY];
     let count = set_targets(&mut targets, columns);
     match Setup::new(&targets[..count], 1, delimiter, 1, form_of(sealed)) {
         Ok(setup) => Ok(setup),
-        Err(SetupFault::TargetTwice) => Err(Fault::ColumnTwice),
-        Err(SetupFault::Delimiter) => Err(Fault::Delimiter),
+        Err(SetupFault::TargetTwice) => Err(RequestFault::ColumnTwice),
+        Err(SetupFault::Delimiter) => Err(RequestFault::Delimiter),
         Err(SetupFault::RingSize | SetupFault::Stripes) => unreachable!(),
     }
 }

@@ -15,9 +15,9 @@ pub fn bytes_for(alloc: Global, count: usize) -> Vec<u8>
     }
 }
 
-/// Puts items to the front of `room`, and says how many they are; where the room is too small for them, it stays as it
-/// was.
-pub fn put<T: Copy>(items: &[T], room: &mut [T]) -> usize
+/// Copies items to the front of `room`, and says how many they are; where the room is too small for them, it stays as
+/// it was.
+pub fn copy_if_fits<T: Copy>(items: &[T], room: &mut [T]) -> usize
     ensures room { room.new ≡ with_front items.now room.old }
     ensures count { result ≡ length items.now }
 {

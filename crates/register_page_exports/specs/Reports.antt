@@ -8,7 +8,7 @@ use Rattle.register_records.specs.declared.ends.SourceEnd.TheVariants as end
 use Rattle.register_page.specs.Conversions.{refused_with}
 use Rattle.register_page.specs.Requests.{fault_number}
 use Rattle.register_page.specs.declared.converting.Converted.{Converted}
-use Rattle.register_page.specs.declared.requests.Fault.{Fault}
+use Rattle.register_page.specs.declared.requests.RequestFault.{RequestFault}
 use Rattle.register_page_exports.specs.declared.Counts.{Counts}
 use Rattle.register_page_exports.specs.declared.Report.{Report}
 
@@ -36,6 +36,6 @@ ReportsEnd report (end.Whole rows refused journal) bytes = Says report 0 bytes r
 ReportsEnd report (end.Broken cause) bytes = Says report (cause_number cause) bytes 0 0 []
 
 -- the report of what was returned: 0 for a whole table, 1 to 8 for a cause, and behind these the faults
-abbrev pub Reports : Report → Result Converted Fault → Type 0
+abbrev pub Reports : Report → Result Converted RequestFault → Type 0
 Reports report (Ok it) = ReportsEnd report it.end it.length
 Reports report (Err fault) = Says report (8 + fault_number fault) 0 0 0 []

@@ -4,7 +4,7 @@
 ghost use Rattle.std.specs.Prelude.{Err, Ok, Result};
 ghost use Rattle.register_page.specs.Conversions.{IsReturned, journal_in};
 ghost use Rattle.register_page.specs.declared.converting.Converted.{Converted};
-ghost use Rattle.register_page.specs.declared.requests.Fault.{Fault};
+ghost use Rattle.register_page.specs.declared.requests.RequestFault.{RequestFault};
 ghost use Rattle.register_page_exports.specs.Reports.{AreCounts, Reports, ReportsEnd};
 
 mod choices;
@@ -14,7 +14,7 @@ pub mod sheets;
 pub mod trees;
 
 use date_texts::Refusal;
-use register_page::{Converted, Fault, convert_text};
+use register_page::{Converted, RequestFault, convert_text};
 use register_records::SourceEnd;
 use std::alloc::Global;
 
@@ -86,7 +86,7 @@ fn report_of(converted: &Converted) -> Report
 }
 
 /// The report of a fault.
-fn report_of_fault(fault: Fault) -> Report
+fn report_of_fault(fault: RequestFault) -> Report
     ensures { Reports result (Err fault) }
 {
     Report {
@@ -118,7 +118,7 @@ pub extern "C" fn register_convert(
     report: &mut Report,
 )
     // The report is that of what is returned for what was asked, with the room as that says.
-    ensures { (returned : Result Converted Fault) × Reports report.new returned
+    ensures { (returned : Result Converted RequestFault) × Reports report.new returned
         × IsReturned columns.now delimiter sealed text.now room.old room.new returned }
 {
     *report = match convert_text(alloc, text, columns, delimiter, sealed, room) {

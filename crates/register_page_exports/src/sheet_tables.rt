@@ -21,7 +21,7 @@ ghost use Rattle.register_page_exports.specs.declared.sheet_tables.Known.{Known 
 
 use crate::choices::Asked;
 use crate::sheets::{TextReport, put_text};
-use register_page::{bytes_for, put};
+use register_page::{bytes_for, copy_if_fits};
 use register_records::PlainOutput;
 use register_sheets::{
     MAX_DATES, NameList, NameListFault, SheetCause, SheetChoice, SheetEnd, SheetSetup, Unknown,
@@ -413,7 +413,7 @@ pub extern "C" fn sheet_convert(
     *report = match converted(alloc, sheet, choice, columns, names, room.len()) {
         Ok(made) => SheetReport {
             ending: 0,
-            length: put(made.text.as_slice(), room),
+            length: copy_if_fits(made.text.as_slice(), room),
             rows: made.rows as usize,
             refused: words_of(made.refused),
         },
@@ -474,7 +474,7 @@ pub extern "C" fn sheet_unknown(
     *report = match unknown_found(alloc, sheet, choice, names, most) {
         Ok((unknown, text)) => UnknownReport {
             ending: 0,
-            length: put(text.as_slice(), room),
+            length: copy_if_fits(text.as_slice(), room),
             more: unknown.more as usize,
             short: unknown.short as usize,
             kept: unknown.kept as usize,

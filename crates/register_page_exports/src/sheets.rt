@@ -8,7 +8,7 @@ ghost use Rattle.register_sheets.specs.Fields.{fields_by};
 ghost use Rattle.register_sheets.specs.Sheets.{HasLongField, all_chosen, groups, records_text};
 ghost use Rattle.register_page_exports.specs.SheetReports.{PutsFields, PutsNothing, PutsText};
 
-use register_page::put;
+use register_page::copy_if_fits;
 use register_sheets::{Picked, pick, write};
 use std::alloc::Global;
 
@@ -47,8 +47,8 @@ fn put_fields(picked: &Picked, bytes: &mut [u8], lengths: &mut [u32]) -> PickRep
 {
     PickReport {
         ending: 0,
-        length: put(picked.bytes.as_slice(), bytes),
-        fields: put(picked.lengths.as_slice(), lengths),
+        length: copy_if_fits(picked.bytes.as_slice(), bytes),
+        fields: copy_if_fits(picked.lengths.as_slice(), lengths),
         records: picked.records,
         widest: picked.widest,
     }
@@ -93,7 +93,7 @@ pub(crate) fn put_text(text: &[u8], room: &mut [u8]) -> TextReport
 {
     TextReport {
         ending: 0,
-        length: put(text, room),
+        length: copy_if_fits(text, room),
     }
 }
 

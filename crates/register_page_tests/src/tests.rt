@@ -2,7 +2,7 @@
 //! reform of 1582, when 4 October was followed by 15 October, and of the years after it.
 
 use date_texts::Refusal;
-use register_page::{Converted, Fault, convert_text};
+use register_page::{Converted, RequestFault, convert_text};
 use register_records::SourceEnd;
 use register_sheets::{WriteFault, pick, write};
 use std::alloc::Global;
@@ -110,14 +110,14 @@ fn a_room_that_is_too_small_stays_as_it_was(rt: HostRuntime) -> Result<(), Fail>
 #[test]
 fn what_cannot_be_asked_is_a_fault(rt: HostRuntime) -> Result<(), Fail> {
     let all = [0, 1, 2, 3, 4, 5, 6, 7, 8, 9, 10, 11, 12, 13, 14, 0];
-    let cases: [(&[u8], u8, Option<Fault>); 7] = [
+    let cases: [(&[u8], u8, Option<RequestFault>); 7] = [
         (&all[..15], b',', None),
         (&all[..0], b'\t', None),
-        (&all, b',', Some(Fault::ColumnTwice)),
-        (&[3, 2, 3], b',', Some(Fault::ColumnTwice)),
-        (&[3, 15, 3], b'|', Some(Fault::NoSuchColumn)),
-        (&[3, 2, 3], b'|', Some(Fault::ColumnTwice)),
-        (&[3, 2], b'|', Some(Fault::Delimiter)),
+        (&all, b',', Some(RequestFault::ColumnTwice)),
+        (&[3, 2, 3], b',', Some(RequestFault::ColumnTwice)),
+        (&[3, 15, 3], b'|', Some(RequestFault::NoSuchColumn)),
+        (&[3, 2, 3], b'|', Some(RequestFault::ColumnTwice)),
+        (&[3, 2], b'|', Some(RequestFault::Delimiter)),
     ];
     for (columns, delimiter, wanted) in cases {
         let mut room = [b'#'; 9];

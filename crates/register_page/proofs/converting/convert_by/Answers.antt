@@ -10,10 +10,10 @@ pub returns : goal.returns
 returns c =
     let end = c.convert_source-end.result in
     let made = c.into_inner-made.result.items in
-    let room : c.put-length.new.room ≡ with_front (sound_part end made) c.args.room.now =
-    rw (c.sound_part.ensures, c.as_slice.ensures.value) at c.put-length.ensures.room in
-    let count : c.put-length.result ≡ length (sound_part end made) =
-    rw (c.sound_part.ensures, c.as_slice.ensures.value) at c.put-length.ensures.count in
+    let room : c.copy_if_fits-length.new.room ≡ with_front (sound_part end made) c.args.room.now =
+    rw (c.sound_part.ensures, c.as_slice.ensures.value) at c.copy_if_fits-length.ensures.room in
+    let count : c.copy_if_fits-length.result ≡ length (sound_part end made) =
+    rw (c.sound_part.ensures, c.as_slice.ensures.value) at c.copy_if_fits-length.ensures.count in
     record {
       whole = whole_put (reading_of c.args.setup.now) (layout_of c.args.setup.now) c.args.text.now end made _ _ _ room count
           (rw (c.new-output.ensures.inner, c.bytes_for.ensures, sym c.into_inner-made.ensures)

@@ -42,7 +42,7 @@ module _ {R W : Type 0} {o : outputs.Ghosts W} where
 
 pub ruleset starts = (start_begin, start_more, start_end)
 
--- what is known of the source at a place
+-- what is known of a source
 abbrev pub Known : {R W : Type 0} → reads.Ghosts R → outputs.Ghosts W → Setup → R → W → W → SourceEnd → Type 0
 Known r o setup source before after e =
     (e ≡ end.Broken cause.BadHeader → after ≡ before)

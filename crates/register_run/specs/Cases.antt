@@ -17,7 +17,7 @@ pub record Case (R W : Type 0) : Type 0 where
 abbrev pub case : {R W : Type 0} → R → W → Setup → Case R W
 case source output setup = record { source = source; output = output; setup = setup }
 
--- each source with the output at its place
+-- each source with the output of the same number
 abbrev pub cases : {R W : Type 0} → Setup → List R → List W → List (Case R W)
 cases setup [] outputs = []
 cases setup (source ∷ sources) [] = []

@@ -12,8 +12,8 @@ use Rattle.register_records.specs.declared.ends.Note.{Note}
 use Rattle.register_records.specs.declared.ends.SourceEnd.{SourceEnd}
 use Rattle.register_records.specs.declared.ends.SourceEnd.TheVariants as ended
 
--- the lists have one length, and this holds at each place of the source there, its output as it was handed in and as it
--- is handed back, and its end
+-- the lists have one length, and for each number this holds of the source, its output as it was handed in and as it is
+-- handed back, and its end
 abbrev pub AtEachPlace : {R W E : Type 0} → (R → W → W → E → Type 0) → List R → List W → List W → List E → Type 0
 AtEachPlace Holds [] [] [] [] = ⊤
 AtEachPlace Holds (r ∷ rs) (g ∷ gs) (w ∷ ws) (e ∷ es) = Holds r g w e × AtEachPlace Holds rs gs ws es

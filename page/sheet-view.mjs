@@ -180,6 +180,93 @@ function takeForm(step) {
   toSheet.addEventListener('click', () => { byId('sheet-box').open = true; });
 }
 
+// ---- What is drawn of the state ----
+
+function drawSource({ encoding, delimiter, above }) {
+  if (encoding !== null) byId('sheet-encoding').value = encoding;
+  if (delimiter !== null) check('sheet-delimiter', delimiter);
+  byId('sheet-above').value = above === null ? '' : String(above);
+}
+
+function drawBeginning(state) {
+  const first = beginning(state), table = sheetTable(state);
+  byId('sheet-rows').replaceChildren(...(table === null ? [] : [tableBox(table)]));
+  byId('sheet-choices').hidden = first === null;
+  if (first !== null) {
+    byId('sheet-id').replaceChildren(option(WORDS.rowNumber, '-1'), ...columnOptions(first.heading));
+  }
+}
+
+function drawPicks({ id, dates, order, short, hebrew, charters }) {
+  dates.forEach(({ date, calendar }, place) => {
+    byId(`sheet-date-${place}`).value = date;
+    byId(`sheet-calendar-${place}`).value = calendar;
+  });
+  Object.entries({ id, short, hebrew }).forEach(([name, value]) => { byId(`sheet-${name}`).value = value; });
+  byId('sheet-charters').checked = charters;
+  check('sheet-order', order);
+}
+
+/** The answer draws names, anew only where they are others; the keys stay where they are. */
+function namesView() {
+  let drawn = '';
+  return (listed, names) => {
+    const all = JSON.stringify(listed.map(({ name, where }) => [name, where]));
+    if (all === drawn) return drawMeanings(listed, names);
+    drawn = all;
+    return withFocus(byId('sheet-choices'), () => {
+      drawListed(listed);
+      drawMeanings(listed, names);
+    });
+  };
+}
+
+/** The answer draws what is chosen of the columns, and what is known of them. */
+function choicesView(step) {
+  const drawColumns = whenChanged(columnTicks(byId('sheet-columns'), BESIDE, WORDS.noneBehind,
+    (columns) => step(columnsChosen, columns)));
+  const drawNames = namesView(), drawCounts = wordsIn('sheet-counts');
+  let drawn = { begins: undefined, count: 0, more: undefined, preview: undefined };
+  return (state) => {
+    const { picks, columns, listed } = state, first = beginning(state), unknown = shownUnknown(state);
+    const preview = shownPreview(state), count = picks.dates.length;
+    const more = unknown && unknown.answer ? unknown.answer.more : 0;
+    if (first !== drawn.begins) drawBeginning(state);
+    if (first !== null && (first !== drawn.begins || count !== drawn.count)) drawDates(first, picks.dates);
+    if (first !== null) drawPicks(picks);
+    drawNames(listed, picks.names);
+    if (more !== drawn.more) setText(byId('sheet-more'), more ? WORDS.tooManyNames(more) : '').hidden = !more;
+    drawCounts(sheetCounts(state));
+    if (preview !== drawn.preview) {
+      byId('sheet-register').replaceChildren(...previewTables(state).map((table) => tableBox(table)));
+    }
+    drawn = { begins: first, count, more, preview };
+    drawColumns(columns);
+  };
+}
+
+/** The answer draws what came of the conversion. */
+function resultView(step) {
+  const box = byId('sheet-results');
+  let drawn = NO_RUN, pictures = [];
+  const drawResult = (state) => withFocus(box, () => {
+    const report = sheetReport(state);
+    clear(box);
+    if (report === null) return;
+    const article = box.appendChild(element('article'));
+    drawReport(article, 'sheet-result', report, () => step(saved), (place) => step(registerWanted, place));
+    pictures = sheetPictures(state).map((_, place) =>
+      pictureBox(box.appendChild(element('div')), () => step(pictureWanted, place)));
+  });
+  return (state) => {
+    const run = shownRun(state), { reply, registers } = run || NO_RUN;
+    // A table that was saved is not drawn anew, or its link would end.
+    if (reply !== drawn.reply || registers !== drawn.registers) drawResult(state);
+    drawn = { reply, registers };
+    sheetPictures(state).forEach((picture, place) => pictures[place](picture, run.pictures[place]));
+  };
+}
+
 /** The answer draws the state. */
 export function sheetView(step) {
   takeSource(step);
@@ -187,97 +274,24 @@ export function sheetView(step) {
   takeRules(step);
   takeNames(step);
   takeForm(step);
-  const drawColumns = whenChanged(columnTicks(byId('sheet-columns'), BESIDE, WORDS.noneBehind,
-    (columns) => step(columnsChosen, columns)));
-  const [drawStatus, drawChosen, drawFit, drawTitles, drawCounts] =
-    ['said', 'chosen', 'fit', 'titles', 'counts'].map((name) => wordsIn(`sheet-${name}`));
-  let drawn = { begins: undefined, count: 0, more: undefined, preview: undefined, ...NO_RUN };
-  let now = null, drawnNames = '', pictureBoxes = [];
+  let now = null;
   byId('sheet-keep').addEventListener('click', () => {
     const [name, text] = keptChoices(now);
     saveBlob(new Blob([text], { type: 'application/json' }), name);
   });
-
-  const drawSource = whenChanged(({ encoding, delimiter, above }) => {
-    if (encoding !== null) byId('sheet-encoding').value = encoding;
-    if (delimiter !== null) check('sheet-delimiter', delimiter);
-    byId('sheet-above').value = above === null ? '' : String(above);
-  });
-
-  function drawBeginning(state) {
-    const first = beginning(state), table = sheetTable(state);
-    byId('sheet-rows').replaceChildren(...(table === null ? [] : [tableBox(table)]));
-    byId('sheet-choices').hidden = first === null;
-    if (first !== null) {
-      byId('sheet-id').replaceChildren(option(WORDS.rowNumber, '-1'), ...columnOptions(first.heading));
-    }
-  }
-
-  function drawPicks({ id, dates, order, short, hebrew, charters }) {
-    dates.forEach(({ date, calendar }, place) => {
-      byId(`sheet-date-${place}`).value = date;
-      byId(`sheet-calendar-${place}`).value = calendar;
-    });
-    Object.entries({ id, short, hebrew }).forEach(([name, value]) => { byId(`sheet-${name}`).value = value; });
-    byId('sheet-charters').checked = charters;
-    check('sheet-order', order);
-  }
-
-  // The names are drawn anew only where they are others, and the keys stay where they are.
-  function drawNames(listed, names) {
-    const all = JSON.stringify(listed.map(({ name, where }) => [name, where]));
-    if (all === drawnNames) return drawMeanings(listed, names);
-    drawnNames = all;
-    return withFocus(byId('sheet-choices'), () => {
-      drawListed(listed);
-      drawMeanings(listed, names);
-    });
-  }
-
-  function drawPreview(state) {
-    byId('sheet-register').replaceChildren(...previewTables(state).map((table) => tableBox(table)));
-  }
-
-  function drawResult(state) {
-    const report = sheetReport(state), box = byId('sheet-results');
-    withFocus(box, () => {
-      clear(box);
-      if (report === null) return;
-      const article = box.appendChild(element('article'));
-      drawReport(article, 'sheet-result', report, () => step(saved), (place) => step(registerWanted, place));
-      pictureBoxes = sheetPictures(state).map((_, place) =>
-        pictureBox(box.appendChild(element('div')), () => step(pictureWanted, place)));
-    });
-  }
-
-  function drawPictures(state) {
-    const run = shownRun(state);
-    sheetPictures(state).forEach((picture, place) => pictureBoxes[place](picture, run.pictures[place]));
-  }
-
+  const [drawStatus, drawChosen, drawFit, drawTitles] =
+    ['said', 'chosen', 'fit', 'titles'].map((name) => wordsIn(`sheet-${name}`));
+  const drawOfSource = whenChanged(drawSource), drawChoices = choicesView(step), drawResult = resultView(step);
   return (state) => {
     now = state;
-    const { source, picks, columns, listed } = state, first = beginning(state), unknown = shownUnknown(state);
-    const preview = shownPreview(state), { reply, registers } = shownRun(state) || NO_RUN, count = picks.dates.length;
-    const more = unknown && unknown.answer ? unknown.answer.more : 0;
-    drawSource(source);
+    drawOfSource(state.source);
     drawChosen(sheetChosen(state));
     drawFit(sheetFit(state));
     drawTitles(sheetTitles(state));
-    if (first !== drawn.begins) drawBeginning(state);
-    if (first !== null && (first !== drawn.begins || count !== drawn.count)) drawDates(first, picks.dates);
-    if (first !== null) drawPicks(picks);
-    drawNames(listed, picks.names);
-    if (more !== drawn.more) setText(byId('sheet-more'), more ? WORDS.tooManyNames(more) : '').hidden = !more;
-    drawCounts(sheetCounts(state));
-    if (preview !== drawn.preview) drawPreview(state);
-    // A table that was saved is not drawn anew, or its link would end.
-    if (reply !== drawn.reply || registers !== drawn.registers) drawResult(state);
-    drawPictures(state);
-    drawn = { begins: first, count, more, preview, reply, registers };
-    drawColumns(columns);
+    drawChoices(state);
+    drawResult(state);
     drawRunning('sheet', isRunning(state));
-    if (!isRunning(state)) byId('sheet-add').disabled = count >= MOST_DATES;
+    if (!isRunning(state)) byId('sheet-add').disabled = state.picks.dates.length >= MOST_DATES;
     drawStatus(sheetStatus(state));
   };
 }

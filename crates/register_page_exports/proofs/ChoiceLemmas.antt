@@ -1,10 +1,11 @@
 -- The numbers in front of those of the columns of dates, one by one.
-use Rattle.std.proofs.Common.{◌≡◌, ◌+◌, ◌++◌, ◌∷◌, [], ℕ, suc, List, Option, Some, None, length, refl, ap, sym}
-use Rattle.std.proofs.Common.{append_assoc, arith, drop, slice_get, slice_index_or, take, true}
+use Rattle.std.proofs.Common.{◌≡◌, ◌<◌, ◌+◌, ◌++◌, ◌∷◌, [], ℕ, suc, List, Option, Some, None, length, refl, ap, sym}
+use Rattle.std.proofs.Common.{append_assoc, arith, drop, lt-ltb, slice_get, slice_index_or, take, true}
 use Rattle.std.specs.Prelude.{nat_lt}
 use Rattle.date_texts.specs.Calendars.{all_targets}
 use Rattle.date_texts.specs.declared.target.Target.{Target}
 use Rattle.date_texts.specs.declared.calendar.Calendar.{Calendar as CalendarValue}
+use Rattle.written_dates.specs.Signs.{◌>>=◌}
 use Rattle.written_dates.specs.declared.meanings.Name.{Name}
 use Rattle.written_dates.specs.declared.written.Choice.{Choice}
 use Rattle.register_records.specs.Entries.{Fields}
@@ -18,29 +19,23 @@ use Rattle.register_page_exports.specs.SheetChoices.{SheetAsked, asked_by, befor
 use Rattle.register_page_exports.specs.SheetChoices.{reading_by}
 
 -- what is asked by seven numbers in front and the others
-pub asked_made : (head dates columns : List ℕ) (delimiter : ℕ) (reading : Choice) (ds : List DateColumn)
-    (cs : List AskedColumn) → length head ≡ 7 → delimiter ≡ slice_index_or head 0 0 → nat_lt delimiter 256 ≡ true
+pub asked_made : (head dates columns : List ℕ) (delimiter : ℕ) (reading : Choice) (ds : Option (List DateColumn))
+    (cs : Option (List AskedColumn)) → length head ≡ 7
+    → (slice_index_or head 0 0 < 256) × (delimiter ≡ slice_index_or head 0 0)
     → reading_by (slice_index_or head 3 0) (slice_index_or head 4 0) (slice_index_or head 5 0) (slice_index_or head 6 0)
     ≡ Some reading
-    → dates_by dates ≡ Some ds → columns_by columns ≡ Some cs
-    → asked_by (head ++ dates) columns ≡ Some (record {
+    → dates_by dates ≡ ds → columns_by columns ≡ cs
+    → asked_by (head ++ dates) columns ≡ (ds >>= λ d. cs >>= λ c. Some (record {
       delimiter = delimiter;
       above = slice_index_or head 1 0;
       id = id_by (slice_index_or head 2 0);
       reading = reading;
-      dates = ds;
-      columns = cs;
-    })
-asked_made (a ∷ b ∷ c ∷ d ∷ e ∷ f ∷ g ∷ []) dates columns delimiter reading ds cs seven is byte read dated asked =
-    let low = rw is at byte in rw (is, low, read, dated, asked) refl
-asked_made head dates columns delimiter reading ds cs seven is byte read dated asked = absurd (omega (arith, seven))
-
-pub no_dates : (head dates columns : List ℕ) (reading : Choice) → length head ≡ 7
-    → reading_by (slice_index_or head 3 0) (slice_index_or head 4 0) (slice_index_or head 5 0) (slice_index_or head 6 0)
-    ≡ Some reading
-    → nat_lt (slice_index_or head 0 0) 256 ≡ true → dates_by dates ≡ None → asked_by (head ++ dates) columns ≡ None
-no_dates (a ∷ b ∷ c ∷ d ∷ e ∷ f ∷ g ∷ []) dates columns reading seven read byte none = rw (byte, read, none) refl
-no_dates head dates columns reading seven read byte none = absurd (omega (arith, seven))
+      dates = d;
+      columns = c;
+    }))
+asked_made (a ∷ b ∷ c ∷ d ∷ e ∷ f ∷ g ∷ []) dates columns delimiter reading ds cs seven (byte, is) read dated asked =
+    let low : nat_lt a 256 ≡ true = lt-ltb _ _ byte in rw (is, low, read, dated, asked) refl
+asked_made head dates columns delimiter reading ds cs seven low read dated asked = absurd (omega (arith, seven))
 
 -- a column asked by a number from 2 on is that of a target
 pub column_at : (n k : ℕ) (target : Target) → n ≡ suc (suc k) → slice_get all_targets k ≡ Some target

@@ -1,16 +1,25 @@
 -- What is asked of a sheet by what is known, and why nothing comes of it.
-use Rattle.std.proofs.Common.{◌≡◌, ◌∙◌, ℕ, List, Some, inl, inr, map}
-use Rattle.register_records.specs.Entries.{Fields, text_records}
+use Rattle.std.proofs.Common.{◌≡◌, ◌≢◌, ◌≤◌, ◌<◌, ◌↔◌, ℕ, List, Some, false, inl, inr, length, map, refl, true}
+use Rattle.std.specs.Prelude.{Err, IfErr, IfOk, IsErrAnd, Ok, Result, nat_lt}
+use Rattle.register_records.specs.Entries.{Fields, record_limit, text_records}
+use Rattle.register_records.specs.SetupRules.{is_delimiter}
+use Rattle.register_sheets.specs.Choices.{AsksOnce, HasDates, added, column_limit}
+use Rattle.register_sheets.specs.Converted.{below}
 use Rattle.register_sheets.specs.NameLists.{IsListOf, calendar_names_in, calendar_seen, name_seen, names_in_dates}
+use Rattle.register_sheets.specs.declared.choices.ChoiceFault.{ChoiceFault}
+use Rattle.register_sheets.specs.declared.choices.ChoiceFault.TheVariants as fault
 use Rattle.register_sheets.specs.declared.choices.SheetChoice.{SheetChoice}
+use Rattle.register_sheets.specs.declared.choices.SheetSetup.{SheetSetup}
+use Rattle.register_sheets.specs.declared.sheet_ends.SheetCause.{SheetCause}
+use Rattle.register_sheets.specs.declared.sheet_ends.SheetCause.TheVariants as causes
 use Rattle.register_sheets.specs.declared.name_lists.NameLine.{NameLine}
 use Rattle.written_dates.specs.Fields.{bare_name, entries}
 use Rattle.written_dates.specs.declared.fields.CalendarName.{CalendarName}
 use Rattle.written_dates.specs.declared.meanings.Name.{Name}
 use Rattle.register_page_exports.specs.AskedViews.{seen}
-use Rattle.register_page_exports.specs.KnownViews.{EndsEarly, IsChoiceOfKnown, KnowsAsked}
+use Rattle.register_page_exports.specs.KnownViews.{EndsEarly, IsChoiceOfKnown, KnowsAsked, ending_by}
 use Rattle.register_page_exports.specs.SheetChoices.{SheetAsked, asked_by}
-use Rattle.register_page_exports.specs.SheetTables.{EndsBy, EndsFor, HasHeadings}
+use Rattle.register_page_exports.specs.SheetTables.{EndsBy, EndsFor, HasHeadings, IsChoice, IsChoiceAt}
 use Rattle.register_page_exports.specs.declared.sheet_tables.Known.{Known}
 use Rattle.register_page_exports.specs.declared.sheet_tables.SheetEnding.{SheetEnding}
 use Rattle.register_page_exports.specs.declared.sheet_tables.SheetEnding.TheVariants as ending
@@ -47,7 +56,8 @@ pub ends_known : (P : SheetChoice → Type 0) (numbers columns names sheet : Lis
     → EndsBy (IsChoiceOfKnown known) P sheet why → EndsFor P numbers columns names sheet why
 ends_known P numbers columns names sheet known knows ending.NoMemory by = tt
 ends_known P numbers columns names sheet known knows ending.NameList by = absurd by
-ends_known P numbers columns names sheet known knows ending.Choice (choice, is, no) = inr (choice, knows choice is, no)
+ends_known P numbers columns names sheet known knows ending.Choice (choice, is, refused) =
+    inr (choice, knows choice is, refused)
 ends_known P numbers columns names sheet known knows ending.NoNames (choice, is, holds, none) =
     (choice, knows choice is, holds, none)
 ends_known P numbers columns names sheet known knows ending.TooManyRecords (choice, is, holds, more) =
@@ -60,3 +70,72 @@ ends_early P numbers columns names sheet ending.NameList by = by
 ends_early P numbers columns names sheet ending.Choice by = inl by
 ends_early P numbers columns names sheet ending.NoNames by = absurd by
 ends_early P numbers columns names sheet ending.TooManyRecords by = absurd by
+
+-- what ended early has made nothing, and ends as is said
+pub early_whole : {T : Type 0} (r : Result T SheetEnding) (P : SheetEnding → Type 0) (Q : T → Type 0) → IsErrAnd r P
+    → IfOk r Q
+early_whole (Ok made) P Q early = absurd early
+early_whole (Err why) P Q early = tt
+
+pub early_ends : {T : Type 0} (r : Result T SheetEnding) (P : SheetChoice → Type 0)
+    (numbers columns names sheet : List ℕ) → IsErrAnd r (EndsEarly numbers columns names)
+    → IfErr r (EndsFor P numbers columns names sheet)
+early_ends (Ok made) P numbers columns names sheet early = absurd early
+early_ends (Err why) P numbers columns names sheet early = ends_early P numbers columns names sheet why early
+
+-- a choice that was refused is none
+no_choice : (choice : SheetChoice) (why : ChoiceFault) (r : Result SheetSetup ChoiceFault) → r ≡ Err why
+    → ((r ≡ Err fault.Dates) ↔ ¬ (HasDates choice))
+    → ((r ≡ Err fault.TooManyColumns)
+    ↔ (HasDates choice × (nat_lt column_limit (length choice.columns.now) ≡ true)))
+    → ((r ≡ Err fault.ColumnTwice) ↔ (HasDates choice
+    × (nat_lt column_limit (length choice.columns.now) ≡ false) × ¬ (AsksOnce choice)))
+    → ((r ≡ Err fault.Delimiter)
+    ↔ (HasDates choice × AsksOnce choice × (is_delimiter choice.delimiter ≡ false)))
+    → ((r ≡ Err fault.Headings)
+    ↔ (HasDates choice × AsksOnce choice × (is_delimiter choice.delimiter ≡ true)
+    × (length choice.headings.now ≢ added choice)))
+    → ¬ (IsChoice choice)
+no_choice choice fault.Dates r is dates many twice delimiter headings ok = dates.0 is ok.dated
+no_choice choice fault.TooManyColumns r is dates many twice delimiter headings ok =
+    let (dated, over) = many.0 is in let few = ok.once.few in absurd (cc)
+no_choice choice fault.ColumnTwice r is dates many twice delimiter headings ok =
+    let (dated, few, again) = twice.0 is in again ok.once
+no_choice choice fault.Delimiter r is dates many twice delimiter headings ok =
+    let (dated, once, other) = delimiter.0 is in let right = ok.delimited in absurd (cc)
+no_choice choice fault.Headings r is dates many twice delimiter headings ok =
+    let (dated, once, right, other) = headings.0 is in other ok.headed
+
+pub choice_refused : (known : Known) (choice : SheetChoice) (why : ChoiceFault) (r : Result SheetSetup ChoiceFault)
+    → r ≡ Err why
+    → ((r ≡ Err fault.Dates) ↔ ¬ (HasDates choice))
+    → ((r ≡ Err fault.TooManyColumns)
+    ↔ (HasDates choice × (nat_lt column_limit (length choice.columns.now) ≡ true)))
+    → ((r ≡ Err fault.ColumnTwice) ↔ (HasDates choice
+    × (nat_lt column_limit (length choice.columns.now) ≡ false) × ¬ (AsksOnce choice)))
+    → ((r ≡ Err fault.Delimiter)
+    ↔ (HasDates choice × AsksOnce choice × (is_delimiter choice.delimiter ≡ false)))
+    → ((r ≡ Err fault.Headings)
+    ↔ (HasDates choice × AsksOnce choice × (is_delimiter choice.delimiter ≡ true)
+    × (length choice.headings.now ≢ added choice)))
+    → IsChoiceOfKnown known choice
+    → (found : SheetChoice) × IsChoiceOfKnown known found × ¬ (IsChoice found)
+choice_refused known choice why r is dates many twice delimiter headings of_known =
+    (choice, of_known, no_choice choice why r is dates many twice delimiter headings)
+
+-- the ending for a cause
+pub ends_by_cause : (Is P : SheetChoice → Type 0) (sheet : List ℕ) (choice : SheetChoice) (cause : SheetCause)
+    (why : SheetEnding) → why ≡ ending_by cause → Is choice → P choice
+    → (cause ≡ causes.NoNames → length (text_records choice.delimiter sheet) ≤ choice.above)
+    → (cause ≡ causes.TooManyRecords → record_limit < length (below choice (text_records choice.delimiter sheet)))
+    → EndsBy Is P sheet why
+ends_by_cause Is P sheet choice causes.NoMemory why e is holds none more = rw e tt
+ends_by_cause Is P sheet choice causes.SinkFault why e is holds none more = rw e tt
+ends_by_cause Is P sheet choice causes.NoNames why e is holds none more = rw e (choice, is, holds, none refl)
+ends_by_cause Is P sheet choice causes.TooManyRecords why e is holds none more = rw e (choice, is, holds, more refl)
+
+-- what is no choice is none with a column at a place either
+pub refused_at : (Is : SheetChoice → Type 0) (place : ℕ) (sheet : List ℕ) (why : SheetEnding)
+    → (why ≡ ending.Choice) × ((choice : SheetChoice) × Is choice × ¬ (IsChoice choice))
+    → EndsBy Is (IsChoiceAt place) sheet why
+refused_at Is place sheet why (e, (choice, is, refused)) = rw e (choice, is, λ ok. refused ok.0)

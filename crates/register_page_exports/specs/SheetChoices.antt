@@ -1,5 +1,5 @@
 -- What numbers of a page ask of a sheet.
-use Rattle.std.specs.Prelude.{◌≡◌, ◌==◌, ◌%◌, ◌&&◌, ℕ, zero, suc, Bool, true, false, nat_le, nat_lt, if◌then◌else◌}
+use Rattle.std.specs.Prelude.{◌==◌, ◌%◌, ◌&&◌, ℕ, zero, suc, Bool, true, false, nat_le, nat_lt, if◌then◌else◌}
 use Rattle.std.specs.Prelude.{List, [], ◌∷◌, Option, None, Some, slice_get}
 use Rattle.date_texts.specs.Calendars.{all_calendars, all_targets}
 use Rattle.register_sheets.specs.declared.choices.AskedColumn.{AskedColumn}

@@ -113,7 +113,7 @@ EndsBy Is P sheet ending.TooManyRecords =
 
 -- the text is no list of names
 abbrev pub HasFault : List ℕ → Type 0
-HasFault names = (fault : NameListFault) × (fault ≢ fault.OutOfMemory) × IsFaultOf (text_records 44 names) fault
+HasFault names = (why : NameListFault) × (why ≢ fault.OutOfMemory) × IsFaultOf (text_records 44 names) why
 
 -- why nothing comes of a sheet for these numbers and names, whose choice must be one that P holds of
 abbrev pub EndsFor : (SheetChoice → Type 0) → List ℕ → List ℕ → List ℕ → List ℕ → SheetEnding → Type 0

@@ -1,12 +1,5 @@
 //! The columns of a sheet that the arguments name.
 
-ghost use Rattle.std.specs.Prelude.{◌≡◌, ◌+◌, IfNone, IfOk, IfSome, length, map, option_map};
-ghost use Rattle.csv.specs.Records.{fields_of};
-ghost use Rattle.command_lines.specs.Values.{IsNumberWord};
-ghost use Rattle.sheet_arguments.specs.Requests.{task_of};
-ghost use Rattle.sheet_app.specs.Columns.{AreDateColumns, HoldsOfNone, IsBareWord, IsCalendarField, IsColumn, IsFirst};
-ghost use Rattle.sheet_app.specs.Columns.{IsIdField, IsItsOwn, IsWord};
-
 use crate::head_records::field_at;
 use command_lines::number_named;
 use csv::ByteRecord;
@@ -37,10 +30,7 @@ impl From<AllocError> for ColumnFault<'_> {
 }
 
 /// The place of the first name that is this text.
-fn place_of(names: &ByteRecord, text: &[u8]) -> Option<usize>
-    ensures some { IfSome result (λ place. IsFirst (IsWord text.now) (fields_of names.now) place) }
-    ensures none { IfNone result (HoldsOfNone (IsWord text.now) (fields_of names.now)) }
-{
+fn place_of(names: &ByteRecord, text: &[u8]) -> Option<usize> {
     'names: for place in 0..names.len() {
         if field_at(names, place) == text {
             return Some(place);
@@ -50,10 +40,7 @@ fn place_of(names: &ByteRecord, text: &[u8]) -> Option<usize>
 }
 
 /// The place of the first name that is this text, without the blanks at the ends of both.
-fn bare_place_of(names: &ByteRecord, text: &[u8]) -> Option<usize>
-    ensures some { IfSome result (λ place. IsFirst (IsBareWord text.now) (fields_of names.now) place) }
-    ensures none { IfNone result (HoldsOfNone (IsBareWord text.now) (fields_of names.now)) }
-{
+fn bare_place_of(names: &ByteRecord, text: &[u8]) -> Option<usize> {
     let bare = without_blanks(text);
     'names: for place in 0..names.len() {
         if without_blanks(field_at(names, place)) == bare {
@@ -64,19 +51,15 @@ fn bare_place_of(names: &ByteRecord, text: &[u8]) -> Option<usize>
 }
 
 /// The place of the column with the number that a word is.
-fn numbered_place_of(names: &ByteRecord, word: &str) -> Option<usize>
-    ensures { IfSome result (λ place. IsNumberWord (length (fields_of names.now)) word.now (place + 1)) }
-{
+fn numbered_place_of(names: &ByteRecord, word: &str) -> Option<usize> {
     match number_named(word, names.len()) {
-        Some(number) => Some(number - 1),
+        Some(number) => number.checked_sub(1),
         None => None,
     }
 }
 
 /// The place of the column that a word names, as [`column_named`] has it.
-fn column_found(names: &ByteRecord, word: &str) -> Option<usize>
-    ensures { IfSome result (λ place. IsColumn (fields_of names.now) word.now place) }
-{
+fn column_found(names: &ByteRecord, word: &str) -> Option<usize> {
     if let Some(place) = place_of(names, word.as_bytes()) {
         return Some(place);
     }
@@ -88,9 +71,7 @@ fn column_found(names: &ByteRecord, word: &str) -> Option<usize>
 
 /// The place, from 0, of the column that a word names: the first with this name, or else the first with this name
 /// without the blanks at the ends of both, or else the one with this number from 1. `None` where there is none.
-pub fn column_named(names: &ByteRecord, word: &str) -> Option<u32>
-    ensures { IfSome result (λ place. IsColumn (fields_of names.now) word.now place) }
-{
+pub fn column_named(names: &ByteRecord, word: &str) -> Option<u32> {
     match column_found(names, word) {
         Some(place) => u32::try_from(place).ok(),
         None => None,
@@ -98,9 +79,7 @@ pub fn column_named(names: &ByteRecord, word: &str) -> Option<u32>
 }
 
 /// Where the ids are.
-pub fn id_named<'a>(names: &ByteRecord, id: Option<&'a str>) -> Result<IdField, ColumnFault<'a>>
-    ensures { IfOk result (λ field. IsIdField (fields_of names.now) (option_map (λ w. w.now) id.entry) field) }
-{
+pub fn id_named<'a>(names: &ByteRecord, id: Option<&'a str>) -> Result<IdField, ColumnFault<'a>> {
     match id {
         Some(word) => match column_named(names, word) {
             Some(place) => Ok(IdField::Column(place)),
@@ -111,9 +90,7 @@ pub fn id_named<'a>(names: &ByteRecord, id: Option<&'a str>) -> Result<IdField, 
 }
 
 /// The calendar at a place of a list, or its only one.
-fn calendar_at(calendars: &[Calendar], place: usize) -> Option<Calendar>
-    ensures { IfSome result (λ calendar. IsItsOwn calendars.now place calendar) }
-{
+fn calendar_at(calendars: &[Calendar], place: usize) -> Option<Calendar> {
     if calendars.len() == 1 {
         return Some(calendars[0]);
     }
@@ -121,9 +98,7 @@ fn calendar_at(calendars: &[Calendar], place: usize) -> Option<Calendar>
 }
 
 /// The word at a place of a list, or its only one.
-fn word_at<'a>(words: &[&'a str], place: usize) -> Option<&'a str>
-    ensures { IfSome result (λ word. IsItsOwn (map (λ w. w.now) words.now) place word.now) }
-{
+fn word_at<'a>(words: &[&'a str], place: usize) -> Option<&'a str> {
     if words.len() == 1 {
         return Some(words[0]);
     }
@@ -135,9 +110,7 @@ fn calendar_named<'a>(
     names: &ByteRecord,
     job: &Job<'a>,
     place: usize,
-) -> Result<CalendarField, ColumnFault<'a>>
-    ensures { IfOk result (λ field. IsCalendarField (fields_of names.now) (task_of job.now).calendars place field) }
-{
+) -> Result<CalendarField, ColumnFault<'a>> {
     match &job.calendars {
         CalendarsAsked::Columns(words) => {
             let Some(word) = word_at(words.as_slice(), place) else {
@@ -160,9 +133,7 @@ pub fn dates_named<'a>(
     alloc: Global,
     names: &ByteRecord,
     job: &Job<'a>,
-) -> Result<Vec<DateColumn>, ColumnFault<'a>>
-    ensures { IfOk result (λ dates. AreDateColumns (fields_of names.now) (task_of job.now) dates.items) }
-{
+) -> Result<Vec<DateColumn>, ColumnFault<'a>> {
     let mut dates = Vec::new(alloc);
     'dates: for place in 0..job.dates.len() {
         let word = job.dates[place];

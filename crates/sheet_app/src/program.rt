@@ -1,23 +1,17 @@
 //! What the program does with its arguments: it prints a page, or converts, and returns how that ended.
 
-ghost use Rattle.std.specs.Prelude.{◌≡◌, ◌≢◌, ◌≤◌, ◌⊎◌, ◌↔◌, ℕ, List, [], All, IfErr, IfOk, IfSome, map, true, false, vec_len};
-ghost use Rattle.std.specs.Prelude.{None, Option, vec_capacity};
+ghost use Rattle.std.specs.Prelude.{◌≡◌, ◌≢◌, ◌≤◌, ◌⊎◌, ◌↔◌, ◌+◌, ℕ, List, [], IfErr, IfOk, IfSome, None, map, false};
+ghost use Rattle.std.specs.Prelude.{vec_capacity, vec_len};
 ghost use Rattle.std.specs.Io.KnownBytes.{Appends};
 ghost use Rattle.std.specs.String.{string_bytes};
-ghost use Rattle.register_sheets.specs.declared.name_lists.NameLine.{NameLine as NameLineValue};
 ghost use Rattle.register_files.specs.Openings.{IsFresh};
 ghost use Rattle.sheet_arguments.specs.Faults.{memory_line};
-ghost use Rattle.sheet_arguments.specs.Requests.{AreWrong, IsFaultOf, Task, task_of};
-ghost use Rattle.sheet_app.specs.Answers.{AreFilesAnswered, AreNamesOf, Gives, IsConverted, IsEndedSheet, IsInputAnswered};
-ghost use Rattle.sheet_app.specs.Answers.{IsOwnText, IsPageAnswered, IsPrinted, IsReported, version_line};
-ghost use Rattle.sheet_app.specs.FileSheets.{IsNewSheet, sheet_name};
+ghost use Rattle.sheet_arguments.specs.Requests.{AreWrong, IsFaultOf};
+ghost use Rattle.sheet_app.specs.Answers.{IsPrinted, IsReported, version_line};
 ghost use Rattle.sheet_app.specs.ProgramFaults.{fault_status, request_fault_in};
-ghost use Rattle.sheet_app.specs.Sheets.{AreBothLists, AreKnown, IsAskedSheet};
-ghost use Rattle.sheet_app.specs.SheetViews.{IfListed, IfWholeDone, is_whole_done};
-ghost use Rattle.sheet_app.specs.declared.name_lists.Known.{Known as KnownValue};
 
 use crate::file_sheets::{FileFault, FileSheet, open_sheets};
-use crate::name_lists::{Known, known_by, list_of};
+use crate::name_lists::list_of;
 use crate::program_faults::ProgramFault;
 use crate::reports::report_sheet;
 use crate::sheet_faults::SheetFault;
@@ -162,7 +156,6 @@ fn read_file<'a, R: Read + Drop, W: Output, P: FileStore<R, W>>(
     store: &P,
     file: &'a str,
 ) -> Result<Vec<u8>, ProgramFault<'a>>
-    ensures text { IfOk result (λ text. (source : R) × P.is_opened store.now file.now source × Gives R.Read source text.items) }
     ensures status { IfErr result (λ why. fault_status why ≡ 3) }
     ensures none { IfErr result (λ why. request_fault_in why ≡ None) }
 {
@@ -183,9 +176,6 @@ fn read_list<'a, R: Read + Drop, W: Output, P: FileStore<R, W>>(
     store: &P,
     job: &Job<'a>,
 ) -> Result<NameList, ProgramFault<'a>>
-    ensures lists { IfOk result (λ list. (own : Option (List ℕ))
-        × IsOwnText R.Read (P.is_opened store.now) (task_of job.now).names own
-        × AreBothLists own built.now list.lines.items) }
     ensures status { IfErr result (λ why. fault_status why ≡ 3) }
     ensures none { IfErr result (λ why. request_fault_in why ≡ None) }
 {
@@ -202,33 +192,27 @@ fn read_list<'a, R: Read + Drop, W: Output, P: FileStore<R, W>>(
     }
 }
 
-/// Reads a sheet, and writes what a job asks of it.
+/// Reads a sheet, and writes what a job asks of it, by the names of a list.
 fn convert_source<'b, R: Read, W: Output>(
     alloc: Global,
-    known: &Known,
+    list: &NameList,
     job: &Job<'b>,
     source: &mut R,
     output: &mut W,
     registers: &mut [W],
-) -> SheetDone<'b>
-    ensures whole { IfWholeDone result (λ whole.
-        IsConverted R.Read W.Output (task_of job.now) known.now source.old output.old output.new) }
-    ensures listed { IfListed result (job.now.unknown ≡ true) }
-{
+) -> SheetDone<'b> {
     let mut text = Vec::new(alloc);
     if source.read_to_end(&mut text).is_err() {
         return SheetDone::Broken(SheetFault::Unread);
     }
-    match convert_text(alloc, text.as_slice(), known, job, output, registers) {
+    match convert_text(alloc, text.as_slice(), list, job, output, registers) {
         Ok(done) => done,
         Err(fault) => SheetDone::Broken(fault),
     }
 }
 
 /// Whether what was asked of a sheet is there.
-fn is_whole(done: &SheetDone<'_>) -> bool
-    ensures { result ≡ is_whole_done done.now }
-{
+fn is_whole(done: &SheetDone<'_>) -> bool {
     match done {
         SheetDone::Broken(_) => false,
         _ => true,
@@ -238,65 +222,65 @@ fn is_whole(done: &SheetDone<'_>) -> bool
 /// Converts a sheet, and reports how it has ended.
 fn convert_one<'a, R: Read + Drop, W: Output + Drop, E: Output>(
     alloc: Global,
-    known: &Known,
+    list: &NameList,
     job: &Job<'_>,
     sheet: FileSheet<'a, R, W>,
     errors: &mut E,
 ) -> FileSheet<'a, R, W>
-    ensures name { sheet_name result ≡ sheet_name sheet }
-    ensures converted { result.is_whole ≡ true → (task_of job.now).unknown ≡ false
-        → IsConverted R.Read W.Output (task_of job.now) known.now sheet.source sheet.output result.output }
     ensures errors_mark { E.own_mark errors.new ≡ E.own_mark errors.old }
 {
-    let mut sheet = sheet;
+    let FileSheet {
+        name,
+        mut source,
+        mut output,
+        mut registers,
+        is_whole: _,
+    } = sheet;
     let done = convert_source(
         alloc,
-        known,
+        list,
         job,
-        &mut sheet.source,
-        &mut sheet.output,
-        sheet.registers.as_mut_slice(),
+        &mut source,
+        &mut output,
+        registers.as_mut_slice(),
     );
-    sheet.is_whole = is_whole(&done);
     let dates = job.dates.len();
-    report_sheet(alloc, errors, sheet.name, dates, job.summary, &done);
-    sheet
+    report_sheet(alloc, errors, name, dates, job.summary, &done);
+    FileSheet {
+        name,
+        source,
+        output,
+        registers,
+        is_whole: is_whole(&done),
+    }
 }
 
 /// Converts each sheet. There is room for the converted ones.
 fn convert_all<'a, R: Read + Drop, W: Output + Drop, E: Output>(
     alloc: Global,
-    known: &Known,
+    list: &NameList,
     job: &Job<'_>,
     sheets: Vec<FileSheet<'a, R, W>>,
     room: Vec<FileSheet<'a, R, W>>,
     errors: &mut E,
 ) -> Vec<FileSheet<'a, R, W>>
-    requires none { room.items ≡ [] }
-    requires room { vec_len sheets ≤ vec_capacity room }
-    ensures named { map sheet_name result.items ≡ map sheet_name sheets.items }
-    ensures ended { (IsOpened : List ℕ → R → Type 0) (IsMade : List ℕ → ℕ → W → Type 0)
-        → All (IsNewSheet W.Output IsOpened IsMade (task_of job.now)) sheets.items
-        → All (IsEndedSheet R.Read W.Output IsOpened IsMade (task_of job.now) known.now) result.items }
+    requires room { vec_len room + vec_len sheets ≤ vec_capacity room }
     ensures errors_mark { E.own_mark errors.new ≡ E.own_mark errors.old }
 {
     let mut ended = room;
     'sheets: for sheet in sheets {
-        ended.push_reserved(convert_one(alloc, known, job, sheet, errors));
+        ended.push_reserved(convert_one(alloc, list, job, sheet, errors));
     }
     ended
 }
 
 /// Whether all sheets are whole.
-fn are_whole<R, W>(sheets: &[FileSheet<'_, R, W>]) -> bool
-    ensures { (result ≡ true) ↔ All (λ sheet. sheet.is_whole ≡ true) sheets.now }
-{
+fn are_whole<R, W>(sheets: &[FileSheet<'_, R, W>]) -> bool {
     sheets.iter().all(|sheet| sheet.is_whole)
 }
 
 /// The status of a run of which all sheets are whole, or not.
 fn status_of(are_whole: bool) -> u8
-    ensures whole { (result ≡ 0) ↔ (are_whole ≡ true) }
     ensures statuses { (result ≡ 0) ⊎ (result ≡ 1) }
 {
     if are_whole { COMPLETE } else { INCOMPLETE }
@@ -305,14 +289,12 @@ fn status_of(are_whole: bool) -> u8
 /// Converts the sheet that standard input gives.
 fn convert_input<'a, R: Read + Drop, W: Output + Drop, E: Output>(
     alloc: Global,
-    known: &Known,
+    list: &NameList,
     job: &Job<'a>,
     input: R,
     output: W,
     errors: &mut E,
 ) -> Outcome<'a, R, W>
-    ensures converted { result.status ≡ 0 → (task_of job.now).unknown ≡ false
-        → IsConverted R.Read W.Output (task_of job.now) known.now input output result.output }
     ensures none { result.sheets.items ≡ [] }
     ensures statuses { (result.status ≡ 0) ⊎ (result.status ≡ 1) }
     ensures errors_mark { E.own_mark errors.new ≡ E.own_mark errors.old }
@@ -324,7 +306,7 @@ fn convert_input<'a, R: Read + Drop, W: Output + Drop, E: Output>(
         registers: Vec::new(alloc),
         is_whole: false,
     };
-    let ended = convert_one(alloc, known, job, sheet, errors);
+    let ended = convert_one(alloc, list, job, sheet, errors);
     Outcome {
         status: status_of(ended.is_whole),
         output: ended.output,
@@ -347,14 +329,7 @@ fn prepare<'a, R: Read + Drop, W: Output + Drop, P: FileStore<R, W>>(
     store: &P,
     job: &Job<'a>,
 ) -> Result<Prepared<'a, R, W>, ProgramFault<'a>>
-    ensures lists { IfOk result (λ prepared. (own : Option (List ℕ))
-        × IsOwnText R.Read (P.is_opened store.now) (task_of job.now).names own
-        × AreBothLists own built.now prepared.list.lines.items) }
-    ensures named { IfOk result (λ prepared. map sheet_name prepared.sheets.items ≡ (task_of job.now).files) }
-    ensures made { IfOk result (λ prepared. All (IsNewSheet W.Output (P.is_opened store.now) (P.is_made store.now)
-        (task_of job.now)) prepared.sheets.items) }
-    ensures room { IfOk result (λ prepared. (prepared.room.items ≡ [])
-        × (vec_len prepared.sheets ≤ vec_capacity prepared.room)) }
+    ensures room { IfOk result (λ prepared. vec_len prepared.room + vec_len prepared.sheets ≤ vec_capacity prepared.room) }
     ensures status { IfErr result (λ why. fault_status why ≡ 3) }
     ensures none { IfErr result (λ why. request_fault_in why ≡ None) }
 {
@@ -369,43 +344,6 @@ fn prepare<'a, R: Read + Drop, W: Output + Drop, P: FileStore<R, W>>(
     }
 }
 
-/// Does what a job asks for by what is known of names.
-fn run_known<'a, R: Read + Drop, W: Output + Drop, E: Output>(
-    alloc: Global,
-    known: &Known,
-    job: &Job<'a>,
-    input: R,
-    output: W,
-    sheets: Vec<FileSheet<'a, R, W>>,
-    room: Vec<FileSheet<'a, R, W>>,
-    errors: &mut E,
-) -> Outcome<'a, R, W>
-    requires none { room.items ≡ [] }
-    requires room { vec_len sheets ≤ vec_capacity room }
-    ensures input { (task_of job.now).files ≡ [] → (result.sheets.items ≡ [])
-        × (result.status ≡ 0 → (task_of job.now).unknown ≡ false
-        → IsConverted R.Read W.Output (task_of job.now) known.now input output result.output) }
-    ensures files { (task_of job.now).files ≢ [] → (result.output ≡ output)
-        × (map sheet_name result.sheets.items ≡ map sheet_name sheets.items)
-        × ((result.status ≡ 0) ↔ All (λ sheet. sheet.is_whole ≡ true) result.sheets.items) }
-    ensures ended { (IsOpened : List ℕ → R → Type 0) (IsMade : List ℕ → ℕ → W → Type 0)
-        → (task_of job.now).files ≢ []
-        → All (IsNewSheet W.Output IsOpened IsMade (task_of job.now)) sheets.items
-        → All (IsEndedSheet R.Read W.Output IsOpened IsMade (task_of job.now) known.now) result.sheets.items }
-    ensures statuses { (result.status ≡ 0) ⊎ (result.status ≡ 1) }
-    ensures errors_mark { E.own_mark errors.new ≡ E.own_mark errors.old }
-{
-    if job.files.is_empty() {
-        return convert_input(alloc, known, job, input, output, errors);
-    }
-    let ended = convert_all(alloc, known, job, sheets, room, errors);
-    Outcome {
-        status: status_of(are_whole(ended.as_slice())),
-        output,
-        sheets: ended,
-    }
-}
-
 /// Does what a job asks for.
 fn run_job<'a, R: Read + Drop, W: Output + Drop, P: FileStore<R, W>, E: Output>(
     alloc: Global,
@@ -416,18 +354,6 @@ fn run_job<'a, R: Read + Drop, W: Output + Drop, P: FileStore<R, W>, E: Output>(
     store: &P,
     errors: &mut E,
 ) -> Outcome<'a, R, W>
-    ensures input { result.status ≤ 1 → (task_of job.now).files ≡ [] → (known : KnownValue)
-        × AreNamesOf R.Read (P.is_opened store.now) (task_of job.now) built.now known
-        × (result.sheets.items ≡ [])
-        × (result.status ≡ 0 → (task_of job.now).unknown ≡ false
-        → IsConverted R.Read W.Output (task_of job.now) known input output result.output) }
-    ensures files { result.status ≤ 1 → (task_of job.now).files ≢ [] → (known : KnownValue)
-        × AreNamesOf R.Read (P.is_opened store.now) (task_of job.now) built.now known
-        × (result.output ≡ output)
-        × (map sheet_name result.sheets.items ≡ (task_of job.now).files)
-        × All (IsEndedSheet R.Read W.Output (P.is_opened store.now) (P.is_made store.now) (task_of job.now) known)
-        result.sheets.items
-        × ((result.status ≡ 0) ↔ All (λ sheet. sheet.is_whole ≡ true) result.sheets.items) }
     ensures statuses { (result.status ≡ 0) ⊎ (result.status ≡ 1) ⊎ (result.status ≡ 3) }
     ensures untouched { result.status ≡ 3 → result.output ≡ output }
     ensures reported { result.status ≡ 3 → E.has_failed errors.new ≡ false → (arguments : List (List ℕ))
@@ -438,13 +364,15 @@ fn run_job<'a, R: Read + Drop, W: Output + Drop, P: FileStore<R, W>, E: Output>(
         Ok(prepared) => prepared,
         Err(why) => return refuse(alloc, output, errors, &why),
     };
-    let Ok(names) = list.names(alloc) else {
-        return refuse(alloc, output, errors, &ProgramFault::OutOfMemory);
-    };
-    let Ok(known) = known_by(alloc, &list, names.as_slice()) else {
-        return refuse(alloc, output, errors, &ProgramFault::OutOfMemory);
-    };
-    run_known(alloc, &known, job, input, output, sheets, room, errors)
+    if job.files.is_empty() {
+        return convert_input(alloc, &list, job, input, output, errors);
+    }
+    let ended = convert_all(alloc, &list, job, sheets, room, errors);
+    Outcome {
+        status: status_of(are_whole(ended.as_slice())),
+        output,
+        sheets: ended,
+    }
 }
 
 /// Does what the program's arguments ask for: prints a page, or converts the sheet that `input` gives to `output`, or
@@ -475,18 +403,10 @@ pub fn answer<'a, R: Read + Drop, W: Output + Drop, P: FileStore<R, W>, E: Outpu
     requires fresh { IsFresh W.Output output }
     requires fresh_errors { IsFresh E.Output errors.old }
 
-    // The arguments ask for a page, which was printed; or for the sheet of standard input; or for those of files.
-    ensures answered { result.status ≤ 1
-        → IsPageAnswered W.Output E.Output (map string_bytes arguments.entry.now) result.status
-        output result.output result.sheets.items errors.old errors.new
-        ⊎ IsInputAnswered R.Read W.Output (P.is_opened store.now) (map string_bytes arguments.entry.now) built.now
-        result.status input output result.output result.sheets.items
-        ⊎ AreFilesAnswered R.Read W.Output (P.is_opened store.now) (P.is_made store.now)
-        (map string_bytes arguments.entry.now) built.now result.status output result.output result.sheets.items }
 
     // Unless the status is 3, arguments are refused exactly where something is wrong with them.
     ensures refused { result.status ≢ 3 → (result.status ≡ 2) ↔ AreWrong (map string_bytes arguments.entry.now) }
-    // And then standard error has gained the line on that, unless it failed.
+    // Where nothing is done, standard error has gained the line on why, unless it failed.
     ensures reported { 2 ≤ result.status → E.has_failed errors.new ≡ false
         → IsReported (map string_bytes arguments.entry.now) result.status (E.contents errors.old) (E.contents errors.new) }
     ensures untouched { 2 ≤ result.status → result.output ≡ output }

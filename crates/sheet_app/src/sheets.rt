@@ -1,28 +1,17 @@
 //! What comes of a sheet.
 
-ghost use Rattle.std.specs.Prelude.{◌≡◌, IfErr, IfOk, map, get_or, true};
-ghost use Rattle.csv.specs.Records.{fields_of};
-ghost use Rattle.register_records.specs.Entries.{text_records};
-ghost use Rattle.register_records.specs.Sources.{Gains};
-ghost use Rattle.register_sheets.specs.Converted.{IsWholeSheet};
-ghost use Rattle.register_sheets.specs.Headings.{items_of};
-ghost use Rattle.register_sheets.specs.declared.choices.SheetChoice.{SheetChoice as SheetChoiceValue};
-ghost use Rattle.sheet_arguments.specs.Requests.{task_of};
-ghost use Rattle.sheet_app.specs.Sheets.{IsAskedSheet, head_of};
-ghost use Rattle.sheet_app.specs.SheetViews.{ArePlaces, IfListed, IfWholeDone, IsAskedOf, IsChoiceOf};
-
 use crate::columns::{dates_named, id_named};
 use crate::head_records::head_record;
-use crate::name_lists::Known;
 use crate::sheet_faults::{SheetFault, fault_of, fault_of_columns};
 use csv::ByteRecord;
 use register_records::{Output, send};
 use register_sheets::{
-    DateColumn, IdField, MAX_DATES, SheetChoice, SheetEnd, SheetSetup, Unknown, convert_sheet,
-    headings, unknown_names, write_register,
+    AskedColumn, DateColumn, IdField, MAX_DATES, NameList, SheetCause, SheetChoice, SheetEnd,
+    SheetSetup, Unknown, convert_sheet, headings, unknown_names, write_register,
 };
 use sheet_arguments::Job;
 use std::alloc::{AllocError, Global};
+use written_dates::{CalendarName, CalendarNames, Choice, Name, Names};
 
 /// The most names that a list of those that are not known has.
 const MOST_UNKNOWN: usize = 1000;
@@ -63,9 +52,7 @@ fn places_in<'a>(
     alloc: Global,
     names: ByteRecord,
     job: &Job<'a>,
-) -> Result<Places, SheetFault<'a>>
-    ensures { IfOk result (λ places. ArePlaces (fields_of names.entry) (task_of job.now) places) }
-{
+) -> Result<Places, SheetFault<'a>> {
     let id = match id_named(&names, job.id) {
         Ok(id) => id,
         Err(fault) => return Err(fault_of_columns(fault, names)),
@@ -77,10 +64,7 @@ fn places_in<'a>(
 }
 
 /// Where the columns are in a sheet.
-fn places_of<'a>(alloc: Global, sheet: &[u8], job: &Job<'a>) -> Result<Places, SheetFault<'a>>
-    ensures { IfOk result (λ places. ArePlaces (head_of (task_of job.now) (text_records job.now.delimiter sheet.now))
-        (task_of job.now) places) }
-{
+fn places_of<'a>(alloc: Global, sheet: &[u8], job: &Job<'a>) -> Result<Places, SheetFault<'a>> {
     match head_record(alloc, sheet, job.delimiter, job.skip)? {
         Some(names) => places_in(alloc, names, job),
         None => Err(SheetFault::NoNames),
@@ -88,9 +72,7 @@ fn places_of<'a>(alloc: Global, sheet: &[u8], job: &Job<'a>) -> Result<Places, S
 }
 
 /// The bytes of texts.
-fn slices_of(alloc: Global, texts: &[Vec<u8>]) -> Result<Vec<&[u8]>, AllocError>
-    ensures { IfOk result (λ slices. map (λ slice. slice.now) slices.items ≡ items_of texts.now) }
-{
+fn slices_of(alloc: Global, texts: &[Vec<u8>]) -> Result<Vec<&[u8]>, AllocError> {
     let mut slices = Vec::new(alloc);
     'texts: for text in texts {
         slices.push(text.as_slice())?;
@@ -98,35 +80,59 @@ fn slices_of(alloc: Global, texts: &[Vec<u8>]) -> Result<Vec<&[u8]>, AllocError>
     Ok(slices)
 }
 
+/// What is asked of a sheet.
+#[derive(Drop)]
+struct Asked {
+    delimiter: u8,
+    above: u32,
+    reading: Choice,
+    columns: Vec<AskedColumn>,
+    places: Places,
+}
+
 /// What is asked of a sheet, and what it is read by.
 // In one struct, since the borrow checker has one reference to what a setup is made of.
 #[derive(Drop)]
-struct Asked<'a, 'b> {
-    job: &'a Job<'b>,
-    known: &'a Known<'a>,
-    places: Places,
+struct Known<'a> {
+    asked: Asked,
+    names: Names<'a>,
+    calendars: CalendarNames<'a>,
     headings: Vec<&'a [u8]>,
 }
 
+/// What is asked of a sheet, with what it is read by: these names and headings.
+fn known_by<'a>(
+    alloc: Global,
+    asked: Asked,
+    names: &'a [Name<'a>],
+    calendars: &'a [CalendarName<'a>],
+    headings: &'a [Vec<u8>],
+) -> Result<Known<'a>, AllocError> {
+    Ok(Known {
+        asked,
+        names: Names::layered(alloc, names)?,
+        calendars: CalendarNames::layered(alloc, calendars)?,
+        headings: slices_of(alloc, headings)?,
+    })
+}
+
 /// The setup of what is asked of a sheet.
-fn setup_of<'a, 'b>(asked: &'a Asked<'a, 'b>) -> Result<SheetSetup<'a>, SheetFault<'b>>
-    ensures { IfOk result (λ setup. IsChoiceOf asked.now setup.choice) }
-{
+fn setup_of<'a>(known: &'a Known<'a>) -> Result<SheetSetup<'a>, SheetCause> {
     let setup = SheetSetup::new(SheetChoice {
-        delimiter: asked.job.delimiter,
-        above: asked.job.skip,
-        id: asked.places.id,
-        dates: asked.places.dates.as_slice(),
-        columns: asked.job.columns.as_slice(),
-        headings: asked.headings.as_slice(),
-        reading: asked.job.reading,
-        names: &asked.known.names,
-        calendars: &asked.known.calendars,
+        delimiter: known.asked.delimiter,
+        above: known.asked.above,
+        id: known.asked.places.id,
+        dates: known.asked.places.dates.as_slice(),
+        columns: known.asked.columns.as_slice(),
+        headings: known.headings.as_slice(),
+        reading: known.asked.reading,
+        names: &known.names,
+        calendars: &known.calendars,
     });
     match setup {
         Ok(setup) => Ok(setup),
         // What the arguments ask for is a choice, with as many headings as are wanted.
-        Err(_) => Err(SheetFault::OutOfMemory),
+        Err(_) => Err(SheetCause::NoMemory),
     }
 }
 
@@ -140,96 +146,107 @@ fn stopped_by(unknown: &Unknown) -> u64 {
 }
 
 /// Writes the list of the names in a sheet that are not known.
-fn list_unknown<'b, W: Output>(
+fn list_unknown<W: Output>(
     alloc: Global,
     sheet: &[u8],
-    asked: &Asked<'_, 'b>,
+    known: &Known,
     output: &mut W,
-) -> Result<(), SheetFault<'b>> {
-    let setup = setup_of(asked)?;
-    let unknown = match unknown_names(alloc, sheet, &setup, MOST_UNKNOWN) {
-        Ok(unknown) => unknown,
-        Err(cause) => return Err(fault_of(cause)),
-    };
+) -> Result<(), SheetCause> {
+    let setup = setup_of(known)?;
+    let unknown = unknown_names(alloc, sheet, &setup, MOST_UNKNOWN)?;
     let text = unknown.text(alloc)?;
-    match send(output, text.as_slice()) {
-        Ok(()) => Ok(()),
-        Err(_) => Err(SheetFault::Unwritten),
-    }
+    send(output, text.as_slice())?;
+    Ok(())
 }
 
 /// Writes the registers of the columns of dates.
-fn write_registers<'b, W: Output>(
+fn write_registers<W: Output>(
     alloc: Global,
     sheet: &[u8],
-    asked: &Asked<'_, 'b>,
+    known: &Known,
     registers: &mut [W],
-) -> Result<(), SheetFault<'b>> {
-    let setup = setup_of(asked)?;
+) -> Result<(), SheetCause> {
+    let setup = setup_of(known)?;
     let choice = setup.choice();
     'registers: for place in 0..registers.len() {
         let Some(column) = choice.dates.get(place) else {
             return Ok(());
         };
-        if let Err(cause) = write_register(alloc, sheet, &setup, column, &mut registers[place]) {
-            return Err(fault_of(cause));
-        }
+        write_register(alloc, sheet, &setup, column, &mut registers[place])?;
     }
     Ok(())
 }
 
 /// Writes the sheet with the columns asked, and says what is known of it.
-fn write_sheet<'b, W: Output>(
+fn write_sheet<W: Output>(
     alloc: Global,
     sheet: &[u8],
-    asked: &Asked<'_, 'b>,
+    known: &Known,
     output: &mut W,
-) -> Result<WholeSheet, SheetFault<'b>>
-    ensures whole { IfOk result (λ whole. (choice : SheetChoiceValue) × IsChoiceOf asked.now choice
-        × Gains (W.contents output.old) (W.contents output.new)
-        (IsWholeSheet choice (text_records choice.delimiter sheet.now) whole.records whole.refused)) }
-    ensures flushed { IfOk result (λ whole. W.is_flushed output.new ≡ true) }
-{
-    let setup = setup_of(asked)?;
+) -> Result<WholeSheet, SheetCause> {
+    let setup = setup_of(known)?;
     let (records, refused) = match convert_sheet(alloc, sheet, &setup, output) {
         SheetEnd::Whole { rows, refused } => (rows, refused),
-        SheetEnd::Broken { cause } => return Err(fault_of(cause)),
+        SheetEnd::Broken { cause } => return Err(cause),
     };
-    match unknown_names(alloc, sheet, &setup, MOST_UNKNOWN) {
-        Ok(unknown) => Ok(WholeSheet {
-            records,
-            refused,
-            stopped: stopped_by(&unknown),
-            short: unknown.short,
-        }),
-        Err(cause) => Err(fault_of(cause)),
-    }
+    let unknown = unknown_names(alloc, sheet, &setup, MOST_UNKNOWN)?;
+    Ok(WholeSheet {
+        records,
+        refused,
+        stopped: stopped_by(&unknown),
+        short: unknown.short,
+    })
 }
 
 /// Writes what is asked of a sheet.
-fn write_asked<'b, W: Output>(
+fn write_known<'b, W: Output>(
     alloc: Global,
     sheet: &[u8],
-    asked: &Asked<'_, 'b>,
+    known: &Known,
+    unknown: bool,
     output: &mut W,
     registers: &mut [W],
-) -> Result<SheetDone<'b>, SheetFault<'b>>
-    ensures whole { IfOk result (λ done. IfWholeDone done (λ whole. (choice : SheetChoiceValue)
-        × IsChoiceOf asked.now choice × Gains (W.contents output.old) (W.contents output.new)
-        (IsWholeSheet choice (text_records choice.delimiter sheet.now) whole.records whole.refused))) }
-    ensures flushed { IfOk result (λ done. IfWholeDone done (λ whole. W.is_flushed output.new ≡ true)) }
-    ensures listed { IfOk result (λ done. IfListed done (asked.now.job.now.unknown ≡ true)) }
-{
-    if asked.job.unknown {
-        list_unknown(alloc, sheet, asked, output)?;
+) -> Result<SheetDone<'b>, SheetCause> {
+    if unknown {
+        list_unknown(alloc, sheet, known, output)?;
         return Ok(SheetDone::Listed);
     }
-    let whole = write_sheet(alloc, sheet, asked, output)?;
-    write_registers(alloc, sheet, asked, registers)?;
+    let whole = write_sheet(alloc, sheet, known, output)?;
+    write_registers(alloc, sheet, known, registers)?;
     Ok(SheetDone::Whole(whole))
 }
 
-/// Writes what a job asks of a sheet.
+/// Writes what is asked of a sheet, by the names of a list.
+fn write_asked<'b, W: Output>(
+    alloc: Global,
+    sheet: &[u8],
+    list: &NameList,
+    asked: Asked,
+    unknown: bool,
+    output: &mut W,
+    registers: &mut [W],
+) -> Result<SheetDone<'b>, SheetCause> {
+    let names = list.names(alloc)?;
+    let calendars = list.calendar_names(alloc)?;
+    let headings = headings(
+        alloc,
+        sheet,
+        asked.delimiter,
+        asked.above,
+        asked.places.dates.as_slice(),
+        asked.columns.as_slice(),
+    )?;
+    let known = known_by(
+        alloc,
+        asked,
+        names.as_slice(),
+        calendars.as_slice(),
+        headings.as_slice(),
+    )?;
+    write_known(alloc, sheet, &known, unknown, output, registers)
+}
+
+/// Writes what a job asks of a sheet, by the names of a list.
 ///
 /// # Errors
 ///
@@ -237,30 +254,21 @@ fn write_asked<'b, W: Output>(
 pub fn convert_text<'b, W: Output>(
     alloc: Global,
     sheet: &[u8],
-    known: &Known,
+    list: &NameList,
     job: &Job<'b>,
     output: &mut W,
     registers: &mut [W],
-) -> Result<SheetDone<'b>, SheetFault<'b>>
-    ensures whole { IfOk result (λ done. IfWholeDone done (λ whole. Gains (W.contents output.old) (W.contents output.new)
-        (IsAskedSheet (task_of job.now) known.now sheet.now whole.records whole.refused))) }
-    ensures flushed { IfOk result (λ done. IfWholeDone done (λ whole. W.is_flushed output.new ≡ true)) }
-    ensures listed { IfOk result (λ done. IfListed done (job.now.unknown ≡ true)) }
-{
+) -> Result<SheetDone<'b>, SheetFault<'b>> {
     let places = places_of(alloc, sheet, job)?;
-    let headings = headings(
-        alloc,
-        sheet,
-        job.delimiter,
-        job.skip,
-        places.dates.as_slice(),
-        job.columns.as_slice(),
-    )?;
     let asked = Asked {
-        job,
-        known,
+        delimiter: job.delimiter,
+        above: job.skip,
+        reading: job.reading,
+        columns: job.columns.as_slice().to_vec(alloc)?,
         places,
-        headings: slices_of(alloc, headings.as_slice())?,
     };
-    write_asked(alloc, sheet, &asked, output, registers)
+    match write_asked(alloc, sheet, list, asked, job.unknown, output, registers) {
+        Ok(done) => Ok(done),
+        Err(cause) => Err(fault_of(cause)),
+    }
 }

@@ -1,43 +1,24 @@
 -- Arguments that ask for something have no fault beside it, and arguments that are refused have one.
-use Rattle.std.proofs.Common.{◌≤◌, ◌⊎◌, ◌≡◌, ◌≢◌, ℕ, List, [], ◌∷◌, rules, arith, inl, inr, map, refl}
+use Rattle.std.proofs.Common.{◌≤◌, ◌⊎◌, ◌≡◌, ℕ, rules, arith, inl, inr, map}
 use Rattle.std.specs.String.{string_bytes}
 use Rattle.command_lines.specs.Meanings.{help, version, work}
 use Rattle.sheet_arguments.specs.Requests.{MeanJust, task_of}
 use Rattle.sheet_arguments.specs.Faults.{fault_of_error}
-use Rattle.sheet_app.specs.Answers.{version_line}
-use Rattle.sheet_app.proofs.ListLemmas.{none_or_some}
 use Rattle.sheet_app.proofs.RefusedLemmas.{is_refused, is_wrong, never_refused}
 use Rattle.sheet_app.proofs.program.answer.Goals as goal
-
-pub returns-in-Ok-Help-clause-answered : goal.returns-in-Ok-Help-clause-answered
-returns-in-Ok-Help-clause-answered g c = λ low.
-    let just : MeanJust (map string_bytes c.args.arguments.now) help = search (rules, c.in-Ok-Help.ensures.asked) in
-    inl (_, inl (just, refl), c.print_page.ensures.printed, c.print_page.ensures.none)
 
 pub returns-in-Ok-Help-clause-refused : goal.returns-in-Ok-Help-clause-refused
 returns-in-Ok-Help-clause-refused g c =
     let arguments = map string_bytes c.args.arguments.now in
-    let just : MeanJust arguments help = search (rules, c.in-Ok-Help.ensures.asked) in
+    let just : MeanJust arguments help = c.in-Ok-Help.ensures.asked in
     λ had. never_refused arguments help c.print_page.result.status just (λ fault e. cc)
     (λ two. elim c.print_page.ensures.statuses
     [ inl zero ↦ absurd (omega (arith, two)) | inr one ↦ absurd (omega (arith, two, one)) ])
 
-pub returns-in-Ok-Version-clause-answered : goal.returns-in-Ok-Version-clause-answered
-returns-in-Ok-Version-clause-answered g c = λ low.
-    let just : MeanJust (map string_bytes c.args.arguments.now) version
-    = search (rules, c.in-Ok-Version.ensures.asked) in
-    let is : c.as_str.result.now ≡ version_line = search rules in
-    inl (
-      c.as_str.result.now,
-      inr (just, is),
-      c.print_page-in-Ok-Version.ensures.printed,
-      c.print_page-in-Ok-Version.ensures.none,
-    )
-
 pub returns-in-Ok-Version-clause-refused : goal.returns-in-Ok-Version-clause-refused
 returns-in-Ok-Version-clause-refused g c =
     let arguments = map string_bytes c.args.arguments.now in
-    let just : MeanJust arguments version = search (rules, c.in-Ok-Version.ensures.asked) in
+    let just : MeanJust arguments version = c.in-Ok-Version.ensures.asked in
     λ had. never_refused arguments version c.print_page-in-Ok-Version.result.status just (λ fault e. cc)
     (λ two. elim c.print_page-in-Ok-Version.ensures.statuses
     [ inl zero ↦ absurd (omega (arith, two)) | inr one ↦ absurd (omega (arith, two, one)) ])
@@ -48,42 +29,10 @@ at_most_three status high among = grind arith
 never_two : (status : ℕ) → (status ≡ 0) ⊎ (status ≡ 1) ⊎ (status ≡ 3) → status ≡ 2 → ⊥
 never_two status among two = grind arith
 
-pub returns-in-Ok-Convert-clause-answered : goal.returns-in-Ok-Convert-clause-answered
-returns-in-Ok-Convert-clause-answered g c = λ low.
-    let arguments = map string_bytes c.args.arguments.now in
-    let job = c.in-Ok-Convert.job in
-    let just : MeanJust arguments (work (task_of job)) = search (rules, c.in-Ok-Convert.ensures.asked) in
-    elim (none_or_some (task_of job).files) [
-      | inl none ↦
-          let (known, named, no_sheets, converted) = c.run_job.ensures.input low none in
-          inr (inl (record {
-            task = task_of job;
-            known = known;
-            asked = just;
-            no_files = none;
-            named = named;
-            no_sheets = no_sheets;
-            converted = converted;
-          }))
-      | inr some ↦
-          let (known, named, untouched, of_files, ended, complete) = c.run_job.ensures.files low some in
-          inr (inr (record {
-            task = task_of job;
-            known = known;
-            asked = just;
-            some_files = some;
-            named = named;
-            untouched = untouched;
-            of_files = of_files;
-            ended = ended;
-            complete = complete;
-          }))
-    ]
-
 pub returns-in-Ok-Convert-clause-refused : goal.returns-in-Ok-Convert-clause-refused
 returns-in-Ok-Convert-clause-refused g c =
     let just : MeanJust (map string_bytes c.args.arguments.now) (work (task_of c.in-Ok-Convert.job))
-    = search (rules, c.in-Ok-Convert.ensures.asked) in
+    = c.in-Ok-Convert.ensures.asked in
     λ had. never_refused _ _ c.run_job.result.status just (λ fault e. cc)
     (never_two c.run_job.result.status c.run_job.ensures.statuses)
 

@@ -1,8 +1,9 @@
 -- Arguments that ask for something have no fault beside it, and arguments that are refused have one.
-use Rattle.std.proofs.Common.{◌≤◌, ◌⊎◌, ◌≡◌, ℕ, rules, arith, inl, inr, map}
+use Rattle.std.proofs.Common.{◌≤◌, ◌⊎◌, ◌≡◌, ℕ, rules, arith, inl, inr, map, subst}
 use Rattle.std.specs.String.{string_bytes}
 use Rattle.command_lines.specs.Meanings.{help, version, work}
-use Rattle.sheet_arguments.specs.Requests.{MeanJust, task_of}
+use Rattle.sheet_arguments.specs.Requests.{MeanJust, meaning_of, task_of}
+use Rattle.sheet_arguments.specs.declared.requests.Request.{Request}
 use Rattle.sheet_arguments.specs.Faults.{fault_of_error}
 use Rattle.sheet_app.proofs.RefusedLemmas.{is_refused, is_wrong, never_refused}
 use Rattle.sheet_app.proofs.program.answer.Goals as goal
@@ -10,7 +11,8 @@ use Rattle.sheet_app.proofs.program.answer.Goals as goal
 pub returns-in-Ok-Help-clause-refused : goal.returns-in-Ok-Help-clause-refused
 returns-in-Ok-Help-clause-refused g c =
     let arguments = map string_bytes c.args.arguments.now in
-    let just : MeanJust arguments help = c.in-Ok-Help.ensures.asked in
+    let just : MeanJust arguments help = subst (λ (r : Request). MeanJust arguments (meaning_of r)) c.in-Ok-Help.field-0-is
+    c.in-Ok-Help.ensures.asked in
     λ had. never_refused arguments help c.print_page.result.status just (λ fault e. cc)
     (λ two. elim c.print_page.ensures.statuses
     [ inl zero ↦ absurd (omega (arith, two)) | inr one ↦ absurd (omega (arith, two, one)) ])
@@ -18,7 +20,8 @@ returns-in-Ok-Help-clause-refused g c =
 pub returns-in-Ok-Version-clause-refused : goal.returns-in-Ok-Version-clause-refused
 returns-in-Ok-Version-clause-refused g c =
     let arguments = map string_bytes c.args.arguments.now in
-    let just : MeanJust arguments version = c.in-Ok-Version.ensures.asked in
+    let just : MeanJust arguments version = subst (λ (r : Request). MeanJust arguments (meaning_of r)) c.in-Ok-Version.field-0-is
+    c.in-Ok-Version.ensures.asked in
     λ had. never_refused arguments version c.print_page-in-Ok-Version.result.status just (λ fault e. cc)
     (λ two. elim c.print_page-in-Ok-Version.ensures.statuses
     [ inl zero ↦ absurd (omega (arith, two)) | inr one ↦ absurd (omega (arith, two, one)) ])
@@ -32,7 +35,8 @@ never_two status among two = grind arith
 pub returns-in-Ok-Convert-clause-refused : goal.returns-in-Ok-Convert-clause-refused
 returns-in-Ok-Convert-clause-refused g c =
     let just : MeanJust (map string_bytes c.args.arguments.now) (work (task_of c.in-Ok-Convert.job))
-    = c.in-Ok-Convert.ensures.asked in
+    = subst (λ (r : Request). MeanJust (map string_bytes c.args.arguments.now) (meaning_of r)) c.in-Ok-Convert.field-0-is
+    c.in-Ok-Convert.ensures.asked in
     λ had. never_refused _ _ c.run_job.result.status just (λ fault e. cc)
     (never_two c.run_job.result.status c.run_job.ensures.statuses)
 

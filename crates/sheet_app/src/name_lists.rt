@@ -18,11 +18,7 @@ fn own_list(alloc: Global, own: Option<&[u8]>) -> Result<NameList, NameListFault
 /// # Errors
 ///
 /// The fault of the user's list, and `OutOfMemory`, also where the built-in list were none.
-pub fn list_of(
-    alloc: Global,
-    own: Option<&[u8]>,
-    built: &[u8],
-) -> Result<NameList, NameListFault> {
+pub fn list_of(alloc: Global, own: Option<&[u8]>, built: &[u8]) -> Result<NameList, NameListFault> {
     let mut list = own_list(alloc, own)?;
     let Ok(mut behind) = NameList::read(alloc, built) else {
         return Err(NameListFault::OutOfMemory);

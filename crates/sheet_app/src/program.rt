@@ -20,9 +20,7 @@ use arrayvec::ArrayString;
 use register_files::FileStore;
 use register_records::{Output, send};
 use register_sheets::{NameList, NameListFault};
-use sheet_arguments::{
-    HELP, Job, MEMORY_FAULT, PRINT_FAULT, Request, VERSION, read_request,
-};
+use sheet_arguments::{HELP, Job, MEMORY_FAULT, PRINT_FAULT, Request, VERSION, read_request};
 use std::alloc::Global;
 use std::io::Read;
 
@@ -402,7 +400,6 @@ pub fn answer<'a, R: Read + Drop, W: Output + Drop, P: FileStore<R, W>, E: Outpu
     // failed.
     requires fresh { IsFresh W.Output output }
     requires fresh_errors { IsFresh E.Output errors.old }
-
 
     // Unless the status is 3, arguments are refused exactly where something is wrong with them.
     ensures refused { result.status ≢ 3 → (result.status ≡ 2) ↔ AreWrong (map string_bytes arguments.entry.now) }

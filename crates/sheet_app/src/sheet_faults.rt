@@ -23,10 +23,7 @@ pub enum SheetFault<'a> {
     /// More than 1,000,000 records stand below the names.
     TooManyRecords,
     /// It has no column that this word names; these are its names.
-    NoColumn {
-        word: &'a str,
-        names: ByteRecord,
-    },
+    NoColumn { word: &'a str, names: ByteRecord },
 }
 
 impl From<AllocError> for SheetFault<'_> {

@@ -13,7 +13,14 @@ const CASES: [Case; 9] = [
     },
     // A column by its number, one calendar for all, the columns asked, and what the user's list adds.
     Case {
-        arguments: &["--date=3", "--all= Gregorian", "--to=RD, iso", "--names", "names.csv", "--summary"],
+        arguments: &[
+            "--date=3",
+            "--all= Gregorian",
+            "--to=RD, iso",
+            "--names",
+            "names.csv",
+            "--summary",
+        ],
         input: SHEET,
         status: 0,
         output: b"\
@@ -26,8 +33,21 @@ const CASES: [Case; 9] = [
     // Two columns of dates with a calendar for each, blanks round a name, records above, and a delimiter.
     Case {
         arguments: &[
-            "--skip", "1", "--date", "a", "--date", "b", "--all", "julian", "--all", "gregorian",
-            "--delimiter", "semicolon", "--to", "rd", "--summary",
+            "--skip",
+            "1",
+            "--date",
+            "a",
+            "--date",
+            "b",
+            "--all",
+            "julian",
+            "--all",
+            "gregorian",
+            "--delimiter",
+            "semicolon",
+            "--to",
+            "rd",
+            "--summary",
         ],
         input: b"title\n a ;b\n1001-1-1;1001-1-1\nx;1001-1-1\n",
         status: 0,
@@ -38,7 +58,16 @@ const CASES: [Case; 9] = [
     },
     // Short years.
     Case {
-        arguments: &["--date", "1", "--all", "julian", "--short-years", "1800", "--to", "julian"],
+        arguments: &[
+            "--date",
+            "1",
+            "--all",
+            "julian",
+            "--short-years",
+            "1800",
+            "--to",
+            "julian",
+        ],
         input: b"d\n06-5-12\n",
         status: 0,
         output: b"d,julian,refusal\n06-5-12,1806-05-12,\n",

@@ -6,7 +6,17 @@ const CASES: [Case; 7] = [
     // A sheet with its register, and one that breaks off.
     Case {
         arguments: &[
-            "--date", "Date", "--calendar", "Calendar", "--id", "No", "--order", "day", "--register", "a.csv", "empty.csv",
+            "--date",
+            "Date",
+            "--calendar",
+            "Calendar",
+            "--id",
+            "No",
+            "--order",
+            "day",
+            "--register",
+            "a.csv",
+            "empty.csv",
         ],
         input: b"",
         status: 1,
@@ -21,7 +31,15 @@ const CASES: [Case; 7] = [
             register-sheet: empty.csv: no record with names\n",
     },
     Case {
-        arguments: &["--date", "Date", "--calendar", "Calendar", "--unknown", "--register", "a.csv"],
+        arguments: &[
+            "--date",
+            "Date",
+            "--calendar",
+            "Calendar",
+            "--unknown",
+            "--register",
+            "a.csv",
+        ],
         input: b"",
         status: 0,
         output: b"",
@@ -47,7 +65,16 @@ const CASES: [Case; 7] = [
     },
     // An input is kept.
     Case {
-        arguments: &["--date", "1", "--all", "iso", "--unknown", "--names", "own.csv.unknown.csv", "own.csv"],
+        arguments: &[
+            "--date",
+            "1",
+            "--all",
+            "iso",
+            "--unknown",
+            "--names",
+            "own.csv.unknown.csv",
+            "own.csv",
+        ],
         input: b"",
         status: 3,
         output: b"",

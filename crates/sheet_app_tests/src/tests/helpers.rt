@@ -92,7 +92,15 @@ fn answered<'a>(
     requires { (logged_bytes errors.old.inner ≡ []) × (errors.old.failed ≡ false) }
 {
     let output = PlainOutput::new(LoggedWriter::new(Vec::new(alloc)), 0);
-    answer(alloc, BUILT, arguments, input, output, &Shelf { alloc }, errors)
+    answer(
+        alloc,
+        BUILT,
+        arguments,
+        input,
+        output,
+        &Shelf { alloc },
+        errors,
+    )
 }
 
 /// The bytes of an output.

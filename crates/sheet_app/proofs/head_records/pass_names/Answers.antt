@@ -1,8 +1,8 @@
-use Rattle.std.proofs.Common.{◌≡◌, ◌≤◌, ◌∙◌, [], ◌∷◌, ap, arith, drop, length, length-drop, rules, sym, true, false}
+use Rattle.std.proofs.Common.{◌≡◌, ◌∙◌, ap, arith, rules, sym, true, false}
 use Rattle.std.specs.Prelude.{Ok}
 use Rattle.csv.specs.Records.{fields_of}
 use Rattle.register_sheets.specs.Reading.{left_of}
-use Rattle.register_sheets.proofs.ListLemmas.{none_below, one_taken, stands_below}
+use Rattle.register_sheets.proofs.ListLemmas.{none_below, one_taken}
 use Rattle.sheet_app.proofs.head_records.pass_names.Goals as goal
 
 pub records-preserved : goal.records-preserved

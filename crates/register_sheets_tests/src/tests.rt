@@ -139,7 +139,8 @@ fn names_that_are_not_known(rt: HostRuntime) -> Result<(), Fail> {
         names: Names::layered(rt.alloc(), &NAMES)?,
         calendars: CalendarNames::layered(rt.alloc(), &CALENDARS)?,
     };
-    let sheet = b"N;D;C\nA;12 Foo 1806;gregorian\nB;1 FOO 1807;gregorian\nC;2 Foo 1700;a. St.\nD;3 Mai 1700; odd\n\
+    let sheet =
+        b"N;D;C\nA;12 Foo 1806;gregorian\nB;1 FOO 1807;gregorian\nC;2 Foo 1700;a. St.\nD;3 Mai 1700; odd\n\
         E;4 Bar 1700;julian\nF;12.5.06;gregorian\n";
     let unknown = unknown_by(rt.alloc(), sheet, &known)?;
     let text = unknown.text(rt.alloc())?;

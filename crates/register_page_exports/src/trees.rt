@@ -10,12 +10,7 @@ use std::alloc::Global;
 
 /// Puts the dates of a family tree in GEDCOM, as a sheet, to the front of `room`: [`tree_sheet`], with a report.
 #[unsafe(no_mangle)]
-pub extern "C" fn tree_dates(
-    alloc: Global,
-    tree: &[u8],
-    room: &mut [u8],
-    report: &mut TextReport,
-)
+pub extern "C" fn tree_dates(alloc: Global, tree: &[u8], room: &mut [u8], report: &mut TextReport)
     ensures whole { report.new.ending ≡ 0 → PutsText (tree_text tree.now) room.old room.new report.new.length }
     ensures none { report.new.ending ≢ 0 → (report.new.ending ≡ 1) × (report.new.length ≡ 0) × (room.new ≡ room.old) }
 {

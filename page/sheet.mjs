@@ -306,11 +306,12 @@ function runReplied(state, reply) {
 
 const listedNames = ({ names }) => names.map(({ name, where }) => ({ name, where, count: null }));
 
-// The columns, as they are proposed by their names or were kept. What was chosen for the dates of this file stays.
-function columnsProposed(state, heading, encoding, delimiter) {
+// The columns, as they are proposed by their names or were kept. What was chosen for the dates of this file stays. In a
+// family tree the day stands first.
+function columnsProposed(state, { heading, encoding, delimiter, isOfTree }) {
   const { kept, picks } = state, { order, short, hebrew, charters, names } = picks, proposed = likelyPicks(heading);
   if (kept === null) {
-    const own = { ...proposed, order, short, hebrew, charters, names };
+    const own = { ...proposed, order: isOfTree ? 'day' : order, short, hebrew, charters, names };
     return { ...state, picks: own, listed: listedNames(own), fit: null };
   }
   const { picks: fit, absent } = fitted(kept.choices, heading, proposed);
@@ -324,11 +325,11 @@ function columnsProposed(state, heading, encoding, delimiter) {
 function readingReplied(state, reply) {
   const { source, proposed } = state, begins = { reply };
   if (reply.fault) return { ...state, begins };
-  const { encoding, delimiter, above, heading } = reply.answer;
+  const { encoding, delimiter, above } = reply.answer;
   const found = { encoding, delimiter, above }, ofNow = { ...source, ...found };
   const lookOf = (name) => (source[name] === null ? found[name] : proposed[name]);
   const looks = { encoding: lookOf('encoding'), delimiter: lookOf('delimiter'), above: lookOf('above') };
-  return { ...columnsProposed(state, heading, encoding, delimiter), begins, source: ofNow, proposed: looks };
+  return { ...columnsProposed(state, reply.answer), begins, source: ofNow, proposed: looks };
 }
 
 // The choices that were kept were read, or are none. An encoding that the page does not offer is none.

@@ -45,13 +45,13 @@ export const WORDS = {
   provedOfRegisters: 'Das Programm in dieser Seite wurde bewiesen, bevor die Seite gemacht wurde. Die Tabelle eines ' +
     'Registers hat für jeden Eintrag eine Zeile, in ihrer Folge, mit dem Tag, den sein Kalender ergibt, oder mit dem ' +
     'Grund, warum es keinen gibt; und sie hat genau diese Bytes.',
-  provedOfSheets: 'Auch die Tabelle eines Bogens ist bewiesen, von Ihrer Wahl und der Namensliste bis zu ihren ' +
+  provedOfSheets: 'Auch die Tabelle eines Tabellenblatts ist bewiesen, von Ihrer Wahl und der Namensliste bis zu ihren ' +
     'Bytes: Jeder Eintrag behält seine Felder, seine Daten werden gelesen, wie die Regeln es sagen, und dahinter ' +
     'stehen ihre Tage oder der Grund, warum es keinen gibt.',
   trusted: 'Nicht bewiesen, sondern vertraut wird dem, was aus dem bewiesenen Programm eines für Browser macht (dem ' +
     'Übersetzer für ein anderes Ziel, dem Binder und der Umformung), dem Speicher, den es bekommt, dem Browser und ' +
     'dem Skript dieser Seite, das Dateien liest, anzeigt und speichert.',
-  notProved: 'Niemand kann beweisen, dass die Wahl zu einem Bogen passt, dass ein Name bedeutet, was die Namensliste ' +
+  notProved: 'Niemand kann beweisen, dass die Wahl zu einem Tabellenblatt passt, dass ein Name bedeutet, was die Namensliste ' +
     'sagt, oder dass ein Datum richtig abgeschrieben wurde. Sehen Sie sich darum vor dem Umrechnen an, was die Seite ' +
     'zeigt.',
 
@@ -122,7 +122,7 @@ export const WORDS = {
   // ---- A register ----
   register: 'Ein Register',
   registerIs: 'Eine CSV-Datei in UTF-8 mit der Kopfzeile `id,calendar,date` und in jedem weiteren Eintrag einer ' +
-    'eigenen Kennung, dem Namen eines Kalenders und einem Datum. Jede andere Tabelle ist ein Bogen: siehe unten.',
+    'eigenen Kennung, dem Namen eines Kalenders und einem Datum. Jede andere Tabelle ist ein Tabellenblatt: siehe unten.',
   chooseRegisters: 'Register',
   dropRegisters: 'Wählen Sie eine oder mehrere Dateien, oder ziehen Sie sie auf diese Seite.',
   delimiter: 'Zwischen zwei Feldern steht',
@@ -226,15 +226,15 @@ export const WORDS = {
     'oder teilen Sie die Datei',
   otherColumns: 'die Datei hat andere Spalten als bei der Wahl und ist neu gelesen: Wählen Sie sie noch einmal',
   workbook: 'die Datei ist kein Text, sondern eine Arbeitsmappe oder gepackt (.xlsx, .ods, .xls, .docx, .zip); ' +
-    'speichern Sie ihre Tabelle als CSV UTF-8, oder kopieren Sie ihre Zellen und fügen Sie sie in „Aus einem Bogen“ ' +
+    'speichern Sie ihre Tabelle als CSV UTF-8, oder kopieren Sie ihre Zellen und fügen Sie sie in „Aus einem Tabellenblatt“ ' +
     'ein',
   database: 'die Datei ist kein Text, sondern eine Datenbank (SQLite); speichern Sie ihre Tabelle als CSV UTF-8, ' +
-    'oder kopieren Sie ihre Zellen und fügen Sie sie in „Aus einem Bogen“ ein',
+    'oder kopieren Sie ihre Zellen und fügen Sie sie in „Aus einem Tabellenblatt“ ein',
   pdf: 'die Datei ist kein Text, sondern ein PDF; kopieren Sie ihre Tabelle in eine Tabellenkalkulation und ' +
-    'speichern Sie diese als CSV UTF-8, oder kopieren Sie ihre Zellen und fügen Sie sie in „Aus einem Bogen“ ein',
-  utf16: 'die Datei ist in UTF-16 geschrieben und ein Register in UTF-8; nehmen Sie sie unten als Bogen, oder ' +
+    'speichern Sie diese als CSV UTF-8, oder kopieren Sie ihre Zellen und fügen Sie sie in „Aus einem Tabellenblatt“ ein',
+  utf16: 'die Datei ist in UTF-16 geschrieben und ein Register in UTF-8; nehmen Sie sie unten als Tabellenblatt, oder ' +
     'speichern Sie sie als CSV UTF-8',
-  tree: 'die Datei ist ein Stammbaum (GEDCOM); nehmen Sie sie unten als Bogen',
+  tree: 'die Datei ist ein Stammbaum (GEDCOM); nehmen Sie sie unten als Tabellenblatt',
   ansel: 'der Stammbaum ist in ANSEL geschrieben, was hier nicht gelesen wird; lassen Sie Ihr Programm ihn in UTF-8 ' +
     'speichern',
   fault: (why) => ['die Seite versagte (', own(why), ')'],
@@ -275,12 +275,12 @@ export const WORDS = {
     'der Tag liegt außerhalb der gregorianischen Jahre -9999 bis 9999',
   ],
   advice: [
-    'Setzen Sie ein Feld mit einem Komma in Anführungszeichen; oder nehmen Sie die Datei als Bogen, und wählen Sie ' +
+    'Setzen Sie ein Feld mit einem Komma in Anführungszeichen; oder nehmen Sie die Datei als Tabellenblatt, und wählen Sie ' +
       'dessen Spalten',
-    'Geben Sie kurze Kennungen, und lassen Sie Längeres im Bogen',
-    'Speichern Sie das Register als CSV UTF-8; oder nehmen Sie es als Bogen, in seiner Kodierung',
-    'Schreiben Sie einen der Kalender aus „Ein Datum“; ein Bogen kann jedem Namen einen Kalender geben',
-    'Schreiben Sie Jahr, Monat und Tag, wie `1700-02-29`; in einem Bogen kann der Tag zuerst stehen',
+    'Geben Sie kurze Kennungen, und lassen Sie Längeres im Tabellenblatt',
+    'Speichern Sie das Register als CSV UTF-8; oder nehmen Sie es als Tabellenblatt, in seiner Kodierung',
+    'Schreiben Sie einen der Kalender aus „Ein Datum“; ein Tabellenblatt kann jedem Namen einen Kalender geben',
+    'Schreiben Sie Jahr, Monat und Tag, wie `1700-02-29`; in einem Tabellenblatt kann der Tag zuerst stehen',
     'Sehen Sie im Original nach: ein Schreibfehler oder ein Datum eines anderen Kalenders',
     'Sehen Sie im Original nach: ein Schreibfehler im Jahr',
   ],
@@ -288,11 +288,11 @@ export const WORDS = {
   // What to do with a refused date of a sheet.
   sheetAdvice: [
     'Sehen Sie den Eintrag an: er hat andere Felder als die übrigen',
-    'Wählen Sie die Nummer des Eintrags als Kennung; kürzen Sie ein Datum oder den Namen eines Kalenders im Bogen',
+    'Wählen Sie die Nummer des Eintrags als Kennung; kürzen Sie ein Datum oder den Namen eines Kalenders im Tabellenblatt',
     'Wählen Sie eine andere Kodierung',
-    'Wählen Sie oben den Kalender dieses Namens, oder bessern Sie den Namen im Bogen',
+    'Wählen Sie oben den Kalender dieses Namens, oder bessern Sie den Namen im Tabellenblatt',
     'Geben Sie oben seinen Wörtern eine Bedeutung, oder wählen Sie, wie Daten in Zahlen geschrieben sind; oder ' +
-      'bessern Sie es im Bogen',
+      'bessern Sie es im Tabellenblatt',
     'Sehen Sie im Original nach: ein Schreibfehler oder ein Datum eines anderen Kalenders',
     'Sehen Sie im Original nach: ein Schreibfehler im Jahr',
   ],
@@ -307,7 +307,7 @@ export const WORDS = {
     5: 'Es wurde seit der Wahl oder beim Lesen geändert, oder verschoben, oder ist ein Ordner: Wählen Sie es noch ' +
       'einmal.',
     6: 'Steht ein anderes Zeichen zwischen seinen Feldern? Wählen Sie es oben. Hat es andere Spalten, eine ' +
-      'Titelzeile oder eine andere Kodierung? Nehmen Sie es unten als Bogen.',
+      'Titelzeile oder eine andere Kodierung? Nehmen Sie es unten als Tabellenblatt.',
     7: 'Teilen Sie es, jeden Teil mit der Kopfzeile.',
     8: 'Vergleichen Sie es mit dem Original: Einträge können fehlen. Fehlen keine, so schreiben Sie das Siegel neu ' +
       'als letzte Zeile.',
@@ -320,12 +320,12 @@ export const WORDS = {
   },
 
   // ---- From a sheet ----
-  sheet: 'Aus einem Bogen',
+  sheet: 'Aus einem Tabellenblatt',
   sheetIs: 'Eine Tabelle, wie Sie sie führen, als CSV oder Text gespeichert oder aus einer Tabellenkalkulation ' +
     'kopiert. Sagen Sie, welche ihrer Spalten Daten haben, und Sie bekommen sie zurück, mit den gewünschten Spalten ' +
     'hinter den eigenen. Wie Daten in Worten gelesen werden, ist bewiesen; ob Ihre Wahl passt, sehen Sie daran, was ' +
     'die Seite vor dem Umrechnen zeigt.',
-  chooseSheet: 'Bogen',
+  chooseSheet: 'Tabellenblatt',
   dropSheet: 'Wählen Sie eine Datei, oder ziehen Sie sie hierher; eine gespeicherte Auswahl kann mitkommen.',
   pasteSheet: 'Oder Zellen einer Tabellenkalkulation',
   pasteSheetIs: 'Kopieren Sie sie mit der Zeile der Namen, und fügen Sie sie hier ein.',
@@ -376,7 +376,7 @@ export const WORDS = {
     'euc-kr': 'Koreanisch (EUC-KR)',
   },
   notEncoded: (name) => `die Datei ist nicht in ${name} geschrieben: Wählen Sie eine andere Kodierung`,
-  sheetRows: (n) => `Der Bogen, ${WORDS.first(n)}`,
+  sheetRows: (n) => `Das Tabellenblatt, ${WORDS.first(n)}`,
   sheetHas: (n, width) => `${WORDS.records(n)} mit ${width} ${width === 1 ? 'Spalte' : 'Spalten'} unter den Namen.`,
   oneColumn: 'Steht ein anderes Zeichen zwischen den Feldern? Wählen Sie es oben.',
   emptySheet: 'er ist leer',
@@ -433,7 +433,7 @@ export const WORDS = {
   kept: (n) => `${WORDS.datesOf(n)} nicht lesbar, ${n === 1 ? 'bleibt' : 'bleiben'} wie geschrieben`,
   shortLeft: (n) => `${WORDS.datesOf(n)} mit kurzem Jahr, ${n === 1 ? 'wird' : 'werden'} weggelassen`,
   allRead: 'Alle Daten sind lesbar',
-  behind: 'Spalten hinter denen des Bogens',
+  behind: 'Spalten hinter denen des Tabellenblatts',
   behindIs: 'Sie kommen in der Folge, in der Sie sie ankreuzen; dahinter die Ablehnung, die leer ist, wo das Datum ' +
     'umgerechnet wurde.',
   noneBehind: 'Keine Spalten außer der Ablehnung.',
@@ -443,19 +443,19 @@ export const WORDS = {
   keepChoices: 'Die Auswahl speichern',
   choicesSuffix: '.auswahl.json',
   noChoices: 'Die Datei mit der Auswahl ist keine, die diese Seite gespeichert hat.',
-  choicesWait: 'Die Auswahl ist da. Wählen Sie den Bogen, für den sie ist.',
-  oneSheet: 'Ein Bogen auf einmal: der erste wurde genommen.',
+  choicesWait: 'Die Auswahl ist da. Wählen Sie das Tabellenblatt, für das sie ist.',
+  oneSheet: 'Ein Tabellenblatt auf einmal: das erste wurde genommen.',
   filledIn: (name) => ['Die Auswahl von ', own(name), ' ist eingetragen.'],
   notFitting: (name, what) => ['Die Auswahl von ', own(name), ' ist eingetragen, bis auf das, was nicht passt: ',
     what.flatMap((it, i) => (i === 0 ? [it] : [', ', it])), '.'],
   theColumn: (name) => ['die Spalte „', own(name), '“'],
   theOther: { encoding: 'die Kodierung', delimiter: 'das Zeichen zwischen zwei Feldern' },
-  sheetReading: 'Der Bogen wird gelesen.',
-  sheetConverting: 'Der Bogen wird umgerechnet.',
+  sheetReading: 'Das Tabellenblatt wird gelesen.',
+  sheetConverting: 'Das Tabellenblatt wird umgerechnet.',
   sheetSaved: 'Jeder Eintrag steht in seiner Zeile, in UTF-8 mit einer Marke (BOM) davor, wie Tabellenkalkulationen ' +
     'es wollen.',
-  sheetJoined: (n) => `Der Bogen mit seinen Tagen, ${WORDS.first(n)}`,
-  sheetBack: (n) => `Der Bogen, wie er zurückkommt, ${WORDS.first(n)}`,
+  sheetJoined: (n) => `Das Tabellenblatt mit seinen Tagen, ${WORDS.first(n)}`,
+  sheetBack: (n) => `Das Tabellenblatt, wie er zurückkommt, ${WORDS.first(n)}`,
   why: 'abgelehnt, denn',
   record: 'Eintrag',
   columnName: 'Spalte',

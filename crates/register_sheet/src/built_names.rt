@@ -650,6 +650,19 @@ Weadar,month 13,hebrew
 Veadar,month 13,hebrew
 II Adar,month 13,hebrew
 2 Adar,month 13,hebrew
+TSH,month 7,hebrew
+CSH,month 8,hebrew
+KSL,month 9,hebrew
+TVT,month 10,hebrew
+SHV,month 11,hebrew
+ADR,month 12,hebrew
+ADS,month 13,hebrew
+NSN,month 1,hebrew
+IYR,month 2,hebrew
+SVN,month 3,hebrew
+TMZ,month 4,hebrew
+AAV,month 5,hebrew
+ELL,month 6,hebrew
 Muharram,month 1,islamic
 Moharram,month 1,islamic
 Muḥarram,month 1,islamic
@@ -1060,4 +1073,9 @@ octidi,,french republican
 nonidi,,french republican
 décadi,,french republican
 decadi,,french republican
+NIVO,month 4,french republican
+PRAI,month 9,french republican
+THER,month 11,french republican
+FRUC,month 12,french republican
+COMP,month 13,french republican
 ";

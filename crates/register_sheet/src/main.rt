@@ -9,7 +9,7 @@ mod built_names;
 use built_names::BUILT_NAMES;
 use register_files::{Destination, Disk, LoggedWriter, Source, lines_to};
 use register_records::PlainOutput;
-use sheet_app::answer;
+use sheet_app::{Outcome, answer};
 use sheet_arguments::MEMORY_FAULT;
 use std::fs::OpenOptions;
 use std::process::ExitCode;
@@ -48,7 +48,11 @@ fn main(rt: HostRuntime) -> ExitCode {
     let input = Source::Input(rt.stdin());
     let output = PlainOutput::new(LoggedWriter::new(Destination::Output(rt.stdout())), 1);
     let mut errors = PlainOutput::new(LoggedWriter::new(lines_to(rt.stderr())), 0);
-    let outcome = answer(
+    let Outcome {
+        status,
+        output: _,
+        sheets: _,
+    } = answer(
         rt.alloc(),
         BUILT_NAMES.as_bytes(),
         arguments.as_slice(),
@@ -57,5 +61,5 @@ fn main(rt: HostRuntime) -> ExitCode {
         &Disk::new(&rt),
         &mut errors,
     );
-    ExitCode::from(outcome.status)
+    ExitCode::from(status)
 }

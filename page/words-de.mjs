@@ -379,7 +379,7 @@ export const WORDS = {
   sheetRows: (n) => `Das Tabellenblatt, ${WORDS.first(n)}`,
   sheetHas: (n, width) => `${WORDS.records(n)} mit ${width} ${width === 1 ? 'Spalte' : 'Spalten'} unter den Namen.`,
   oneColumn: 'Steht ein anderes Zeichen zwischen den Feldern? Wählen Sie es oben.',
-  emptySheet: 'er ist leer',
+  emptySheet: 'es ist leer',
   noNames: 'für die Namen der Spalten bleibt keine Zeile: Lassen Sie weniger darüber stehen',
   onlyFirst: (n) => `Nur die ersten ${n} Spalten können gewählt werden.`,
   dates: 'Spalten mit Daten',
@@ -455,12 +455,12 @@ export const WORDS = {
   sheetSaved: 'Jeder Eintrag steht in seiner Zeile, in UTF-8 mit einer Marke (BOM) davor, wie Tabellenkalkulationen ' +
     'es wollen.',
   sheetJoined: (n) => `Das Tabellenblatt mit seinen Tagen, ${WORDS.first(n)}`,
-  sheetBack: (n) => `Das Tabellenblatt, wie er zurückkommt, ${WORDS.first(n)}`,
+  sheetBack: (n) => `Das Tabellenblatt, wie es zurückkommt, ${WORDS.first(n)}`,
   why: 'abgelehnt, denn',
   record: 'Eintrag',
   columnName: 'Spalte',
   written: 'Wie geschrieben',
-  splitSheet: 'Teilen Sie ihn, jeden Teil mit der Zeile der Namen.',
+  splitSheet: 'Teilen Sie es, jeden Teil mit der Zeile der Namen.',
   wholeSheet: (rows, refused) => [`${WORDS.rows(rows)}. `,
     refused.map(([name, n], i) => [i === 0 ? '' : ', ', name, ': ', WORDS.refused(n)]), '.'],
   refusedDates: (n, all) =>

@@ -54,7 +54,8 @@ const CASES: [Case; 9] = [
         output: b"title\n a ;b; a  rd; a  refusal;b rd;b refusal\n\
             1001-1-1;1001-1-1;365249;;365243;\nx;1001-1-1;;5;365243;\n",
         outputs: &[],
-        errors: "register-sheet: standard input: 2 records, refused: 1, 0\n",
+        errors: "register-sheet: standard input: 1 date has a name that is not known: --unknown lists it\n\
+            register-sheet: standard input: 2 records, refused: 1, 0\n",
     },
     // Short years.
     Case {

@@ -46,12 +46,18 @@ def program_of(path, launcher="register"):
 
 
 def output_of(words, **how):
-    """What a command prints, with its status on a line of its own where that is not 0. It has ten minutes, and then
+    """The status of a command, and what it prints. It has ten minutes, and then, or where this program is ended before,
     what it started is ended too."""
     words = ["timeout", "--kill-after=10", "600", *map(str, words)]
-    ran = subprocess.run(words, stdin=subprocess.DEVNULL, stdout=subprocess.PIPE, stderr=subprocess.STDOUT, **how)
+    how |= {"stdin": subprocess.DEVNULL, "stdout": subprocess.PIPE, "stderr": subprocess.STDOUT}
+    with subprocess.Popen(words, **how) as ran:
+        try:
+            printed = ran.communicate()[0].decode("utf-8", "backslashreplace")
+        except BaseException:
+            ran.terminate()
+            raise
     late = "no end in ten minutes\n" if ran.returncode in (124, 137) else ""
-    return ran.returncode, ran.stdout.decode("utf-8", "backslashreplace") + late
+    return ran.returncode, printed + late
 
 
 def said_by_help():

@@ -2,8 +2,10 @@
 import json
 import os
 import pathlib
+import signal
 import subprocess
 import sys
+import time
 
 ROOT = pathlib.Path(__file__).resolve().parent.parent
 
@@ -24,7 +26,7 @@ class Trials:
         if not is_same:
             print(f"FAILED: {what}")
             for name, text in (("expected:", expected), ("came:    ", came)):
-                print(*(f"  {name} {line}" for line in str(text).split("\n")[:60]), sep="\n", flush=True)
+                print(*(f"  {name} {line[:1000]}" for line in str(text).split("\n")[:60]), sep="\n", flush=True)
         return is_same
 
     def end(self):
@@ -43,6 +45,21 @@ def program_of(path, launcher="register"):
         print(f"{program} does not run: {error}", "0 passed, 1 failed", sep="\n")
         sys.exit(1)
     return program
+
+
+def end_on_signals():
+    """Lets this program end as by sys.exit where it is asked to end, so that it clears up. What it starts takes such
+    signals, also where this program was started without."""
+    for number in (signal.SIGINT, signal.SIGTERM, signal.SIGHUP):
+        signal.signal(number, lambda *_: sys.exit(130))
+
+
+def wait_for(seconds, is_so):
+    """Waits until something is so, and returns whether it is."""
+    end = time.monotonic() + seconds
+    while not is_so() and time.monotonic() < end:
+        time.sleep(0.1)
+    return is_so()
 
 
 def output_of(words, **how):

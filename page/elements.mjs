@@ -197,11 +197,6 @@ export function columnTicks(box, names, none, choose) {
   };
 }
 
-/** The value that is chosen among those of this name. */
-export function checkedOf(name) {
-  return /** @type {HTMLInputElement} */ (document.querySelector(`input[name=${name}]:checked`)).value;
-}
-
 /** Draws which of the choices of this name is made. */
 export function check(name, value) {
   for (const choice of document.querySelectorAll(`input[name=${name}]`)) {
@@ -217,8 +212,8 @@ export function onCheck(name, choose) {
   }
 }
 
-/** Files, as a field has them. */
-export function listOf(files) {
+// Files, as a field has them.
+function listOf(files) {
   const data = new DataTransfer();
   for (const file of files) data.items.add(file);
   return data.files;
@@ -236,10 +231,10 @@ function droppedOf({ items }) {
 }
 
 /**
- * Files are chosen in a field, or dropped where `isHere` says so. The same file can be chosen again. Folders among what
- * is dropped are left out, and told by their names.
+ * Files are chosen in a field, or dropped anywhere. The same file can be chosen again. Folders among what is dropped are left
+ * out, and told by their names.
  */
-export function takeFiles(input, isHere, choose) {
+export function takeFiles(input, choose) {
   const box = input.closest('.drop');
   input.value = '';
   input.addEventListener('click', () => { input.value = ''; });
@@ -248,15 +243,14 @@ export function takeFiles(input, isHere, choose) {
   const listen = (name, take) => document.addEventListener(name, (event) => { if (input.isConnected) take(event); });
   listen('dragover', (event) => {
     event.preventDefault();
-    box.classList.toggle('over', isHere(event.target));
+    box.classList.add('over');
   });
   listen('dragleave', () => box.classList.remove('over'));
   listen('drop', (event) => {
     event.preventDefault();
     box.classList.remove('over');
-    if (!isHere(event.target)) return;
     const { folders, files } = droppedOf(event.dataTransfer);
-    if (!input.disabled) input.files = listOf(files);
+    input.files = listOf(files);
     if (folders.length || files.length) choose(files, folders);
   });
 }
@@ -275,6 +269,12 @@ export function takePaste(field, take) {
     if (field.value !== '') take(field.value);
     field.value = '';
   });
+}
+
+/** Shows a part of the page, and the link to it, where there is something for it. */
+export function drawPart(name, isThere) {
+  const link = /** @type {HTMLElement} */ (document.querySelector(`nav a[href="#${name}-part"]`));
+  byId(`${name}-part`).hidden = link.hidden = !isThere;
 }
 
 /** Draws whether a task goes on: then it cannot be started again, and can be stopped. The keys stay where they are. */

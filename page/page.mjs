@@ -2,6 +2,7 @@
 
 import { newWorker, packedModule } from './unbuilt.mjs';
 import { dateView } from './date-view.mjs';
+import { doorView } from './door-view.mjs';
 import { byId, clear, element, putWords, setText } from './elements.mjs';
 import { NAMES_OF_LANGUAGES, WORDS, likelyLanguage, speak } from './language.mjs';
 import { registersView } from './registers-view.mjs';
@@ -45,6 +46,7 @@ function open(language) {
   drawNoModule();
   for (const button of byId('languages').children) button.setAttribute('aria-pressed', String(button.lang === language));
   views.date = dateView(stepOf('date'));
+  views.door = doorView(stepOf('door'));
   views.registers = registersView(stepOf('registers'), now);
   views.sheet = sheetView(stepOf('sheet'));
   page.settle();

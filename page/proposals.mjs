@@ -17,6 +17,12 @@ export const kindOf = (bytes) => found(KINDS, bytes);
 /** Whether a text begins as a family tree in GEDCOM does. */
 export const isTree = (text) => /^\ufeff?\s*0 +HEAD\s/.test(text);
 
+/** Whether a file is called as choices are that were saved. */
+export const isJson = (name) => /\.json$/i.test(name);
+
+/** Whether a text begins as such choices do. */
+export const isObject = (text) => /^\ufeff?\s*\{/.test(text);
+
 /** Whether a family tree says that it is written in ANSEL, which no browser reads. */
 export const isAnsel = (text) => /^\s*1 +CHAR +ANSEL\b/m.test(text);
 

@@ -2,8 +2,7 @@
 
 import { TARGETS } from './calendars.mjs';
 import {
-  byId, check, checkedOf, clear, columnTicks, downloadLink, drawReport, drawRunning, element, listOf, onCheck, takeFiles,
-  textOf, whenChanged, withFocus, wordsIn,
+  byId, clear, columnTicks, downloadLink, drawPart, drawReport, drawRunning, element, textOf, whenChanged, withFocus, wordsIn,
 } from './elements.mjs';
 import { WORDS } from './language.mjs';
 import { registersTable } from './list-view.mjs';
@@ -12,7 +11,7 @@ import {
   archiveSaved, archiveWanted, chosen, hasTable, isRunning, opened, pictureWanted, repeated, saved, shownRun, started,
   stopped,
 } from './registers.mjs';
-import { archiveReport, chosenFiles, registerPicture, registerReport, registersList, registersStatus } from './reports.mjs';
+import { archiveReport, registerPicture, registerReport, registersList, registersStatus } from './reports.mjs';
 
 // An article in a box, in which the answer draws a register, if there is something else to be drawn; none for null.
 function articleOf(box, id, step, now) {
@@ -35,16 +34,13 @@ function articleOf(box, id, step, now) {
   };
 }
 
-// What is done with one register of a list. A file in place of another stands in the field too.
+// What is done with one register of a list.
 const stepsOf = (step, now) => ({
   saved: (number) => step(saved, number),
   opened: (number) => {
     if (step(opened, number).run.opened !== null) byId('register-opened').scrollIntoView({ block: 'nearest' });
   },
-  repeated: (number, file) => {
-    const { choice } = step(repeated, number, file, now());
-    byId('register-files').files = listOf(choice.files);
-  },
+  repeated: (number, file) => step(repeated, number, file, now()),
 });
 
 // A button that makes the archive, or a link that saves it.
@@ -108,28 +104,11 @@ function rested(draw, now) {
 }
 
 function takeForm(step, now) {
-  onCheck('register-delimiter', (value) => step(chosen, { delimiter: Number(value) }));
-  byId('register-sealed').addEventListener('change', ({ target }) => step(chosen, { sealed: target.checked }));
-  takeFiles(byId('register-files'), (target) => !byId('sheet-part').contains(target),
-    (files, folders) => step(chosen, { files }, folders));
-  // What is converted is what the form has now.
   byId('register-form').addEventListener('submit', (event) => {
     event.preventDefault();
-    const files = [...byId('register-files').files];
-    step(chosen, {
-      delimiter: Number(checkedOf('register-delimiter')), sealed: byId('register-sealed').checked,
-      ...(files.length ? { files } : {}),
-    });
-    if (step(started, now()).notice === 'nothingChosen') byId('register-files').focus();
+    step(started, now());
   });
   byId('register-stop').addEventListener('click', () => step(stopped));
-}
-
-function drawFiles(files) {
-  byId('register-chosen').replaceChildren(...chosenFiles(files).map((words) => element('li', words)));
-  // A field that was drawn anew has none.
-  const field = byId('register-files');
-  if (files.length && !field.files.length) field.files = listOf(files);
 }
 
 function drawProgress(run) {
@@ -148,17 +127,12 @@ export function registersView(step, now) {
   takeForm(step, now);
   const drawColumns = whenChanged(columnTicks(byId('register-columns'), TARGETS, WORDS.noColumns,
     (columns) => step(chosen, { columns })));
-  const drawChosen = whenChanged(drawFiles);
-  const drawDelimiter = whenChanged((delimiter) => check('register-delimiter', delimiter));
-  const drawSealed = whenChanged((sealed) => { byId('register-sealed').checked = sealed; });
   const drawStatus = wordsIn('register-said');
   const drawResults = resultsView(byId('register-results'), step, now);
 
   return rested((state) => {
     const { choice } = state, run = shownRun(state);
-    drawChosen(choice.files);
-    drawDelimiter(choice.delimiter);
-    drawSealed(choice.sealed);
+    drawPart('register', choice.files.length > 0);
     drawColumns(choice.columns);
     drawRunning('register', isRunning(state));
     drawProgress(run);

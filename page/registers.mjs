@@ -1,4 +1,4 @@
-// Registers: which files are chosen and how they are to be read, what runs, and what came of it. Each step takes the
+// Registers: which files are chosen, what runs, and what came of it. Each step takes the
 // state and gives the next.
 
 import { DEFAULT_TARGETS } from './calendars.mjs';
@@ -16,13 +16,13 @@ const SMALL = 2 ** 20, SHARE = 64;
  * says how often it was converted before. `picture` holds what a picture of its table shows, once it was wanted. Of a run,
  * `opened` is the number of the register whose details are shown, and `archive` holds the archive of all whole tables,
  * once it was wanted.
- * @typedef {{ files: File[], delimiter: number, sealed: boolean, columns: string[] }} RegistersChoice
+ * @typedef {{ files: File[], columns: string[] }} RegistersChoice
  * @typedef {{ number: number, file: File, tries: number, slot: number, status: 'waits' | 'runs' | 'ended' | 'stopped',
  *   begun: number, reply: any, isSaved: boolean, picture: { reply: any } | null }} Job
  * @typedef {{ number: number, choice: RegistersChoice, begun: number, jobs: Job[], opened: number | null,
  *   archive: { reply: any } | null }} Run
- * @typedef {{ choice: RegistersChoice, atOnce: number, runs: number, run: Run | null, notice: string,
- *   folders: string[] }} RegistersState
+ * @typedef {{ choice: RegistersChoice, atOnce: number, runs: number, run: Run | null,
+ *   notice: string }} RegistersState
  */
 
 /**
@@ -30,8 +30,8 @@ const SMALL = 2 ** 20, SHARE = 64;
  * @returns {RegistersState}
  */
 export function initial(processors) {
-  const choice = { files: [], delimiter: 44, sealed: false, columns: [...DEFAULT_TARGETS] };
-  return { choice, atOnce: Math.max(1, Math.min(4, processors - 1)), runs: 0, run: null, notice: '', folders: [] };
+  const choice = { files: [], columns: [...DEFAULT_TARGETS] };
+  return { choice, atOnce: Math.max(1, Math.min(4, processors - 1)), runs: 0, run: null, notice: '' };
 }
 
 /** The run that is shown: none whose choices are others than those of now. */
@@ -40,14 +40,13 @@ export const shownRun = ({ choice, run }) => (run !== null && run.choice === cho
 export const isRunning = ({ run }) => run !== null && run.jobs.some((job) => ['waits', 'runs'].includes(job.status));
 
 /**
- * Files, a delimiter, the seal or columns are chosen, which a conversion that goes on forbids. Folders among what was
- * dropped are named, and left out.
+ * Files or columns are chosen, which a conversion that goes on forbids.
  * @param {RegistersState} state
  * @returns {RegistersState}
  */
-export function chosen(state, change, folders = []) {
+export function chosen(state, change) {
   if (isRunning(state)) return { ...state, notice: 'stopFirst' };
-  return { ...state, choice: { ...state.choice, ...change }, notice: '', folders };
+  return { ...state, choice: { ...state.choice, ...change }, notice: '' };
 }
 
 /** @returns {Job} */
@@ -83,7 +82,7 @@ function scheduled(state, now) {
 export function started(state, now) {
   if (isRunning(state)) return state;
   const { choice } = state, number = state.runs + 1;
-  if (choice.files.length === 0) return { ...state, notice: 'nothingChosen' };
+  if (choice.files.length === 0) return state;
   const jobs = choice.files.map((file, i) => waitingJob(file, i));
   const run = { number, choice, begun: now, jobs, opened: null, archive: null };
   return scheduled({ ...state, runs: number, run, notice: '' }, now);
@@ -154,8 +153,8 @@ const pictureKey = (run, job) => `picture ${keyOf(run, job)}`;
 
 function pictureTasks(run) {
   return run.jobs.filter(({ picture }) => picture !== null && picture.reply === null).map((job) => {
-    const { table, rows } = job.reply.answer, key = pictureKey(run, job);
-    return { key, worker: key, name: 'picture', words: { table, rows, delimiter: run.choice.delimiter } };
+    const { table, rows, delimiter } = job.reply.answer, key = pictureKey(run, job);
+    return { key, worker: key, name: 'picture', words: { table, rows, delimiter } };
   });
 }
 
@@ -173,11 +172,11 @@ function archiveTasks(run) {
 /** What workers are to be asked now: one for each register that runs, and one for the archive. */
 export function tasks({ run }) {
   if (run === null) return [];
-  const { delimiter, sealed, columns } = run.choice;
+  const { columns } = run.choice;
   return [...run.jobs.filter(({ status }) => status === 'runs').map((job) => {
     const { file, number, slot, tries } = job, key = keyOf(run, job), share = Math.floor(number / SHARE);
     const worker = file.size > SMALL ? key : `registers ${run.number} ${slot} ${share} ${tries}`;
-    return { key, worker, name: 'register', words: { file, delimiter, sealed, columns } };
+    return { key, worker, name: 'register', words: { file, columns } };
   }), ...archiveTasks(run), ...pictureTasks(run)];
 }
 

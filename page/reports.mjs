@@ -1,6 +1,7 @@
 // What is shown of registers and sheets, in words and rows, for the view to draw.
 
 import { choicesText, isColumn } from './choices.mjs';
+import { CHOICES, canBeOther } from './door.mjs';
 import { textOf } from './elements.mjs';
 import * as registers from './registers.mjs';
 import * as sheet from './sheet.mjs';
@@ -69,16 +70,47 @@ function endingReport(reply, most, encoding) {
   return brokenReport(words, WORDS.causeAdvice[ending]);
 }
 
-// ---- Registers ----
+// ---- What is given ----
 
-// More registers than these are told by their number.
-const NAMED = 10;
-
-/** The registers that are chosen. */
-export function chosenFiles(files) {
-  if (files.length <= NAMED) return files.map(({ name, size }) => WORDS.chosen(name, WORDS.bytes(size)));
-  return [WORDS.chosenFiles(files.length, WORDS.bytes(files.reduce((sum, { size }) => sum + size, 0)))];
+// What a file is, in words: of a register how it is written, and of a sheet its first line.
+function isWords({ kind, delimiter, sealed, firstLine }) {
+  if (kind === 'register') return WORDS.isRegister(sealed, WORDS.delimiters[delimiter]);
+  if (kind === 'sheet') return WORDS.isSheet(firstLine);
+  return WORDS.isKind[kind] || (kind === 'noReading' ? WORDS.causeAdvice[READ_FAULT] : WORDS[kind]);
 }
+
+// What a file can be taken for, with what it is where it looks so.
+const asChoices = ({ look }) => CHOICES.map((kind) => [kind, kind === look.kind ? isWords(look) : WORDS.isKind[kind]]);
+
+// What cannot be taken stands first, and registers last: they may be many.
+const ranks = (it) => (it.look.kind === 'register' ? 2 : Number(canBeOther(it) || it.look.kind === 'choices'));
+
+/** What was given, each in a row. */
+export function doorRows({ entries, open }) {
+  const sheets = entries.filter(({ as }) => ['sheet', 'tree'].includes(as));
+  return [...entries].sort((one, other) => ranks(one) - ranks(other)).map((it) => ({
+    number: it.number, name: WORDS.chosen(it.file.name, WORDS.bytes(it.file.size)), is: isWords(it.look), as: it.as,
+    choices: canBeOther(it) ? asChoices(it) : [], canOpen: sheets.length > 1 && sheets.includes(it), isOpen: it.number === open,
+  }));
+}
+
+/** How many sheets there are beside registers: they may be registers too, without their headers. */
+export function sheetsBeside({ entries }) {
+  const of = (kind) => entries.filter(({ as }) => as === kind).length;
+  return of('register') === 0 ? 0 : of('sheet');
+}
+
+/** The line below: how many files of each kind there are. */
+export function doorStatus({ entries, coming, folders, notice }) {
+  const kinds = [...CHOICES, 'choices'], of = (kind) => entries.filter(({ as }) => as === kind).length;
+  const counts = kinds.filter(of).map((kind) => WORDS.countOf[kind](of(kind)));
+  const others = entries.filter(({ as }) => !kinds.includes(as)).length;
+  const all = [...counts, ...(others ? [WORDS.countOf.others(others)] : [])].join(', ');
+  const words = notice ? WORDS[notice] || notice : coming !== null ? WORDS.looking : all && `${all}.`;
+  return folders.length ? [WORDS.folders(folders), ' ', words] : words;
+}
+
+// ---- Registers ----
 
 function jobWords({ status, begun }, now) {
   if (status === 'stopped') return WORDS.stopped;
@@ -235,10 +267,8 @@ function endedWords({ jobs }) {
   return WORDS.ended(whole, jobs.length - whole);
 }
 
-// What is told of folders that were dropped stands before it.
-const withFolders = ({ folders }, words) => (folders.length ? [WORDS.folders(folders), ' ', words] : words);
-
-function registersWords(state, now) {
+/** The line below the form. */
+export function registersStatus(state, now) {
   const run = registers.shownRun(state);
   if (state.notice) return WORDS[state.notice];
   if (run === null) return '';
@@ -248,9 +278,6 @@ function registersWords(state, now) {
   if (run.jobs.length === 1) return '';
   return WORDS.converting(ended, run.jobs.length, Math.round((now - run.begun) / 1000));
 }
-
-/** The line below the form. */
-export const registersStatus = (state, now) => withFolders(state, registersWords(state, now));
 
 // ---- Sheets ----
 
@@ -427,7 +454,8 @@ function runWords(state, run) {
 
 const isFault = (reply) => reply !== null && (Boolean(reply.fault) || reply.answer.ending !== 0);
 
-function sheetWords(state) {
+/** The line below the form. */
+export function sheetStatus(state) {
   const run = sheet.shownRun(state);
   if (state.notice) return WORDS[state.notice];
   if (state.source.file === null) return '';
@@ -438,5 +466,3 @@ function sheetWords(state) {
   return failed ? sheetFault(failed, encodingOf(state)) : readingWords(state);
 }
 
-/** The line below the form. */
-export const sheetStatus = (state) => withFolders(state, sheetWords(state));

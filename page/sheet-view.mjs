@@ -3,8 +3,8 @@
 import { BESIDE, CALENDARS } from './calendars.mjs';
 import { MOST_DATES } from './choices.mjs';
 import {
-  byId, check, clear, columnTicks, drawReport, drawRunning, element, onCheck, option, saveBlob, setText, tableBox,
-  takeFiles, takePaste, textOf, whenChanged, withFocus, wordsIn,
+  byId, check, clear, columnTicks, drawPart, drawReport, drawRunning, element, onCheck, option, saveBlob, setText, tableBox,
+  textOf, whenChanged, withFocus, wordsIn,
 } from './elements.mjs';
 import { pictureBox } from './picture-view.mjs';
 import {
@@ -12,8 +12,7 @@ import {
   sheetTitles,
 } from './reports.mjs';
 import {
-  beginning, columnsChosen, dateAdded, datePicked, dateRemoved, filesChosen, isRunning, missing, namePicked, pasted,
-  picked, pictureWanted, registerWanted, saved, shownPreview, shownRun, shownUnknown, sourceChosen, started, stopped,
+  beginning, columnsChosen, dateAdded, datePicked, dateRemoved, isRunning, missing, namePicked, picked, pictureWanted, registerWanted, saved, shownPreview, shownRun, shownUnknown, sourceChosen, started, stopped,
 } from './sheet.mjs';
 import { WORDS } from './language.mjs';
 
@@ -148,14 +147,6 @@ function takeSource(step) {
   byId('sheet-above').addEventListener('change', ({ target }) => {
     if (target.validity.valid && target.value !== '') step(sourceChosen, { above: Number(target.value) });
   });
-  takeFiles(byId('sheet-file'), (target) => byId('sheet-part').contains(target), (files, folders) => {
-    byId('sheet-box').open = true;
-    step(filesChosen, files, folders);
-  });
-  takePaste(byId('sheet-paste'), (text) => {
-    byId('sheet-file').value = '';
-    step(pasted, text);
-  });
 }
 
 function takeRules(step) {
@@ -176,8 +167,6 @@ function takeForm(step) {
     if (state.notice === 'chooseDates') byId(`sheet-${first.which}-${first.place}`).focus();
   });
   byId('sheet-stop').addEventListener('click', () => step(stopped));
-  const toSheet = document.querySelector('nav a[href="#sheet-part"]');
-  toSheet.addEventListener('click', () => { byId('sheet-box').open = true; });
 }
 
 // ---- What is drawn of the state ----
@@ -284,6 +273,7 @@ export function sheetView(step) {
   const drawOfSource = whenChanged(drawSource), drawChoices = choicesView(step), drawResult = resultView(step);
   return (state) => {
     now = state;
+    drawPart('sheet', state.source.file !== null || state.kept !== null);
     drawOfSource(state.source);
     drawChosen(sheetChosen(state));
     drawFit(sheetFit(state));

@@ -7,25 +7,23 @@ import { WORDS } from './language.mjs';
 
 // A file that is larger is not read.
 export const MOST_BYTES = 2 ** 28;
-// What stands between the fields of cells that are copied from a spreadsheet.
-const TAB = 9;
 
 /**
- * An encoding, a delimiter or a number of records above the names that is null is proposed when the sheet is read;
+ * An encoding, a delimiter or a number of records above the names that is null is proposed when the sheet is read, and so
+ * is whether it is a family tree;
  * `proposed` has what was for this file. `kept` has choices of an earlier sheet, and null in them until their file is
  * read, and `isFilled` once they were filled in; `fit` says what of them did not fit. `listed` has the names that are not
  * known, and those that have a meaning of the user's own; a count is null while it is not known. A result of `picks`,
  * `columns` or `source` holds what it came from.
  * @typedef {import('./choices.mjs').Picks} Picks
  * @typedef {{ encoding: string | null, delimiter: number | null, above: number | null }} Proposed
- * @typedef {{ file: File | null } & Proposed} Source
+ * @typedef {{ file: File | null, isTree: boolean | null } & Proposed} Source
  * @typedef {{ source: Source, picks: Picks, columns: string[], status: 'runs' | 'ended' | 'stopped', key: string,
  *   reply: any, isSaved: boolean, registers: Record<number, { reply: any }>, pictures: Record<number, { reply: any }> }} Run
  * @typedef {{ name: string, where: string, count: number | null }} Listed
  * @typedef {{ source: Source, proposed: Proposed, kept: { file: File, choices: any, isFilled: boolean } | null,
  *   fit: { absent: string[], other: string[] } | null, reading: number, begins: any, picks: Picks, columns: string[],
- *   unknown: any, listed: Listed[], preview: any, run: Run | null, runs: number, worker: number, notice: string,
- *   folders: string[] }} SheetState
+ *   unknown: any, listed: Listed[], preview: any, run: Run | null, runs: number, worker: number, notice: string }} SheetState
  */
 
 /** @type {Proposed} */
@@ -34,9 +32,9 @@ const NOTHING = { encoding: null, delimiter: null, above: null };
 /** @returns {SheetState} */
 export function initial() {
   return {
-    source: { file: null, encoding: 'utf-8', delimiter: 44, above: 0 }, proposed: NOTHING, kept: null, fit: null,
+    source: { file: null, isTree: null, encoding: 'utf-8', delimiter: 44, above: 0 }, proposed: NOTHING, kept: null, fit: null,
     reading: 0, begins: null, picks: noPicks(), columns: ['weekday', 'gregorian'], unknown: null, listed: [],
-    preview: null, run: null, runs: 0, worker: 0, notice: '', folders: [],
+    preview: null, run: null, runs: 0, worker: 0, notice: '',
   };
 }
 
@@ -61,33 +59,35 @@ export function sourceChosen(state, change) {
   return 'above' in change ? { ...state, source, begins: null, fit: null, notice: '' } : readAnew(state, source);
 }
 
-const areChoices = ({ name }) => /\.json$/i.test(name);
-
-/**
- * Files are chosen: a sheet, or choices that were kept, or both. For another file what it looks like is proposed anew,
- * unless it comes with it. Choices alone are for the sheet that is there, or else for the next one.
- * @param {SheetState} state
- * @returns {SheetState}
- */
-export function filesChosen(state, files, folders = [], looks = NOTHING) {
-  if (isRunning(state)) return { ...state, notice: 'stopFirst' };
-  const chosen = files.find(areChoices), [sheet, ...others] = files.filter((file) => !areChoices(file));
-  const { source, kept } = state, file = sheet || (chosen ? source.file : null);
-  const waiting = source.file === null ? kept : null;
-  const next = readAnew({ ...state, picks: noPicks(), listed: [] }, { file, ...looks });
-  return {
-    ...next, proposed: NOTHING, kept: chosen ? { file: chosen, choices: null, isFilled: false } : waiting, folders,
-    notice: others.length ? 'oneSheet' : '',
-  };
+// What is chosen of the columns is chosen again, for this file.
+function chosenAnew(state, source, kept) {
+  const next = readAnew({ ...state, picks: noPicks(), listed: [] }, source);
+  return { ...next, proposed: NOTHING, kept };
 }
 
 /**
- * Cells of a spreadsheet are pasted, with tabs between them: they are the sheet, as a file with this text would be.
+ * A sheet or a family tree is chosen, as it is given; or none. What it looks like is proposed anew, unless it comes with it.
+ * Choices that wait for a sheet are for it.
  * @param {SheetState} state
  * @returns {SheetState}
  */
-export function pasted(state, text) {
-  return filesChosen(state, [new File([text], WORDS.pasted)], [], { encoding: 'utf-8', delimiter: TAB, above: null });
+export function fileChosen(state, given) {
+  if (isRunning(state)) return { ...state, notice: 'stopFirst' };
+  const { file, as, proposed } = given || { file: null, as: 'sheet', proposed: null };
+  const source = { file, isTree: as === undefined ? null : as === 'tree', ...(proposed || NOTHING) };
+  return chosenAnew(state, source, state.source.file === null ? state.kept : null);
+}
+
+/**
+ * Choices that were kept are chosen: for the sheet that is there, or else for the next one.
+ * @param {SheetState} state
+ * @param {File} file
+ * @returns {SheetState}
+ */
+export function choicesChosen(state, file) {
+  if (isRunning(state)) return { ...state, notice: 'stopFirst' };
+  const { source } = state, own = { file: source.file, isTree: source.isTree, ...NOTHING };
+  return chosenAnew(state, own, { file, choices: null, isFilled: false });
 }
 
 // ---- What is chosen: the columns and their dates ----

@@ -15,14 +15,14 @@ class SheetTrials:
 
     def dropped_sheet(self):
         return self.page.run(
-            "const it = document.querySelector('#sheet-file'), rows = document.querySelector('#sheet-rows table');"
-            "return [it.files.length ? it.files[0].name : null, Boolean(rows)]"
+            "const it = document.querySelector('#sheet-chosen'), rows = document.querySelector('#sheet-rows table');"
+            "return [it.innerText.split(',')[0], Boolean(rows)]"
         )
 
     def choose_sheet(self, *files):
-        """Chooses files in the field of the sheet, with nothing else."""
-        self.page.run("document.querySelector('#sheet-box').open = true; document.querySelector('#sheet-file').value = ''")
-        self.page.keys("#sheet-file", "\n".join(files))
+        """Gives files, of which none is taken for a register."""
+        self.give(*files)
+        self.take("register", "sheet", *files)
 
     def wait_for_sheet(self):
         wait_for("the sheet", lambda: "under the names" in self.text("#sheet-said"))
@@ -309,19 +309,18 @@ class SheetTrials:
         self.check("the next sheet", re.compile("1\tjulian\t1707-5-3"), self.text("#sheet-register"))
         self.check("its columns", re.compile("weekday\tgregorian\thebrew\trefusal"), self.text("#sheet-register"))
         self.choose_sheet(self.file("none.json", "{}"))
-        wait_for("choices that are none", lambda: "is none that this page saved" in self.text("#sheet-said"))
+        self.check("choices that are none", re.compile("none.json, 2 bytes: .*is none that this page saved"), self.text("#files-list"))
         self.check("the sheet stays", re.compile("^next.csv"), self.text("#sheet-chosen"))
         self.page.go(self.address)
 
     def try_proposals(self):
         """What a sheet looks like is chosen and said; a choice of one's own stays."""
         self.page.go(self.address)
-        self.page.run("document.querySelector('#sheet-box').open = true")
         chosen = (
             "return [document.querySelector('#sheet-encoding').value,"
             "document.querySelector('input[name=sheet-delimiter]:checked').value]"
         )
-        self.page.keys("#sheet-file", self.file("a.txt", "Nr;Müller\n1;2\n".encode("windows-1252")))
+        self.give(self.file("a.txt", "Nr;Müller\n1;2\n".encode("windows-1252")))
         wait_for("the sheet", lambda: "1 record of 2 columns" in self.text("#sheet-said"))
         self.check("what is proposed", ["windows-1252", "59"], self.page.run(chosen))
         wanted = "a.txt, 14 bytes. Looks like semicolons, Western Europe (Windows-1252)."
@@ -332,8 +331,7 @@ class SheetTrials:
         wait_for("another delimiter", lambda: "1 record of 1 column " in self.text("#sheet-said"))
         self.check("a choice of one's own", ["windows-1250", "9"], self.page.run(chosen))
         self.check("nothing is said of it", "a.txt, 14 bytes.", self.text("#sheet-chosen"))
-        self.page.run("document.querySelector('#sheet-file').value = ''")
-        self.page.keys("#sheet-file", f"{ROOT}/page/book.csv")
+        self.give(f"{ROOT}/page/book.csv")
         wait_for("the next sheet", lambda: "4 records of 5 columns" in self.text("#sheet-said"))
         self.check("what is proposed for the next", ["utf-8", "59"], self.page.run(chosen))
         self.page.go(self.address)
@@ -346,7 +344,7 @@ class SheetTrials:
             text,
         )
         self.page.press("\ue009", "c")
-        self.page.run("document.querySelector('#copied').remove(); document.querySelector('#sheet-paste').focus()")
+        self.page.run("document.querySelector('#copied').remove(); document.querySelector('#paste').focus()")
         self.page.press("\ue009", "v")
 
     def try_paste(self):
@@ -357,8 +355,8 @@ class SheetTrials:
         wait_for("the pasted cells", lambda: "1 record of 2 columns" in self.text("#sheet-said"))
         self.check("what was pasted is chosen", "pasted.csv, 22 bytes.", self.text("#sheet-chosen"))
         shown = self.page.run(
-            "const of = (id) => document.querySelector(`#sheet-${id}`);"
-            "return [of('paste').value, of('file').files.length, of('encoding').value,"
+            "const of = (id) => document.querySelector(`#${id}`);"
+            "return [of('paste').value, of('files').files.length, of('sheet-encoding').value,"
             "document.querySelector('input[name=sheet-delimiter]:checked').value]"
         )
         self.check("the fields beside it", ["", 0, "utf-8", "9"], shown)
@@ -368,7 +366,7 @@ class SheetTrials:
         self.page.run(
             "const value = new DataTransfer(); value.setData('text/plain', arguments[0]);"
             "const event = Object.defineProperty(new Event('paste', { cancelable: true }), 'clipboardData', { value });"
-            "document.querySelector('#sheet-paste').dispatchEvent(event)",
+            "document.querySelector('#paste').dispatchEvent(event)",
             'Nr\tName\tDatum\r\n1\t"zwei\r\nZeilen"\t1699-11-30\r\n2\t"Müller, ""Hans"""\t1582-10-4\r\n',
         )
         wait_for("cells that are pasted again", lambda: "2 records of 3 columns" in self.text("#sheet-said"))
@@ -382,6 +380,6 @@ class SheetTrials:
         )
         saved = self.save("#sheet-results", 1).get("pasted.dates.csv", b"").decode()
         self.check("nothing is lost of pasted cells", wanted, saved)
-        self.page.keys("#sheet-file", f"{ROOT}/page/book.csv")
+        self.give(f"{ROOT}/page/book.csv")
         wait_for("a file behind pasted cells", lambda: "book.csv" in self.text("#sheet-chosen"))
         self.page.go(self.address)

@@ -119,21 +119,44 @@ export const WORDS = {
       '`1945-11-K3` ist der 30. Oktober. `1944-3-K6B` ist der 25. Februar eines Schaltjahres. Beide sind julianisch.',
   },
 
-  // ---- A register ----
-  register: 'Ein Register',
-  registerIs: 'Eine CSV-Datei in UTF-8 mit der Kopfzeile `id,calendar,date` und in jedem weiteren Eintrag einer ' +
-    'eigenen Kennung, dem Namen eines Kalenders und einem Datum. Jede andere Tabelle ist ein Tabellenblatt: siehe unten.',
-  chooseRegisters: 'Register',
-  dropRegisters: 'Wählen Sie eine oder mehrere Dateien, oder ziehen Sie sie auf diese Seite.',
+  // ---- Files ----
+  files: 'Dateien',
+  filesAre: 'Tabellen, als CSV oder Text gespeicherte Arbeitsmappen, Stammbäume (GEDCOM) und eine gespeicherte Auswahl: die Seite ' +
+    'sieht nach, was jede ist.',
+  chooseFiles: 'Dateien',
+  dropFiles: 'Wählen Sie so viele, wie Sie wollen, oder ziehen Sie sie auf diese Seite.',
+  pasteCells: 'Oder Zellen einer Tabellenkalkulation',
+  pasteCellsIs: 'Kopieren Sie sie mit der Zeile der Namen, und fügen Sie sie hier ein.',
+  pasted: 'eingefuegt.csv',
+  takenFor: (name) => [name, ' gilt als'],
+  isRegister: (sealed, between) => `${sealed ? 'ein versiegeltes Register' : 'ein Register'}, zwischen den Feldern ${between}`,
+  isSheet: (line) => (line === '' ? 'ein Tabellenblatt' : ['ein Tabellenblatt, das mit „', own(line), '“ beginnt']),
+  isKind: { register: 'ein Register', sheet: 'ein Tabellenblatt', tree: 'ein Stammbaum', nothing: 'nichts: sie bleibt weg', choices:
+    'eine Auswahl für ein Tabellenblatt' },
+  countOf: {
+    register: (n) => `${WORDS.number(n)} Register`,
+    sheet: (n) => (n === 1 ? '1 Tabellenblatt' : `${WORDS.number(n)} Tabellenblätter`),
+    tree: (n) => (n === 1 ? '1 Stammbaum' : `${WORDS.number(n)} Stammbäume`),
+    nothing: (n) => `${WORDS.number(n)} weggelassen`,
+    choices: (n) => (n === 1 ? '1 Datei mit einer Auswahl' : `${WORDS.number(n)} Dateien mit einer Auswahl`),
+    others: (n) => (n === 1 ? '1, die nicht genommen werden kann' : `${WORDS.number(n)}, die nicht genommen werden können`),
+  },
+  workAt: 'Daran arbeiten',
+  takeSheets: (n) => (n === 1 ? 'Auch das Tabellenblatt als Register nehmen'
+    : `Auch die ${WORDS.number(n)} Tabellenblätter als Register nehmen`),
+  looking: 'Die Dateien werden angesehen.',
+
+  // ---- Registers ----
+  register: 'Register',
+  registerIs: 'Ein Register hat die Kopfzeile `id,calendar,date` und in jedem weiteren Eintrag eine Kennung, den Namen eines ' +
+    'Kalenders und ein Datum. Eines mit der Kopfzeile `id,calendar,date,note` ist versiegelt: es endet mit der Zeile `END,N` ' +
+    'für seine N Einträge, und eines, das ganze Einträge verlor, bricht ab; nur eines, das in einem Eintrag mit der Kennung ' +
+    '`END` abgeschnitten wurde, kann ganz aussehen.',
   delimiter: 'Zwischen zwei Feldern steht',
   comma: 'ein Komma',
   semicolon: 'ein Strichpunkt',
   tab: 'ein Tabulator',
   delimiters: { 44: 'Kommas', 59: 'Strichpunkte', 9: 'Tabulatoren' },
-  sealed: 'Die Register sind versiegelt',
-  sealedIs: 'Sie haben die Kopfzeile `id,calendar,date,note` und enden mit der Zeile `END,N` für ihre N Einträge. ' +
-    'Eines, das ganze Einträge verlor, bricht ab; nur eines, das in einem Eintrag mit der Kennung `END` ' +
-    'abgeschnitten wurde, kann ganz aussehen.',
   columns: 'Spalten der Tabelle',
   columnsIs: 'Sie kommen in der Folge, in der Sie sie ankreuzen.',
   all: 'Alle',
@@ -165,9 +188,7 @@ export const WORDS = {
   archiveName: (whole, all) => (whole < all ? `tabellen-${whole}-von-${all}.zip` : `tabellen-alle-${all}.zip`),
   archiveSays: (whole, all) => (whole === all ? `${all} Tabellen, alle ganz` : `die ${whole} ganzen Tabellen von ${all}`),
   archiveTooLarge: 'die Tabellen sind zu groß für ein Archiv; speichern Sie jede einzeln',
-  nothingChosen: 'Wählen Sie zuerst ein Register.',
   chosen: (name, size) => [own(name), `, ${size}`],
-  chosenFiles: (n, size) => `${WORDS.number(n)} Dateien, zusammen ${size}`,
   folders: (names) => ['Ein Ordner kann nicht genommen werden: ', own(names.join(', ')), '. Öffnen Sie ihn, und wählen Sie ' +
     'seine Dateien.'],
   stopFirst: 'Es wird gerade umgerechnet: Halten Sie das zuerst an.',
@@ -226,15 +247,15 @@ export const WORDS = {
     'oder teilen Sie die Datei',
   otherColumns: 'die Datei hat andere Spalten als bei der Wahl und ist neu gelesen: Wählen Sie sie noch einmal',
   workbook: 'die Datei ist kein Text, sondern eine Arbeitsmappe oder gepackt (.xlsx, .ods, .xls, .docx, .zip); ' +
-    'speichern Sie ihre Tabelle als CSV UTF-8, oder kopieren Sie ihre Zellen und fügen Sie sie in „Aus einem Tabellenblatt“ ' +
+    'speichern Sie ihre Tabelle als CSV UTF-8, oder kopieren Sie ihre Zellen und fügen Sie sie in „Dateien“ ' +
     'ein',
   database: 'die Datei ist kein Text, sondern eine Datenbank (SQLite); speichern Sie ihre Tabelle als CSV UTF-8, ' +
-    'oder kopieren Sie ihre Zellen und fügen Sie sie in „Aus einem Tabellenblatt“ ein',
+    'oder kopieren Sie ihre Zellen und fügen Sie sie in „Dateien“ ein',
   pdf: 'die Datei ist kein Text, sondern ein PDF; kopieren Sie ihre Tabelle in eine Tabellenkalkulation und ' +
-    'speichern Sie diese als CSV UTF-8, oder kopieren Sie ihre Zellen und fügen Sie sie in „Aus einem Tabellenblatt“ ein',
-  utf16: 'die Datei ist in UTF-16 geschrieben und ein Register in UTF-8; nehmen Sie sie unten als Tabellenblatt, oder ' +
+    'speichern Sie diese als CSV UTF-8, oder kopieren Sie ihre Zellen und fügen Sie sie in „Dateien“ ein',
+  utf16: 'die Datei ist in UTF-16 geschrieben und ein Register in UTF-8; nehmen Sie sie oben als Tabellenblatt, oder ' +
     'speichern Sie sie als CSV UTF-8',
-  tree: 'die Datei ist ein Stammbaum (GEDCOM); nehmen Sie sie unten als Tabellenblatt',
+  tree: 'die Datei ist ein Stammbaum (GEDCOM); nehmen Sie sie oben als Stammbaum',
   ansel: 'der Stammbaum ist in ANSEL geschrieben, was hier nicht gelesen wird; lassen Sie Ihr Programm ihn in UTF-8 ' +
     'speichern',
   fault: (why) => ['die Seite versagte (', own(why), ')'],
@@ -306,8 +327,7 @@ export const WORDS = {
     4: 'Die Tabelle braucht mehr Speicher, als es gibt: Wählen Sie weniger Spalten, oder teilen Sie das Register.',
     5: 'Es wurde seit der Wahl oder beim Lesen geändert, oder verschoben, oder ist ein Ordner: Wählen Sie es noch ' +
       'einmal.',
-    6: 'Steht ein anderes Zeichen zwischen seinen Feldern? Wählen Sie es oben. Hat es andere Spalten, eine ' +
-      'Titelzeile oder eine andere Kodierung? Nehmen Sie es unten als Tabellenblatt.',
+    6: 'Hat es andere Spalten, eine Titelzeile oder eine andere Codierung? Nehmen Sie es oben als Tabellenblatt.',
     7: 'Teilen Sie es, jeden Teil mit der Kopfzeile.',
     8: 'Vergleichen Sie es mit dem Original: Einträge können fehlen. Fehlen keine, so schreiben Sie das Siegel neu ' +
       'als letzte Zeile.',
@@ -320,16 +340,11 @@ export const WORDS = {
   },
 
   // ---- From a sheet ----
-  sheet: 'Aus einem Tabellenblatt',
+  sheet: 'Ein Tabellenblatt',
   sheetIs: 'Eine Tabelle, wie Sie sie führen, als CSV oder Text gespeichert oder aus einer Tabellenkalkulation ' +
     'kopiert. Sagen Sie, welche ihrer Spalten Daten haben, und Sie bekommen sie zurück, mit den gewünschten Spalten ' +
     'hinter den eigenen. Wie Daten in Worten gelesen werden, ist bewiesen; ob Ihre Wahl passt, sehen Sie daran, was ' +
     'die Seite vor dem Umrechnen zeigt.',
-  chooseSheet: 'Tabellenblatt',
-  dropSheet: 'Wählen Sie eine Datei, oder ziehen Sie sie hierher; eine gespeicherte Auswahl kann mitkommen.',
-  pasteSheet: 'Oder Zellen einer Tabellenkalkulation',
-  pasteSheetIs: 'Kopieren Sie sie mit der Zeile der Namen, und fügen Sie sie hier ein.',
-  pasted: 'eingefuegt.csv',
   encoding: 'Kodierung',
   encodingIs: 'Sind Buchstaben mit Akzenten unten falsch? Wählen Sie eine andere.',
   above: 'Zeilen über den Namen',
@@ -444,7 +459,6 @@ export const WORDS = {
   choicesSuffix: '.auswahl.json',
   noChoices: 'Die Datei mit der Auswahl ist keine, die diese Seite gespeichert hat.',
   choicesWait: 'Die Auswahl ist da. Wählen Sie das Tabellenblatt, für das sie ist.',
-  oneSheet: 'Ein Tabellenblatt auf einmal: das erste wurde genommen.',
   filledIn: (name) => ['Die Auswahl von ', own(name), ' ist eingetragen.'],
   notFitting: (name, what) => ['Die Auswahl von ', own(name), ' ist eingetragen, bis auf das, was nicht passt: ',
     what.flatMap((it, i) => (i === 0 ? [it] : [', ', it])), '.'],

@@ -115,20 +115,42 @@ export const WORDS = {
       '`1945-11-K3` is 30 October. `1944-3-K6B` is 25 February of a leap year. Both are Julian.',
   },
 
-  // ---- A register ----
-  register: 'A register',
-  registerIs: 'A CSV file in UTF-8 with the header `id,calendar,date`, and in each further record an id of your own, ' +
-    'the name of a calendar, and a date. Another kind of table is a sheet: see below.',
-  chooseRegisters: 'Registers',
-  dropRegisters: 'Choose one or more files, or drop them on this page.',
+  // ---- Files ----
+  files: 'Files',
+  filesAre: 'Tables, workbooks saved as CSV or text, family trees (GEDCOM) and choices that you saved: the page looks what each ' +
+    'is.',
+  chooseFiles: 'Files',
+  dropFiles: 'Choose as many as you like, or drop them on this page.',
+  pasteCells: 'Or cells of a spreadsheet',
+  pasteCellsIs: 'Copy them, with the line that has the names, and paste them here.',
+  pasted: 'pasted.csv',
+  takenFor: (name) => [name, ' is taken for'],
+  isRegister: (sealed, between) => `${sealed ? 'a sealed register' : 'a register'} with ${between}`,
+  isSheet: (line) => (line === '' ? 'a sheet' : ['a sheet, which begins with “', own(line), '”']),
+  isKind: { register: 'a register', sheet: 'a sheet', tree: 'a family tree', nothing: 'nothing: it is left out', choices:
+    'choices for a sheet' },
+  countOf: {
+    register: (n) => (n === 1 ? '1 register' : `${WORDS.number(n)} registers`),
+    sheet: (n) => (n === 1 ? '1 sheet' : `${WORDS.number(n)} sheets`),
+    tree: (n) => (n === 1 ? '1 family tree' : `${WORDS.number(n)} family trees`),
+    nothing: (n) => `${WORDS.number(n)} left out`,
+    choices: (n) => (n === 1 ? '1 file of choices' : `${WORDS.number(n)} files of choices`),
+    others: (n) => `${WORDS.number(n)} that cannot be taken`,
+  },
+  workAt: 'Work at it',
+  takeSheets: (n) => (n === 1 ? 'Take the sheet for a register too' : `Take the ${WORDS.number(n)} sheets for registers too`),
+  looking: 'The files are being looked at.',
+
+  // ---- Registers ----
+  register: 'Registers',
+  registerIs: 'A register has the header `id,calendar,date`, and in each further record an id, the name of a calendar, and a ' +
+    'date. One with the header `id,calendar,date,note` is sealed: it ends with the line `END,N` for its N records, and one ' +
+    'that lost whole records breaks off; only one that was cut inside of a record with the id `END` can look whole.',
   delimiter: 'Between two fields stands',
   comma: 'a comma',
   semicolon: 'a semicolon',
   tab: 'a tab',
   delimiters: { 44: 'commas', 59: 'semicolons', 9: 'tabs' },
-  sealed: 'The registers are sealed',
-  sealedIs: 'They have the header `id,calendar,date,note`, and end with the line `END,N` for their N records. One ' +
-    'that lost whole records breaks off; only one that was cut inside of a record with the id `END` can look whole.',
   columns: 'Columns of the table',
   columnsIs: 'They come in the order in which you tick them.',
   all: 'All',
@@ -158,9 +180,7 @@ export const WORDS = {
   // In ASCII.
   archiveSays: (whole, all) => (whole === all ? `${all} tables, all whole` : `the ${whole} whole tables of ${all}`),
   archiveTooLarge: 'the tables are too large for an archive; save each alone',
-  nothingChosen: 'Choose a register first.',
   chosen: (name, size) => [own(name), `, ${size}`],
-  chosenFiles: (n, size) => `${WORDS.number(n)} files, ${size} in all`,
   folders: (names) => ['A folder cannot be taken: ', own(names.join(', ')), '. Open it, and choose its files.'],
   stopFirst: 'A conversion goes on: stop it first.',
   bytes: (n) => {
@@ -216,14 +236,14 @@ export const WORDS = {
   noMemory: 'memory ran out; close other pages or programs and try again, or split the file',
   otherColumns: 'the file has other columns than when it was chosen, so it is read anew: choose them again',
   workbook: 'the file is no text but a workbook or a packed file (.xlsx, .ods, .xls, .docx, .zip); save its table as ' +
-    'CSV UTF-8, or copy its cells and paste them in “From a sheet”',
+    'CSV UTF-8, or copy its cells and paste them in “Files”',
   database: 'the file is no text but a database (SQLite); save its table as CSV UTF-8, or copy its cells and paste ' +
-    'them in “From a sheet”',
+    'them in “Files”',
   pdf: 'the file is no text but a PDF; copy its table into a spreadsheet and save that as CSV UTF-8, or copy its ' +
-    'cells and paste them in “From a sheet”',
-  utf16: 'the file is written in UTF-16, and a register in UTF-8; take it in as a sheet, below, or save it as CSV ' +
+    'cells and paste them in “Files”',
+  utf16: 'the file is written in UTF-16, and a register in UTF-8; take it for a sheet, above, or save it as CSV ' +
     'UTF-8',
-  tree: 'the file is a family tree (GEDCOM); take it in as a sheet, below',
+  tree: 'the file is a family tree (GEDCOM); take it for one, above',
   ansel: 'the family tree is written in ANSEL, which cannot be read here; let your program save it in UTF-8',
   fault: (why) => ['the page failed (', own(why), ')'],
 
@@ -254,9 +274,9 @@ export const WORDS = {
   // The reason of each refusal, from 1, and what to do on this page.
   refusals: FACTS.refusals.map(({ number, sentence }) => sentence + (OF_REFUSALS[number] || '')),
   advice: [
-    'Put quotes round a field with a comma; or take the file in as a sheet, and choose its columns',
+    'Put quotes round a field with a comma; or take the file for a sheet, and choose its columns',
     'Give short ids, and keep what is longer in the sheet',
-    'Save the register as CSV UTF-8; or take it in as a sheet, in its encoding',
+    'Save the register as CSV UTF-8; or take it for a sheet, in its encoding',
     'Write one of the calendars of “One date”; a sheet can give each name a calendar',
     'Write year, month and day, as `1700-02-29`; a sheet can have the day first',
     'Look at the original: a slip, or a date of another calendar',
@@ -282,8 +302,7 @@ export const WORDS = {
     1: 'Close other pages or programs and try again, or split the register.',
     4: 'The table needs more memory than there is: choose fewer columns, or split the register.',
     5: 'It was changed since it was chosen, or while it was read, or was moved, or is a folder: choose it again.',
-    6: 'Does another sign stand between its fields? Choose it above. Has it other columns, a title line or another ' +
-      'encoding? Take it in as a sheet, below.',
+    6: 'Has it other columns, a title line or another encoding? Take it for a sheet, above.',
     7: 'Split it, each part with the header.',
     8: 'Compare it with the original: records may be lost. Where none are, write the seal anew as the last line.',
   },
@@ -295,15 +314,10 @@ export const WORDS = {
   },
 
   // ---- From a sheet ----
-  sheet: 'From a sheet',
+  sheet: 'A sheet',
   sheetIs: 'A table of your own, saved as CSV or text or copied from a spreadsheet. Say which of its columns have ' +
     'dates, and you get it back with the columns that you want behind its own. How dates in words are read is ' +
     'proved; whether your choices fit is for you to see, in what the page shows before you convert.',
-  chooseSheet: 'Sheet',
-  dropSheet: 'Choose one file, or drop it here; choices that you saved can come with it.',
-  pasteSheet: 'Or cells of a spreadsheet',
-  pasteSheetIs: 'Copy them, with the line that has the names, and paste them here.',
-  pasted: 'pasted.csv',
   encoding: 'Encoding',
   encodingIs: 'Are letters with accents wrong below? Choose another.',
   above: 'Lines above the names',
@@ -415,7 +429,6 @@ export const WORDS = {
   choicesSuffix: '.choices.json',
   noChoices: 'The file with choices is none that this page saved.',
   choicesWait: 'The choices are there. Choose the sheet that they are for.',
-  oneSheet: 'One sheet at a time: the first one was taken.',
   filledIn: (name) => ['The choices of ', own(name), ' are filled in.'],
   notFitting: (name, what) => ['The choices of ', own(name), ' are filled in, but for what does not fit: ',
     what.flatMap((it, i) => (i === 0 ? [it] : [', ', it])), '.'],

@@ -7,7 +7,7 @@ import { ChangedFile, NoReading, checkUnchanged, readFile } from './files.mjs';
 import { formulasAmong, mayHaveFormula } from './formulas.mjs';
 import { NoMemory, expectedLength, instantiate } from './module.mjs';
 import {
-  isAnsel, isDelimiterOf, isTree, kindOf, likelyAbove, likelyDelimiter, likelyEncodings, markedEncoding,
+  isAnsel, isDelimiterOf, isJson, isObject, isTree, kindOf, likelyAbove, likelyDelimiter, likelyEncodings, markedEncoding,
 } from './proposals.mjs';
 import { EVERY, LOOKED_AT, REFUSED_SHOWN, SHOWN, Table, range, rowsOf } from './tables.mjs';
 import { timelineOf } from './timeline.mjs';
@@ -21,8 +21,10 @@ const MOST_COLUMNS = 200, MOST_NAMES = 200;
 // Columns of the first records that are shown converted; more bytes than a file of choices has; how much of a text is
 // looked at for what is proposed.
 const MOST_CUT = 1000, MOST_CHOICES = 1e6, FRONT = 2 ** 16;
-// The cause of a register without its header; how much is shown of its first line, in letters.
-const NO_HEADER = 6, LINE_SHOWN = 100;
+// The cause of a register without its header; how long one may be, in bytes; how much is shown of a first line, in letters.
+const NO_HEADER = 6, HEADER = 256, LINE_SHOWN = 100;
+// How registers can be written.
+const FORMS = [false, true].flatMap((sealed) => [44, 59, 9].map((delimiter) => ({ delimiter, sealed })));
 // The byte of the digit 0; fields that are looked through at once.
 const DIGIT_0 = 48, FIELDS_AT_ONCE = 2 ** 22;
 
@@ -89,13 +91,42 @@ function formulasOf(module, text, table, delimiter, width, records) {
 }
 
 // A text's first line, as far as it is shown. What is no letter in it stands as the sign for that.
-function firstLineOf(module, text) {
-  const bytes = module.bytes({ ...text, length: Math.min(text.length, 4 * LINE_SHOWN) });
-  const [line] = new TextDecoder().decode(bytes).split(/[\r\n]/);
-  return line.slice(0, LINE_SHOWN).replace(/[\0-\x08\x0e-\x1f]/g, '\ufffd');
+const firstLineOf = (text) => text.split(/[\r\n]/, 1)[0].slice(0, LINE_SHOWN).replace(/[\0-\x08\x0e-\x1f]/g, '\ufffd');
+
+// How a register with this front is written, by its header, as the module reads it; or null where it has none.
+function formOf(module, bytes) {
+  const end = bytes.subarray(0, HEADER).findIndex((byte) => byte === 10 || byte === 13);
+  const header = module.put(end < 0 ? bytes.slice(0, HEADER) : bytes.slice(0, end + 1));
+  const isIt = (form) => module.convert(header, { columns: [], ...form }, HEADER).ending !== NO_HEADER;
+  const found = FORMS.find(isIt) || null;
+  module.free(header);
+  return found;
 }
 
-async function register({ compiled, file, delimiter, sealed, columns }) {
+// What a file looks like, by its first bytes and lines.
+async function lookOf(module, file) {
+  const bytes = await file.slice(0, FRONT).arrayBuffer().then((it) => new Uint8Array(it), () => null);
+  if (bytes === null) return { kind: 'noReading' };
+  const kind = kindOf(bytes), marked = markedEncoding(bytes);
+  if (kind !== null) return { kind };
+  const text = new TextDecoder(marked || 'utf-8').decode(bytes);
+  if (isTree(text)) return { kind: 'tree' };
+  if (isJson(file.name) || isObject(text)) {
+    if (file.size <= MOST_CHOICES && choicesOf(await file.text()) !== null) return { kind: 'choices' };
+    if (isJson(file.name)) return { kind: 'noChoices' };
+  }
+  const form = marked === null ? formOf(module, bytes) : null;
+  return form === null ? { kind: 'sheet', firstLine: firstLineOf(text) } : { kind: 'register', ...form };
+}
+
+/** What each of these files looks like. */
+async function looks({ compiled, files }) {
+  const module = await instantiate(compiled), found = [];
+  for (const file of files) found.push(await lookOf(module, file));
+  return { looks: found };
+}
+
+async function register({ compiled, file, columns }) {
   const module = await instantiate(compiled);
   const text = module.malloc(file.size);
   const bytesAt = (at, length) => module.bytes({ pointer: text.pointer + at, length });
@@ -106,10 +137,12 @@ async function register({ compiled, file, delimiter, sealed, columns }) {
   const bytes = bytesAt(0, text.length), kind = kindOf(bytes) || (markedEncoding(bytes) && 'utf16');
   if (kind !== null) throw new OtherKind(kind);
   if (isTree(frontOf(module, text))) throw new OtherKind('tree');
+  const { delimiter, sealed } = formOf(module, bytesAt(0, text.length)) || FORMS[0];
   const setup = { columns: numbersOf(columns), delimiter, sealed };
-  const answer = module.convert(text, setup, expectedLength(text.length, lines, columns.length));
+  const converted = module.convert(text, setup, expectedLength(text.length, lines, columns.length));
   await checkUnchanged(file, bytesAt);
-  if (answer.ending === NO_HEADER) return { ...answer, table: null, firstLine: firstLineOf(module, text) };
+  const answer = { ...converted, delimiter };
+  if (answer.ending === NO_HEADER) return { ...answer, table: null, firstLine: firstLineOf(frontOf(module, text)) };
   if (answer.table.length === 0) return { ...answer, table: null };
   const table = new Table(module, answer.table, delimiter);
   const first = table.firstRows(), refused = answer.ending === 0 && answer.refused === 0 ? null : table.refusedRows();
@@ -133,8 +166,8 @@ async function picture({ compiled, table, delimiter, rows }) {
 
 /**
  * What a sheet is read from: `number` is that of the reading. An encoding, a delimiter or a number of records above the
- * names that is null is to be proposed, by `kept` choices where they fit.
- * @typedef {{ compiled: WebAssembly.Module, number: number, file: File, encoding: string | null,
+ * names that is null is to be proposed, by `kept` choices where they fit, and so is whether it is a family tree.
+ * @typedef {{ compiled: WebAssembly.Module, number: number, file: File, isTree?: boolean | null, encoding: string | null,
  *   delimiter: number | null, above: number | null, kept: any }} Source
  */
 
@@ -215,7 +248,7 @@ async function readSheet({ compiled, number, file, encoding: chosen, ...source }
   const kind = kindOf(read.bytesAt(0, read.raw.length));
   if (kind !== null) throw new OtherKind(kind);
   const { encoding, text: own } = textOf(module, read, chosen, source.kept), beginning = frontOf(module, own);
-  const isOfTree = isTree(beginning);
+  const isOfTree = source.isTree ?? isTree(beginning);
   if (isOfTree && !read.isAscii && isAnsel(beginning)) throw new OtherKind('ansel');
   const text = isOfTree ? module.treeDates(own) : own, front = isOfTree ? frontOf(module, text) : beginning;
   const delimiter = isOfTree ? COMMA : delimiterOf(front, source);
@@ -415,7 +448,7 @@ async function sheetPicture(words) {
 }
 
 const TASKS = {
-  date, register, archive, picture, choices, beginning, unknownNames, preview, convertSheet, sheetRegister, sheetPicture,
+  date, looks, register, archive, picture, choices, beginning, unknownNames, preview, convertSheet, sheetRegister, sheetPicture,
 };
 
 function faultOf(fault) {

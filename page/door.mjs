@@ -1,0 +1,154 @@
+// What is given to the page: files and pasted cells, each with what it looks like and what it is taken for. Each step takes
+// the state and gives the next.
+
+import { WORDS } from './language.mjs';
+
+/** What a file can be taken for, whatever it looks like; as nothing it is left out. */
+export const CHOICES = ['register', 'sheet', 'tree', 'nothing'];
+// What stands between the fields of cells that are copied from a spreadsheet.
+const TAB = 9;
+
+/**
+ * A look says the kind of a file, of a register also its delimiter and whether it is sealed, and of a sheet its first line.
+ * `proposed` is how pasted cells are to be read. `coming` has what was given and is not told yet: its looks are null until
+ * they are known. `open` is the number of the sheet or family tree that is worked at.
+ * @typedef {{ kind: string, delimiter?: number, sealed?: boolean, firstLine?: string }} Look
+ * @typedef {{ file: File, proposed: any }} Given
+ * @typedef {Given & { number: number, look: Look, as: string }} Entry
+ * @typedef {{ entries: Entry[], coming: { given: Given[], looks: Look[] | null } | null, asked: number, open: number | null,
+ *   folders: string[], notice: string }} DoorState
+ */
+
+/** @returns {DoorState} */
+export const initial = () => ({ entries: [], coming: null, asked: 0, open: null, folders: [], notice: '' });
+
+/**
+ * Something is given. What was given before and is not told yet is told with it.
+ * @param {DoorState} state
+ * @param {Given[]} given
+ * @returns {DoorState}
+ */
+function given(state, given, folders = []) {
+  const before = state.coming === null ? [] : state.coming.given;
+  const coming = given.length ? { given: [...before, ...given], looks: null } : state.coming;
+  return { ...state, coming, asked: state.asked + 1, folders, notice: '' };
+}
+
+/**
+ * Files are chosen. Folders among what was dropped are named, and left out.
+ * @param {DoorState} state
+ * @param {File[]} files
+ */
+export const chosen = (state, files, folders = []) =>
+  given(state, files.map((file) => ({ file, proposed: null })), folders);
+
+/**
+ * Cells of a spreadsheet are pasted, with tabs between them: they are as a file with this text would be.
+ * @param {DoorState} state
+ */
+export const pasted = (state, text) =>
+  given(state, [{ file: new File([text], WORDS.pasted), proposed: { encoding: 'utf-8', delimiter: TAB, above: null } }]);
+
+export const canBeOther = ({ look }) => CHOICES.includes(look.kind);
+const isOfSheet = ({ as }) => as === 'sheet' || as === 'tree';
+
+// The part of the page that an entry is for. One that is left out stands beside those that look like it.
+function partOf({ look, as }) {
+  const kind = as === 'nothing' ? look.kind : as;
+  return kind === 'tree' ? 'sheet' : kind;
+}
+
+// The sheet that is worked at stays so; else it is the first one.
+function withOpen(state) {
+  const sheets = state.entries.filter(isOfSheet);
+  if (sheets.some(({ number }) => number === state.open)) return state;
+  return { ...state, open: sheets.length ? sheets[0].number : null };
+}
+
+/**
+ * What came is told: it takes the place of what was there for the same part of the page, and of what cannot be taken.
+ * @param {DoorState} state
+ * @returns {DoorState}
+ */
+export function arrived(state) {
+  const { entries, coming, asked } = state;
+  const added = coming.given.map((it, i) => ({ ...it, number: asked * 1e6 + i, look: coming.looks[i], as: coming.looks[i].kind }));
+  const parts = added.map(partOf);
+  const stay = entries.filter((it) => (canBeOther(it) || it.as === 'choices') && !parts.includes(partOf(it)));
+  return withOpen({ ...state, entries: [...stay, ...added], coming: null });
+}
+
+/** Whether what came can be told. */
+export const hasArrived = ({ coming }) => coming !== null && coming.looks !== null;
+
+/**
+ * Nothing is told any more, but perhaps why nothing is given now.
+ * @param {DoorState} state
+ * @returns {DoorState}
+ */
+export const noticed = (state, notice) => ({ ...state, folders: [], notice });
+
+/**
+ * A file is taken for something else than it looks like, or for nothing.
+ * @param {DoorState} state
+ */
+export function taken(state, number, as) {
+  const entries = state.entries.map((it) => (it.number === number ? { ...it, as } : it));
+  return withOpen({ ...noticed(state, ''), entries });
+}
+
+/**
+ * All sheets are taken for registers, as where one of many lacks its header.
+ * @param {DoorState} state
+ */
+export function sheetsTaken(state) {
+  const entries = state.entries.map((it) => (it.as === 'sheet' ? { ...it, as: 'register' } : it));
+  return withOpen({ ...noticed(state, ''), entries });
+}
+
+/**
+ * Another sheet is worked at.
+ * @param {DoorState} state
+ * @returns {DoorState}
+ */
+export const opened = (state, number) => ({ ...noticed(state, ''), open: number });
+
+/**
+ * Files of registers are others now, in the same order: one was chosen in place of a broken one.
+ * @param {DoorState} state
+ * @param {File[]} files
+ */
+export function followed(state, files) {
+  const before = state.entries.filter(({ as }) => as === 'register');
+  const fileOf = (it) => files[before.indexOf(it)] || it.file;
+  return { ...state, entries: state.entries.map((it) => (it.file === fileOf(it) ? it : { ...it, file: fileOf(it) })) };
+}
+
+/** What there is for each part of the page: registers, the sheet that is worked at, and choices for it. */
+export function partsOf({ entries, open }) {
+  const last = (isIt) => entries.filter(isIt).pop() || null;
+  return {
+    registers: entries.filter(({ as }) => as === 'register').map(({ file }) => file),
+    sheet: last(({ number }) => number === open), choices: last(({ as }) => as === 'choices'),
+  };
+}
+
+const keyOf = ({ asked }) => `door ${asked}`;
+
+/** What a worker is to be asked now. */
+export function tasks(state) {
+  const { coming } = state;
+  if (coming === null || coming.looks !== null) return [];
+  return [{ key: keyOf(state), worker: 'date', name: 'looks', words: { files: coming.given.map(({ file }) => file) } }];
+}
+
+/**
+ * An answer came. That to an older question is dropped.
+ * @param {DoorState} state
+ * @returns {DoorState}
+ */
+export function replied(state, key, { answer, fault, why }) {
+  if (key !== keyOf(state) || tasks(state).length === 0) return state;
+  if (fault) return { ...state, coming: null, notice: fault === 'fault' ? WORDS.fault(why) : WORDS[fault] };
+  return { ...state, coming: { ...state.coming, looks: answer.looks } };
+}

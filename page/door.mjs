@@ -7,6 +7,8 @@ import { WORDS } from './language.mjs';
 export const CHOICES = ['register', 'sheet', 'tree', 'nothing'];
 // What stands between the fields of cells that are copied from a spreadsheet.
 const TAB = 9;
+// More files than can be given at once.
+const MOST_FILES = 1e6;
 
 /**
  * A look says the kind of a file, of a register also its delimiter and whether it is sealed, and of a sheet its first line.
@@ -72,7 +74,10 @@ function withOpen(state) {
  */
 export function arrived(state) {
   const { entries, coming, asked } = state;
-  const added = coming.given.map((it, i) => ({ ...it, number: asked * 1e6 + i, look: coming.looks[i], as: coming.looks[i].kind }));
+  const added = coming.given.map((it, i) => {
+    const look = coming.looks[i];
+    return { ...it, number: asked * MOST_FILES + i, look, as: look.kind };
+  });
   const parts = added.map(partOf);
   const stay = entries.filter((it) => (canBeOther(it) || it.as === 'choices') && !parts.includes(partOf(it)));
   return withOpen({ ...state, entries: [...stay, ...added], coming: null });

@@ -12,7 +12,7 @@ export class ChangedFile extends Error {}
  * @param {Blob} file
  * @param {(at: number, piece: Uint8Array) => void} take
  */
-async function readPieces(file, take) {
+export async function readPieces(file, take) {
   const reader = file.stream().getReader();
   let at = 0;
   for (;;) {

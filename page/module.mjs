@@ -368,6 +368,15 @@ export class Module {
   }
 
   /**
+   * The numbers of entries, from 0, by their days. Those of the same day, and those without one, which stand at the end, are in
+   * the order in which they came.
+   * @param {Int32Array} days
+   */
+  dayOrder(days) {
+    return Uint32Array.from(days.keys()).sort((one, other) => days[one] - days[other] || one - other);
+  }
+
+  /**
    * The dates of a family tree in GEDCOM, as a sheet with commas.
    * @param {Part} tree
    */

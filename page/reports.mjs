@@ -394,13 +394,28 @@ function brokenSheet(reply, encoding) {
   return brokenReport(sheetFault(reply, encoding), isTooMany ? WORDS.splitSheet : '');
 }
 
+// The sheet in the order that is wanted, once it was made.
+const sortedAnswer = ({ sorted }) => sorted && sorted.reply && sorted.reply.answer;
+
+/** In what order the records of a sheet can be, what order is wanted, and what is said of it; or null. */
+export function sheetOrder(state) {
+  const run = sheet.shownRun(state);
+  if (run === null || run.status !== 'ended' || !run.reply.answer || run.reply.answer.ending !== 0) return null;
+  const { sorted } = run, byDays = dateNames(state).map((name, k) => [String(k), WORDS.byDayOf(name)]);
+  const choices = [['', WORDS.asItStands], ...byDays];
+  if (sorted === null) return { choices, chosen: '', words: '' };
+  const words = sorted.reply === null ? WORDS.sorting : sorted.reply.answer ? WORDS.sortedBy(dateNames(state)[sorted.place])
+    : sheetFault(sorted.reply, '');
+  return { choices, chosen: String(sorted.place), words };
+}
+
 /** What is shown of a conversion that ended, or null. */
 export function sheetReport(state) {
   const run = sheet.shownRun(state);
   if (run === null || run.status !== 'ended') return null;
   const title = run.source.file.name, { answer } = run.reply;
   if (!answer || answer.ending !== 0) return { title, ...brokenSheet(run.reply, encodingOf(state)) };
-  const { rows, refused, counts, first, table } = answer, names = dateNames(state);
+  const { rows, refused, counts } = answer, names = dateNames(state), { first, table } = sortedAnswer(run) || answer;
   const stem = stemOf(title), name = `${stem}${WORDS.sheetSuffix}`;
   const ofEach = names.map((it, k) => [it, refused[k]]);
   const words = names.length === 1 ? WORDS.whole(rows, refused[0]) : WORDS.wholeSheet(rows, ofEach);

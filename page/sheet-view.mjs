@@ -8,18 +8,19 @@ import {
 } from './elements.mjs';
 import { pictureBox } from './picture-view.mjs';
 import {
-  keptChoices, previewTables, sheetChosen, sheetCounts, sheetFit, sheetPictures, sheetReport, sheetStatus, sheetTable,
+  keptChoices, previewTables, sheetChosen, sheetCounts, sheetFit, sheetOrder, sheetPictures, sheetReport, sheetStatus, sheetTable,
   sheetTitles,
 } from './reports.mjs';
 import {
-  beginning, columnsChosen, dateAdded, datePicked, dateRemoved, isRunning, missing, namePicked, picked, pictureWanted, registerWanted, saved, shownPreview, shownRun, shownUnknown, sourceChosen, started, stopped,
+  beginning, columnsChosen, dateAdded, datePicked, dateRemoved, isRunning, missing, namePicked, picked, pictureWanted,
+  registerWanted, saved, shownPreview, shownRun, shownUnknown, sortWanted, sourceChosen, started, stopped,
 } from './sheet.mjs';
 import { WORDS } from './language.mjs';
 
 // What is added to short years, and what becomes of those of Hebrew dates.
 const CENTURIES = [...Array(20).keys()].map((i) => String(100 * (20 - i)));
 const YEAR_RULES = ['refuse', 'keep', '5000'];
-const NO_RUN = { reply: null, registers: null };
+const NO_RUN = { reply: null, registers: null, sorted: null };
 const MONTHS = [...Array(13).keys()].map((i) => i + 1);
 
 function group(words, options) {
@@ -234,6 +235,17 @@ function choicesView(step) {
   };
 }
 
+// The order of the records is chosen beside the sheet that came back.
+function drawOrder(box, { choices, chosen, words }, step) {
+  const select = element('select', '', { id: 'sheet-sorted', autocomplete: 'off' });
+  select.append(...choices.map(([value, name]) => option(name, value)));
+  select.value = chosen;
+  select.addEventListener('change', () => step(sortWanted, select.value === '' ? null : Number(select.value)));
+  const said = element('p', words, { className: 'hint' });
+  said.setAttribute('role', 'status');
+  box.append(field(WORDS.orderOfRecords, select.id, select), said);
+}
+
 /** The answer draws what came of the conversion. */
 function resultView(step) {
   const box = byId('sheet-results');
@@ -242,16 +254,17 @@ function resultView(step) {
     const report = sheetReport(state);
     clear(box);
     if (report === null) return;
-    const article = box.appendChild(element('article'));
+    const order = sheetOrder(state), article = box.appendChild(element('article'));
     drawReport(article, 'sheet-result', report, () => step(saved), (place) => step(registerWanted, place));
+    if (order !== null) drawOrder(box.appendChild(element('div')), order, step);
     pictures = sheetPictures(state).map((_, place) =>
       pictureBox(box.appendChild(element('div')), () => step(pictureWanted, place)));
   });
   return (state) => {
-    const run = shownRun(state), { reply, registers } = run || NO_RUN;
+    const run = shownRun(state), { reply, registers, sorted } = run || NO_RUN;
     // A table that was saved is not drawn anew, or its link would end.
-    if (reply !== drawn.reply || registers !== drawn.registers) drawResult(state);
-    drawn = { reply, registers };
+    if (reply !== drawn.reply || registers !== drawn.registers || sorted !== drawn.sorted) drawResult(state);
+    drawn = { reply, registers, sorted };
     sheetPictures(state).forEach((picture, place) => pictures[place](picture, run.pictures[place]));
   };
 }

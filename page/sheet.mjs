@@ -14,12 +14,14 @@ export const MOST_BYTES = 2 ** 28;
  * `proposed` has what was for this file. `kept` has choices of an earlier sheet, and null in them until their file is
  * read, and `isFilled` once they were filled in; `fit` says what of them did not fit. `listed` has the names that are not
  * known, and those that have a meaning of the user's own; a count is null while it is not known. A result of `picks`,
- * `columns` or `source` holds what it came from.
+ * `columns` or `source` holds what it came from. `gathered` counts the columns of dates whose days were gathered behind a
+ * conversion, which a picture takes long for.
  * @typedef {import('./choices.mjs').Picks} Picks
  * @typedef {{ encoding: string | null, delimiter: number | null, above: number | null }} Proposed
  * @typedef {{ file: File | null, isTree: boolean | null } & Proposed} Source
  * @typedef {{ source: Source, picks: Picks, columns: string[], status: 'runs' | 'ended' | 'stopped', key: string,
- *   reply: any, isSaved: boolean, registers: Record<number, { reply: any }>, pictures: Record<number, { reply: any }> }} Run
+ *   reply: any, isSaved: boolean, gathered: number, sorted: { place: number, reply: any } | null,
+ *   registers: Record<number, { reply: any }>, pictures: Record<number, { reply: any }> }} Run
  * @typedef {{ name: string, where: string, count: number | null }} Listed
  * @typedef {{ source: Source, proposed: Proposed, kept: { file: File, choices: any, isFilled: boolean } | null,
  *   fit: { absent: string[], other: string[] } | null, reading: number, begins: any, picks: Picks, columns: string[],
@@ -202,7 +204,7 @@ export function started(state) {
   const { source, picks, columns } = state, runs = state.runs + 1;
   const run = {
     source, picks, columns, status: /** @type {'runs'} */ ('runs'), key: `sheet ${runs}`, reply: null, isSaved: false,
-    registers: {}, pictures: {},
+    gathered: 0, sorted: null, registers: {}, pictures: {},
   };
   return { ...state, runs, run, notice: '' };
 }
@@ -243,6 +245,17 @@ export const registerWanted = (state, place) => partWanted(state, 'registers', p
  */
 export const pictureWanted = (state, place) => partWanted(state, 'pictures', place);
 
+/**
+ * The sheet is wanted with its records by the days of a column of dates; or as they stand, for null.
+ * @param {SheetState} state
+ * @returns {SheetState}
+ */
+export function sortWanted(state, place) {
+  const run = shownRun(state);
+  if (!isWhole(run)) return state;
+  return { ...state, run: { ...run, sorted: place === null ? null : { place, reply: null } } };
+}
+
 // The choices as a worker takes them, with the reading that they were made from.
 const wordsOf = ({ source, reading, picks }) =>
   ({ ...source, number: reading, kept: null, choice: numbersOf(source, picks), names: namesText(picks.names) });
@@ -265,6 +278,25 @@ function wantedParts(state) {
 const partTasks = (state, task) => wantedParts(state).map(({ part, place, key }) =>
   task(key, PARTS[part], { ...wordsOf(state), place: Number(place) }));
 
+const sortKey = (run) => `${run.key} sorted by ${run.sorted.place}`;
+const isSorting = (run) => run !== null && run.sorted !== null && run.sorted.reply === null;
+
+function sortTasks(state, task) {
+  const run = shownRun(state);
+  if (!isSorting(run)) return [];
+  const { table } = run.reply.answer, behind = run.picks.dates.length * (run.columns.length + 1);
+  return [task(sortKey(run), 'sortedSheet', { ...wordsOf(state), table, behind, place: run.sorted.place })];
+}
+
+const gatherKey = (run) => `${run.key} gathers ${run.gathered}`;
+
+// The days of the next column of dates are gathered while nothing else is wanted.
+function gatherTasks(state, task) {
+  const run = shownRun(state);
+  if (!isWhole(run) || run.gathered === run.picks.dates.length) return [];
+  return [task(gatherKey(run), 'sheetPicture', { ...wordsOf(state), place: run.gathered })];
+}
+
 /** What the worker of the sheet is to be asked now. */
 export function tasks(state) {
   const { source, kept, reading, picks, columns, run } = state, { dates } = picks;
@@ -283,12 +315,12 @@ export function tasks(state) {
     return [task(run.key, 'convertSheet', { ...wordsOf(state), columns, places, heading, records })];
   }
   if (missing(state)) return [];
-  const wanted = partTasks(state, task);
+  const wanted = [...partTasks(state, task), ...sortTasks(state, task)];
   if (shownPreview(state) === null) {
     wanted.push(task(previewKey(state), 'preview', { ...wordsOf(state), dates: dates.length, columns }));
   }
   if (shownUnknown(state) === null) wanted.push(task(unknownKey(state), 'unknownNames', wordsOf(state)));
-  return wanted;
+  return wanted.length ? wanted : gatherTasks(state, task);
 }
 
 /** The worker that stays: it has read the sheet. */
@@ -351,6 +383,8 @@ function unknownReplied(state, reply) {
 
 function partReplied(state, key, reply) {
   const found = wantedParts(state).find((it) => it.key === key), run = shownRun(state);
+  if (isSorting(run) && key === sortKey(run)) return { ...state, run: { ...run, sorted: { ...run.sorted, reply } } };
+  if (run !== null && key === gatherKey(run)) return { ...state, run: { ...run, gathered: run.gathered + 1 } };
   if (!found) return state;
   return { ...state, run: { ...run, [found.part]: { ...run[found.part], [found.place]: { reply } } } };
 }

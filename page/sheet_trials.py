@@ -1,5 +1,5 @@
 """The trials of sheets, a part of page/try-page."""
-import os, re, time
+import os, re, subprocess, time
 
 import church
 from browsers import wait_for
@@ -334,6 +334,33 @@ class SheetTrials:
         self.give(f"{ROOT}/page/book.csv")
         wait_for("the next sheet", lambda: "4 records of 5 columns" in self.text("#sheet-said"))
         self.check("what is proposed for the next", ["utf-8", "59"], self.page.run(chosen))
+        self.page.go(self.address)
+
+    def try_sorted(self):
+        """A family tree comes back by the days of its dates where that is chosen, by keys, and stays so when it is saved."""
+        self.page.go(self.address)
+        tree = subprocess.run(["node", f"{HERE}/trees.cjs", "7.0", "40"], capture_output=True, check=True).stdout
+        self.choose_sheet(self.file("tree.ged", tree))
+        self.wait_for_sheet()
+        self.wait_for_counts()
+        self.click("#sheet-columns [value=rd]")
+        self.wait_for_counts()
+        self.convert_sheet()
+        stands = self.save("#sheet-results", 1)["tree.dates.csv"].decode().split("\n")
+        self.page.run("document.querySelector('#sheet-sorted').focus()")
+        self.page.press("\ue015")
+        wait_for("the order", lambda: "stand by the day of date;" in self.text("#sheet-results [role=status]"))
+        self.check("the keys stay where they are", "sheet-sorted", self.page.run("return document.activeElement.id"))
+        rows = self.page.run("return [...document.querySelectorAll('#sheet-results .rows tbody tr')].slice(0, 10).map((it) => it.innerText)")
+        lines = self.save("#sheet-results", 1)["tree.dates.csv"].decode().split("\n")
+        self.check("the same records", sorted(stands), sorted(lines))
+        days = [int(line.rsplit(",", 2)[1] or 10**9) for line in lines[1:-1]]
+        self.check("by their days", (sorted(days), True), (days, days != [int(line.rsplit(",", 2)[1] or 10**9) for line in stands[1:-1]]))
+        shown = [int(re.search(r"\t(-?\d+)\t?$", row).group(1)) for row in rows]
+        self.check("and shown so", days[:10], shown)
+        self.page.press("\ue013")
+        wait_for("as it stands", lambda: self.text("#sheet-results [role=status]") == "")
+        self.check("as it stands again", stands, self.save("#sheet-results", 1)["tree.dates.csv"].decode().split("\n"))
         self.page.go(self.address)
 
     def paste(self, text):

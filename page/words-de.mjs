@@ -121,8 +121,8 @@ export const WORDS = {
 
   // ---- Files ----
   files: 'Dateien',
-  filesAre: 'Tabellen, als CSV oder Text gespeicherte Arbeitsmappen, Stammbäume (GEDCOM) und eine gespeicherte Auswahl: die Seite ' +
-    'sieht nach, was jede ist.',
+  filesAre: 'Tabellen, als CSV oder Text gespeicherte Arbeitsmappen, Stammbäume (GEDCOM) und eine gespeicherte Auswahl: ' +
+    'die Seite sieht nach, was jede ist.',
   chooseFiles: 'Dateien',
   dropFiles: 'Wählen Sie so viele, wie Sie wollen, oder ziehen Sie sie auf diese Seite.',
   pasteCells: 'Oder Zellen einer Tabellenkalkulation',
@@ -131,8 +131,8 @@ export const WORDS = {
   takenFor: (name) => [name, ' gilt als'],
   isRegister: (sealed, between) => `${sealed ? 'ein versiegeltes Register' : 'ein Register'}, zwischen den Feldern ${between}`,
   isSheet: (line) => (line === '' ? 'ein Tabellenblatt' : ['ein Tabellenblatt, das mit „', own(line), '“ beginnt']),
-  isKind: { register: 'ein Register', sheet: 'ein Tabellenblatt', tree: 'ein Stammbaum', nothing: 'nichts: sie bleibt weg', choices:
-    'eine Auswahl für ein Tabellenblatt' },
+  isKind: { register: 'ein Register', sheet: 'ein Tabellenblatt', tree: 'ein Stammbaum',
+    nothing: 'nichts: sie bleibt weg', choices: 'eine Auswahl für ein Tabellenblatt' },
   countOf: {
     register: (n) => `${WORDS.number(n)} Register`,
     sheet: (n) => (n === 1 ? '1 Tabellenblatt' : `${WORDS.number(n)} Tabellenblätter`),
@@ -468,6 +468,11 @@ export const WORDS = {
   sheetConverting: 'Das Tabellenblatt wird umgerechnet.',
   sheetSaved: 'Jeder Eintrag steht in seiner Zeile, in UTF-8 mit einer Marke (BOM) davor, wie Tabellenkalkulationen ' +
     'es wollen.',
+  orderOfRecords: 'Folge der Einträge',
+  asItStands: 'wie im Tabellenblatt',
+  byDayOf: (name) => ['nach dem Tag aus ', name],
+  sorting: 'Die Einträge werden geordnet.',
+  sortedBy: (name) => ['Die Einträge stehen nach dem Tag aus ', name, '; die ohne Tag stehen am Ende.'],
   sheetJoined: (n) => `Das Tabellenblatt mit seinen Tagen, ${WORDS.first(n)}`,
   sheetBack: (n) => `Das Tabellenblatt, wie es zurückkommt, ${WORDS.first(n)}`,
   why: 'abgelehnt, denn',

@@ -117,8 +117,8 @@ export const WORDS = {
 
   // ---- Files ----
   files: 'Files',
-  filesAre: 'Tables, workbooks saved as CSV or text, family trees (GEDCOM) and choices that you saved: the page looks what each ' +
-    'is.',
+  filesAre: 'Tables, workbooks saved as CSV or text, family trees (GEDCOM) and choices that you saved: the page looks ' +
+    'what each is.',
   chooseFiles: 'Files',
   dropFiles: 'Choose as many as you like, or drop them on this page.',
   pasteCells: 'Or cells of a spreadsheet',
@@ -127,8 +127,8 @@ export const WORDS = {
   takenFor: (name) => [name, ' is taken for'],
   isRegister: (sealed, between) => `${sealed ? 'a sealed register' : 'a register'} with ${between}`,
   isSheet: (line) => (line === '' ? 'a sheet' : ['a sheet, which begins with “', own(line), '”']),
-  isKind: { register: 'a register', sheet: 'a sheet', tree: 'a family tree', nothing: 'nothing: it is left out', choices:
-    'choices for a sheet' },
+  isKind: { register: 'a register', sheet: 'a sheet', tree: 'a family tree', nothing: 'nothing: it is left out',
+    choices: 'choices for a sheet' },
   countOf: {
     register: (n) => (n === 1 ? '1 register' : `${WORDS.number(n)} registers`),
     sheet: (n) => (n === 1 ? '1 sheet' : `${WORDS.number(n)} sheets`),
@@ -437,6 +437,11 @@ export const WORDS = {
   sheetReading: 'The sheet is being read.',
   sheetConverting: 'The sheet is being converted.',
   sheetSaved: 'Each record is in its line, in UTF-8 with a byte order mark, as spreadsheets want it.',
+  orderOfRecords: 'Order of the records',
+  asItStands: 'as in the sheet',
+  byDayOf: (name) => ['by the day of ', name],
+  sorting: 'The records are being sorted.',
+  sortedBy: (name) => ['The records stand by the day of ', name, '; those without a day stand at the end.'],
   sheetJoined: (n) => `The sheet with its dates, ${WORDS.first(n)}`,
   sheetBack: (n) => `The sheet as it comes back, ${WORDS.first(n)}`,
   why: 'refused because',

@@ -3,14 +3,15 @@
 import { TooLarge, archiveOf } from './archive.mjs';
 import { CALENDARS, TARGETS } from './calendars.mjs';
 import { choicesOf, columnNumbers } from './choices.mjs';
-import { ChangedFile, NoReading, checkUnchanged, readFile } from './files.mjs';
+import { ChangedFile, NoReading, checkUnchanged, readFile, readPieces } from './files.mjs';
 import { formulasAmong, mayHaveFormula } from './formulas.mjs';
 import { NoMemory, expectedLength, instantiate } from './module.mjs';
+import { putInOrder, recordBegins } from './orders.mjs';
 import {
   isAnsel, isDelimiterOf, isJson, isObject, isTree, kindOf, likelyAbove, likelyDelimiter, likelyEncodings, markedEncoding,
 } from './proposals.mjs';
 import { EVERY, LOOKED_AT, REFUSED_SHOWN, SHOWN, Table, range, rowsOf } from './tables.mjs';
-import { timelineOf } from './timeline.mjs';
+import { Entries, timelineOf } from './timeline.mjs';
 import { FACTS } from './unbuilt-facts.mjs';
 import { NAMES } from './unbuilt-names.mjs';
 
@@ -34,7 +35,7 @@ class NotEncoded extends Error {}
 class OtherKind extends Error {}
 
 // Spreadsheets open a text of UTF-8 by this mark.
-const MARK = '\ufeff';
+const MARK = '\ufeff', MARK_LENGTH = 3;
 
 // The sheet has other columns than those that were chosen from.
 class OtherColumns extends Error {}
@@ -155,11 +156,11 @@ async function archive({ files, comment }) {
   return { archive: await archiveOf(files, comment, new Date()) };
 }
 
-/** What a picture of a table with so many rows shows. */
+/** What a picture of a table with so many rows shows. The mark before it is no part of it. */
 async function picture({ compiled, table, delimiter, rows }) {
-  const module = await instantiate(compiled), text = module.malloc(table.size);
-  await readFile(table, (at, length) => module.bytes({ pointer: text.pointer + at, length }));
-  return timelineOf(module, withoutMark(module, text), delimiter, rows);
+  const own = table.slice(MARK_LENGTH), entries = new Entries(delimiter, rows);
+  await readPieces(own, (_, piece) => entries.take(piece));
+  return timelineOf(await instantiate(compiled), entries.whole(), delimiter, (from, to) => own.slice(from, to));
 }
 
 // ---- Sheets ----
@@ -252,7 +253,8 @@ async function readSheet({ compiled, number, file, encoding: chosen, ...source }
   if (isOfTree && !read.isAscii && isAnsel(beginning)) throw new OtherKind('ansel');
   const text = isOfTree ? module.treeDates(own) : own, front = isOfTree ? frontOf(module, text) : beginning;
   const delimiter = isOfTree ? COMMA : delimiterOf(front, source);
-  sheet = { number, file, bytesAt: read.bytesAt, module, text, front, encoding, delimiter, isOfTree, counted: null };
+  const { bytesAt } = read, how = { number, file, bytesAt, module, text, front, encoding, delimiter, isOfTree };
+  sheet = { ...how, counted: null, gathered: new Map() };
   return sheet;
 }
 
@@ -436,19 +438,53 @@ async function sheetRegister(words) {
   return { ending, register: made };
 }
 
-/** What a picture of one column of dates shows, by the table of its register. */
-async function sheetPicture(words) {
+// The days of one column of dates and what a picture of them shows, by the table of its register.
+async function gathered(words) {
   const { module, delimiter, ending, table: register } = await registerOf(words);
   if (ending !== 0) throw new Error(`sheet_register: ${ending}`);
   const setup = { columns: [], delimiter, sealed: false };
   const { rows, table } = module.convert(register, setup, expectedLength(2 * register.length, 0, 0));
-  const found = timelineOf(module, table, delimiter, rows);
+  const gathering = new Entries(delimiter, rows);
+  gathering.take(module.bytes(table));
+  const entries = gathering.whole();
+  const picture = await timelineOf(module, entries, delimiter,
+    (from, to) => module.bytes({ pointer: table.pointer + from, length: to - from }));
   module.free(table, register);
-  return found;
+  return { days: entries.days, picture };
+}
+
+// What was gathered of a sheet stays with it, for each column of dates as it is chosen.
+async function daysOf({ choice, place, names, ...source }) {
+  const key = JSON.stringify([choice, place, names]), { gathered: known } = await sheetOf(source);
+  if (!known.has(key)) known.set(key, await gathered({ choice, place, names, ...source }));
+  return known.get(key);
+}
+
+/** What a picture of one column of dates shows. */
+const sheetPicture = async (words) => (await daysOf(words)).picture;
+
+/**
+ * The sheet that came back, with its records by the days of one column of dates, and how it begins. `behind` columns were put
+ * behind its own.
+ * @param {any} asked
+ */
+async function sortedSheet({ table, behind, ...words }) {
+  const { days } = await daysOf(words), { module, delimiter } = await sheetOf(words), head = words.above + 1;
+  const own = table.slice(MARK_LENGTH), bytes = new Uint8Array(own.size), pieces = [];
+  await readPieces(own, (at, piece) => bytes.set(piece, at));
+  const begins = recordBegins(bytes, head + days.length), order = module.dayOrder(days);
+  putInOrder(bytes, begins, head, order, (piece) => pieces.push(new Blob([piece])));
+  const front = [];
+  putInOrder(bytes, begins, head, order.subarray(0, SHOWN), (piece) => front.push(piece.slice()));
+  const text = module.put(new Uint8Array(await new Blob(front).arrayBuffer()));
+  const first = firstJoined(module, text, delimiter, words.above, behind);
+  module.free(text);
+  return { table: new Blob([MARK, ...pieces], { type: 'text/csv' }), first };
 }
 
 const TASKS = {
   date, looks, register, archive, picture, choices, beginning, unknownNames, preview, convertSheet, sheetRegister, sheetPicture,
+  sortedSheet,
 };
 
 function faultOf(fault) {

@@ -5,6 +5,9 @@ import { byId, element, option, setText, takeFiles, takePaste, textOf, whenChang
 import { WORDS } from './language.mjs';
 import { doorRows, doorStatus, sheetsBeside } from './reports.mjs';
 
+// More files than these are moved in a box of their own.
+const MANY = 10;
+
 // What a file is taken for can be chosen; one that the page cannot take says why.
 function entryRow({ number, name, is, as, choices, canOpen, isOpen }) {
   const line = element('li'), what = line.appendChild(element('span', name, { className: 'entry-name' }));
@@ -48,6 +51,7 @@ export function doorView(step) {
   const drawList = whenChanged((state) => withFocus(list, () => {
     const rows = doorRows(state);
     list.hidden = rows.length === 0;
+    list.classList.toggle('many', rows.length > MANY);
     list.replaceChildren(...rows.map(entryRow));
     const sheets = sheetsBeside(state);
     setText(all, sheets ? WORDS.takeSheets(sheets) : '').hidden = sheets === 0;

@@ -76,7 +76,8 @@ function endingReport(reply, most, encoding) {
 function isWords({ kind, delimiter, sealed, firstLine }) {
   if (kind === 'register') return WORDS.isRegister(sealed, WORDS.delimiters[delimiter]);
   if (kind === 'sheet') return WORDS.isSheet(firstLine);
-  return WORDS.isKind[kind] || (kind === 'noReading' ? WORDS.causeAdvice[READ_FAULT] : WORDS[kind]);
+  const sentences = { noReading: WORDS.causeAdvice[READ_FAULT], noChoices: WORDS.noChoices };
+  return WORDS.isKind[kind] || sentences[kind] || `${WORDS[kind]}.`;
 }
 
 // What a file can be taken for, with what it is where it looks so.

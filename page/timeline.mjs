@@ -81,6 +81,16 @@ function namesMet() {
   };
 }
 
+// So much of a piece is put behind a row that began before it.
+const JOINED = 4096;
+
+function bytesOfBoth(one, other) {
+  const bytes = new Uint8Array(one.length + other.length);
+  bytes.set(one);
+  bytes.set(other, one.length);
+  return bytes;
+}
+
 // Where a field ends that begins here.
 function endOfField(bytes, from, delimiter) {
   const { length } = bytes;
@@ -122,17 +132,20 @@ export class Entries {
     this.at = 0;
   }
 
-  /** The next bytes of the table. */
+  /** The next bytes of the table. A row that began before them is put together, with some behind it. */
   take(piece) {
-    let bytes = piece;
-    if (this.rest.length) {
-      bytes = new Uint8Array(this.rest.length + piece.length);
-      bytes.set(this.rest);
-      bytes.set(piece, this.rest.length);
-    }
+    const { rest } = this, joined = rest.length ? Math.min(piece.length, JOINED) : 0;
+    const used = rest.length ? this.takeRows(bytesOfBoth(rest, piece.subarray(0, joined))) : 0;
+    if (rest.length && used <= rest.length) {
+      if (joined < piece.length) this.takeRows(bytesOfBoth(this.rest, piece.subarray(joined)));
+    } else this.takeRows(piece.subarray(used && used - rest.length));
+  }
+
+  takeRows(bytes) {
     const used = this.rowsIn(bytes);
     this.rest = bytes.slice(used);
     this.at += used;
+    return used;
   }
 
   // Takes all rows that end in these bytes, and gives how many bytes they have.

@@ -13,12 +13,13 @@ const SMALL = 2 ** 20, SHARE = 64;
 
 /**
  * A job is a register, by its number among those that were chosen; `slot` is its place among those that run, and `tries`
- * says how often it was converted before. `picture` holds what a picture of its table shows, once it was wanted. Of a run,
+ * says how often it was converted before. `picture` holds what a picture of its table shows, once it was wanted; for a
+ * register alone that is found before, and `ready` has it. Of a run,
  * `opened` is the number of the register whose details are shown, and `archive` holds the archive of all whole tables,
  * once it was wanted.
  * @typedef {{ files: File[], columns: string[] }} RegistersChoice
  * @typedef {{ number: number, file: File, tries: number, slot: number, status: 'waits' | 'runs' | 'ended' | 'stopped',
- *   begun: number, reply: any, isSaved: boolean, picture: { reply: any } | null }} Job
+ *   begun: number, reply: any, isSaved: boolean, picture: { reply: any } | null, ready: any }} Job
  * @typedef {{ number: number, choice: RegistersChoice, begun: number, jobs: Job[], opened: number | null,
  *   archive: { reply: any } | null }} Run
  * @typedef {{ choice: RegistersChoice, atOnce: number, runs: number, run: Run | null,
@@ -57,7 +58,8 @@ const stoppedJob = (job) => ({ ...job, status: 'stopped' });
 
 /** @returns {Job} */
 const waitingJob = (file, number, tries = 0) =>
-  ({ number, file, tries, slot: 0, status: 'waits', begun: 0, reply: null, isSaved: false, picture: null });
+  ({ number, file, tries, slot: 0, status: 'waits', begun: 0, reply: null, isSaved: false, picture: null,
+    ready: null });
 
 // Starts what can be started now. A file that is too large has its answer at once.
 function scheduled(state, now) {
@@ -146,13 +148,21 @@ const jobsWith = (state, isIt, change) =>
  * @param {RegistersState} state
  * @returns {RegistersState}
  */
-export const pictureWanted = (state, number) =>
-  jobsWith(state, (job) => job.number === number && hasTable(job), { picture: { reply: null } });
+export function pictureWanted(state, number) {
+  const isIt = (job) => job.number === number && hasTable(job), job = state.run.jobs.find(isIt);
+  return jobsWith(state, isIt, { picture: { reply: job ? job.ready : null } });
+}
 
 const pictureKey = (run, job) => `picture ${keyOf(run, job)}`;
 
+// Whether what a picture shows is to be found: where it is wanted, or for a register alone.
+function isToBeDrawn({ jobs }, job) {
+  const { picture, ready } = job;
+  return picture === null ? jobs.length === 1 && hasTable(job) && ready === null : picture.reply === null;
+}
+
 function pictureTasks(run) {
-  return run.jobs.filter(({ picture }) => picture !== null && picture.reply === null).map((job) => {
+  return run.jobs.filter((job) => isToBeDrawn(run, job)).map((job) => {
     const { table, rows, delimiter } = job.reply.answer, key = pictureKey(run, job);
     return { key, worker: key, name: 'picture', words: { table, rows, delimiter } };
   });
@@ -189,9 +199,8 @@ export function replied(state, key, reply, now) {
   const { run } = state;
   if (run === null) return state;
   if (archiveTasks(run).some((it) => it.key === key)) return { ...state, run: { ...run, archive: { reply } } };
-  if (pictureTasks(run).some((it) => it.key === key)) {
-    return jobsWith(state, (it) => pictureKey(run, it) === key, { picture: { reply } });
-  }
+  const drawn = run.jobs.find((it) => isToBeDrawn(run, it) && pictureKey(run, it) === key);
+  if (drawn) return jobsWith(state, (it) => it === drawn, drawn.picture === null ? { ready: reply } : { picture: { reply } });
   const job = run.jobs.find((it) => it.status === 'runs' && keyOf(run, it) === key);
   if (!job) return state;
   const jobs = run.jobs.map((it) => (it === job ? endedJob(job, reply) : it));

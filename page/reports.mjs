@@ -101,13 +101,25 @@ export function sheetsBeside({ entries }) {
   return of('register') === 0 ? 0 : of('sheet');
 }
 
-/** The line below: how many files of each kind there are. */
-export function doorStatus({ entries, coming, folders, notice }) {
+// What the only file is taken for, or why it cannot be taken.
+function oneEntry({ file, look, as }) {
+  const isTold = WORDS.isKind[as] !== undefined, words = as === look.kind ? isWords(look) : WORDS.isKind[as];
+  return WORDS.endedOne(file.name, isTold ? [words, '.'] : words);
+}
+
+// How many files of each kind there are.
+function kindCounts(entries) {
   const kinds = [...CHOICES, 'choices'], of = (kind) => entries.filter(({ as }) => as === kind).length;
   const counts = kinds.filter(of).map((kind) => WORDS.countOf[kind](of(kind)));
   const others = entries.filter(({ as }) => !kinds.includes(as)).length;
   const all = [...counts, ...(others ? [WORDS.countOf.others(others)] : [])].join(', ');
-  const words = notice ? WORDS[notice] || notice : coming !== null ? WORDS.looking : all && `${all}.`;
+  return all && `${all}.`;
+}
+
+/** The line below: what was given. */
+export function doorStatus({ entries, coming, folders, notice }) {
+  const told = entries.length === 1 ? oneEntry(entries[0]) : kindCounts(entries);
+  const words = notice ? WORDS[notice] || notice : coming !== null ? WORDS.looking : told;
   return folders.length ? [WORDS.folders(folders), ' ', words] : words;
 }
 

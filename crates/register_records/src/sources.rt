@@ -74,7 +74,10 @@ pub fn convert_source<R: Read + Drop, W: Output>(
 {
     let mut entries = match EntryReader::open(alloc, reader, setup) {
         Ok(entries) => entries,
-        Err(fault) => return SourceEnd::from(fault),
+        Err(fault) => {
+            let cause = Cause::from(fault);
+            return SourceEnd::Broken { cause };
+        }
     };
     let mut table = Table::new(alloc, output, setup);
     table.write_heading(output);
@@ -90,7 +93,11 @@ pub fn convert_source<R: Read + Drop, W: Output>(
                 }
             }
             Ok(false) => return table.end(),
-            Err(fault) => return SourceEnd::from(fault),
+            Err(fault) => {
+                return SourceEnd::Broken {
+                    cause: Cause::from(fault),
+                };
+            }
         }
     }
 }

@@ -1,0 +1,17 @@
+use Rattle.std.proofs.Common.{◌≤◌, ◌+◌, ◌*◌, ℕ, List, take}
+use Rattle.std.specs.List.{AllZip}
+use Rattle.register_records.specs.RowTails.{tail_bytes}
+use Rattle.register_records.specs.Seen.{outcome_seen}
+use Rattle.register_records.specs.TableColumns.{IsCellField}
+use Rattle.register_records.specs.declared.row_tails.TheConstants.{CELL_ROOM}
+use Rattle.register_records.proofs.RowTailLemmas.{Grown}
+use Rattle.register_records.proofs.row_tails.RowTail.push_cells.Given as goal
+
+abbrev pub invariant-cells : goal.invariant-cells
+invariant-cells l =
+    record {
+      made : (cells : List (List ℕ))
+          × AllZip (IsCellField (outcome_seen l.outcome)) (take l.target-index l.targets) cells
+          × Grown l.delimiter cells (tail_bytes l.fn.self) (take l.end l.bytes);
+      room : l.end ≤ l.fn.self.len + CELL_ROOM * l.target-index;
+    }

@@ -1,5 +1,4 @@
-// Registers: which files are chosen, what runs, and what came of it. Each step takes the
-// state and gives the next.
+// Registers: which files are chosen, what runs, and what came of it. Each step takes the state and gives the next.
 
 import { DEFAULT_TARGETS } from './calendars.mjs';
 import { WORDS } from './language.mjs';

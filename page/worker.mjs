@@ -98,7 +98,11 @@ const firstLineOf = (text) => text.split(/[\r\n]/, 1)[0].slice(0, LINE_SHOWN).re
 function formOf(module, bytes) {
   const end = bytes.subarray(0, HEADER).findIndex((byte) => byte === 10 || byte === 13);
   const header = module.put(end < 0 ? bytes.slice(0, HEADER) : bytes.slice(0, end + 1));
-  const isIt = (form) => module.convert(header, { columns: [], ...form }, HEADER).ending !== NO_HEADER;
+  const isIt = (form) => {
+    const { ending, table } = module.convert(header, { columns: [], ...form }, HEADER);
+    module.free(table);
+    return ending !== NO_HEADER;
+  };
   const found = FORMS.find(isIt) || null;
   module.free(header);
   return found;
